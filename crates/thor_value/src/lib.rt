@@ -1,0 +1,17 @@
+//! The names, times and values that every other crate speaks of, and the list and box types that
+//! contracts see as what they hold.
+#![tactic(auto)]
+
+mod boxed;
+mod lists;
+mod memory;
+mod names;
+mod sequence;
+mod values;
+
+pub use boxed::Boxed;
+pub use lists::{Ints, Orefs, Repos, Stamps, Text, Texts, Values, Writes};
+pub use memory::{NoMemory, TryCopy};
+pub use names::{Oref, Ts};
+pub use sequence::Sequence;
+pub use values::{Answer, Fault, Obj, Value, Who};
