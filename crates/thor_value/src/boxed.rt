@@ -1,9 +1,8 @@
 ghost use Rattle.std.specs.Prelude.{◌≡◌, IfOk};
 
+use crate::memory::{NoMemory, TryCopy};
 use std::alloc::Global;
 use std::marker::Model;
-
-use crate::memory::{NoMemory, TryCopy};
 
 /// A `Box` that contracts see as its value, so that a tree of them is plain data.
 #[derive(Debug, Drop)]
@@ -20,6 +19,11 @@ impl<T> Model for Boxed<T> {
 }
 
 impl<T> Boxed<T> {
+    /// The allocator of its memory.
+    pub fn allocator(&self) -> Global {
+        *Box::allocator(&self.inner)
+    }
+
     pub fn get(&self) -> &T
         ensures { result.now ≡ self.now }
     {
@@ -47,8 +51,7 @@ impl<T: Drop> Boxed<T> {
 
 impl<T: TryCopy + Drop> TryCopy for Boxed<T> {
     fn copy(&self) -> Result<Boxed<T>, NoMemory> {
-        let alloc = Box::allocator(&self.inner).clone()?;
         let copied = self.inner.copy()?;
-        Boxed::new(alloc, copied)
+        Boxed::new(self.allocator(), copied)
     }
 }

@@ -2,10 +2,9 @@ ghost use Rattle.std.specs.Prelude.{◌≡◌, [], ◌∷◌, ◌++◌, ◌<◌,
 ghost use Rattle.std.specs.List.{insert};
 ghost use Rattle.std.specs.Option.{option_copied};
 
+use crate::memory::{NoMemory, TryCopy};
 use std::alloc::Global;
 use std::marker::Model;
-
-use crate::memory::{NoMemory, TryCopy};
 
 /// A list in one block of memory, which contracts see as the list of its elements.
 ///
@@ -49,6 +48,11 @@ impl<T> Sequence<T> {
     {
         let Sequence { items } = self;
         items
+    }
+
+    /// The allocator of its memory.
+    pub fn allocator(&self) -> Global {
+        *self.items.allocator()
     }
 
     pub fn as_slice(&self) -> &[T]
@@ -162,8 +166,7 @@ impl<T: Copy> Sequence<T> {
 
 impl<T: TryCopy + Drop> TryCopy for Sequence<T> {
     fn copy(&self) -> Result<Sequence<T>, NoMemory> {
-        let alloc = self.items.allocator().clone()?;
-        let mut items = Vec::with_capacity(alloc, self.items.len())?;
+        let mut items = Vec::with_capacity(self.allocator(), self.items.len())?;
         for item in &self.items {
             items.push(item.copy()?)?;
         }
