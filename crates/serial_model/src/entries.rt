@@ -1,0 +1,52 @@
+use class_defs::{Block, Upgrade};
+use thor_value::{Answer, NoMemory, Orefs, Sequence, TryCopy, Ts, Who};
+
+/// What an item of a script asks for.
+#[derive(Debug, Drop)]
+pub enum What {
+    /// A transaction, which runs its statements.
+    Tx(Block),
+    /// An upgrade of classes.
+    Upgrade(Upgrade),
+}
+
+/// An entry of the serial history: one committed item.
+#[derive(Debug, Drop)]
+pub struct Did {
+    /// Its timestamp, which is also its name.
+    pub ts: Ts,
+    /// Whose item it is.
+    pub who: Who,
+    /// The item of the script that `who` names.
+    pub what: What,
+    /// An upgrade's number, from 1; 0 for a transaction.
+    pub number: u32,
+    /// The names of the objects that it created, in the order in which it made them.
+    pub fresh: Orefs,
+    pub answer: Answer,
+}
+
+/// Entries, in the order of the history.
+pub type Dids = Sequence<Did>;
+
+impl TryCopy for What {
+    fn copy(&self) -> Result<What, NoMemory> {
+        match self {
+            What::Tx(block) => Ok(What::Tx(block.copy()?)),
+            What::Upgrade(upgrade) => Ok(What::Upgrade(upgrade.copy()?)),
+        }
+    }
+}
+
+impl TryCopy for Did {
+    fn copy(&self) -> Result<Did, NoMemory> {
+        Ok(Did {
+            ts: self.ts,
+            who: self.who,
+            what: self.what.copy()?,
+            number: self.number,
+            fresh: self.fresh.copy()?,
+            answer: self.answer.copy()?,
+        })
+    }
+}

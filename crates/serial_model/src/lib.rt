@@ -1,0 +1,8 @@
+//! The serial history: its entries, what makes it legal, and how each item of a script ended.
+#![tactic(auto)]
+
+mod entries;
+mod outcomes;
+
+pub use entries::{Did, Dids, What};
+pub use outcomes::{Cause, Ended, Ends, ItemOutcome};

@@ -1,0 +1,89 @@
+use thor_value::{Fault, Ints, NoMemory, Oref, Sequence, TryCopy, Ts, Who};
+
+/// How an item ended.
+#[derive(Debug, Drop)]
+pub struct Ended {
+    /// Which item, by client and index, both from 1.
+    pub who: Who,
+    /// How many times it was tried, the last one included.
+    pub tries: u32,
+    pub outcome: ItemOutcome,
+}
+
+/// The outcomes of all items, by client and then index.
+pub type Ends = Sequence<Ended>;
+
+/// What became of an item.
+#[derive(Debug, Drop)]
+pub enum ItemOutcome {
+    /// It was committed, and printed these values.
+    Done { ts: Ts, answer: Ints },
+    /// The upgrade was committed, as the upgrade of this number.
+    Upgraded { ts: Ts, number: u32 },
+    /// It was committed with a fault as its answer.
+    Faulted { ts: Ts, fault: Fault },
+    /// It was not committed: its last try ended by this cause.
+    Refused { cause: Cause },
+    /// Whether it was committed could not be learnt.
+    Unknown { tx: Ts },
+}
+
+/// Why a try ended without a commit.
+#[derive(Clone, Copy, Debug, PartialEq, Eq)]
+pub enum Cause {
+    /// The object that it had read was written by another client, at a place of the repository's history.
+    Stale { oref: Oref, place: u64 },
+    /// A transaction below it that is undecided wrote an object that it read.
+    Earlier { tx: Ts, oref: Oref },
+    /// A transaction above it read what it wrote, or wrote what it read.
+    Later { tx: Ts, oref: Oref },
+    /// Its timestamp was not above the repository's threshold.
+    TooOld { threshold: Ts },
+    /// The repository had installed this number of upgrades, and the client another.
+    Epoch { n: u32 },
+    /// An upgrade was prepared and undecided, or, for an upgrade, any transaction.
+    Blocked { tx: Ts },
+    /// The repository no longer had the client's session.
+    Gone { session: u32 },
+    /// The page had no such object.
+    Missing { oref: Oref },
+    /// The repository was down.
+    Down { repo: u8 },
+    /// A counted quantity stood at its limit.
+    Full { limit: u32 },
+    /// No timestamp was left to draw.
+    ClockEnd,
+    /// The calls of the try were used up.
+    Calls,
+}
+
+impl TryCopy for ItemOutcome {
+    fn copy(&self) -> Result<ItemOutcome, NoMemory> {
+        match self {
+            ItemOutcome::Done { ts, answer } => Ok(ItemOutcome::Done {
+                ts: *ts,
+                answer: answer.copy()?,
+            }),
+            ItemOutcome::Upgraded { ts, number } => Ok(ItemOutcome::Upgraded {
+                ts: *ts,
+                number: *number,
+            }),
+            ItemOutcome::Faulted { ts, fault } => Ok(ItemOutcome::Faulted {
+                ts: *ts,
+                fault: *fault,
+            }),
+            ItemOutcome::Refused { cause } => Ok(ItemOutcome::Refused { cause: *cause }),
+            ItemOutcome::Unknown { tx } => Ok(ItemOutcome::Unknown { tx: *tx }),
+        }
+    }
+}
+
+impl TryCopy for Ended {
+    fn copy(&self) -> Result<Ended, NoMemory> {
+        Ok(Ended {
+            who: self.who,
+            tries: self.tries,
+            outcome: self.outcome.copy()?,
+        })
+    }
+}
