@@ -5,6 +5,7 @@
 mod boxed;
 mod lists;
 mod memory;
+mod name_laws;
 mod names;
 mod sequence;
 mod values;
@@ -12,6 +13,7 @@ mod values;
 pub use boxed::Boxed;
 pub use lists::{Ints, Orefs, Repos, Stamps, Text, Texts, Values, Writes};
 pub use memory::{NoMemory, TryCopy};
+pub use name_laws::{names_are_ordered, timestamps_are_ordered};
 pub use names::{Oref, Ts};
 pub use sequence::Sequence;
 pub use values::{Answer, Fault, Obj, Value, Who};

@@ -1,15 +1,46 @@
-/// The name of an object.
-#[derive(Clone, Copy, Debug, PartialEq, Eq)]
+//! The names of objects and of transactions.
+
+use std::cmp::Ordering;
+
+/// The name of an object: its repository, its page there and its slot in the page. Names are
+/// ordered by repository, then page, then slot. A slot that was committed is never used again,
+/// so a name means one object for good.
+#[derive(Clone, Copy, Debug, PartialEq, Eq, PartialOrd, Ord, Hash)]
 pub struct Oref {
+    /// The repository, from 0.
     pub repo: u8,
+    /// The page of the repository, from 0.
     pub page: u32,
+    /// The slot of the page, below 12.
     pub slot: u8,
 }
 
-/// A timestamp, which is also the name of a transaction.
-#[derive(Clone, Copy, Debug, PartialEq, Eq)]
+/// A timestamp, which is also the name of a transaction (Liskov and others, SIGMOD 1996). The
+/// transactions of a store are serial in the order of their timestamps: by time, then repository,
+/// then life.
+#[derive(Clone, Copy, Debug, PartialEq, Eq, PartialOrd, Ord, Hash)]
 pub struct Ts {
+    /// The time that the coordinator drew, below 2^62.
     pub time: u64,
+    /// The coordinator: the least of the repositories that take part.
     pub repo: u8,
+    /// How often the coordinator had been opened or restarted when it drew, from 1.
     pub life: u32,
+}
+
+#[cfg(test)]
+mod tests {
+    use super::*;
+
+    fn ts(time: u64, repo: u8, life: u32) -> Ts {
+        Ts { time, repo, life }
+    }
+
+    #[test]
+    fn timestamps_compare_by_time_then_repository_then_life(rt: HostRuntime) {
+        assert!(rt; ts(3, 0, 1).cmp(&ts(3, 0, 1)) == Ordering::Equal);
+        assert!(rt; ts(2, 7, 9).cmp(&ts(3, 0, 1)) == Ordering::Less);
+        assert!(rt; ts(3, 1, 1).cmp(&ts(3, 0, 9)) == Ordering::Greater);
+        assert!(rt; ts(3, 1, 1).cmp(&ts(3, 1, 2)) == Ordering::Less);
+    }
 }
