@@ -3,12 +3,23 @@
 
 mod classes;
 mod expressions;
+mod limits;
+mod machine;
 mod statements;
+mod store;
+mod types;
 mod upgrades;
 
 pub use classes::{
     Class, ClassKind, Classes, Field, Fields, Method, Methods, Parameter, Parameters,
 };
 pub use expressions::{At, Expr, Exprs, Name, Operator, TypeName};
+pub use limits::{CREATE_LIMIT, DEPTH_LIMIT, READ_LIMIT, STEP_LIMIT};
+pub use machine::{Flow, Local, Locals, Machine, NameSupply, Receiver, Stop};
 pub use statements::{Block, Blocks, Stmt};
+pub use store::{
+    Epochs, Object, Plain, PlainObjects, Root, RootDeclaration, RootDeclarations, Roots, Schema,
+    Setup,
+};
+pub use types::Type;
 pub use upgrades::{ClassUpgrade, ClassUpgrades, FieldUpgrade, FieldUpgrades, Names, Tf, Upgrade};
