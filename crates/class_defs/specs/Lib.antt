@@ -1,0 +1,8 @@
+pub mod Calls
+pub mod Expressions
+pub mod Look
+pub mod Objects
+pub mod Run
+pub mod Statements
+pub mod Steps
+pub mod Types

@@ -1,5 +1,5 @@
 use crate::store::Object;
-use crate::types::Type;
+use crate::types::ExprType;
 use thor_value::{Fault, Ints, NoMemory, Oref, OrefMap, Orefs, Sequence, Text, TryCopy, Value};
 
 /// Why a run stopped before its end.
@@ -29,7 +29,7 @@ pub struct Receiver {
 pub struct Local {
     pub name: Text,
     /// Its declared type.
-    pub kind: Type,
+    pub kind: ExprType,
     pub value: Value,
 }
 

@@ -2,7 +2,7 @@ use thor_value::{NoMemory, TryCopy};
 
 /// The type that an expression has.
 #[derive(Clone, Copy, Debug, PartialEq, Eq)]
-pub enum Type {
+pub enum ExprType {
     /// A number.
     Int,
     /// The word `null`, which fits every free class.
@@ -13,8 +13,8 @@ pub enum Type {
     Untold,
 }
 
-impl TryCopy for Type {
-    fn copy(&self) -> Result<Type, NoMemory> {
+impl TryCopy for ExprType {
+    fn copy(&self) -> Result<ExprType, NoMemory> {
         Ok(*self)
     }
 }
