@@ -1,6 +1,5 @@
 pub mod Calls
 pub mod Expressions
-pub mod Look
 pub mod Objects
 pub mod Run
 pub mod Statements

@@ -1,10 +1,9 @@
 -- What the execution of a statement does, given what the evaluation of expressions and the execution of blocks do.
-use Rattle.std.specs.Prelude.{ℕ, zero, suc, Bool, not, if◌then◌else◌, List, [], ◌∷◌, ◌++◌, length, take, Option, Some, None, slice_get, slice_set, pos}
+use Rattle.std.specs.Prelude.{position, ℕ, zero, suc, Bool, not, if◌then◌else◌, List, [], ◌∷◌, ◌++◌, length, take, Option, Some, None, slice_get, slice_set, pos}
 use Rattle.std.specs.Ordering.{int_eq}
 use Rattle.std.specs.Str.{bytes_eq}
 use Rattle.thor_value.specs.declared.values.Fault.TheVariants.{Steps}
 use Rattle.thor_value.specs.declared.values.Value.{Value}
-use Rattle.class_defs.specs.Look.{place_from}
 use Rattle.class_defs.specs.Types.{type_named}
 use Rattle.class_defs.specs.Steps.{World, Action, ◌>>=◌, ◌>>◌, pure, fail, change, step, number}
 use Rattle.class_defs.specs.Objects.{assign_field}
@@ -31,7 +30,7 @@ assigned_at locals (Some i) v = with_value locals i (slice_get locals i) v
 
 -- the locals with another value for the one of this name
 unfoldable pub assigned : List Local → List ℕ → Value → List Local
-assigned locals name v = assigned_at locals (place_from (λ l. bytes_eq l.name name) 0 locals) v
+assigned locals name v = assigned_at locals (position (λ l. bytes_eq l.name name) locals) v
 
 abbrev pub assign_local : List ℕ → Value → Machine → Machine
 assign_local name v m = record m { locals = assigned m.locals name v }

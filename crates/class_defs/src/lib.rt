@@ -4,6 +4,7 @@
 mod classes;
 mod expressions;
 mod limits;
+mod look;
 mod machine;
 mod statements;
 mod store;
@@ -15,6 +16,7 @@ pub use classes::{
 };
 pub use expressions::{At, Expr, Exprs, Name, Operator, TypeName};
 pub use limits::{CREATE_LIMIT, DEPTH_LIMIT, READ_LIMIT, STEP_LIMIT};
+pub use look::{class_named, field_named, field_of, method_of};
 pub use machine::{Flow, Local, Locals, Machine, NameSupply, Receiver, Stop};
 pub use statements::{Block, Blocks, Stmt};
 pub use store::{

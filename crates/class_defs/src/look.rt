@@ -1,0 +1,64 @@
+ghost use Rattle.std.specs.Prelude.{◌≡◌, ◌≤◌, ◌<◌, IfSome, length, find, position};
+ghost use Rattle.std.specs.Option.{option_copied};
+ghost use Rattle.std.specs.Str.{bytes_eq};
+ghost use Rattle.class_defs.specs.Types.{class_named, field_named, method_of};
+
+use crate::classes::{Class, Classes, Field, Fields, Method, Methods};
+use thor_value::Text;
+
+fn has_name(text: &Text, name: &[u8]) -> bool
+    ensures { result ≡ bytes_eq text.now name.now }
+{
+    text.as_slice() == name
+}
+
+fn class_place(classes: &Classes, name: &[u8]) -> Option<usize>
+    ensures place { result ≡ position (λ c. bytes_eq c.name.text name.now) classes.now }
+    ensures within { IfSome result (λ place. place < length classes.now) }
+{
+    classes
+        .as_slice()
+        .iter()
+        .position(|class| has_name(&class.name.text, name))
+}
+
+/// The number of the first class with this name.
+pub fn class_named(classes: &Classes, name: &[u8]) -> Option<u16>
+    requires { length classes.now ≤ 65536 }
+    ensures { result ≡ class_named classes.now name.now }
+{
+    match class_place(classes, name) {
+        Some(place) => Some(place as u16),
+        None => None,
+    }
+}
+
+/// The place among its fields of the first field of a class with this name.
+pub fn field_named(fields: &Fields, name: &[u8]) -> Option<usize>
+    ensures { result ≡ position (λ f. bytes_eq f.name.text name.now) fields.now }
+{
+    fields
+        .as_slice()
+        .iter()
+        .position(|field| has_name(&field.name.text, name))
+}
+
+/// The first field with this name.
+pub fn field_of<'a>(fields: &'a Fields, name: &[u8]) -> Option<&'a Field>
+    ensures { option_copied result ≡ find (λ f. bytes_eq f.name.text name.now) fields.now }
+{
+    fields
+        .as_slice()
+        .iter()
+        .find(|field| has_name(&field.name.text, name))
+}
+
+/// The first method with this name.
+pub fn method_of<'a>(methods: &'a Methods, name: &[u8]) -> Option<&'a Method>
+    ensures { option_copied result ≡ find (λ m. bytes_eq m.name.text name.now) methods.now }
+{
+    methods
+        .as_slice()
+        .iter()
+        .find(|method| has_name(&method.name.text, name))
+}

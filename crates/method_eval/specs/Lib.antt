@@ -1,0 +1,3 @@
+pub mod Does
+pub mod Inner
+pub mod Viewed

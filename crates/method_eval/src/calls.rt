@@ -1,0 +1,70 @@
+ghost use Rattle.std.specs.Prelude.{◌≡◌, IfOk, slice_get, drop};
+ghost use Rattle.std.specs.Option.{option_copied};
+ghost use Rattle.class_defs.specs.Calls.{owners_at, bound, parameter, result_of};
+
+use crate::steps::beginning;
+use crate::types::type_named;
+use crate::world::World;
+use class_defs::{ClassKind, Flow, Local, Locals, Machine, Method, Parameter, Parameters};
+use thor_value::{NoMemory, Orefs, TryCopy, Value, Values};
+
+/// The owners of a part that is reached through `this`, nearest first; none for a free object.
+#[tactic(auto, unfolding(class_defs::specs::Calls::owners_at))]
+pub fn owners_at(world: &World<'_>, class: u16, machine: &Machine) -> Result<Orefs, NoMemory>
+    ensures { IfOk result (λ owners. owners ≡ owners_at world.now.schema.now.classes class machine.now) }
+{
+    let mut owners = Orefs::new(world.alloc);
+    if let Some(found) = world.schema.classes.get(class as usize) {
+        if let ClassKind::Part = found.kind {
+            if let Some(this) = &machine.this {
+                owners.push(this.oref)?;
+                owners.append(this.owners.copy()?)?;
+            }
+        }
+    }
+    Ok(owners)
+}
+
+fn parameter_with(
+    world: &World<'_>,
+    declared: &Parameter,
+    argument: Option<&Value>,
+) -> Result<Local, NoMemory>
+    ensures { IfOk result (λ local. local ≡ parameter world.now.schema.now.classes declared.now (option_copied argument.entry)) }
+{
+    let kind = type_named(world, &declared.type_name);
+    let value = match argument {
+        Some(value) => *value,
+        None => beginning(kind),
+    };
+    Ok(Local {
+        name: declared.name.text.copy()?,
+        kind,
+        value,
+    })
+}
+
+/// The parameters with their arguments; one that is missing begins as a field does.
+pub fn bound(
+    world: &World<'_>,
+    parameters: &Parameters,
+    arguments: &Values,
+) -> Result<Locals, NoMemory>
+    ensures { IfOk result (λ locals. locals ≡ bound world.now.schema.now.classes parameters.now arguments.now) }
+{
+    let mut locals = Locals::new(world.alloc);
+    for (place, parameter) in parameters.as_slice().iter().enumerate() {
+        locals.push(parameter_with(world, parameter, arguments.get(place))?)?;
+    }
+    Ok(locals)
+}
+
+/// The result of a body that ended.
+pub fn result_of(world: &World<'_>, method: &Method, flow: Flow) -> Value
+    ensures { result ≡ result_of world.now.schema.now.classes method.now flow }
+{
+    match flow {
+        Flow::Returned(value) => value,
+        Flow::Next => beginning(type_named(world, &method.result)),
+    }
+}

@@ -1,0 +1,158 @@
+ghost use Rattle.std.specs.Prelude.{◌≡◌, option_map};
+ghost use Rattle.std.specs.Option.{option_copied};
+ghost use Rattle.class_defs.specs.Objects.{local_named, root_named, type_in_sight, scope_at};
+ghost use Rattle.class_defs.specs.Types as spec;
+ghost use Rattle.class_defs.specs.Types.{class_named, type_named, class_or_untold, field_type, name_type, result_type, type_of};
+
+use crate::world::World;
+use class_defs::{
+    Expr, ExprType, Field, Local, Machine, Method, RootDeclaration, TypeName, class_named,
+};
+use thor_value::Text;
+
+fn class_or_untold(world: &World<'_>, name: &Text) -> ExprType
+    ensures { result ≡ class_or_untold (class_named world.now.schema.now.classes name.now) }
+{
+    match class_named(&world.schema.classes, name.as_slice()) {
+        Some(class) => ExprType::Class(class),
+        None => ExprType::Untold,
+    }
+}
+
+/// The type that a type's word names.
+pub fn type_named(world: &World<'_>, type_name: &TypeName) -> ExprType
+    ensures { result ≡ type_named world.now.schema.now.classes type_name.now }
+{
+    match type_name {
+        TypeName::Int { line: _ } => ExprType::Int,
+        TypeName::Class { name } => class_or_untold(world, &name.text),
+    }
+}
+
+/// The local or parameter with this name.
+pub fn local_named<'a>(machine: &'a Machine, name: &[u8]) -> Option<&'a Local>
+    ensures { option_copied result ≡ local_named machine.now name.now }
+{
+    machine
+        .locals
+        .as_slice()
+        .iter()
+        .find(|local| local.name.as_slice() == name)
+}
+
+/// The root with this name; in a method none can be named.
+pub fn root_named<'a>(
+    world: &World<'a>,
+    machine: &Machine,
+    name: &[u8],
+) -> Option<&'a RootDeclaration>
+    ensures { option_copied result ≡ root_named world.now.schema.now machine.now name.now }
+{
+    match &machine.this {
+        Some(_) => None,
+        None => world
+            .schema
+            .roots
+            .as_slice()
+            .iter()
+            .find(|root| root.name.text.as_slice() == name),
+    }
+}
+
+/// The method with this name of the class with this number.
+pub fn method_of<'a>(world: &World<'a>, class: u16, name: &[u8]) -> Option<&'a Method>
+    ensures { option_copied result ≡ spec.method_of world.now.schema.now.classes class name.now }
+{
+    match world.schema.classes.get(class as usize) {
+        Some(found) => class_defs::method_of(&found.methods, name),
+        None => None,
+    }
+}
+
+/// The field with this name of the class with this number.
+pub fn field_of<'a>(world: &World<'a>, class: u16, name: &[u8]) -> Option<&'a Field>
+    ensures { option_copied result ≡ spec.field_of world.now.schema.now.classes class name.now }
+{
+    match world.schema.classes.get(class as usize) {
+        Some(found) => class_defs::field_of(&found.fields, name),
+        None => None,
+    }
+}
+
+/// The type of the field of `this` with this name.
+#[tactic(auto, unfolding(class_defs::specs::Objects::scope_at))]
+pub fn field_type(world: &World<'_>, machine: &Machine, name: &[u8]) -> ExprType
+    ensures { result ≡ field_type (scope_at world.now.schema.now machine.now) name.now }
+{
+    match &machine.this {
+        Some(this) => match field_of(world, this.class, name) {
+            Some(field) => type_named(world, &field.type_name),
+            None => ExprType::Untold,
+        },
+        None => ExprType::Untold,
+    }
+}
+
+/// The type of a local, parameter or root.
+#[tactic(auto, unfolding(class_defs::specs::Objects::scope_at))]
+fn name_type(world: &World<'_>, machine: &Machine, name: &[u8]) -> ExprType
+    ensures { result ≡ name_type (scope_at world.now.schema.now machine.now) name.now }
+{
+    match local_named(machine, name) {
+        Some(local) => local.kind,
+        None => match root_named(world, machine, name) {
+            Some(root) => class_or_untold(world, &root.class.text),
+            None => ExprType::Untold,
+        },
+    }
+}
+
+/// The type of what a method answers.
+fn result_type(world: &World<'_>, receiver: ExprType, name: &[u8]) -> ExprType
+    ensures { result ≡ result_type world.now.schema.now.classes receiver name.now }
+{
+    match receiver {
+        ExprType::Class(class) => match method_of(world, class, name) {
+            Some(method) => type_named(world, &method.result),
+            None => ExprType::Untold,
+        },
+        ExprType::Int | ExprType::Null | ExprType::Untold => ExprType::Untold,
+    }
+}
+
+/// The type of an expression.
+#[tactic(auto, unfolding(class_defs::specs::Types::type_of, class_defs::specs::Objects::scope_at))]
+pub fn type_of(world: &World<'_>, machine: &Machine, expr: &Expr) -> ExprType
+    ensures { result ≡ type_of (scope_at world.now.schema.now machine.now) expr.now }
+{
+    match expr {
+        Expr::Int { value: _, line: _ } => ExprType::Int,
+        Expr::Null { line: _ } => ExprType::Null,
+        Expr::This { line: _ } => match &machine.this {
+            Some(this) => ExprType::Class(this.class),
+            None => ExprType::Untold,
+        },
+        Expr::Field { name } => field_type(world, machine, name.text.as_slice()),
+        Expr::Variable { name } => name_type(world, machine, name.text.as_slice()),
+        Expr::New { class, at: _ } => class_or_untold(world, &class.text),
+        Expr::Parens { inner, line: _ } => type_of(world, machine, inner.get()),
+        Expr::Negate {
+            operand: _,
+            line: _,
+        } => ExprType::Int,
+        Expr::Binary {
+            operator: _,
+            left: _,
+            right: _,
+            line: _,
+        } => ExprType::Int,
+        Expr::Call {
+            receiver,
+            method,
+            arguments: _,
+        } => {
+            let receiver = type_of(world, machine, receiver.get());
+            result_type(world, receiver, method.text.as_slice())
+        }
+    }
+}
