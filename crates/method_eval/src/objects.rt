@@ -185,7 +185,8 @@ pub fn touch(
     owners: &Orefs,
     oref: Oref,
 ) -> Result<u16, Halt>
-    ensures { Does result machine.new (touch (reading world.now) owners.now oref machine.old) }
+    ensures does { Does result machine.new (touch (reading world.now) owners.now oref machine.old) }
+    ensures depth { machine.new.depth ≡ machine.old.depth }
 {
     if is_known(machine, oref) {
         return class_found(seen_class(world, machine, oref), oref, owners);

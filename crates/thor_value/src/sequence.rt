@@ -5,6 +5,7 @@ ghost use Rattle.std.specs.Option.{option_copied};
 use crate::memory::{NoMemory, TryCopy};
 use std::alloc::Global;
 use std::marker::Model;
+use std::mem;
 
 /// A list in one block of memory, which contracts see as the list of its elements.
 ///
@@ -126,6 +127,16 @@ impl<T: Drop> Sequence<T> {
         ensures { self.new ≡ slice_set self.old at item }
     {
         self.items[at] = item;
+    }
+
+    /// Puts an element in the place of another, and gives that one.
+    pub fn replace(&mut self, at: usize, item: T) -> T
+        requires { at < length self.old }
+        ensures item { slice_get self.old at ≡ Some result }
+        ensures rest { self.new ≡ slice_set self.old at item }
+    {
+        let place = &mut self.items[at];
+        mem::replace(place, item)
     }
 
     /// Keeps the first `count` elements.
