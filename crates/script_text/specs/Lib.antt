@@ -6,3 +6,4 @@ pub mod Reading
 pub mod Rest
 pub mod Laws
 pub mod Rows
+pub mod Grammar
