@@ -45,7 +45,7 @@ each_separator P tab line return space b is =
     (same 32 space) (or_cases (b == 9 || b == 10 || b == 13) (b == 32) is)
 
 -- what holds of each text of a list holds of one that is among them
-each_among : (P : List ℕ → Type 0) (texts : List (List ℕ)) (text : List ℕ) → AllByRecursion P texts → list_any (λ t. bytes_eq t text) texts ≡ true → P text
+pub each_among : (P : List ℕ → Type 0) (texts : List (List ℕ)) (text : List ℕ) → AllByRecursion P texts → list_any (λ t. bytes_eq t text) texts ≡ true → P text
 each_among P [] text all is = cc
 each_among P (t ∷ ts) text all is =
     ⊎_elim (λ here. subst P ((bytes_eq-Decides t text).0 here) all.0) (λ later. each_among P ts text all.1 later)
