@@ -22,14 +22,14 @@ covered_skips (suc covered) place (b ∷ bs) =
     covered_skips covered (place + 1) bs ∙ ap (λ p. pieces 0 p (drop covered bs)) same
 
 -- what lies behind the first n bytes, but for the first of them, lies behind n bytes from the place on
-rest_behind : (text : List ℕ) (place b : ℕ) (bs : List ℕ) (n : ℕ) → 1 ≤ n → drop place text ≡ b ∷ bs → drop (n - 1) bs ≡ drop (place + n) text
+pub rest_behind : (text : List ℕ) (place b : ℕ) (bs : List ℕ) (n : ℕ) → 1 ≤ n → drop place text ≡ b ∷ bs → drop (n - 1) bs ≡ drop (place + n) text
 rest_behind text place b bs zero some is = absurd (omega arith)
 rest_behind text place b bs (suc n) some is =
     let one_less : suc n - 1 ≡ n = omega arith in
     rw one_less (ap (λ t. drop (suc n) t) (sym is) ∙ drop-drop (suc n) place text)
 
 -- at the first byte of a piece
-piece_first : (text : List ℕ) (place b : ℕ) (bs : List ℕ) → 1 ≤ size (first_piece (b ∷ bs)) → drop place text ≡ b ∷ bs
+pub piece_first : (text : List ℕ) (place b : ℕ) (bs : List ℕ) → 1 ≤ size (first_piece (b ∷ bs)) → drop place text ≡ b ∷ bs
     → tokens_from text place ≡ with_piece text place (first_piece (b ∷ bs)) (tokens_from text (place + size (first_piece (b ∷ bs))))
 unfolding tokens_from tokens_among pieces
 piece_first text place b bs some is =
@@ -67,7 +67,7 @@ fault_of_whole tokens read whole (Fault fault) e is = sym e ∙ ap (after tokens
 fault_of_whole tokens read whole NoMemory e is = tt
 
 -- where the text ends there are no more tokens
-tokens_at_end : (text : List ℕ) (place : ℕ) → length text ≤ place → tokens_from text place ≡ Ok []
+pub tokens_at_end : (text : List ℕ) (place : ℕ) → length text ≤ place → tokens_from text place ≡ Ok []
 unfolding tokens_from tokens_among pieces
 tokens_at_end text place ends = ap (λ t. tokens_among text (pieces 0 place t)) (drop_all place text ends)
 
