@@ -72,7 +72,7 @@ unfolding tokens_from tokens_among pieces
 tokens_at_end text place ends = ap (λ t. tokens_among text (pieces 0 place t)) (drop_all place text ends)
 
 -- behind no tokens
-after_none : (read : Result (List Token) Syntax) → after [] read ≡ read
+pub after_none : (read : Result (List Token) Syntax) → after [] read ≡ read
 after_none (Ok more) = refl
 after_none (Err fault) = refl
 
