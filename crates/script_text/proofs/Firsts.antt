@@ -1,19 +1,19 @@
 -- What a text begins with is a part of it.
-use Rattle.std.proofs.Common.{◌≡◌, ℕ, zero, suc, ◌+◌, ◌-◌, ◌<◌, ◌≤◌, Bool, true, false, cond, List, [], ◌∷◌, ◌++◌, length, take, drop, refl, sym, ap, ◌∙◌, subst, arith, ltb, ⊎_elim, take-append-drop}
+use Rattle.std.proofs.Common.{◌≡◌, ℕ, suc, ◌+◌, ◌≤◌, Bool, true, false, List, [], ◌∷◌, ◌++◌, length, take, drop, refl, sym, ap, ◌∙◌, subst, arith, ⊎_elim, take-append-drop}
 use Rattle.std.specs.Prelude.{◌||◌, ◌&&◌, not, nat_lt, nat_eq, ◌==◌, map}
-use Rattle.std.specs.List.{prefix_len, take_while, list_any, list_all, starts_with, AllByRecursion}
+use Rattle.std.specs.List.{prefix_len, take_while, list_any, list_all, starts_with}
 use Rattle.std.specs.Str.{bytes_eq}
 use Rattle.std.specs.Str.Parse.{digits_value}
 use Rattle.std.proofs.lemmas.Bool.{cond_both, cond-true, or_left, or_right, or_cases, or_parts, and_parts, and_from, eqb-true, ltb-false, false_from_ne_true, both_ways}
-use Rattle.std.proofs.lemmas.List.Folds.{length-prefix_len, list_any-append}
+use Rattle.std.proofs.lemmas.List.Folds.{length-prefix_len}
 use Rattle.std.proofs.lemmas.List.Sums.{take_while-cons}
 use Rattle.script_text.specs.declared.token.TokenKind.{TokenKind}
-use Rattle.script_text.specs.declared.token.TokenKind.TheVariants.{Name, Number, Keyword, Symbol}
+use Rattle.script_text.specs.declared.token.TokenKind.TheVariants.{Name, Number, Keyword}
 use Rattle.script_text.specs.declared.piece.Piece.{Piece}
 use Rattle.script_text.specs.declared.piece.Piece.TheVariants.{Gap, Lexeme as Piece_Lexeme, NoToken}
 use Rattle.script_text.specs.Bytes.{is_newline, is_separator, is_letter, is_digit, is_word_byte}
 use Rattle.script_text.specs.Words.{is_keyword, long_symbols, short_symbols, comment_mark}
-use Rattle.script_text.specs.Pieces.{size, word_piece, number_piece, symbol_piece, first_piece}
+use Rattle.script_text.specs.Pieces.{word_piece, number_piece, symbol_piece, first_piece}
 use Rattle.script_text.specs.Grammar.{is_word, is_number, is_symbol, IsToken, Stops, EndsBefore, Part, Separator, Comment, Lexeme, bytes_of, IsPart, BeginsNothing}
 use Rattle.script_text.proofs.Parts.{each_among, piece_for, part_piece}
 
@@ -71,8 +71,8 @@ word_first b bs letter =
     cond_both (nat_lt 32 (length word)) _ _ (λ piece. FirstPart piece text)
     (λ long. tt)
     (λ short. cond_both (is_keyword word) Keyword Name (λ kind. FirstPart (Piece_Lexeme kind (length word)) text)
-        (λ keyword. front_part Keyword is_word_byte text (taken_word b bs letter, ltb-false 32 (length word) short, keyword) (stops_behind is_word_byte text))
-        (λ name. front_part Name is_word_byte text (taken_word b bs letter, ltb-false 32 (length word) short, name) (stops_behind is_word_byte text)))
+    (λ keyword. front_part Keyword is_word_byte text (taken_word b bs letter, ltb-false 32 (length word) short, keyword) (stops_behind is_word_byte text))
+    (λ name. front_part Name is_word_byte text (taken_word b bs letter, ltb-false 32 (length word) short, name) (stops_behind is_word_byte text)))
 
 number_first : (b : ℕ) (bs : List ℕ) → is_digit b ≡ true → FirstPart (number_piece (take_while is_digit (b ∷ bs))) (b ∷ bs)
 unfolding number_piece
@@ -82,7 +82,7 @@ number_first b bs digit =
     cond_both (nat_lt 19 (length digits) || nat_lt 9223372036854775807 (digits_value 10 digits)) _ _ (λ piece. FirstPart piece text)
     (λ large. tt)
     (λ fits. let parts = or_parts (nat_lt 19 (length digits)) (nat_lt 9223372036854775807 (digits_value 10 digits)) fits in
-        front_part Number is_digit text (taken_number b bs digit, ltb-false 19 (length digits) parts.0, ltb-false 9223372036854775807 (digits_value 10 digits) parts.1) (stops_behind is_digit text))
+    front_part Number is_digit text (taken_number b bs digit, ltb-false 19 (length digits) parts.0, ltb-false 9223372036854775807 (digits_value 10 digits) parts.1) (stops_behind is_digit text))
 
 comment_first : (b : ℕ) (bs : List ℕ) → starts_with nat_eq (b ∷ bs) comment_mark ≡ true → FirstPart (Gap (prefix_len (λ c. not (is_newline c)) (b ∷ bs))) (b ∷ bs)
 comment_first b [] starts = absurd (both_ways false refl (and_parts (nat_eq 47 b) false starts).1)
@@ -93,7 +93,7 @@ comment_first b (c ∷ cs) starts =
     let m : ℕ = prefix_len goes cs in
     let n : suc (suc m) ≡ 1 + (1 + m) = omega arith in
     let marked : FirstPart (Gap (1 + (1 + m))) (47 ∷ 47 ∷ cs) =
-        subst (λ k. FirstPart (Gap k) (47 ∷ 47 ∷ cs)) n (Comment (take m cs), tt, refl, (taken_passes goes cs, stops_behind goes cs)) in
+    subst (λ k. FirstPart (Gap k) (47 ∷ 47 ∷ cs)) n (Comment (take m cs), tt, refl, (taken_passes goes cs, stops_behind goes cs)) in
     subst (λ x. FirstPart (Gap (prefix_len goes (x ∷ c ∷ cs))) (x ∷ c ∷ cs)) (eqb-true 47 b first.0)
     (subst (λ y. FirstPart (Gap (prefix_len goes (47 ∷ y ∷ cs))) (47 ∷ y ∷ cs)) (eqb-true 47 c second.0) marked)
 
@@ -146,15 +146,15 @@ symbol_first b bs =
     let text : List ℕ = b ∷ bs in
     cond_both (list_any (starts_with nat_eq text) long_symbols) _ _ (λ piece. FirstPart piece text)
     (λ long. (
-        of_more (bytes_eq (61 ∷ 61 ∷ []) (take 2 text)) (bytes_eq (33 ∷ 61 ∷ []) (take 2 text)) _ long,
-        long_stops b bs,
+      of_more (bytes_eq (61 ∷ 61 ∷ []) (take 2 text)) (bytes_eq (33 ∷ 61 ∷ []) (take 2 text)) _ long,
+      long_stops b bs,
     ))
     (λ not_long. cond_both (list_any (λ symbol. symbol == b) short_symbols) _ _ (λ piece. FirstPart piece text)
-        (λ short. (
-            or_right (nat_eq 61 b && false) _ (or_right (nat_eq 33 b && false) _ (single b short_symbols short)),
-            short_stops b bs not_long,
-        ))
-        (λ none. tt))
+    (λ short. (
+      or_right (nat_eq 61 b && false) _ (or_right (nat_eq 33 b && false) _ (single b short_symbols short)),
+      short_stops b bs not_long,
+    ))
+    (λ none. tt))
 
 pub first_part : (b : ℕ) (bs : List ℕ) → FirstPart (first_piece (b ∷ bs)) (b ∷ bs)
 unfolding first_piece
@@ -164,12 +164,12 @@ first_part b bs =
     cond_both (is_letter b) _ _ P
     (λ letter. word_first b bs letter)
     (λ no_letter. cond_both (is_digit b) _ _ P
-        (λ digit. number_first b bs digit)
-        (λ no_digit. cond_both (is_separator b) _ _ P
-            (λ separates. (Separator b, tt, refl, separates))
-            (λ no_separator. cond_both (starts_with nat_eq text comment_mark) _ _ P
-                (λ comment. comment_first b bs comment)
-                (λ no_comment. symbol_first b bs))))
+    (λ digit. number_first b bs digit)
+    (λ no_digit. cond_both (is_separator b) _ _ P
+    (λ separates. (Separator b, tt, refl, separates))
+    (λ no_separator. cond_both (starts_with nat_eq text comment_mark) _ _ P
+    (λ comment. comment_first b bs comment)
+    (λ no_comment. symbol_first b bs))))
 
 -- a part is a piece
 part_is_some : (part : Part) → piece_for part ≡ NoToken → ⊥

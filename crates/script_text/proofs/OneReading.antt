@@ -1,5 +1,5 @@
 -- A text has one reading: its tokens, or its fault, are those that the definition gives.
-use Rattle.std.proofs.Common.{◌≡◌, ℕ, zero, suc, ◌+◌, ◌-◌, ◌<◌, ◌≤◌, true, List, [], ◌∷◌, ◌++◌, length, take, drop, Result, Ok, Err, refl, sym, ap, ◌∙◌, subst, arith, append_assoc, append-nil, length-append, length-drop}
+use Rattle.std.proofs.Common.{◌≡◌, ℕ, ◌+◌, ◌-◌, ◌≤◌, List, [], ◌∷◌, ◌++◌, length, take, drop, Result, Ok, Err, refl, sym, ap, ◌∙◌, subst, arith, append_assoc, append-nil, length-append}
 use Rattle.std.specs.Prelude.{slice_range}
 use Rattle.std.specs.List.{flat_map}
 use Rattle.std.proofs.lemmas.Bool.{false≢true}
@@ -9,12 +9,11 @@ use Rattle.script_text.specs.declared.token.TokenKind.TheVariants.{Name, Number,
 use Rattle.script_text.specs.declared.token.Token.{Token}
 use Rattle.script_text.specs.declared.syntax.Syntax.{Syntax}
 use Rattle.script_text.specs.declared.piece.Piece.{Piece}
-use Rattle.script_text.specs.declared.piece.Piece.TheVariants.{Gap, Lexeme as Piece_Lexeme, NoToken}
 use Rattle.script_text.specs.Pieces.{size, first_piece}
-use Rattle.script_text.specs.Tokens.{token_at, line_at, before, with_piece, tokens_of}
-use Rattle.script_text.specs.Grammar.{is_word, is_number, is_symbol, IsToken, Part, Separator, Comment, Lexeme, bytes_of, IsPart, AreParts, tokens_in, AreTokensOf, StopsAt}
+use Rattle.script_text.specs.Tokens.{line_at, before, with_piece, tokens_of}
+use Rattle.script_text.specs.Grammar.{IsToken, Part, Separator, Comment, Lexeme, bytes_of, IsPart, AreParts, tokens_in, AreTokensOf, StopsAt}
 use Rattle.script_text.specs.Rest.{tokens_from, after}
-use Rattle.script_text.proofs.Sizes.{Sized, first_sized}
+use Rattle.script_text.proofs.Sizes.{first_sized}
 use Rattle.script_text.proofs.Behind.{piece_first, after_none, tokens_at_end, tokens_from_start}
 use Rattle.script_text.proofs.Parts.{piece_for, part_piece}
 use Rattle.script_text.proofs.Firsts.{no_token}
@@ -82,7 +81,7 @@ parts_read text place (part ∷ parts) behind are at =
     let others : List ℕ = flat_map bytes_of parts in
     let here : bytes ++ (others ++ behind) ≡ drop place text = sym (append_assoc bytes others behind) ∙ at in
     let further : others ++ behind ≡ drop (place + length bytes) text =
-        sym (drop_at bytes (others ++ behind) (length bytes) refl) ∙ ap (drop (length bytes)) here ∙ drop-drop (length bytes) place text in
+    sym (drop_at bytes (others ++ behind) (length bytes) refl) ∙ ap (drop (length bytes)) here ∙ drop-drop (length bytes) place text in
     let end : place + length bytes + length others ≡ place + length (bytes ++ others) = omega (arith, length-append bytes others) in
     part_step text place part (others ++ behind) are.0 here
     ∙ ap (with_piece text place (piece_for part)) (parts_read text (place + length bytes) parts behind are.1 further)
@@ -106,10 +105,10 @@ one_stop text fault s =
     let place : n ≡ 0 + n = omega arith in
     let there : rest ≡ drop (0 + n) text = sym (drop_at (flat_map bytes_of s.parts) rest n refl) ∙ ap (drop n) s.whole ∙ ap (λ p. drop p text) place in
     let stop : tokens_from text (0 + n) ≡ Err fault =
-        step_at text (0 + n) rest (omega arith) there
-        ∙ ap (λ piece. with_piece text (0 + n) piece (tokens_from text (0 + n + size (first_piece rest)))) (no_token s.first s.others s.nothing)
-        ∙ ap (λ p. Err (record { line = line_at text p })) (sym place)
-        ∙ ap (λ l. Err (record { line = l })) (sym s.line) in
+    step_at text (0 + n) rest (omega arith) there
+    ∙ ap (λ piece. with_piece text (0 + n) piece (tokens_from text (0 + n + size (first_piece rest)))) (no_token s.first s.others s.nothing)
+    ∙ ap (λ p. Err (record { line = line_at text p })) (sym place)
+    ∙ ap (λ l. Err (record { line = l })) (sym s.line) in
     sym (tokens_from_start text) ∙ after_none (tokens_from text 0)
     ∙ parts_read text 0 s.parts rest s.each s.whole
     ∙ ap (after (tokens_in text 0 s.parts)) stop

@@ -1,20 +1,20 @@
 -- Where a part begins a text, that is the piece that the text begins with.
-use Rattle.std.proofs.Common.{◌≡◌, ℕ, zero, suc, ◌+◌, ◌-◌, ◌<◌, ◌≤◌, Bool, true, false, cond, List, [], ◌∷◌, ◌++◌, length, take, drop, refl, sym, ap, ◌∙◌, subst, arith, ltb, leb, ⊎_elim}
-use Rattle.std.specs.Prelude.{◌||◌, ◌&&◌, not, nat_lt, nat_eq, ◌==◌, codes, map}
-use Rattle.std.specs.List.{prefix_len, take_while, list_any, list_all, starts_with, AllByRecursion, flat_map}
+use Rattle.std.proofs.Common.{◌≡◌, ℕ, ◌≤◌, Bool, true, false, cond, List, [], ◌∷◌, ◌++◌, length, refl, sym, ap, ◌∙◌, subst, arith, leb, ⊎_elim}
+use Rattle.std.specs.Prelude.{◌||◌, ◌&&◌, not, nat_lt, nat_eq, ◌==◌, map}
+use Rattle.std.specs.List.{prefix_len, take_while, list_any, list_all, AllByRecursion}
 use Rattle.std.specs.Str.{bytes_eq}
 use Rattle.std.specs.Str.Parse.{digits_value}
-use Rattle.std.proofs.lemmas.Bool.{cond_both, cond-true, cond-false, or_left, or_right, or_cases, or_parts, or_from, and_parts, and_from, and_left, leb-true, lt-leb, eqb-true, le-ltb, ltb-false, not_from_false, both_ways, false_from_ne_true}
+use Rattle.std.proofs.lemmas.Bool.{cond-true, cond-false, or_left, or_cases, or_parts, or_from, and_parts, and_from, and_left, leb-true, lt-leb, eqb-true, le-ltb}
 use Rattle.std.proofs.lemmas.List.{take_at}
 use Rattle.std.proofs.lemmas.Slice.Eq.{bytes_eq-Decides}
 use Rattle.script_text.specs.declared.token.TokenKind.{TokenKind}
 use Rattle.script_text.specs.declared.token.TokenKind.TheVariants.{Name, Number, Keyword, Symbol}
 use Rattle.script_text.specs.declared.piece.Piece.{Piece}
-use Rattle.script_text.specs.declared.piece.Piece.TheVariants.{Gap, Lexeme as Piece_Lexeme, NoToken}
+use Rattle.script_text.specs.declared.piece.Piece.TheVariants.{Gap, Lexeme as Piece_Lexeme}
 use Rattle.script_text.specs.Bytes.{is_newline, is_separator, is_letter, is_digit, is_word_byte}
-use Rattle.script_text.specs.Words.{is_keyword, long_symbols, short_symbols, comment_mark}
-use Rattle.script_text.specs.Pieces.{size, word_piece, number_piece, symbol_piece, first_piece}
-use Rattle.script_text.specs.Grammar.{is_word, is_number, is_symbol, IsToken, Stops, EndsBefore, Part, Separator, Comment, Lexeme, bytes_of, IsPart}
+use Rattle.script_text.specs.Words.{is_keyword, long_symbols, short_symbols}
+use Rattle.script_text.specs.Pieces.{word_piece, number_piece, symbol_piece, first_piece}
+use Rattle.script_text.specs.Grammar.{is_word, is_number, is_symbol, Stops, EndsBefore, Part, Separator, Comment, Lexeme, bytes_of, IsPart}
 
 -- bytes that pass a test before a text that doesn't go on so are all that pass
 pub prefix_whole : (test : ℕ → Bool) (xs behind : List ℕ) → list_all test xs ≡ true → Stops test behind → prefix_len test (xs ++ behind) ≡ length xs
@@ -40,8 +40,8 @@ each_separator P tab line return space b is =
     let same = λ (n : ℕ) (here : P n) (e : nat_eq b n ≡ true). subst P (sym (eqb-true b n e)) here in
     ⊎_elim
     (λ before_space. ⊎_elim
-        (λ before_return. ⊎_elim (same 9 tab) (same 10 line) (or_cases (b == 9) (b == 10) before_return))
-        (same 13 return) (or_cases (b == 9 || b == 10) (b == 13) before_space))
+    (λ before_return. ⊎_elim (same 9 tab) (same 10 line) (or_cases (b == 9) (b == 10) before_return))
+    (same 13 return) (or_cases (b == 9 || b == 10) (b == 13) before_space))
     (same 32 space) (or_cases (b == 9 || b == 10 || b == 13) (b == 32) is)
 
 -- what holds of each text of a list holds of one that is among them

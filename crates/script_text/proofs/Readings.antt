@@ -1,21 +1,18 @@
 -- The tokens of a text are those of its one reading.
-use Rattle.std.proofs.Common.{◌≡◌, ℕ, zero, suc, ◌+◌, ◌-◌, ◌<◌, ◌≤◌, List, [], ◌∷◌, ◌++◌, length, take, drop, Result, Ok, Err, refl, sym, ap, ◌∙◌, subst, arith, add-zero, append_assoc, append-nil, length-append, length-drop, take-append-drop}
+use Rattle.std.proofs.Common.{◌≡◌, ℕ, zero, suc, ◌+◌, ◌-◌, ◌≤◌, List, [], ◌∷◌, ◌++◌, length, take, drop, Result, Ok, Err, refl, sym, ap, ◌∙◌, subst, arith, append_assoc, append-nil, length-append, take-append-drop}
 use Rattle.std.specs.Prelude.{slice_range}
 use Rattle.std.specs.List.{flat_map}
-use Rattle.std.proofs.lemmas.List.{drop-drop, length-take-le, drop_at}
+use Rattle.std.proofs.lemmas.List.{drop-drop, length-take-le}
 use Rattle.script_text.specs.declared.token.TokenKind.{TokenKind}
 use Rattle.script_text.specs.declared.token.Token.{Token}
 use Rattle.script_text.specs.declared.syntax.Syntax.{Syntax}
 use Rattle.script_text.specs.declared.piece.Piece.{Piece}
 use Rattle.script_text.specs.declared.piece.Piece.TheVariants.{Gap, Lexeme as Piece_Lexeme, NoToken}
-use Rattle.script_text.specs.Pieces.{Placed, size, first_piece, pieces}
+use Rattle.script_text.specs.Pieces.{size, first_piece, pieces}
 use Rattle.script_text.specs.Tokens.{token_at, line_at, before, with_piece, tokens_among, tokens_of}
 use Rattle.script_text.specs.Grammar.{Part, Separator, Comment, Lexeme, bytes_of, IsPart, AreParts, tokens_in, AreTokensOf, BeginsNothing, StopsAt}
-use Rattle.script_text.specs.Rest.{tokens_from, after}
 use Rattle.script_text.proofs.Sizes.{Sized, first_sized}
-use Rattle.script_text.proofs.Behind.{piece_first, rest_behind, after_before, tokens_at_end, tokens_from_start}
-use Rattle.script_text.proofs.Parts.{piece_for, part_piece}
-use Rattle.script_text.proofs.Firsts.{IsGap, FirstPart, first_part, nothing_begins, no_token}
+use Rattle.script_text.proofs.Firsts.{IsGap, FirstPart, first_part, nothing_begins}
 
 -- the rest of a text, from a place on, is parts, and these are its tokens
 record ReadsAll (text : List ℕ) (place : ℕ) (rest : List ℕ) (tokens : List Token) : Type 0 where
@@ -52,15 +49,15 @@ module _ (text : List ℕ) (place n : ℕ) (front : List ℕ) (fits : n ≤ leng
       let behind : List ℕ = r.first ∷ r.others in
       let long : length (bytes_of part) ≡ n = ap length bytes ∙ length-take-le n front fits in
       let further : place + n + length (flat_map bytes_of r.parts) ≡ place + length (flat_map bytes_of (part ∷ r.parts)) =
-          omega (arith, long, length-append (bytes_of part) (flat_map bytes_of r.parts)) in
+      omega (arith, long, length-append (bytes_of part) (flat_map bytes_of r.parts)) in
       record {
-          parts = part ∷ r.parts;
-          first = r.first;
-          others = r.others;
-          each = (subst (IsPart part) (sym r.whole) is, r.each);
-          whole = append_assoc (bytes_of part) (flat_map bytes_of r.parts) behind ∙ ap (λ l. bytes_of part ++ l) r.whole ∙ ap (λ l. l ++ drop n front) bytes ∙ take-append-drop n front;
-          nothing = r.nothing;
-          line = r.line ∙ ap (line_at text) further;
+        parts = part ∷ r.parts;
+        first = r.first;
+        others = r.others;
+        each = (subst (IsPart part) (sym r.whole) is, r.each);
+        whole = append_assoc (bytes_of part) (flat_map bytes_of r.parts) behind ∙ ap (λ l. bytes_of part ++ l) r.whole ∙ ap (λ l. l ++ drop n front) bytes ∙ take-append-drop n front;
+        nothing = r.nothing;
+        line = r.line ∙ ap (line_at text) further;
       }
 
   -- a gap before what was read
@@ -70,10 +67,10 @@ module _ (text : List ℕ) (place n : ℕ) (front : List ℕ) (fits : n ≤ leng
       let long : length (bytes_of part) ≡ n = ap length bytes ∙ length-take-le n front fits in
       let behind : flat_map bytes_of r.parts ++ [] ≡ drop n front = append-nil (flat_map bytes_of r.parts) ∙ r.whole in
       record {
-          parts = part ∷ r.parts;
-          each = (subst (IsPart part) (sym behind) is, r.each);
-          whole = ap (λ l. bytes_of part ++ l) r.whole ∙ ap (λ l. l ++ drop n front) bytes ∙ take-append-drop n front;
-          tokens_are = r.tokens_are ∙ ap (λ m. tokens_in text (place + m) r.parts) (sym long) ∙ sym (gap_tokens text place part r.parts gap);
+        parts = part ∷ r.parts;
+        each = (subst (IsPart part) (sym behind) is, r.each);
+        whole = ap (λ l. bytes_of part ++ l) r.whole ∙ ap (λ l. l ++ drop n front) bytes ∙ take-append-drop n front;
+        tokens_are = r.tokens_are ∙ ap (λ m. tokens_in text (place + m) r.parts) (sym long) ∙ sym (gap_tokens text place part r.parts gap);
       }
   gap_reads part gap bytes is (Err fault) r = part_reads_up_to part bytes is fault r
 
@@ -92,10 +89,10 @@ module _ (text : List ℕ) (place n : ℕ) (front : List ℕ) (fits : n ≤ leng
       let end : place + n ≡ place + length (take n front) = omega (arith, long) in
       let token = ap (λ l. here kind l (place + n)) slice ∙ ap (λ m. here kind (take n front) m) end in
       record {
-          parts = Lexeme kind (take n front) ∷ r.parts;
-          each = (subst (IsPart (Lexeme kind (take n front))) (sym behind) is, r.each);
-          whole = ap (λ l. take n front ++ l) r.whole ∙ take-append-drop n front;
-          tokens_are = ap (λ t. t ∷ tokens) token ∙ ap (λ l. here kind (take n front) (place + length (take n front)) ∷ l) (r.tokens_are ∙ ap (λ m. tokens_in text (place + m) r.parts) (sym long));
+        parts = Lexeme kind (take n front) ∷ r.parts;
+        each = (subst (IsPart (Lexeme kind (take n front))) (sym behind) is, r.each);
+        whole = ap (λ l. take n front ++ l) r.whole ∙ take-append-drop n front;
+        tokens_are = ap (λ t. t ∷ tokens) token ∙ ap (λ l. here kind (take n front) (place + length (take n front)) ∷ l) (r.tokens_are ∙ ap (λ m. tokens_in text (place + m) r.parts) (sym long));
       }
   token_reads kind at is (Err fault) r = part_reads_up_to (Lexeme kind (take n front)) refl is fault r
 
@@ -137,19 +134,19 @@ reads text zero place (b ∷ bs) at fits =
     let start : place ≡ place + 0 = omega arith in
     let behind : Reads text (place + 1 + (n - 1)) (drop (n - 1) bs) read = reads text (n - 1) (place + 1) bs (behind_first text place b bs at) (omega (arith, sized.within)) in
     let there : Reads text (place + n) (drop n (b ∷ bs)) read =
-        subst (λ l. Reads text (place + n) l read) (all_but_one n b bs sized.some) (subst (λ p. Reads text p (drop (n - 1) bs) read) further behind) in
+    subst (λ l. Reads text (place + n) l read) (all_but_one n b bs sized.some) (subst (λ p. Reads text p (drop (n - 1) bs) read) further behind) in
     subst (λ p. Reads text p (b ∷ bs) (with_piece text place piece read)) start
     (piece_reads text place (b ∷ bs) piece read at (first_part b bs)
-        (λ none. record {
-            parts = [];
-            first = b;
-            others = bs;
-            each = tt;
-            whole = refl;
-            nothing = nothing_begins (b ∷ bs) none;
-            line = ap (line_at text) start;
-        })
-        sized.within there)
+    (λ none. record {
+      parts = [];
+      first = b;
+      others = bs;
+      each = tt;
+      whole = refl;
+      nothing = nothing_begins (b ∷ bs) none;
+      line = ap (line_at text) start;
+    })
+    sized.within there)
 
 -- tokens are those of a reading
 pub is_reading : (text : List ℕ) (tokens : List Token) → tokens_of text ≡ Ok tokens → AreTokensOf text tokens
@@ -166,11 +163,11 @@ is_stop text fault is =
     let n : ℕ = length (flat_map bytes_of part.parts) in
     let place : 0 + n ≡ n = omega arith in
     record {
-        parts = part.parts;
-        first = part.first;
-        others = part.others;
-        each = part.each;
-        whole = part.whole;
-        nothing = part.nothing;
-        line = part.line ∙ ap (line_at text) place;
+      parts = part.parts;
+      first = part.first;
+      others = part.others;
+      each = part.each;
+      whole = part.whole;
+      nothing = part.nothing;
+      line = part.line ∙ ap (line_at text) place;
     }

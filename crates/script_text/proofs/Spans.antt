@@ -1,5 +1,5 @@
 -- The spans of a text's tokens rise, and each token's text is its slice.
-use Rattle.std.proofs.Common.{◌≡◌, ℕ, zero, suc, ◌+◌, ◌-◌, ◌<◌, ◌≤◌, List, [], ◌∷◌, length, Result, Ok, Err, refl, subst, arith}
+use Rattle.std.proofs.Common.{◌≡◌, ℕ, zero, suc, ◌+◌, ◌-◌, ◌<◌, ◌≤◌, List, [], ◌∷◌, length, Result, Ok, Err, sym, refl, subst, arith}
 use Rattle.std.specs.Prelude.{slice_range}
 use Rattle.std.specs.List.{AllByRecursion}
 use Rattle.std.proofs.lemmas.List.Elements.{All-from_recursion}
@@ -9,7 +9,8 @@ use Rattle.script_text.specs.declared.token.Token.{Token}
 use Rattle.script_text.specs.declared.syntax.Syntax.{Syntax}
 use Rattle.script_text.specs.Pieces.{Placed, size, first_piece, pieces}
 use Rattle.script_text.specs.Tokens.{token_at, before, with_piece, tokens_among, tokens_of}
-use Rattle.script_text.specs.Laws.{SpansRise, AreSlices}
+use Rattle.script_text.specs.Laws.{SpansRise, AreSlices, AreSpelled}
+use Rattle.script_text.specs.Grammar.{IsToken, Part, Separator, Comment, Lexeme as Part_Lexeme, bytes_of, AreParts, tokens_in, AreTokensOf}
 use Rattle.script_text.proofs.Sizes.{Sized, first_sized}
 
 -- spans that rise from a place rise from an earlier one
@@ -95,3 +96,15 @@ sliced text (p ∷ ps) ts is = piece_sliced text p.from p.piece (tokens_among te
 pub are_slices : (text : List ℕ) (ts : List Token) → tokens_of text ≡ Ok ts → AreSlices text ts
 unfolding tokens_of
 are_slices text ts is = All-from_recursion (λ t. t.text ≡ slice_range text t.from t.to) ts (sliced text (pieces 0 0 text) ts is)
+
+-- the tokens among parts are spelled as their kinds are
+parts_spelled : (text : List ℕ) (place : ℕ) (parts : List Part) (behind : List ℕ) → AreParts parts behind → AllByRecursion (λ t. IsToken t.kind t.text) (tokens_in text place parts)
+parts_spelled text place [] behind are = tt
+parts_spelled text place (Separator b ∷ parts) behind are = parts_spelled text (place + 1) parts behind are.1
+parts_spelled text place (Comment body ∷ parts) behind are = parts_spelled text (place + length (bytes_of (Comment body))) parts behind are.1
+parts_spelled text place (Part_Lexeme kind bytes ∷ parts) behind are = (are.0.0, parts_spelled text (place + length bytes) parts behind are.1)
+
+pub are_spelled : (text : List ℕ) (ts : List Token) → AreTokensOf text ts → AreSpelled ts
+are_spelled text ts r =
+    let spelled = subst (λ l. AllByRecursion (λ t. IsToken t.kind t.text) l) (sym r.tokens_are) (parts_spelled text 0 r.parts [] r.each) in
+    All-from_recursion (λ t. IsToken t.kind t.text) ts spelled

@@ -10,6 +10,8 @@ use Rattle.script_text.specs.declared.token.TokenKind.{TokenKind}
 use Rattle.script_text.specs.declared.token.TokenKind.TheVariants.{Name, Number, Keyword, Symbol}
 use Rattle.script_text.specs.declared.token.Token.{Token}
 use Rattle.script_text.specs.declared.syntax.Syntax.{Syntax}
+use Rattle.script_text.specs.declared.syntax.SyntaxError.{SyntaxError}
+use Rattle.script_text.specs.declared.syntax.SyntaxError.TheVariants.{Fault, NoMemory}
 use Rattle.script_text.specs.Bytes.{is_newline, is_separator, is_letter, is_digit, is_word_byte}
 use Rattle.script_text.specs.Words.{is_keyword, long_symbols, short_symbols, comment_mark}
 use Rattle.script_text.specs.Tokens.{line_at}
@@ -98,3 +100,8 @@ pub record StopsAt (text : List ℕ) (fault : Syntax) : Type 0 where
   pub whole : flat_map bytes_of parts ++ first ∷ others ≡ text
   pub nothing : BeginsNothing (first ∷ others)
   pub line : fault.line ≡ line_at text (length (flat_map bytes_of parts))
+
+-- the error is a fault where the text stops; want of memory says nothing
+abbrev pub IsStopOf : List ℕ → SyntaxError → Type 0
+IsStopOf text (Fault fault) = StopsAt text fault
+IsStopOf text NoMemory = Unit {0}

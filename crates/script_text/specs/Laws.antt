@@ -1,6 +1,7 @@
 -- What holds of the tokens of every text. This project's.
 use Rattle.std.specs.Prelude.{◌≡◌, ◌<◌, ◌≤◌, ℕ, List, [], ◌∷◌, slice_range, All}
 use Rattle.script_text.specs.declared.token.Token.{Token}
+use Rattle.script_text.specs.Grammar.{IsToken}
 
 -- The spans rise from a place up to an end: each token has a byte, begins no earlier than the one before it
 -- ends, and ends within them.
@@ -11,3 +12,7 @@ SpansRise from (token ∷ tokens) end = (from ≤ token.from) × (token.from < t
 -- each token's text is the part of the whole text at its span
 abbrev pub AreSlices : List ℕ → List Token → Type 0
 AreSlices text tokens = All (λ token. token.text ≡ slice_range text token.from token.to) tokens
+
+-- each token's text is a token of its kind: a name has at most 32 bytes, a number a value that 63 bits hold
+abbrev pub AreSpelled : List Token → Type 0
+AreSpelled tokens = All (λ token. IsToken token.kind token.text) tokens

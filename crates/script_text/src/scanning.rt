@@ -1,11 +1,14 @@
 //! A text cut into tokens.
 
-ghost use Rattle.std.specs.Prelude.{◌≡◌, ◌+◌, ◌≤◌, ◌<◌, ◌^◌, ℕ, length, take, drop, count_by, IfOk, IfErr, Ok};
+ghost use Rattle.std.specs.Prelude.{◌≡◌, ◌+◌, ◌≤◌, ◌<◌, ◌^◌, ℕ, length, take, drop, count_by, IfOk, IfErr, Ok, Err, List};
 ghost use Rattle.script_text.specs.Bytes.{is_newline};
 ghost use Rattle.script_text.specs.Tokens.{line_at, token_at, tokens_of};
-ghost use Rattle.script_text.specs.Reading.{IsFaultOf};
+ghost use Rattle.script_text.specs.declared.token.Token.{Token};
+ghost use Rattle.script_text.specs.declared.syntax.Syntax.{Syntax};
+ghost use Rattle.script_text.specs.Reading.{IsFaultOf, Gives};
+ghost use Rattle.script_text.specs.Grammar.{AreTokensOf, StopsAt, IsStopOf};
 ghost use Rattle.script_text.specs.Rest.{tokens_from, after, IsPlaceIn, IsPieceAt};
-ghost use Rattle.script_text.specs.Laws.{SpansRise, AreSlices};
+ghost use Rattle.script_text.specs.Laws.{SpansRise, AreSlices, AreSpelled};
 
 use crate::front::first_piece;
 use crate::piece::Piece;
@@ -99,20 +102,11 @@ fn scan_piece(
     }
 }
 
-/// The tokens of a script's text, in order, with where each stands.
-///
-/// Bytes 9, 10, 13 and 32 separate tokens, and so does a comment, from `//` to the end of its line.
-/// `Fault` is at the line of the first byte, outside of comments, that begins no token: a byte of no
-/// token, a word of more than 32 bytes, or a number past 9223372036854775807 or of more than 19 digits.
-pub fn scan(alloc: Global, text: &[u8]) -> Result<Tokens, SyntaxError>
+/// The tokens of a text.
+fn all_tokens(alloc: Global, text: &[u8]) -> Result<Tokens, SyntaxError>
     requires { length text.now < 2 ^ 32 }
-    // The tokens are the text's, in a text that has no fault, and the fault is the text's own.
     ensures tokens { IfOk result (λ tokens. tokens_of text.now ≡ Ok tokens) }
     ensures fault { IfErr result (IsFaultOf (tokens_of text.now)) }
-
-    // Each token is a part of the text, and they stand in its order.
-    ensures spans { IfOk result (λ tokens. SpansRise 0 tokens (length text.now)) }
-    ensures slices { IfOk result (AreSlices text.now) }
 {
     let mut tokens = Tokens::new(alloc);
     let mut place = Place { from: 0, line: 1 };
@@ -120,4 +114,32 @@ pub fn scan(alloc: Global, text: &[u8]) -> Result<Tokens, SyntaxError>
         place = scan_piece(alloc, text, place, &mut tokens)?;
     }
     Ok(tokens)
+}
+
+/// The tokens of a script's text, in order, with where each stands.
+///
+/// Bytes 9, 10, 13 and 32 separate tokens, and so does a comment, from `//` to the end of its line.
+/// `Fault` is at the line of the first byte, outside of comments, that begins no token: a byte of no
+/// token, a word of more than 32 bytes, or a number past 9223372036854775807 or of more than 19 digits.
+pub fn scan(alloc: Global, text: &[u8]) -> Result<Tokens, SyntaxError>
+    requires { length text.now < 2 ^ 32 }
+    // The answer is the one that the definition computes.
+    ensures tokens { IfOk result (λ tokens. tokens_of text.now ≡ Ok tokens) }
+    ensures fault { IfErr result (IsFaultOf (tokens_of text.now)) }
+
+    // The text is separators, comments and these tokens. It has no others, and a text that has tokens is
+    // refused for want of memory alone.
+    ensures read { IfOk result (AreTokensOf text.now) }
+    ensures only_tokens { (tokens : List Token) → AreTokensOf text.now tokens → Gives result (Ok tokens) }
+
+    // A fault is where nothing begins that a text is made of, and such a text has no tokens.
+    ensures stopped { IfErr result (IsStopOf text.now) }
+    ensures only_fault { (fault : Syntax) → StopsAt text.now fault → Gives result (Err fault) }
+
+    // Each token is a part of the text that is spelled as its kind is, and they stand in its order.
+    ensures spelled { IfOk result AreSpelled }
+    ensures spans { IfOk result (λ tokens. SpansRise 0 tokens (length text.now)) }
+    ensures slices { IfOk result (AreSlices text.now) }
+{
+    all_tokens(alloc, text)
 }

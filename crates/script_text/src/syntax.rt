@@ -1,6 +1,7 @@
 ghost use Rattle.std.specs.Prelude.{◌≡◌};
 ghost use Rattle.script_text.specs.declared.syntax.SyntaxError.TheVariants.{NoMemory as OutOfMemory};
 
+use std::error::Error;
 use std::fmt;
 use thor_value::NoMemory;
 
@@ -27,3 +28,23 @@ impl From<NoMemory> for SyntaxError {
         SyntaxError::NoMemory
     }
 }
+
+impl fmt::Display for Syntax {
+    fn fmt<W: fmt::Write>(&self, f: &mut fmt::Formatter<W>) -> fmt::Result {
+        let line = self.line;
+        write!(f, "no script can go on at line {line}")
+    }
+}
+
+impl Error for Syntax {}
+
+impl fmt::Display for SyntaxError {
+    fn fmt<W: fmt::Write>(&self, f: &mut fmt::Formatter<W>) -> fmt::Result {
+        match self {
+            Self::Fault(fault) => write!(f, "{fault}"),
+            Self::NoMemory => write!(f, "out of memory"),
+        }
+    }
+}
+
+impl Error for SyntaxError {}

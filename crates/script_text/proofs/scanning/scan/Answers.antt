@@ -1,22 +1,23 @@
-use Rattle.std.proofs.Common.{ap, refl, ◌∙◌, arith}
-use Rattle.script_text.specs.Rest.{tokens_from, after}
-use Rattle.script_text.proofs.Behind.{all_read, tokens_from_start}
-use Rattle.script_text.proofs.Spans.{spans_rise, are_slices}
+use Rattle.script_text.proofs.Scanned.{read, stopped, only_tokens, only_fault, spelled, spans, slices}
 use Rattle.script_text.proofs.scanning.scan.Goals as goal
 
-pub loop-place-init : goal.loop-place-init
-loop-place-init c = record {
-  place = record { within = omega arith; line = refl };
-  tokens = ap (λ t. after t (tokens_from c.args.text.now 0)) c.new-tokens.ensures ∙ tokens_from_start c.args.text.now;
-}
+pub returns-clause-read : goal.returns-clause-read
+returns-clause-read c = read c.args.text.now c.all_tokens.result c.all_tokens.ensures.tokens
 
-pub returns-clause-tokens : goal.returns-clause-tokens
-returns-clause-tokens c = all_read c.args.text.now c.loop-place.tokens _ c.loop-place.invariant.tokens c.loop-place-test.false
+pub returns-clause-only_tokens : goal.returns-clause-only_tokens
+returns-clause-only_tokens c = only_tokens c.args.text.now c.all_tokens.result c.all_tokens.ensures.tokens c.all_tokens.ensures.fault
+
+pub returns-clause-stopped : goal.returns-clause-stopped
+returns-clause-stopped c = stopped c.args.text.now c.all_tokens.result c.all_tokens.ensures.fault
+
+pub returns-clause-only_fault : goal.returns-clause-only_fault
+returns-clause-only_fault c = only_fault c.args.text.now c.all_tokens.result c.all_tokens.ensures.tokens c.all_tokens.ensures.fault
 
 pub returns-clause-spans : goal.returns-clause-spans
-returns-clause-spans c =
-    spans_rise c.args.text.now c.loop-place.tokens (all_read c.args.text.now c.loop-place.tokens _ c.loop-place.invariant.tokens c.loop-place-test.false)
+returns-clause-spans c = spans c.args.text.now c.all_tokens.result c.all_tokens.ensures.tokens
 
 pub returns-clause-slices : goal.returns-clause-slices
-returns-clause-slices c =
-    are_slices c.args.text.now c.loop-place.tokens (all_read c.args.text.now c.loop-place.tokens _ c.loop-place.invariant.tokens c.loop-place-test.false)
+returns-clause-slices c = slices c.args.text.now c.all_tokens.result c.all_tokens.ensures.tokens
+
+pub returns-clause-spelled : goal.returns-clause-spelled
+returns-clause-spelled c = spelled c.args.text.now c.all_tokens.result c.all_tokens.ensures.tokens

@@ -1,7 +1,7 @@
 use Rattle.std.proofs.Common.{◌≡◌, ◌-◌, length}
 use Rattle.script_text.specs.Tokens.{tokens_of}
 use Rattle.script_text.specs.Rest.{tokens_from, after, IsPlaceIn}
-use Rattle.script_text.proofs.scanning.scan.Given as goal
+use Rattle.script_text.proofs.scanning.all_tokens.Given as goal
 
 -- the tokens so far, and those behind the place, are the text's
 abbrev pub invariant-loop-place : goal.invariant-loop-place
