@@ -5,3 +5,4 @@ pub mod Run
 pub mod Statements
 pub mod Steps
 pub mod Types
+pub mod Upgrades

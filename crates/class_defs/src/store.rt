@@ -1,5 +1,6 @@
 use crate::classes::Classes;
 use crate::expressions::{At, Name};
+use crate::upgrades::Upgrade;
 use thor_value::{NoMemory, Oref, OrefMap, Sequence, Text, TryCopy, Values};
 
 /// An object as a store has it: its class and its fields.
@@ -59,6 +60,24 @@ pub struct Schema {
     pub roots: RootDeclarations,
 }
 
+/// An upgrade, and the schema of the epoch to which it leads.
+#[derive(Debug, Drop)]
+pub struct UpgradedSchema {
+    pub upgrade: Upgrade,
+    pub schema: Schema,
+}
+
+pub type UpgradedSchemas = Sequence<UpgradedSchema>;
+
+/// The schemas of all epochs.
+#[derive(Debug, Drop)]
+pub struct Schemas {
+    /// That of epoch 0.
+    pub first: Schema,
+    /// Those of the epochs 1, 2, .., each with the upgrade that leads to it.
+    pub upgraded: UpgradedSchemas,
+}
+
 /// What a setup section declares.
 #[derive(Debug, Drop)]
 pub struct Setup {
@@ -111,6 +130,24 @@ impl TryCopy for Setup {
         Ok(Setup {
             schema: self.schema.copy()?,
             roots: self.roots.copy()?,
+        })
+    }
+}
+
+impl TryCopy for UpgradedSchema {
+    fn copy(&self) -> Result<UpgradedSchema, NoMemory> {
+        Ok(UpgradedSchema {
+            upgrade: self.upgrade.copy()?,
+            schema: self.schema.copy()?,
+        })
+    }
+}
+
+impl TryCopy for Schemas {
+    fn copy(&self) -> Result<Schemas, NoMemory> {
+        Ok(Schemas {
+            first: self.first.copy()?,
+            upgraded: self.upgraded.copy()?,
         })
     }
 }
