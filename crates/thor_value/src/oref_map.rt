@@ -1,9 +1,10 @@
 ghost use Rattle.std.specs.Prelude.{◌≡◌, Some, IfOk, OnOk, OnErr, is_some};
 ghost use Rattle.std.specs.Option.{option_copied};
-ghost use Rattle.thor_value.specs.FiniteMap.{empty, get, insert, remove, len as entry_count};
+ghost use Rattle.thor_value.specs.FiniteMap.{empty, get, insert, keys, remove, len as entry_count};
 
 use crate::memory::{NoMemory, TryCopy};
 use crate::names::Oref;
+use crate::sequence::Sequence;
 use std::alloc::Global;
 use std::collections::BTreeMap;
 use std::marker::Model;
@@ -58,6 +59,23 @@ impl<T> OrefMap<T> {
 }
 
 impl<T: Drop> OrefMap<T> {
+    /// The names with their values, names rising.
+    pub fn into_pairs(self, alloc: Global) -> Result<Sequence<(Oref, T)>, NoMemory>
+        ensures { IfOk result (λ pairs. pairs ≡ self.pairs) }
+    {
+        let OrefMap { entries } = self;
+        let pairs: Vec<(Oref, T)> = entries.into_iter().collect(alloc)?;
+        Ok(Sequence::from_vec(pairs))
+    }
+
+    /// The names that have a value, rising.
+    pub fn names(&self, alloc: Global) -> Result<Sequence<Oref>, NoMemory>
+        ensures { IfOk result (λ names. names ≡ keys self.now) }
+    {
+        let names: Vec<Oref> = self.entries.keys().copied().collect(alloc)?;
+        Ok(Sequence::from_vec(names))
+    }
+
     /// Gives a name a value, in the place of the one before. After `NoMemory` the map is as it was, and
     /// the value is gone.
     pub fn insert(&mut self, oref: Oref, value: T) -> Result<(), NoMemory>
