@@ -25,18 +25,18 @@ deeper : {X : Type 0} (f : ℕ → X) (n : ℕ) → 0 < n → f n ≡ f (suc (n 
 deeper f n some = let e : n ≡ suc (n - 1) = omega arith in ap f e
 
 pub value_of-deeper : (w : World) (n : ℕ) (e : Expr) (m : Machine) → 0 < n
-  → (meaning w n).value_of e m ≡ expressions.expression w (meaning w (n - 1)).value_of (block_of (meaning w (n - 1)).execute) e m
+    → (meaning w n).value_of e m ≡ expressions.expression w (meaning w (n - 1)).value_of (block_of (meaning w (n - 1)).execute) e m
 unfolding meaning
 value_of-deeper w n e m some = deeper (λ k. (meaning w k).value_of e m) n some
 
 pub execute-deeper : (w : World) (n : ℕ) (s : Stmt) (m : Machine) → 0 < n
-  → (meaning w n).execute s m ≡ statements.statement w (meaning w (n - 1)).value_of (block_of (meaning w (n - 1)).execute) s m
+    → (meaning w n).execute s m ≡ statements.statement w (meaning w (n - 1)).value_of (block_of (meaning w (n - 1)).execute) s m
 unfolding meaning
 execute-deeper w n s m some = deeper (λ k. (meaning w k).execute s m) n some
 
 module _ (w : World) (value_of : Expr → Action Value) (block : List Stmt → Action Flow) where
   pub one_turn : (at : ℕ) (c : Expr) (b : List Stmt) (m : Machine) → at < 100001
-    → repeat w value_of block (100001 - at) c b m ≡ (step >> value_of c >>= (λ v. turn w value_of block v b (repeat w value_of block (100001 - (at + 1)) c b))) m
+      → repeat w value_of block (100001 - at) c b m ≡ (step >> value_of c >>= (λ v. turn w value_of block v b (repeat w value_of block (100001 - (at + 1)) c b))) m
   unfolding repeat
   one_turn at c b m below = let e : 100001 - at ≡ suc (100001 - (at + 1)) = omega arith in ap (λ k. repeat w value_of block k c b m) e
 

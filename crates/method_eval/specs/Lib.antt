@@ -1,3 +1,4 @@
+pub mod Answers
 pub mod Does
 pub mod Inner
 pub mod Viewed

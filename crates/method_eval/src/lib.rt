@@ -1,8 +1,8 @@
 //! The evaluation of a transaction over the objects at hand.
 #![tactic(auto)]
 
-#[allow(dead_code)]
 mod calls;
+mod evaluation;
 mod halt;
 mod locals;
 mod objects;
@@ -10,6 +10,8 @@ mod operators;
 mod run;
 mod steps;
 mod types;
+mod view;
 mod world;
 
-pub use halt::Halt;
+pub use evaluation::eval;
+pub use view::{Ran, View};

@@ -46,7 +46,7 @@ abbrev pub invariant-values_of-loop-expr : goal.invariant-values_of-loop-expr
 invariant-values_of-loop-expr l =
     let w = reading l.world in
     values_from w (value_of w l.inner) (block w l.inner) l.values (drop l.expr-index l.exprs) l.machine
-      ≡ values_from w (value_of w l.inner) (block w l.inner) [] l.exprs l.fn.machine
+    ≡ values_from w (value_of w l.inner) (block w l.inner) [] l.exprs l.fn.machine
 
 -- the statements to come do, from here on, what all do from the start
 abbrev pub invariant-in_order-loop-stmt : goal.invariant-in_order-loop-stmt
