@@ -1,0 +1,80 @@
+ghost use Rattle.std.specs.Prelude.{◌≡◌, ◌++◌, OnOk};
+ghost use Rattle.std.specs.String.{string_bytes};
+ghost use Rattle.report_text.specs.Lines.{spaced_words};
+ghost use Rattle.report_text.specs.Report.{values_words, upgrade_words, outcome_words, item_line};
+
+use crate::words::{fault_name, print_cause, print_ts, print_who};
+use serial_model::{Ended, ItemOutcome};
+use std::fmt::Write;
+use thor_value::NoMemory;
+
+/// Prints ` :` and each value behind a space.
+#[tactic(auto, using(std::proofs::Common::append_assoc))]
+pub fn print_values(out: &mut String, values: &[i64]) -> Result<(), NoMemory>
+    ensures { OnOk result
+        (string_bytes out.new ≡ string_bytes out.old ++ spaced_words (values_words values.now)) }
+{
+    out.push_str(" :")?;
+    for value in values {
+        write!(out, " {value}")?;
+    }
+    Ok(())
+}
+
+/// Prints ` upgrade` and its number behind a space.
+pub fn print_upgrade(out: &mut String, number: u32) -> Result<(), NoMemory>
+    ensures { OnOk result
+        (string_bytes out.new ≡ string_bytes out.old ++ spaced_words (upgrade_words number)) }
+{
+    write!(out, " upgrade {number}")?;
+    Ok(())
+}
+
+/// Prints how an item ended, each word behind a space.
+#[tactic(auto, using(std::proofs::Common::append_assoc), unfolding(crate::specs::Report::outcome_words))]
+fn print_outcome(out: &mut String, tries: u32, outcome: &ItemOutcome) -> Result<(), NoMemory>
+    ensures { OnOk result
+        (string_bytes out.new ≡ string_bytes out.old ++ spaced_words (outcome_words tries outcome.now)) }
+{
+    match outcome {
+        ItemOutcome::Done { ts, answer } => {
+            out.push_str(" Done ")?;
+            print_ts(out, *ts)?;
+            write!(out, " try {tries}")?;
+            print_values(out, answer.as_slice())
+        }
+        ItemOutcome::Upgraded { ts, number } => {
+            out.push_str(" Done ")?;
+            print_ts(out, *ts)?;
+            write!(out, " try {tries}")?;
+            print_upgrade(out, *number)
+        }
+        ItemOutcome::Faulted { ts, fault } => {
+            write!(out, " Faulted {} ", fault_name(*fault))?;
+            print_ts(out, *ts)?;
+            write!(out, " try {tries}")?;
+            Ok(())
+        }
+        ItemOutcome::Refused { cause } => {
+            out.push_str(" Refused")?;
+            print_cause(out, *cause)?;
+            write!(out, " try {tries}")?;
+            Ok(())
+        }
+        ItemOutcome::Unknown { tx } => {
+            out.push_str(" Unknown ")?;
+            print_ts(out, *tx)
+        }
+    }
+}
+
+/// Prints the line of an item.
+#[tactic(auto, using(std::proofs::Common::append_assoc), unfolding(crate::specs::Report::item_line))]
+pub fn print_item(out: &mut String, ended: &Ended) -> Result<(), NoMemory>
+    ensures { OnOk result (string_bytes out.new ≡ string_bytes out.old ++ item_line ended.now) }
+{
+    print_who(out, ended.who)?;
+    print_outcome(out, ended.tries, &ended.outcome)?;
+    out.push_str("\n")?;
+    Ok(())
+}

@@ -1,0 +1,53 @@
+ghost use Rattle.std.specs.Prelude.{◌≡◌, ◌++◌, IfOk, OnOk};
+ghost use Rattle.std.specs.List.{flat_map};
+ghost use Rattle.std.specs.String.{string_bytes};
+ghost use Rattle.report_text.specs.Report.{item_line, history_line, report_text};
+
+use crate::history::print_entry;
+use crate::items::print_item;
+use serial_model::{Did, Dids, Ended, Ends};
+use std::alloc::Global;
+use std::fmt::Write;
+use thor_value::{NoMemory, Text};
+
+/// Prints the lines of items.
+#[tactic(auto, using(std::proofs::Common::append_assoc))]
+fn print_items(out: &mut String, ends: &[Ended]) -> Result<(), NoMemory>
+    ensures { OnOk result
+        (string_bytes out.new ≡ string_bytes out.old ++ flat_map item_line ends.now) }
+{
+    for ended in ends {
+        print_item(out, ended)?;
+    }
+    Ok(())
+}
+
+/// Prints the lines of a history's entries.
+#[tactic(auto, using(std::proofs::Common::append_assoc))]
+fn print_history(out: &mut String, history: &[Did]) -> Result<(), NoMemory>
+    ensures { OnOk result
+        (string_bytes out.new ≡ string_bytes out.old ++ flat_map history_line history.now) }
+{
+    for entry in history {
+        print_entry(out, entry)?;
+    }
+    Ok(())
+}
+
+/// The report of a run: the outcomes of its items, then its serial history.
+///
+/// Every line ends with byte 10, and its words are separated by one space. The outcomes stand in their
+/// order, each with the number of its tries but for an unknown item. The history stands in its order, and
+/// the last line counts its entries. An entry with a number is an upgrade's. Want of memory is the only
+/// error, and no part of the text is left behind it.
+#[tactic(auto, using(std::proofs::Common::append_assoc), unfolding(crate::specs::Report::report_text))]
+pub fn print_report(alloc: Global, ends: &Ends, history: &Dids) -> Result<Text, NoMemory>
+    ensures { IfOk result (λ text. text ≡ report_text ends.now history.now) }
+{
+    let mut out = String::new(alloc);
+    print_items(&mut out, ends.as_slice())?;
+    out.push_str("history\n")?;
+    print_history(&mut out, history.as_slice())?;
+    write!(out, "end {}\n", history.len())?;
+    Ok(Text::from_vec(out.into_bytes()))
+}
