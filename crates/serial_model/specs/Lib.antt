@@ -1,2 +1,4 @@
 pub mod History
 pub mod Outcomes
+pub mod Replaying
+pub mod Whole

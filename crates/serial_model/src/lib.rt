@@ -3,6 +3,8 @@
 
 mod entries;
 mod outcomes;
+mod running;
 
 pub use entries::{Did, Dids, What};
 pub use outcomes::{Cause, Ended, Ends, ItemOutcome};
+pub use running::run_on;

@@ -1,0 +1,27 @@
+-- A whole store as a view has it: its objects, each with the epoch at which it was written.
+use Rattle.std.specs.Prelude.{◌≡◌, ℕ, ◌≤◌, List, map, Option, Some, None}
+use Rattle.thor_value.specs.FiniteMap.{Map}
+use Rattle.thor_value.specs.Names.{oref_cmp}
+use Rattle.thor_value.specs.declared.names.Oref.{Oref}
+use Rattle.thor_value.specs.declared.values.Obj.{Obj}
+use Rattle.class_defs.specs.declared.store.Object.{Object}
+use Rattle.class_defs.specs.declared.store.Plain.{Plain}
+use Rattle.class_defs.specs.declared.store.Root.{Root}
+use Rattle.class_defs.specs.declared.store.Schema.{Schema}
+use Rattle.method_eval.specs.Viewed.{last_upgrade}
+use Rattle.method_eval.specs.declared.view.View.{View}
+
+-- an object without its version
+abbrev pub bare : Obj → Object
+bare o = record { class = o.class; fields = o.fields }
+
+abbrev pub bare_objects : Map oref_cmp Obj → Map oref_cmp Object
+bare_objects m = record { pairs = map (λ p. (p.0, bare p.1)) m.pairs }
+
+-- the store whose objects a view has at hand, all of them
+abbrev pub plain : List Root → View → Plain
+plain roots view = record { objects = bare_objects view.objects; epoch = view.epoch; roots = roots }
+
+-- no upgrade names a class, so that no object is due
+abbrev pub IsFirst : Schema → Type 0
+IsFirst schema = (c : ℕ) → last_upgrade schema c ≡ 0

@@ -1,0 +1,89 @@
+ghost use Rattle.std.specs.Prelude.{◌≡◌, ◌≤◌, List, length, IfOk, OnOk};
+ghost use Rattle.std.specs.Cmp.Lexicographic.{pointwise};
+ghost use Rattle.thor_value.specs.FiniteMap.{overwrite};
+ghost use Rattle.thor_value.specs.Names.{same_oref};
+ghost use Rattle.class_defs.specs.declared.store.Root.{Root};
+ghost use Rattle.serial_model.specs.Replaying.{RanOn, Settles};
+ghost use Rattle.serial_model.specs.Whole.{IsFirst};
+
+use class_defs::{Block, NameSupply, Schema};
+use method_eval::{Ran, View, eval};
+use std::alloc::Global;
+use thor_value::{Answer, NoMemory, Obj, OrefMap, Orefs, TryCopy, Writes};
+
+/// Whether two lists have the same names in the same order.
+fn same_names(left: &Orefs, right: &Orefs) -> bool
+    ensures { result ≡ pointwise same_oref left.now right.now }
+{
+    left.as_slice() == right.as_slice()
+}
+
+/// Puts written objects in the places of those before.
+fn overwrite(objects: &mut OrefMap<Obj>, writes: Writes) -> Result<(), NoMemory>
+    ensures { OnOk result (objects.new ≡ overwrite objects.old writes) }
+{
+    for (oref, obj) in writes.into_vec() {
+        objects.insert(oref, obj)?;
+    }
+    Ok(())
+}
+
+/// Takes over what an evaluation on a whole store gave, where its new objects took just these names.
+fn settle(
+    view: &mut View,
+    names: &Orefs,
+    answer: Answer,
+    writes: Writes,
+    fresh: &Orefs,
+) -> Result<Option<Answer>, NoMemory>
+    ensures { IfOk result (λ taken. Settles names.now fresh.now writes view.old answer taken view.new) }
+{
+    match answer {
+        Answer::Ints(ints) => {
+            if !same_names(fresh, names) {
+                return Ok(None);
+            }
+            overwrite(&mut view.objects, writes)?;
+            Ok(Some(Answer::Ints(ints)))
+        }
+        Answer::Fault(fault) => {
+            if names.is_empty() {
+                Ok(Some(Answer::Fault(fault)))
+            } else {
+                Ok(None)
+            }
+        }
+    }
+}
+
+/// Runs a transaction on the whole store that a view has, its new objects taking just these names.
+///
+/// Gives the answer where the run is defined, and leaves the store behind it in the view; else the store
+/// is as it was.
+pub fn run_on(
+    alloc: Global,
+    tx: &Block,
+    schema: &Schema,
+    view: &mut View,
+    names: &Orefs,
+) -> Result<Option<Answer>, NoMemory>
+    requires few { length schema.now.classes ≤ 65536 }
+    requires first { IsFirst schema.now }
+    ensures ran { IfOk result (λ answer. (roots : List Root) → RanOn schema.now tx.now names.now roots view.old answer view.new) }
+    ensures epoch { OnOk result (view.new.epoch ≡ view.old.epoch) }
+{
+    view.names = NameSupply {
+        waiting: names.copy()?,
+        stand_in: Some(0),
+    };
+    match eval(alloc, tx, schema, view)? {
+        Ran::Done {
+            answer,
+            reads: _,
+            writes,
+            fresh,
+        } => settle(view, names, answer, writes, &fresh),
+        Ran::Need { oref: _, owners: _ } => Ok(None),
+        Ran::NeedName { repo: _ } => Ok(None),
+    }
+}
