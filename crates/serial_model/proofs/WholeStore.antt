@@ -1,5 +1,5 @@
 -- A view of a whole store reads and changes as the store does.
-use Rattle.std.proofs.Common.{IfOk, if◌then◌else◌, length, ◌==◌, Result, Ok, Err, subst, ◌≡◌, ℕ, Bool, true, false, cond, List, [], ◌∷◌, ◌++◌, map, Option, Some, None, option_map, refl, ap, sym, ◌∙◌, nat_lt, arith, rules}
+use Rattle.std.proofs.Common.{IfOk, if◌then◌else◌, length, ◌==◌, Result, Ok, Err, subst, ◌≡◌, ℕ, Bool, true, false, cond, List, [], ◌∷◌, map, Option, Some, None, option_map, refl, ap, sym, ◌∙◌, nat_lt, arith}
 use Rattle.std.proofs.Math.Path.{fun_ext}
 use Rattle.std.proofs.lemmas.Bool.Decides.{nat_tests}
 use Rattle.std.specs.BTreeMap.{insert_entry, is_at}
@@ -30,7 +30,7 @@ use Rattle.method_eval.specs.Answers.{stored_at, ran_at, evaluation}
 use Rattle.method_eval.specs.declared.view.Ran.{Ran}
 use Rattle.method_eval.specs.declared.view.Ran.TheVariants.{Done, Need, NeedName}
 use Rattle.method_eval.specs.declared.view.View.{View}
-use Rattle.method_eval.specs.Viewed.{current, last_upgrade}
+use Rattle.method_eval.specs.Viewed.{current}
 use Rattle.serial_model.specs.Replaying.{effect, effect_of, RanOn, Settles}
 use Rattle.serial_model.specs.Whole.{bare, bare_objects, plain, IsFirst}
 

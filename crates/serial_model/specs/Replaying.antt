@@ -1,5 +1,5 @@
 -- What the code that runs entries says of a run on a whole store.
-use Rattle.std.specs.Prelude.{◌≡◌, ℕ, List, Option, Some, None, option_map, Bool, if◌then◌else◌, length, ◌==◌}
+use Rattle.std.specs.Prelude.{◌≡◌, List, Option, Some, None, option_map, if◌then◌else◌, length, ◌==◌}
 use Rattle.std.specs.Cmp.Lexicographic.{pointwise}
 use Rattle.thor_value.specs.Names.{same_oref}
 use Rattle.thor_value.specs.declared.names.Oref.{Oref}

@@ -1,8 +1,7 @@
 -- A whole store as a view has it: its objects, each with the epoch at which it was written.
-use Rattle.std.specs.Prelude.{◌≡◌, ℕ, ◌≤◌, List, map, Option, Some, None}
+use Rattle.std.specs.Prelude.{◌≡◌, ℕ, List, map}
 use Rattle.thor_value.specs.FiniteMap.{Map}
 use Rattle.thor_value.specs.Names.{oref_cmp}
-use Rattle.thor_value.specs.declared.names.Oref.{Oref}
 use Rattle.thor_value.specs.declared.values.Obj.{Obj}
 use Rattle.class_defs.specs.declared.store.Object.{Object}
 use Rattle.class_defs.specs.declared.store.Plain.{Plain}

@@ -1,5 +1,4 @@
 use Rattle.std.proofs.Common.{◌≡◌, Some, sym, ◌∙◌, ap, refl}
-use Rattle.method_eval.specs.declared.view.View.{View}
 use Rattle.thor_value.specs.declared.names.Oref.{Oref}
 use Rattle.std.proofs.Common.{List}
 use Rattle.class_defs.specs.declared.machine.NameSupply.{NameSupply}
