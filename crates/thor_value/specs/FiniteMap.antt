@@ -58,3 +58,11 @@ module _ {K X : Type 0} {R : K → K → Ordering} where
   -- a finite map as it is stored: its pairs
   abbrev pub code : Coded K → Coded X → Coded (Map R X)
   code k x = code_by (List (K × X)) (coded_list (coded× k x)) (λ m. m.pairs) (λ p. record { pairs = p }) (λ _. refl)
+
+-- a finite set of keys in the order R
+abbrev pub Set : {K : Type 0} → (K → K → Ordering) → Type 0
+Set R = Map R (Unit {0})
+
+-- the set with one more key
+abbrev pub add : {K : Type 0} {R : K → K → Ordering} → Set R → K → Set R
+add m k = insert m k tt
