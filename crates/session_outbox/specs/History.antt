@@ -146,7 +146,7 @@ commit S t p q = record S {
   texts = S.texts ++ text_of q.kind;
 }
 
-abbrev settle_by : State → Ts → Bool → Standing → Fate → State
+abbrev pub settle_by : State → Ts → Bool → Standing → Fate → State
 settle_by S t c o Open = cond c (commit S t o.place o.request) (record S { known = insert S.known t (record o { fate = Aborted }) })
 settle_by S t c o (Committed at) = S
 settle_by S t c o Aborted = S
@@ -186,7 +186,7 @@ stands b H t = standing b (state b H) t
 abbrev pub objects_at : Base → List Entry → ℕ → Map oref_cmp Obj
 objects_at b H n = (state b (take n H)).objects
 
-abbrev commit_by : State → Bool → Option Standing → List (ℕ × Request)
+abbrev pub commit_by : State → Bool → Option Standing → List (ℕ × Request)
 commit_by S c None = []
 commit_by S c (Some o) = cond (c && is_open o.fate) ((S.length, o.request) ∷ []) []
 
