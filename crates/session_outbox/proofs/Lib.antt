@@ -1,2 +1,4 @@
 pub mod Growth
 pub mod Steps
+pub mod Places
+pub mod Prefixes
