@@ -2,3 +2,5 @@ pub mod Growth
 pub mod Steps
 pub mod Places
 pub mod Prefixes
+pub mod Meeting
+pub mod Serial
