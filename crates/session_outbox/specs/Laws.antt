@@ -2,8 +2,13 @@
 -- as their clauses.
 use Rattle.commit_log.specs.declared.entry.Entry.{Entry}
 use Rattle.commit_log.specs.declared.request.Request.{Request}
-use Rattle.session_outbox.specs.History.{Base, Fate, Standing, Open, Committed, Aborted, state, stands, put}
-use Rattle.std.specs.Prelude.{◌≡◌}
+use Rattle.session_outbox.specs.History.{Aborted, Base, Committed, CommittedBelow, Fate, IsCommitted, Lives, Open, Standing, objects_at, stands}
+use Rattle.session_outbox.specs.Requests.{has_created, has_read, has_written, is_upgrade}
+use Rattle.std.specs.Prelude.{IsTrue, List, None, Some, false, ℕ, ◌<◌, ◌≡◌, ◌≢◌, ◌↔◌}
+use Rattle.thor_value.specs.FiniteMap.{get}
+use Rattle.thor_value.specs.Names.{Before}
+use Rattle.thor_value.specs.declared.names.Oref.{Oref}
+use Rattle.thor_value.specs.declared.names.Ts.{Ts}
 
 -- A fate becomes another: an undecided one may become any, and the others stay.
 abbrev pub FateStays : Fate → Fate → Type 0
@@ -21,3 +26,54 @@ pub record Stays (o w : Standing) : Type 0 where
   pub place : w.place ≡ o.place
   pub request : w.request ≡ o.request
   pub fate : FateStays o.fate w.fate
+
+-- The transactions s and t stand in H as w and o, neither is aborted, and both wrote x.
+pub record BothWrote (b : Base) (H : List Entry) (s t : Ts) (w o : Standing) (x : Oref) : Type 0 where
+  pub first : stands b H s ≡ Some w
+  pub second : stands b H t ≡ Some o
+  pub first_lives : Lives w.fate
+  pub second_lives : Lives o.fate
+  pub first_wrote : IsTrue (has_written w.request x)
+  pub second_wrote : IsTrue (has_written o.request x)
+
+-- The transactions that wrote one object, and aren't aborted, come in the same order by place and by
+-- timestamp.
+pub record WritersRise (b : Base) (H : List Entry) : Type 0 where
+  -- the earlier one committed below the request of the later one
+  pub settled : (s t : Ts) (w o : Standing) (x : Oref) → BothWrote b H s t w o x → Before s t → CommittedBelow o.place w.fate
+  -- two commits stand in the order of their timestamps
+  pub rise : (s t : Ts) (w o : Standing) (x : Oref) → BothWrote b H s t w o x → (m n : ℕ) → w.fate ≡ Committed m → o.fate ≡ Committed n → Before s t ↔ (m < n)
+  -- at most one is undecided
+  pub one_open : (s t : Ts) (w o : Standing) (x : Oref) → BothWrote b H s t w o x → w.fate ≡ Open → o.fate ≡ Open → s ≡ t
+  -- and it comes after each that committed
+  pub open_last : (s t : Ts) (w o : Standing) (x : Oref) → BothWrote b H s t w o x → IsCommitted w.fate → o.fate ≡ Open → Before s t
+
+-- The upgrade u and another transaction t stand in H as w and o, and neither is aborted.
+pub record BesideUpgrade (b : Base) (H : List Entry) (u t : Ts) (w o : Standing) : Type 0 where
+  pub upgrade : stands b H u ≡ Some w
+  pub is : IsTrue (is_upgrade w.request)
+  pub there : stands b H t ≡ Some o
+  pub other : t ≢ u
+  pub upgrade_lives : Lives w.fate
+  pub other_lives : Lives o.fate
+
+-- An upgrade is a fence: what is before it by timestamp committed below it, and what is after it by
+-- timestamp came when it had committed.
+pub record UpgradesFence (b : Base) (H : List Entry) : Type 0 where
+  pub before : (u t : Ts) (w o : Standing) → BesideUpgrade b H u t w o → Before t u ↔ CommittedBelow w.place o.fate
+  pub after : (u t : Ts) (w o : Standing) → BesideUpgrade b H u t w o → Before u t ↔ CommittedBelow o.place w.fate
+
+-- In H the transaction t stands as o, and it created x.
+pub record Creates (b : Base) (H : List Entry) (t : Ts) (o : Standing) (x : Oref) : Type 0 where
+  pub there : stands b H t ≡ Some o
+  pub fresh : IsTrue (has_created o.request x)
+  pub wrote : IsTrue (has_written o.request x)
+
+-- A created object is new.
+pub record CreatedOnce (b : Base) (H : List Entry) : Type 0 where
+  -- it wasn't there
+  pub unused : (t : Ts) (o : Standing) (x : Oref) → Creates b H t o x → get (objects_at b H o.place) x ≡ None
+  -- no request below wrote it
+  pub first_by_place : (t s : Ts) (o w : Standing) (x : Oref) → Creates b H t o x → stands b H s ≡ Some w → w.place < o.place → has_written w.request x ≡ false
+  -- nor did a transaction with a lesser timestamp, where neither is aborted
+  pub first_by_time : (t s : Ts) (o w : Standing) (x : Oref) → Creates b H t o x → Lives o.fate → stands b H s ≡ Some w → Lives w.fate → Before s t → has_written w.request x ≡ false
