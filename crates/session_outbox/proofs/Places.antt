@@ -4,7 +4,7 @@ use Rattle.commit_log.specs.declared.entry.Entry.{Entry}
 use Rattle.commit_log.specs.declared.request.Request.{Request}
 use Rattle.session_outbox.proofs.Growth.{by_growth, kept_by-parts, length-state, owed-end, sound-beginning, sound-end, state-append, state-end}
 use Rattle.session_outbox.proofs.Steps.{Asks, Begun, FateBegun, FateMoves, Kept, LifeBegan, Moved, life_began, moved, onward, origin}
-use Rattle.session_outbox.specs.History.{Base, Fate, Standing, State, Open, Committed, Aborted, CommittedBelow, Lives, put, standing, stands, start, state}
+use Rattle.session_outbox.specs.History.{Base, Fate, Standing, State, Open, Committed, Aborted, CommittedBelow, Lives, commit_of, put, standing, stands, start, state}
 use Rattle.session_outbox.specs.Laws.{FateStays, Stays}
 use Rattle.session_outbox.specs.Sound.{Admits, kept_by, owes, sound}
 use Rattle.std.proofs.Common.{◌≡◌, ◌≤◌, ◌<◌, ℕ, ◌+◌, List, [], ◌∷◌, ◌++◌, length, take, drop, refl, ap, sym, ◌∙◌, subst, arith, inl, inr}
@@ -28,30 +28,30 @@ pub record Fits (n : ℕ) (t : Ts) (o : Standing) : Type 0 where
   pub named : o.request.tx ≡ t
   pub fate : FateFits o.place n o.fate
 
-fits_begun : (n : ℕ) (f : Fate) → FateBegun n f → FateFits n (n + 1) f
-fits_begun n Open h = tt
-fits_begun n (Committed at) h = (omega arith, omega arith)
-fits_begun n Aborted h = tt
+fits_begun : (cs : List (ℕ × Request)) (n : ℕ) (q : Request) (f : Fate) → FateBegun cs n q f → FateFits n (n + 1) f
+fits_begun cs n q Open h = tt
+fits_begun cs n q (Committed at) h = let e : at ≡ n = h.0 in (omega arith, omega arith)
+fits_begun cs n q Aborted h = tt
 
-fits_moved : (p n : ℕ) (f g : Fate) → p < n → FateMoves n f g → FateFits p n f → FateFits p (n + 1) g
-fits_moved p n Open Open l m h = tt
-fits_moved p n Open (Committed at) l m h = (omega arith, omega arith)
-fits_moved p n Open Aborted l m h = tt
-fits_moved p n (Committed a) Open l m h = tt
-fits_moved p n (Committed a) (Committed at) l m h = let h0 : p ≤ a = h.0 in let h1 : a < n = h.1 in (omega arith, omega arith)
-fits_moved p n (Committed a) Aborted l m h = tt
-fits_moved p n Aborted Open l m h = tt
-fits_moved p n Aborted (Committed at) l m h = absurd m
-fits_moved p n Aborted Aborted l m h = tt
+fits_moved : (cs : List (ℕ × Request)) (p n : ℕ) (q : Request) (f g : Fate) → p < n → FateMoves cs n q f g → FateFits p n f → FateFits p (n + 1) g
+fits_moved cs p n q Open Open l m h = tt
+fits_moved cs p n q Open (Committed at) l m h = let e : at ≡ n = m.0 in (omega arith, omega arith)
+fits_moved cs p n q Open Aborted l m h = tt
+fits_moved cs p n q (Committed a) Open l m h = tt
+fits_moved cs p n q (Committed a) (Committed at) l m h = let h0 : p ≤ a = h.0 in let h1 : a < n = h.1 in (omega arith, omega arith)
+fits_moved cs p n q (Committed a) Aborted l m h = tt
+fits_moved cs p n q Aborted Open l m h = tt
+fits_moved cs p n q Aborted (Committed at) l m h = absurd m
+fits_moved cs p n q Aborted Aborted l m h = tt
 
-fate_stays : (n : ℕ) (f g : Fate) → FateMoves n f g → FateStays f g
-fate_stays n Open g m = tt
-fate_stays n (Committed a) Open m = m
-fate_stays n (Committed a) (Committed at) m = m
-fate_stays n (Committed a) Aborted m = m
-fate_stays n Aborted Open m = m
-fate_stays n Aborted (Committed at) m = m
-fate_stays n Aborted Aborted m = tt
+fate_stays : (cs : List (ℕ × Request)) (n : ℕ) (q : Request) (f g : Fate) → FateMoves cs n q f g → FateStays f g
+fate_stays cs n q Open g m = tt
+fate_stays cs n q (Committed a) Open m = m
+fate_stays cs n q (Committed a) (Committed at) m = m
+fate_stays cs n q (Committed a) Aborted m = m
+fate_stays cs n q Aborted Open m = m
+fate_stays cs n q Aborted (Committed at) m = m
+fate_stays cs n q Aborted Aborted m = tt
 
 pub fate_same : (f : Fate) → FateStays f f
 fate_same Open = tt
@@ -77,26 +77,26 @@ stays_same o = record { place = refl; request = refl; fate = fate_same o.fate }
 pub stays_then : (o w v : Standing) → Stays o w → Stays w v → Stays o v
 stays_then o w v x y = record { place = y.place ∙ x.place; request = y.request ∙ x.request; fate = fate_then o.fate w.fate v.fate x.fate y.fate }
 
-pub stays_kept : (n : ℕ) (o w : Standing) → Kept n o w → Stays o w
-stays_kept n o w k = record { place = k.0; request = k.1; fate = fate_stays n o.fate w.fate k.2 }
+pub stays_kept : (cs : List (ℕ × Request)) (n : ℕ) (o w : Standing) → Kept cs n o w → Stays o w
+stays_kept cs n o w k = record { place = k.0; request = k.1; fate = fate_stays cs n o.request o.fate w.fate k.2 }
 
-pub fits_kept : (n : ℕ) (t : Ts) (o w : Standing) → Kept n o w → Fits n t o → Fits (n + 1) t w
-fits_kept n t o w k h =
+pub fits_kept : (cs : List (ℕ × Request)) (n : ℕ) (t : Ts) (o w : Standing) → Kept cs n o w → Fits n t o → Fits (n + 1) t w
+fits_kept cs n t o w k h =
     let below : o.place < n = h.below in
     let here : w.place ≡ o.place = k.0 in
     record {
       below = omega arith;
       named = ap (λ (q : Request). q.tx) k.1 ∙ h.named;
-      fate = subst (λ p. FateFits p (n + 1) w.fate) (sym here) (fits_moved o.place n o.fate w.fate below k.2 h.fate);
+      fate = subst (λ p. FateFits p (n + 1) w.fate) (sym here) (fits_moved cs o.place n o.request o.fate w.fate below k.2 h.fate);
     }
 
-pub fits_new : (e : Entry) (n : ℕ) (t : Ts) (w : Standing) → Begun e n t w → Fits (n + 1) t w
-fits_new e n t w k =
+pub fits_new : (e : Entry) (cs : List (ℕ × Request)) (n : ℕ) (t : Ts) (w : Standing) → Begun e cs n t w → Fits (n + 1) t w
+fits_new e cs n t w k =
     let here : w.place ≡ n = k.2 in
     record {
       below = omega arith;
       named = k.1;
-      fate = subst (λ p. FateFits p (n + 1) w.fate) (sym here) (fits_begun n w.fate k.3);
+      fate = subst (λ p. FateFits p (n + 1) w.fate) (sym here) (fits_begun cs n w.request w.fate k.3);
     }
 
 -- an entry is the request of one transaction
@@ -124,20 +124,20 @@ module _ (b : Base) where
 
   -- where t came from, if it stands behind the entry e
   pub came : (S : State) (e : Entry) → LifeBegan b S → owes b S e → (t : Ts) (w : Standing) → standing b (put b S e) t ≡ Some w
-      → ((standing b S t ≡ None) × Begun e S.length t w) ⊎ ((o : Standing) × (standing b S t ≡ Some o) × Kept S.length o w)
-  came S e h o t w is = origin e S.length t (standing b S t) w (subst (Moved e S.length t (standing b S t)) is (moved b S e h o t))
+      → ((standing b S t ≡ None) × Begun e (commit_of b S e) S.length t w) ⊎ ((o : Standing) × (standing b S t ≡ Some o) × Kept (commit_of b S e) S.length o w)
+  came S e h o t w is = origin e (commit_of b S e) S.length t (standing b S t) w (subst (Moved e (commit_of b S e) S.length t (standing b S t)) is (moved b S e h o t))
 
   -- how t stands behind the entry e, if it stood before it
   pub goes : (S : State) (e : Entry) → LifeBegan b S → owes b S e → (t : Ts) (o : Standing) → standing b S t ≡ Some o
-      → (w : Standing) × (standing b (put b S e) t ≡ Some w) × Kept S.length o w
-  goes S e h d t o is = onward e S.length t o (standing b (put b S e) t) (subst (λ k. Moved e S.length t k (standing b (put b S e) t)) is (moved b S e h d t))
+      → (w : Standing) × (standing b (put b S e) t ≡ Some w) × Kept (commit_of b S e) S.length o w
+  goes S e h d t o is = onward e (commit_of b S e) S.length t o (standing b (put b S e) t) (subst (λ k. Moved e (commit_of b S e) S.length t k (standing b (put b S e) t)) is (moved b S e h d t))
 
   placed_put : (S : State) (e : Entry) → owes b S e → Placed S → Placed (put b S e)
   placed_put S e o h = record {
     began = life_began b S e h.began;
     fits = λ t w is. elim (came S e h.began o t w is) [
-      | inl x ↦ fits_new e S.length t w x.1
-      | inr x ↦ fits_kept S.length t x.0 w x.2 (h.fits t x.0 x.1)
+      | inl x ↦ fits_new e (commit_of b S e) S.length t w x.1
+      | inr x ↦ fits_kept (commit_of b S e) S.length t x.0 w x.2 (h.fits t x.0 x.1)
     ];
   }
 
@@ -149,10 +149,10 @@ module _ (b : Base) where
 
   -- the same of a history
   pub came_end : (H : List Entry) (e : Entry) → sound b H → owes b (state b H) e → (t : Ts) (w : Standing) → stands b (H ++ e ∷ []) t ≡ Some w
-      → ((stands b H t ≡ None) × Begun e (length H) t w) ⊎ ((o : Standing) × (stands b H t ≡ Some o) × Kept (length H) o w)
+      → ((stands b H t ≡ None) × Begun e (commit_of b (state b H) e) (length H) t w) ⊎ ((o : Standing) × (stands b H t ≡ Some o) × Kept (commit_of b (state b H) e) (length H) o w)
   came_end H e s o t w is =
       let is' : standing b (put b (state b H) e) t ≡ Some w = subst (λ S. standing b S t ≡ Some w) (state-end b H e) is in
-      subst (λ n. ((stands b H t ≡ None) × Begun e n t w) ⊎ ((v : Standing) × (stands b H t ≡ Some v) × Kept n v w)) (length-state b H)
+      subst (λ n. ((stands b H t ≡ None) × Begun e (commit_of b (state b H) e) n t w) ⊎ ((v : Standing) × (stands b H t ≡ Some v) × Kept (commit_of b (state b H) e) n v w)) (length-state b H)
         (came (state b H) e (placed H s).began o t w is')
 
   -- ---- what stays
@@ -163,7 +163,7 @@ module _ (b : Base) where
   stays_on S h (e ∷ more) k t o is =
       let x = goes S e h.began k.0 t o is in
       let y = stays_on (put b S e) (placed_put S e k.0 h) more k.1 t x.0 x.1 in
-      (y.0, y.1, stays_then o x.0 y.0 (stays_kept S.length o x.0 x.2) y.2)
+      (y.0, y.1, stays_then o x.0 y.0 (stays_kept (commit_of b S e) S.length o x.0 x.2) y.2)
 
   -- a transaction that stands in a history stands in each longer one
   pub stays : (H more : List Entry) → sound b (H ++ more) → (t : Ts) (o : Standing) → stands b H t ≡ Some o

@@ -4,7 +4,7 @@ use Rattle.commit_log.specs.declared.request.Request.{Request}
 use Rattle.session_outbox.proofs.Growth.{by_growth, length-state, sound-end}
 use Rattle.session_outbox.proofs.Places.{Fits, FateFits, admitted, came_end, one_request, placed, sound_take, stays, stays_kept, stays_same, stays_then}
 use Rattle.session_outbox.proofs.Steps.{Asks, Begun, FateMoves, Kept}
-use Rattle.session_outbox.specs.History.{Base, Fate, Standing, State, Open, Committed, Aborted, CommittedBelow, IsCommitted, Lives, standing, stands, start, state}
+use Rattle.session_outbox.specs.History.{Base, Fate, Standing, State, Open, Committed, Aborted, CommittedBelow, IsCommitted, Lives, commit_of, standing, stands, start, state}
 use Rattle.session_outbox.specs.Laws.{FateStays, Stays}
 use Rattle.session_outbox.specs.Sound.{Admits, owes, sound}
 use Rattle.std.proofs.Common.{◌≡◌, ◌≤◌, ◌<◌, ℕ, ◌+◌, List, [], ◌∷◌, ◌++◌, length, take, refl, ap, sym, ◌∙◌, subst, arith, inl, inr}
@@ -30,16 +30,16 @@ module _ (b : Base) where
             elim (came_end b H e sd ow s o is) [
               | inl x ↦ elim (came_end b H e sd ow t w it) [
                   | inl y ↦ sym x.1.1 ∙ ap (λ (q : Request). q.tx) (one_request e o.request w.request x.1.0 y.1.0) ∙ y.1.1
-                  | inr y ↦ apart H sd t y.0 y.1 w y.2 o x.1.2 same
+                  | inr y ↦ apart H sd t y.0 y.1 w y.2.0 o x.1.2 same
                 ]
               | inr x ↦ elim (came_end b H e sd ow t w it) [
-                  | inl y ↦ apart H sd s x.0 x.1 o x.2 w y.1.2 (sym same)
+                  | inl y ↦ apart H sd s x.0 x.1 o x.2.0 w y.1.2 (sym same)
                   | inr y ↦ ih s t x.0 y.0 x.1 y.1 (sym x.2.0 ∙ same ∙ y.2.0)
                 ]
             ])
     where
-      apart : {A : Type 0} (H : List Entry) (sd : sound b H) (t : Ts) (o : Standing) (is : stands b H t ≡ Some o) (w : Standing) (k : Kept (length H) o w) (v : Standing) → v.place ≡ length H → v.place ≡ w.place → A
-      apart H sd t o is w k v at same = let l : o.place < length H = (fits H sd t o is).below in let e : w.place ≡ o.place = k.0 in absurd (omega arith)
+      apart : {A : Type 0} (H : List Entry) (sd : sound b H) (t : Ts) (o : Standing) (is : stands b H t ≡ Some o) (w : Standing) (k : w.place ≡ o.place) (v : Standing) → v.place ≡ length H → v.place ≡ w.place → A
+      apart H sd t o is w k v at same = let l : o.place < length H = (fits H sd t o is).below in absurd (omega arith)
 
   -- the request of a transaction owed what it owed to the history below it
   pub judged : (H : List Entry) → sound b H → (t : Ts) (o : Standing) → stands b H t ≡ Some o → Admits b (state b (take o.place H)) o.request
@@ -74,7 +74,7 @@ module _ (b : Base) where
                     | inr x ↦
                         let at : w.place ≡ x.0.place = x.2.0 in
                         let y = ih n m t x.0 x.1 (omega arith) in
-                        (y.0, y.1, stays_then y.0 x.0 w y.2 (stays_kept (length H) x.0 w x.2))
+                        (y.0, y.1, stays_then y.0 x.0 w y.2 (stays_kept (commit_of b (state b H) e) (length H) x.0 w x.2))
                   ])
               | inr m ↦
                   let whole : take n (H ++ e ∷ []) ≡ H ++ e ∷ [] = ap (λ k. take k (H ++ e ∷ [])) (m ∙ sym (length-append H (e ∷ []))) ∙ take-length (H ++ e ∷ []) in
