@@ -4,3 +4,4 @@ pub mod Places
 pub mod Prefixes
 pub mod Meeting
 pub mod Serial
+pub mod Commits

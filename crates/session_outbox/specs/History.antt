@@ -210,3 +210,7 @@ commits b H = commits_from b (start b) H
 -- the commits that wrote x, in the order of their places
 abbrev pub writers : Base → List Entry → Oref → List (ℕ × Request)
 writers b H x = filter (λ c. has_written c.1 x) (commits b H)
+
+-- what the last of these commits wrote at x, and d where there is none
+abbrev pub last_write : Oref → Option Obj → List (ℕ × Request) → Option Obj
+last_write x d ws = fold (λ v c. get (written c.1) x) d ws

@@ -3,8 +3,8 @@
 use Rattle.commit_log.specs.declared.entry.Entry.{Entry}
 use Rattle.commit_log.specs.declared.request.Request.{Request}
 use Rattle.session_outbox.specs.History.{Aborted, Base, Committed, CommittedBelow, Fate, IsCommitted, Lives, Open, Standing, objects_at, stands}
-use Rattle.session_outbox.specs.Requests.{has_created, has_read, has_written, is_upgrade}
-use Rattle.std.specs.Prelude.{IsTrue, List, None, Some, false, ℕ, ◌<◌, ◌≡◌, ◌≢◌, ◌↔◌}
+use Rattle.session_outbox.specs.Requests.{has_created, has_read, has_written, is_upgrade, written}
+use Rattle.std.specs.Prelude.{IsTrue, List, None, Some, false, ℕ, ◌<◌, ◌≡◌, ◌≢◌, ◌↔◌, ◌⊎◌}
 use Rattle.thor_value.specs.FiniteMap.{get}
 use Rattle.thor_value.specs.Names.{Before}
 use Rattle.thor_value.specs.declared.names.Oref.{Oref}
@@ -26,6 +26,41 @@ pub record Stays (o w : Standing) : Type 0 where
   pub place : w.place ≡ o.place
   pub request : w.request ≡ o.request
   pub fate : FateStays o.fate w.fate
+
+-- What t reads of x where it stands in H as o and isn't aborted: of the other transactions that wrote
+-- x, those that committed below its request are those before it by timestamp, and the object is as
+-- the last of them left it.
+pub record Reads (b : Base) (H : List Entry) (t : Ts) (o : Standing) (x : Oref) : Type 0 where
+  pub there : stands b H t ≡ Some o
+  pub lives : Lives o.fate
+  pub read : IsTrue (has_read o.request x)
+
+-- another transaction s that wrote x stands in H as w
+pub record Writes (b : Base) (H : List Entry) (t s : Ts) (w : Standing) (x : Oref) : Type 0 where
+  pub there : stands b H s ≡ Some w
+  pub other : s ≢ t
+  pub wrote : IsTrue (has_written w.request x)
+
+-- no other transaction that wrote x committed below the place of t, and the object is the base's
+pub record NoneWrote (b : Base) (H : List Entry) (t : Ts) (o : Standing) (x : Oref) : Type 0 where
+  pub none : (s : Ts) (w : Standing) → Writes b H t s w x → ¬ CommittedBelow o.place w.fate
+  pub value : get (objects_at b H o.place) x ≡ get b.objects x
+
+-- s wrote x and committed below the place of t, each other one that did so is before s, and the
+-- object is as s wrote it
+pub record LastWrote (b : Base) (H : List Entry) (t : Ts) (o : Standing) (x : Oref) (s : Ts) (w : Standing) : Type 0 where
+  pub writes : Writes b H t s w x
+  pub committed : CommittedBelow o.place w.fate
+  pub last : (r : Ts) (v : Standing) → Writes b H t r v x → CommittedBelow o.place v.fate → r ≢ s → Before r s
+  pub value : get (objects_at b H o.place) x ≡ get (written w.request) x
+
+-- What a transaction read is the write of the last transaction before it by timestamp that isn't
+-- aborted.
+pub record ReadsLast (b : Base) (H : List Entry) : Type 0 where
+  -- among the others that wrote x, those that committed below are those before it
+  pub same : (t s : Ts) (o w : Standing) (x : Oref) → Reads b H t o x → Writes b H t s w x → CommittedBelow o.place w.fate ↔ (Lives w.fate × Before s t)
+  -- none did, or the last one's write is what stands there
+  pub value : (t : Ts) (o : Standing) (x : Oref) → Reads b H t o x → NoneWrote b H t o x ⊎ ((s : Ts) × (w : Standing) × LastWrote b H t o x s w)
 
 -- The transactions s and t stand in H as w and o, neither is aborted, and both wrote x.
 pub record BothWrote (b : Base) (H : List Entry) (s t : Ts) (w o : Standing) (x : Oref) : Type 0 where
