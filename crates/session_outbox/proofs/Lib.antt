@@ -5,3 +5,4 @@ pub mod Prefixes
 pub mod Meeting
 pub mod Serial
 pub mod Commits
+pub mod LastWrite

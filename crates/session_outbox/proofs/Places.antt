@@ -58,7 +58,7 @@ fate_same Open = tt
 fate_same (Committed at) = refl
 fate_same Aborted = tt
 
-fate_then : (f g h : Fate) → FateStays f g → FateStays g h → FateStays f h
+pub fate_then : (f g h : Fate) → FateStays f g → FateStays g h → FateStays f h
 fate_then Open g h x y = tt
 fate_then (Committed a) (Committed c) (Committed d) x y = y ∙ x
 fate_then (Committed a) (Committed c) Open x y = y

@@ -13,7 +13,7 @@ use Rattle.std.proofs.lemmas.List.{length-append, length-take-le, take-append-dr
 use Rattle.std.specs.Prelude.{◌⊎◌, Option, Some, None}
 use Rattle.thor_value.specs.declared.names.Ts.{Ts}
 
-le_cases : (m n : ℕ) → m ≤ n + 1 → (m ≤ n) ⊎ (m ≡ n + 1)
+pub le_cases : (m n : ℕ) → m ≤ n + 1 → (m ≤ n) ⊎ (m ≡ n + 1)
 le_cases m n h = grind arith
 
 module _ (b : Base) where

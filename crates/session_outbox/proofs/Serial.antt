@@ -50,7 +50,7 @@ open_uncommitted n Open e c = c
 open_uncommitted n (Committed a) e c = cc
 open_uncommitted n Aborted e c = c
 
-committed_at : (n m : ℕ) (f : Fate) → f ≡ Committed m → CommittedBelow n f → m < n
+pub committed_at : (n m : ℕ) (f : Fate) → f ≡ Committed m → CommittedBelow n f → m < n
 committed_at n m Open e c = absurd c
 committed_at n m (Committed a) e c = let l : a < n = c in let same : a ≡ m = cc in omega arith
 committed_at n m Aborted e c = absurd c
