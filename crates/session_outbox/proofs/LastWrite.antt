@@ -33,7 +33,7 @@ first_request : Request → List (ℕ × Request) → Request
 first_request d [] = d
 first_request d (c ∷ cs) = c.1
 
-one_commit : (n : ℕ) (q r : Request) → ◌≡◌ {A = List (ℕ × Request)} ((n, q) ∷ []) ((n, r) ∷ []) → q ≡ r
+pub one_commit : (n : ℕ) (q r : Request) → ◌≡◌ {A = List (ℕ × Request)} ((n, q) ∷ []) ((n, r) ∷ []) → q ≡ r
 unfolding first_request
 one_commit n q r e = ap (first_request q) e
 
@@ -73,7 +73,7 @@ committed_at_place n m Open e l = cc
 committed_at_place n m (Committed a) e l = let same : a ≡ m = cc in omega arith
 committed_at_place n m Aborted e l = cc
 
-fits_at : (p n m : ℕ) (f : Fate) → f ≡ Committed m → FateFits p n f → (p ≤ m) × (m < n)
+pub fits_at : (p n m : ℕ) (f : Fate) → f ≡ Committed m → FateFits p n f → (p ≤ m) × (m < n)
 fits_at p n m Open e h = cc
 fits_at p n m (Committed a) e h = let same : a ≡ m = cc in let h0 : p ≤ a = h.0 in let h1 : a < n = h.1 in (omega arith, omega arith)
 fits_at p n m Aborted e h = cc
@@ -86,7 +86,7 @@ or_new : (g d : Option Obj) → is_some g ≡ true → option_or g d ≡ g
 or_new None d h = cc
 or_new (Some v) d h = refl
 
-abbrev one_if : Bool → ℕ → Request → List (ℕ × Request)
+abbrev pub one_if : Bool → ℕ → Request → List (ℕ × Request)
 one_if x n q = cond x ((n, q) ∷ []) []
 
 module _ (b : Base) where
@@ -99,7 +99,7 @@ module _ (b : Base) where
   by_standing S c (Some p) = by_test S (c && is_open p.fate) p.request
 
   -- an entry is no commit or one
-  commit_shape : (S : State) (e : Entry) → (commit_of b S e ≡ []) ⊎ ((q : Request) × (commit_of b S e ≡ (S.length, q) ∷ []))
+  pub commit_shape : (S : State) (e : Entry) → (commit_of b S e ≡ []) ⊎ ((q : Request) × (commit_of b S e ≡ (S.length, q) ∷ []))
   commit_shape S (Life n) = inl refl
   commit_shape S (One q) = inr (q, refl)
   commit_shape S (Prepared q) = inl refl
@@ -108,7 +108,7 @@ module _ (b : Base) where
   commit_shape S (Finished t c) = by_standing S c (standing b S t)
 
   -- u stands in S with the request q, committed at n
-  abbrev CommittedHere : State → Ts → Request → ℕ → Type 0
+  abbrev pub CommittedHere : State → Ts → Request → ℕ → Type 0
   CommittedHere S u q n = (w : Standing) × (standing b S u ≡ Some w) × (w.request ≡ q) × (w.fate ≡ Committed n)
 
   at_key : (S : State) (u : Ts) (p : Standing) → option_map (or_lost b S u) (get (insert S.known u p) u) ≡ Some (or_lost b S u p)
@@ -130,7 +130,7 @@ module _ (b : Base) where
       by_fate Aborted false k = cc
 
   -- the transaction that an entry commits stands committed behind it
-  commit_here : (S : State) (e : Entry) (q : Request) → Placed b S → commit_of b S e ≡ (S.length, q) ∷ [] → CommittedHere (put b S e) q.tx q S.length
+  pub commit_here : (S : State) (e : Entry) (q : Request) → Placed b S → commit_of b S e ≡ (S.length, q) ∷ [] → CommittedHere (put b S e) q.tx q S.length
   commit_here S (Life n) q h k = cc
   commit_here S (One r) q h k =
       let same = one_commit S.length r q k in
@@ -145,7 +145,7 @@ module _ (b : Base) where
   commit_here S (Finished t c) q h k = settled_here S t c (standing b S t) q k (λ p is. (h.fits t p is).named)
 
   -- a commit behind an entry is of before, or is this entry
-  committed_end : (H : List Entry) (e : Entry) → sound b H → owes b (state b H) e → (s : Ts) (w : Standing) (m : ℕ) → stands b (H ++ e ∷ []) s ≡ Some w → w.fate ≡ Committed m
+  pub committed_end : (H : List Entry) (e : Entry) → sound b H → owes b (state b H) e → (s : Ts) (w : Standing) (m : ℕ) → stands b (H ++ e ∷ []) s ≡ Some w → w.fate ≡ Committed m
       → ((o : Standing) × (stands b H s ≡ Some o) × (o.fate ≡ Committed m) × (w.request ≡ o.request)) ⊎ ((m ≡ length H) × (commit_of b (state b H) e ≡ (length H, w.request) ∷ []))
   committed_end H e sd ow s w m is f = elim (came_end b H e sd ow s w is) [
     | inl x ↦ inr (begun_committed (commit_of b (state b H) e) (length H) m w.request w.fate x.1.3 f)

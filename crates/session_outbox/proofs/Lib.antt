@@ -6,3 +6,4 @@ pub mod Meeting
 pub mod Serial
 pub mod Commits
 pub mod LastWrite
+pub mod Listed

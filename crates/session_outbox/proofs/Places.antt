@@ -3,9 +3,9 @@ use Rattle.commit_log.specs.declared.entry.Entry.TheVariants.{Life, One, Prepare
 use Rattle.commit_log.specs.declared.entry.Entry.{Entry}
 use Rattle.commit_log.specs.declared.request.Request.{Request}
 use Rattle.session_outbox.proofs.Growth.{by_growth, kept_by-parts, length-state, owed-end, sound-beginning, sound-end, state-append, state-end}
-use Rattle.session_outbox.proofs.Steps.{Asks, Begun, FateBegun, FateMoves, Kept, LifeBegan, Moved, life_began, moved, onward, origin}
+use Rattle.session_outbox.proofs.Steps.{Begun, FateBegun, FateMoves, Kept, LifeBegan, Moved, life_began, moved, onward, origin}
 use Rattle.session_outbox.specs.History.{Base, Fate, Standing, State, Open, Committed, Aborted, CommittedBelow, Lives, commit_of, put, standing, stands, start, state}
-use Rattle.session_outbox.specs.Laws.{FateStays, Stays}
+use Rattle.session_outbox.specs.Laws.{Asks, FateStays, Stays}
 use Rattle.session_outbox.specs.Sound.{Admits, kept_by, owes, sound}
 use Rattle.std.proofs.Common.{◌≡◌, ◌≤◌, ◌<◌, ℕ, ◌+◌, List, [], ◌∷◌, ◌++◌, length, take, drop, refl, ap, sym, ◌∙◌, subst, arith, inl, inr}
 use Rattle.std.proofs.Math.Seq.{take-append_seam, take-length}

@@ -3,9 +3,9 @@ use Rattle.commit_log.specs.declared.entry.Entry.{Entry}
 use Rattle.commit_log.specs.declared.request.Request.{Request}
 use Rattle.session_outbox.proofs.Growth.{by_growth, length-state, sound-end}
 use Rattle.session_outbox.proofs.Places.{Fits, FateFits, admitted, came_end, one_request, placed, sound_take, stays, stays_kept, stays_same, stays_then}
-use Rattle.session_outbox.proofs.Steps.{Asks, Begun, FateMoves, Kept}
+use Rattle.session_outbox.proofs.Steps.{Begun, FateMoves, Kept}
 use Rattle.session_outbox.specs.History.{Base, Fate, Standing, State, Open, Committed, Aborted, CommittedBelow, IsCommitted, Lives, commit_of, standing, stands, start, state}
-use Rattle.session_outbox.specs.Laws.{FateStays, Stays}
+use Rattle.session_outbox.specs.Laws.{Asks, FateStays, Stays}
 use Rattle.session_outbox.specs.Sound.{Admits, owes, sound}
 use Rattle.std.proofs.Common.{◌≡◌, ◌≤◌, ◌<◌, ℕ, ◌+◌, List, [], ◌∷◌, ◌++◌, length, take, refl, ap, sym, ◌∙◌, subst, arith, inl, inr}
 use Rattle.std.proofs.Math.Seq.{take-append_seam, take-length}

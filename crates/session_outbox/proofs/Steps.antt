@@ -3,6 +3,7 @@ use Rattle.commit_log.specs.declared.entry.Entry.TheVariants.{Life, One, Prepare
 use Rattle.commit_log.specs.declared.entry.Entry.{Entry}
 use Rattle.commit_log.specs.declared.request.Request.{Request}
 use Rattle.session_outbox.specs.History.{Base, Fate, Standing, State, Open, Committed, Aborted, is_lost, or_lost, lapse, put, start, state, standing, settle, settle_by, commit, commit_by, commit_of, is_open}
+use Rattle.session_outbox.specs.Laws.{Asks}
 use Rattle.session_outbox.specs.Sound.{owes, Admits}
 use Rattle.std.proofs.Common.{◌≡◌, ◌≤◌, ◌<◌, ℕ, ◌+◌, refl, ap, sym, ◌∙◌, subst, arith, inl, inr}
 use Rattle.std.proofs.lemmas.Bool.{le-ltb, lt-ltb, ltb-true}
@@ -32,15 +33,6 @@ FateMoves cs n q Aborted Aborted = Unit {0}
 -- a transaction that was there keeps its place and its request
 abbrev pub Kept : List (ℕ × Request) → ℕ → Standing → Standing → Type 0
 Kept cs n o w = (w.place ≡ o.place) × (w.request ≡ o.request) × FateMoves cs n o.request o.fate w.fate
-
--- the entry is a request, namely q
-abbrev pub Asks : Entry → Request → Type 0
-Asks (Life n) q = ⊥
-Asks (One r) q = r ≡ q
-Asks (Prepared r) q = r ≡ q
-Asks (Decided t c) q = ⊥
-Asks (Finished t c) q = ⊥
-Asks (Upgraded r) q = r ≡ q
 
 abbrev pub FateBegun : List (ℕ × Request) → ℕ → Request → Fate → Type 0
 FateBegun cs n q Open = Unit {0}

@@ -1,10 +1,14 @@
 -- What is proved of local histories, each as one statement. The functions of `history_laws` have them
 -- as their clauses.
+use Rattle.commit_log.specs.declared.entry.Entry.TheVariants.{Decided, Finished, Life, One, Prepared, Upgraded}
 use Rattle.commit_log.specs.declared.entry.Entry.{Entry}
 use Rattle.commit_log.specs.declared.request.Request.{Request}
-use Rattle.session_outbox.specs.History.{Aborted, Base, Committed, CommittedBelow, Fate, IsCommitted, Lives, Open, Standing, objects_at, stands}
+use Rattle.session_outbox.specs.History.{Aborted, Base, Committed, CommittedBelow, Fate, IsCommitted, Lives, Open, Standing, commits, objects_at, stands, state}
 use Rattle.session_outbox.specs.Requests.{has_created, has_read, has_written, is_upgrade, written}
-use Rattle.std.specs.Prelude.{IsTrue, List, None, Some, false, ℕ, ◌<◌, ◌≡◌, ◌≢◌, ◌↔◌, ◌⊎◌}
+use Rattle.session_outbox.specs.Sound.{Admits}
+use Rattle.std.specs.List.{AllPairs, Contains, slice_get}
+use Rattle.std.specs.Option.{IsSomeAnd}
+use Rattle.std.specs.Prelude.{IsTrue, List, None, Some, false, length, take, true, ℕ, ◌<◌, ◌≡◌, ◌≢◌, ◌≤◌, ◌↔◌, ◌⊎◌}
 use Rattle.thor_value.specs.FiniteMap.{get}
 use Rattle.thor_value.specs.Names.{Before}
 use Rattle.thor_value.specs.declared.names.Oref.{Oref}
@@ -26,6 +30,41 @@ pub record Stays (o w : Standing) : Type 0 where
   pub place : w.place ≡ o.place
   pub request : w.request ≡ o.request
   pub fate : FateStays o.fate w.fate
+
+-- the entry is the request q
+abbrev pub Asks : Entry → Request → Type 0
+Asks (Life n) q = ⊥
+Asks (One r) q = r ≡ q
+Asks (Prepared r) q = r ≡ q
+Asks (Decided t c) q = ⊥
+Asks (Finished t c) q = ⊥
+Asks (Upgraded r) q = r ≡ q
+
+-- the entry commits t
+abbrev pub Commits : Entry → Ts → Type 0
+Commits (Life n) t = ⊥
+Commits (One q) t = q.tx ≡ t
+Commits (Prepared q) t = ⊥
+Commits (Decided u c) t = (u ≡ t) × (c ≡ true)
+Commits (Finished u c) t = (u ≡ t) × (c ≡ true)
+Commits (Upgraded q) t = q.tx ≡ t
+
+-- A transaction t that stands in H as o.
+pub record Recorded (b : Base) (H : List Entry) (t : Ts) (o : Standing) : Type 0 where
+  -- its place is one of the history's, and that entry is its request
+  pub below : o.place < length H
+  pub named : o.request.tx ≡ t
+  pub asked : IsSomeAnd (slice_get H o.place) (λ e. Asks e o.request)
+  -- the request owed what it owed to the history below it
+  pub judged : Admits b (state b (take o.place H)) o.request
+  -- where it committed, that is an entry which commits it, and not below its request
+  pub committed : (m : ℕ) → o.fate ≡ Committed m → (o.place ≤ m) × (m < length H) × IsSomeAnd (slice_get H m) (λ e. Commits e t)
+
+-- The commits of a history are those of the transactions that stand committed, by rising places.
+pub record CommitsListed (b : Base) (H : List Entry) : Type 0 where
+  pub rise : AllPairs (λ c d. c.0 < d.0) (commits b H)
+  pub listed : (t : Ts) (o : Standing) (m : ℕ) → stands b H t ≡ Some o → o.fate ≡ Committed m → Contains (commits b H) (m, o.request)
+  pub stand : (c : ℕ × Request) → Contains (commits b H) c → IsSomeAnd (stands b H c.1.tx) (λ o. (o.request ≡ c.1) × (o.fate ≡ Committed c.0))
 
 -- What t reads of x where it stands in H as o and isn't aborted: of the other transactions that wrote
 -- x, those that committed below its request are those before it by timestamp, and the object is as
