@@ -2,23 +2,18 @@
 use Rattle.commit_log.specs.declared.entry.Entry.TheVariants.{Life, One, Prepared, Decided, Finished, Upgraded}
 use Rattle.commit_log.specs.declared.entry.Entry.{Entry}
 use Rattle.commit_log.specs.declared.request.Request.{Request}
-use Rattle.session_outbox.proofs.Growth.{by_growth, length-state, state-end}
-use Rattle.session_outbox.proofs.Places.{Fits, FateFits, Placed, came, came_end, placed}
-use Rattle.session_outbox.proofs.Steps.{FateMoves, FateBegun, Kept, Begun}
-use Rattle.session_outbox.specs.History.{Aborted, Base, Committed, CommittedBelow, Fate, IsCommitted, Lives, Open, Standing, State, commit, commit_by, commit_of, commits, commits_from, is_open, last_write, objects_at, or_lost, put, settle, settle_by, standing, stands, start, state, writers}
+use Rattle.session_outbox.specs.History.{Aborted, Base, Committed, Fate, Open, Standing, State, commit_by, commit_of, commits, commits_from, is_open, last_write, put, settle, settle_by, standing, start, state, writers}
 use Rattle.session_outbox.specs.Requests.{has_written, written}
-use Rattle.session_outbox.specs.Sound.{owes, sound}
-use Rattle.std.proofs.Common.{◌≡◌, ◌≤◌, ◌<◌, ℕ, ◌+◌, List, [], ◌∷◌, ◌++◌, length, refl, ap, sym, ◌∙◌, subst, arith, inl, inr}
-use Rattle.std.proofs.lemmas.Cmp.{tied_itself}
+use Rattle.std.proofs.Common.{◌≡◌, ℕ, List, [], ◌∷◌, refl, ap, sym, ◌∙◌}
 use Rattle.std.proofs.lemmas.List.Sums.{fold-append}
-use Rattle.std.specs.List.{AllByRecursion, filter, fold}
-use Rattle.std.specs.Option.{IsSomeAnd, option_map, option_or}
-use Rattle.std.specs.Ordering.{eq_by_cmp, is_eq}
-use Rattle.std.specs.Prelude.{Bool, IsTrue, None, Option, Some, cond, false, is_some, true, ◌&&◌, ◌⊎◌}
+use Rattle.std.specs.List.{filter, fold}
+use Rattle.std.specs.Option.{option_or}
+use Rattle.std.specs.Ordering.{eq_by_cmp}
+use Rattle.std.specs.Prelude.{Bool, None, Option, Some, cond, false, is_some, true, ◌&&◌}
 use Rattle.thor_value.proofs.FiniteMap.{get-insert}
-use Rattle.thor_value.proofs.NameOrders.{oref_total, ts_total}
-use Rattle.thor_value.specs.FiniteMap.{Map, empty, get, has, insert, overwrite}
-use Rattle.thor_value.specs.Names.{oref_cmp, ts_cmp}
+use Rattle.thor_value.proofs.NameOrders.{oref_total}
+use Rattle.thor_value.specs.FiniteMap.{Map, empty, get, insert, overwrite}
+use Rattle.thor_value.specs.Names.{oref_cmp}
 use Rattle.thor_value.specs.declared.names.Oref.{Oref}
 use Rattle.thor_value.specs.declared.names.Ts.{Ts}
 use Rattle.thor_value.specs.declared.values.Obj.{Obj}

@@ -1,16 +1,12 @@
 -- A history grows at its end: one step of the fold, the same prefixes, and induction over sound
 -- histories by their growth.
-use Rattle.commit_log.specs.declared.entry.Entry.TheVariants.{Life, One, Prepared, Decided, Finished, Upgraded}
 use Rattle.commit_log.specs.declared.entry.Entry.{Entry}
-use Rattle.session_outbox.specs.History.{Base, Fate, Standing, State, Open, Committed, Aborted, put, start, state, standing, settle, settle_by, commit, lapse, objects_at}
+use Rattle.session_outbox.specs.History.{Base, State, put, start, state, objects_at}
 use Rattle.session_outbox.specs.Sound.{kept_by, owes, sound}
-use Rattle.std.proofs.Common.{◌≡◌, ◌≤◌, ◌<◌, ℕ, ◌+◌, List, [], ◌∷◌, ◌++◌, length, take, refl, ap, sym, ◌∙◌, subst, append_assoc, arith, suc}
-use Rattle.std.proofs.Math.Seq.{take-append_seam}
+use Rattle.std.proofs.Common.{◌≡◌, ◌≤◌, ℕ, ◌+◌, List, [], ◌∷◌, ◌++◌, length, ap, sym, ◌∙◌, subst, append_assoc, arith, suc}
 use Rattle.std.proofs.lemmas.List.Sums.{fold-append}
 use Rattle.std.proofs.lemmas.List.{append-nil, take-append-le}
 use Rattle.std.specs.List.{fold}
-use Rattle.std.specs.Prelude.{Bool, true, false, cond, Option, Some, None}
-use Rattle.thor_value.specs.declared.names.Ts.{Ts}
 
 module _ (b : Base) where
   -- more entries: the fold goes on

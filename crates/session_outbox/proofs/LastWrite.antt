@@ -4,27 +4,27 @@ use Rattle.commit_log.specs.declared.entry.Entry.{Entry}
 use Rattle.commit_log.specs.declared.request.Request.{Request}
 use Rattle.session_outbox.proofs.Commits.{get-overwrite, objects-put, with_commits}
 use Rattle.session_outbox.proofs.Growth.{by_growth, length-state, sound-end, state-end}
-use Rattle.session_outbox.proofs.Meeting.{in_order, not_both_ways}
-use Rattle.session_outbox.proofs.Places.{FateFits, Fits, Placed, came_end, fate_then, placed, sound_take, stays}
-use Rattle.session_outbox.proofs.Prefixes.{fits, le_cases, one_at_a_place}
+use Rattle.session_outbox.proofs.Meeting.{in_order}
+use Rattle.session_outbox.proofs.Places.{FateFits, Fits, Placed, came_end, placed, sound_take, stays}
+use Rattle.session_outbox.proofs.Prefixes.{fits, le_cases}
 use Rattle.session_outbox.proofs.Serial.{below_place, committed_at, committed_lives, order, writers_rise}
-use Rattle.session_outbox.proofs.Steps.{Begun, FateBegun, FateMoves, Kept}
-use Rattle.session_outbox.specs.History.{Aborted, Base, Committed, CommittedBelow, Fate, IsCommitted, Lives, Open, Standing, State, commit, commit_by, commit_of, is_open, objects_at, or_lost, put, settle, settle_by, standing, stands, start, state}
-use Rattle.session_outbox.specs.Laws.{BothWrote, FateStays, LastWrote, NoneWrote, Reads, ReadsLast, Stays, Writes}
+use Rattle.session_outbox.proofs.Steps.{FateBegun, FateMoves}
+use Rattle.session_outbox.specs.History.{Aborted, Base, Committed, CommittedBelow, Fate, Open, Standing, State, commit, commit_by, commit_of, is_open, or_lost, put, settle, settle_by, standing, stands, state}
+use Rattle.session_outbox.specs.Laws.{BothWrote, FateStays, ReadsLast, Stays}
 use Rattle.session_outbox.specs.Requests.{has_written, written}
 use Rattle.session_outbox.specs.Sound.{owes, sound}
-use Rattle.std.proofs.Common.{◌≡◌, ◌≢◌, ◌≤◌, ◌<◌, ℕ, ◌+◌, List, [], ◌∷◌, ◌++◌, length, take, drop, refl, ap, sym, ◌∙◌, subst, arith, inl, inr, ◌↔◌}
+use Rattle.std.proofs.Common.{◌≡◌, ◌≤◌, ◌<◌, ℕ, List, [], ◌∷◌, ◌++◌, length, take, drop, refl, ap, sym, ◌∙◌, subst, arith, inl, inr}
 use Rattle.std.proofs.Math.Seq.{take-length}
 use Rattle.std.proofs.lemmas.Cmp.{tied_itself}
 use Rattle.std.proofs.lemmas.List.{length-append, length-take-le, take-append-drop, take-append-le}
 use Rattle.std.proofs.lemmas.Option.{same_Some}
 use Rattle.std.specs.Option.{option_map, option_or}
-use Rattle.std.specs.Ordering.{eq_by_cmp, is_eq}
+use Rattle.std.specs.Ordering.{is_eq}
 use Rattle.std.specs.Prelude.{Bool, IsTrue, None, Option, Some, cond, false, is_some, true, ◌&&◌, ◌⊎◌}
 use Rattle.thor_value.proofs.FiniteMap.{get-insert}
 use Rattle.thor_value.proofs.NameOrders.{ts_total}
-use Rattle.thor_value.specs.FiniteMap.{Map, get, has, insert}
-use Rattle.thor_value.specs.Names.{Before, oref_cmp, ts_cmp}
+use Rattle.thor_value.specs.FiniteMap.{Map, get, insert}
+use Rattle.thor_value.specs.Names.{oref_cmp}
 use Rattle.thor_value.specs.declared.names.Oref.{Oref}
 use Rattle.thor_value.specs.declared.names.Ts.{Ts}
 use Rattle.thor_value.specs.declared.values.Obj.{Obj}
@@ -160,18 +160,18 @@ module _ (b : Base) where
       → (o : Standing) × (stands b (take n H) s ≡ Some o) × (o.fate ≡ Committed m) × (w.request ≡ o.request)
   stood_committed =
       by_growth b (λ H. (n : ℕ) → n ≤ length H → (s : Ts) (w : Standing) (m : ℕ) → stands b H s ≡ Some w → w.fate ≡ Committed m → m < n → (o : Standing) × (stands b (take n H) s ≡ Some o) × (o.fate ≡ Committed m) × (w.request ≡ o.request))
-        (λ n h s w m is f l. cc)
-        (λ H e sd ih ow n h s w m is f l.
-            let goal = λ (G : List Entry). (o : Standing) × (stands b G s ≡ Some o) × (o.fate ≡ Committed m) × (w.request ≡ o.request) in
-            elim (le_cases n (length H) (subst (λ k. n ≤ k) (length-append H (e ∷ [])) h)) [
-              | inl k ↦ subst goal (sym (take-append-le n H (e ∷ []) k)) (elim (committed_end H e sd ow s w m is f) [
-                  | inl x ↦ let y = ih n k s x.0 m x.1 x.2 l in (y.0, y.1, y.2, x.3 ∙ y.3)
-                  | inr x ↦ let at : m ≡ length H = x.0 in absurd (omega arith)
-                ])
-              | inr k ↦
-                  let whole : take n (H ++ e ∷ []) ≡ H ++ e ∷ [] = ap (λ j. take j (H ++ e ∷ [])) (k ∙ sym (length-append H (e ∷ []))) ∙ take-length (H ++ e ∷ []) in
-                  subst goal (sym whole) (w, is, f, refl)
-            ])
+      (λ n h s w m is f l. cc)
+      (λ H e sd ih ow n h s w m is f l.
+      let goal = λ (G : List Entry). (o : Standing) × (stands b G s ≡ Some o) × (o.fate ≡ Committed m) × (w.request ≡ o.request) in
+      elim (le_cases n (length H) (subst (λ k. n ≤ k) (length-append H (e ∷ [])) h)) [
+        | inl k ↦ subst goal (sym (take-append-le n H (e ∷ []) k)) (elim (committed_end H e sd ow s w m is f) [
+          | inl x ↦ let y = ih n k s x.0 m x.1 x.2 l in (y.0, y.1, y.2, x.3 ∙ y.3)
+          | inr x ↦ let at : m ≡ length H = x.0 in absurd (omega arith)
+        ])
+        | inr k ↦
+            let whole : take n (H ++ e ∷ []) ≡ H ++ e ∷ [] = ap (λ j. take j (H ++ e ∷ [])) (k ∙ sym (length-append H (e ∷ []))) ∙ take-length (H ++ e ∷ []) in
+            subst goal (sym whole) (w, is, f, refl)
+      ])
 
   -- ---- the commit that an object comes from
 
@@ -205,16 +205,21 @@ module _ (b : Base) where
   carried H e x sd ow quiet same (inr (s, w, at, from)) =
       let y = stays b H (e ∷ []) (sound-end b H e sd ow) s w from.there in
       let st : Stays w y.0 = y.2 in
-      inr (s, y.0, at, record {
-        there = y.1;
-        fate = stays_committed at w.fate y.0.fate from.fate st.fate;
-        wrote = subst (λ q. IsTrue (has_written q x)) (sym st.request) from.wrote;
-        value = same ∙ from.value ∙ ap (λ q. get (written q) x) (sym st.request);
-        last = λ r v m is f wrote. elim (committed_end H e sd ow r v m is f) [
-          | inl z ↦ from.last r z.0 m z.1 z.2 (subst (λ q. IsTrue (has_written q x)) z.3 wrote)
-          | inr z ↦ let n = quiet v.request z.1 in absurd (cc)
-        ];
-      })
+      inr (
+        s,
+        y.0,
+        at,
+        record {
+          there = y.1;
+          fate = stays_committed at w.fate y.0.fate from.fate st.fate;
+          wrote = subst (λ q. IsTrue (has_written q x)) (sym st.request) from.wrote;
+          value = same ∙ from.value ∙ ap (λ q. get (written q) x) (sym st.request);
+          last = λ r v m is f wrote. elim (committed_end H e sd ow r v m is f) [
+            | inl z ↦ from.last r z.0 m z.1 z.2 (subst (λ q. IsTrue (has_written q x)) z.3 wrote)
+            | inr z ↦ let n = quiet v.request z.1 in absurd (cc)
+          ];
+        },
+      )
 
   -- an entry that commits a write of x is where it comes from
   taken_over : (H : List Entry) (e : Entry) (x : Oref) (q : Request) → sound b H → owes b (state b H) e → commit_of b (state b H) e ≡ (length H, q) ∷ [] → has_written q x ≡ true → Source (H ++ e ∷ []) x
@@ -222,37 +227,42 @@ module _ (b : Base) where
       let n = length-state b H in
       let here = commit_here (state b H) e q (placed b H sd) (subst (λ k. commit_of b (state b H) e ≡ (k, q) ∷ []) (sym n) is) in
       let here' : CommittedHere (state b (H ++ e ∷ [])) q.tx q (length H) = subst (λ S. CommittedHere S q.tx q (length H)) (sym (state-end b H e)) (subst (CommittedHere (put b (state b H) e) q.tx q) n here) in
-      inr (q.tx, here'.0, length H, record {
-        there = here'.1;
-        fate = here'.3;
-        wrote = subst (λ r. IsTrue (has_written r x)) (sym here'.2) wrote;
-        value =
-            object_end H e x
-            ∙ ap (λ cs. get (with_commits (state b H).objects cs) x) is
-            ∙ get-overwrite x (state b H).objects q
-            ∙ or_new (get (written q) x) _ wrote
-            ∙ ap (λ r. get (written r) x) (sym here'.2);
-        last = λ r v m it f w. elim (committed_end H e sd ow r v m it f) [
-          | inl y ↦ let l : m < length H = (fits_at y.0.place (length H) m y.0.fate y.2 (fits b H sd r y.0 y.1).fate).1 in omega arith
-          | inr y ↦ let at : m ≡ length H = y.0 in omega arith
-        ];
-      })
+      inr (
+        q.tx,
+        here'.0,
+        length H,
+        record {
+          there = here'.1;
+          fate = here'.3;
+          wrote = subst (λ r. IsTrue (has_written r x)) (sym here'.2) wrote;
+          value =
+              object_end H e x
+              ∙ ap (λ cs. get (with_commits (state b H).objects cs) x) is
+              ∙ get-overwrite x (state b H).objects q
+              ∙ or_new (get (written q) x) _ wrote
+              ∙ ap (λ r. get (written r) x) (sym here'.2);
+          last = λ r v m it f w. elim (committed_end H e sd ow r v m it f) [
+            | inl y ↦ let l : m < length H = (fits_at y.0.place (length H) m y.0.fate y.2 (fits b H sd r y.0 y.1).fate).1 in omega arith
+            | inr y ↦ let at : m ≡ length H = y.0 in omega arith
+          ];
+        },
+      )
 
   by_write : (H : List Entry) (e : Entry) (x : Oref) (q : Request) → sound b H → owes b (state b H) e → commit_of b (state b H) e ≡ (length H, q) ∷ [] → Source H x → (y : Bool) → has_written q x ≡ y → Source (H ++ e ∷ []) x
   by_write H e x q sd ow is old true w = taken_over H e x q sd ow is w
   by_write H e x q sd ow is old false w =
       carried H e x sd ow
-        (λ r k. subst (λ s. has_written s x ≡ false) (one_commit (length H) q r (sym is ∙ k)) w)
-        (object_end H e x ∙ ap (λ cs. get (with_commits (state b H).objects cs) x) is ∙ get-overwrite x (state b H).objects q ∙ or_old (get (written q) x) _ w)
-        old
+      (λ r k. subst (λ s. has_written s x ≡ false) (one_commit (length H) q r (sym is ∙ k)) w)
+      (object_end H e x ∙ ap (λ cs. get (with_commits (state b H).objects cs) x) is ∙ get-overwrite x (state b H).objects q ∙ or_old (get (written q) x) _ w)
+      old
 
   source : (x : Oref) (H : List Entry) → sound b H → Source H x
   source x =
       by_growth b (λ H. Source H x) (inl (record { none = λ s w m is f wrote. cc; value = refl }))
-        (λ H e sd ih ow. elim (commit_shape (state b H) e) [
-          | inl none ↦ carried H e x sd ow (λ q k. no_commit (commit_of b (state b H) e) (length H, q) none k) (object_end H e x ∙ ap (λ cs. get (with_commits (state b H).objects cs) x) none) ih
-          | inr one ↦ by_write H e x one.0 sd ow (subst (λ k. commit_of b (state b H) e ≡ (k, one.0) ∷ []) (length-state b H) one.1) ih (has_written one.0 x) refl
-        ])
+      (λ H e sd ih ow. elim (commit_shape (state b H) e) [
+        | inl none ↦ carried H e x sd ow (λ q k. no_commit (commit_of b (state b H) e) (length H, q) none k) (object_end H e x ∙ ap (λ cs. get (with_commits (state b H).objects cs) x) none) ih
+        | inr one ↦ by_write H e x one.0 sd ow (subst (λ k. commit_of b (state b H) e ≡ (k, one.0) ∷ []) (length-state b H) one.1) ih (has_written one.0 x) refl
+      ])
 
   -- ---- what a request reads
 
@@ -265,10 +275,10 @@ module _ (b : Base) where
   reads_last H sd = record {
     same = λ t s o w x r v. (
       (λ c.
-        let l = below_place w.place o.place (length H) w.fate (fits b H sd s w v.there).fate c in
-        let lives = committed_lives o.place w.fate c in
-        (lives, (order b H sd).rises t s o w x (record { reader = r.there; writer = v.there; other = v.other; reader_lives = r.lives; writer_lives = lives; read = r.read; wrote = v.wrote }) l)),
-      (λ h. (order b H sd).settled t s o w x (record { reader = r.there; writer = v.there; other = v.other; reader_lives = r.lives; writer_lives = h.0; read = r.read; wrote = v.wrote }) h.1)
+          let l = below_place w.place o.place (length H) w.fate (fits b H sd s w v.there).fate c in
+          let lives = committed_lives o.place w.fate c in
+          (lives, (order b H sd).rises t s o w x (record { reader = r.there; writer = v.there; other = v.other; reader_lives = r.lives; writer_lives = lives; read = r.read; wrote = v.wrote }) l)),
+      (λ h. (order b H sd).settled t s o w x (record { reader = r.there; writer = v.there; other = v.other; reader_lives = r.lives; writer_lives = h.0; read = r.read; wrote = v.wrote }) h.1),
     );
     value = λ t o x r.
         let n : ℕ = o.place in
@@ -276,12 +286,12 @@ module _ (b : Base) where
         let n_le : n ≤ length H = omega arith in
         elim (source x (take n H) (sound_take b n H sd)) [
           | inl u ↦ inl (record {
-              none = λ s w v c.
-                  let p = a_place n w.fate c in
-                  let y = stood_committed H sd n n_le s w p.0 v.there p.1 p.2 in
-                  u.none s y.0 p.0 y.1 y.2 (subst (λ q. IsTrue (has_written q x)) y.3 v.wrote);
-              value = u.value;
-            })
+            none = λ s w v c.
+                let p = a_place n w.fate c in
+                let y = stood_committed H sd n n_le s w p.0 v.there p.1 p.2 in
+                u.none s y.0 p.0 y.1 y.2 (subst (λ q. IsTrue (has_written q x)) y.3 v.wrote);
+            value = u.value;
+          })
           | inr f ↦
               let s : Ts = f.0 in
               let w : Standing = f.1 in
@@ -299,33 +309,37 @@ module _ (b : Base) where
               let w_below : w.place < length (take n H) = prefix_fits.below in
               let moved : w'.place ≡ w.place = st.place in
               let committed : CommittedBelow n w'.fate = committed_at_place n at w'.fate fate (omega arith) in
-              inr (s, w', record {
-                writes = record {
-                  there = there;
-                  other = λ e.
-                      let one : Some w' ≡ Some o = sym there ∙ subst (λ u. stands b H u ≡ Some o) (sym e) r.there in
-                      let place : w'.place ≡ n = ap (λ (u : Standing). u.place) (same_Some w' o one) in
-                      omega arith;
-                  wrote = wrote;
-                };
-                committed = committed;
-                last = λ u v z c other.
-                    let p = a_place n v.fate c in
-                    let m : ℕ = p.0 in
-                    let old = stood_committed H sd n n_le u v m z.there p.1 p.2 in
-                    let m_le : m ≤ at = from.last u old.0 m old.1 old.2 (subst (λ q. IsTrue (has_written q x)) old.3 z.wrote) in
-                    let v_le : v.place ≤ m = (fits_at v.place (length H) m v.fate p.1 (fits b H sd u v z.there).fate).0 in
-                    elim (in_order u s) [
-                      | inl e ↦ e
-                      | inr h ↦ elim h [
-                        | inl same ↦ absurd (other same)
-                        | inr e ↦
-                            let both : BothWrote b H s u w' v x = record { first = there; second = z.there; first_lives = committed_lives n w'.fate committed; second_lives = committed_lives n v.fate c; first_wrote = wrote; second_wrote = z.wrote } in
-                            let l : at < v.place = committed_at v.place at w'.fate fate ((writers_rise b H sd).settled s u w' v x both e) in
-                            absurd (omega arith)
-                      ]
-                    ];
-                value = from.value ∙ ap (λ q. get (written q) x) (sym st.request);
-              })
+              inr (
+                s,
+                w',
+                record {
+                  writes = record {
+                    there = there;
+                    other = λ e.
+                        let one : Some w' ≡ Some o = sym there ∙ subst (λ u. stands b H u ≡ Some o) (sym e) r.there in
+                        let place : w'.place ≡ n = ap (λ (u : Standing). u.place) (same_Some w' o one) in
+                        omega arith;
+                    wrote = wrote;
+                  };
+                  committed = committed;
+                  last = λ u v z c other.
+                      let p = a_place n v.fate c in
+                      let m : ℕ = p.0 in
+                      let old = stood_committed H sd n n_le u v m z.there p.1 p.2 in
+                      let m_le : m ≤ at = from.last u old.0 m old.1 old.2 (subst (λ q. IsTrue (has_written q x)) old.3 z.wrote) in
+                      let v_le : v.place ≤ m = (fits_at v.place (length H) m v.fate p.1 (fits b H sd u v z.there).fate).0 in
+                      elim (in_order u s) [
+                        | inl e ↦ e
+                        | inr h ↦ elim h [
+                          | inl same ↦ absurd (other same)
+                          | inr e ↦
+                              let both : BothWrote b H s u w' v x = record { first = there; second = z.there; first_lives = committed_lives n w'.fate committed; second_lives = committed_lives n v.fate c; first_wrote = wrote; second_wrote = z.wrote } in
+                              let l : at < v.place = committed_at v.place at w'.fate fate ((writers_rise b H sd).settled s u w' v x both e) in
+                              absurd (omega arith)
+                        ]
+                      ];
+                  value = from.value ∙ ap (λ q. get (written q) x) (sym st.request);
+                },
+              )
         ];
   }

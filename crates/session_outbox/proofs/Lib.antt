@@ -7,3 +7,4 @@ pub mod Serial
 pub mod Commits
 pub mod LastWrite
 pub mod Listed
+pub mod Final

@@ -4,12 +4,12 @@ use Rattle.commit_log.specs.declared.entry.Entry.{Entry}
 use Rattle.commit_log.specs.declared.request.Request.{Request}
 use Rattle.session_outbox.proofs.Growth.{by_growth, length-state, sound-end, state-end}
 use Rattle.session_outbox.proofs.LastWrite.{commit_here, commit_shape, committed_end, fits_at, one_commit, one_if, stays_committed}
-use Rattle.session_outbox.proofs.Places.{Fits, FateFits, Placed, came_end, placed, stays}
+use Rattle.session_outbox.proofs.Places.{Placed, came_end, placed, stays}
 use Rattle.session_outbox.proofs.Prefixes.{fits, judged}
 use Rattle.session_outbox.specs.History.{Aborted, Base, Committed, Fate, Open, Standing, State, commit_by, commit_of, commits, commits_from, is_open, put, standing, stands, start, state}
 use Rattle.session_outbox.specs.Laws.{Asks, Commits, CommitsListed, Recorded, Stays}
 use Rattle.session_outbox.specs.Sound.{owes, sound}
-use Rattle.std.proofs.Common.{List, [], ap, arith, drop, inl, inr, length, refl, subst, suc, sym, take, zero, ℕ, ◌+◌, ◌++◌, ◌<◌, ◌≡◌, ◌≤◌, ◌∙◌, ◌∷◌, append_assoc, get_or}
+use Rattle.std.proofs.Common.{List, [], ap, arith, inl, inr, length, refl, subst, suc, sym, zero, ℕ, ◌++◌, ◌<◌, ◌≡◌, ◌∙◌, ◌∷◌, append_assoc, get_or}
 use Rattle.std.proofs.lemmas.List.Elements.{Contains-append_left, Contains-push, Contains-push_cases, Contains-get_or}
 use Rattle.std.proofs.lemmas.List.Quantifiers.{all_pairs_push}
 use Rattle.std.proofs.lemmas.List.{append-nil}
@@ -45,15 +45,15 @@ module _ (b : Base) where
   asked : (H : List Entry) → sound b H → (t : Ts) (o : Standing) → stands b H t ≡ Some o → IsSomeAnd (slice_get H o.place) (λ e. Asks e o.request)
   asked =
       by_growth b (λ H. (t : Ts) (o : Standing) → stands b H t ≡ Some o → IsSomeAnd (slice_get H o.place) (λ e. Asks e o.request))
-        (λ t o is. cc)
-        (λ H e sd ih ow t o is. elim (came_end b H e sd ow t o is) [
-          | inl x ↦ entry_new H e (λ f. Asks f o.request) o.place x.1.2 x.1.0
-          | inr x ↦
-              let below : x.0.place < length H = (fits b H sd t x.0 x.1).below in
-              let at : o.place ≡ x.0.place = x.2.0 in
-              let old : IsSomeAnd (slice_get H o.place) (λ f. Asks f o.request) = subst (λ q. IsSomeAnd (slice_get H o.place) (λ f. Asks f q)) (sym x.2.1) (subst (λ k. IsSomeAnd (slice_get H k) (λ f. Asks f x.0.request)) (sym at) (ih t x.0 x.1)) in
-              entry_stays H e (λ f. Asks f o.request) o.place (omega arith) old
-        ])
+      (λ t o is. cc)
+      (λ H e sd ih ow t o is. elim (came_end b H e sd ow t o is) [
+        | inl x ↦ entry_new H e (λ f. Asks f o.request) o.place x.1.2 x.1.0
+        | inr x ↦
+            let below : x.0.place < length H = (fits b H sd t x.0 x.1).below in
+            let at : o.place ≡ x.0.place = x.2.0 in
+            let old : IsSomeAnd (slice_get H o.place) (λ f. Asks f o.request) = subst (λ q. IsSomeAnd (slice_get H o.place) (λ f. Asks f q)) (sym x.2.1) (subst (λ k. IsSomeAnd (slice_get H k) (λ f. Asks f x.0.request)) (sym at) (ih t x.0 x.1)) in
+            entry_stays H e (λ f. Asks f o.request) o.place (omega arith) old
+      ])
 
   commits_settled : (S : State) (u : Ts) (c : Bool) (o : Option Standing) (q : Request) → commit_by S c o ≡ (S.length, q) ∷ [] → ((p : Standing) → o ≡ Some p → p.request.tx ≡ u) → (u ≡ q.tx) × (c ≡ true)
   commits_settled S u c None q k named = cc
@@ -79,15 +79,15 @@ module _ (b : Base) where
   committed_by : (H : List Entry) → sound b H → (t : Ts) (o : Standing) (m : ℕ) → stands b H t ≡ Some o → o.fate ≡ Committed m → IsSomeAnd (slice_get H m) (λ e. Commits e t)
   committed_by =
       by_growth b (λ H. (t : Ts) (o : Standing) (m : ℕ) → stands b H t ≡ Some o → o.fate ≡ Committed m → IsSomeAnd (slice_get H m) (λ e. Commits e t))
-        (λ t o m is f. cc)
-        (λ H e sd ih ow t o m is f. elim (committed_end b H e sd ow t o m is f) [
-          | inl x ↦
-              let below : m < length H = (fits_at x.0.place (length H) m x.0.fate x.2 (fits b H sd t x.0 x.1).fate).1 in
-              entry_stays H e (λ g. Commits g t) m below (ih t x.0 m x.1 x.2)
-          | inr x ↦
-              let c : Commits e o.request.tx = commits_it (state b H) e o.request (placed b H sd) (subst (λ k. commit_of b (state b H) e ≡ (k, o.request) ∷ []) (sym (length-state b H)) x.1) in
-              entry_new H e (λ g. Commits g t) m x.0 (subst (Commits e) (fits b (H ++ e ∷ []) (sound-end b H e sd ow) t o is).named c)
-        ])
+      (λ t o m is f. cc)
+      (λ H e sd ih ow t o m is f. elim (committed_end b H e sd ow t o m is f) [
+        | inl x ↦
+            let below : m < length H = (fits_at x.0.place (length H) m x.0.fate x.2 (fits b H sd t x.0 x.1).fate).1 in
+            entry_stays H e (λ g. Commits g t) m below (ih t x.0 m x.1 x.2)
+        | inr x ↦
+            let c : Commits e o.request.tx = commits_it (state b H) e o.request (placed b H sd) (subst (λ k. commit_of b (state b H) e ≡ (k, o.request) ∷ []) (sym (length-state b H)) x.1) in
+            entry_new H e (λ g. Commits g t) m x.0 (subst (Commits e) (fits b (H ++ e ∷ []) (sound-end b H e sd ow) t o is).named c)
+      ])
 
   pub recorded : (H : List Entry) → sound b H → (t : Ts) (o : Standing) → stands b H t ≡ Some o → Recorded b H t o
   recorded H sd t o is =
@@ -125,15 +125,15 @@ module _ (b : Base) where
   listed : (H : List Entry) → sound b H → (t : Ts) (o : Standing) (m : ℕ) → stands b H t ≡ Some o → o.fate ≡ Committed m → Contains (commits b H) (m, o.request)
   listed =
       by_growth b (λ H. (t : Ts) (o : Standing) (m : ℕ) → stands b H t ≡ Some o → o.fate ≡ Committed m → Contains (commits b H) (m, o.request))
-        (λ t o m is f. cc)
-        (λ H e sd ih ow t o m is f. elim (committed_end b H e sd ow t o m is f) [
-          | inl x ↦
-              let old : Contains (commits b H) (m, o.request) = subst (λ q. Contains (commits b H) (m, q)) (sym x.3) (ih t x.0 m x.1 x.2) in
-              subst (λ cs. Contains cs (m, o.request)) (sym (commits-end H e)) (Contains-append_left (commits b H) (commit_of b (state b H) e) (m, o.request) old)
-          | inr x ↦
-              let new : Contains (commits b (H ++ e ∷ [])) (length H, o.request) = subst (λ cs. Contains cs (length H, o.request)) (sym (relisted H e o.request x.1)) (Contains-push (commits b H) (length H, o.request)) in
-              subst (λ k. Contains (commits b (H ++ e ∷ [])) (k, o.request)) (sym x.0) new
-        ])
+      (λ t o m is f. cc)
+      (λ H e sd ih ow t o m is f. elim (committed_end b H e sd ow t o m is f) [
+        | inl x ↦
+            let old : Contains (commits b H) (m, o.request) = subst (λ q. Contains (commits b H) (m, q)) (sym x.3) (ih t x.0 m x.1 x.2) in
+            subst (λ cs. Contains cs (m, o.request)) (sym (commits-end H e)) (Contains-append_left (commits b H) (commit_of b (state b H) e) (m, o.request) old)
+        | inr x ↦
+            let new : Contains (commits b (H ++ e ∷ [])) (length H, o.request) = subst (λ cs. Contains cs (length H, o.request)) (sym (relisted H e o.request x.1)) (Contains-push (commits b H) (length H, o.request)) in
+            subst (λ k. Contains (commits b (H ++ e ∷ [])) (k, o.request)) (sym x.0) new
+      ])
 
   abbrev StandsSo : List Entry → ℕ × Request → Type 0
   StandsSo H c = IsSomeAnd (stands b H c.1.tx) (λ o. (o.request ≡ c.1) × (o.fate ≡ Committed c.0))
@@ -148,20 +148,20 @@ module _ (b : Base) where
   stand : (H : List Entry) → sound b H → (c : ℕ × Request) → Contains (commits b H) c → StandsSo H c
   stand =
       by_growth b (λ H. (c : ℕ × Request) → Contains (commits b H) c → StandsSo H c)
-        (λ c h. let l : h.0 < 0 = h.1 in absurd (omega arith))
-        (λ H e sd ih ow c h. elim (one_more H e) [
-          | inl none ↦ stands_still H e sd ow c (ih c (subst (λ cs. Contains cs c) (unlisted H e none) h))
-          | inr one ↦ elim (Contains-push_cases (commits b H) (length H, one.0) c (subst (λ cs. Contains cs c) (relisted H e one.0 one.1) h)) [
-            | inl old ↦ stands_still H e sd ow c (ih c old)
-            | inr same ↦
-                let n = length-state b H in
-                let here = commit_here b (state b H) e one.0 (placed b H sd) (subst (λ k. commit_of b (state b H) e ≡ (k, one.0) ∷ []) (sym n) one.1) in
-                let P = λ (o : Standing). (o.request ≡ one.0) × (o.fate ≡ Committed (length H)) in
-                let at_end : standing b (state b (H ++ e ∷ [])) one.0.tx ≡ Some here.0 = ap (λ S. standing b S one.0.tx) (state-end b H e) ∙ here.1 in
-                let f : here.0.fate ≡ Committed (length H) = here.3 ∙ ap Committed n in
-                subst (StandsSo (H ++ e ∷ [])) same (is_some_and (stands b (H ++ e ∷ []) one.0.tx) P here.0 at_end (here.2, f))
-          ]
-        ])
+      (λ c h. let l : h.0 < 0 = h.1 in absurd (omega arith))
+      (λ H e sd ih ow c h. elim (one_more H e) [
+        | inl none ↦ stands_still H e sd ow c (ih c (subst (λ cs. Contains cs c) (unlisted H e none) h))
+        | inr one ↦ elim (Contains-push_cases (commits b H) (length H, one.0) c (subst (λ cs. Contains cs c) (relisted H e one.0 one.1) h)) [
+          | inl old ↦ stands_still H e sd ow c (ih c old)
+          | inr same ↦
+              let n = length-state b H in
+              let here = commit_here b (state b H) e one.0 (placed b H sd) (subst (λ k. commit_of b (state b H) e ≡ (k, one.0) ∷ []) (sym n) one.1) in
+              let P = λ (o : Standing). (o.request ≡ one.0) × (o.fate ≡ Committed (length H)) in
+              let at_end : standing b (state b (H ++ e ∷ [])) one.0.tx ≡ Some here.0 = ap (λ S. standing b S one.0.tx) (state-end b H e) ∙ here.1 in
+              let f : here.0.fate ≡ Committed (length H) = here.3 ∙ ap Committed n in
+              subst (StandsSo (H ++ e ∷ [])) same (is_some_and (stands b (H ++ e ∷ []) one.0.tx) P here.0 at_end (here.2, f))
+        ]
+      ])
 
   place_below : (H : List Entry) → sound b H → (c : ℕ × Request) → Contains (commits b H) c → c.0 < length H
   place_below H sd c h =
@@ -171,12 +171,12 @@ module _ (b : Base) where
   rise : (H : List Entry) → sound b H → AllPairs (λ c d. c.0 < d.0) (commits b H)
   rise =
       by_growth b (λ H. AllPairs (λ c d. c.0 < d.0) (commits b H))
-        (λ i j d l h. let k : j < 0 = h in absurd (omega arith))
-        (λ H e sd ih ow. elim (one_more H e) [
-          | inl none ↦ subst (AllPairs (λ c d. c.0 < d.0)) (sym (unlisted H e none)) ih
-          | inr one ↦ subst (AllPairs (λ c d. c.0 < d.0)) (sym (relisted H e one.0 one.1))
-              (all_pairs_push (λ c d. c.0 < d.0) (commits b H) (length H, one.0) ih (λ k d l. place_below H sd (get_or (commits b H) k d) (Contains-get_or (commits b H) k d l)))
-        ])
+      (λ i j d l h. let k : j < 0 = h in absurd (omega arith))
+      (λ H e sd ih ow. elim (one_more H e) [
+        | inl none ↦ subst (AllPairs (λ c d. c.0 < d.0)) (sym (unlisted H e none)) ih
+        | inr one ↦ subst (AllPairs (λ c d. c.0 < d.0)) (sym (relisted H e one.0 one.1))
+            (all_pairs_push (λ c d. c.0 < d.0) (commits b H) (length H, one.0) ih (λ k d l. place_below H sd (get_or (commits b H) k d) (Contains-get_or (commits b H) k d l)))
+      ])
 
   pub commits_listed : (H : List Entry) → sound b H → CommitsListed b H
   commits_listed H sd = record { rise = rise H sd; listed = listed H sd; stand = stand H sd }

@@ -2,16 +2,15 @@
 use Rattle.commit_log.specs.declared.entry.Entry.TheVariants.{Life, One, Prepared, Decided, Finished, Upgraded}
 use Rattle.commit_log.specs.declared.entry.Entry.{Entry}
 use Rattle.commit_log.specs.declared.request.Request.{Request}
-use Rattle.session_outbox.proofs.Growth.{by_growth, kept_by-parts, length-state, owed-end, sound-beginning, sound-end, state-append, state-end}
+use Rattle.session_outbox.proofs.Growth.{by_growth, kept_by-parts, length-state, sound-beginning, state-append, state-end}
 use Rattle.session_outbox.proofs.Steps.{Begun, FateBegun, FateMoves, Kept, LifeBegan, Moved, life_began, moved, onward, origin}
-use Rattle.session_outbox.specs.History.{Base, Fate, Standing, State, Open, Committed, Aborted, CommittedBelow, Lives, commit_of, put, standing, stands, start, state}
+use Rattle.session_outbox.specs.History.{Base, Fate, Standing, State, Open, Committed, Aborted, commit_of, put, standing, stands, start, state}
 use Rattle.session_outbox.specs.Laws.{Asks, FateStays, Stays}
 use Rattle.session_outbox.specs.Sound.{Admits, kept_by, owes, sound}
 use Rattle.std.proofs.Common.{◌≡◌, ◌≤◌, ◌<◌, ℕ, ◌+◌, List, [], ◌∷◌, ◌++◌, length, take, drop, refl, ap, sym, ◌∙◌, subst, arith, inl, inr}
-use Rattle.std.proofs.Math.Seq.{take-append_seam, take-length}
-use Rattle.std.proofs.lemmas.List.{take-append-drop, take-append-le}
+use Rattle.std.proofs.lemmas.List.{take-append-drop}
 use Rattle.std.specs.List.{fold}
-use Rattle.std.specs.Prelude.{◌⊎◌, Option, Some, None}
+use Rattle.std.specs.Prelude.{◌⊎◌, Some, None}
 use Rattle.thor_value.specs.declared.names.Ts.{Ts}
 
 -- ---- one state to the next
@@ -153,7 +152,7 @@ module _ (b : Base) where
   came_end H e s o t w is =
       let is' : standing b (put b (state b H) e) t ≡ Some w = subst (λ S. standing b S t ≡ Some w) (state-end b H e) is in
       subst (λ n. ((stands b H t ≡ None) × Begun e (commit_of b (state b H) e) n t w) ⊎ ((v : Standing) × (stands b H t ≡ Some v) × Kept (commit_of b (state b H) e) n v w)) (length-state b H)
-        (came (state b H) e (placed H s).began o t w is')
+      (came (state b H) e (placed H s).began o t w is')
 
   -- ---- what stays
 

@@ -3,19 +3,18 @@
 use Rattle.commit_log.specs.declared.entry.Entry.{Entry}
 use Rattle.commit_log.specs.declared.request.Request.{Request}
 use Rattle.session_outbox.proofs.Meeting.{bars-behind_upgrade, bars-reads, bars-upgrade, in_order, not_both_ways, not_same, overwrites-reads, three_ways}
-use Rattle.session_outbox.proofs.Places.{FateFits, Fits, sound_take}
+use Rattle.session_outbox.proofs.Places.{FateFits, sound_take}
 use Rattle.session_outbox.proofs.Prefixes.{fits, judged, one_at_a_place, stood}
-use Rattle.session_outbox.specs.History.{Aborted, Base, Committed, CommittedBelow, Fate, IsCommitted, Lives, Open, Standing, objects_at, stands, state}
-use Rattle.session_outbox.specs.Laws.{BesideUpgrade, BothWrote, CreatedOnce, Creates, FateStays, Stays, UpgradesFence, WritersRise}
-use Rattle.session_outbox.specs.Order.{HasOrder, ReadsFrom}
-use Rattle.session_outbox.specs.Requests.{bars, has_created, has_read, has_written, is_upgrade, overwrites}
-use Rattle.session_outbox.specs.Sound.{Accepts, Admits, sound}
-use Rattle.std.proofs.Common.{◌≡◌, ◌≢◌, ◌≤◌, ◌<◌, ℕ, ◌+◌, List, length, take, refl, ap, sym, ◌∙◌, subst, arith, inl, inr, ◌↔◌}
+use Rattle.session_outbox.specs.History.{Aborted, Base, Committed, CommittedBelow, Fate, IsCommitted, Lives, Open, Standing, stands}
+use Rattle.session_outbox.specs.Laws.{BothWrote, CreatedOnce, Creates, FateStays, Stays, UpgradesFence, WritersRise}
+use Rattle.session_outbox.specs.Order.{HasOrder}
+use Rattle.session_outbox.specs.Requests.{bars, has_read, has_written, overwrites}
+use Rattle.session_outbox.specs.Sound.{Accepts, sound}
+use Rattle.std.proofs.Common.{◌≡◌, ◌≢◌, ◌≤◌, ◌<◌, ℕ, List, length, take, refl, ap, sym, ◌∙◌, subst, arith, inl, inr, ◌↔◌}
 use Rattle.std.proofs.lemmas.List.{length-take-le}
 use Rattle.std.proofs.lemmas.Option.{MatchOption-at_some, same_Some}
 use Rattle.std.specs.Bool.{⊤}
-use Rattle.std.specs.Prelude.{◌⊎◌, Bool, IsTrue, Option, Some, None, true, false}
-use Rattle.thor_value.specs.FiniteMap.{get}
+use Rattle.std.specs.Prelude.{Bool, IsTrue, Some, true, false}
 use Rattle.thor_value.specs.Names.{Before}
 use Rattle.thor_value.specs.declared.names.Oref.{Oref}
 use Rattle.thor_value.specs.declared.names.Ts.{Ts}
@@ -80,11 +79,10 @@ module _ (b : Base) (H : List Entry) (sd : sound b H) where
       let both = acc (lives_back v.fate w.fate st.fate lives) in
       let fv = fits b (take o.place H) (sound_take b o.place H sd) s v x.1 in
       let fv' : FateFits v.place o.place v.fate = subst (λ n. FateFits v.place n v.fate) (length-take-le o.place H in_h) fv.fate in
-      let turn = λ (B : Request → Request → Type 0) (h : B o.request w.request). subst (B o.request) st.request h in
-      (
+      let turn = λ (B : Request → Request → Type 0) (h : B o.request w.request). subst (B o.request) st.request h in (
         (λ h. let y = both.0 (turn (λ q r. IsTrue (bars q r)) h) in
             (committed_below v.place o.place v.fate w.fate fv' y.0 st.fate, subst (Before s) fo.named y.1)),
-        (λ h. subst (Before s) fo.named (both.1 (turn (λ q r. IsTrue (overwrites q r)) h)))
+        (λ h. subst (Before s) fo.named (both.1 (turn (λ q r. IsTrue (overwrites q r)) h))),
       )
 
   pub order : HasOrder b H
@@ -135,17 +133,20 @@ module _ (b : Base) (H : List Entry) (sd : sound b H) where
   pub writers_rise : WritersRise b H
   writers_rise = record {
     settled = earlier_settled;
-    rise = λ s t w o x r m n fm fn. (commits_rise s t w o x r m n fm fn, λ l. elim (in_order s t) [
-      | inl e ↦ e
-      | inr h ↦ elim h [
-        | inl same ↦
-            let both : Some w ≡ Some o = sym r.first ∙ subst (λ u. stands b H u ≡ Some o) (sym same) r.second in
-            let one : Committed m ≡ Committed n = sym fm ∙ ap (λ (u : Standing). u.fate) (same_Some w o both) ∙ fn in
-            let e : m ≡ n = cc in
-            absurd (omega arith)
-        | inr e ↦ let k : n < m = commits_rise t s o w x (turned s t w o x r) n m fn fm e in absurd (omega arith)
-      ]
-    ]);
+    rise = λ s t w o x r m n fm fn. (
+      commits_rise s t w o x r m n fm fn,
+      λ l. elim (in_order s t) [
+        | inl e ↦ e
+        | inr h ↦ elim h [
+          | inl same ↦
+              let both : Some w ≡ Some o = sym r.first ∙ subst (λ u. stands b H u ≡ Some o) (sym same) r.second in
+              let one : Committed m ≡ Committed n = sym fm ∙ ap (λ (u : Standing). u.fate) (same_Some w o both) ∙ fn in
+              let e : m ≡ n = cc in
+              absurd (omega arith)
+          | inr e ↦ let k : n < m = commits_rise t s o w x (turned s t w o x r) n m fn fm e in absurd (omega arith)
+        ]
+      ],
+    );
     one_open = λ s t w o x r fw fo. elim (in_order s t) [
       | inl e ↦ absurd (open_uncommitted o.place w.fate fw (earlier_settled s t w o x r e))
       | inr h ↦ elim h [
@@ -173,7 +174,7 @@ module _ (b : Base) (H : List Entry) (sd : sound b H) where
         | inr l ↦ absurd (not_both_ways s t e ((behind s t w o is it lo l).0 bw).1)
       ]
     ]),
-    (λ c. ((behind t s o w it is lw (below_place w.place o.place (length H) w.fate (fits b H sd s w is).fate c)).0 bo).1)
+    (λ c. ((behind t s o w it is lw (below_place w.place o.place (length H) w.fate (fits b H sd s w is).fate c)).0 bo).1),
   )
 
   pub upgrades_fence : UpgradesFence b H

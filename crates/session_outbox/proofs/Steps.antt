@@ -2,15 +2,15 @@
 use Rattle.commit_log.specs.declared.entry.Entry.TheVariants.{Life, One, Prepared, Decided, Finished, Upgraded}
 use Rattle.commit_log.specs.declared.entry.Entry.{Entry}
 use Rattle.commit_log.specs.declared.request.Request.{Request}
-use Rattle.session_outbox.specs.History.{Base, Fate, Standing, State, Open, Committed, Aborted, is_lost, or_lost, lapse, put, start, state, standing, settle, settle_by, commit, commit_by, commit_of, is_open}
+use Rattle.session_outbox.specs.History.{Base, Fate, Standing, State, Open, Committed, Aborted, is_lost, or_lost, lapse, put, standing, settle, settle_by, commit, commit_by, commit_of, is_open}
 use Rattle.session_outbox.specs.Laws.{Asks}
-use Rattle.session_outbox.specs.Sound.{owes, Admits}
-use Rattle.std.proofs.Common.{◌≡◌, ◌≤◌, ◌<◌, ℕ, ◌+◌, refl, ap, sym, ◌∙◌, subst, arith, inl, inr}
+use Rattle.session_outbox.specs.Sound.{owes}
+use Rattle.std.proofs.Common.{◌≡◌, ◌≤◌, ℕ, ◌+◌, refl, ap, sym, ◌∙◌, subst, arith, inl, inr}
 use Rattle.std.proofs.lemmas.Bool.{le-ltb, lt-ltb, ltb-true}
 use Rattle.std.proofs.lemmas.Map.Views.{tells_apart}
 use Rattle.std.specs.Option.{option_map}
 use Rattle.std.specs.Ordering.{eq_by_cmp}
-use Rattle.std.specs.Prelude.{Bool, true, false, cond, ◌&&◌, ◌⊎◌, List, [], ◌∷◌, Option, Some, None, nat_lt, nat_eq}
+use Rattle.std.specs.Prelude.{Bool, true, false, cond, ◌&&◌, ◌⊎◌, List, [], ◌∷◌, Option, Some, None, nat_eq}
 use Rattle.thor_value.proofs.FiniteMap.{get-insert}
 use Rattle.thor_value.proofs.NameOrders.{ts_exact, ts_total}
 use Rattle.thor_value.specs.FiniteMap.{get, insert}
@@ -130,12 +130,12 @@ module _ (b : Base) where
   settled S e u c t =
       let cs = commit_by S c (standing b S u) in
       by_settling (λ T. Moved e cs S.length t (standing b S t) (standing b T t)) S u c (standing b S u)
-        (unmoved e cs S.length t (standing b S t))
-        (λ p is at_first k. inserted S e cs S.length u (record { place = p.place; request = p.request; fate = Committed S.length })
-            (subst (λ o. Moved e cs S.length u o (Some (record { place = p.place; request = p.request; fate = Committed S.length }))) (sym is)
-              (refl, refl, subst (λ f. FateMoves cs S.length p.request f (Committed S.length)) (sym at_first) (refl, commit_is S c (standing b S u) p is at_first k))) t)
-        (λ p is at_first. inserted S e cs S.length u (record p { fate = Aborted })
-            (subst (λ o. Moved e cs S.length u o (Some (record p { fate = Aborted }))) (sym is) (refl, refl, subst (λ f. FateMoves cs S.length p.request f Aborted) (sym at_first) tt)) t)
+      (unmoved e cs S.length t (standing b S t))
+      (λ p is at_first k. inserted S e cs S.length u (record { place = p.place; request = p.request; fate = Committed S.length })
+      (subst (λ o. Moved e cs S.length u o (Some (record { place = p.place; request = p.request; fate = Committed S.length }))) (sym is)
+      (refl, refl, subst (λ f. FateMoves cs S.length p.request f (Committed S.length)) (sym at_first) (refl, commit_is S c (standing b S u) p is at_first k))) t)
+      (λ p is at_first. inserted S e cs S.length u (record p { fate = Aborted })
+      (subst (λ o. Moved e cs S.length u o (Some (record p { fate = Aborted }))) (sym is) (refl, refl, subst (λ f. FateMoves cs S.length p.request f Aborted) (sym at_first) tt)) t)
 
   -- what an entry that owes what it owes does to how each transaction stands
   pub moved : (S : State) (e : Entry) → LifeBegan S → owes b S e → (t : Ts) → Moved e (commit_of b S e) S.length t (standing b S t) (standing b (put b S e) t)
