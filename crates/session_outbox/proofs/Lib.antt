@@ -8,3 +8,4 @@ pub mod Commits
 pub mod LastWrite
 pub mod Listed
 pub mod Final
+pub mod Decided

@@ -78,7 +78,7 @@ and_false false x h = refl
 module _ (b : Base) where
   -- by cases on how t stands: what holds of the state as it is, and of it with t committed or aborted
   -- where t is undecided, holds of the state in which t is settled
-  by_settling : (P : State → Type 0) (S : State) (t : Ts) (c : Bool) (o : Option Standing) → P S
+  pub by_settling : (P : State → Type 0) (S : State) (t : Ts) (c : Bool) (o : Option Standing) → P S
       → ((p : Standing) → o ≡ Some p → p.fate ≡ Open → c ≡ true → P (commit S t p.place p.request))
       → ((p : Standing) → o ≡ Some p → p.fate ≡ Open → P (record S { known = insert S.known t (record p { fate = Aborted }) }))
       → P (settle S t c o)

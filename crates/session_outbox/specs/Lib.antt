@@ -1,3 +1,4 @@
+pub mod Checking
 pub mod Examples
 pub mod History
 pub mod Laws
