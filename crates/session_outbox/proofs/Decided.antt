@@ -3,30 +3,30 @@ use Rattle.commit_log.specs.declared.entry.Entry.TheVariants.{Decided, Finished,
 use Rattle.commit_log.specs.declared.entry.Entry.{Entry}
 use Rattle.commit_log.specs.declared.request.Request.{Request}
 use Rattle.session_outbox.proofs.Steps.{by_settling}
-use Rattle.session_outbox.specs.Checking.{each_known, if_then, is_accepted, is_admitted, is_alone, is_before, is_committed, is_empty, is_kept_by, is_live, is_new, is_owed, is_sound}
-use Rattle.session_outbox.specs.History.{Aborted, Base, Committed, Fate, IsCommitted, Lives, Open, Standing, State, commit, epoch_of, is_undecided, or_lost, put, settle, standing, start, state}
+use Rattle.session_outbox.specs.Checking.{each_known, if_then, is_accepted, is_admitted, is_alone, is_committed, is_empty, is_kept_by, is_live, is_new, is_owed, is_sound}
+use Rattle.session_outbox.specs.History.{Aborted, Base, Committed, Fate, IsCommitted, Lives, Open, Standing, State, epoch_of, is_undecided, or_lost, put, settle, standing, start}
 use Rattle.session_outbox.specs.Requests.{bars, has_created, has_read, has_written, is_upgrade, overwrites, written}
 use Rattle.session_outbox.specs.Sound.{Accepts, Admits, IsAlone, kept_by, owes, sound}
-use Rattle.std.proofs.Common.{List, [], ap, arith, cond, eq-eqb, get_or, inl, inr, length, refl, subst, suc, sym, ℕ, ◌+◌, ◌<◌, ◌≡◌, ◌≢◌, ◌≤◌, ◌∙◌, ◌∷◌}
+use Rattle.std.proofs.Common.{List, [], ap, arith, cond, eq-eqb, inl, inr, length, refl, subst, suc, sym, ℕ, ◌<◌, ◌≡◌, ◌∙◌, ◌∷◌}
 use Rattle.std.proofs.lemmas.Bool.{eqb-true, lt-ltb, ltb-true}
 use Rattle.std.proofs.lemmas.Cmp.{eq_by_cmp_equiv, tied_itself}
 use Rattle.std.proofs.lemmas.Map.Keys.{IsDistinct-from_sorted}
 use Rattle.std.proofs.lemmas.Map.Made.{is_some-lookup}
 use Rattle.std.proofs.lemmas.Map.Views.{lookup-from_Contains, tells_apart}
 use Rattle.std.specs.BTreeMap.{is_at}
-use Rattle.std.specs.Bool.{Decides, ⊤}
+use Rattle.std.specs.Bool.{Decides}
 use Rattle.std.specs.List.{Contains, list_all, list_any}
 use Rattle.std.specs.List.Sorted.{IsStrictlySortedBy}
 use Rattle.std.specs.Map.{lookup}
 use Rattle.std.specs.Option.{IfSome, is_none, option_map}
-use Rattle.std.specs.Ordering.{eq_by_cmp, is_eq, is_lt}
+use Rattle.std.specs.Ordering.{is_eq, is_lt}
 use Rattle.std.specs.Prelude.{Bool, IsTrue, None, Option, Some, false, nat_eq, nat_lt, not, true, ◌&&◌, ◌||◌, ◌⊎◌}
 use Rattle.std.specs.declared.cmp.Ordering.TheVariants.{Equal, Greater, Less}
 use Rattle.std.specs.declared.cmp.Ordering.{Ordering}
 use Rattle.thor_value.proofs.FiniteMap.{IsSorted-insert}
 use Rattle.thor_value.proofs.NameOrders.{oref_exact, oref_total, ts_exact, ts_total}
-use Rattle.thor_value.specs.FiniteMap.{IsSorted, Map, empty, get, has, insert, keys}
-use Rattle.thor_value.specs.Names.{Before, oref_cmp, same_oref, ts_cmp}
+use Rattle.thor_value.specs.FiniteMap.{IsSorted, get, has, keys}
+use Rattle.thor_value.specs.Names.{oref_cmp, same_oref, ts_cmp}
 use Rattle.thor_value.specs.declared.names.Oref.{Oref}
 use Rattle.thor_value.specs.declared.names.Ts.{Ts}
 
@@ -44,7 +44,7 @@ decides_not : {P : Type 0} (x : Bool) → Decides x P → Decides (not x) (¬ P)
 decides_not true p = ((λ e. cc), (λ h. absurd (h (p.0 refl))))
 decides_not false p = ((λ e h. let k = p.1 h in cc), (λ h. refl))
 
-decides_if : {P Q : Type 0} (x y : Bool) → Decides x P → Decides y Q → Decides (if_then x y) (P → Q)
+pub decides_if : {P Q : Type 0} (x y : Bool) → Decides x P → Decides y Q → Decides (if_then x y) (P → Q)
 decides_if true y p q = ((λ e h. q.0 e), (λ f. q.1 (f (p.0 refl))))
 decides_if false y p q = ((λ e h. absurd (let k = p.1 h in cc)), (λ f. refl))
 
@@ -65,7 +65,7 @@ decides_none : {X : Type 0} (o : Option X) → Decides (is_none o) (o ≡ None)
 decides_none None = ((λ e. refl), (λ e. refl))
 decides_none (Some x) = ((λ e. cc), (λ e. cc))
 
-decides_empty : {X : Type 0} (xs : List X) → Decides (is_empty xs) (xs ≡ [])
+pub decides_empty : {X : Type 0} (xs : List X) → Decides (is_empty xs) (xs ≡ [])
 decides_empty [] = ((λ e. refl), (λ e. refl))
 decides_empty (x ∷ xs) = ((λ e. cc), (λ e. cc))
 
@@ -74,7 +74,7 @@ decides_less Less = ((λ e. refl), (λ e. refl))
 decides_less Equal = ((λ e. cc), (λ e. cc))
 decides_less Greater = ((λ e. cc), (λ e. cc))
 
-decides_lives : (f : Fate) → Decides (is_live f) (Lives f)
+pub decides_lives : (f : Fate) → Decides (is_live f) (Lives f)
 decides_lives Open = ((λ e. tt), (λ e. refl))
 decides_lives (Committed at) = ((λ e. tt), (λ e. refl))
 decides_lives Aborted = ((λ e. cc), (λ h. absurd h))
@@ -91,9 +91,9 @@ decides_accepted : (q : Request) (t : Ts) (o : Standing) → Decides (is_accepte
 decides_accepted q t o =
     let before = decides_less (ts_cmp t q.tx) in
     decides_if _ _ (decides_lives o.fate)
-      (decides_and _ _
-        (decides_if _ _ (decides_true (bars q o.request)) (decides_and _ _ (decides_committed o.fate) before))
-        (decides_if _ _ (decides_true (overwrites q o.request)) before))
+    (decides_and _ _
+    (decides_if _ _ (decides_true (bars q o.request)) (decides_and _ _ (decides_committed o.fate) before))
+    (decides_if _ _ (decides_true (overwrites q o.request)) before))
 
 -- ---- what holds of each name, and of each transaction
 
@@ -135,7 +135,7 @@ from_each test (y ∷ ys) h = and_both (test y) (list_all test ys)
 decides_each : (test : Oref → Bool) (P : Oref → Type 0) (ys : List Oref) → ((x : Oref) → Decides (test x) (P x)) → Decides (list_all test ys) ((x : Oref) → IsTrue (list_any (same_oref x) ys) → P x)
 decides_each test P ys d = (
   (λ a x e. (d x).0 (at_each test ys x a e)),
-  (λ h. from_each test ys (λ x e. (d x).1 (h x e)))
+  (λ h. from_each test ys (λ x e. (d x).1 (h x e))),
 )
 
 -- a name among those that q wrote
@@ -145,7 +145,7 @@ written_keys q x = sym (is_some-lookup (is_at (oref_cmp x)) (written q).pairs)
 decides_written : (test : Oref → Bool) (P : Oref → Type 0) (q : Request) → ((x : Oref) → Decides (test x) (P x)) → Decides (list_all test (keys (written q))) ((x : Oref) → IsTrue (has_written q x) → P x)
 decides_written test P q d = through _ (λ h x w. h x (written_keys q x ∙ w)) (λ h x w. h x (sym (written_keys q x) ∙ w)) (decides_each test P (keys (written q)) d)
 
-at_pair : (test : Ts → Standing → Bool) (f : Ts → Standing → Standing) (es : List (Ts × Standing)) → list_all (λ e. test e.0 (f e.0 e.1)) es ≡ true → (t : Ts) → IfSome (option_map (f t) (lookup (is_at (ts_cmp t)) es)) (λ o. test t o ≡ true)
+pub at_pair : (test : Ts → Standing → Bool) (f : Ts → Standing → Standing) (es : List (Ts × Standing)) → list_all (λ e. test e.0 (f e.0 e.1)) es ≡ true → (t : Ts) → IfSome (option_map (f t) (lookup (is_at (ts_cmp t)) es)) (λ o. test t o ≡ true)
 at_pair test f [] a t = tt
 at_pair test f (e ∷ es) a t = by_key (is_at (ts_cmp t) e.0) refl (at_pair test f es p.1 t)
   where
@@ -174,7 +174,7 @@ module _ (b : Base) where
     (λ h. from_pairs (λ e. test e.0 (or_lost b S e.0 e.1)) S.known.pairs (λ e c.
         let here : get S.known e.0 ≡ Some e.1 = lookup-from_Contains (eq_by_cmp_equiv ts_total) e.0 e.1 S.known.pairs (IsDistinct-from_sorted ts_cmp _ sorted) c in
         let p : P e.0 (or_lost b S e.0 e.1) = subst (λ k. IfSome (option_map (or_lost b S e.0) k) (P e.0)) here (h e.0) in
-        (d e.0 (or_lost b S e.0 e.1)).1 p))
+        (d e.0 (or_lost b S e.0 e.1)).1 p)),
   )
 
   IsNew : State → Request → Oref → Type 0
@@ -194,12 +194,12 @@ module _ (b : Base) where
   unfolding Parts
   decides_parts S q sorted =
       decides_and _ _ (decides_and _ _ (decides_and _ _ (decides_and _ _ (decides_and _ _
-        (decides_none (standing b S q.tx))
-        (decides_eq q.epoch (epoch_of S)))
-        (decides_written (has_read q) (λ x. IsTrue (has_read q x)) q (λ x. decides_true (has_read q x))))
-        (decides_each (λ x. nat_eq x.repo b.repo) (λ x. x.repo ≡ b.repo) q.ros (λ x. decides_eq x.repo b.repo)))
-        (decides_written (is_new b S q) (IsNew S q) q (decides_new S q sorted)))
-        (decides_known S (is_accepted q) (Accepts q) sorted (λ t o. decides_accepted q t o))
+      (decides_none (standing b S q.tx))
+      (decides_eq q.epoch (epoch_of S)))
+      (decides_written (has_read q) (λ x. IsTrue (has_read q x)) q (λ x. decides_true (has_read q x))))
+      (decides_each (λ x. nat_eq x.repo b.repo) (λ x. x.repo ≡ b.repo) q.ros (λ x. decides_eq x.repo b.repo)))
+      (decides_written (is_new b S q) (IsNew S q) q (decides_new S q sorted)))
+      (decides_known S (is_accepted q) (Accepts q) sorted (λ t o. decides_accepted q t o))
 
   decides_admitted : (S : State) (q : Request) → IsSorted S.known → Decides (is_admitted b S q) (Admits b S q)
   unfolding Parts IsNew

@@ -9,3 +9,4 @@ pub mod LastWrite
 pub mod Listed
 pub mod Final
 pub mod Decided
+pub mod Mended

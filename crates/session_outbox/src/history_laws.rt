@@ -4,10 +4,12 @@
 
 ghost use Rattle.commit_log.specs.declared.entry.Entry.TheVariants.{Life};
 ghost use Rattle.commit_log.specs.declared.entry.Entry.{Entry};
+ghost use Rattle.session_outbox.specs.Checking.{is_sound};
 ghost use Rattle.session_outbox.specs.History.{Base, Standing, Open, commit_of, commits, last_write, objects_at, put, stands, state, writers};
 ghost use Rattle.session_outbox.specs.Laws.{CommitsListed, CreatedOnce, ReadsLast, Recorded, Stays, UpgradesFence, WritersRise};
 ghost use Rattle.session_outbox.specs.Order.{HasOrder};
 ghost use Rattle.session_outbox.specs.Sound.{owes, sound};
+ghost use Rattle.std.specs.Bool.{Decides};
 ghost use Rattle.std.specs.Option.{IfSome, IsSomeAnd};
 ghost use Rattle.std.specs.Prelude.{List, [], ◌∷◌, ◌++◌, ℕ, ◌≡◌, ◌≢◌, ◌<◌, ◌≤◌, length, take};
 ghost use Rattle.thor_value.specs.FiniteMap.{get};
@@ -27,6 +29,11 @@ pub fn sound_histories_grow()
     ensures beginning { (b : Base) (H more : List Entry) → sound b (H ++ more) → sound b H }
     ensures owed { (b : Base) (H : List Entry) (e : Entry) → sound b (H ++ e ∷ []) → owes b (state b H) e }
     ensures grown { (b : Base) (H : List Entry) (e : Entry) → sound b H → owes b (state b H) e → sound b (H ++ e ∷ []) }
+{}
+
+/// The test of a history decides whether it is sound.
+pub fn histories_are_checked()
+    ensures { (b : Base) (H : List Entry) → Decides (is_sound b H) (sound b H) }
 {}
 
 /// A transaction that stands in a history stands in each longer one: its request keeps its place, and

@@ -3,14 +3,19 @@
 //! messages to sessions, and the port through which clients reach repositories.
 #![tactic(auto)]
 
+mod history_examples;
 mod history_laws;
 mod mark;
 mod refusal;
 
+pub use history_examples::{
+    mended_example, sound_examples, standing_examples, trace_example, unsound_examples,
+    value_examples,
+};
 pub use history_laws::{
-    created_objects_are_new, histories_grow, objects_are_last_writes, outcomes_are_final,
-    reads_are_last_writes, requests_are_recorded, sound_histories_grow, sound_histories_have_order,
-    upgrades_fence, writers_rise,
+    created_objects_are_new, histories_are_checked, histories_grow, objects_are_last_writes,
+    outcomes_are_final, reads_are_last_writes, requests_are_recorded, sound_histories_grow,
+    sound_histories_have_order, upgrades_fence, writers_rise,
 };
 pub use mark::Mark;
 pub use refusal::Refusal;
