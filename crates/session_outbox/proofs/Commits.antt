@@ -3,8 +3,9 @@ use Rattle.commit_log.specs.declared.entry.Entry.TheVariants.{Life, One, Prepare
 use Rattle.commit_log.specs.declared.entry.Entry.{Entry}
 use Rattle.commit_log.specs.declared.request.Request.{Request}
 use Rattle.session_outbox.specs.History.{Aborted, Base, Committed, Fate, Open, Standing, State, commit_by, commit_of, commits, commits_from, is_open, last_write, put, settle, settle_by, standing, start, state, writers}
-use Rattle.session_outbox.specs.Requests.{has_written, written}
-use Rattle.std.proofs.Common.{◌≡◌, ℕ, List, [], ◌∷◌, refl, ap, sym, ◌∙◌}
+use Rattle.session_outbox.specs.Laws.{MadeByCommits, with_stamps, with_texts, with_writes}
+use Rattle.session_outbox.specs.Requests.{has_written, text_of, written}
+use Rattle.std.proofs.Common.{◌++◌, ◌≡◌, ℕ, List, [], ◌∷◌, refl, ap, sym, ◌∙◌}
 use Rattle.std.proofs.lemmas.List.Sums.{fold-append}
 use Rattle.std.specs.List.{filter, fold}
 use Rattle.std.specs.Option.{option_or}
@@ -13,16 +14,12 @@ use Rattle.std.specs.Prelude.{Bool, None, Option, Some, cond, false, is_some, tr
 use Rattle.thor_value.proofs.FiniteMap.{get-insert}
 use Rattle.thor_value.proofs.NameOrders.{oref_total}
 use Rattle.thor_value.specs.FiniteMap.{Map, empty, get, insert, overwrite}
-use Rattle.thor_value.specs.Names.{oref_cmp}
+use Rattle.thor_value.specs.Names.{later_of, oref_cmp}
 use Rattle.thor_value.specs.declared.names.Oref.{Oref}
 use Rattle.thor_value.specs.declared.names.Ts.{Ts}
 use Rattle.thor_value.specs.declared.values.Obj.{Obj}
 
 -- ---- the objects
-
--- the objects with what these commits wrote
-abbrev pub with_commits : Map oref_cmp Obj → List (ℕ × Request) → Map oref_cmp Obj
-with_commits m cs = fold (λ n c. overwrite n c.1.writes) m cs
 
 -- what stands at x, in a map that has what another has there, or else d
 overwritten : (x : Oref) (d : Option Obj) (m n : Map oref_cmp Obj) (kvs : List (Oref × Obj)) → get m x ≡ option_or (get n x) d → get (overwrite m kvs) x ≡ option_or (get (overwrite n kvs) x) d
@@ -45,43 +42,58 @@ filtered : (x : Oref) (d : Option Obj) (c : ℕ × Request) (F : List (ℕ × Re
 filtered x d c F None h = refl
 filtered x d c F (Some v) h = ap (λ o. last_write x o F) (sym h)
 
-get-with_commits : (x : Oref) (m : Map oref_cmp Obj) (cs : List (ℕ × Request)) → get (with_commits m cs) x ≡ last_write x (get m x) (filter (λ c. has_written c.1 x) cs)
-get-with_commits x m [] = refl
-get-with_commits x m (c ∷ cs) =
+get-with_writes : (x : Oref) (m : Map oref_cmp Obj) (cs : List (ℕ × Request)) → get (with_writes m cs) x ≡ last_write x (get m x) (filter (λ c. has_written c.1 x) cs)
+get-with_writes x m [] = refl
+get-with_writes x m (c ∷ cs) =
     let F = filter (λ (d : ℕ × Request). has_written d.1 x) cs in
-    get-with_commits x (overwrite m c.1.writes) cs
+    get-with_writes x (overwrite m c.1.writes) cs
     ∙ ap (λ o. last_write x o F) (get-overwrite x m c.1)
     ∙ filtered x (get m x) c F (get (written c.1) x) refl
 
+-- T is S with these commits, as to objects, texts and the greatest timestamp
+abbrev Made : State → List (ℕ × Request) → State → Type 0
+Made S cs T = (T.objects ≡ with_writes S.objects cs) × (T.texts ≡ with_texts S.texts cs) × (T.top ≡ with_stamps S.top cs)
+
 module _ (b : Base) where
-  by_settle : (S : State) (t : Ts) (c : Bool) (o : Option Standing) → (settle S t c o).objects ≡ with_commits S.objects (commit_by S c o)
-  by_settle S t c None = refl
+  by_settle : (S : State) (t : Ts) (c : Bool) (o : Option Standing) → Made S (commit_by S c o) (settle S t c o)
+  by_settle S t c None = (refl, refl, refl)
   by_settle S t c (Some p) = by_fate p.fate c
     where
-      by_fate : (f : Fate) (d : Bool) → (settle_by S t d p f).objects ≡ with_commits S.objects (cond (d && is_open f) ((S.length, p.request) ∷ []) [])
-      by_fate Open true = refl
-      by_fate Open false = refl
-      by_fate (Committed a) true = refl
-      by_fate (Committed a) false = refl
-      by_fate Aborted true = refl
-      by_fate Aborted false = refl
+      by_fate : (f : Fate) (d : Bool) → Made S (cond (d && is_open f) ((S.length, p.request) ∷ []) []) (settle_by S t d p f)
+      by_fate Open true = (refl, refl, refl)
+      by_fate Open false = (refl, refl, refl)
+      by_fate (Committed a) true = (refl, refl, refl)
+      by_fate (Committed a) false = (refl, refl, refl)
+      by_fate Aborted true = (refl, refl, refl)
+      by_fate Aborted false = (refl, refl, refl)
 
-  -- one entry changes the objects by the commit that it is
-  pub objects-put : (S : State) (e : Entry) → (put b S e).objects ≡ with_commits S.objects (commit_of b S e)
-  objects-put S (Life n) = refl
-  objects-put S (One q) = refl
-  objects-put S (Prepared q) = refl
-  objects-put S (Upgraded q) = refl
-  objects-put S (Decided t c) = by_settle S t c (standing b S t)
-  objects-put S (Finished t c) = by_settle S t c (standing b S t)
+  -- one entry changes them by the commit that it is
+  made : (S : State) (e : Entry) → Made S (commit_of b S e) (put b S e)
+  made S (Life n) = (refl, refl, refl)
+  made S (One q) = (refl, refl, refl)
+  made S (Prepared q) = (refl, refl, refl)
+  made S (Upgraded q) = (refl, refl, refl)
+  made S (Decided t c) = by_settle S t c (standing b S t)
+  made S (Finished t c) = by_settle S t c (standing b S t)
 
-  objects_from : (S : State) (H : List Entry) → (fold (put b) S H).objects ≡ with_commits S.objects (commits_from b S H)
-  objects_from S [] = refl
-  objects_from S (e ∷ H) =
-      objects_from (put b S e) H
-      ∙ ap (λ m. with_commits m (commits_from b (put b S e) H)) (objects-put S e)
-      ∙ sym (fold-append (λ (n : Map oref_cmp Obj) (c : ℕ × Request). overwrite n c.1.writes) S.objects (commit_of b S e) (commits_from b (put b S e) H))
+  pub objects-put : (S : State) (e : Entry) → (put b S e).objects ≡ with_writes S.objects (commit_of b S e)
+  objects-put S e = (made S e).0
 
-  -- an object is what the last of its writers wrote, or else what the base has
-  pub last_written : (H : List Entry) (x : Oref) → get (state b H).objects x ≡ last_write x (get b.objects x) (writers b H x)
-  last_written H x = ap (λ (m : Map oref_cmp Obj). get m x) (objects_from (start b) H) ∙ get-with_commits x b.objects (commits b H)
+  -- what each entry changes by its commit is changed by all commits
+  by_commits : {A : Type 0} (field : State → A) (act : A → ℕ × Request → A) → ((S : State) (e : Entry) → field (put b S e) ≡ fold act (field S) (commit_of b S e))
+      → (S : State) (H : List Entry) → field (fold (put b) S H) ≡ fold act (field S) (commits_from b S H)
+  by_commits field act one S [] = refl
+  by_commits field act one S (e ∷ H) =
+      by_commits field act one (put b S e) H
+      ∙ ap (λ a. fold act a (commits_from b (put b S e) H)) (one S e)
+      ∙ sym (fold-append act (field S) (commit_of b S e) (commits_from b (put b S e) H))
+
+  pub made_by_commits : (H : List Entry) → MadeByCommits b H
+  made_by_commits H =
+      let objects : (state b H).objects ≡ with_writes b.objects (commits b H) = by_commits (λ S. S.objects) (λ n c. overwrite n c.1.writes) (λ S e. (made S e).0) (start b) H in
+      record {
+        objects = objects;
+        texts = by_commits (λ S. S.texts) (λ us c. us ++ text_of c.1.kind) (λ S e. (made S e).1) (start b) H;
+        top = by_commits (λ S. S.top) (λ u c. later_of u c.1.tx) (λ S e. (made S e).2) (start b) H;
+        last = λ x. ap (λ (m : Map oref_cmp Obj). get m x) objects ∙ get-with_writes x b.objects (commits b H);
+      }

@@ -2,7 +2,7 @@
 use Rattle.commit_log.specs.declared.entry.Entry.TheVariants.{Life, One, Prepared, Decided, Finished, Upgraded}
 use Rattle.commit_log.specs.declared.entry.Entry.{Entry}
 use Rattle.commit_log.specs.declared.request.Request.{Request}
-use Rattle.session_outbox.proofs.Commits.{get-overwrite, objects-put, with_commits}
+use Rattle.session_outbox.proofs.Commits.{get-overwrite, objects-put}
 use Rattle.session_outbox.proofs.Growth.{by_growth, length-state, sound-end, state-end}
 use Rattle.session_outbox.proofs.Meeting.{in_order}
 use Rattle.session_outbox.proofs.Places.{FateFits, Fits, Placed, came_end, placed, sound_take, stays}
@@ -10,7 +10,7 @@ use Rattle.session_outbox.proofs.Prefixes.{fits, le_cases}
 use Rattle.session_outbox.proofs.Serial.{below_place, committed_at, committed_lives, order, writers_rise}
 use Rattle.session_outbox.proofs.Steps.{FateBegun, FateMoves}
 use Rattle.session_outbox.specs.History.{Aborted, Base, Committed, CommittedBelow, Fate, Open, Standing, State, commit, commit_by, commit_of, is_open, or_lost, put, settle, settle_by, standing, stands, state}
-use Rattle.session_outbox.specs.Laws.{BothWrote, FateStays, ReadsLast, Stays}
+use Rattle.session_outbox.specs.Laws.{BothWrote, FateStays, ReadsLast, Stays, with_writes}
 use Rattle.session_outbox.specs.Requests.{has_written, written}
 use Rattle.session_outbox.specs.Sound.{owes, sound}
 use Rattle.std.proofs.Common.{◌≡◌, ◌≤◌, ◌<◌, ℕ, List, [], ◌∷◌, ◌++◌, length, take, drop, refl, ap, sym, ◌∙◌, subst, arith, inl, inr}
@@ -189,7 +189,7 @@ module _ (b : Base) where
   abbrev Source : List Entry → Oref → Type 0
   Source H x = Untouched H x ⊎ ((s : Ts) × (w : Standing) × (at : ℕ) × From H x s w at)
 
-  object_end : (H : List Entry) (e : Entry) (x : Oref) → get (state b (H ++ e ∷ [])).objects x ≡ get (with_commits (state b H).objects (commit_of b (state b H) e)) x
+  object_end : (H : List Entry) (e : Entry) (x : Oref) → get (state b (H ++ e ∷ [])).objects x ≡ get (with_writes (state b H).objects (commit_of b (state b H) e)) x
   object_end H e x = ap (λ (S : State). get S.objects x) (state-end b H e) ∙ ap (λ (m : Map oref_cmp Obj). get m x) (objects-put b (state b H) e)
 
   -- an entry that doesn't write x leaves where it comes from
@@ -237,7 +237,7 @@ module _ (b : Base) where
           wrote = subst (λ r. IsTrue (has_written r x)) (sym here'.2) wrote;
           value =
               object_end H e x
-              ∙ ap (λ cs. get (with_commits (state b H).objects cs) x) is
+              ∙ ap (λ cs. get (with_writes (state b H).objects cs) x) is
               ∙ get-overwrite x (state b H).objects q
               ∙ or_new (get (written q) x) _ wrote
               ∙ ap (λ r. get (written r) x) (sym here'.2);
@@ -253,14 +253,14 @@ module _ (b : Base) where
   by_write H e x q sd ow is old false w =
       carried H e x sd ow
       (λ r k. subst (λ s. has_written s x ≡ false) (one_commit (length H) q r (sym is ∙ k)) w)
-      (object_end H e x ∙ ap (λ cs. get (with_commits (state b H).objects cs) x) is ∙ get-overwrite x (state b H).objects q ∙ or_old (get (written q) x) _ w)
+      (object_end H e x ∙ ap (λ cs. get (with_writes (state b H).objects cs) x) is ∙ get-overwrite x (state b H).objects q ∙ or_old (get (written q) x) _ w)
       old
 
   source : (x : Oref) (H : List Entry) → sound b H → Source H x
   source x =
       by_growth b (λ H. Source H x) (inl (record { none = λ s w m is f wrote. cc; value = refl }))
       (λ H e sd ih ow. elim (commit_shape (state b H) e) [
-        | inl none ↦ carried H e x sd ow (λ q k. no_commit (commit_of b (state b H) e) (length H, q) none k) (object_end H e x ∙ ap (λ cs. get (with_commits (state b H).objects cs) x) none) ih
+        | inl none ↦ carried H e x sd ow (λ q k. no_commit (commit_of b (state b H) e) (length H, q) none k) (object_end H e x ∙ ap (λ cs. get (with_writes (state b H).objects cs) x) none) ih
         | inr one ↦ by_write H e x one.0 sd ow (subst (λ k. commit_of b (state b H) e ≡ (k, one.0) ∷ []) (length-state b H) one.1) ih (has_written one.0 x) refl
       ])
 

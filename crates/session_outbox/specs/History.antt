@@ -142,7 +142,7 @@ abbrev pub commit : State → Ts → ℕ → Request → State
 commit S t p q = record S {
   objects = overwrite S.objects q.writes;
   known = insert S.known t (record { place = p; request = q; fate = Committed S.length });
-  top = later_of S.top t;
+  top = later_of S.top q.tx;
   texts = S.texts ++ text_of q.kind;
 }
 

@@ -3,16 +3,17 @@
 use Rattle.commit_log.specs.declared.entry.Entry.TheVariants.{Decided, Finished, Life, One, Prepared, Upgraded}
 use Rattle.commit_log.specs.declared.entry.Entry.{Entry}
 use Rattle.commit_log.specs.declared.request.Request.{Request}
-use Rattle.session_outbox.specs.History.{Aborted, Base, Committed, CommittedBelow, Fate, IsCommitted, Lives, Open, Standing, commits, objects_at, stands, state}
-use Rattle.session_outbox.specs.Requests.{has_created, has_read, has_written, is_upgrade, written}
+use Rattle.session_outbox.specs.History.{Aborted, Base, Committed, CommittedBelow, Fate, IsCommitted, Lives, Open, Standing, commits, last_write, objects_at, stands, state, writers}
+use Rattle.session_outbox.specs.Requests.{has_created, has_read, has_written, is_upgrade, text_of, written}
 use Rattle.session_outbox.specs.Sound.{Admits}
-use Rattle.std.specs.List.{AllPairs, Contains, slice_get}
+use Rattle.std.specs.List.{AllPairs, Contains, fold, slice_get}
 use Rattle.std.specs.Option.{IsSomeAnd}
-use Rattle.std.specs.Prelude.{IsTrue, List, None, Some, false, length, take, true, ℕ, ◌<◌, ◌≡◌, ◌≢◌, ◌≤◌, ◌↔◌, ◌⊎◌}
-use Rattle.thor_value.specs.FiniteMap.{get}
-use Rattle.thor_value.specs.Names.{Before}
+use Rattle.std.specs.Prelude.{IsTrue, List, None, Some, false, length, take, true, ℕ, ◌++◌, ◌<◌, ◌≡◌, ◌≢◌, ◌≤◌, ◌↔◌, ◌⊎◌}
+use Rattle.thor_value.specs.FiniteMap.{Map, get, overwrite}
+use Rattle.thor_value.specs.Names.{Before, later_of, oref_cmp}
 use Rattle.thor_value.specs.declared.names.Oref.{Oref}
 use Rattle.thor_value.specs.declared.names.Ts.{Ts}
+use Rattle.thor_value.specs.declared.values.Obj.{Obj}
 
 -- A fate becomes another: an undecided one may become any, and the others stay.
 abbrev pub FateStays : Fate → Fate → Type 0
@@ -65,6 +66,25 @@ pub record CommitsListed (b : Base) (H : List Entry) : Type 0 where
   pub rise : AllPairs (λ c d. c.0 < d.0) (commits b H)
   pub listed : (t : Ts) (o : Standing) (m : ℕ) → stands b H t ≡ Some o → o.fate ≡ Committed m → Contains (commits b H) (m, o.request)
   pub stand : (c : ℕ × Request) → Contains (commits b H) c → IsSomeAnd (stands b H c.1.tx) (λ o. (o.request ≡ c.1) × (o.fate ≡ Committed c.0))
+
+-- a list of commits, applied to objects, to the texts of upgrades, and to the greatest timestamp
+abbrev pub with_writes : Map oref_cmp Obj → List (ℕ × Request) → Map oref_cmp Obj
+with_writes m cs = fold (λ n c. overwrite n c.1.writes) m cs
+
+abbrev pub with_texts : List (List ℕ) → List (ℕ × Request) → List (List ℕ)
+with_texts ts cs = fold (λ us c. us ++ text_of c.1.kind) ts cs
+
+abbrev pub with_stamps : Ts → List (ℕ × Request) → Ts
+with_stamps t cs = fold (λ u c. later_of u c.1.tx) t cs
+
+-- The objects, the installed upgrades and the greatest committed timestamp are the base's with the
+-- commits, in order.
+pub record MadeByCommits (b : Base) (H : List Entry) : Type 0 where
+  pub objects : (state b H).objects ≡ with_writes b.objects (commits b H)
+  pub texts : (state b H).texts ≡ with_texts b.texts (commits b H)
+  pub top : (state b H).top ≡ with_stamps b.top (commits b H)
+  -- an object is what the last of its writers wrote, or what the base has
+  pub last : (x : Oref) → get (state b H).objects x ≡ last_write x (get b.objects x) (writers b H x)
 
 -- What t reads of x where it stands in H as o and isn't aborted: of the other transactions that wrote
 -- x, those that committed below its request are those before it by timestamp, and the object is as

@@ -5,15 +5,13 @@
 ghost use Rattle.commit_log.specs.declared.entry.Entry.TheVariants.{Life};
 ghost use Rattle.commit_log.specs.declared.entry.Entry.{Entry};
 ghost use Rattle.session_outbox.specs.Checking.{is_sound};
-ghost use Rattle.session_outbox.specs.History.{Base, Standing, Open, commit_of, commits, last_write, objects_at, put, stands, state, writers};
-ghost use Rattle.session_outbox.specs.Laws.{CommitsListed, CreatedOnce, ReadsLast, Recorded, Stays, UpgradesFence, WritersRise};
+ghost use Rattle.session_outbox.specs.History.{Base, Standing, Open, commit_of, commits, objects_at, put, stands, state};
+ghost use Rattle.session_outbox.specs.Laws.{CommitsListed, CreatedOnce, MadeByCommits, ReadsLast, Recorded, Stays, UpgradesFence, WritersRise};
 ghost use Rattle.session_outbox.specs.Order.{HasOrder};
 ghost use Rattle.session_outbox.specs.Sound.{owes, sound};
 ghost use Rattle.std.specs.Bool.{Decides};
 ghost use Rattle.std.specs.Option.{IfSome, IsSomeAnd};
 ghost use Rattle.std.specs.Prelude.{List, [], ◌∷◌, ◌++◌, ℕ, ◌≡◌, ◌≢◌, ◌<◌, ◌≤◌, length, take};
-ghost use Rattle.thor_value.specs.FiniteMap.{get};
-ghost use Rattle.thor_value.specs.declared.names.Oref.{Oref};
 ghost use Rattle.thor_value.specs.declared.names.Ts.{Ts};
 
 /// A history grows at its end, by one step of the fold, and what it was at a place stays.
@@ -53,10 +51,11 @@ pub fn requests_are_recorded()
     ensures commits { (b : Base) (H : List Entry) → sound b H → CommitsListed b H }
 {}
 
-/// An object is as the last of its writers left it, or else as the base has it. The writers are the
-/// commits that wrote it, by their places, so the value at a place is that of the history below it.
-pub fn objects_are_last_writes()
-    ensures { (b : Base) (H : List Entry) (x : Oref) → get (state b H).objects x ≡ last_write x (get b.objects x) (writers b H x) }
+/// The objects, the installed upgrades and the greatest committed timestamp are the base's with the
+/// commits, by their places. An object is as the last of its writers left it, or else as the base has
+/// it; so its value at a place is that of the last commit below that wrote it.
+pub fn commits_make_the_state()
+    ensures { (b : Base) (H : List Entry) → MadeByCommits b H }
 {}
 
 /// Writers of one object come in the same order by place and by timestamp. At most one of them is

@@ -13,7 +13,7 @@ pub use history_examples::{
     value_examples,
 };
 pub use history_laws::{
-    created_objects_are_new, histories_are_checked, histories_grow, objects_are_last_writes,
+    commits_make_the_state, created_objects_are_new, histories_are_checked, histories_grow,
     outcomes_are_final, reads_are_last_writes, requests_are_recorded, sound_histories_grow,
     sound_histories_have_order, upgrades_fence, writers_rise,
 };
