@@ -47,11 +47,23 @@ impl TryCopy for Entry {
     fn copy(&self) -> Result<Entry, NoMemory> {
         match self {
             Entry::Life { life } => Ok(Entry::Life { life: *life }),
-            Entry::One { request } => Ok(Entry::One { request: request.copy()? }),
-            Entry::Prepared { request } => Ok(Entry::Prepared { request: request.copy()? }),
-            Entry::Decided { tx, commit } => Ok(Entry::Decided { tx: *tx, commit: *commit }),
-            Entry::Finished { tx, commit } => Ok(Entry::Finished { tx: *tx, commit: *commit }),
-            Entry::Upgraded { request } => Ok(Entry::Upgraded { request: request.copy()? }),
+            Entry::One { request } => Ok(Entry::One {
+                request: request.copy()?,
+            }),
+            Entry::Prepared { request } => Ok(Entry::Prepared {
+                request: request.copy()?,
+            }),
+            Entry::Decided { tx, commit } => Ok(Entry::Decided {
+                tx: *tx,
+                commit: *commit,
+            }),
+            Entry::Finished { tx, commit } => Ok(Entry::Finished {
+                tx: *tx,
+                commit: *commit,
+            }),
+            Entry::Upgraded { request } => Ok(Entry::Upgraded {
+                request: request.copy()?,
+            }),
         }
     }
 }

@@ -4,6 +4,8 @@
 
 mod entry;
 mod request;
+#[cfg(test)]
+mod tests;
 
 pub use entry::Entry;
 pub use request::{Kind, Request};

@@ -10,3 +10,4 @@ pub mod Listed
 pub mod Final
 pub mod Decided
 pub mod Mended
+pub mod Traces

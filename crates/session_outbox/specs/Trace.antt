@@ -3,15 +3,15 @@
 use Rattle.commit_log.specs.declared.entry.Entry.{Entry}
 use Rattle.session_outbox.specs.declared.mark.Mark.TheVariants as the
 use Rattle.session_outbox.specs.declared.mark.Mark.{Mark}
-use Rattle.std.specs.List.{slice_get}
-use Rattle.std.specs.Prelude.{List, [], ◌∷◌, ◌++◌, Option, Some, None}
+use Rattle.std.specs.List.{range_with_len, slice_get}
+use Rattle.std.specs.Prelude.{List, [], ◌∷◌, ◌++◌, Option, Some, None, length, ℕ, ◌≡◌}
 
 -- One item of a trace: an entry, or a mark. (A mark of an item is none of an entry's.)
 pub data Item : Type 0 where
   E : Entry → Item
   M : Mark → Item
 
-abbrev item_at : Option Entry → List Item
+abbrev pub item_at : Option Entry → List Item
 item_at None = []
 item_at (Some e) = E e ∷ []
 
@@ -20,12 +20,12 @@ abbrev pub item_of : List Entry → Mark → List Item
 item_of H (the.Entry place) = item_at (slice_get H place)
 item_of H m = M m ∷ []
 
--- the trace that a history and the marks beside it stand for
+-- The trace that a history and the marks beside it stand for. No other definition looks at the pair
 abbrev pub items : List Entry → List Mark → List Item
 items H [] = []
 items H (m ∷ ms) = item_of H m ++ items H ms
 
-abbrev entry_of : Item → List Entry
+abbrev pub entry_of : Item → List Entry
 entry_of (E e) = e ∷ []
 entry_of (M m) = []
 
@@ -33,3 +33,13 @@ entry_of (M m) = []
 abbrev pub entries : List Item → List Entry
 entries [] = []
 entries (i ∷ is) = entry_of i ++ entries is
+
+-- the places that the marks name, in order
+abbrev pub places : List Mark → List ℕ
+places [] = []
+places (the.Entry place ∷ ms) = place ∷ places ms
+places (m ∷ ms) = places ms
+
+-- the marks name each place of H once, in order
+abbrev pub IsTrace : List Entry → List Mark → Type 0
+IsTrace H ms = places ms ≡ range_with_len 0 (length H)

@@ -18,15 +18,18 @@ ghost use Rattle.thor_value.specs.declared.names.Ts.{Ts};
 pub fn histories_grow()
     ensures step { (b : Base) (H : List Entry) (e : Entry) → state b (H ++ e ∷ []) ≡ put b (state b H) e }
     ensures places { (b : Base) (H : List Entry) → (state b H).length ≡ length H }
-    ensures objects { (b : Base) (n : ℕ) (H more : List Entry) → n ≤ length H → objects_at b (H ++ more) n ≡ objects_at b H n }
-    ensures commits { (b : Base) (H : List Entry) (e : Entry) → commits b (H ++ e ∷ []) ≡ commits b H ++ commit_of b (state b H) e }
+    ensures objects { (b : Base) (n : ℕ) (H more : List Entry) → n ≤ length H →
+        objects_at b (H ++ more) n ≡ objects_at b H n }
+    ensures commits { (b : Base) (H : List Entry) (e : Entry) →
+        commits b (H ++ e ∷ []) ≡ commits b H ++ commit_of b (state b H) e }
 {}
 
 /// A history is sound where its beginning is and each further entry owes what it owes.
 pub fn sound_histories_grow()
     ensures beginning { (b : Base) (H more : List Entry) → sound b (H ++ more) → sound b H }
     ensures owed { (b : Base) (H : List Entry) (e : Entry) → sound b (H ++ e ∷ []) → owes b (state b H) e }
-    ensures grown { (b : Base) (H : List Entry) (e : Entry) → sound b H → owes b (state b H) e → sound b (H ++ e ∷ []) }
+    ensures grown { (b : Base) (H : List Entry) (e : Entry) → sound b H → owes b (state b H) e →
+        sound b (H ++ e ∷ []) }
 {}
 
 /// The test of a history decides whether it is sound.
@@ -38,16 +41,23 @@ pub fn histories_are_checked()
 /// a commit and an abort are final. It stood in the history below each place behind its own. A Life
 /// leaves none undecided that this repository coordinates.
 pub fn outcomes_are_final()
-    ensures stays { (b : Base) (H more : List Entry) → sound b (H ++ more) → (t : Ts) → IfSome (stands b H t) (λ o. IsSomeAnd (stands b (H ++ more) t) (λ w. Stays o w)) }
-    ensures stood { (b : Base) (H : List Entry) → sound b H → (n : ℕ) → n ≤ length H → (t : Ts) (w : Standing) → stands b H t ≡ Some w → w.place < n → IsSomeAnd (stands b (take n H) t) (λ o. Stays o w) }
-    ensures life { (b : Base) (H : List Entry) (n : ℕ) → sound b (H ++ Life n ∷ []) → (t : Ts) (o : Standing) → stands b (H ++ Life n ∷ []) t ≡ Some o → t.repo ≡ b.repo → o.fate ≢ Open }
+    ensures stays { (b : Base) (H more : List Entry) → sound b (H ++ more) → (t : Ts) →
+        IfSome (stands b H t) (λ o. IsSomeAnd (stands b (H ++ more) t) (λ w. Stays o w)) }
+    ensures stood { (b : Base) (H : List Entry) → sound b H → (n : ℕ) → n ≤ length H →
+        (t : Ts) (w : Standing) → stands b H t ≡ Some w → w.place < n →
+        IsSomeAnd (stands b (take n H) t) (λ o. Stays o w) }
+    ensures life { (b : Base) (H : List Entry) (n : ℕ) → sound b (H ++ Life n ∷ []) →
+        (t : Ts) (o : Standing) → stands b (H ++ Life n ∷ []) t ≡ Some o → t.repo ≡ b.repo →
+        o.fate ≢ Open }
 {}
 
 /// A transaction's request is the entry at its place and owed what it owed to the history below; two
 /// transactions stand at two places; the commits are those of the transactions that stand committed.
 pub fn requests_are_recorded()
-    ensures recorded { (b : Base) (H : List Entry) → sound b H → (t : Ts) (o : Standing) → stands b H t ≡ Some o → Recorded b H t o }
-    ensures apart { (b : Base) (H : List Entry) → sound b H → (s t : Ts) (o w : Standing) → stands b H s ≡ Some o → stands b H t ≡ Some w → o.place ≡ w.place → s ≡ t }
+    ensures recorded { (b : Base) (H : List Entry) → sound b H → (t : Ts) (o : Standing) →
+        stands b H t ≡ Some o → Recorded b H t o }
+    ensures apart { (b : Base) (H : List Entry) → sound b H → (s t : Ts) (o w : Standing) →
+        stands b H s ≡ Some o → stands b H t ≡ Some w → o.place ≡ w.place → s ≡ t }
     ensures commits { (b : Base) (H : List Entry) → sound b H → CommitsListed b H }
 {}
 

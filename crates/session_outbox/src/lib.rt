@@ -7,6 +7,7 @@ mod history_examples;
 mod history_laws;
 mod mark;
 mod refusal;
+mod trace_laws;
 
 pub use history_examples::{
     mended_example, sound_examples, standing_examples, trace_example, unsound_examples,
@@ -19,3 +20,4 @@ pub use history_laws::{
 };
 pub use mark::Mark;
 pub use refusal::Refusal;
+pub use trace_laws::traces_grow;

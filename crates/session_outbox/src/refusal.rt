@@ -1,5 +1,8 @@
 //! Why a repository refuses a call.
 
+ghost use Rattle.std.specs.Prelude.{◌≡◌};
+ghost use Rattle.session_outbox.specs.declared.refusal.Refusal.TheVariants as refused;
+
 use thor_value::{NoMemory, Oref, Ts};
 
 /// Why a repository refuses a call. After the first nine, and after `ClockEnd`, nothing has changed
@@ -77,6 +80,8 @@ pub enum Refusal {
 }
 
 impl From<NoMemory> for Refusal {
+    ghost from_gives = { λ _ refusal. refusal ≡ refused.NoMemory };
+
     fn from(_refused: NoMemory) -> Refusal {
         Refusal::NoMemory
     }
