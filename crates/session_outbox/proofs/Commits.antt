@@ -2,7 +2,7 @@
 use Rattle.commit_log.specs.declared.entry.Entry.TheVariants.{Life, One, Prepared, Decided, Finished, Upgraded}
 use Rattle.commit_log.specs.declared.entry.Entry.{Entry}
 use Rattle.commit_log.specs.declared.request.Request.{Request}
-use Rattle.session_outbox.specs.History.{Aborted, Base, Committed, Fate, Open, Standing, State, commit_by, commit_of, commits, commits_from, is_open, last_write, put, settle, settle_by, standing, start, state, writers}
+use Rattle.session_outbox.specs.History.{Aborted, Base, Committed, Fate, Open, Standing, State, commit_by, commit_of, commits, commits_from, is_open, last_write, put, settle, settle_by, standing, start, state}
 use Rattle.session_outbox.specs.Laws.{MadeByCommits, with_stamps, with_texts, with_writes}
 use Rattle.session_outbox.specs.Requests.{has_written, text_of, written}
 use Rattle.std.proofs.Common.{◌++◌, ◌≡◌, ℕ, List, [], ◌∷◌, refl, ap, sym, ◌∙◌}

@@ -156,7 +156,7 @@ at_pair test f (e ∷ es) a t = by_key (is_at (ts_cmp t) e.0) refl (at_pair test
     by_key true k rest = subst (λ u. test u (f u e.1) ≡ true) (sym (tells_apart ts_exact t e.0 k)) p.0
     by_key false k rest = rest
 
-shifted : {X : Type 0} (es : List X) (e d : X) → Contains es d → Contains (e ∷ es) d
+pub shifted : {X : Type 0} (es : List X) (e d : X) → Contains es d → Contains (e ∷ es) d
 shifted es e d c = let k : ℕ = c.0 in let l : k < length es = c.1 in (suc k, omega arith, c.2)
 
 from_pairs : {X : Type 0} (test : X → Bool) (es : List X) → ((e : X) → Contains es e → test e ≡ true) → list_all test es ≡ true

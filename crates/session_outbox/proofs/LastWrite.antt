@@ -37,7 +37,7 @@ pub one_commit : (n : ℕ) (q r : Request) → ◌≡◌ {A = List (ℕ × Reque
 unfolding first_request
 one_commit n q r e = ap (first_request q) e
 
-no_commit : {A : Type 0} (cs : List (ℕ × Request)) (c : ℕ × Request) → cs ≡ [] → cs ≡ c ∷ [] → A
+pub no_commit : {A : Type 0} (cs : List (ℕ × Request)) (c : ℕ × Request) → cs ≡ [] → cs ≡ c ∷ [] → A
 no_commit cs c e f = let g : [] ≡ c ∷ [] = sym e ∙ f in cc
 
 begun_committed : (cs : List (ℕ × Request)) (n m : ℕ) (q : Request) (f : Fate) → FateBegun cs n q f → f ≡ Committed m → (m ≡ n) × (cs ≡ (n, q) ∷ [])

@@ -11,3 +11,4 @@ pub mod Final
 pub mod Decided
 pub mod Mended
 pub mod Traces
+pub mod Covered

@@ -112,7 +112,7 @@ module _ (b : Base) where
       by_key true h = subst (λ v. Moved e cs n v (standing b S v) (Some (or_lost b S v p))) (sym (tells_apart ts_exact t u h)) here
       by_key false h = unmoved e cs n t (standing b S t)
 
-  not_lost : (S : State) (t : Ts) → LifeBegan S → is_lost b S t S.length ≡ false
+  pub not_lost : (S : State) (t : Ts) → LifeBegan S → is_lost b S t S.length ≡ false
   not_lost S t h = and_false (nat_eq t.repo b.repo) _ (le-ltb S.length S.last_life h)
 
   -- the request of an undecided or committed transaction

@@ -1,4 +1,5 @@
 pub mod Checking
+pub mod Covers
 pub mod Examples
 pub mod History
 pub mod Laws
@@ -6,3 +7,4 @@ pub mod Order
 pub mod Requests
 pub mod Sound
 pub mod Trace
+pub mod Window

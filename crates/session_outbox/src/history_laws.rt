@@ -5,10 +5,12 @@
 ghost use Rattle.commit_log.specs.declared.entry.Entry.TheVariants.{Life};
 ghost use Rattle.commit_log.specs.declared.entry.Entry.{Entry};
 ghost use Rattle.session_outbox.specs.Checking.{is_sound};
+ghost use Rattle.session_outbox.specs.Covers.{Covers};
 ghost use Rattle.session_outbox.specs.History.{Base, Standing, Open, commit_of, commits, objects_at, put, stands, state};
 ghost use Rattle.session_outbox.specs.Laws.{CommitsListed, CreatedOnce, MadeByCommits, ReadsLast, Recorded, Stays, UpgradesFence, WritersRise};
 ghost use Rattle.session_outbox.specs.Order.{HasOrder};
 ghost use Rattle.session_outbox.specs.Sound.{owes, sound};
+ghost use Rattle.session_outbox.specs.Window.{slide, window};
 ghost use Rattle.std.specs.Bool.{Decides};
 ghost use Rattle.std.specs.Option.{IfSome, IsSomeAnd};
 ghost use Rattle.std.specs.Prelude.{List, [], ◌∷◌, ◌++◌, ℕ, ◌≡◌, ◌≢◌, ◌<◌, ◌≤◌, length, take};
@@ -93,4 +95,13 @@ pub fn created_objects_are_new()
 /// Sound histories have local order.
 pub fn sound_histories_have_order()
     ensures { (b : Base) (H : List Entry) → sound b H → HasOrder b H }
+{}
+
+/// The window of a history grows by one step of its fold, and has all that a request has to be
+/// validated against: each undecided transaction, and of those that committed each that is above the
+/// threshold.
+pub fn windows_cover()
+    ensures step { (b : Base) (H : List Entry) (e : Entry) →
+        window b (H ++ e ∷ []) ≡ slide b (state b H) (window b H) e }
+    ensures covers { (b : Base) (H : List Entry) → sound b H → Covers b H }
 {}

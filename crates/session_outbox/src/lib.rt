@@ -16,7 +16,7 @@ pub use history_examples::{
 pub use history_laws::{
     commits_make_the_state, created_objects_are_new, histories_are_checked, histories_grow,
     outcomes_are_final, reads_are_last_writes, requests_are_recorded, sound_histories_grow,
-    sound_histories_have_order, upgrades_fence, writers_rise,
+    sound_histories_have_order, upgrades_fence, windows_cover, writers_rise,
 };
 pub use mark::Mark;
 pub use refusal::Refusal;
