@@ -36,10 +36,10 @@ use Rattle.thor_value.specs.declared.names.Ts.{Ts}
 
 -- ---- timestamps
 
-at_most_itself : (t : Ts) → AtMost t t
+pub at_most_itself : (t : Ts) → AtMost t t
 at_most_itself t = not_before_itself t
 
-at_most_then : (t u v : Ts) → AtMost t u → AtMost u v → AtMost t v
+pub at_most_then : (t u v : Ts) → AtMost t u → AtMost u v → AtMost t v
 at_most_then t u v h k e = elim (in_order u v) [
   | inl l ↦ h (ts_total.trans u v t l e)
   | inr m ↦ elim m [
@@ -60,10 +60,10 @@ module _ (t u : Ts) where
       by_order Equal e = same (ts_exact t u e)
       by_order Greater e = greater (ts_total.antisymm u t ∙ ap ordering_reverse e)
 
-  first_at_most : AtMost t (later_of t u)
+  pub first_at_most : AtMost t (later_of t u)
   first_at_most = by_later (AtMost t) (λ e. before_at_most t u e) (λ e. subst (λ v. AtMost t v) e (at_most_itself t)) (λ e. at_most_itself t)
 
-  second_at_most : AtMost u (later_of t u)
+  pub second_at_most : AtMost u (later_of t u)
   second_at_most = by_later (AtMost u) (λ e. at_most_itself u) (λ e. at_most_itself u) (λ e. before_at_most u t e)
 
   later_at_most : (v : Ts) → AtMost t v → AtMost u v → AtMost (later_of t u) v
@@ -163,13 +163,14 @@ none_sorted = tt
 -- ---- the window of a state
 
 -- W covers a state in which transactions stand so, and whose greatest committed timestamp is top
-record Held (st : Ts → Option Standing) (top : Ts) (W : Window) : Type 0 where
-  sorted : IsSorted W.members
-  members : (t : Ts) (m : Member) → get W.members t ≡ Some m → (o : Standing) × (st t ≡ Some o) × (o.request ≡ m.request) × Agrees m.decided o.fate
-  opens : (t : Ts) (o : Standing) → st t ≡ Some o → o.fate ≡ Open → (m : Member) × (get W.members t ≡ Some m)
-  committed : (t : Ts) (o : Standing) → st t ≡ Some o → IsCommitted o.fate → ((m : Member) × (get W.members t ≡ Some m)) ⊎ AtMost t W.threshold
-  low : AtMost W.threshold top
-  high : (t : Ts) (o : Standing) → st t ≡ Some o → IsCommitted o.fate → AtMost t top
+pub record Held (st : Ts → Option Standing) (top : Ts) (W : Window) : Type 0 where
+  pub sorted : IsSorted W.members
+  pub members : (t : Ts) (m : Member) → get W.members t ≡ Some m → (o : Standing) × (st t ≡ Some o) × (o.request ≡ m.request) × Agrees m.decided o.fate
+  pub opens : (t : Ts) (o : Standing) → st t ≡ Some o → o.fate ≡ Open → (m : Member) × (get W.members t ≡ Some m)
+  pub committed : (t : Ts) (o : Standing) → st t ≡ Some o → IsCommitted o.fate → ((m : Member) × (get W.members t ≡ Some m)) ⊎ AtMost t W.threshold
+  pub upgrades : (t : Ts) (o : Standing) → st t ≡ Some o → IsCommitted o.fate → IsTrue (is_upgrade o.request) → AtMost t W.threshold
+  pub low : AtMost W.threshold top
+  pub high : (t : Ts) (o : Standing) → st t ≡ Some o → IsCommitted o.fate → AtMost t top
 
 agrees_committed : (d : Bool) (f : Fate) → d ≡ true → Agrees d f → IsCommitted f
 agrees_committed true Open e a = absurd a
@@ -202,8 +203,8 @@ module _ (st new : Ts → Option Standing) (top top' : Ts) (W : Window) (u : Ts)
   stood_other t o other is = sym (put_in.others t other) ∙ is
 
   -- u comes in, or is decided to commit
-  held_member : (V : Window) (d : Bool) → Roomy W V → Agrees d p.fate → (IsCommitted p.fate → AtMost u top') → Held new top' (record { threshold = V.threshold; members = insert V.members u (record { decided = d; request = p.request }) })
-  held_member V d r agrees below = record {
+  held_member : (V : Window) (d : Bool) → Roomy W V → Agrees d p.fate → (IsCommitted p.fate → IsTrue (is_upgrade p.request) → ⊥) → (IsCommitted p.fate → AtMost u top') → Held new top' (record { threshold = V.threshold; members = insert V.members u (record { decided = d; request = p.request }) })
+  held_member V d r agrees plain below = record {
     sorted = IsSorted-insert ts_total V.members u _ r.sorted;
     members = λ t m is. elim (inserted_cases V.members u (record { decided = d; request = p.request }) t) [
       | inl k ↦
@@ -235,6 +236,12 @@ module _ (st new : Ts → Option Standing) (top top' : Ts) (W : Window) (u : Ts)
         ]
         | inr l ↦ inr (at_most_then t W.threshold V.threshold l r.higher)
       ]
+    ];
+    upgrades = λ t o is c up. elim (key_cases t u) [
+      | inl k ↦
+          let one : p ≡ o = same_Some p o (sym put_in.here ∙ subst (λ v. new v ≡ Some o) k.0 is) in
+          absurd (plain (subst (λ (v : Standing). IsCommitted v.fate) (sym one) c) (subst (λ (v : Standing). IsTrue (is_upgrade v.request)) (sym one) up))
+      | inr k ↦ at_most_then t W.threshold V.threshold (held.upgrades t o (stood_other t o k.0 is) c up) r.higher
     ];
     low = at_most_then V.threshold top top' (r.bounded top held.low (λ t m is dec. let z = held.members t m is in held.high t z.0 z.1 (agrees_committed m.decided z.0.fate dec z.3))) rises;
     high = λ t o is c. elim (key_cases t u) [
@@ -271,6 +278,12 @@ module _ (st new : Ts → Option Standing) (top top' : Ts) (W : Window) (u : Ts)
         | inr l ↦ inr l
       ]
     ];
+    upgrades = λ t o is c up. elim (key_cases t u) [
+      | inl k ↦
+          let one : p ≡ o = same_Some p o (sym put_in.here ∙ subst (λ v. new v ≡ Some o) k.0 is) in
+          absurd (gone_uncommitted o.fate (ap (λ (v : Standing). v.fate) (sym one) ∙ gone) c)
+      | inr k ↦ held.upgrades t o (stood_other t o k.0 is) c up
+    ];
     low = at_most_then W.threshold top top' held.low rises;
     high = λ t o is c. elim (key_cases t u) [
       | inl k ↦
@@ -300,6 +313,10 @@ module _ (st new : Ts → Option Standing) (top top' : Ts) (W : Window) (u : Ts)
       | inl k ↦ subst (λ v. AtMost v u) (sym k.0) (at_most_itself u)
       | inr k ↦ before_at_most t u (fenced t o (stood_other t o k.0 is) k.0 (lives_committed o.fate c)).1
     ]);
+    upgrades = λ t o is c up. elim (key_cases t u) [
+      | inl k ↦ subst (λ v. AtMost v u) (sym k.0) (at_most_itself u)
+      | inr k ↦ before_at_most t u (fenced t o (stood_other t o k.0 is) k.0 (lives_committed o.fate c)).1
+    ];
     low = below;
     high = λ t o is c. elim (key_cases t u) [
       | inl k ↦ subst (λ v. AtMost v top') (sym k.0) below
@@ -353,13 +370,13 @@ module _ (b : Base) where
   held_begun S W q began held =
       let p : Standing = record { place = S.length; request = q; fate = Open } in
       let same : or_lost b S q.tx p ≡ p = ap (λ (x : Bool). record p { fate = lapse Open x }) (not_lost b S q.tx began) in
-      held_member (standing b S) (standing b (put b S (Prepared q))) S.top S.top W q.tx p (put_in_state S q.tx p same) held (at_most_itself S.top) (with_room W) false (roomy W held.sorted) tt (λ c. absurd c)
+      held_member (standing b S) (standing b (put b S (Prepared q))) S.top S.top W q.tx p (put_in_state S q.tx p same) held (at_most_itself S.top) (with_room W) false (roomy W held.sorted) tt (λ c up. c) (λ c. absurd c)
 
-  held_one : (S : State) (W : Window) (q : Request) → Held (standing b S) S.top W
+  held_one : (S : State) (W : Window) (q : Request) → is_upgrade q ≡ false → Held (standing b S) S.top W
       → Held (standing b (put b S (One q))) (later_of S.top q.tx) (enter W q true)
-  held_one S W q held =
+  held_one S W q plain held =
       let p : Standing = record { place = S.length; request = q; fate = Committed S.length } in
-      held_member (standing b S) (standing b (put b S (One q))) S.top (later_of S.top q.tx) W q.tx p (put_in_state S q.tx p refl) held (first_at_most S.top q.tx) (with_room W) true (roomy W held.sorted) tt (λ c. second_at_most S.top q.tx)
+      held_member (standing b S) (standing b (put b S (One q))) S.top (later_of S.top q.tx) W q.tx p (put_in_state S q.tx p refl) held (first_at_most S.top q.tx) (with_room W) true (roomy W held.sorted) tt (λ c up. let e : false ≡ true = sym plain ∙ up in cc) (λ c. second_at_most S.top q.tx)
 
   held_upgraded : (S : State) (W : Window) (q : Request) → IsTrue (is_upgrade q) → Admits b S q → Held (standing b S) S.top W
       → Held (standing b (put b S (Upgraded q))) (later_of S.top q.tx) (cleared q.tx)
@@ -386,7 +403,7 @@ module _ (b : Base) where
           held_cleared (standing b S) (standing b (commit S t p.place p.request)) S.top (later_of S.top p.request.tx) W t (record { place = p.place; request = p.request; fate = Committed S.length }) (put_in_state S t _ refl) held (first_at_most S.top p.request.tx) tt below
           (fenced t p is at_first upgrade)
       by_kind at_first false k =
-          held_member (standing b S) (standing b (commit S t p.place p.request)) S.top (later_of S.top p.request.tx) W t (record { place = p.place; request = p.request; fate = Committed S.length }) (put_in_state S t _ refl) held (first_at_most S.top p.request.tx) W true (roomy_same W held.sorted) tt (λ c. below)
+          held_member (standing b S) (standing b (commit S t p.place p.request)) S.top (later_of S.top p.request.tx) W t (record { place = p.place; request = p.request; fate = Committed S.length }) (put_in_state S t _ refl) held (first_at_most S.top p.request.tx) W true (roomy_same W held.sorted) tt (λ c up. let e : false ≡ true = sym k ∙ up in cc) (λ c. below)
 
       by_fate : (f : Fate) → p.fate ≡ f → (d : Bool) → Held (standing b (settle_by S t d p f)) (settle_by S t d p f).top (close_by W t d p f)
       by_fate Open at_first true = by_kind at_first (is_upgrade p.request) refl
@@ -432,6 +449,9 @@ module _ (b : Base) where
         committed = λ t o is c.
             let y = was S n began owed t o is in
             inr (held.high t y.0 y.1 (committed_before S.length y.0.request y.0.fate o.fate y.2.2 c));
+        upgrades = λ t o is c up.
+            let y = was S n began owed t o is in
+            held.high t y.0 y.1 (committed_before S.length y.0.request y.0.fate o.fate y.2.2 c);
         low = at_most_itself S.top;
         high = λ t o is c.
             let y = was S n began owed t o is in
@@ -446,7 +466,7 @@ module _ (b : Base) where
 
   held_slide : (S : State) (W : Window) (e : Entry) → Placed b S → owes b S e → Fenced S → Held (standing b S) S.top W → Held (standing b (put b S e)) (put b S e).top (slide b S W e)
   held_slide S W (Life n) h o f held = held_life S W n h.began o held
-  held_slide S W (One q) h o f held = held_one S W q held
+  held_slide S W (One q) h o f held = held_one S W q o.2 held
   held_slide S W (Prepared q) h o f held = held_begun S W q h.began held
   held_slide S W (Upgraded q) h o f held = held_upgraded S W q o.2 o.0 held
   held_slide S W (Decided t c) h o f held = held_close S W t c (standing b S t) refl (λ p is. (h.fits t p is).named) f held
@@ -490,11 +510,12 @@ module _ (b : Base) where
     members = λ t m is. (let e : None ≡ Some m = is in cc);
     opens = λ t o is at_first. (let e : None ≡ Some o = is in cc);
     committed = λ t o is c. (let e : None ≡ Some o = is in cc);
+    upgrades = λ t o is c up. (let e : None ≡ Some o = is in cc);
     low = at_most_itself b.top;
     high = λ t o is c. (let e : None ≡ Some o = is in cc);
   }
 
-  held : (H : List Entry) → sound b H → Held (standing b (state b H)) (state b H).top (window b H)
+  pub held : (H : List Entry) → sound b H → Held (standing b (state b H)) (state b H).top (window b H)
   held = by_growth b (λ H. Held (standing b (state b H)) (state b H).top (window b H)) held_start
       (λ H e sd ih ow.
       let step = held_slide (state b H) (window b H) e (placed b H sd) ow (fenced H sd) ih in
@@ -516,6 +537,7 @@ module _ (b : Base) where
           | inl x ↦ inl (is_some_from (get (window b H).members t) x.0 x.1)
           | inr l ↦ inr l
         ];
+        upgrades = h.upgrades;
         threshold = h.low;
         top = h.high;
       }

@@ -7,4 +7,5 @@ pub mod Order
 pub mod Requests
 pub mod Sound
 pub mod Trace
+pub mod Verdict
 pub mod Window
