@@ -139,7 +139,7 @@ decides_each test P ys d = (
 )
 
 -- a name among those that q wrote
-written_keys : (q : Request) (x : Oref) → list_any (same_oref x) (keys (written q)) ≡ has_written q x
+pub written_keys : (q : Request) (x : Oref) → list_any (same_oref x) (keys (written q)) ≡ has_written q x
 written_keys q x = sym (is_some-lookup (is_at (oref_cmp x)) (written q).pairs)
 
 decides_written : (test : Oref → Bool) (P : Oref → Type 0) (q : Request) → ((x : Oref) → Decides (test x) (P x)) → Decides (list_all test (keys (written q))) ((x : Oref) → IsTrue (has_written q x) → P x)

@@ -12,3 +12,4 @@ pub mod Decided
 pub mod Mended
 pub mod Traces
 pub mod Covered
+pub mod Validated

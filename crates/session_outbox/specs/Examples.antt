@@ -5,10 +5,13 @@ use Rattle.commit_log.specs.declared.entry.Entry.{Entry}
 use Rattle.commit_log.specs.declared.request.Kind.TheVariants.{App, Upgrade}
 use Rattle.commit_log.specs.declared.request.Kind.{Kind}
 use Rattle.commit_log.specs.declared.request.Request.{Request}
-use Rattle.session_outbox.specs.History.{Base}
+use Rattle.session_outbox.specs.History.{Base, state}
+use Rattle.session_outbox.specs.Verdict.{verdict}
+use Rattle.session_outbox.specs.Window.{window}
 use Rattle.session_outbox.specs.declared.mark.Mark.TheVariants as the
 use Rattle.session_outbox.specs.declared.mark.Mark.{Mark}
-use Rattle.std.specs.Prelude.{List, None, [], false, pos, true, ℕ, ◌∷◌}
+use Rattle.session_outbox.specs.declared.refusal.Refusal.{Refusal}
+use Rattle.std.specs.Prelude.{List, None, [], false, pos, true, ℕ, ◌∷◌, Option}
 use Rattle.thor_value.specs.FiniteMap.{add, empty, overwrite}
 use Rattle.thor_value.specs.Names.{zero_ts}
 use Rattle.thor_value.specs.declared.names.Oref.{Oref}
@@ -69,13 +72,20 @@ request t kind epoch ros writes fresh others = record {
   others = others;
 }
 
--- t commits alone: it reads x
-abbrev pub read_x : ℕ → Entry
-read_x n = One (request (at n) App 0 (x ∷ []) [] [] [])
+-- t reads x
+abbrev pub reading_x : ℕ → Request
+reading_x n = request (at n) App 0 (x ∷ []) [] [] []
 
--- t commits alone: it reads x and writes k there
+-- t reads x and writes k there
+abbrev pub setting_x : ℕ → ℕ → Request
+setting_x n k = request (at n) App 0 (x ∷ []) ((x, box k) ∷ []) [] []
+
+-- the same, where t commits alone
+abbrev pub read_x : ℕ → Entry
+read_x n = One (reading_x n)
+
 abbrev pub set_x : ℕ → ℕ → Entry
-set_x n k = One (request (at n) App 0 (x ∷ []) ((x, box k) ∷ []) [] [])
+set_x n k = One (setting_x n k)
 
 -- t commits alone: it writes k to x, and didn't read it
 abbrev pub blind_x : ℕ → ℕ → Entry
@@ -92,13 +102,19 @@ create_z n = One (request (at n) App 0 (z ∷ []) ((z, box 7) ∷ []) (z ∷ [])
 abbrev pub prepare_x : Ts → ℕ → Entry
 prepare_x t k = Prepared (request t App 0 (x ∷ []) ((x, box k) ∷ []) [] (1 ∷ []))
 
--- an upgrade that is prepared with the other repository
-abbrev pub prepare_upgrade : ℕ → Entry
-prepare_upgrade n = Prepared (request (at n) (Upgrade (117 ∷ [])) 0 [] [] [] (1 ∷ []))
+-- an upgrade of both repositories
+abbrev pub upgrading : ℕ → Request
+upgrading n = request (at n) (Upgrade (117 ∷ [])) 0 [] [] [] (1 ∷ [])
 
--- reads x, where one upgrade is installed
+abbrev pub prepare_upgrade : ℕ → Entry
+prepare_upgrade n = Prepared (upgrading n)
+
+-- t reads x, and has seen one upgrade
+abbrev pub reading_upgraded : ℕ → Request
+reading_upgraded n = request (at n) App 1 (x ∷ []) [] [] []
+
 abbrev pub read_upgraded : ℕ → Entry
-read_upgraded n = One (request (at n) App 1 (x ∷ []) [] [] [])
+read_upgraded n = One (reading_upgraded n)
 
 -- ---- sound histories
 
@@ -184,3 +200,9 @@ mended = Life 1 ∷ prepare_x (at 5) 5 ∷ read_x 2 ∷ Decided (at 5) false ∷
 
 abbrev pub kept_marks : List Mark
 kept_marks = the.Entry 0 ∷ the.Connected 1 1 ∷ the.Fetched 1 0 1 ∷ the.Entry 1 ∷ the.Took 1 1 ∷ the.Entry 2 ∷ the.Entry 3 ∷ []
+
+-- ---- verdicts
+
+-- the answer to q behind H, where no invalid set and no limit is in its way
+abbrev pub answer_to : List Entry → Request → Option Refusal
+answer_to H q = verdict (state home H) (window home H) None None q

@@ -62,8 +62,8 @@ comes_later q e = cond (is_before q.tx e.0) (option_map (λ x. refused.Later e.0
 abbrev pub verdict : State → Window → Option Refusal → Option Refusal → Request → Option Refusal
 verdict S W stale full q =
     option_or (first_some (blocks q) W.members.pairs)
-      (option_or (cond (nat_eq q.epoch (epoch_of S)) None (Some (refused.Epoch (epoch_of S))))
-        (option_or (cond (is_before (bar W q) q.tx) None (Some (refused.TooOld (bar W q))))
-          (option_or stale
-            (option_or (first_some (comes_earlier q) W.members.pairs)
-              (option_or (first_some (comes_later q) W.members.pairs) full)))))
+    (option_or (cond (nat_eq q.epoch (epoch_of S)) None (Some (refused.Epoch (epoch_of S))))
+    (option_or (cond (is_before (bar W q) q.tx) None (Some (refused.TooOld (bar W q))))
+    (option_or stale
+    (option_or (first_some (comes_earlier q) W.members.pairs)
+    (option_or (first_some (comes_later q) W.members.pairs) full)))))

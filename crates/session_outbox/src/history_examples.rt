@@ -1,13 +1,16 @@
 //! The definitions of local histories, computed on small histories (`specs/Examples.antt`).
 
 ghost use Rattle.session_outbox.specs.Checking.{is_sound};
-ghost use Rattle.session_outbox.specs.Examples.{abroad, at, before_upgrade, blind_writers, box, created, created_twice, decided_late, decided_when_lost, earlier, home, kept_marks, later_read, later_write, left_behind, left_over, lost_by_life, mended, outlives, settled_by_opening, two_commits, upgrade_in_haste, upgraded, x, y, z};
+ghost use Rattle.session_outbox.specs.Examples.{abroad, answer_to, at, before_upgrade, blind_writers, box, created, created_twice, decided_late, decided_when_lost, earlier, home, kept_marks, later_read, later_write, left_behind, left_over, lost_by_life, mended, outlives, reading_upgraded, reading_x, setting_x, settled_by_opening, two_commits, upgrade_in_haste, upgraded, upgrading, x, y, z};
 ghost use Rattle.session_outbox.specs.History.{Aborted, Committed, Open, epoch_of, objects_at, stands, state};
 ghost use Rattle.session_outbox.specs.Order.{HasOrder};
 ghost use Rattle.session_outbox.specs.Trace.{entries, items};
+ghost use Rattle.session_outbox.specs.Window.{window};
+ghost use Rattle.session_outbox.specs.declared.refusal.Refusal.TheVariants as refused;
 ghost use Rattle.std.specs.Option.{option_map};
-ghost use Rattle.std.specs.Prelude.{◌≡◌, None, Some, false, take, true};
-ghost use Rattle.thor_value.specs.FiniteMap.{get};
+ghost use Rattle.std.specs.Prelude.{◌≡◌, [], ◌∷◌, None, Some, false, take, true};
+ghost use Rattle.thor_value.specs.FiniteMap.{get, keys};
+ghost use Rattle.thor_value.specs.Names.{zero_ts};
 
 /// Histories that a repository may have.
 pub fn sound_examples()
@@ -66,4 +69,25 @@ pub fn mended_example()
 /// The history of a trace is its entries, and they keep their places.
 pub fn trace_example()
     ensures { entries (items two_commits kept_marks) ≡ two_commits }
+{}
+
+/// What a repository answers to a request.
+pub fn verdict_examples()
+    ensures accepted { answer_to (take 3 two_commits) (reading_x 3) ≡ None }
+    ensures earlier { answer_to (take 2 earlier) (reading_x 2) ≡ Some (refused.Earlier (at 1) x) }
+    ensures later_write { answer_to (take 2 later_write) (reading_x 2) ≡ Some (refused.Later (at 5) x) }
+    ensures later_read { answer_to (take 2 later_read) (setting_x 2 6) ≡ Some (refused.Later (at 5) x) }
+    ensures blocked { answer_to (take 2 upgrade_in_haste) (upgrading 2) ≡ Some (refused.Blocked (at 1)) }
+    ensures left_behind { answer_to (take 3 left_behind) (reading_x 2) ≡ Some (refused.Epoch 1) }
+    ensures before_upgrade { answer_to (take 3 before_upgrade) (reading_upgraded 2) ≡ Some (refused.TooOld (at 5)) }
+    ensures lost { answer_to (take 3 lost_by_life) (setting_x 2 6) ≡ None }
+{}
+
+/// What the window is: the threshold and the members.
+pub fn window_examples()
+    ensures start { (window home (take 1 two_commits)).threshold ≡ zero_ts }
+    ensures remembers { keys (window home two_commits).members ≡ at 1 ∷ at 2 ∷ at 3 ∷ [] }
+    ensures life { keys (window home lost_by_life).members ≡ at 2 ∷ [] }
+    ensures upgrade { (window home (take 5 upgraded)).threshold ≡ at 2 }
+    ensures cleared { keys (window home (take 5 upgraded)).members ≡ [] }
 {}

@@ -4,16 +4,19 @@
 
 ghost use Rattle.commit_log.specs.declared.entry.Entry.TheVariants.{Life};
 ghost use Rattle.commit_log.specs.declared.entry.Entry.{Entry};
+ghost use Rattle.commit_log.specs.declared.request.Request.{Request};
 ghost use Rattle.session_outbox.specs.Checking.{is_sound};
 ghost use Rattle.session_outbox.specs.Covers.{Covers};
-ghost use Rattle.session_outbox.specs.History.{Base, Standing, Open, commit_of, commits, objects_at, put, stands, state};
+ghost use Rattle.session_outbox.specs.History.{Base, Standing, Open, commit_of, commits, epoch_of, objects_at, put, stands, state};
 ghost use Rattle.session_outbox.specs.Laws.{CommitsListed, CreatedOnce, MadeByCommits, ReadsLast, Recorded, Stays, UpgradesFence, WritersRise};
 ghost use Rattle.session_outbox.specs.Order.{HasOrder};
-ghost use Rattle.session_outbox.specs.Sound.{owes, sound};
+ghost use Rattle.session_outbox.specs.Sound.{Accepts, owes, sound};
+ghost use Rattle.session_outbox.specs.Verdict.{verdict};
 ghost use Rattle.session_outbox.specs.Window.{slide, window};
+ghost use Rattle.session_outbox.specs.declared.refusal.Refusal.{Refusal};
 ghost use Rattle.std.specs.Bool.{Decides};
 ghost use Rattle.std.specs.Option.{IfSome, IsSomeAnd};
-ghost use Rattle.std.specs.Prelude.{List, [], ◌∷◌, ◌++◌, ℕ, ◌≡◌, ◌≢◌, ◌<◌, ◌≤◌, length, take};
+ghost use Rattle.std.specs.Prelude.{List, None, Option, [], ◌∷◌, ◌++◌, ℕ, ◌≡◌, ◌≢◌, ◌<◌, ◌≤◌, length, take};
 ghost use Rattle.thor_value.specs.declared.names.Ts.{Ts};
 
 /// A history grows at its end, by one step of the fold, and what it was at a place stays.
@@ -104,4 +107,13 @@ pub fn windows_cover()
     ensures step { (b : Base) (H : List Entry) (e : Entry) →
         window b (H ++ e ∷ []) ≡ slide b (state b H) (window b H) e }
     ensures covers { (b : Base) (H : List Entry) → sound b H → Covers b H }
+{}
+
+/// A request that comes once and that the verdict doesn't refuse has seen the installed upgrades and
+/// can come behind each transaction that is there, whatever the invalid set and the limits say.
+pub fn verdicts_are_sound()
+    ensures { (b : Base) (H : List Entry) (q : Request) (stale full : Option Refusal) →
+        sound b H → stands b H q.tx ≡ None →
+        verdict (state b H) (window b H) stale full q ≡ None →
+        (q.epoch ≡ epoch_of (state b H)) × ((t : Ts) → IfSome (stands b H t) (Accepts q t)) }
 {}

@@ -11,12 +11,12 @@ mod trace_laws;
 
 pub use history_examples::{
     mended_example, sound_examples, standing_examples, trace_example, unsound_examples,
-    value_examples,
+    value_examples, verdict_examples, window_examples,
 };
 pub use history_laws::{
     commits_make_the_state, created_objects_are_new, histories_are_checked, histories_grow,
     outcomes_are_final, reads_are_last_writes, requests_are_recorded, sound_histories_grow,
-    sound_histories_have_order, upgrades_fence, windows_cover, writers_rise,
+    sound_histories_have_order, upgrades_fence, verdicts_are_sound, windows_cover, writers_rise,
 };
 pub use mark::Mark;
 pub use refusal::Refusal;
