@@ -13,3 +13,4 @@ pub mod Mended
 pub mod Traces
 pub mod Covered
 pub mod Validated
+pub mod Below

@@ -15,11 +15,13 @@ ghost use Rattle.session_outbox.specs.Verdict.{verdict};
 ghost use Rattle.session_outbox.specs.Window.{slide, window};
 ghost use Rattle.session_outbox.specs.declared.refusal.Refusal.{Refusal};
 ghost use Rattle.std.specs.Bool.{Decides};
+ghost use Rattle.std.specs.List.{filter};
 ghost use Rattle.std.specs.Option.{IfSome, IsSomeAnd};
-ghost use Rattle.std.specs.Prelude.{List, None, Option, [], ◌∷◌, ◌++◌, ℕ, ◌≡◌, ◌≢◌, ◌<◌, ◌≤◌, length, take};
+ghost use Rattle.std.specs.Prelude.{List, None, Option, [], ◌∷◌, ◌++◌, ℕ, ◌≡◌, ◌≢◌, ◌<◌, ◌≤◌, length, nat_lt, take};
 ghost use Rattle.thor_value.specs.declared.names.Ts.{Ts};
 
-/// A history grows at its end, by one step of the fold, and what it was at a place stays.
+/// A history grows at its end, by one step of the fold, and what it was at a place stays. The commits
+/// below a place are those of the list of commits whose places are below.
 pub fn histories_grow()
     ensures step { (b : Base) (H : List Entry) (e : Entry) → state b (H ++ e ∷ []) ≡ put b (state b H) e }
     ensures places { (b : Base) (H : List Entry) → (state b H).length ≡ length H }
@@ -27,6 +29,8 @@ pub fn histories_grow()
         objects_at b (H ++ more) n ≡ objects_at b H n }
     ensures commits { (b : Base) (H : List Entry) (e : Entry) →
         commits b (H ++ e ∷ []) ≡ commits b H ++ commit_of b (state b H) e }
+    ensures below { (b : Base) (n : ℕ) (H : List Entry) → n ≤ length H →
+        commits b (take n H) ≡ filter (λ c. nat_lt c.0 n) (commits b H) }
 {}
 
 /// A history is sound where its beginning is and each further entry owes what it owes.
