@@ -2,20 +2,22 @@
 -- two maps that answer alike are one.
 use Rattle.std.proofs.Common.{◌≡◌, Bool, true, false, cond, List, [], ◌∷◌, refl, ap, sym, ◌∙◌, subst, T}
 use Rattle.std.proofs.lemmas.Cmp.{eq_by_cmp_equiv}
+use Rattle.std.proofs.lemmas.Map.Entries.{lookup-filter-keys}
+use Rattle.std.proofs.lemmas.Map.Views.{tells_apart}
 use Rattle.std.proofs.lemmas.Map.{lookup-remove_entry}
 use Rattle.std.proofs.lemmas.Map.Keys.{IsDistinct-from_sorted}
 use Rattle.std.proofs.lemmas.Map.Lookups.{CmpEqualImpliesEq}
 use Rattle.std.specs.BTreeMap.{insert_entry, is_at}
 use Rattle.std.specs.Cmp.{IsTotalOrder}
-use Rattle.std.specs.FinMap.Entries.{find, put, is_sorted, below_all, by_order, find-put, is_sorted-put, same_entries}
-use Rattle.std.specs.List.{AllByRecursion}
+use Rattle.std.specs.FinMap.Entries.{find, put, is_sorted, below_all, by_order, find-put, is_sorted-put, is_sorted-where_key, same_entries}
+use Rattle.std.specs.List.{AllByRecursion, filter}
 use Rattle.std.specs.List.Sorted.{IsStrictlySortedBy}
-use Rattle.std.specs.Map.{lookup, keys_of}
+use Rattle.std.specs.Map.{keys_of, lookup, remove_entry}
 use Rattle.std.specs.Ordering.{eq_by_cmp, match_ordering, is_lt}
 use Rattle.std.specs.Prelude.{◌&&◌, Some, None}
 use Rattle.std.specs.declared.cmp.Ordering.{Ordering}
 use Rattle.std.specs.declared.cmp.Ordering.TheVariants.{Less, Equal, Greater}
-use Rattle.thor_value.specs.FiniteMap.{Map, get, insert, remove, IsSorted}
+use Rattle.thor_value.specs.FiniteMap.{IsSorted, Map, get, insert, keep, remove}
 
 both : (a b : Bool) → T a → T b → T (a && b)
 both true b p q = q
@@ -61,6 +63,35 @@ module _ {K X : Type 0} (R : K → K → Ordering) where
   unfolding IsStrictlySortedBy
   sorted_back [] h = tt
   sorted_back (e ∷ es) h = let p = parts (below_all R e.0 es) (is_sorted R es) h in (below_back e.0 es p.0, sorted_back es p.1)
+
+  below_remove : (P : K → Type 0) (test : K → Bool) (es : List (K × X)) → AllByRecursion P (keys_of es) → AllByRecursion P (keys_of (remove_entry test es))
+  below_remove P test [] h = tt
+  below_remove P test (e ∷ es) h = by_test (test e.0) (below_remove P test es h.1)
+    where
+      by_test : (b : Bool) → AllByRecursion P (keys_of (remove_entry test es)) → AllByRecursion P (keys_of (cond b es (e ∷ remove_entry test es)))
+      by_test true rest = h.1
+      by_test false rest = (h.0, rest)
+
+  sorted_remove : (test : K → Bool) (es : List (K × X)) → IsStrictlySortedBy R (keys_of es) → IsStrictlySortedBy R (keys_of (remove_entry test es))
+  unfolding IsStrictlySortedBy
+  sorted_remove test [] h = tt
+  sorted_remove test (e ∷ es) h = by_test (test e.0) (sorted_remove test es h.1)
+    where
+      by_test : (b : Bool) → IsStrictlySortedBy R (keys_of (remove_entry test es)) → IsStrictlySortedBy R (keys_of (cond b es (e ∷ remove_entry test es)))
+      by_test true rest = h.1
+      by_test false rest = (below_remove (λ y. R e.0 y ≡ Less) test es h.0, rest)
+
+  -- the keys stay in order where one is taken out
+  pub IsSorted-remove : (m : Map R X) (k : K) → IsSorted m → IsSorted (remove m k)
+  IsSorted-remove m k h = sorted_remove (is_at (R k)) m.pairs h
+
+  -- and where those alone stay that pass a test
+  pub IsSorted-keep : (m : Map R X) (test : K → Bool) → IsSorted m → IsSorted (keep m test)
+  IsSorted-keep m test h = sorted_back (filter (λ e. test e.0) m.pairs) (is_sorted-where_key R test m.pairs (sorted_is m.pairs h))
+
+  -- what stands at q where those keys alone stay that pass a test
+  pub get-keep : CmpEqualImpliesEq R → (m : Map R X) (test : K → Bool) (q : K) → get (keep m test) q ≡ cond (test q) (get m q) None
+  get-keep exact m test q = lookup-filter-keys (is_at (R q)) test (test q) (λ k e. ap test (sym (tells_apart exact q k e))) m.pairs
 
 module _ {K X : Type 0} {R : K → K → Ordering} (o : IsTotalOrder R) where
   -- what stands at q after v was put at k

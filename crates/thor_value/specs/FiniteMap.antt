@@ -4,7 +4,7 @@
 use Rattle.std.specs.Prelude.{Bool, List, [], length, refl, ℕ, is_some}
 use Rattle.std.specs.BTreeMap.{insert_entry, is_at}
 use Rattle.std.specs.Coded.{Coded, code_by, coded×, coded_list}
-use Rattle.std.specs.List.{fold}
+use Rattle.std.specs.List.{filter, fold}
 use Rattle.std.specs.List.Sorted.{IsStrictlySortedBy}
 use Rattle.std.specs.Map.{lookup, remove_entry, keys_of, values_of}
 use Rattle.std.specs.declared.cmp.Ordering.{Ordering}
@@ -35,6 +35,10 @@ module _ {K X : Type 0} {R : K → K → Ordering} where
   abbrev pub remove : Map R X → K → Map R X
   remove m k = record { pairs = remove_entry (is_at (R k)) m.pairs }
 
+  -- the map with the keys alone that pass the test
+  abbrev pub keep : Map R X → (K → Bool) → Map R X
+  keep m test = record { pairs = filter (λ e. test e.0) m.pairs }
+
   -- the map with each of the pairs in turn
   abbrev pub overwrite : Map R X → List (K × X) → Map R X
   overwrite m kvs = fold (λ n kv. insert n kv.0 kv.1) m kvs
@@ -58,3 +62,11 @@ module _ {K X : Type 0} {R : K → K → Ordering} where
   -- a finite map as it is stored: its pairs
   abbrev pub code : Coded K → Coded X → Coded (Map R X)
   code k x = code_by (List (K × X)) (coded_list (coded× k x)) (λ m. m.pairs) (λ p. record { pairs = p }) (λ _. refl)
+
+-- a finite set of keys in the order R
+abbrev pub Set : {K : Type 0} → (K → K → Ordering) → Type 0
+Set R = Map R (Unit {0})
+
+-- the set with one more key
+abbrev pub add : {K : Type 0} {R : K → K → Ordering} → Set R → K → Set R
+add m k = insert m k tt

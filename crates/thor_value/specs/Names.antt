@@ -29,6 +29,10 @@ same_ts t u = is_eq (ts_cmp t u)
 abbrev pub Before : Ts → Ts → Type 0
 Before t u = ts_cmp t u ≡ Less
 
+-- t comes before u or is u
+abbrev pub AtMost : Ts → Ts → Type 0
+AtMost t u = ¬ Before u t
+
 -- the timestamp before every other: that of no transaction, since lives count from 1
 abbrev pub zero_ts : Ts
 zero_ts = record { time = 0; repo = 0; life = 0 }

@@ -1,0 +1,16 @@
+pub mod Growth
+pub mod Steps
+pub mod Places
+pub mod Prefixes
+pub mod Meeting
+pub mod Serial
+pub mod Commits
+pub mod LastWrite
+pub mod Listed
+pub mod Final
+pub mod Decided
+pub mod Mended
+pub mod Traces
+pub mod Covered
+pub mod Validated
+pub mod Below

@@ -1,0 +1,5 @@
+use Rattle.session_outbox.proofs.Validated.{validated}
+use Rattle.session_outbox.proofs.history_laws.verdicts_are_sound.Goals as goal
+
+pub returns : goal.returns
+returns c = validated

@@ -1,0 +1,78 @@
+-- The test of a history: the same conditions as in Sound, but as a computation that goes over the
+-- transactions that are known. `histories_are_checked` says that it decides them.
+use Rattle.commit_log.specs.declared.entry.Entry.TheVariants.{Decided, Finished, Life, One, Prepared, Upgraded}
+use Rattle.commit_log.specs.declared.entry.Entry.{Entry}
+use Rattle.commit_log.specs.declared.request.Request.{Request}
+use Rattle.session_outbox.specs.History.{Aborted, Base, Committed, Fate, Open, Standing, State, epoch_of, is_undecided, or_lost, put, standing, start}
+use Rattle.session_outbox.specs.Requests.{bars, has_created, has_read, has_written, is_upgrade, overwrites, written}
+use Rattle.std.specs.List.{list_all}
+use Rattle.std.specs.Option.{is_none}
+use Rattle.std.specs.Ordering.{is_lt}
+use Rattle.std.specs.Prelude.{Bool, List, [], false, nat_eq, nat_lt, not, true, ◌&&◌, ◌∷◌, ◌||◌}
+use Rattle.thor_value.specs.FiniteMap.{get, has, keys}
+use Rattle.thor_value.specs.Names.{ts_cmp}
+use Rattle.thor_value.specs.declared.names.Oref.{Oref}
+use Rattle.thor_value.specs.declared.names.Ts.{Ts}
+
+-- the second, where the first
+abbrev pub if_then : Bool → Bool → Bool
+if_then x y = not x || y
+
+abbrev pub is_live : Fate → Bool
+is_live Open = true
+is_live (Committed at) = true
+is_live Aborted = false
+
+abbrev pub is_committed : Fate → Bool
+is_committed Open = false
+is_committed (Committed at) = true
+is_committed Aborted = false
+
+abbrev pub is_before : Ts → Ts → Bool
+is_before t u = is_lt (ts_cmp t u)
+
+abbrev pub is_empty : {X : Type 0} → List X → Bool
+is_empty [] = true
+is_empty (x ∷ xs) = false
+
+-- whether q can come behind t, which stands as o
+abbrev pub is_accepted : Request → Ts → Standing → Bool
+is_accepted q t o = if_then (is_live o.fate) (if_then (bars q o.request) (is_committed o.fate && is_before t q.tx) && if_then (overwrites q o.request) (is_before t q.tx))
+
+-- whether the test holds of each transaction that is known, as it stands
+abbrev pub each_known : Base → State → (Ts → Standing → Bool) → Bool
+each_known b S test = list_all (λ e. test e.0 (or_lost b S e.0 e.1)) S.known.pairs
+
+-- whether x, if q created and wrote it, isn't there and was written by nobody
+abbrev pub is_new : Base → State → Request → Oref → Bool
+is_new b S q x = if_then (has_created q x) (is_none (get S.objects x) && each_known b S (λ t o. not (has_written o.request x)))
+
+-- whether q owes nothing to S
+abbrev pub is_admitted : Base → State → Request → Bool
+is_admitted b S q =
+    is_none (standing b S q.tx) && nat_eq q.epoch (epoch_of S)
+    && list_all (has_read q) (keys (written q))
+    && list_all (λ x. nat_eq x.repo b.repo) q.ros
+    && list_all (is_new b S q) (keys (written q))
+    && each_known b S (is_accepted q)
+
+-- whether q's transaction has this one participant
+abbrev pub is_alone : Base → Request → Bool
+is_alone b q = is_empty q.others && nat_eq q.tx.repo b.repo
+
+-- whether the entry owes nothing to S
+abbrev pub is_owed : Base → State → Entry → Bool
+is_owed b S (Life n) = nat_lt S.life n
+is_owed b S (One q) = is_admitted b S q && is_alone b q && not (is_upgrade q)
+is_owed b S (Prepared q) = is_admitted b S q
+is_owed b S (Decided t c) = is_undecided (standing b S t) && nat_eq t.repo b.repo
+is_owed b S (Finished t c) = (is_undecided (standing b S t) && not (nat_eq t.repo b.repo)) || has b.left t
+is_owed b S (Upgraded q) = is_admitted b S q && is_alone b q && is_upgrade q
+
+abbrev pub is_kept_by : Base → State → List Entry → Bool
+is_kept_by b S [] = true
+is_kept_by b S (e ∷ es) = is_owed b S e && is_kept_by b (put b S e) es
+
+-- whether the history is sound
+abbrev pub is_sound : Base → List Entry → Bool
+is_sound b H = is_kept_by b (start b) H

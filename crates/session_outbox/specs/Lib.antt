@@ -1,0 +1,11 @@
+pub mod Checking
+pub mod Covers
+pub mod Examples
+pub mod History
+pub mod Laws
+pub mod Order
+pub mod Requests
+pub mod Sound
+pub mod Trace
+pub mod Verdict
+pub mod Window

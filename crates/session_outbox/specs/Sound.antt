@@ -1,0 +1,59 @@
+-- What each entry of a history owes to the entries before it. It is said once, of the state at the
+-- entry's place, and no later entry changes it: nothing is proved anew when a transaction commits,
+-- aborts or is recovered.
+use Rattle.commit_log.specs.declared.entry.Entry.TheVariants.{Life, One, Prepared, Decided, Finished, Upgraded}
+use Rattle.commit_log.specs.declared.entry.Entry.{Entry}
+use Rattle.commit_log.specs.declared.request.Request.{Request}
+use Rattle.session_outbox.specs.History.{Base, IsCommitted, Lives, Standing, State, epoch_of, is_undecided, put, standing, start}
+use Rattle.session_outbox.specs.Requests.{bars, has_created, has_read, has_written, is_upgrade, overwrites}
+use Rattle.std.specs.Option.{IfSome}
+use Rattle.std.specs.Prelude.{◌≡◌, ◌≢◌, ◌⊎◌, IsTrue, true, false, List, [], ◌∷◌, ◌<◌, None}
+use Rattle.thor_value.specs.FiniteMap.{get, has}
+use Rattle.thor_value.specs.Names.{Before}
+use Rattle.thor_value.specs.declared.names.Oref.{Oref}
+use Rattle.thor_value.specs.declared.names.Ts.{Ts}
+
+-- That q can come behind t, which stands as o. Where q read what t wrote, or one of them is an
+-- upgrade, t has committed and is before q. Where q wrote what t read, t is before q. (Backward
+-- validation in timestamp order: Adya and others, SIGMOD 1995. Writers read what they write, so two
+-- writers of one object meet too.)
+abbrev pub Accepts : Request → Ts → Standing → Type 0
+Accepts q t o = Lives o.fate → (IsTrue (bars q o.request) → IsCommitted o.fate × Before t q.tx) × (IsTrue (overwrites q o.request) → Before t q.tx)
+
+-- What a request q owes to the state S that it meets.
+pub record Admits (b : Base) (S : State) (q : Request) : Type 0 where
+  -- it comes once
+  pub once : standing b S q.tx ≡ None
+  -- its client has seen the upgrades that are installed, and no others
+  pub current : q.epoch ≡ epoch_of S
+  -- it read what it wrote
+  pub within : (x : Oref) → IsTrue (has_written q x) → IsTrue (has_read q x)
+  -- it speaks of this repository's objects
+  pub here : (x : Oref) → IsTrue (has_read q x) → x.repo ≡ b.repo
+  -- the objects that it created aren't there, and no transaction has written them
+  pub unused : (x : Oref) → IsTrue (has_created q x) → IsTrue (has_written q x) → get S.objects x ≡ None
+  pub unwritten : (x : Oref) → IsTrue (has_created q x) → IsTrue (has_written q x) → (t : Ts) → IfSome (standing b S t) (λ o. has_written o.request x ≡ false)
+  -- it can come behind each transaction that is here
+  pub accepted : (t : Ts) → IfSome (standing b S t) (Accepts q t)
+
+-- q's transaction has this one participant, which is its coordinator
+abbrev pub IsAlone : Base → Request → Type 0
+IsAlone b q = (q.others ≡ []) × (q.tx.repo ≡ b.repo)
+
+-- What an entry owes to the state at its place.
+abbrev pub owes : Base → State → Entry → Type 0
+owes b S (Life n) = S.life < n
+owes b S (One q) = Admits b S q × IsAlone b q × (is_upgrade q ≡ false)
+owes b S (Prepared q) = Admits b S q
+owes b S (Decided t c) = IsTrue (is_undecided (standing b S t)) × (t.repo ≡ b.repo)
+owes b S (Finished t c) = (IsTrue (is_undecided (standing b S t)) × (t.repo ≢ b.repo)) ⊎ IsTrue (has b.left t)
+owes b S (Upgraded q) = Admits b S q × IsAlone b q × (is_upgrade q ≡ true)
+
+-- each of the entries owes what it owes to the state at its place, the first to S
+abbrev pub kept_by : Base → State → List Entry → Type 0
+kept_by b S [] = Unit {0}
+kept_by b S (e ∷ es) = owes b S e × kept_by b (put b S e) es
+
+-- Each entry of the history owes what it owes to those before it.
+abbrev pub sound : Base → List Entry → Type 0
+sound b H = kept_by b (start b) H

@@ -1,0 +1,93 @@
+//! The definitions of local histories, computed on small histories (`specs/Examples.antt`).
+
+ghost use Rattle.session_outbox.specs.Checking.{is_sound};
+ghost use Rattle.session_outbox.specs.Examples.{abroad, answer_to, at, before_upgrade, blind_writers, box, created, created_twice, decided_late, decided_when_lost, earlier, home, kept_marks, later_read, later_write, left_behind, left_over, lost_by_life, mended, outlives, reading_upgraded, reading_x, setting_x, settled_by_opening, two_commits, upgrade_in_haste, upgraded, upgrading, x, y, z};
+ghost use Rattle.session_outbox.specs.History.{Aborted, Committed, Open, epoch_of, objects_at, stands, state};
+ghost use Rattle.session_outbox.specs.Order.{HasOrder};
+ghost use Rattle.session_outbox.specs.Trace.{entries, items};
+ghost use Rattle.session_outbox.specs.Window.{window};
+ghost use Rattle.session_outbox.specs.declared.refusal.Refusal.TheVariants as refused;
+ghost use Rattle.std.specs.Option.{option_map};
+ghost use Rattle.std.specs.Prelude.{◌≡◌, [], ◌∷◌, None, Some, false, take, true};
+ghost use Rattle.thor_value.specs.FiniteMap.{get, keys};
+ghost use Rattle.thor_value.specs.Names.{zero_ts};
+
+/// Histories that a repository may have.
+pub fn sound_examples()
+    ensures two_commits { is_sound home two_commits ≡ true }
+    ensures decided_late { is_sound home decided_late ≡ true }
+    ensures lost_by_life { is_sound home lost_by_life ≡ true }
+    ensures outlives { is_sound home outlives ≡ true }
+    ensures upgraded { is_sound home upgraded ≡ true }
+    ensures created { is_sound home created ≡ true }
+    ensures settled_by_opening { is_sound left_over settled_by_opening ≡ true }
+{}
+
+/// Histories that no repository may have.
+pub fn unsound_examples()
+    ensures earlier { is_sound home earlier ≡ false }
+    ensures later_write { is_sound home later_write ≡ false }
+    ensures later_read { is_sound home later_read ≡ false }
+    ensures blind_writers { is_sound home blind_writers ≡ false }
+    ensures upgrade_in_haste { is_sound home upgrade_in_haste ≡ false }
+    ensures left_behind { is_sound home left_behind ≡ false }
+    ensures before_upgrade { is_sound home before_upgrade ≡ false }
+    ensures created_twice { is_sound home created_twice ≡ false }
+    ensures decided_when_lost { is_sound home decided_when_lost ≡ false }
+{}
+
+/// What the objects are at a place.
+pub fn value_examples()
+    ensures at_the_start { get (objects_at home two_commits 1) x ≡ Some (box 0) }
+    ensures behind_one { get (objects_at home two_commits 2) x ≡ Some (box 5) }
+    ensures behind_both { get (objects_at home two_commits 3) x ≡ Some (box 6) }
+    ensures undecided { get (objects_at home decided_late 3) x ≡ Some (box 0) }
+    ensures decided { get (objects_at home decided_late 4) x ≡ Some (box 5) }
+    ensures lost { get (objects_at home lost_by_life 3) x ≡ Some (box 0) }
+    ensures new { get (objects_at home created 1) z ≡ None }
+    ensures created { get (objects_at home created 2) z ≡ Some (box 7) }
+{}
+
+/// How transactions stand.
+pub fn standing_examples()
+    ensures undecided { option_map (λ o. o.fate) (stands home (take 3 decided_late) (at 1)) ≡ Some Open }
+    ensures decided { option_map (λ o. o.fate) (stands home decided_late (at 1)) ≡ Some (Committed 3) }
+    ensures place { option_map (λ o. o.place) (stands home decided_late (at 1)) ≡ Some 1 }
+    ensures lost { option_map (λ o. o.fate) (stands home lost_by_life (at 1)) ≡ Some Aborted }
+    ensures outlives { option_map (λ o. o.fate) (stands home (take 3 outlives) (abroad 1)) ≡ Some Open }
+    ensures finished { option_map (λ o. o.fate) (stands home outlives (abroad 1)) ≡ Some (Committed 3) }
+    ensures unknown { stands home two_commits (at 4) ≡ None }
+    ensures epoch { epoch_of (state home upgraded) ≡ 1 }
+{}
+
+/// A history with local order that isn't sound, and the history of a trace.
+pub fn mended_example()
+    ensures unsound { is_sound home mended ≡ false }
+    ensures order { HasOrder home mended }
+{}
+
+/// The history of a trace is its entries, and they keep their places.
+pub fn trace_example()
+    ensures { entries (items two_commits kept_marks) ≡ two_commits }
+{}
+
+/// What a repository answers to a request.
+pub fn verdict_examples()
+    ensures accepted { answer_to (take 3 two_commits) (reading_x 3) ≡ None }
+    ensures earlier { answer_to (take 2 earlier) (reading_x 2) ≡ Some (refused.Earlier (at 1) x) }
+    ensures later_write { answer_to (take 2 later_write) (reading_x 2) ≡ Some (refused.Later (at 5) x) }
+    ensures later_read { answer_to (take 2 later_read) (setting_x 2 6) ≡ Some (refused.Later (at 5) x) }
+    ensures blocked { answer_to (take 2 upgrade_in_haste) (upgrading 2) ≡ Some (refused.Blocked (at 1)) }
+    ensures left_behind { answer_to (take 3 left_behind) (reading_x 2) ≡ Some (refused.Epoch 1) }
+    ensures before_upgrade { answer_to (take 3 before_upgrade) (reading_upgraded 2) ≡ Some (refused.TooOld (at 5)) }
+    ensures lost { answer_to (take 3 lost_by_life) (setting_x 2 6) ≡ None }
+{}
+
+/// What the window is: the threshold and the members.
+pub fn window_examples()
+    ensures start { (window home (take 1 two_commits)).threshold ≡ zero_ts }
+    ensures remembers { keys (window home two_commits).members ≡ at 1 ∷ at 2 ∷ at 3 ∷ [] }
+    ensures life { keys (window home lost_by_life).members ≡ at 2 ∷ [] }
+    ensures upgrade { (window home (take 5 upgraded)).threshold ≡ at 2 }
+    ensures cleared { keys (window home (take 5 upgraded)).members ≡ [] }
+{}
