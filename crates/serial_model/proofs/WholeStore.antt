@@ -150,6 +150,6 @@ settled_epoch names fresh writes old (answer.Ints ints) taken new s = epoch_eith
 settled_epoch names fresh writes old (answer.Fault f) taken new s = ap (λ (v : View). v.epoch) s.1
 
 pub done_result : (schema : Schema) → IsFirst schema → (tx : List Stmt) (names : List Oref) (old : View) (a : Answer) (reads fresh : List Oref) (writes : List (Oref × Obj)) (new : View) (r : Result (Option Answer) NoMemory)
-  → old.names ≡ record { waiting = names; stand_in = Some 0 } → Done a reads writes fresh ≡ evaluation tx schema old → IfOk r (λ t. Settles names fresh writes old a t new) → IfOk r (λ t. (roots : List Root) → RanOn schema tx names roots old t new)
+    → old.names ≡ record { waiting = names; stand_in = Some 0 } → Done a reads writes fresh ≡ evaluation tx schema old → IfOk r (λ t. Settles names fresh writes old a t new) → IfOk r (λ t. (roots : List Root) → RanOn schema tx names roots old t new)
 done_result schema first tx names old a reads fresh writes new (Ok t) given is s = λ roots. done_ran schema first tx names roots old a reads fresh writes t new given is s
 done_result schema first tx names old a reads fresh writes new (Err e) given is s = tt

@@ -2,9 +2,11 @@
 #![tactic(auto)]
 
 mod entries;
+mod fresh;
 mod outcomes;
 mod running;
 
 pub use entries::{Did, Dids, What};
+pub use fresh::are_fresh;
 pub use outcomes::{Cause, Ended, Ends, ItemOutcome};
 pub use running::run_on;

@@ -11,7 +11,7 @@ given names taken is = ap (λ (w : List Oref). record { waiting = w; stand_in = 
 pub returns-in-Done-clause-ran : goal.returns-in-Done-clause-ran
 returns-in-Done-clause-ran c =
     done_result c.args.schema.now c.requires.first c.args.tx.now c.args.names.now (record c.args.view.now { names = record { waiting = c.in_ok-copy.field-0; stand_in = Some 0 } }) c.in-Done.answer c.in-Done.reads c.in-Done.fresh c.in-Done.writes c.settle.new.view c.settle.result
-      (given _ _ c.in_ok-copy.ensures) (sym c.in-Done.is ∙ c.in_ok-answer.ensures) c.settle.ensures
+    (given _ _ c.in_ok-copy.ensures) (sym c.in-Done.is ∙ c.in_ok-answer.ensures) c.settle.ensures
 
 pub returns-in-Need-clause-ran : goal.returns-in-Need-clause-ran
 returns-in-Need-clause-ran c = λ roots. (need_ran c.args.schema.now c.requires.first c.args.tx.now c.args.names.now roots (record c.args.view.now { names = record { waiting = c.in_ok-copy.field-0; stand_in = Some 0 } }) c.in-Need.oref c.in-Need.owners (given _ _ c.in_ok-copy.ensures) (sym c.in-Need.is ∙ c.in_ok-answer.ensures), refl)
