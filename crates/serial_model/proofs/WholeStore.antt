@@ -1,5 +1,5 @@
 -- A view of a whole store reads and changes as the store does.
-use Rattle.std.proofs.Common.{IfOk, if◌then◌else◌, length, ◌==◌, Result, Ok, Err, subst, ◌≡◌, ℕ, Bool, true, false, cond, List, [], ◌∷◌, map, Option, Some, None, option_map, refl, ap, sym, ◌∙◌, nat_lt, arith}
+use Rattle.std.proofs.Common.{is_some, IfOk, if◌then◌else◌, length, ◌==◌, Result, Ok, Err, subst, ◌≡◌, ℕ, Bool, true, false, cond, List, [], ◌∷◌, map, Option, Some, None, option_map, refl, ap, sym, ◌∙◌, nat_lt, arith}
 use Rattle.std.proofs.Math.Path.{fun_ext}
 use Rattle.std.proofs.lemmas.Bool.Decides.{nat_tests}
 use Rattle.std.specs.BTreeMap.{insert_entry, is_at}
@@ -7,7 +7,7 @@ use Rattle.std.specs.Cmp.Lexicographic.{pointwise}
 use Rattle.std.specs.Map.{lookup}
 use Rattle.std.specs.Ordering.{match_ordering}
 use Rattle.std.specs.declared.cmp.Ordering.TheVariants.{Less, Equal, Greater}
-use Rattle.thor_value.specs.FiniteMap.{Map, get, insert, overwrite}
+use Rattle.thor_value.specs.FiniteMap.{Map, get, has, insert, overwrite}
 use Rattle.thor_value.specs.Names.{oref_cmp, same_oref}
 use Rattle.thor_value.specs.declared.memory.NoMemory.{NoMemory}
 use Rattle.thor_value.specs.declared.names.Oref.{Oref}
@@ -153,3 +153,11 @@ pub done_result : (schema : Schema) → IsFirst schema → (tx : List Stmt) (nam
     → old.names ≡ record { waiting = names; stand_in = Some 0 } → Done a reads writes fresh ≡ evaluation tx schema old → IfOk r (λ t. Settles names fresh writes old a t new) → IfOk r (λ t. (roots : List Root) → RanOn schema tx names roots old t new)
 done_result schema first tx names old a reads fresh writes new (Ok t) given is s = λ roots. done_ran schema first tx names roots old a reads fresh writes t new given is s
 done_result schema first tx names old a reads fresh writes new (Err e) given is s = tt
+
+some_bare : (o : Option Obj) → is_some (option_map bare o) ≡ is_some o
+some_bare None = refl
+some_bare (Some o) = refl
+
+-- a name is in the store exactly where the view has it
+pub has_bare : (m : Map oref_cmp Obj) (x : Oref) → has (bare_objects m) x ≡ has m x
+has_bare m x = ap is_some (get_bare m x) ∙ some_bare (get m x)

@@ -31,10 +31,14 @@ upgrade_to s (suc n) = option_map (λ u. u.upgrade) (slice_get s.upgraded n)
 abbrev pub run_on : Schemas → Plain → List Stmt → List Oref → Option run.Ran
 run_on s store tx names = run.run (schema_of s store.epoch) tx store names
 
+-- whether a name is neither in the store nor among others
+abbrev pub is_new : Plain → Oref → List Oref → Bool
+is_new store x others = not (has store.objects x) && not (list_any (same_oref x) others)
+
 -- names of which none stands twice and none is in the store
 abbrev pub are_fresh : Plain → List Oref → Bool
 are_fresh store [] = true
-are_fresh store (x ∷ xs) = not (has store.objects x) && not (list_any (same_oref x) xs) && are_fresh store xs
+are_fresh store (x ∷ xs) = is_new store x xs && are_fresh store xs
 
 -- A transaction has the number 0, takes names that are fresh, and gives the answer of its run.
 pub record IsLegalTx (s : Schemas) (store : Plain) (d : Did) (tx : List Stmt) : Type 0 where

@@ -1,8 +1,10 @@
-ghost use Rattle.std.specs.Prelude.{◌≡◌, List};
+ghost use Rattle.std.specs.Prelude.{◌≡◌, ◌<◌, ◌+◌, List, length, drop};
 ghost use Rattle.std.specs.List.{list_any};
+ghost use Rattle.std.proofs.Common.{get_or};
 ghost use Rattle.thor_value.specs.Names.{same_oref};
+ghost use Rattle.thor_value.specs.declared.names.Oref.{Oref};
 ghost use Rattle.class_defs.specs.declared.store.Root.{Root};
-ghost use Rattle.serial_model.specs.History.{are_fresh};
+ghost use Rattle.serial_model.specs.History.{are_fresh, is_new};
 ghost use Rattle.serial_model.specs.Whole.{plain};
 
 use method_eval::View;
@@ -25,16 +27,31 @@ fn is_among(oref: Oref, names: &[Oref]) -> bool
     false
 }
 
+/// Whether a name is neither in the store that a view has nor among others.
+#[tactic(auto, using(crate::proofs::WholeStore::has_bare))]
+fn is_new(view: &View, name: Oref, others: &[Oref]) -> bool
+    ensures { (roots : List Root) → result ≡ is_new (plain roots view.now) name others.now }
+{
+    !view.objects.contains(name) && !is_among(name, others)
+}
+
+/// Whether the name at a place is new among those from there on.
+fn is_new_at(view: &View, names: &[Oref], place: usize) -> bool
+    requires { place < length names.now }
+    ensures { (roots : List Root) (d : Oref) → result ≡ is_new (plain roots view.now) (get_or names.now place d) (drop (place + 1) names.now) }
+{
+    is_new(view, names[place], names.split_at(place + 1).1)
+}
+
 /// Whether no name stands twice and none is in the store that a view has.
 pub fn are_fresh(view: &View, names: &Orefs) -> bool
     ensures { (roots : List Root) → result ≡ are_fresh (plain roots view.now) names.now }
 {
-    let mut left = names.as_slice();
-    while let Some((name, rest)) = left.split_first() {
-        if view.objects.contains(*name) || is_among(*name, rest) {
+    let names = names.as_slice();
+    for place in 0..names.len() {
+        if !is_new_at(view, names, place) {
             return false;
         }
-        left = rest;
     }
     true
 }

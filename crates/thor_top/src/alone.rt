@@ -64,3 +64,57 @@ pub fn ends_of(alloc: Global, history: &Dids) -> Result<Ends, NoMemory>
     }
     Ok(ends)
 }
+
+/// The doing of a transaction that takes these names, where it is defined.
+#[tactic(auto, unfolding(crate::specs::Alone::doing_with))]
+fn doing_with(
+    alloc: Global,
+    schema: &Schema,
+    view: &mut View,
+    tx: &Block,
+    names: Orefs,
+) -> Result<Option<Doing>, NoMemory>
+    requires few { length schema.now.classes ≤ 65536 }
+    requires first { IsFirst schema.now }
+    ensures done { IfOk result (λ doing. (roots : List Root) → DidWith schema.now tx.now names roots view.old doing view.new) }
+{
+    if !are_fresh(view, &names) {
+        return Ok(None);
+    }
+    match run_on(alloc, tx, schema, view, &names)? {
+        Some(answer) => Ok(Some(Doing {
+            fresh: names,
+            answer,
+        })),
+        None => Ok(None),
+    }
+}
+
+/// How many objects a transaction creates that ends without a fault.
+#[tactic(auto, unfolding(crate::specs::Alone::made_in))]
+fn made_in(
+    alloc: Global,
+    schema: &Schema,
+    view: &mut View,
+    tx: &Block,
+) -> Result<usize, NoMemory>
+    requires few { length schema.now.classes ≤ 65536 }
+    requires first { IsFirst schema.now }
+    ensures made { IfOk result (λ count. (roots : List Root) → count ≡ spec.made_in schema.now tx.now (plain roots view.old)) }
+    ensures same { (roots : List Root) → plain roots view.new ≡ plain roots view.old }
+{
+    view.names = NameSupply {
+        waiting: Orefs::new(alloc),
+        stand_in: Some(0),
+    };
+    match eval(alloc, tx, schema, view)? {
+        Ran::Done {
+            answer: _,
+            reads: _,
+            writes: _,
+            fresh,
+        } => Ok(fresh.len()),
+        Ran::Need { oref: _, owners: _ } => Ok(0),
+        Ran::NeedName { repo: _ } => Ok(0),
+    }
+}
