@@ -3,35 +3,11 @@ ghost use Rattle.class_defs.specs.declared.store.Root.{Root};
 ghost use Rattle.serial_model.specs.Whole.{IsFirst, plain};
 ghost use Rattle.thor_top.specs.Alone as spec;
 
-use class_defs::{Block, Blocks, NameSupply, Schema};
-use method_eval::{Ran, View, eval};
+use class_defs::{Block, Blocks, Schema};
+use method_eval::View;
 use serial_model::{Did, Dids, Ended, Ends, ItemOutcome, What, run_on};
 use std::alloc::Global;
 use thor_value::{Answer, NoMemory, Oref, Orefs, Sequence, TryCopy, Ts, Who};
-
-/// The name of the n-th new object, where the pages from `first` on are free.
-fn new_name(first: u32, n: u32) -> Oref
-    requires { first + n < 2 ^ 32 }
-    ensures { result ≡ spec.new_name first n }
-{
-    Oref {
-        repo: 0,
-        page: first + n / 12,
-        slot: (n % 12) as u8,
-    }
-}
-
-/// So many new names, from the n-th on.
-fn new_names(alloc: Global, first: u32, n: u32, count: u32) -> Result<Orefs, NoMemory>
-    requires { first + n + count < 2 ^ 32 }
-    ensures { IfOk result (λ names. names ≡ spec.new_names first n count) }
-{
-    let mut names = Orefs::new(alloc);
-    for taken in 0..count {
-        names.push(new_name(first, n + taken))?;
-    }
-    Ok(names)
-}
 
 /// How the item of an entry ended, at its first try.
 fn ended(did: &Did) -> Result<Ended, NoMemory>
@@ -65,56 +41,50 @@ pub fn ends_of(alloc: Global, history: &Dids) -> Result<Ends, NoMemory>
     Ok(ends)
 }
 
-/// The doing of a transaction that takes these names, where it is defined.
-#[tactic(auto, unfolding(crate::specs::Alone::doing_with))]
-fn doing_with(
-    alloc: Global,
-    schema: &Schema,
-    view: &mut View,
-    tx: &Block,
-    names: Orefs,
-) -> Result<Option<Doing>, NoMemory>
-    requires few { length schema.now.classes ≤ 65536 }
-    requires first { IsFirst schema.now }
-    ensures done { IfOk result (λ doing. (roots : List Root) → DidWith schema.now tx.now names roots view.old doing view.new) }
+/// The entry of a transaction of client 1.
+fn did(place: u32, tx: &Block, alloc: Global, answer: Answer) -> Result<Did, NoMemory>
+    requires { place + 1 < 2 ^ 32 }
+    ensures { IfOk result (λ did. did ≡ spec.did (place + 1) tx.now answer) }
 {
-    if !are_fresh(view, &names) {
-        return Ok(None);
-    }
-    match run_on(alloc, tx, schema, view, &names)? {
-        Some(answer) => Ok(Some(Doing {
-            fresh: names,
-            answer,
-        })),
-        None => Ok(None),
-    }
+    let number = place + 1;
+    Ok(Did {
+        ts: Ts {
+            time: u64::from(number),
+            repo: 0,
+            life: 1,
+        },
+        who: Who {
+            client: 1,
+            index: number,
+        },
+        what: What::Tx(tx.copy()?),
+        number: 0,
+        fresh: Orefs::new(alloc),
+        answer,
+    })
 }
 
-/// How many objects a transaction creates that ends without a fault.
-#[tactic(auto, unfolding(crate::specs::Alone::made_in))]
-fn made_in(
+/// Performs the transactions of client 1 in order, on the whole store that a view has.
+///
+/// Gives their entries where each run is defined, and nothing elsewhere.
+pub fn perform(
     alloc: Global,
     schema: &Schema,
     view: &mut View,
-    tx: &Block,
-) -> Result<usize, NoMemory>
+    blocks: &Blocks,
+) -> Result<Option<Dids>, NoMemory>
     requires few { length schema.now.classes ≤ 65536 }
     requires first { IsFirst schema.now }
-    ensures made { IfOk result (λ count. (roots : List Root) → count ≡ spec.made_in schema.now tx.now (plain roots view.old)) }
-    ensures same { (roots : List Root) → plain roots view.new ≡ plain roots view.old }
+    requires items { length blocks.now + 1 < 2 ^ 32 }
+    ensures performed { IfOk result (λ dids. (roots : List Root) → dids ≡ spec.performance schema.now 1 (plain roots view.old) blocks.now) }
 {
-    view.names = NameSupply {
-        waiting: Orefs::new(alloc),
-        stand_in: Some(0),
-    };
-    match eval(alloc, tx, schema, view)? {
-        Ran::Done {
-            answer: _,
-            reads: _,
-            writes: _,
-            fresh,
-        } => Ok(fresh.len()),
-        Ran::Need { oref: _, owners: _ } => Ok(0),
-        Ran::NeedName { repo: _ } => Ok(0),
+    let none = Orefs::new(alloc);
+    let mut history = Dids::new(alloc);
+    for (place, block) in blocks.as_slice().iter().enumerate() {
+        match run_on(alloc, block, schema, view, &none)? {
+            Some(answer) => history.push(did(place as u32, block, alloc, answer)?)?,
+            None => return Ok(None),
+        }
     }
+    Ok(Some(history))
 }
