@@ -1,1 +1,3 @@
+pub mod AloneAnswers
+pub mod AloneIsLegal
 pub mod Performing
