@@ -7,3 +7,5 @@ pub mod Rest
 pub mod Laws
 pub mod Rows
 pub mod Grammar
+pub mod Marks
+pub mod Sections

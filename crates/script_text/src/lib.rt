@@ -3,14 +3,22 @@
 
 mod front;
 mod lengths;
+mod mark;
+mod marking;
 mod piece;
 mod place;
+mod reader;
 mod scanning;
+mod sections;
+mod splitting;
+mod steps;
 mod syntax;
 mod token;
 mod words;
 
 pub use scanning::scan;
+pub use sections::{ClientParts, ItemParts, Sections, Split};
+pub use splitting::split_sections;
 pub use syntax::{Syntax, SyntaxError};
 pub use token::{Token, TokenKind, Tokens};
 

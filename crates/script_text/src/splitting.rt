@@ -1,0 +1,60 @@
+//! A script's tokens, split into its parts.
+
+ghost use Rattle.std.specs.Prelude.{◌≡◌, length, IfOk};
+ghost use Rattle.script_text.specs.Sections.{read, last_line, fault_at_end, split_of};
+
+use crate::reader::Reader;
+use crate::sections::Split;
+use crate::steps::{so_far, step};
+use crate::syntax::Syntax;
+use crate::token::{Token, Tokens};
+use std::alloc::Global;
+use thor_value::NoMemory;
+
+/// What is read of the tokens.
+#[tactic(auto, unfolding(crate::specs::Sections::read))]
+fn read(alloc: Global, tokens: &[Token]) -> Result<Reader, NoMemory>
+    ensures { IfOk result (λ reader. reader ≡ read tokens.now) }
+{
+    let mut reader = Reader::Start;
+    for token in tokens {
+        reader = step(alloc, reader, token)?;
+    }
+    Ok(reader)
+}
+
+/// The line of the last token, or 1.
+fn last_line(tokens: &[Token]) -> u32
+    ensures { result ≡ last_line tokens.now }
+{
+    let mut line = 1;
+    for token in tokens {
+        line = token.line;
+    }
+    line
+}
+
+/// The fault where the tokens end, on a line.
+fn fault_at_end(reader: &Reader, line: u32) -> Option<Syntax>
+    ensures { result ≡ fault_at_end reader.now line }
+{
+    match reader {
+        Reader::Setup { closed: false, .. }
+        | Reader::Number { .. }
+        | Reader::Word { .. }
+        | Reader::Item { .. } => Some(Syntax { line }),
+        Reader::Stopped { fault, .. } => Some(*fault),
+        _ => None,
+    }
+}
+
+/// How far a script's tokens fall into its parts.
+#[tactic(auto, unfolding(crate::specs::Sections::split_of))]
+pub fn split_sections(alloc: Global, tokens: &Tokens) -> Result<Split, NoMemory>
+    ensures { IfOk result (λ split. split ≡ split_of tokens.now) }
+{
+    let reader = read(alloc, tokens.as_slice())?;
+    let fault = fault_at_end(&reader, last_line(tokens.as_slice()));
+    let sections = so_far(alloc, reader)?;
+    Ok(Split { sections, fault })
+}
