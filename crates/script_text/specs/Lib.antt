@@ -9,3 +9,4 @@ pub mod Rows
 pub mod Grammar
 pub mod Marks
 pub mod Sections
+pub mod Script

@@ -2,6 +2,8 @@
 
 ghost use Rattle.std.specs.Prelude.{◌≡◌, length, IfOk};
 ghost use Rattle.script_text.specs.Sections.{read, last_line, fault_at_end, split_of};
+ghost use Rattle.script_text.specs.Script.{ArePartsOf};
+ghost use Rattle.script_text.specs.declared.sections.Sections.{Sections};
 
 use crate::reader::Reader;
 use crate::sections::Split;
@@ -48,13 +50,26 @@ fn fault_at_end(reader: &Reader, line: u32) -> Option<Syntax>
     }
 }
 
-/// How far a script's tokens fall into its parts.
+/// How far the tokens fall into parts.
 #[tactic(auto, unfolding(crate::specs::Sections::split_of))]
-pub fn split_sections(alloc: Global, tokens: &Tokens) -> Result<Split, NoMemory>
+fn split_by(alloc: Global, tokens: &Tokens) -> Result<Split, NoMemory>
     ensures { IfOk result (λ split. split ≡ split_of tokens.now) }
 {
     let reader = read(alloc, tokens.as_slice())?;
     let fault = fault_at_end(&reader, last_line(tokens.as_slice()));
     let sections = so_far(alloc, reader)?;
     Ok(Split { sections, fault })
+}
+
+/// How far a script's tokens fall into its parts.
+pub fn split_sections(alloc: Global, tokens: &Tokens) -> Result<Split, NoMemory>
+    // The answer is the one that the definition computes.
+    ensures split { IfOk result (λ split. split ≡ split_of tokens.now) }
+
+    // Without a fault the tokens are those of a script, with these parts. They have no others, and tokens that
+    // have parts are refused for want of memory alone.
+    ensures parts { IfOk result (λ split. split.fault ≡ None → ArePartsOf tokens.now split.sections) }
+    ensures only_parts { (parts : Sections) → ArePartsOf tokens.now parts → IfOk result (λ split. split ≡ record { sections = parts; fault = None }) }
+{
+    split_by(alloc, tokens)
 }
