@@ -2,7 +2,7 @@
 --
 -- This says what the parts of a script are without saying how they are found: `split_sections` gives exactly
 -- the parts of a script, and where the tokens are none, the first of them that no script goes on with.
-use Rattle.std.specs.Prelude.{◌≡◌, ◌≤◌, ℕ, zero, suc, ◌+◌, Bool, true, false, ◌&&◌, List, [], ◌∷◌, ◌++◌, map, Option, Some, None}
+use Rattle.std.specs.Prelude.{◌≡◌, ◌≤◌, ◌⊎◌, ℕ, zero, suc, ◌+◌, Bool, true, false, ◌&&◌, List, [], ◌∷◌, ◌++◌, map, Option, Some, None}
 use Rattle.std.specs.List.{list_any, list_all, flat_map, count_by}
 use Rattle.script_text.specs.declared.token.Token.{Token}
 use Rattle.script_text.specs.declared.syntax.Syntax.{Syntax}
@@ -212,3 +212,7 @@ pub record EndShort (tokens : List Token) (fault : Syntax) : Type 0 where
   pub begin : Begin tokens
   pub none : (parts : Sections) → ArePartsOf tokens parts → ⊥
   pub line : fault.line ≡ last_line tokens
+
+-- the tokens are no script, and go on to be one up to here
+abbrev pub IsFirstFault : List Token → Syntax → Type 0
+IsFirstFault tokens fault = StopAt tokens fault ⊎ EndShort tokens fault

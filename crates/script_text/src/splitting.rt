@@ -1,8 +1,9 @@
 //! A script's tokens, split into its parts.
 
-ghost use Rattle.std.specs.Prelude.{◌≡◌, length, IfOk};
+ghost use Rattle.std.specs.Prelude.{◌≡◌, ◌≤◌, length, IfOk, IfSome};
 ghost use Rattle.script_text.specs.Sections.{read, last_line, fault_at_end, split_of};
-ghost use Rattle.script_text.specs.Script.{ArePartsOf};
+ghost use Rattle.script_text.specs.Script.{ArePartsOf, IsFirstFault};
+ghost use Rattle.script_text.specs.declared.syntax.Syntax.{Syntax};
 ghost use Rattle.script_text.specs.declared.sections.Sections.{Sections};
 
 use crate::reader::Reader;
@@ -53,7 +54,8 @@ fn fault_at_end(reader: &Reader, line: u32) -> Option<Syntax>
 /// How far the tokens fall into parts.
 #[tactic(auto, unfolding(crate::specs::Sections::split_of))]
 fn split_by(alloc: Global, tokens: &Tokens) -> Result<Split, NoMemory>
-    ensures { IfOk result (λ split. split ≡ split_of tokens.now) }
+    ensures split { IfOk result (λ split. split ≡ split_of tokens.now) }
+    ensures short { length tokens.now ≤ 9223372036854775807 }
 {
     let reader = read(alloc, tokens.as_slice())?;
     let fault = fault_at_end(&reader, last_line(tokens.as_slice()));
@@ -70,6 +72,11 @@ pub fn split_sections(alloc: Global, tokens: &Tokens) -> Result<Split, NoMemory>
     // have parts are refused for want of memory alone.
     ensures parts { IfOk result (λ split. split.fault ≡ None → ArePartsOf tokens.now split.sections) }
     ensures only_parts { (parts : Sections) → ArePartsOf tokens.now parts → IfOk result (λ split. split ≡ record { sections = parts; fault = None }) }
+
+    // A fault is at the first token that no script goes on with, or else at the last one of tokens that a
+    // script only begins with, and there is no other such place.
+    ensures first_fault { IfOk result (λ split. IfSome split.fault (IsFirstFault tokens.now)) }
+    ensures only_fault { (fault : Syntax) → IsFirstFault tokens.now fault → IfOk result (λ split. split.fault ≡ Some fault) }
 {
     split_by(alloc, tokens)
 }
