@@ -63,8 +63,8 @@ digits_of zero = record { tens = 0; ones = 0; small = omega arith; value = refl 
 digits_of (suc n) =
     let d = digits_of n in
     elim (cases_lt (d.ones + 1) 10) as (λ x. Digits (suc n)) [
-      inl below ↦ record { tens = d.tens; ones = d.ones + 1; small = below; value = omega (arith, d.value) }
-    | inr above ↦ record { tens = d.tens + 1; ones = 0; small = omega arith; value = omega (arith, d.value, d.small) }
+      | inl below ↦ record { tens = d.tens; ones = d.ones + 1; small = below; value = omega (arith, d.value) }
+      | inr above ↦ record { tens = d.tens + 1; ones = 0; small = omega arith; value = omega (arith, d.value, d.small) }
     ]
 
 -- digits that write a number
@@ -86,10 +86,10 @@ written (suc fuel) (suc n) within fits =
     record {
       digits = before.digits ++ (d.ones + 48) ∷ [];
       is = fold-append with_digit (Some 0) before.digits ((d.ones + 48) ∷ [])
-      ∙ ap (λ o. with_digit o (d.ones + 48)) before.is
-      ∙ ap (λ v. cond (is_ascii_digit (d.ones + 48) && nat_le v max_number) (Some v) None) value
-      ∙ ap (λ b. cond (b && nat_le (suc n) max_number) (Some (suc n)) None) (is_digit_byte d.ones d.small)
-      ∙ ap (λ b. cond b (Some (suc n)) None) (le-leb (suc n) max_number fits);
+          ∙ ap (λ o. with_digit o (d.ones + 48)) before.is
+          ∙ ap (λ v. cond (is_ascii_digit (d.ones + 48) && nat_le v max_number) (Some v) None) value
+          ∙ ap (λ b. cond (b && nat_le (suc n) max_number) (Some (suc n)) None) (is_digit_byte d.ones d.small)
+          ∙ ap (λ b. cond b (Some (suc n)) None) (le-leb (suc n) max_number fits);
     }
 
 number_completes : (f : Found) → length f.clients + 1 ≤ max_number → Completes (Number f)

@@ -148,12 +148,12 @@ front_client cur ts h =
       is_opening = b.is_opening;
       are = clients_snoc 1 b.clients c b.are (record { word = h.word_is; number = h.number_is ∙ ap Some number; items = h.items });
       whole = ap (λ l. opening_tokens b.opening ++ l) (flat_map-append client_tokens b.clients (c ∷ []) ∙ ap (λ l. flat_map client_tokens b.clients ++ l) (append-nil (client_tokens c)))
-      ∙ sym (append_assoc (opening_tokens b.opening) (flat_map client_tokens b.clients) (client_tokens c))
-      ∙ ap (λ l. l ++ client_tokens c) b.whole ∙ h.whole;
+          ∙ sym (append_assoc (opening_tokens b.opening) (flat_map client_tokens b.clients) (client_tokens c))
+          ∙ ap (λ l. l ++ client_tokens c) b.whole ∙ h.whole;
       setup = b.setup;
       clients_are = ap (λ l. l ++ cur.items ∷ []) b.clients_are ∙ sym (map-append (λ client. client.items) b.clients (c ∷ []));
       upgraded = sum_by-append (λ client. bit (has_upgrade client.items)) b.clients (c ∷ [])
-      ∙ more_upgraders cur.found.upgraded cur.upgrading (has_upgrade cur.items) (upgraders b.clients) (0 + upgrades) b.upgraded h.upgrading h.alone (omega arith);
+          ∙ more_upgraders cur.found.upgraded cur.upgrading (has_upgrade cur.items) (upgraders b.clients) (0 + upgrades) b.upgraded h.upgrading h.alone (omega arith);
     }
 
 -- steps
@@ -327,9 +327,9 @@ item_joins cur item front next h is upgrade =
       number_is = h.number_is;
       items = list_all-append is_item cur.items (item ∷ []) ∙ and_from _ _ h.items (and_from (is_item item) true is refl);
       whole = ap (λ l. h.front ++ (h.word ∷ h.number ∷ l)) (flat_map-append (λ i. i) cur.items (item ∷ []) ∙ ap (λ l. flat_map (λ i. i) cur.items ++ l) (append-nil item))
-      ∙ sym (append_assoc h.front words item) ∙ ap (λ l. l ++ item) h.whole;
+          ∙ sym (append_assoc h.front words item) ∙ ap (λ l. l ++ item) h.whole;
       upgrading = h.upgrading ∙ ap (λ b. has_upgrade cur.items || b) (sym upgrade) ∙ or_same (has_upgrade cur.items) (is_upgrade item)
-      ∙ ap (λ b. b || false) (sym (list_any-append is_upgrade cur.items (item ∷ [])));
+          ∙ ap (λ b. b || false) (sym (list_any-append is_upgrade cur.items (item ∷ [])));
       alone = h.alone;
     }
 

@@ -266,8 +266,8 @@ script_done script is =
     subst (Done (sections_of second.found (schedule_in script.ending))) all third in
     record {
       parts_are = there.parts_are
-      ∙ ap (λ s. record { setup = s; clients = second.found.clients; schedule = schedule_in script.ending }) setup
-      ∙ ap (λ l. record { setup = setup_in script.opening; clients = l; schedule = schedule_in script.ending }) these;
+          ∙ ap (λ s. record { setup = s; clients = second.found.clients; schedule = schedule_in script.ending }) setup
+          ∙ ap (λ l. record { setup = setup_in script.opening; clients = l; schedule = schedule_in script.ending }) these;
       ends = there.ends;
     }
 

@@ -25,4 +25,8 @@ pub use token::{Token, TokenKind, Tokens};
 #[cfg(test)]
 mod rows;
 #[cfg(test)]
+mod section_rows;
+#[cfg(test)]
+mod section_tests;
+#[cfg(test)]
 mod tests;
