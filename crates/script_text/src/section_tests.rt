@@ -6,6 +6,9 @@ use std::test::*;
 const BOX: &[u8] =
     b"setup\nfree class Box { int n; method int get() { return this.n; } }\nroot a = new Box();\n";
 
+const CLIENTS: &[u8] =
+    b"client 1 tx { print a.get(); } tx { }\nclient 2 upgrade { class Box { } }\nschedule d1.0 s1";
+
 /// The parts of a text.
 fn split_text<R: Abort>(rt: &R, alloc: Global, text: &[u8]) -> Result<Split, Fail> {
     assert!(rt; text.len() < 1000);
@@ -30,23 +33,36 @@ fn expect_items<R: Abort>(rt: &R, items: &ItemParts, words: &[&[u8]]) {
     }
 }
 
+/// How many tokens the setup has.
+fn setup_size(sections: &Sections) -> Option<usize> {
+    match &sections.setup {
+        None => None,
+        Some(part) => Some(part.len()),
+    }
+}
+
 #[test]
-fn a_script_has_its_parts(rt: HostRuntime) -> Result<(), Fail> {
+fn a_setup_is_a_part(rt: HostRuntime) -> Result<(), Fail> {
     let split = split_text(&rt, rt.alloc(), BOX)?;
     assert!(rt; split.fault.is_none());
-    assert_eq!(rt; split.sections.setup.map(|part| part.len()), Some(28));
-    let text =
-        b"client 1 tx { print a.get(); } tx { }\nclient 2 upgrade { class Box { } }\nschedule d1.0 s1";
-    let split = split_text(&rt, rt.alloc(), text)?;
+    assert_eq!(rt; setup_size(&split.sections), Some(28));
+    assert_eq!(rt; split.sections.clients.len(), 0);
+    Ok(())
+}
+
+#[test]
+fn clients_have_their_items(rt: HostRuntime) -> Result<(), Fail> {
+    let split = split_text(&rt, rt.alloc(), CLIENTS)?;
     assert!(rt; split.fault.is_none());
-    assert!(rt; split.sections.setup.is_none());
+    assert_eq!(rt; setup_size(&split.sections), None);
     assert_eq!(rt; split.sections.schedule.len(), 4);
-    let clients = split.sections.clients;
-    assert_eq!(rt; clients.len(), 2);
-    let first = clients.get(0).ok_or("there is a client")?;
-    expect_items(&rt, first, &[b"tx", b"tx"]);
-    let second = clients.get(1).ok_or("there is a second client")?;
-    expect_items(&rt, second, &[b"upgrade"]);
+    match split.sections.clients.as_slice() {
+        [first, second] => {
+            expect_items(&rt, first, &[b"tx", b"tx"]);
+            expect_items(&rt, second, &[b"upgrade"]);
+        }
+        _ => assert!(rt; false, "there are two clients"),
+    }
     Ok(())
 }
 
