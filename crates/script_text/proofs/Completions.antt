@@ -1,22 +1,18 @@
 -- What was read of a script can be completed, unless a token couldn't stand where it stood.
-use Rattle.std.proofs.Common.{◌≡◌, ℕ, zero, suc, ◌+◌, ◌-◌, ◌*◌, ◌<◌, ◌≤◌, Bool, true, false, List, [], ◌∷◌, ◌++◌, length, Option, Some, None, refl, sym, ap, ◌∙◌, subst, inl, inr, arith}
-use Rattle.std.specs.Prelude.{◌&&◌, nat_eq, nat_le, cond, fold, codes, replicate}
+use Rattle.std.proofs.Common.{◌≡◌, ℕ, zero, suc, ◌+◌, ◌-◌, ◌*◌, ◌<◌, ◌≤◌, true, List, [], ◌∷◌, ◌++◌, length, Some, None, refl, ap, ◌∙◌, inl, inr, arith}
+use Rattle.std.specs.Prelude.{◌&&◌, nat_eq, nat_le, cond, fold, codes}
 use Rattle.std.specs.Char.{is_ascii_digit}
-use Rattle.std.proofs.lemmas.Bool.{false≢true, eq-eqb, le-leb, cases_lt}
+use Rattle.std.proofs.lemmas.Bool.{eq-eqb, le-leb, cases_lt}
 use Rattle.std.proofs.lemmas.List.Sums.{fold-append}
 use Rattle.script_text.specs.declared.token.Token.{Token}
 use Rattle.script_text.specs.declared.token.TokenKind.{TokenKind}
 use Rattle.script_text.specs.declared.token.TokenKind.TheVariants as kinds
-use Rattle.script_text.specs.declared.syntax.Syntax.{Syntax}
-use Rattle.script_text.specs.declared.mark.Mark.{Mark}
-use Rattle.script_text.specs.declared.mark.Mark.TheVariants as marks
-use Rattle.script_text.specs.declared.sections.Sections.{Sections}
 use Rattle.script_text.specs.declared.reader.Found.{Found}
 use Rattle.script_text.specs.declared.reader.Current.{Current}
 use Rattle.script_text.specs.declared.reader.Reader.{Reader}
 use Rattle.script_text.specs.declared.reader.Reader.TheVariants.{Start, Setup, Number, Client, Word, Item, Schedule, Stopped}
 use Rattle.script_text.specs.Marks.{mark_of, number_in, number_of, with_digit, max_number}
-use Rattle.script_text.specs.Sections.{new_client, with_item, stop, number_step, step, fault_at_end}
+use Rattle.script_text.specs.Sections.{new_client, stop, number_step, step, fault_at_end}
 
 -- a token with a text
 abbrev token_as : TokenKind → List ℕ → Token

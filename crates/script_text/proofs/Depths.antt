@@ -1,5 +1,5 @@
 -- One token opens one brace at most.
-use Rattle.std.proofs.Common.{◌≡◌, ℕ, zero, suc, ◌+◌, ◌≤◌, Bool, true, false, List, Option, Some, None, length, arith}
+use Rattle.std.proofs.Common.{ℕ, zero, suc, ◌+◌, ◌≤◌, Bool, true, false, List, Option, Some, None, length, arith}
 use Rattle.std.specs.Prelude.{nat_eq, cond}
 use Rattle.script_text.specs.declared.token.Token.{Token}
 use Rattle.script_text.specs.declared.mark.Mark.{Mark}

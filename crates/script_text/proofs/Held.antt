@@ -1,24 +1,22 @@
 -- What was read of some tokens: they are a script, up to what is open.
-use Rattle.std.proofs.Common.{◌≡◌, ℕ, zero, suc, ◌+◌, ◌≤◌, Bool, true, false, List, [], ◌∷◌, ◌++◌, length, Option, Some, None, refl, sym, ap, ◌∙◌, subst, arith, append_assoc, append-nil, length-append}
-use Rattle.std.specs.Prelude.{◌||◌, ◌&&◌, nat_eq, cond, map, fold}
-use Rattle.std.specs.List.{flat_map, list_all, list_any}
+use Rattle.std.proofs.Common.{◌≡◌, ℕ, zero, suc, ◌+◌, ◌≤◌, Bool, true, false, List, [], ◌∷◌, ◌++◌, length, Option, Some, None, refl, sym, ap, ◌∙◌, subst, arith, append_assoc, append-nil}
+use Rattle.std.specs.Prelude.{◌||◌, nat_eq, cond, map, fold}
+use Rattle.std.specs.List.{flat_map, list_all}
 use Rattle.std.proofs.lemmas.Bool.{false≢true, eqb-true, and_from}
 use Rattle.std.proofs.lemmas.Grind.{flat_map-append}
 use Rattle.std.proofs.lemmas.List.{map-append, length-map}
 use Rattle.std.proofs.lemmas.List.Folds.{list_all-append, list_any-append}
 use Rattle.std.proofs.lemmas.List.Sums.{sum_by-append}
 use Rattle.script_text.specs.declared.token.Token.{Token}
-use Rattle.script_text.specs.declared.syntax.Syntax.{Syntax}
 use Rattle.script_text.specs.declared.mark.Mark.{Mark}
 use Rattle.script_text.specs.declared.mark.Mark.TheVariants as marks
-use Rattle.script_text.specs.declared.sections.Sections.{Sections}
 use Rattle.script_text.specs.declared.reader.Found.{Found}
 use Rattle.script_text.specs.declared.reader.Current.{Current}
 use Rattle.script_text.specs.declared.reader.Reader.{Reader}
 use Rattle.script_text.specs.declared.reader.Reader.TheVariants.{Start, Setup, Number, Client, Word, Item, Schedule, Stopped}
 use Rattle.script_text.specs.Marks.{mark_of, number_in}
 use Rattle.script_text.specs.Sections.{nothing, with_setup, with_client, new_client, with_item, with_upgrade, sections_of, so_far, stop, stop_setup, start_step, setup_step, number_step, upgrade_step, client_step, word_step, item_step, step, fault_at_end}
-use Rattle.script_text.specs.Script.{are_none, closes_by, closes, ends_by, ends, is_setup, is_open, is_upgrade_word, is_item_word, is_item, is_upgrade, has_upgrade, Opening, NoSetup, WithSetup, Ending, NoSchedule, WithSchedule, Written, Script, opening_tokens, client_tokens, ending_tokens, tokens_of_script, setup_in, schedule_in, parts_of, IsOpening, IsEnding, IsClient, AreClients, upgraders, IsScript, ArePartsOf}
+use Rattle.script_text.specs.Script.{are_none, closes_by, closes, ends_by, ends, is_open, is_upgrade_word, is_item_word, is_item, is_upgrade, has_upgrade, Opening, NoSetup, WithSetup, NoSchedule, WithSchedule, Written, opening_tokens, client_tokens, setup_in, IsOpening, IsClient, AreClients, upgraders, ArePartsOf}
 
 abbrev bit : Bool → ℕ
 bit b = cond b 1 0

@@ -1,21 +1,20 @@
 -- A script, read from left to right, gives its parts.
-use Rattle.std.proofs.Common.{◌≡◌, ℕ, zero, suc, ◌+◌, ◌≤◌, Bool, true, false, List, [], ◌∷◌, ◌++◌, length, Option, Some, None, refl, sym, ap, ◌∙◌, subst, arith, append_assoc, append-nil, length-append}
+use Rattle.std.proofs.Common.{◌≡◌, ℕ, zero, suc, ◌+◌, ◌≤◌, Bool, true, false, List, [], ◌∷◌, ◌++◌, length, Some, None, refl, sym, ap, ◌∙◌, subst, arith, append_assoc, append-nil, length-append}
 use Rattle.std.specs.Prelude.{◌||◌, nat_eq, cond, map, fold}
 use Rattle.std.specs.List.{flat_map, list_all}
 use Rattle.std.proofs.lemmas.Bool.{false≢true, and_parts, eq-eqb}
 use Rattle.std.proofs.lemmas.List.Sums.{fold-append, sum_by-cons}
 use Rattle.script_text.specs.declared.token.Token.{Token}
-use Rattle.script_text.specs.declared.syntax.Syntax.{Syntax}
 use Rattle.script_text.specs.declared.mark.Mark.{Mark}
 use Rattle.script_text.specs.declared.mark.Mark.TheVariants as marks
 use Rattle.script_text.specs.declared.sections.Sections.{Sections}
 use Rattle.script_text.specs.declared.reader.Found.{Found}
 use Rattle.script_text.specs.declared.reader.Current.{Current}
 use Rattle.script_text.specs.declared.reader.Reader.{Reader}
-use Rattle.script_text.specs.declared.reader.Reader.TheVariants.{Start, Setup, Number, Client, Word, Item, Schedule, Stopped}
+use Rattle.script_text.specs.declared.reader.Reader.TheVariants.{Start, Setup, Number, Client, Item, Schedule}
 use Rattle.script_text.specs.Marks.{mark_of, number_in}
-use Rattle.script_text.specs.Sections.{nothing, with_setup, with_client, new_client, with_item, with_upgrade, sections_of, so_far, stop, start_step, setup_step, number_step, upgrade_step, client_step, word_step, item_step, step, fault_at_end, last_line, read, split_at_end, split_of}
-use Rattle.script_text.specs.Script.{are_none, closes_by, closes, ends_by, ends, is_setup, is_open, is_upgrade_word, is_item_word, is_item, is_upgrade, has_upgrade, Opening, NoSetup, WithSetup, Ending, NoSchedule, WithSchedule, Written, Script, opening_tokens, client_tokens, ending_tokens, tokens_of_script, setup_in, schedule_in, parts_of, IsOpening, IsEnding, IsClient, AreClients, upgraders, IsScript, ArePartsOf}
+use Rattle.script_text.specs.Sections.{nothing, with_setup, with_client, new_client, with_item, with_upgrade, sections_of, so_far, stop, start_step, setup_step, number_step, upgrade_step, client_step, word_step, item_step, step, fault_at_end, last_line, read, split_of}
+use Rattle.script_text.specs.Script.{are_none, closes_by, closes, ends_by, ends, is_open, is_upgrade_word, is_item_word, is_item, is_upgrade, has_upgrade, Opening, NoSetup, WithSetup, Ending, NoSchedule, WithSchedule, Written, Script, opening_tokens, client_tokens, ending_tokens, tokens_of_script, setup_in, schedule_in, parts_of, IsOpening, IsEnding, IsClient, AreClients, upgraders, IsScript, ArePartsOf}
 
 -- a setup was read, and may end
 record AfterSetup (part : List Token) (r : Reader) : Type 0 where

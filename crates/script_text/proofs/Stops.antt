@@ -1,13 +1,12 @@
 -- Where the tokens are no script, the fault is at the first of them that no script goes on with.
-use Rattle.std.proofs.Common.{◌≡◌, ℕ, zero, suc, ◌+◌, ◌≤◌, ◌⊎◌, Bool, true, false, List, [], ◌∷◌, ◌++◌, length, Option, Some, None, refl, sym, ap, ◌∙◌, subst, inl, inr, arith, append_assoc, length-append}
-use Rattle.std.specs.Prelude.{map, fold}
+use Rattle.std.proofs.Common.{◌≡◌, ℕ, ◌+◌, ◌≤◌, true, false, List, [], ◌∷◌, ◌++◌, length, Option, Some, None, refl, sym, ap, ◌∙◌, subst, inl, inr, arith, append_assoc, length-append}
+use Rattle.std.specs.Prelude.{fold}
 use Rattle.std.specs.List.{flat_map}
 use Rattle.std.proofs.lemmas.List.{length-map}
 use Rattle.std.proofs.lemmas.List.Sums.{fold-append}
 use Rattle.script_text.specs.declared.token.Token.{Token}
 use Rattle.script_text.specs.declared.syntax.Syntax.{Syntax}
 use Rattle.script_text.specs.declared.sections.Sections.{Sections}
-use Rattle.script_text.specs.declared.sections.Split.{Split}
 use Rattle.script_text.specs.declared.reader.Found.{Found}
 use Rattle.script_text.specs.declared.reader.Reader.{Reader}
 use Rattle.script_text.specs.declared.reader.Reader.TheVariants.{Start, Setup, Number, Client, Word, Item, Schedule, Stopped}
@@ -16,7 +15,7 @@ use Rattle.script_text.specs.Sections.{so_far, step, fault_at_end, last_line, re
 use Rattle.script_text.specs.Script.{Written, opening_tokens, client_tokens, ArePartsOf, Begin, StopAt, EndShort, IsFirstFault}
 use Rattle.script_text.proofs.Scripts.{parts_read}
 use Rattle.script_text.proofs.Completions.{Countable, completes}
-use Rattle.script_text.proofs.Held.{Front, AtNumber, Holds, read_holds, parts_held}
+use Rattle.script_text.proofs.Held.{AtNumber, Holds, read_holds, parts_held}
 use Rattle.script_text.proofs.FaultLines.{IsHere, IsLive, step_line}
 
 -- each client has a token

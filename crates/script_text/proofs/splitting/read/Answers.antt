@@ -1,6 +1,5 @@
-use Rattle.std.proofs.Common.{rules, ◌≡◌, length, ℕ, ◌+◌, ◌≤◌, List, [], ◌∷◌, ◌++◌, arith, ap, ◌∙◌}
+use Rattle.std.proofs.Common.{arith}
 use Rattle.std.proofs.lemmas.Grind.{common_steps}
-use Rattle.script_text.specs.Sections.{step, depth_of}
 use Rattle.script_text.proofs.Depths.{step_depth}
 use Rattle.script_text.proofs.splitting.read.Goals as goal
 

@@ -1,5 +1,3 @@
-use Rattle.std.proofs.Common.{rules}
-use Rattle.script_text.specs.Sections.{split_of}
 use Rattle.script_text.proofs.Splits.{only_parts, parts_are, first_fault_is, only_fault}
 use Rattle.script_text.proofs.splitting.split_sections.Goals as goal
 
