@@ -7,3 +7,6 @@ pub mod Rest
 pub mod Laws
 pub mod Rows
 pub mod Grammar
+pub mod Marks
+pub mod Sections
+pub mod Script

@@ -3,18 +3,30 @@
 
 mod front;
 mod lengths;
+mod mark;
+mod marking;
 mod piece;
 mod place;
+mod reader;
 mod scanning;
+mod sections;
+mod splitting;
+mod steps;
 mod syntax;
 mod token;
 mod words;
 
 pub use scanning::scan;
+pub use sections::{ClientParts, ItemParts, Sections, Split};
+pub use splitting::split_sections;
 pub use syntax::{Syntax, SyntaxError};
 pub use token::{Token, TokenKind, Tokens};
 
 #[cfg(test)]
 mod rows;
+#[cfg(test)]
+mod section_rows;
+#[cfg(test)]
+mod section_tests;
 #[cfg(test)]
 mod tests;
