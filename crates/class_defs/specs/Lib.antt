@@ -4,5 +4,6 @@ pub mod Objects
 pub mod Run
 pub mod Statements
 pub mod Steps
+pub mod Touched
 pub mod Types
 pub mod Upgrades

@@ -1,0 +1,7 @@
+pub mod Alike
+pub mod AlikeCalls
+pub mod AlikeObjects
+pub mod AlikeRun
+pub mod AlikeSteps
+pub mod RunOutcomes
+pub mod TouchedStores
