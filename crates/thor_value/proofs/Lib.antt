@@ -1,2 +1,6 @@
+pub mod Exactness
+pub mod Fields
 pub mod FiniteMap
 pub mod NameOrders
+pub mod ReadClauses
+pub mod Spellings

@@ -3,6 +3,7 @@
 #![tactic(auto)]
 
 mod boxed;
+mod bytes;
 mod lists;
 mod memory;
 mod name_laws;
@@ -12,6 +13,9 @@ mod sequence;
 mod values;
 
 pub use boxed::Boxed;
+pub use bytes::{
+    ReadFault, put_oref, put_ts, put_value, read_oref, read_ts, read_value, spellings_are_apart,
+};
 pub use lists::{Ints, Orefs, Repos, Stamps, Text, Texts, Values, Writes};
 pub use memory::{NoMemory, TryCopy};
 pub use name_laws::{names_are_ordered, timestamps_are_ordered};

@@ -1,0 +1,381 @@
+//! The bytes of names, timestamps and values: one spelling for each, read and written exactly.
+
+ghost use Rattle.std.specs.Prelude.{◌≡◌, ◌↔◌, ℕ, List, ◌++◌, length, Ok, IfOk, OnOk, OnErr, IsErrOf};
+ghost use Rattle.std.specs.Int.{w16, w32, w64};
+ghost use Rattle.thor_value.specs.Formats.{AreApart, BeginsOne, BeginsWithOne, Counts, Gives, IsAtFront};
+ghost use Rattle.thor_value.specs.Spelling.{NameFits, OrefFits, TsFits, ValueFits, oref_bytes, ts_bytes, value_bytes};
+ghost use Rattle.thor_value.specs.Reading.{behind_tag, below_at, number_at, oref_at, page_at, tag_at, time_at, ts_at, value_at};
+
+use crate::lists::Text;
+use crate::memory::NoMemory;
+use crate::names::{Oref, Ts};
+use crate::values::Value;
+use std::error::Error;
+use std::fmt;
+
+/// Why nothing stands at the front of some bytes.
+#[derive(Clone, Copy, Debug, PartialEq, Eq)]
+pub enum ReadFault {
+    /// The bytes begin a spelling and end before it does.
+    Short,
+    /// The bytes neither begin with a spelling nor begin one.
+    BadTag,
+}
+
+impl fmt::Display for ReadFault {
+    fn fmt<W: fmt::Write>(&self, f: &mut fmt::Formatter<W>) -> fmt::Result {
+        match self {
+            ReadFault::Short => write!(f, "the bytes end too early"),
+            ReadFault::BadTag => write!(f, "the bytes are none of the format"),
+        }
+    }
+}
+
+impl Error for ReadFault {}
+
+/// Reads the name at the front, and answers how many bytes it takes. Bytes may follow it.
+pub fn read_oref(bytes: &[u8]) -> Result<(Oref, usize), ReadFault>
+    ensures found { IfOk result (λ read. IsAtFront OrefFits oref_bytes bytes.now read.0 read.1) }
+    ensures only { (o : Oref) (rest : List ℕ) → OrefFits o → bytes.now ≡ oref_bytes o ++ rest → result ≡ Ok (o, length (oref_bytes o)) }
+    ensures short { IsErrOf result ReadFault.Short ↔ BeginsOne OrefFits oref_bytes bytes.now }
+    ensures bad_tag { IsErrOf result ReadFault.BadTag ↔ ((¬ BeginsWithOne OrefFits oref_bytes bytes.now) × (¬ BeginsOne OrefFits oref_bytes bytes.now)) }
+    ensures exact { Counts bytes.now result (oref_at bytes.now) }
+{
+    counted_oref(bytes)
+}
+
+/// Reads the timestamp at the front, and answers how many bytes it takes. Bytes may follow it.
+pub fn read_ts(bytes: &[u8]) -> Result<(Ts, usize), ReadFault>
+    ensures found { IfOk result (λ read. IsAtFront TsFits ts_bytes bytes.now read.0 read.1) }
+    ensures only { (t : Ts) (rest : List ℕ) → TsFits t → bytes.now ≡ ts_bytes t ++ rest → result ≡ Ok (t, length (ts_bytes t)) }
+    ensures short { IsErrOf result ReadFault.Short ↔ BeginsOne TsFits ts_bytes bytes.now }
+    ensures bad_tag { IsErrOf result ReadFault.BadTag ↔ ((¬ BeginsWithOne TsFits ts_bytes bytes.now) × (¬ BeginsOne TsFits ts_bytes bytes.now)) }
+    ensures exact { Counts bytes.now result (ts_at bytes.now) }
+{
+    counted_ts(bytes)
+}
+
+/// Reads the value at the front, and answers how many bytes it takes. Bytes may follow it.
+pub fn read_value(bytes: &[u8]) -> Result<(Value, usize), ReadFault>
+    ensures found { IfOk result (λ read. IsAtFront ValueFits value_bytes bytes.now read.0 read.1) }
+    ensures only { (v : Value) (rest : List ℕ) → ValueFits v → bytes.now ≡ value_bytes v ++ rest → result ≡ Ok (v, length (value_bytes v)) }
+    ensures short { IsErrOf result ReadFault.Short ↔ BeginsOne ValueFits value_bytes bytes.now }
+    ensures bad_tag { IsErrOf result ReadFault.BadTag ↔ ((¬ BeginsWithOne ValueFits value_bytes bytes.now) × (¬ BeginsOne ValueFits value_bytes bytes.now)) }
+    ensures exact { Counts bytes.now result (value_at bytes.now) }
+{
+    counted_value(bytes)
+}
+
+/// Puts the one spelling of a name behind the last byte. After `NoMemory` the text is as it was.
+pub fn put_oref(o: Oref, out: &mut Text) -> Result<(), NoMemory>
+    requires { OrefFits o }
+    ensures ok { OnOk result (out.new ≡ out.old ++ oref_bytes o) }
+    ensures err { OnErr result (out.new ≡ out.old) }
+{
+    let page = o.page.to_be_bytes();
+    out.extend_from_slice(&[o.repo, page[0], page[1], page[2], page[3], o.slot])
+}
+
+/// Puts the one spelling of a timestamp behind the last byte. After `NoMemory` the text is as it was.
+pub fn put_ts(t: Ts, out: &mut Text) -> Result<(), NoMemory>
+    requires { TsFits t }
+    ensures ok { OnOk result (out.new ≡ out.old ++ ts_bytes t) }
+    ensures err { OnErr result (out.new ≡ out.old) }
+{
+    let time = t.time.to_be_bytes();
+    let life = t.life.to_be_bytes();
+    out.extend_from_slice(&[
+        time[0], time[1], time[2], time[3], time[4], time[5], time[6], time[7], t.repo, life[0],
+        life[1], life[2], life[3],
+    ])
+}
+
+/// Puts the one spelling of a value behind the last byte. After `NoMemory` the text is as it was.
+pub fn put_value(v: Value, out: &mut Text) -> Result<(), NoMemory>
+    requires { NameFits v }
+    ensures ok { OnOk result (out.new ≡ out.old ++ value_bytes v) }
+    ensures err { OnErr result (out.new ≡ out.old) }
+{
+    match v {
+        Value::Int(number) => {
+            let n = number.cast_unsigned().to_be_bytes();
+            out.extend_from_slice(&[1, n[0], n[1], n[2], n[3], n[4], n[5], n[6], n[7]])
+        }
+        Value::Ref(o) => {
+            let page = o.page.to_be_bytes();
+            out.extend_from_slice(&[2, o.repo, page[0], page[1], page[2], page[3], o.slot])
+        }
+        Value::Null => out.extend_from_slice(&[3]),
+    }
+}
+
+/// No spelling begins another, so whatever follows one is told apart from it.
+pub fn spellings_are_apart()
+    ensures orefs { AreApart OrefFits oref_bytes }
+    ensures timestamps { AreApart TsFits ts_bytes }
+    ensures values { AreApart ValueFits value_bytes }
+{}
+
+fn counted_oref(bytes: &[u8]) -> Result<(Oref, usize), ReadFault>
+    ensures { Counts bytes.now result (oref_at bytes.now) }
+{
+    let (oref, rest) = oref_of(bytes)?;
+    Ok((oref, bytes.len() - rest.len()))
+}
+
+fn counted_ts(bytes: &[u8]) -> Result<(Ts, usize), ReadFault>
+    ensures { Counts bytes.now result (ts_at bytes.now) }
+{
+    let (ts, rest) = ts_of(bytes)?;
+    Ok((ts, bytes.len() - rest.len()))
+}
+
+fn counted_value(bytes: &[u8]) -> Result<(Value, usize), ReadFault>
+    ensures { Counts bytes.now result (value_at bytes.now) }
+{
+    let (value, rest) = value_of(bytes)?;
+    Ok((value, bytes.len() - rest.len()))
+}
+
+#[tactic(auto, unfolding(crate::specs::Reading::oref_at))]
+fn oref_of(bytes: &[u8]) -> Result<(Oref, &[u8]), ReadFault>
+    ensures { Gives (λ x. (x.0, x.1.now)) result (oref_at bytes.now) }
+{
+    let (repo, rest) = below_of(bytes, 8)?;
+    let (page, rest) = page_of(rest)?;
+    let (slot, rest) = below_of(rest, 12)?;
+    Ok((Oref { repo, page, slot }, rest))
+}
+
+#[tactic(auto, unfolding(crate::specs::Reading::ts_at))]
+fn ts_of(bytes: &[u8]) -> Result<(Ts, &[u8]), ReadFault>
+    ensures { Gives (λ x. (x.0, x.1.now)) result (ts_at bytes.now) }
+{
+    let (time, rest) = time_of(bytes)?;
+    let (repo, rest) = below_of(rest, 8)?;
+    let (life, rest) = u32_of(rest)?;
+    Ok((Ts { time, repo, life }, rest))
+}
+
+#[tactic(auto, unfolding(crate::specs::Reading::value_at))]
+fn value_of(bytes: &[u8]) -> Result<(Value, &[u8]), ReadFault>
+    ensures { Gives (λ x. (x.0, x.1.now)) result (value_at bytes.now) }
+{
+    let (tag, rest) = tag_of(bytes)?;
+    behind(tag, rest)
+}
+
+#[tactic(auto, unfolding(crate::specs::Reading::behind_tag))]
+fn behind(tag: u8, bytes: &[u8]) -> Result<(Value, &[u8]), ReadFault>
+    ensures { Gives (λ x. (x.0, x.1.now)) result (behind_tag tag bytes.now) }
+{
+    match tag {
+        0 => Err(ReadFault::BadTag),
+        1 => {
+            let (number, rest) = u64_of(bytes)?;
+            Ok((Value::Int(number.cast_signed()), rest))
+        }
+        2 => {
+            let (oref, rest) = oref_of(bytes)?;
+            Ok((Value::Ref(oref), rest))
+        }
+        _ => Ok((Value::Null, bytes)),
+    }
+}
+
+fn tag_of(bytes: &[u8]) -> Result<(u8, &[u8]), ReadFault>
+    ensures { Gives (λ x. (x.0, x.1.now)) result (tag_at bytes.now) }
+{
+    match bytes {
+        [] => Err(ReadFault::Short),
+        [tag, rest @ ..] => {
+            if *tag >= 1 && *tag <= 3 {
+                Ok((*tag, rest))
+            } else {
+                Err(ReadFault::BadTag)
+            }
+        }
+    }
+}
+
+fn below_of(bytes: &[u8], limit: u8) -> Result<(u8, &[u8]), ReadFault>
+    ensures { Gives (λ x. (x.0, x.1.now)) result (below_at limit bytes.now) }
+{
+    match bytes {
+        [] => Err(ReadFault::Short),
+        [byte, rest @ ..] => {
+            if *byte < limit {
+                Ok((*byte, rest))
+            } else {
+                Err(ReadFault::BadTag)
+            }
+        }
+    }
+}
+
+#[tactic(auto, unfolding(crate::specs::Reading::page_at))]
+fn page_of(bytes: &[u8]) -> Result<(u32, &[u8]), ReadFault>
+    ensures { Gives (λ x. (x.0, x.1.now)) result (page_at bytes.now) }
+{
+    let (_, rest) = below_of(bytes, 1)?;
+    let (_, rest) = below_of(rest, 1)?;
+    let (page, rest) = u16_of(rest)?;
+    Ok((page as u32, rest))
+}
+
+#[tactic(auto, unfolding(crate::specs::Reading::time_at))]
+fn time_of(bytes: &[u8]) -> Result<(u64, &[u8]), ReadFault>
+    ensures { Gives (λ x. (x.0, x.1.now)) result (time_at bytes.now) }
+{
+    let _ = below_of(bytes, 64)?;
+    u64_of(bytes)
+}
+
+fn u16_of(bytes: &[u8]) -> Result<(u16, &[u8]), ReadFault>
+    ensures { Gives (λ x. (x.0, x.1.now)) result (number_at ReadFault.Short w16 bytes.now) }
+{
+    if bytes.len() < 2 {
+        return Err(ReadFault::Short);
+    }
+    let (front, rest) = bytes.split_at(2);
+    Ok((u16::from_be_bytes([front[0], front[1]]), rest))
+}
+
+fn u32_of(bytes: &[u8]) -> Result<(u32, &[u8]), ReadFault>
+    ensures { Gives (λ x. (x.0, x.1.now)) result (number_at ReadFault.Short w32 bytes.now) }
+{
+    if bytes.len() < 4 {
+        return Err(ReadFault::Short);
+    }
+    let (front, rest) = bytes.split_at(4);
+    let number = u32::from_be_bytes([front[0], front[1], front[2], front[3]]);
+    Ok((number, rest))
+}
+
+fn u64_of(bytes: &[u8]) -> Result<(u64, &[u8]), ReadFault>
+    ensures { Gives (λ x. (x.0, x.1.now)) result (number_at ReadFault.Short w64 bytes.now) }
+{
+    if bytes.len() < 8 {
+        return Err(ReadFault::Short);
+    }
+    let (front, rest) = bytes.split_at(8);
+    let number = u64::from_be_bytes([
+        front[0], front[1], front[2], front[3], front[4], front[5], front[6], front[7],
+    ]);
+    Ok((number, rest))
+}
+
+#[cfg(test)]
+mod tests {
+    use super::*;
+    use std::test::Fail;
+
+    fn oref(repo: u8, page: u32, slot: u8) -> Value {
+        Value::Ref(Oref { repo, page, slot })
+    }
+
+    #[test]
+    fn spells_and_reads_values(rt: HostRuntime) -> Result<(), Fail> {
+        let rows: [(Value, &[u8]); 6] = [
+            (Value::Int(5), &[1, 0, 0, 0, 0, 0, 0, 0, 5]),
+            (Value::Int(-2), &[1, 255, 255, 255, 255, 255, 255, 255, 254]),
+            (Value::Int(i64::MIN), &[1, 128, 0, 0, 0, 0, 0, 0, 0]),
+            (oref(0, 0, 0), &[2, 0, 0, 0, 0, 0, 0]),
+            (oref(7, 65535, 11), &[2, 7, 0, 0, 255, 255, 11]),
+            (Value::Null, &[3]),
+        ];
+        for (value, bytes) in rows {
+            let mut out = Text::from_slice(rt.alloc(), bytes)?;
+            assert_eq!(rt; read_value(out.as_slice()), Ok((value, bytes.len())));
+            out.push(9)?;
+            assert_eq!(rt; read_value(out.as_slice()), Ok((value, bytes.len())));
+            for len in 0..bytes.len() {
+                assert_eq!(rt; read_value(bytes.split_at(len).0), Err(ReadFault::Short));
+            }
+        }
+        let mut out = Text::new(rt.alloc());
+        put_value(Value::Int(-2), &mut out)?;
+        put_value(
+            Value::Ref(Oref {
+                repo: 7,
+                page: 65535,
+                slot: 11,
+            }),
+            &mut out,
+        )?;
+        put_value(Value::Null, &mut out)?;
+        put_ts(
+            Ts {
+                time: 3,
+                repo: 0,
+                life: 1,
+            },
+            &mut out,
+        )?;
+        put_oref(
+            Oref {
+                repo: 1,
+                page: 258,
+                slot: 2,
+            },
+            &mut out,
+        )?;
+        let want: [u8; 36] = [
+            1, 255, 255, 255, 255, 255, 255, 255, 254, 2, 7, 0, 0, 255, 255, 11, 3, 0, 0, 0, 0, 0,
+            0, 0, 3, 0, 0, 0, 0, 1, 1, 0, 0, 1, 2, 2,
+        ];
+        assert_eq!(rt; out.as_slice(), want.as_slice());
+        Ok(())
+    }
+
+    #[test]
+    fn refuses_what_no_store_has(rt: HostRuntime) {
+        let rows: [(&[u8], ReadFault); 10] = [
+            (&[], ReadFault::Short),
+            (&[0], ReadFault::BadTag),
+            (&[4], ReadFault::BadTag),
+            (&[1, 0], ReadFault::Short),
+            (&[2, 8], ReadFault::BadTag),
+            (&[2, 7, 0, 1], ReadFault::BadTag),
+            (&[2, 7, 1, 0, 0, 0, 0], ReadFault::BadTag),
+            (&[2, 7, 0, 0, 0, 0, 12], ReadFault::BadTag),
+            (&[2, 7, 0, 0, 0], ReadFault::Short),
+            (&[255, 0], ReadFault::BadTag),
+        ];
+        for (bytes, fault) in rows {
+            assert_eq!(rt; read_value(bytes), Err(fault));
+        }
+        assert_eq!(rt; read_oref(&[0, 0, 1, 0, 0, 0]), Err(ReadFault::BadTag));
+        assert_eq!(rt;
+            read_oref(&[0, 0, 0, 0, 0, 11]),
+            Ok((
+                Oref {
+                    repo: 0,
+                    page: 0,
+                    slot: 11
+                },
+                6
+            ))
+        );
+        assert_eq!(rt; read_ts(&[64]), Err(ReadFault::BadTag));
+        assert_eq!(rt;
+            read_ts(&[63, 0, 0, 0, 0, 0, 0, 0, 8]),
+            Err(ReadFault::BadTag)
+        );
+        assert_eq!(rt;
+            read_ts(&[63, 0, 0, 0, 0, 0, 0, 0, 7, 1, 1, 1]),
+            Err(ReadFault::Short)
+        );
+        assert_eq!(rt;
+            read_ts(&[0, 0, 0, 0, 0, 0, 0, 3, 0, 0, 0, 0, 1, 9]),
+            Ok((
+                Ts {
+                    time: 3,
+                    repo: 0,
+                    life: 1
+                },
+                13
+            ))
+        );
+    }
+}
