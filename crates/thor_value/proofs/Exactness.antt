@@ -119,6 +119,16 @@ exact_as {V = V} Has Also spelling short read ok to from = record {
   stays = ok.stays;
 }
 
+-- the same reader, of spellings that are said in another way
+pub exact_spelled : {V F : Type 0} (Has : V → Type 0) (spelling also : V → List ℕ) (short : F) (read : List ℕ → Result (V × List ℕ) F) → IsExact Has spelling short read
+    → ((v : V) → Has v → spelling v ≡ also v) → IsExact Has also short read
+exact_spelled Has spelling also short read ok same = record {
+  found = λ bytes x b e. let f = ok.found bytes x b e in (f.0, f.1 ∙ ap (λ (t : List ℕ). t ++ x.1) (same x.0 f.0));
+  again = λ v rest h. ap (λ (t : List ℕ). read (t ++ rest)) (sym (same v h)) ∙ ok.again v rest h;
+  begins = λ bytes b e. let f = ok.begins bytes b e in (f.0, f.1, f.2, sym (same f.0 f.2) ∙ f.3, f.4);
+  stays = ok.stays;
+}
+
 -- ---- what the public clauses say of an exact reader
 
 abbrev done : {X F : Type 0} → X → Result X F

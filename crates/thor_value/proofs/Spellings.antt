@@ -15,7 +15,7 @@ use Rattle.thor_value.specs.declared.values.Value.TheVariants.{Int, Ref, Null}
 use Rattle.thor_value.specs.declared.names.Oref.{Oref}
 use Rattle.thor_value.specs.declared.bytes.ReadFault.{ReadFault}
 use Rattle.thor_value.specs.declared.bytes.ReadFault.TheVariants.{Short, BadTag}
-use Rattle.thor_value.proofs.Exactness.{IsBytes, IsExact, exact_done, exact_then, exact_as, bind_ok, bind_err, ok_on, err_on}
+use Rattle.thor_value.proofs.Exactness.{IsBytes, IsExact, exact_done, exact_then, exact_as, exact_spelled, bind_ok, bind_err, ok_on, err_on}
 use Rattle.std.proofs.lemmas.List.{append-nil}
 use Rattle.thor_value.proofs.Fields.{exact_byte, exact_number, wide16, wide32, wide64}
 
@@ -252,14 +252,7 @@ null_only t e Null h = refl
 
 -- with no bytes behind the tag
 null_exact : (t : ℕ) → t ≡ 3 → IsExact (λ v. ValueFits v × (tag_of v ≡ t)) tail_of Short (λ rest. Ok (Null, rest))
-null_exact t e =
-    let given = exact_done (λ v. ValueFits v × (tag_of v ≡ t)) Short Null (tt, sym e) (null_only t e) in
-    record {
-      found = λ bytes x b r. let f = given.found bytes x b r in (f.0, f.1 ∙ ap (λ (t : List ℕ). t ++ x.1) (none x.0 f.0));
-      again = λ v rest h. ap (λ (t : List ℕ). Ok (Null, t ++ rest)) (sym (none v h)) ∙ given.again v rest h;
-      begins = λ bytes b r. absurd cc;
-      stays = λ bytes more d b r n. absurd cc;
-    }
+null_exact t e = exact_spelled (λ v. ValueFits v × (tag_of v ≡ t)) (λ _. []) tail_of Short (λ rest. Ok (Null, rest)) (exact_done (λ v. ValueFits v × (tag_of v ≡ t)) Short Null (tt, sym e) (null_only t e)) none
   where
     none : (v : Value) → ValueFits v × (tag_of v ≡ t) → [] ≡ tail_of v
     none v h = ap tail_of (sym (null_only t e v h))

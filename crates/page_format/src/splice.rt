@@ -1,0 +1,93 @@
+//! Putting an object among others, and spelling a page.
+
+ghost use Rattle.std.specs.Prelude.{◌≡◌, ◌≤◌, ◌<◌, ◌+◌, ◌-◌, ◌^◌, ◌++◌, length, replicate, IfOk, IsErrOf};
+ghost use Rattle.std.specs.Ordering.{nat_cmp};
+ghost use Rattle.std.specs.BTreeMap.{insert_entry};
+ghost use Rattle.page_format.specs.Pages.{Passes, head, object_entry};
+ghost use Rattle.page_format.specs.Walking.{AreStored, pairs_of};
+
+use crate::fault::Full;
+use crate::walk::{ENTRY, HEAD, PAGE, place};
+use byteorder::{BigEndian, ByteOrder};
+use std::alloc::{AllocError, Global};
+
+/// The objects with one of them put into its slot, and how many they are.
+pub(crate) fn spliced(
+    alloc: Global,
+    entries: &[u8],
+    count: u8,
+    slot: u8,
+    object: &[u8],
+) -> Result<(Vec<u8>, u8), Full>
+    requires { AreStored count entries.now }
+    ensures stored { IfOk result (λ x. AreStored x.1 x.0.items) }
+    ensures pairs { IfOk result (λ x. pairs_of x.1 x.0.items ≡ insert_entry nat_cmp (pairs_of count entries.now) slot object.now) }
+    ensures full { IsErrOf result Full.NoRoom → Passes (insert_entry nat_cmp (pairs_of count entries.now) slot object.now) }
+{
+    let (start, end) = place(entries, count, slot);
+    let kept = entries.len() - (end - start);
+    if object.len() > PAGE || HEAD + kept + ENTRY + object.len() > PAGE {
+        return Err(Full::NoRoom);
+    }
+    let added = if start == end { 1u8 } else { 0u8 };
+    if count > u8::MAX - added {
+        return Err(Full::NoRoom);
+    }
+    match joined(
+        alloc,
+        entries.split_at(start).0,
+        slot,
+        object,
+        entries.split_at(end).1,
+    ) {
+        Ok(bytes) => Ok((bytes, count + added)),
+        Err(_) => Err(Full::NoMemory),
+    }
+}
+
+/// An object in its slot, between the bytes of others.
+fn joined(
+    alloc: Global,
+    front: &[u8],
+    slot: u8,
+    object: &[u8],
+    back: &[u8],
+) -> Result<Vec<u8>, AllocError>
+    requires { length front.now + length object.now + length back.now ≤ 4096 }
+    ensures { IfOk result (λ v. v.items ≡ front.now ++ object_entry (slot, object.now) ++ back.now) }
+{
+    let room = front.len() + ENTRY + object.len() + back.len();
+    let mut bytes = Vec::with_capacity(alloc, room)?;
+    let mut about = [slot, 0, 0];
+    BigEndian::write_u16(&mut about[1..], object.len() as u16);
+    bytes.extend_from_slice(front)?;
+    bytes.extend_from_slice(&about)?;
+    bytes.extend_from_slice(object)?;
+    bytes.extend_from_slice(back)?;
+    Ok(bytes)
+}
+
+/// The bytes of a page with these objects.
+pub(crate) fn spelled(
+    alloc: Global,
+    number: u32,
+    count: u8,
+    entries: &[u8],
+) -> Result<Vec<u8>, AllocError>
+    requires { 8 + length entries.now ≤ 4096 }
+    ensures { IfOk result (λ v. v.items ≡ (head number count ++ entries.now) ++ replicate (4096 - (8 + length entries.now)) 0) }
+{
+    let mut bytes = Vec::with_capacity(alloc, PAGE)?;
+    bytes.extend_from_slice(&head_bytes(number, count))?;
+    bytes.extend_from_slice(entries)?;
+    bytes.resize(PAGE, 0)?;
+    Ok(bytes)
+}
+
+fn head_bytes(number: u32, count: u8) -> [u8; 8]
+    ensures { result ≡ head number count }
+{
+    let mut bytes = [84, 80, 1, count, 0, 0, 0, 0];
+    BigEndian::write_u32(&mut bytes[4..], number);
+    bytes
+}
