@@ -1,0 +1,12 @@
+//! The text of a script, cut into tokens and sections.
+#![tactic(auto)]
+
+mod front;
+mod lengths;
+mod piece;
+mod syntax;
+mod token;
+mod words;
+
+pub use syntax::{Syntax, SyntaxError};
+pub use token::{Token, TokenKind, Tokens};
