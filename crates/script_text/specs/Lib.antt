@@ -3,3 +3,5 @@ pub mod Words
 pub mod Pieces
 pub mod Tokens
 pub mod Reading
+pub mod Rest
+pub mod Laws

@@ -4,9 +4,12 @@
 mod front;
 mod lengths;
 mod piece;
+mod place;
+mod scanning;
 mod syntax;
 mod token;
 mod words;
 
+pub use scanning::scan;
 pub use syntax::{Syntax, SyntaxError};
 pub use token::{Token, TokenKind, Tokens};
