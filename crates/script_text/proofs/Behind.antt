@@ -1,5 +1,5 @@
 -- The tokens from a place on, by the piece that begins there.
-use Rattle.std.proofs.Common.{◌≡◌, ℕ, zero, suc, ◌+◌, ◌-◌, ◌<◌, ◌≤◌, List, [], ◌∷◌, ◌++◌, length, take, drop, get_or, Result, Ok, Err, sym, refl, ap, ◌∙◌, append_assoc, subst, add-zero, arith, length-drop}
+use Rattle.std.proofs.Common.{◌≡◌, ℕ, zero, suc, ◌+◌, ◌-◌, ◌<◌, ◌≤◌, List, [], ◌∷◌, ◌++◌, length, take, drop, get_or, Result, Ok, Err, sym, refl, ap, ◌∙◌, append_assoc, append-nil, subst, add-zero, arith, length-drop}
 use Rattle.std.proofs.lemmas.List.{drop_all, drop_more, drop-drop}
 use Rattle.script_text.specs.declared.piece.Piece.{Piece}
 use Rattle.script_text.specs.declared.token.Token.{Token}
@@ -67,7 +67,7 @@ fault_of_whole tokens read whole (Fault fault) e is = sym e ∙ ap (after tokens
 fault_of_whole tokens read whole NoMemory e is = tt
 
 -- where the text ends there are no more tokens
-pub tokens_at_end : (text : List ℕ) (place : ℕ) → length text ≤ place → tokens_from text place ≡ Ok []
+tokens_at_end : (text : List ℕ) (place : ℕ) → length text ≤ place → tokens_from text place ≡ Ok []
 unfolding tokens_from tokens_among pieces
 tokens_at_end text place ends = ap (λ t. tokens_among text (pieces 0 place t)) (drop_all place text ends)
 
@@ -80,3 +80,7 @@ after_none (Err fault) = refl
 pub tokens_from_start : (text : List ℕ) → after [] (tokens_from text 0) ≡ tokens_of text
 unfolding tokens_from tokens_of
 tokens_from_start text = after_none (tokens_among text (pieces 0 0 text))
+
+-- at the end of the text all its tokens were read
+pub all_read : (text : List ℕ) (tokens : List Token) (place : ℕ) → after tokens (tokens_from text place) ≡ tokens_of text → length text ≤ place → tokens_of text ≡ Ok tokens
+all_read text tokens place is ends = sym is ∙ ap (after tokens) (tokens_at_end text place ends) ∙ ap Ok (append-nil tokens)

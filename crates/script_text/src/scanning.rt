@@ -5,6 +5,7 @@ ghost use Rattle.script_text.specs.Bytes.{is_newline};
 ghost use Rattle.script_text.specs.Tokens.{line_at, token_at, tokens_of};
 ghost use Rattle.script_text.specs.Reading.{IsFaultOf};
 ghost use Rattle.script_text.specs.Rest.{tokens_from, after, IsPlaceIn, IsPieceAt};
+ghost use Rattle.script_text.specs.Laws.{SpansRise, AreSlices};
 
 use crate::front::first_piece;
 use crate::piece::Piece;
@@ -105,8 +106,13 @@ fn scan_piece(
 /// token, a word of more than 32 bytes, or a number past 9223372036854775807 or of more than 19 digits.
 pub fn scan(alloc: Global, text: &[u8]) -> Result<Tokens, SyntaxError>
     requires { length text.now < 2 ^ 32 }
+    // The tokens are the text's, in a text that has no fault, and the fault is the text's own.
     ensures tokens { IfOk result (λ tokens. tokens_of text.now ≡ Ok tokens) }
     ensures fault { IfErr result (IsFaultOf (tokens_of text.now)) }
+
+    // Each token is a part of the text, and they stand in its order.
+    ensures spans { IfOk result (λ tokens. SpansRise 0 tokens (length text.now)) }
+    ensures slices { IfOk result (AreSlices text.now) }
 {
     let mut tokens = Tokens::new(alloc);
     let mut place = Place { from: 0, line: 1 };

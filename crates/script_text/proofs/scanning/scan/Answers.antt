@@ -1,8 +1,7 @@
-use Rattle.std.proofs.Common.{◌≡◌, List, [], ◌++◌, ◌≤◌, Result, Ok, ap, sym, subst, refl, ◌∙◌, arith, append-nil}
-use Rattle.script_text.specs.declared.token.Token.{Token}
-use Rattle.script_text.specs.Tokens.{tokens_of}
+use Rattle.std.proofs.Common.{ap, refl, ◌∙◌, arith}
 use Rattle.script_text.specs.Rest.{tokens_from, after}
-use Rattle.script_text.proofs.Behind.{tokens_at_end, tokens_from_start}
+use Rattle.script_text.proofs.Behind.{all_read, tokens_from_start}
+use Rattle.script_text.proofs.Spans.{spans_rise, are_slices}
 use Rattle.script_text.proofs.scanning.scan.Goals as goal
 
 pub loop-place-init : goal.loop-place-init
@@ -12,7 +11,12 @@ loop-place-init c = record {
 }
 
 pub returns-clause-tokens : goal.returns-clause-tokens
-returns-clause-tokens c =
-    sym c.loop-place.invariant.tokens
-    ∙ ap (λ read. after c.loop-place.tokens read) (tokens_at_end c.args.text.now c.loop-place.place.from c.loop-place-test.false)
-    ∙ ap Ok (append-nil c.loop-place.tokens)
+returns-clause-tokens c = all_read c.args.text.now c.loop-place.tokens _ c.loop-place.invariant.tokens c.loop-place-test.false
+
+pub returns-clause-spans : goal.returns-clause-spans
+returns-clause-spans c =
+    spans_rise c.args.text.now c.loop-place.tokens (all_read c.args.text.now c.loop-place.tokens _ c.loop-place.invariant.tokens c.loop-place-test.false)
+
+pub returns-clause-slices : goal.returns-clause-slices
+returns-clause-slices c =
+    are_slices c.args.text.now c.loop-place.tokens (all_read c.args.text.now c.loop-place.tokens _ c.loop-place.invariant.tokens c.loop-place-test.false)
