@@ -1,13 +1,13 @@
 -- The tokens from a place on, by the piece that begins there.
-use Rattle.std.proofs.Common.{◌≡◌, ℕ, zero, suc, ◌+◌, ◌-◌, ◌<◌, ◌≤◌, List, [], ◌∷◌, ◌++◌, length, take, drop, get_or, Result, Ok, Err, sym, refl, ap, ◌∙◌, append_assoc, append-nil, subst, add-zero, arith, length-drop}
+use Rattle.std.proofs.Common.{◌≡◌, ℕ, zero, suc, ◌+◌, ◌-◌, ◌<◌, ◌≤◌, List, [], ◌∷◌, ◌++◌, length, drop, get_or, Result, Ok, Err, sym, refl, ap, ◌∙◌, append_assoc, append-nil, subst, add-zero, arith, length-drop}
 use Rattle.std.proofs.lemmas.List.{drop_all, drop_more, drop-drop}
 use Rattle.script_text.specs.declared.piece.Piece.{Piece}
 use Rattle.script_text.specs.declared.token.Token.{Token}
 use Rattle.script_text.specs.declared.syntax.Syntax.{Syntax}
 use Rattle.script_text.specs.declared.syntax.SyntaxError.{SyntaxError}
 use Rattle.script_text.specs.declared.syntax.SyntaxError.TheVariants.{Fault, NoMemory}
-use Rattle.script_text.specs.Pieces.{Placed, size, first_piece, pieces}
-use Rattle.script_text.specs.Tokens.{token_at, line_at, before, with_piece, tokens_among, tokens_of}
+use Rattle.script_text.specs.Pieces.{size, first_piece, pieces}
+use Rattle.script_text.specs.Tokens.{before, with_piece, tokens_among, tokens_of}
 use Rattle.script_text.specs.Reading.{IsFaultOf}
 use Rattle.script_text.specs.Rest.{tokens_from, after, IsPieceAt}
 use Rattle.script_text.proofs.Sizes.{Sized, first_sized}
@@ -38,7 +38,7 @@ piece_first text place b bs some is =
     let rest : drop (n - 1) bs ≡ drop (place + n) text = rest_behind text place b bs n some is in
     ap (λ t. tokens_among text (pieces 0 place t)) is
     ∙ ap (λ ps. with_piece text place (first_piece (b ∷ bs)) (tokens_among text ps))
-        (covered_skips (n - 1) (place + 1) bs ∙ ap (λ p. pieces 0 p (drop (n - 1) bs)) at ∙ ap (λ t. pieces 0 (place + n) t) rest)
+    (covered_skips (n - 1) (place + 1) bs ∙ ap (λ p. pieces 0 p (drop (n - 1) bs)) at ∙ ap (λ t. pieces 0 (place + n) t) rest)
 
 -- the piece that begins at a place
 pub piece_at : (text : List ℕ) (from : ℕ) (piece : Piece) → piece ≡ first_piece (drop from text) → from < length text → IsPieceAt text from piece
@@ -51,9 +51,9 @@ piece_at text from piece is more =
     let left : length (b ∷ bs) ≡ length text - from = ap length (sym rest) ∙ length-drop from text in
     let P : Piece → Type 0 = λ p. IsPieceAt text from p in
     subst P first (record {
-        some = sized.some;
-        within = omega (arith, sized.within);
-        tokens = piece_first text from b bs sized.some rest;
+      some = sized.some;
+      within = omega (arith, sized.within);
+      tokens = piece_first text from b bs sized.some rest;
     })
 
 -- a token that is read goes behind those that were read before

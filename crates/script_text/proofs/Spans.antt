@@ -1,5 +1,5 @@
 -- The spans of a text's tokens rise, and each token's text is its slice.
-use Rattle.std.proofs.Common.{◌≡◌, ℕ, zero, suc, ◌+◌, ◌-◌, ◌<◌, ◌≤◌, List, [], ◌∷◌, length, Result, Ok, Err, sym, refl, ap, subst, arith}
+use Rattle.std.proofs.Common.{◌≡◌, ℕ, zero, suc, ◌+◌, ◌-◌, ◌<◌, ◌≤◌, List, [], ◌∷◌, length, Result, Ok, Err, refl, subst, arith}
 use Rattle.std.specs.Prelude.{slice_range}
 use Rattle.std.specs.List.{AllByRecursion}
 use Rattle.std.proofs.lemmas.List.Elements.{All-from_recursion}
@@ -20,7 +20,7 @@ earlier from to end (t ∷ ts) le rise = (omega arith, rise.1, rise.2)
 -- a token and those behind it
 before_rises : (text : List ℕ) (t : Token) (read : Result (List Token) Syntax) (ts : List Token) (end : ℕ) → t.from < t.to → before t read ≡ Ok ts
     → ((us : List Token) → read ≡ Ok us → SpansRise t.to us end) → SpansRise t.from ts end
-before_rises text t (Ok us) ts end some is behind = 
+before_rises text t (Ok us) ts end some is behind =
     let P : List Token → Type 0 = λ l. SpansRise t.from l end in
     let same : t ∷ us ≡ ts = cc in
     subst P same (omega arith, some, behind us refl)
@@ -50,10 +50,10 @@ rises text zero place (b ∷ bs) ts fits is =
     let P : ℕ → Type 0 = λ p. SpansRise p ts (place + length (b ∷ bs)) in
     subst P start
     (piece_rises text place (length (b ∷ bs)) (first_piece (b ∷ bs)) (tokens_among text (pieces (n - 1) (place + 1) bs)) ts _ sized is
-        (λ us e.
-            let Q : ℕ → Type 0 = λ p. SpansRise p us (place + length (b ∷ bs)) in
-            let R : ℕ → Type 0 = λ p. SpansRise (place + 1 + (n - 1)) us p in
-            subst Q from (subst R end (rises text (n - 1) (place + 1) bs us (omega (arith, sized.within)) e))))
+    (λ us e.
+    let Q : ℕ → Type 0 = λ p. SpansRise p us (place + length (b ∷ bs)) in
+    let R : ℕ → Type 0 = λ p. SpansRise (place + 1 + (n - 1)) us p in
+    subst Q from (subst R end (rises text (n - 1) (place + 1) bs us (omega (arith, sized.within)) e))))
 rises text (suc covered) place (b ∷ bs) ts fits is =
     let from : place + 1 + covered ≡ place + suc covered = omega arith in
     let end : place + 1 + length bs ≡ place + length (b ∷ bs) = omega arith in

@@ -1,5 +1,5 @@
 -- The kinds of bytes in a script. This project's.
-use Rattle.std.specs.Prelude.{ℕ, Bool, not, ◌==◌, ◌||◌}
+use Rattle.std.specs.Prelude.{ℕ, Bool, ◌==◌, ◌||◌}
 use Rattle.std.specs.Char.{is_ascii_alphabetic, is_ascii_digit}
 
 -- the byte that ends a line

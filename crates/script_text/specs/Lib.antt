@@ -5,3 +5,4 @@ pub mod Tokens
 pub mod Reading
 pub mod Rest
 pub mod Laws
+pub mod Rows

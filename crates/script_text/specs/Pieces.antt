@@ -1,8 +1,7 @@
 -- How a text is cut into pieces: separators, comments and tokens, each as long as it can be. This project's.
-use Rattle.std.specs.Prelude.{ℕ, zero, suc, ◌+◌, ◌-◌, Bool, not, ◌==◌, ◌||◌, nat_lt, nat_eq, List, [], ◌∷◌, length, if◌then◌else◌, take_while}
+use Rattle.std.specs.Prelude.{ℕ, zero, suc, ◌+◌, ◌-◌, not, ◌==◌, ◌||◌, nat_lt, nat_eq, List, [], ◌∷◌, length, if◌then◌else◌, take_while}
 use Rattle.std.specs.List.{list_any, prefix_len, starts_with}
 use Rattle.std.specs.Str.Parse.{digits_value}
-use Rattle.script_text.specs.declared.token.TokenKind.{TokenKind}
 use Rattle.script_text.specs.declared.token.TokenKind.TheVariants.{Name, Number, Keyword, Symbol}
 use Rattle.script_text.specs.declared.piece.Piece.{Piece}
 use Rattle.script_text.specs.declared.piece.Piece.TheVariants.{Gap, Lexeme, NoToken}

@@ -13,3 +13,8 @@ mod words;
 pub use scanning::scan;
 pub use syntax::{Syntax, SyntaxError};
 pub use token::{Token, TokenKind, Tokens};
+
+#[cfg(test)]
+mod rows;
+#[cfg(test)]
+mod tests;

@@ -7,9 +7,28 @@ ghost use Rattle.script_text.specs.Words.{is_keyword};
 
 /// The words that are no names.
 const KEYWORDS: &[&[u8]] = &[
-    b"setup", b"free", b"part", b"class", b"int", b"method", b"var", b"if", b"else", b"while",
-    b"return", b"print", b"new", b"at", b"null", b"this", b"root", b"client", b"tx", b"upgrade",
-    b"old", b"schedule",
+    b"setup",
+    b"free",
+    b"part",
+    b"class",
+    b"int",
+    b"method",
+    b"var",
+    b"if",
+    b"else",
+    b"while",
+    b"return",
+    b"print",
+    b"new",
+    b"at",
+    b"null",
+    b"this",
+    b"root",
+    b"client",
+    b"tx",
+    b"upgrade",
+    b"old",
+    b"schedule",
 ];
 
 /// Whether a word is one of the words.

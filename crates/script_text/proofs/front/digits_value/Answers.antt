@@ -1,4 +1,4 @@
-use Rattle.std.proofs.Common.{◌≡◌, ◌+◌, ◌*◌, ◌-◌, take, get_or, sym, arith}
+use Rattle.std.proofs.Common.{arith}
 use Rattle.script_text.proofs.Digits.{next_digit}
 use Rattle.script_text.proofs.front.digits_value.Goals as goal
 

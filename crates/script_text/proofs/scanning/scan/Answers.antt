@@ -6,8 +6,8 @@ use Rattle.script_text.proofs.scanning.scan.Goals as goal
 
 pub loop-place-init : goal.loop-place-init
 loop-place-init c = record {
-    place = record { within = omega arith; line = refl };
-    tokens = ap (λ t. after t (tokens_from c.args.text.now 0)) c.new-tokens.ensures ∙ tokens_from_start c.args.text.now;
+  place = record { within = omega arith; line = refl };
+  tokens = ap (λ t. after t (tokens_from c.args.text.now 0)) c.new-tokens.ensures ∙ tokens_from_start c.args.text.now;
 }
 
 pub returns-clause-tokens : goal.returns-clause-tokens
