@@ -1,4 +1,12 @@
-pub mod Words
-pub mod Spelling
-pub mod Shape
+pub mod Calls
+pub mod Expressions
 pub mod Grammar
+pub mod Look
+pub mod Objects
+pub mod Run
+pub mod Shape
+pub mod Spelling
+pub mod Statements
+pub mod Steps
+pub mod Types
+pub mod Words

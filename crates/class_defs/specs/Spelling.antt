@@ -15,7 +15,7 @@ use Rattle.class_defs.specs.declared.classes.Field.{Field}
 use Rattle.class_defs.specs.declared.classes.Parameter.{Parameter}
 use Rattle.class_defs.specs.declared.classes.Method.{Method}
 use Rattle.class_defs.specs.declared.classes.Class.{Class}
-use Rattle.class_defs.specs.declared.declarations.RootDeclaration.{RootDeclaration}
+use Rattle.class_defs.specs.declared.declarations.WrittenRoot.{WrittenRoot}
 use Rattle.class_defs.specs.declared.declarations.Declarations.{Declarations}
 use Rattle.class_defs.specs.Words.{Word, Fixed, FixedAt, Numbered, name_word, symbol_of, with_commas, in_turn}
 
@@ -104,7 +104,7 @@ class_words class =
     Fixed (kind_text class.kind) ∷ Fixed (codes "class") ∷ name_word class.name ∷ Fixed (codes "{")
     ∷ (in_turn (map field_words class.fields) ++ (in_turn (map method_words class.methods) ++ Fixed (codes "}") ∷ []))
 
-abbrev pub root_words : RootDeclaration → List Word
+abbrev pub root_words : WrittenRoot → List Word
 root_words root =
     Fixed (codes "root") ∷ name_word root.name ∷ Fixed (codes "=") ∷ Fixed (codes "new") ∷ name_word root.class
     ∷ Fixed (codes "(") ∷ Fixed (codes ")") ∷ (at_words root.at ++ Fixed (codes ";") ∷ [])

@@ -4,24 +4,24 @@ use thor_value::{NoMemory, Sequence, TryCopy};
 
 /// `root name = new class();`, as it is written.
 #[derive(Debug, Drop)]
-pub struct RootDeclaration {
+pub struct WrittenRoot {
     pub name: Name,
     pub class: Name,
     pub at: Option<At>,
 }
 
-pub type RootDeclarations = Sequence<RootDeclaration>;
+pub type WrittenRoots = Sequence<WrittenRoot>;
 
 /// What the section `setup` declares, as it is written.
 #[derive(Debug, Drop)]
 pub struct Declarations {
     pub classes: Classes,
-    pub roots: RootDeclarations,
+    pub roots: WrittenRoots,
 }
 
-impl TryCopy for RootDeclaration {
-    fn copy(&self) -> Result<RootDeclaration, NoMemory> {
-        Ok(RootDeclaration {
+impl TryCopy for WrittenRoot {
+    fn copy(&self) -> Result<WrittenRoot, NoMemory> {
+        Ok(WrittenRoot {
             name: self.name.copy()?,
             class: self.class.copy()?,
             at: self.at,

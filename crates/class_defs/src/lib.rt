@@ -4,15 +4,26 @@
 mod classes;
 mod declarations;
 mod expressions;
+mod limits;
+mod machine;
 mod places;
 mod statements;
+mod store;
+mod types;
 mod upgrades;
 
 pub use classes::{
     Class, ClassKind, Classes, Field, Fields, Method, Methods, Parameter, Parameters,
 };
-pub use declarations::{Declarations, RootDeclaration, RootDeclarations};
+pub use declarations::{Declarations, WrittenRoot, WrittenRoots};
 pub use expressions::{At, Expr, Exprs, Name, Operator, TypeName};
+pub use limits::{CREATE_LIMIT, DEPTH_LIMIT, READ_LIMIT, STEP_LIMIT};
+pub use machine::{Flow, Local, Locals, Machine, NameSupply, Receiver, Stop};
 pub use places::Place;
 pub use statements::{Block, Blocks, Stmt};
+pub use store::{
+    Epochs, Object, Plain, PlainObjects, Root, RootDeclaration, RootDeclarations, Roots, Schema,
+    Setup,
+};
+pub use types::ExprType;
 pub use upgrades::{ClassUpgrade, ClassUpgrades, FieldUpgrade, FieldUpgrades, Names, Tf, Upgrade};

@@ -7,6 +7,7 @@ mod lists;
 mod memory;
 mod name_laws;
 mod names;
+mod oref_map;
 mod sequence;
 mod values;
 
@@ -15,5 +16,6 @@ pub use lists::{Ints, Orefs, Repos, Stamps, Text, Texts, Values, Writes};
 pub use memory::{NoMemory, TryCopy};
 pub use name_laws::{names_are_ordered, timestamps_are_ordered};
 pub use names::{Oref, Ts};
+pub use oref_map::OrefMap;
 pub use sequence::Sequence;
 pub use values::{Answer, Fault, Obj, Value, Who};
