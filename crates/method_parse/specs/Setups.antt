@@ -46,16 +46,24 @@ more_parameters parameters = do
   one ← parameter
   give (parameters ++ one ∷ [])
 
+-- the parameters behind the first
+unfoldable pub other_parameters : List Parameter → Reader (List Parameter)
+other_parameters first = repeat 7 (λ parameters. is (codes ",")) more_parameters first
+
 unfoldable pub some_parameters : Reader (List Parameter)
 some_parameters = do
   first ← parameter
-  repeat 7 (λ parameters. is (codes ",")) more_parameters (first ∷ [])
+  other_parameters (first ∷ [])
+
+-- the parameters up to the `)`
+unfoldable pub listed : Reader (List Parameter)
+listed = if_next (is (codes ")")) (give []) some_parameters
 
 -- the parameters of a method, with their parentheses
 unfoldable pub parameters : Reader (List Parameter)
 parameters = do
   open_line ← word (codes "(")
-  read ← if_next (is (codes ")")) (give []) some_parameters
+  read ← listed
   close_line ← word (codes ")")
   give read
 

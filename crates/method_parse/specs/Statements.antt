@@ -3,6 +3,7 @@ use Rattle.std.specs.Prelude.{Bool, ◌-◌, ℕ, zero, suc, not, ◌&&◌, nat_
 use Rattle.std.specs.Str.{bytes_eq}
 use Rattle.class_defs.specs.declared.expressions.Name.{Name}
 use Rattle.class_defs.specs.declared.expressions.Expr.{Expr, out-Expr}
+use Rattle.class_defs.specs.declared.expressions.Expr.TheVariants as e
 use Rattle.class_defs.specs.declared.expressions.Expr.TheOpen.{Expr-F}
 use Rattle.class_defs.specs.declared.statements.Stmt.{Stmt}
 use Rattle.class_defs.specs.declared.statements.Stmt.TheVariants as s
@@ -68,17 +69,25 @@ evaluated value = do
   end ← word (codes ";")
   give (s.Evaluate value)
 
-unfoldable pub assigned : Place → ℕ → (ℕ → Expr → Stmt) → Reader Stmt
-assigned place brackets made = do
-  line ← word (codes "=")
-  value ← ended place brackets
-  give (made line value)
+unfoldable pub assigned_name : Place → ℕ → Name → Reader Stmt
+assigned_name place brackets target = if_next (is (codes "="))
+    (do
+      line ← word (codes "=")
+      value ← ended place brackets
+      give (s.Assign target line value))
+    (evaluated (e.Variable target))
+
+unfoldable pub assigned_field : Place → ℕ → Name → Reader Stmt
+assigned_field place brackets target = if_next (is (codes "="))
+    (do
+      line ← word (codes "=")
+      value ← ended place brackets
+      give (s.FieldAssign target line value))
+    (evaluated (e.Field target))
 
 abbrev pub after_expression_by : Place → ℕ → Expr → Expr-F Expr → Reader Stmt
-after_expression_by place brackets value (Expr-F.Variable target) =
-    if_next (is (codes "=")) (assigned place brackets (s.Assign target)) (evaluated value)
-after_expression_by place brackets value (Expr-F.Field target) =
-    if_next (is (codes "=")) (assigned place brackets (s.FieldAssign target)) (evaluated value)
+after_expression_by place brackets value (Expr-F.Variable target) = assigned_name place brackets target
+after_expression_by place brackets value (Expr-F.Field target) = assigned_field place brackets target
 after_expression_by place brackets value _ = evaluated value
 
 unfoldable pub after_expression : Place → ℕ → Expr → Reader Stmt
@@ -87,20 +96,24 @@ after_expression place brackets value = after_expression_by place brackets value
 unfoldable pub simple : Place → ℕ → Reader Stmt
 simple place brackets = expression place brackets >>= after_expression place brackets
 
-unfoldable pub branch : Place → ℕ → Reader (List Stmt) → Reader Stmt
-branch place brackets block = do
-  line ← word (codes "if")
-  test ← condition place brackets
-  chosen ← block
-  if_next (is (codes "else"))
+-- what stands behind the block of an `if`
+unfoldable pub after_branch : Reader (List Stmt) → Expr → List Stmt → Reader Stmt
+after_branch block test chosen = if_next (is (codes "else"))
     (do
       else_line ← word (codes "else")
       otherwise ← block
       give (s.IfElse test chosen otherwise))
     (give (s.If test chosen))
 
-unfoldable pub loop : Place → ℕ → Reader (List Stmt) → Reader Stmt
-loop place brackets block = do
+unfoldable pub branch : Place → ℕ → Reader (List Stmt) → Reader Stmt
+branch place brackets block = do
+  line ← word (codes "if")
+  test ← condition place brackets
+  chosen ← block
+  after_branch block test chosen
+
+unfoldable pub while_loop : Place → ℕ → Reader (List Stmt) → Reader Stmt
+while_loop place brackets block = do
   line ← word (codes "while")
   test ← condition place brackets
   body ← block
@@ -130,15 +143,18 @@ unfoldable pub statement_by : Place → ℕ → Reader (List Stmt) → StmtStart
 statement_by place brackets block starts.Var = variable place brackets
 statement_by place brackets block starts.Return = returned place brackets
 statement_by place brackets block starts.If = branch place brackets block
-statement_by place brackets block starts.While = loop place brackets block
+statement_by place brackets block starts.While = while_loop place brackets block
 statement_by place brackets block starts.Print = printed place brackets
 statement_by place brackets block starts.Other = simple place brackets
 
 unfoldable pub statement : Place → ℕ → Reader (List Stmt) → Reader Stmt
 statement place brackets block = λ tokens. statement_by place brackets block (start place brackets tokens) tokens
 
+abbrev pub is_not_end : Token → Bool
+is_not_end token = not (is (codes "}") token)
+
 abbrev pub goes_on : List Stmt → Token → Bool
-goes_on stmts token = not (is (codes "}") token)
+goes_on stmts = is_not_end
 
 -- one more statement
 unfoldable pub more_statements : Place → ℕ → Reader (List Stmt) → List Stmt → Reader (List Stmt)
@@ -146,11 +162,18 @@ more_statements place brackets block stmts = do
   stmt ← statement place brackets block
   give (stmts ++ stmt ∷ [])
 
+-- statements up to the `}`
+unfoldable pub statements : Place → ℕ → Reader (List Stmt) → Reader (List Stmt)
+statements place brackets block = repeat_all goes_on (more_statements place brackets block) []
+
+unfoldable pub braces : Place → ℕ → Reader (List Stmt) → Reader (List Stmt)
+braces place brackets block = do
+  open_line ← word (codes "{")
+  stmts ← statements place brackets block
+  close_line ← word (codes "}")
+  give stmts
+
 -- statements between braces, with room for brackets, the braces among them
 unfoldable pub block_in : Place → ℕ → Reader (List Stmt)
 block_in place zero = stuck
-block_in place (suc brackets) = do
-  open_line ← word (codes "{")
-  stmts ← repeat_all goes_on (more_statements place brackets (block_in place brackets)) []
-  close_line ← word (codes "}")
-  give stmts
+block_in place (suc brackets) = braces place brackets (block_in place brackets)

@@ -4,5 +4,7 @@
 mod deep;
 mod error;
 mod expressions;
+mod setups;
 mod starts;
+mod statements;
 mod take;

@@ -4,9 +4,11 @@ ghost use Rattle.std.specs.Prelude.{◌≡◌, ◌<◌};
 ghost use Rattle.class_defs.specs.Shape.{in_method, in_item};
 ghost use Rattle.method_parse.specs.Reader.{next};
 ghost use Rattle.method_parse.specs.declared.deep.Start.TheVariants.{Parens};
+ghost use Rattle.method_parse.specs.declared.deep.StmtStart.TheVariants.{If, While};
 ghost use Rattle.method_parse.specs.Expressions.{may_call, is_field_call, is_minus, is_call, is_join, tighter, most_joins, operator_of, operator_in, fixed_start, start};
+ghost use Rattle.method_parse.specs.Statements.{fixed_start as fixed_statement_start, start as statement_start, is_not_end};
 
-use crate::deep::{Deep, Level, Room, Start};
+use crate::deep::{Deep, Level, Room, Start, StmtStart};
 use crate::take::is;
 use class_defs::{Operator, Place};
 use script_text::{Token, TokenKind};
@@ -181,5 +183,53 @@ pub fn most_joins(level: Level, room: Room) -> u32
         Level::Sum => room.depth,
         Level::Term => room.depth,
         Level::Unary => 0,
+    }
+}
+
+fn fixed_statement_start(place: Place, brackets: u32, text: &[u8]) -> StmtStart
+    ensures value { result ≡ fixed_statement_start place brackets text.now }
+    ensures branch { result ≡ If → 0 < brackets }
+    ensures repeated { result ≡ While → 0 < brackets }
+{
+    if text == b"var".as_slice() {
+        StmtStart::Var
+    } else if text == b"return".as_slice() && in_method(place) {
+        StmtStart::Return
+    } else if text == b"if".as_slice() && 0 < brackets {
+        StmtStart::If
+    } else if text == b"while".as_slice() && 0 < brackets {
+        StmtStart::While
+    } else if text == b"print".as_slice() && in_item(place) {
+        StmtStart::Print
+    } else {
+        StmtStart::Other
+    }
+}
+
+/// How a statement begins here.
+#[tactic(auto, unfolding(crate::specs::Statements::start))]
+pub fn statement_start(place: Place, brackets: u32, tokens: &[Token]) -> StmtStart
+    ensures value { result ≡ statement_start place brackets tokens.now }
+    ensures branch { result ≡ If → 0 < brackets }
+    ensures repeated { result ≡ While → 0 < brackets }
+{
+    match tokens.split_first() {
+        None => StmtStart::Other,
+        Some((token, _)) => match token.kind {
+            TokenKind::Name => StmtStart::Other,
+            TokenKind::Number => StmtStart::Other,
+            TokenKind::Keyword => fixed_statement_start(place, brackets, token.text.as_slice()),
+            TokenKind::Symbol => fixed_statement_start(place, brackets, token.text.as_slice()),
+        },
+    }
+}
+
+/// Whether there is a next token, and the statements go on with it.
+pub fn goes_on(tokens: &[Token]) -> bool
+    ensures { result ≡ next is_not_end tokens.now }
+{
+    match tokens.split_first() {
+        None => false,
+        Some((token, _)) => !is(token, b"}"),
     }
 }
