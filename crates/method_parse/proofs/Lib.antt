@@ -1,2 +1,7 @@
 pub mod Repeats
 pub mod Rooms
+pub mod Lawful
+pub mod Equations
+pub mod Matched
+pub mod Fits
+pub mod ExpressionLaws
