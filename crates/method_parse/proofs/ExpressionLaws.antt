@@ -110,7 +110,7 @@ module _ (place : Place) (brackets room : ℕ) (inner : Reader Deep) (law : Lawf
 pub test_both : (a b : Bool) → (a && b) ≡ true → (a ≡ true) × (b ≡ true)
 test_both a b e = both_true a b e
 
-picked : {X : Type 0} (P : X → Type 0) (b : Bool) (x y : X) → (b ≡ true → P x) → P y → P (cond b x y)
+pub picked : {X : Type 0} (P : X → Type 0) (b : Bool) (x y : X) → (b ≡ true → P x) → P y → P (cond b x y)
 picked P true x y one other = one refl
 picked P false x y one other = other
 

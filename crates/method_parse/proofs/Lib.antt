@@ -5,3 +5,4 @@ pub mod Equations
 pub mod Matched
 pub mod Fits
 pub mod ExpressionLaws
+pub mod StatementLaws
