@@ -43,10 +43,10 @@ pub lawful_at : Lawful SaysAt at
 unfolding at
 lawful_at =
     lawful_if (is (codes "at"))
-      (λ t p. lawful_bind (lawful_word (codes "at")) (λ line f1 s1.
-        lawful_last (λ n. Some (record { line = line; number = n.0; number_line = n.1 })) lawful_number (λ n f2 s2.
-          join f1 f2 (FixedAt (codes "at") line ∷ []) (Numbered (pos n.0) n.1 ∷ []) s1 s2)))
-      (lawful_give None tt)
+    (λ t p. lawful_bind (lawful_word (codes "at")) (λ line f1 s1.
+    lawful_last (λ n. Some (record { line = line; number = n.0; number_line = n.1 })) lawful_number (λ n f2 s2.
+    join f1 f2 (FixedAt (codes "at") line ∷ []) (Numbered (pos n.0) n.1 ∷ []) s1 s2)))
+    (lawful_give None tt)
 
 -- an argument behind a comma, and the list of all
 module _ (place : Place) (brackets room : ℕ) (inner : Reader Deep) (law : Lawful (IsRead place brackets room 0) inner) where
@@ -64,7 +64,7 @@ module _ (place : Place) (brackets room : ℕ) (inner : Reader Deep) (law : Lawf
       lawful_bind (lawful_word (codes ",")) (λ line f1 s1. lawful_last (with_argument a) law (λ d f2 s2. record {
         listed = record {
           spelled = subst (λ (w : List Word). AreWords (front ++ (f1 ++ f2)) w) (sym (commas-push a.exprs d.expr begun.filled))
-            (join front (f1 ++ f2) (with_commas (map expr_words a.exprs)) (Fixed (codes ",") ∷ expr_words d.expr) begun.listed.spelled
+              (join front (f1 ++ f2) (with_commas (map expr_words a.exprs)) (Fixed (codes ",") ∷ expr_words d.expr) begun.listed.spelled
               (join f1 f2 (Fixed (codes ",") ∷ []) (expr_words d.expr) (plain f1 (codes ",") line s1) s2.spelled));
           fits = list_more a d begun.listed.fits s2.fits;
         };
@@ -76,7 +76,9 @@ module _ (place : Place) (brackets room : ℕ) (inner : Reader Deep) (law : Lawf
     listed = record {
       spelled = subst (λ (w : List Word). AreWords f w) (sym (append-nil (expr_words d.expr))) s.spelled;
       fits = record {
-        deep = omega (arith, s.fits.deep); within = s.fits.within; nested = omega (arith, s.fits.nested);
+        deep = omega (arith, s.fits.deep);
+        within = s.fits.within;
+        nested = omega (arith, s.fits.nested);
         proper = and-both (shape place d.expr).proper true s.fits.proper refl;
       };
     };
@@ -87,24 +89,24 @@ module _ (place : Place) (brackets room : ℕ) (inner : Reader Deep) (law : Lawf
   unfolding some_arguments more_arguments
   lawful_some =
       lawful_bind law (λ d f s. lawful_repeat_all (IsBegun place brackets room) is_comma (argument inner)
-        (λ a front begun t p. lawful_argument a front begun) (first_argument d) f (first_begun d f s))
+      (λ a front begun t p. lawful_argument a front begun) (first_argument d) f (first_begun d f s))
 
   lawful_listed : Lawful (IsListed place brackets room) (listed inner)
   unfolding listed
   lawful_listed =
       lawful_if (is (codes ")"))
-        (λ t p. lawful_give (record { exprs = []; depth = 0 }) (record { spelled = tt; fits = record { deep = refl; within = omega arith; nested = omega arith; proper = refl } }))
-        (lawful_as (λ a text begun. begun.listed) lawful_some)
+      (λ t p. lawful_give (record { exprs = []; depth = 0 }) (record { spelled = tt; fits = record { deep = refl; within = omega arith; nested = omega arith; proper = refl } }))
+      (lawful_as (λ a text begun. begun.listed) lawful_some)
 
   pub lawful_arguments : Lawful (IsApplied place brackets room) (arguments inner)
   unfolding arguments
   lawful_arguments =
       lawful_bind (lawful_word (codes "(")) (λ l f1 s1. lawful_bind lawful_listed (λ a f2 s2.
-        lawful_last (λ c. a) (lawful_word (codes ")")) (λ c f3 s3. record {
-          spelled = join f1 (f2 ++ f3) (Fixed (codes "(") ∷ []) (with_commas (map expr_words a.exprs) ++ Fixed (codes ")") ∷ []) (plain f1 (codes "(") l s1)
+      lawful_last (λ c. a) (lawful_word (codes ")")) (λ c f3 s3. record {
+        spelled = join f1 (f2 ++ f3) (Fixed (codes "(") ∷ []) (with_commas (map expr_words a.exprs) ++ Fixed (codes ")") ∷ []) (plain f1 (codes "(") l s1)
             (join f2 f3 (with_commas (map expr_words a.exprs)) (Fixed (codes ")") ∷ []) s2.spelled (plain f3 (codes ")") c s3));
-          fits = s2.fits;
-        })))
+        fits = s2.fits;
+      })))
 
 -- a test of two parts
 pub test_both : (a b : Bool) → (a && b) ≡ true → (a ≡ true) × (b ≡ true)
@@ -231,7 +233,7 @@ module _ (place : Place) (room : Room) (below : ℕ) (deeper : room.depth ≡ be
   leaf_read x nesting b ts ws words shaped le proper spelled = record {
     spelled = subst (λ (w : List Word). AreWords ts w) (sym words) spelled;
     fits = subst (λ (s : Shape). FitsIn room.brackets room.depth 4 1 s) (sym shaped)
-      (record { deep = refl; positive = omega arith; within = omega arith; nested = le; tight = omega arith; proper = proper });
+        (record { deep = refl; positive = omega arith; within = omega arith; nested = le; tight = omega arith; proper = proper });
   }
 
   -- a call of a receiver with arguments
@@ -239,9 +241,9 @@ module _ (place : Place) (room : Room) (below : ℕ) (deeper : room.depth ≡ be
       → AreWords f1 (Fixed (codes ".") ∷ []) → SaysName m f2 → IsApplied place (room.brackets - 1) below a f3 → Here 4 (call r m a) (front ++ (f1 ++ (f2 ++ f3)))
   call_read r m a front f1 f2 f3 receiver lt some s1 s2 s3 = record {
     spelled = subst (λ (w : List Word). AreWords (front ++ (f1 ++ (f2 ++ f3))) w) (sym (eq.words-Call r.expr m a.exprs))
-      (join front (f1 ++ (f2 ++ f3)) (expr_words r.expr) (Fixed (codes ".") ∷ name_word m ∷ Fixed (codes "(") ∷ (with_commas (map expr_words a.exprs) ++ Fixed (codes ")") ∷ [])) receiver.spelled
+        (join front (f1 ++ (f2 ++ f3)) (expr_words r.expr) (Fixed (codes ".") ∷ name_word m ∷ Fixed (codes "(") ∷ (with_commas (map expr_words a.exprs) ++ Fixed (codes ")") ∷ [])) receiver.spelled
         (join f1 (f2 ++ f3) (Fixed (codes ".") ∷ []) (name_word m ∷ Fixed (codes "(") ∷ (with_commas (map expr_words a.exprs) ++ Fixed (codes ")") ∷ [])) s1
-          (join f2 f3 (name_word m ∷ []) (Fixed (codes "(") ∷ (with_commas (map expr_words a.exprs) ++ Fixed (codes ")") ∷ [])) s2 s3.spelled)));
+        (join f2 f3 (name_word m ∷ []) (Fixed (codes "(") ∷ (with_commas (map expr_words a.exprs) ++ Fixed (codes ")") ∷ [])) s2 s3.spelled)));
     fits = subst (λ (s : Shape). FitsIn room.brackets room.depth 4 (max r.depth a.depth + 1) s) (sym (eq.shape-Call place r.expr m a.exprs)) (record {
       deep = rw (receiver.fits.deep, s3.fits.deep) refl;
       positive = omega arith;
@@ -249,7 +251,7 @@ module _ (place : Place) (room : Room) (below : ℕ) (deeper : room.depth ≡ be
       nested = omega (arith, receiver.fits.nested, s3.fits.nested);
       tight = omega arith;
       proper = and-both ((shape place r.expr).proper && nat_le 4 (shape place r.expr).level) (all_proper (map (shape place) a.exprs))
-        (and-both (shape place r.expr).proper (nat_le 4 (shape place r.expr).level) receiver.fits.proper (le-leb 4 (shape place r.expr).level receiver.fits.tight)) s3.fits.proper;
+          (and-both (shape place r.expr).proper (nat_le 4 (shape place r.expr).level) receiver.fits.proper (le-leb 4 (shape place r.expr).level receiver.fits.tight)) s3.fits.proper;
     });
   }
 
@@ -260,17 +262,17 @@ module _ (place : Place) (room : Room) (below : ℕ) (deeper : room.depth ≡ be
   unfolding called
   lawful_called r front receiver lt some =
       lawful_bind (lawful_word (codes ".")) (λ l f1 s1. lawful_bind lawful_name (λ m f2 s2.
-        lawful_last (call r m) (arguments_law some (omega (arith, receiver.fits.positive))) (λ a f3 s3.
-          call_read r m a front f1 f2 f3 receiver lt some (plain f1 (codes ".") l s1) s2 s3)))
+      lawful_last (call r m) (arguments_law some (omega (arith, receiver.fits.positive))) (λ a f3 s3.
+      call_read r m a front f1 f2 f3 receiver lt some (plain f1 (codes ".") l s1) s2 s3)))
 
   lawful_calls : (r : Deep) (front : List Token) → Here 4 r front → Lawful (behind front (Here 4)) (calls room inner r)
   unfolding calls
   lawful_calls r front receiver =
       lawful_repeat (Here 4) (is_call room) (called inner) (λ x f s t p.
-          let two = both_true (is (codes ".") t) (nat_lt 0 room.brackets && nat_lt x.depth room.depth) p in
-          let may = both_true (nat_lt 0 room.brackets) (nat_lt x.depth room.depth) two.1 in
-          lawful_called x f s (ltb-true x.depth room.depth may.1) (ltb-true 0 room.brackets may.0))
-        room.depth r front receiver
+      let two = both_true (is (codes ".") t) (nat_lt 0 room.brackets && nat_lt x.depth room.depth) p in
+      let may = both_true (nat_lt 0 room.brackets) (nat_lt x.depth room.depth) two.1 in
+      lawful_called x f s (ltb-true x.depth room.depth may.1) (ltb-true 0 room.brackets may.0))
+      room.depth r front receiver
 
   may_be : (t : Token) → is_field_call room t ≡ true → (0 < room.brackets) × (0 < below)
   may_be t p =
@@ -287,32 +289,32 @@ module _ (place : Place) (room : Room) (below : ℕ) (deeper : room.depth ≡ be
   unfolding after_field
   lawful_after_field here line field f1 f2 f3 s1 s2 s3 =
       lawful_if (is_field_call room)
-        (λ t p. let may = may_be t p in
-          lawful_last (call (leaf (e.This line)) field) (arguments_law may.0 may.1) (λ a f4 s4.
-            call_read (leaf (e.This line)) field a f1 f2 f3 f4 (this_read here line f1 s1) (omega arith) may.0 s2 s3 s4))
-        (lawful_give (leaf (e.Field field))
-          (leaf_read (e.Field field) 0 (in_method place) (f1 ++ (f2 ++ (f3 ++ []))) (Fixed (codes "this") ∷ Fixed (codes ".") ∷ name_word field ∷ []) (eq.words-Field field) (eq.shape-Field place field) (omega arith) here
-            (join f1 (f2 ++ (f3 ++ [])) (Fixed (codes "this") ∷ []) (Fixed (codes ".") ∷ name_word field ∷ []) (plain f1 (codes "this") line s1)
-              (join f2 (f3 ++ []) (Fixed (codes ".") ∷ []) (name_word field ∷ []) s2 (join f3 [] (name_word field ∷ []) [] s3 tt)))))
+      (λ t p. let may = may_be t p in
+      lawful_last (call (leaf (e.This line)) field) (arguments_law may.0 may.1) (λ a f4 s4.
+      call_read (leaf (e.This line)) field a f1 f2 f3 f4 (this_read here line f1 s1) (omega arith) may.0 s2 s3 s4))
+      (lawful_give (leaf (e.Field field))
+      (leaf_read (e.Field field) 0 (in_method place) (f1 ++ (f2 ++ (f3 ++ []))) (Fixed (codes "this") ∷ Fixed (codes ".") ∷ name_word field ∷ []) (eq.words-Field field) (eq.shape-Field place field) (omega arith) here
+      (join f1 (f2 ++ (f3 ++ [])) (Fixed (codes "this") ∷ []) (Fixed (codes ".") ∷ name_word field ∷ []) (plain f1 (codes "this") line s1)
+      (join f2 (f3 ++ []) (Fixed (codes ".") ∷ []) (name_word field ∷ []) s2 (join f3 [] (name_word field ∷ []) [] s3 tt)))))
 
   lawful_after_this : in_method place ≡ true → (line : ℕ) (f1 : List Token) → SaysWord (codes "this") line f1 → Lawful (behind f1 (Here 4)) (after_this room inner line)
   unfolding after_this
   lawful_after_this here line f1 s1 =
       lawful_if (is (codes "."))
-        (λ t p. lawful_bind (lawful_word (codes ".")) (λ l f2 s2. lawful_bind lawful_name (λ n f3 s3.
-          lawful_after_field here line n f1 f2 f3 s1 (plain f2 (codes ".") l s2) s3)))
-        (lawful_give (leaf (e.This line)) (subst (λ (f : List Token). Here 4 (leaf (e.This line)) f) (sym (append-nil f1)) (this_read here line f1 s1)))
+      (λ t p. lawful_bind (lawful_word (codes ".")) (λ l f2 s2. lawful_bind lawful_name (λ n f3 s3.
+      lawful_after_field here line n f1 f2 f3 s1 (plain f2 (codes ".") l s2) s3)))
+      (lawful_give (leaf (e.This line)) (subst (λ (f : List Token). Here 4 (leaf (e.This line)) f) (sym (append-nil f1)) (this_read here line f1 s1)))
 
   lawful_created : 0 < room.brackets → Lawful (Here 4) created
   unfolding created
   lawful_created some =
       lawful_bind (lawful_word (codes "new")) (λ l f1 s1. lawful_bind lawful_name (λ n f2 s2. lawful_bind (lawful_word (codes "(")) (λ o f3 s3.
-        lawful_bind (lawful_word (codes ")")) (λ c f4 s4. lawful_last (λ a. leaf (e.New n a)) lawful_at (λ a f5 s5.
-          leaf_read (e.New n a) 1 true (f1 ++ (f2 ++ (f3 ++ (f4 ++ f5)))) (Fixed (codes "new") ∷ name_word n ∷ Fixed (codes "(") ∷ Fixed (codes ")") ∷ at_words a) (eq.words-New n a) (eq.shape-New place n a) (omega arith) refl
-            (join f1 (f2 ++ (f3 ++ (f4 ++ f5))) (Fixed (codes "new") ∷ []) (name_word n ∷ Fixed (codes "(") ∷ Fixed (codes ")") ∷ at_words a) (plain f1 (codes "new") l s1)
-              (join f2 (f3 ++ (f4 ++ f5)) (name_word n ∷ []) (Fixed (codes "(") ∷ Fixed (codes ")") ∷ at_words a) s2
-                (join f3 (f4 ++ f5) (Fixed (codes "(") ∷ []) (Fixed (codes ")") ∷ at_words a) (plain f3 (codes "(") o s3)
-                  (join f4 f5 (Fixed (codes ")") ∷ []) (at_words a) (plain f4 (codes ")") c s4) s5)))))))))
+      lawful_bind (lawful_word (codes ")")) (λ c f4 s4. lawful_last (λ a. leaf (e.New n a)) lawful_at (λ a f5 s5.
+      leaf_read (e.New n a) 1 true (f1 ++ (f2 ++ (f3 ++ (f4 ++ f5)))) (Fixed (codes "new") ∷ name_word n ∷ Fixed (codes "(") ∷ Fixed (codes ")") ∷ at_words a) (eq.words-New n a) (eq.shape-New place n a) (omega arith) refl
+      (join f1 (f2 ++ (f3 ++ (f4 ++ f5))) (Fixed (codes "new") ∷ []) (name_word n ∷ Fixed (codes "(") ∷ Fixed (codes ")") ∷ at_words a) (plain f1 (codes "new") l s1)
+      (join f2 (f3 ++ (f4 ++ f5)) (name_word n ∷ []) (Fixed (codes "(") ∷ Fixed (codes ")") ∷ at_words a) s2
+      (join f3 (f4 ++ f5) (Fixed (codes "(") ∷ []) (Fixed (codes ")") ∷ at_words a) (plain f3 (codes "(") o s3)
+      (join f4 f5 (Fixed (codes ")") ∷ []) (at_words a) (plain f4 (codes ")") c s4) s5)))))))))
 
   abbrev in_parens : Deep → ℕ → Deep
   in_parens d line = record { expr = e.Parens d.expr line; depth = d.depth + 1 }
@@ -322,7 +324,7 @@ module _ (place : Place) (room : Room) (below : ℕ) (deeper : room.depth ≡ be
   lawful_parens some deep =
       lawful_bind (lawful_word (codes "(")) (λ l f1 s1. lawful_bind (inner_law some deep) (λ d f2 s2. lawful_last (λ c. in_parens d l) (lawful_word (codes ")")) (λ c f3 s3. record {
         spelled = subst (λ (w : List Word). AreWords (f1 ++ (f2 ++ f3)) w) (sym (eq.words-Parens d.expr l))
-          (join f1 (f2 ++ f3) (FixedAt (codes "(") l ∷ []) (expr_words d.expr ++ Fixed (codes ")") ∷ []) s1
+            (join f1 (f2 ++ f3) (FixedAt (codes "(") l ∷ []) (expr_words d.expr ++ Fixed (codes ")") ∷ []) s1
             (join f2 f3 (expr_words d.expr) (Fixed (codes ")") ∷ []) s2.spelled (plain f3 (codes ")") c s3)));
         fits = subst (λ (s : Shape). FitsIn room.brackets room.depth 4 (d.depth + 1) s) (sym (eq.shape-Parens place d.expr l)) (record {
           deep = ap (λ (n : ℕ). n + 1) s2.fits.deep;
@@ -350,9 +352,9 @@ module _ (place : Place) (room : Room) (below : ℕ) (deeper : room.depth ≡ be
       (picked Allows (bytes_eq text (codes "this") && in_method place) starts.This _ (λ p. (both_true (bytes_eq text (codes "this")) (in_method place) p).1)
       (picked Allows (bytes_eq text (codes "new") && nat_lt 0 room.brackets) starts.New _ (λ p. ltb-true 0 room.brackets (both_true (bytes_eq text (codes "new")) (nat_lt 0 room.brackets) p).1)
       (picked Allows (bytes_eq text (codes "(") && may_call room) starts.Parens starts.Other (λ p.
-        let may = both_true (nat_lt 0 room.brackets) (nat_lt 1 room.depth) (both_true (bytes_eq text (codes "(")) (may_call room) p).1 in
-        let deep : 1 < room.depth = ltb-true 1 room.depth may.1 in
-        (ltb-true 0 room.brackets may.0, omega arith)) tt)))
+      let may = both_true (nat_lt 0 room.brackets) (nat_lt 1 room.depth) (both_true (bytes_eq text (codes "(")) (may_call room) p).1 in
+      let deep : 1 < room.depth = ltb-true 1 room.depth may.1 in
+      (ltb-true 0 room.brackets may.0, omega arith)) tt)))
 
   kind_allows : (k : TokenKind) (text : List ℕ) → Allows (start_by place room k text)
   kind_allows kinds.Name text = tt
@@ -397,23 +399,23 @@ module _ (place : Place) (room : Room) (below : ℕ) (deeper : room.depth ≡ be
   unfolding unary
   lawful_unary =
       lawful_if (is_minus room)
-        (λ t p.
-          let two = both_true (is (codes "-") t) (nat_lt 1 room.depth) p in
-          let deep : 1 < room.depth = ltb-true 1 room.depth two.1 in
-          let more : 0 < below = omega arith in
-          lawful_bind (lawful_word (codes "-")) (λ l f1 s1. lawful_last (λ d. record { expr = e.Negate d.expr l; depth = d.depth + 1 }) (parts_law more levels.Unary) (λ d f2 s2. record {
-            spelled = subst (λ (w : List Word). AreWords (f1 ++ f2) w) (sym (eq.words-Negate d.expr l))
-              (join f1 f2 (FixedAt (codes "-") l ∷ []) (expr_words d.expr) s1 s2.spelled);
-            fits = subst (λ (s : Shape). FitsIn room.brackets room.depth 3 (d.depth + 1) s) (sym (eq.shape-Negate place d.expr l)) (record {
-              deep = ap (λ (n : ℕ). n + 1) s2.fits.deep;
-              positive = omega arith;
-              within = omega (arith, s2.fits.within);
-              nested = s2.fits.nested;
-              tight = omega arith;
-              proper = and-both (shape place d.expr).proper (nat_le 3 (shape place d.expr).level) s2.fits.proper (le-leb 3 (shape place d.expr).level s2.fits.tight);
-            });
-          })))
-        (lawful_as (λ d ts s. looser place room.brackets room.depth 4 3 d ts (omega arith) s) lawful_postfix)
+      (λ t p.
+      let two = both_true (is (codes "-") t) (nat_lt 1 room.depth) p in
+      let deep : 1 < room.depth = ltb-true 1 room.depth two.1 in
+      let more : 0 < below = omega arith in
+      lawful_bind (lawful_word (codes "-")) (λ l f1 s1. lawful_last (λ d. record { expr = e.Negate d.expr l; depth = d.depth + 1 }) (parts_law more levels.Unary) (λ d f2 s2. record {
+        spelled = subst (λ (w : List Word). AreWords (f1 ++ f2) w) (sym (eq.words-Negate d.expr l))
+            (join f1 f2 (FixedAt (codes "-") l ∷ []) (expr_words d.expr) s1 s2.spelled);
+        fits = subst (λ (s : Shape). FitsIn room.brackets room.depth 3 (d.depth + 1) s) (sym (eq.shape-Negate place d.expr l)) (record {
+          deep = ap (λ (n : ℕ). n + 1) s2.fits.deep;
+          positive = omega arith;
+          within = omega (arith, s2.fits.within);
+          nested = s2.fits.nested;
+          tight = omega arith;
+          proper = and-both (shape place d.expr).proper (nat_le 3 (shape place d.expr).level) s2.fits.proper (le-leb 3 (shape place d.expr).level s2.fits.tight);
+        });
+      })))
+      (lawful_as (λ d ts s. looser place room.brackets room.depth 4 3 d ts (omega arith) s) lawful_postfix)
 
   -- one more operator and operand
   lawful_joined : (level : Level) → HasOperators level → (l : Deep) (front : List Token) → Here (left_tight level) l front → l.depth < room.depth
@@ -423,7 +425,7 @@ module _ (place : Place) (room : Room) (below : ℕ) (deeper : room.depth ≡ be
       let more : 0 < below = omega (arith, left.fits.positive) in
       lawful_bind (lawful_operator level has.some) (λ o f1 s1. lawful_last (λ r. record { expr = e.Binary o.0 l.expr r.expr o.1; depth = max l.depth r.depth + 1 }) (parts_law more (tighter level)) (λ r f2 s2. record {
         spelled = subst (λ (w : List Word). AreWords (front ++ (f1 ++ f2)) w) (sym (eq.words-Binary o.0 l.expr r.expr o.1))
-          (join front (f1 ++ f2) (expr_words l.expr) (FixedAt (symbol_of o.0) o.1 ∷ expr_words r.expr) left.spelled
+            (join front (f1 ++ f2) (expr_words l.expr) (FixedAt (symbol_of o.0) o.1 ∷ expr_words r.expr) left.spelled
             (join f1 f2 (FixedAt (symbol_of o.0) o.1 ∷ []) (expr_words r.expr) s1.spelled s2.spelled));
         fits = subst (λ (s : Shape). FitsIn room.brackets room.depth (tightness level) (max l.depth r.depth + 1) s) (sym (eq.shape-Binary place o.0 l.expr r.expr o.1)) (record {
           deep = rw (left.fits.deep, s2.fits.deep) refl;
@@ -432,8 +434,8 @@ module _ (place : Place) (room : Room) (below : ℕ) (deeper : room.depth ≡ be
           nested = omega (arith, left.fits.nested, s2.fits.nested);
           tight = omega (arith, s1.of.at);
           proper = and-both ((shape place l.expr).proper && nat_le (left_level o.0) (shape place l.expr).level) ((shape place r.expr).proper && nat_le (right_level o.0) (shape place r.expr).level)
-            (and-both (shape place l.expr).proper (nat_le (left_level o.0) (shape place l.expr).level) left.fits.proper (le-leb (left_level o.0) (shape place l.expr).level (omega (arith, s1.of.left, left.fits.tight))))
-            (and-both (shape place r.expr).proper (nat_le (right_level o.0) (shape place r.expr).level) s2.fits.proper (le-leb (right_level o.0) (shape place r.expr).level (omega (arith, s1.of.at, has.next, s2.fits.tight))));
+              (and-both (shape place l.expr).proper (nat_le (left_level o.0) (shape place l.expr).level) left.fits.proper (le-leb (left_level o.0) (shape place l.expr).level (omega (arith, s1.of.left, left.fits.tight))))
+              (and-both (shape place r.expr).proper (nat_le (right_level o.0) (shape place r.expr).level) s2.fits.proper (le-leb (right_level o.0) (shape place r.expr).level (omega (arith, s1.of.at, has.next, s2.fits.tight))));
         });
       }))
 
@@ -455,9 +457,9 @@ module _ (place : Place) (room : Room) (below : ℕ) (deeper : room.depth ≡ be
   unfolding joins repeat
   lawful_comparison l front left =
       lawful_if (is_join levels.Comparison room l)
-        (λ t p. lawful_bind (lawful_joined levels.Comparison comparisons l front left (join_deep levels.Comparison l t p)) (λ y f s.
-          lawful_give y (subst (λ (u : List Token). Here 0 y (front ++ u)) (sym (append-nil f)) s)))
-        (lawful_give l (subst (λ (u : List Token). Here 0 l u) (sym (append-nil front)) (looser place room.brackets room.depth 1 0 l front (omega arith) left)))
+      (λ t p. lawful_bind (lawful_joined levels.Comparison comparisons l front left (join_deep levels.Comparison l t p)) (λ y f s.
+      lawful_give y (subst (λ (u : List Token). Here 0 y (front ++ u)) (sym (append-nil f)) s)))
+      (lawful_give l (subst (λ (u : List Token). Here 0 l u) (sym (append-nil front)) (looser place room.brackets room.depth 1 0 l front (omega arith) left)))
 
   term_law : Lawful (Here 2) (unary place room inner parts >>= joins levels.Term room parts)
   term_law = lawful_bind lawful_unary (λ l f s. lawful_terms l f (looser place room.brackets room.depth 3 2 l f (omega arith) s))
@@ -478,6 +480,6 @@ unfolding expression_in
 lawful_expression place brackets zero level lt = absurd (omega arith)
 lawful_expression place brackets (suc depth) level lt =
     lawful_at_level place (record { brackets = brackets; depth = suc depth }) depth (omega arith)
-      (expression_in place (brackets - 1) depth levels.Comparison) (expression_in place brackets depth)
-      (λ some deep. lawful_expression place (brackets - 1) depth levels.Comparison deep)
-      (λ deep l. lawful_expression place brackets depth l deep) level
+    (expression_in place (brackets - 1) depth levels.Comparison) (expression_in place brackets depth)
+    (λ some deep. lawful_expression place (brackets - 1) depth levels.Comparison deep)
+    (λ deep l. lawful_expression place brackets depth l deep) level

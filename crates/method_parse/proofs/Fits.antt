@@ -40,8 +40,12 @@ pub looser : (place : Place) (brackets room level less : ℕ) (d : Deep) (ts : L
 looser place brackets room level less d ts le read = record {
   spelled = read.spelled;
   fits = record {
-    deep = read.fits.deep; positive = read.fits.positive; within = read.fits.within; nested = read.fits.nested;
-    tight = omega (arith, read.fits.tight); proper = read.fits.proper;
+    deep = read.fits.deep;
+    positive = read.fits.positive;
+    within = read.fits.within;
+    nested = read.fits.nested;
+    tight = omega (arith, read.fits.tight);
+    proper = read.fits.proper;
   };
 }
 

@@ -98,7 +98,12 @@ reads_made : {A B : Type 0} (SA : Says A) (SB : Says B) (made : A → B) (tokens
     → Reads SA tokens r → ((a : A) (front : List Token) → SA a front → SB (made a) front) → Reads SB tokens (onward r (λ a. give (made a)))
 reads_made SA SB made tokens (Ok read) took law = record { front = took.front; parts = took.parts; said = law read.0 took.front took.said }
 reads_made SA SB made tokens (Err left) broke law = record {
-  front = broke.front; rest = broke.rest; more = broke.more; value = made broke.value; parts = broke.parts; at = broke.at;
+  front = broke.front;
+  rest = broke.rest;
+  more = broke.more;
+  value = made broke.value;
+  parts = broke.parts;
+  at = broke.at;
   begins = law broke.value (broke.front ++ broke.more) broke.begins;
 }
 
@@ -122,7 +127,12 @@ reads_as : {X : Type 0} (S T : Says X) (tokens : List Token) (r : Result (X × L
     → Reads S tokens r → Reads T tokens r
 reads_as S T tokens (Ok read) weaker took = record { front = took.front; parts = took.parts; said = weaker read.0 took.front took.said }
 reads_as S T tokens (Err left) weaker broke = record {
-  front = broke.front; rest = broke.rest; more = broke.more; value = broke.value; parts = broke.parts; at = broke.at;
+  front = broke.front;
+  rest = broke.rest;
+  more = broke.more;
+  value = broke.value;
+  parts = broke.parts;
+  at = broke.at;
   begins = weaker broke.value (broke.front ++ broke.more) broke.begins;
 }
 
@@ -156,9 +166,9 @@ unfolding repeat
 lawful_repeat S test step law zero x front said = lawful_give x (subst (λ (t : List Token). S x t) (sym (append-nil front)) said)
 lawful_repeat S test step law (suc n) x front said =
     lawful_if (test x)
-      (λ t e. lawful_bind (law x front said t e) (λ y more s.
-        lawful_as (λ z text h. subst (λ (t : List Token). S z t) (append_assoc front more text) h) (lawful_repeat S test step law n y (front ++ more) s)))
-      (lawful_give x (subst (λ (t : List Token). S x t) (sym (append-nil front)) said))
+    (λ t e. lawful_bind (law x front said t e) (λ y more s.
+    lawful_as (λ z text h. subst (λ (t : List Token). S z t) (append_assoc front more text) h) (lawful_repeat S test step law n y (front ++ more) s)))
+    (lawful_give x (subst (λ (t : List Token). S x t) (sym (append-nil front)) said))
 
 pub lawful_repeat_all : {X : Type 0} (S : Says X) (test : X → Token → Bool) (step : X → Reader X)
     → ((x : X) (front : List Token) → S x front → (t : Token) → test x t ≡ true → Lawful (behind front S) (step x))
@@ -167,3 +177,16 @@ lawful_repeat_all S test step law x front said = record {
   reads = λ tokens. (lawful_repeat S test step law (length tokens) x front said).reads tokens;
   some = (lawful_repeat S test step law 0 x front said).some;
 }
+
+-- at most so many steps
+pub lawful_repeat_up_to : {X : Type 0} (S : ℕ → Says X) (T : Says X) (test : X → Token → Bool) (step : X → Reader X)
+    → ((k : ℕ) (x : X) (front : List Token) → S (suc k) x front → (t : Token) → test x t ≡ true → Lawful (behind front (S k)) (step x))
+    → ((k : ℕ) (x : X) (text : List Token) → S k x text → T x text)
+    → (n : ℕ) (x : X) (front : List Token) → S n x front → Lawful (behind front T) (repeat n test step x)
+unfolding repeat
+lawful_repeat_up_to S T test step law weaker zero x front said = lawful_give x (subst (λ (t : List Token). T x t) (sym (append-nil front)) (weaker 0 x front said))
+lawful_repeat_up_to S T test step law weaker (suc n) x front said =
+    lawful_if (test x)
+    (λ t e. lawful_bind (law n x front said t e) (λ y more s.
+    lawful_as (λ z text h. subst (λ (t : List Token). T z t) (append_assoc front more text) h) (lawful_repeat_up_to S T test step law weaker n y (front ++ more) s)))
+    (lawful_give x (subst (λ (t : List Token). T x t) (sym (append-nil front)) (weaker (suc n) x front said)))

@@ -6,3 +6,6 @@ pub mod Matched
 pub mod Fits
 pub mod ExpressionLaws
 pub mod StatementLaws
+pub mod SetupLaws
+pub mod LastLine
+pub mod Ends

@@ -81,7 +81,7 @@ pub lawful_name : Lawful SaysName name
 unfolding name
 lawful_name = lawful_one SaysName name_in
     (λ t n e. let w = when_some (is_name_kind t.kind) (record { text = t.text; line = t.line }) n e in
-      subst (λ (m : Name). SaysName m (t ∷ [])) w.1 ((w.0, refl, refl), tt))
+    subst (λ (m : Name). SaysName m (t ∷ [])) w.1 ((w.0, refl, refl), tt))
     (record { value = record { text = []; line = 1 }; text = token_of kinds.Name [] ∷ []; said = ((refl, refl, refl), tt) })
 
 numbered : (t : Token) (o : Option ℕ) (n : ℕ × ℕ) → number_in t.kind t.text ≡ o → with_line o t.line ≡ Some n → SaysNumber n (t ∷ [])

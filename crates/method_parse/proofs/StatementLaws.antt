@@ -109,7 +109,7 @@ module _ (place : Place) (brackets : ℕ) where
   lawful_condition = lawful_bind (lawful_word (codes "(")) (λ l f1 s1. lawful_bind (lawful_whole place (brackets - 1)) (λ x f2 s2. lawful_last (λ c. x) (lawful_word (codes ")")) (λ c f3 s3.
       record {
         spelled = join f1 (f2 ++ f3) (Fixed (codes "(") ∷ []) (expr_words x ++ Fixed (codes ")") ∷ []) (plain f1 (codes "(") l s1)
-          (join f2 f3 (expr_words x) (Fixed (codes ")") ∷ []) s2.spelled (plain f3 (codes ")") c s3));
+            (join f2 f3 (expr_words x) (Fixed (codes ")") ∷ []) s2.spelled (plain f3 (codes ")") c s3));
         fits = s2.fits;
       })))
 
@@ -127,43 +127,43 @@ module _ (place : Place) (brackets : ℕ) where
   unfolding variable
   lawful_variable =
       lawful_bind (lawful_word (codes "var")) (λ l f1 s1. lawful_bind lawful_type (λ t f2 s2. lawful_bind lawful_name (λ n f3 s3. lawful_bind (lawful_word (codes "=")) (λ q f4 s4.
-        lawful_last (λ x. s.Var t n q x) lawful_ended (λ x f5 s5.
-          made (s.Var t n q x) _ _ (f1 ++ (f2 ++ (f3 ++ (f4 ++ f5)))) (eq.words-Var t n q x) (eq.form-Var place t n q x)
-            (join f1 (f2 ++ (f3 ++ (f4 ++ f5))) (Fixed (codes "var") ∷ []) (spelling.type_word t ∷ name_word n ∷ FixedAt (codes "=") q ∷ spelling.ended x) (plain f1 (codes "var") l s1)
-              (join f2 (f3 ++ (f4 ++ f5)) (spelling.type_word t ∷ []) (name_word n ∷ FixedAt (codes "=") q ∷ spelling.ended x) s2
-                (join f3 (f4 ++ f5) (name_word n ∷ []) (FixedAt (codes "=") q ∷ spelling.ended x) s3
-                  (join f4 f5 (FixedAt (codes "=") q ∷ []) (spelling.ended x) s4 s5.spelled))))
-            (value_fits x true s5.fits refl))))))
+      lawful_last (λ x. s.Var t n q x) lawful_ended (λ x f5 s5.
+      made (s.Var t n q x) _ _ (f1 ++ (f2 ++ (f3 ++ (f4 ++ f5)))) (eq.words-Var t n q x) (eq.form-Var place t n q x)
+      (join f1 (f2 ++ (f3 ++ (f4 ++ f5))) (Fixed (codes "var") ∷ []) (spelling.type_word t ∷ name_word n ∷ FixedAt (codes "=") q ∷ spelling.ended x) (plain f1 (codes "var") l s1)
+      (join f2 (f3 ++ (f4 ++ f5)) (spelling.type_word t ∷ []) (name_word n ∷ FixedAt (codes "=") q ∷ spelling.ended x) s2
+      (join f3 (f4 ++ f5) (name_word n ∷ []) (FixedAt (codes "=") q ∷ spelling.ended x) s3
+      (join f4 f5 (FixedAt (codes "=") q ∷ []) (spelling.ended x) s4 s5.spelled))))
+      (value_fits x true s5.fits refl))))))
 
   lawful_returned : in_method place ≡ true → Lawful (IsStmt place brackets) (returned place brackets)
   unfolding returned
   lawful_returned here =
       lawful_bind (lawful_word (codes "return")) (λ l f1 s1. lawful_last (λ x. s.Return x) lawful_ended (λ x f2 s2.
-        made (s.Return x) _ _ (f1 ++ f2) (eq.words-Return x) (eq.form-Return place x)
-          (join f1 f2 (Fixed (codes "return") ∷ []) (spelling.ended x) (plain f1 (codes "return") l s1) s2.spelled) (value_fits x (in_method place) s2.fits here)))
+      made (s.Return x) _ _ (f1 ++ f2) (eq.words-Return x) (eq.form-Return place x)
+      (join f1 f2 (Fixed (codes "return") ∷ []) (spelling.ended x) (plain f1 (codes "return") l s1) s2.spelled) (value_fits x (in_method place) s2.fits here)))
 
   lawful_printed : in_item place ≡ true → Lawful (IsStmt place brackets) (printed place brackets)
   unfolding printed
   lawful_printed here =
       lawful_bind (lawful_word (codes "print")) (λ l f1 s1. lawful_last (λ x. s.Print x) lawful_ended (λ x f2 s2.
-        made (s.Print x) _ _ (f1 ++ f2) (eq.words-Print x) (eq.form-Print place x)
-          (join f1 f2 (Fixed (codes "print") ∷ []) (spelling.ended x) (plain f1 (codes "print") l s1) s2.spelled) (value_fits x (in_item place) s2.fits here)))
+      made (s.Print x) _ _ (f1 ++ f2) (eq.words-Print x) (eq.form-Print place x)
+      (join f1 f2 (Fixed (codes "print") ∷ []) (spelling.ended x) (plain f1 (codes "print") l s1) s2.spelled) (value_fits x (in_item place) s2.fits here)))
 
   lawful_evaluated : (x : Expr) (front : List Token) → IsExpr place brackets x front → Lawful (behind front (IsStmt place brackets)) (evaluated x)
   unfolding evaluated
   lawful_evaluated x front r = lawful_last (λ l. s.Evaluate x) (lawful_word (codes ";")) (λ l f s1.
       made (s.Evaluate x) _ _ (front ++ f) (eq.words-Evaluate x) (eq.form-Evaluate place x)
-        (join front f (expr_words x) (Fixed (codes ";") ∷ []) r.spelled (plain f (codes ";") l s1)) (value_fits x true r.fits refl))
+      (join front f (expr_words x) (Fixed (codes ";") ∷ []) r.spelled (plain f (codes ";") l s1)) (value_fits x true r.fits refl))
 
   lawful_assigned_name : (n : Name) (front : List Token) → IsExpr place brackets (e.Variable n) front → Lawful (behind front (IsStmt place brackets)) (assigned_name place brackets n)
   unfolding assigned_name
   lawful_assigned_name n front r =
       lawful_if (is (codes "="))
-        (λ t p. lawful_bind (lawful_word (codes "=")) (λ q f1 s1. lawful_last (λ x. s.Assign n q x) lawful_ended (λ x f2 s2.
-          made (s.Assign n q x) _ _ (front ++ (f1 ++ f2)) (eq.words-Assign n q x) (eq.form-Assign place n q x)
-            (join front (f1 ++ f2) (name_word n ∷ []) (FixedAt (codes "=") q ∷ spelling.ended x) (subst (λ (w : List Word). AreWords front w) (eq.words-Variable n) r.spelled)
-              (join f1 f2 (FixedAt (codes "=") q ∷ []) (spelling.ended x) s1 s2.spelled)) (value_fits x true s2.fits refl))))
-        (lawful_evaluated (e.Variable n) front r)
+      (λ t p. lawful_bind (lawful_word (codes "=")) (λ q f1 s1. lawful_last (λ x. s.Assign n q x) lawful_ended (λ x f2 s2.
+      made (s.Assign n q x) _ _ (front ++ (f1 ++ f2)) (eq.words-Assign n q x) (eq.form-Assign place n q x)
+      (join front (f1 ++ f2) (name_word n ∷ []) (FixedAt (codes "=") q ∷ spelling.ended x) (subst (λ (w : List Word). AreWords front w) (eq.words-Variable n) r.spelled)
+      (join f1 f2 (FixedAt (codes "=") q ∷ []) (spelling.ended x) s1 s2.spelled)) (value_fits x true s2.fits refl))))
+      (lawful_evaluated (e.Variable n) front r)
 
   field_here : (n : Name) → ExprFits place brackets (e.Field n) → in_method place ≡ true
   field_here n fits = ap (λ (s : _). s.proper) (sym (eq.shape-Field place n)) ∙ fits.proper
@@ -172,11 +172,11 @@ module _ (place : Place) (brackets : ℕ) where
   unfolding assigned_field
   lawful_assigned_field n front r =
       lawful_if (is (codes "="))
-        (λ t p. lawful_bind (lawful_word (codes "=")) (λ q f1 s1. lawful_last (λ x. s.FieldAssign n q x) lawful_ended (λ x f2 s2.
-          made (s.FieldAssign n q x) _ _ (front ++ (f1 ++ f2)) (eq.words-FieldAssign n q x) (eq.form-FieldAssign place n q x)
-            (join front (f1 ++ f2) (Fixed (codes "this") ∷ Fixed (codes ".") ∷ name_word n ∷ []) (FixedAt (codes "=") q ∷ spelling.ended x) (subst (λ (w : List Word). AreWords front w) (eq.words-Field n) r.spelled)
-              (join f1 f2 (FixedAt (codes "=") q ∷ []) (spelling.ended x) s1 s2.spelled)) (value_fits x (in_method place) s2.fits (field_here n r.fits)))))
-        (lawful_evaluated (e.Field n) front r)
+      (λ t p. lawful_bind (lawful_word (codes "=")) (λ q f1 s1. lawful_last (λ x. s.FieldAssign n q x) lawful_ended (λ x f2 s2.
+      made (s.FieldAssign n q x) _ _ (front ++ (f1 ++ f2)) (eq.words-FieldAssign n q x) (eq.form-FieldAssign place n q x)
+      (join front (f1 ++ f2) (Fixed (codes "this") ∷ Fixed (codes ".") ∷ name_word n ∷ []) (FixedAt (codes "=") q ∷ spelling.ended x) (subst (λ (w : List Word). AreWords front w) (eq.words-Field n) r.spelled)
+      (join f1 f2 (FixedAt (codes "=") q ∷ []) (spelling.ended x) s1 s2.spelled)) (value_fits x (in_method place) s2.fits (field_here n r.fits)))))
+      (lawful_evaluated (e.Field n) front r)
 
   by_form : (x : Expr) (front : List Token) → IsExpr place brackets x front → (o : Expr-F Expr) → roll-Expr o ≡ x → Lawful (behind front (IsStmt place brackets)) (after_expression_by place brackets x o)
   by_form x front r (Expr-F.Variable n) is = lawful_assigned_name n front (subst (λ (y : Expr). IsExpr place brackets y front) (sym is ∙ e.rolls-Variable n) r)
@@ -212,34 +212,34 @@ module _ (place : Place) (brackets : ℕ) where
     unfolding after_branch
     lawful_after_branch some x b f1 f2 f3 s1 s2 s3 =
         lawful_if (is (codes "else"))
-          (λ t p. lawful_bind (lawful_word (codes "else")) (λ l f4 s4. lawful_last (λ c. s.IfElse x b c) (block_law some) (λ c f5 s5.
-            made (s.IfElse x b c) _ _ (f1 ++ (f2 ++ (f3 ++ (f4 ++ f5)))) (eq.words-IfElse x b c) (eq.form-IfElse place x b c)
-              (join f1 (f2 ++ (f3 ++ (f4 ++ f5))) (Fixed (codes "if") ∷ []) (condition_words x ++ (brace_words (map stmt_words b) ++ Fixed (codes "else") ∷ brace_words (map stmt_words c))) s1
-                (join f2 (f3 ++ (f4 ++ f5)) (condition_words x) (brace_words (map stmt_words b) ++ Fixed (codes "else") ∷ brace_words (map stmt_words c)) s2.spelled
-                  (join f3 (f4 ++ f5) (brace_words (map stmt_words b)) (Fixed (codes "else") ∷ brace_words (map stmt_words c)) s3.spelled
-                    (join f4 f5 (Fixed (codes "else") ∷ []) (brace_words (map stmt_words c)) (plain f4 (codes "else") l s4) s5.spelled))))
-              (if_fits x (both (in_braces (map (form place) b)) (in_braces (map (form place) c))) some s2.fits (both_fit (in_braces (map (form place) b)) (in_braces (map (form place) c)) s3.fits s5.fits)))))
-          (lawful_give (s.If x b)
-            (made (s.If x b) _ _ (f1 ++ (f2 ++ (f3 ++ []))) (eq.words-If x b) (eq.form-If place x b)
-              (join f1 (f2 ++ (f3 ++ [])) (Fixed (codes "if") ∷ []) (condition_words x ++ brace_words (map stmt_words b)) s1
-                (join f2 (f3 ++ []) (condition_words x) (brace_words (map stmt_words b)) s2.spelled
-                  (subst (λ (u : List Token). AreWords u (brace_words (map stmt_words b))) (sym (append-nil f3)) s3.spelled)))
-              (if_fits x (in_braces (map (form place) b)) some s2.fits s3.fits)))
+        (λ t p. lawful_bind (lawful_word (codes "else")) (λ l f4 s4. lawful_last (λ c. s.IfElse x b c) (block_law some) (λ c f5 s5.
+        made (s.IfElse x b c) _ _ (f1 ++ (f2 ++ (f3 ++ (f4 ++ f5)))) (eq.words-IfElse x b c) (eq.form-IfElse place x b c)
+        (join f1 (f2 ++ (f3 ++ (f4 ++ f5))) (Fixed (codes "if") ∷ []) (condition_words x ++ (brace_words (map stmt_words b) ++ Fixed (codes "else") ∷ brace_words (map stmt_words c))) s1
+        (join f2 (f3 ++ (f4 ++ f5)) (condition_words x) (brace_words (map stmt_words b) ++ Fixed (codes "else") ∷ brace_words (map stmt_words c)) s2.spelled
+        (join f3 (f4 ++ f5) (brace_words (map stmt_words b)) (Fixed (codes "else") ∷ brace_words (map stmt_words c)) s3.spelled
+        (join f4 f5 (Fixed (codes "else") ∷ []) (brace_words (map stmt_words c)) (plain f4 (codes "else") l s4) s5.spelled))))
+        (if_fits x (both (in_braces (map (form place) b)) (in_braces (map (form place) c))) some s2.fits (both_fit (in_braces (map (form place) b)) (in_braces (map (form place) c)) s3.fits s5.fits)))))
+        (lawful_give (s.If x b)
+        (made (s.If x b) _ _ (f1 ++ (f2 ++ (f3 ++ []))) (eq.words-If x b) (eq.form-If place x b)
+        (join f1 (f2 ++ (f3 ++ [])) (Fixed (codes "if") ∷ []) (condition_words x ++ brace_words (map stmt_words b)) s1
+        (join f2 (f3 ++ []) (condition_words x) (brace_words (map stmt_words b)) s2.spelled
+        (subst (λ (u : List Token). AreWords u (brace_words (map stmt_words b))) (sym (append-nil f3)) s3.spelled)))
+        (if_fits x (in_braces (map (form place) b)) some s2.fits s3.fits)))
 
     lawful_branch : 0 < brackets → Lawful (IsStmt place brackets) (branch place brackets block)
     unfolding branch
     lawful_branch some =
         lawful_bind (lawful_word (codes "if")) (λ l f1 s1. lawful_bind lawful_condition (λ x f2 s2. lawful_bind (block_law some) (λ b f3 s3.
-          lawful_after_branch some x b f1 f2 f3 (plain f1 (codes "if") l s1) s2 s3)))
+        lawful_after_branch some x b f1 f2 f3 (plain f1 (codes "if") l s1) s2 s3)))
 
     lawful_while : 0 < brackets → Lawful (IsStmt place brackets) (while_loop place brackets block)
     unfolding while_loop
     lawful_while some =
         lawful_bind (lawful_word (codes "while")) (λ l f1 s1. lawful_bind lawful_condition (λ x f2 s2. lawful_last (λ b. s.While x b) (block_law some) (λ b f3 s3.
-          made (s.While x b) _ _ (f1 ++ (f2 ++ f3)) (eq.words-While x b) (eq.form-While place x b)
-            (join f1 (f2 ++ f3) (Fixed (codes "while") ∷ []) (condition_words x ++ brace_words (map stmt_words b)) (plain f1 (codes "while") l s1)
-              (join f2 f3 (condition_words x) (brace_words (map stmt_words b)) s2.spelled s3.spelled))
-            (if_fits x (in_braces (map (form place) b)) some s2.fits s3.fits))))
+        made (s.While x b) _ _ (f1 ++ (f2 ++ f3)) (eq.words-While x b) (eq.form-While place x b)
+        (join f1 (f2 ++ f3) (Fixed (codes "while") ∷ []) (condition_words x ++ brace_words (map stmt_words b)) (plain f1 (codes "while") l s1)
+        (join f2 f3 (condition_words x) (brace_words (map stmt_words b)) s2.spelled s3.spelled))
+        (if_fits x (in_braces (map (form place) b)) some s2.fits s3.fits))))
 
     abbrev Allows : StmtStart → Type 0
     Allows starts.Var = Unit {0}
@@ -300,7 +300,7 @@ module _ (place : Place) (brackets : ℕ) where
     lawful_braces =
         lawful_bind (lawful_word (codes "{")) (λ l f1 s1. lawful_bind lawful_statements (λ b f2 s2. lawful_last (λ c. b) (lawful_word (codes "}")) (λ c f3 s3. record {
           spelled = join f1 (f2 ++ f3) (Fixed (codes "{") ∷ []) (in_turn (map stmt_words b) ++ Fixed (codes "}") ∷ []) (plain f1 (codes "{") l s1)
-            (join f2 f3 (in_turn (map stmt_words b)) (Fixed (codes "}") ∷ []) s2.spelled (plain f3 (codes "}") c s3));
+              (join f2 f3 (in_turn (map stmt_words b)) (Fixed (codes "}") ∷ []) s2.spelled (plain f3 (codes "}") c s3));
           fits = record { deep = s2.fits.deep; nested = omega (arith, s2.fits.nested); proper = s2.fits.proper };
         })))
 
@@ -311,4 +311,4 @@ lawful_block place zero lt = absurd (omega arith)
 lawful_block place (suc brackets) lt =
     let e : brackets + 1 ≡ suc brackets = omega arith in
     subst (λ (n : ℕ). Lawful (IsBraces place n) (braces place brackets (block_in place brackets))) e
-      (lawful_braces place brackets (block_in place brackets) (λ some. lawful_block place brackets some))
+    (lawful_braces place brackets (block_in place brackets) (λ some. lawful_block place brackets some))

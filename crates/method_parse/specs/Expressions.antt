@@ -262,8 +262,8 @@ unfoldable pub expression_in : Place → ℕ → ℕ → Level → Reader Deep
 expression_in place brackets zero level = stuck
 expression_in place brackets (suc depth) level =
     at_level place (record { brackets = brackets; depth = suc depth })
-        (expression_in place (brackets - 1) depth levels.Comparison)
-        (expression_in place brackets depth) level
+    (expression_in place (brackets - 1) depth levels.Comparison)
+    (expression_in place brackets depth) level
 
 -- what stands in parentheses in an expression of a room, and what its operands may be
 abbrev pub inner_of : Place → Room → Reader Deep

@@ -3,3 +3,4 @@ pub mod Reader
 pub mod Expressions
 pub mod Statements
 pub mod Setups
+pub mod Texts

@@ -7,7 +7,9 @@ ghost use Rattle.method_parse.specs.Expressions.{at, operator, argument, more_ar
 
 use crate::deep::{Arguments, Deep, Level, Room, Start};
 use crate::error::ParseError;
-use crate::starts::{is_call, is_field_call, is_join, is_minus, most_joins, operator_in, start, tighter};
+use crate::starts::{
+    is_call, is_field_call, is_join, is_minus, most_joins, operator_in, start, tighter,
+};
 use crate::take::{name, next_is, number, word};
 use class_defs::{At, Expr, Exprs, Name, Operator, Place};
 use script_text::Token;

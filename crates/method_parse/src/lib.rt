@@ -4,7 +4,11 @@
 mod deep;
 mod error;
 mod expressions;
+mod parse;
 mod setups;
 mod starts;
 mod statements;
 mod take;
+mod whole;
+
+pub use parse::{parse_block, parse_setup};

@@ -20,11 +20,14 @@ pub const MAX_NESTING: u32 = 64;
 
 /// How many fields a class may have, how many methods, and how many parameters a method behind the first.
 const MAX_FIELDS: usize = 32;
+
 const MAX_METHODS: usize = 64;
+
 const MORE_PARAMETERS: usize = 7;
 
 /// How many classes there may be, and how many roots.
 const MAX_CLASSES: usize = 256;
+
 const MAX_ROOTS: usize = 256;
 
 /// Whether the next token may be a type.
