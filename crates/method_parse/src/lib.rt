@@ -12,3 +12,6 @@ mod take;
 mod whole;
 
 pub use parse::{parse_block, parse_setup};
+
+#[cfg(test)]
+mod tests;
