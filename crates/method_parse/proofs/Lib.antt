@@ -9,3 +9,6 @@ pub mod StatementLaws
 pub mod SetupLaws
 pub mod LastLine
 pub mod Ends
+pub mod Eats
+pub mod Heads
+pub mod ListOnly
