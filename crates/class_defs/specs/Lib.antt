@@ -1,9 +1,13 @@
 pub mod Calls
 pub mod Expressions
+pub mod Grammar
 pub mod Objects
 pub mod Run
+pub mod Shape
+pub mod Spelling
 pub mod Statements
 pub mod Steps
 pub mod Touched
 pub mod Types
 pub mod Upgrades
+pub mod Words

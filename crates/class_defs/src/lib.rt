@@ -2,10 +2,12 @@
 #![tactic(auto)]
 
 mod classes;
+mod declarations;
 mod expressions;
 mod limits;
 mod look;
 mod machine;
+mod places;
 mod run_laws;
 mod statements;
 mod store;
@@ -15,10 +17,12 @@ mod upgrades;
 pub use classes::{
     Class, ClassKind, Classes, Field, Fields, Method, Methods, Parameter, Parameters,
 };
+pub use declarations::{Declarations, WrittenRoot, WrittenRoots};
 pub use expressions::{At, Expr, Exprs, Name, Operator, TypeName};
 pub use limits::{CREATE_LIMIT, DEPTH_LIMIT, READ_LIMIT, STEP_LIMIT};
 pub use look::{class_named, field_named, field_of, method_of};
 pub use machine::{Flow, Local, Locals, Machine, NameSupply, Receiver, Stop};
+pub use places::Place;
 pub use run_laws::{
     fault_leaves_the_store, run_changes_what_it_wrote, runs_depend_on_what_they_touch,
 };

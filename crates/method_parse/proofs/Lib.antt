@@ -1,0 +1,14 @@
+pub mod Repeats
+pub mod Rooms
+pub mod Lawful
+pub mod Equations
+pub mod Matched
+pub mod Fits
+pub mod ExpressionLaws
+pub mod StatementLaws
+pub mod SetupLaws
+pub mod LastLine
+pub mod Ends
+pub mod Eats
+pub mod Heads
+pub mod ListOnly

@@ -1,0 +1,145 @@
+//! One token from the front.
+
+ghost use Rattle.std.specs.Prelude.{◌≡◌, ◌≤◌, IfSome, IfOk};
+ghost use Rattle.method_parse.specs.Matching.{is, is_name_kind, with_digit, number_of, number_in};
+ghost use Rattle.method_parse.specs.Reader.{Gives, next, word, name, number, type_word};
+
+use crate::error::ParseError;
+use class_defs::{Name, TypeName};
+use script_text::{Token, TokenKind};
+use thor_value::TryCopy;
+
+/// The greatest number.
+const GREATEST: u64 = 9223372036854775807;
+
+/// Whether a token is this keyword or symbol.
+pub fn is(token: &Token, text: &[u8]) -> bool
+    ensures { result ≡ is text.now token.now }
+{
+    matches!(token.kind, TokenKind::Keyword | TokenKind::Symbol) && token.text.as_slice() == text
+}
+
+/// Whether the next token is this keyword or symbol.
+pub fn next_is(tokens: &[Token], text: &[u8]) -> bool
+    ensures { result ≡ next (is text.now) tokens.now }
+{
+    match tokens.split_first() {
+        None => false,
+        Some((token, _)) => is(token, text),
+    }
+}
+
+pub fn is_name(token: &Token) -> bool
+    ensures { result ≡ is_name_kind token.now.kind }
+{
+    matches!(token.kind, TokenKind::Name)
+}
+
+/// Takes a keyword or symbol, and gives its line.
+#[tactic(auto, unfolding(crate::specs::Reader::word))]
+pub fn word<'a>(tokens: &'a [Token], text: &[u8]) -> Result<(u32, &'a [Token]), ParseError>
+    ensures { Gives (λ x. (x.0, x.1.now)) result (word text.now tokens.now) }
+{
+    match tokens.split_first() {
+        None => Err(ParseError::Stuck(0)),
+        Some((token, rest)) => {
+            if is(token, text) {
+                Ok((token.line, rest))
+            } else {
+                Err(ParseError::Stuck(tokens.len()))
+            }
+        }
+    }
+}
+
+/// Takes a name.
+#[tactic(auto, unfolding(crate::specs::Reader::name))]
+pub fn name(tokens: &[Token]) -> Result<(Name, &[Token]), ParseError>
+    ensures { Gives (λ x. (x.0, x.1.now)) result (name tokens.now) }
+{
+    match tokens.split_first() {
+        None => Err(ParseError::Stuck(0)),
+        Some((token, rest)) => {
+            if is_name(token) {
+                let text = token.text.copy()?;
+                let line = token.line;
+                Ok((Name { text, line }, rest))
+            } else {
+                Err(ParseError::Stuck(tokens.len()))
+            }
+        }
+    }
+}
+
+/// A number with one more digit, unless it is past the greatest.
+fn with_digit(value: Option<u64>, digit: u8) -> Option<u64>
+    ensures value { result ≡ with_digit value digit }
+    ensures small { IfSome result (λ n. n ≤ 9223372036854775807) }
+{
+    let value = value?;
+    if !digit.is_ascii_digit() || GREATEST / 10 < value {
+        return None;
+    }
+    let grown = value * 10 + u64::from(digit - b'0');
+    if GREATEST < grown { None } else { Some(grown) }
+}
+
+/// The number that digits write.
+fn number_of(digits: &[u8]) -> Option<u64>
+    ensures value { result ≡ number_of digits.now }
+    ensures small { IfSome result (λ n. n ≤ 9223372036854775807) }
+{
+    let mut value = Some(0);
+    for digit in digits {
+        value = with_digit(value, *digit);
+    }
+    value
+}
+
+/// The number that a token is.
+fn number_in(token: &Token) -> Option<u64>
+    ensures value { result ≡ number_in token.now.kind token.now.text }
+    ensures small { IfSome result (λ n. n ≤ 9223372036854775807) }
+{
+    match token.kind {
+        TokenKind::Number => number_of(token.text.as_slice()),
+        _ => None,
+    }
+}
+
+/// Takes a number, and gives its line too.
+#[tactic(auto, unfolding(crate::specs::Reader::number))]
+pub fn number(tokens: &[Token]) -> Result<((u64, u32), &[Token]), ParseError>
+    ensures read { Gives (λ x. (x.0, x.1.now)) result (number tokens.now) }
+    ensures small { IfOk result (λ x. x.0.0 ≤ 9223372036854775807) }
+{
+    match tokens.split_first() {
+        None => Err(ParseError::Stuck(0)),
+        Some((token, rest)) => match number_in(token) {
+            Some(value) => Ok(((value, token.line), rest)),
+            None => Err(ParseError::Stuck(tokens.len())),
+        },
+    }
+}
+
+/// Takes the word of a type.
+#[tactic(auto, unfolding(crate::specs::Reader::type_word))]
+pub fn type_word(tokens: &[Token]) -> Result<(TypeName, &[Token]), ParseError>
+    ensures { Gives (λ x. (x.0, x.1.now)) result (type_word tokens.now) }
+{
+    match tokens.split_first() {
+        None => Err(ParseError::Stuck(0)),
+        Some((token, rest)) => {
+            let line = token.line;
+            if is(token, b"int") {
+                Ok((TypeName::Int { line }, rest))
+            } else if is_name(token) {
+                let text = token.text.copy()?;
+                let name = Name { text, line };
+                Ok((TypeName::Class { name }, rest))
+            } else {
+                Err(ParseError::Stuck(tokens.len()))
+            }
+        }
+    }
+}
