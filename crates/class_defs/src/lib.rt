@@ -29,7 +29,7 @@ pub use run_laws::{
 pub use statements::{Block, Blocks, Stmt};
 pub use store::{
     Epochs, Object, Plain, PlainObjects, Root, RootDeclaration, RootDeclarations, Roots, Schema,
-    Setup,
+    Schemas, Setup, UpgradedSchema, UpgradedSchemas,
 };
 pub use types::ExprType;
 pub use upgrades::{ClassUpgrade, ClassUpgrades, FieldUpgrade, FieldUpgrades, Names, Tf, Upgrade};
