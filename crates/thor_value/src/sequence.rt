@@ -146,9 +146,11 @@ impl<T: Drop> Sequence<T> {
         self.items.truncate(count);
     }
 
-    /// Moves the elements of `more` behind the last one. After `NoMemory` the sequence is as it was.
+    /// Moves the elements of `more` behind the last one. After `NoMemory` the sequence is as it was, and
+    /// those of `more` are gone.
     pub fn append(&mut self, more: Sequence<T>) -> Result<(), NoMemory>
         ensures ok { OnOk result (self.new ≡ self.old ++ more) }
+        ensures err { OnErr result (self.new ≡ self.old) }
     {
         let Sequence { mut items } = more;
         self.items.append(&mut items)?;
