@@ -1,7 +1,11 @@
 pub mod Calls
+pub mod ExpressionRules
 pub mod Expressions
 pub mod Objects
+pub mod Rules
 pub mod Run
+pub mod SchemaRules
+pub mod StatementRules
 pub mod Statements
 pub mod Steps
 pub mod Types

@@ -6,6 +6,7 @@ mod expressions;
 mod limits;
 mod look;
 mod machine;
+mod rules;
 mod statements;
 mod store;
 mod types;
@@ -18,6 +19,7 @@ pub use expressions::{At, Expr, Exprs, Name, Operator, TypeName};
 pub use limits::{CREATE_LIMIT, DEPTH_LIMIT, READ_LIMIT, STEP_LIMIT};
 pub use look::{class_named, field_named, field_of, method_of};
 pub use machine::{Flow, Local, Locals, Machine, NameSupply, Receiver, Stop};
+pub use rules::{NamedType, NamedTypes, Place, Rule, TypeFault};
 pub use statements::{Block, Blocks, Stmt};
 pub use store::{
     Epochs, Object, Plain, PlainObjects, Root, RootDeclaration, RootDeclarations, Roots, Schema,
