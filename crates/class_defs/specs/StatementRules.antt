@@ -1,7 +1,7 @@
 -- The rules that a statement and a block break (this project's).
-use Rattle.std.specs.Prelude.{ℕ, ◌||◌, not, if◌then◌else◌, List, [], ◌∷◌, ◌++◌, map, Bool, true, false, Option, Some, None, is_some, option_and_then}
+use Rattle.std.specs.Prelude.{ℕ, ◌||◌, not, List, [], ◌∷◌, ◌++◌, map, Bool, true, false, Option, Some, None, is_some, option_and_then}
 use Rattle.std.specs.List.{flat_map}
-use Rattle.class_defs.specs.ExpressionRules.{Judged, judged, line_of, is_number}
+use Rattle.class_defs.specs.ExpressionRules.{judged, line_of, is_number}
 use Rattle.class_defs.specs.Rules.{Sight, must, scope_of, local_named, root_named, is_part, is_free_type, fits}
 use Rattle.class_defs.specs.Types.{class_named, class_or_untold, field_of, field_type, type_named}
 use Rattle.class_defs.specs.declared.classes.Class.{Class}

@@ -1,0 +1,8 @@
+-- The least of faults in two pieces.
+use Rattle.std.proofs.Common.{◌≡◌, List, [], ◌∷◌, ◌++◌, Option, refl}
+use Rattle.class_defs.specs.Rules.{least_with, lesser}
+use Rattle.class_defs.specs.declared.rules.TypeFault.{TypeFault}
+
+pub least_append : (found : Option TypeFault) (xs ys : List TypeFault) → least_with found (xs ++ ys) ≡ least_with (least_with found xs) ys
+least_append found [] ys = refl
+least_append found (x ∷ xs) ys = least_append (lesser found x) xs ys
