@@ -1,5 +1,5 @@
 -- The rules that an expression breaks (this project's).
-use Rattle.std.specs.Prelude.{ℕ, ◌+◌, ◌||◌, ◌&&◌, ◌==◌, nat_lt, not, List, [], ◌∷◌, ◌++◌, length, Bool, true, false, Option, Some, None, is_some, is_none, option_and_then, slice_get}
+use Rattle.std.specs.Prelude.{ℕ, ◌+◌, ◌||◌, ◌&&◌, ◌==◌, nat_lt, not, List, [], ◌∷◌, ◌++◌, length, Bool, true, false, Option, Some, None, is_some, is_none, option_and_then, drop, slice_get}
 use Rattle.class_defs.specs.Rules.{Sight, must, scope_of, type_in_sight, is_part, is_class, fits}
 use Rattle.class_defs.specs.Types.{class_named, class_or_untold, field_of, field_type, method_of, type_named, type_step}
 use Rattle.class_defs.specs.declared.classes.Class.{Class}
@@ -143,6 +143,10 @@ takes classes Less a b = is_number a && is_number b
 takes classes Equal a b = comparable classes a b
 takes classes Unequal a b = comparable classes a b
 
+-- T3 of the unary `-`
+abbrev pub negate_rules : Judged → ℕ → List TypeFault
+negate_rules operand line = operand.broken Value ++ must (is_number operand.kind) T3 line
+
 -- the place beside an operator, with null on the other side or not
 abbrev pub beside : Operator → Bool → Place
 beside Equal true = BesideNull
@@ -184,22 +188,25 @@ abbrev pub parameters_of : Option Method → List Parameter
 parameters_of None = []
 parameters_of (Some method) = method.parameters
 
--- T3 of an argument; one without its parameter is compared with nothing
+-- T3 of an argument beside its parameter; one without a parameter is compared with nothing
 abbrev pub argument_fits : List Class → Option Parameter → ExprType → ℕ → List TypeFault
 argument_fits classes None given line = []
 argument_fits classes (Some p) given line = must (fits (type_named classes p.type_name) given) T3 line
 
--- the arguments, the first of which has the place n, each with the parameter at its place
-abbrev pub arguments_from : List Class → List Parameter → ℕ → List Judged → List TypeFault
-arguments_from classes ps n [] = []
-arguments_from classes ps n (a ∷ more) = a.broken Value ++ argument_fits classes (slice_get ps n) a.kind a.line ++ arguments_from classes ps (n + 1) more
+abbrev pub argument_rules : List Class → Option Parameter → Judged → List TypeFault
+argument_rules classes p a = a.broken Value ++ argument_fits classes p a.kind a.line
+
+-- the arguments, each beside its parameter
+abbrev pub arguments_rules : List Class → List Parameter → List Judged → List TypeFault
+arguments_rules classes ps [] = []
+arguments_rules classes ps (a ∷ more) = argument_rules classes (slice_get ps 0) a ++ arguments_rules classes (drop 1 ps) more
 
 abbrev pub call_rules : Sight → Judged → Name → List Judged → List TypeFault
 call_rules s receiver name arguments =
     let method = method_called s.schema.classes receiver.kind name in
     receiver.broken Receiver
     ++ called_rules receiver.kind method name (length arguments)
-    ++ arguments_from s.schema.classes (parameters_of method) 0 arguments
+    ++ arguments_rules s.schema.classes (parameters_of method) arguments
 
 -- ---- any expression
 
@@ -212,7 +219,7 @@ broken_at s (Expr-F.Field name) place = field_rules s name place
 broken_at s (Expr-F.Variable name) place = must (is_some (type_in_sight s name.text)) T2 name.line
 broken_at s (Expr-F.New class at) place = new_rules s class at place
 broken_at s (Expr-F.Parens inner line) place = inner.broken Value
-broken_at s (Expr-F.Negate operand line) place = operand.broken Value ++ must (is_number operand.kind) T3 line
+broken_at s (Expr-F.Negate operand line) place = negate_rules operand line
 broken_at s (Expr-F.Binary operator left right line) place = binary_rules s operator left right line
 broken_at s (Expr-F.Call receiver method arguments) place = call_rules s receiver method arguments
 

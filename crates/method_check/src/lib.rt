@@ -2,6 +2,7 @@
 #![tactic(auto)]
 
 mod body;
+mod judge;
 mod kinds;
 mod least;
 mod nodes;

@@ -1,4 +1,4 @@
-ghost use Rattle.std.specs.Prelude.{◌≡◌, ◌≤◌, length, is_some};
+ghost use Rattle.std.specs.Prelude.{◌≡◌, ◌≤◌, length, is_some, option_map, drop};
 ghost use Rattle.std.specs.Option.{option_copied};
 ghost use Rattle.class_defs.specs.ExpressionRules as spec;
 ghost use Rattle.class_defs.specs.ExpressionRules.{null_at, line_at};
@@ -48,7 +48,7 @@ pub fn line_of(expr: &Expr) -> u32
 }
 
 /// Whether an expression is the word `null`.
-pub fn is_null(expr: &Expr) -> bool
+fn is_null(expr: &Expr) -> bool
     ensures { result ≡ null_at (out-Expr expr.now) }
 {
     match expr {
@@ -84,13 +84,13 @@ fn may_be_made(place: Place) -> bool
     }
 }
 
-/// The place beside an operator, with null on the other side or not.
-pub fn beside(operator: Operator, null: bool) -> Place
-    ensures { result ≡ spec.beside operator null }
+/// The place beside an operator, with another expression on the other side.
+pub fn beside(operator: Operator, other: &Expr) -> Place
+    ensures { result ≡ spec.beside operator (null_at (out-Expr other.now)) }
 {
     match operator {
         Operator::Equal | Operator::Unequal => {
-            if null {
+            if is_null(other) {
                 Place::BesideNull
             } else {
                 Place::Value
@@ -246,5 +246,36 @@ pub fn argument_fits(
     if let Some(parameter) = parameter {
         let declared = type_named(classes, &parameter.type_name);
         must(fits(declared, given), Rule::T3, line, found);
+    }
+}
+
+/// The parameters of the method that is called.
+pub fn parameters_of<'a>(method: Option<&'a Method>) -> &'a [Parameter]
+    ensures { result.now ≡ spec.parameters_of (option_copied method.entry) }
+{
+    match method {
+        Some(method) => method.parameters.as_slice(),
+        None => &[],
+    }
+}
+
+/// The parameters behind the first one.
+pub fn behind_first(parameters: &[Parameter]) -> &[Parameter]
+    ensures { result.now ≡ drop 1 parameters.now }
+{
+    match parameters.split_first() {
+        Some((_, rest)) => rest,
+        None => parameters,
+    }
+}
+
+/// The type of what a method answers.
+pub fn result_type(classes: &Classes, method: Option<&Method>) -> ExprType
+    requires { length classes.now ≤ 65536 }
+    ensures { result ≡ types.typed classes.now (option_map (λ m. m.result) (option_copied method.entry)) }
+{
+    match method {
+        Some(method) => type_named(classes, &method.result),
+        None => ExprType::Untold,
     }
 }
