@@ -1,6 +1,7 @@
 //! The trees of the language, and the definitions of what they mean.
 #![tactic(auto)]
 
+mod checked;
 mod classes;
 mod expressions;
 mod limits;
@@ -12,6 +13,7 @@ mod store;
 mod types;
 mod upgrades;
 
+pub use checked::Checked;
 pub use classes::{
     Class, ClassKind, Classes, Field, Fields, Method, Methods, Parameter, Parameters,
 };

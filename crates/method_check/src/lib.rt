@@ -7,4 +7,5 @@ mod body;
 mod judge;
 mod kinds;
 mod least;
+mod names;
 mod nodes;
