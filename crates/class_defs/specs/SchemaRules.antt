@@ -34,19 +34,33 @@ in_method schema repos c m = record {
 abbrev pub in_item : Schema → ℕ → Sight
 in_item schema repos = record { schema = schema; repos = repos; this = None; result = type.Untold; locals = [] }
 
--- A method: the words of its types, its parameters and locals, which have names of their own, and its body.
+-- T1 of a method's parameters and locals, which have names of their own
+abbrev pub body_names : Method → List TypeFault
+body_names m = stand_once [] (map (λ p. p.name) m.parameters ++ names_in m.body)
+
+-- the statements of a method
+abbrev pub body_rules : Schema → ℕ → ℕ → Method → List TypeFault
+body_rules schema repos c m = block_rules (in_method schema repos c m) m.body
+
+-- T2 and T5 of the words of a method's result and parameters
+abbrev pub method_types : List Class → Method → List TypeFault
+method_types classes m = is_free_type classes m.result ++ flat_map (λ p. is_free_type classes p.type_name) m.parameters
+
+-- A method: the words of its types, the names of its parameters and locals, and its statements.
 unfoldable pub method_rules : Schema → ℕ → ℕ → Method → List TypeFault
 method_rules schema repos c m =
-    is_free_type schema.classes m.result
-    ++ flat_map (λ p. is_free_type schema.classes p.type_name) m.parameters
-    ++ stand_once [] (map (λ p. p.name) m.parameters ++ names_in m.body)
-    ++ block_rules (in_method schema repos c m) m.body
+    method_types schema.classes m
+    ++ body_names m
+    ++ body_rules schema repos c m
 
--- A class: its fields and methods, which have names of their own, the words of the fields' types, and the
--- methods.
+-- T1 of a class's fields and methods, which have names of their own
+abbrev pub member_names : Class → List TypeFault
+member_names d = stand_once [] (map (λ f. f.name) d.fields ++ map (λ m. m.name) d.methods)
+
+-- A class: the names of its fields and methods, the words of the fields' types, and the methods.
 unfoldable pub class_rules : Schema → ℕ → ℕ → Class → List TypeFault
 class_rules schema repos c d =
-    stand_once [] (map (λ f. f.name) d.fields ++ map (λ m. m.name) d.methods)
+    member_names d
     ++ flat_map (λ f. is_type schema.classes f.type_name) d.fields
     ++ flat_map (method_rules schema repos c) d.methods
 
@@ -63,16 +77,25 @@ root_at_rules repos (Some at) = must (nat_lt at.number repos) T8 at.number_line
 abbrev pub root_rules : List Class → ℕ → RootDeclaration → List TypeFault
 root_rules classes repos r = is_free_class classes r.class ++ root_at_rules repos r.at
 
--- A schema over a number of repositories: its classes and its roots, which have names of their own.
+-- T1 of the classes, and of the roots
+abbrev pub class_names : Schema → List TypeFault
+class_names schema = stand_once [] (map (λ d. d.name) schema.classes)
+
+abbrev pub root_names : Schema → List TypeFault
+root_names schema = stand_once [] (map (λ r. r.name) schema.roots)
+
+-- A schema over a number of repositories: its classes and its roots.
 unfoldable pub schema_rules : Schema → ℕ → List TypeFault
 schema_rules schema repos =
-    stand_once [] (map (λ d. d.name) schema.classes)
-    ++ stand_once [] (map (λ r. r.name) schema.roots)
+    class_names schema
+    ++ root_names schema
     ++ classes_from schema repos 0 schema.classes
     ++ flat_map (root_rules schema.classes repos) schema.roots
 
--- An item under a schema: its locals, which have names of their own and not the roots', and its statements.
+-- T1 of an item's locals, which have names of their own, and not the roots'
+abbrev pub item_names : Schema → List Stmt → List TypeFault
+item_names schema block = stand_once (map (λ r. r.name) schema.roots) (names_in block)
+
+-- An item under a schema: the names of its locals, and its statements.
 unfoldable pub item_rules : Schema → ℕ → List Stmt → List TypeFault
-item_rules schema repos block =
-    stand_once (map (λ r. r.name) schema.roots) (names_in block)
-    ++ block_rules (in_item schema repos) block
+item_rules schema repos block = item_names schema block ++ block_rules (in_item schema repos) block

@@ -1,4 +1,5 @@
 use crate::types::ExprType;
+use std::fmt;
 use thor_value::{NoMemory, Sequence, Text, TryCopy};
 
 /// A rule of the language, by the word that the program prints for it. The lesser of two is the one that
@@ -53,6 +54,21 @@ pub struct NamedType {
 
 /// Locals and parameters in sight, in the order in which they were declared.
 pub type NamedTypes = Sequence<NamedType>;
+
+impl fmt::Display for Rule {
+    fn fmt<W: fmt::Write>(&self, f: &mut fmt::Formatter<W>) -> fmt::Result {
+        f.write_str(match self {
+            Rule::T1 => "T1",
+            Rule::T2 => "T2",
+            Rule::T3 => "T3",
+            Rule::T4 => "T4",
+            Rule::T5 => "T5",
+            Rule::T6 => "T6",
+            Rule::T7 => "T7",
+            Rule::T8 => "T8",
+        })
+    }
+}
 
 impl TryCopy for NamedType {
     fn copy(&self) -> Result<NamedType, NoMemory> {
