@@ -1,5 +1,5 @@
 -- The rules that an expression breaks (this project's).
-use Rattle.std.specs.Prelude.{ℕ, ◌+◌, ◌||◌, ◌&&◌, ◌==◌, nat_lt, not, List, [], ◌∷◌, ◌++◌, length, Bool, true, false, Option, Some, None, is_some, is_none, option_and_then, drop, slice_get}
+use Rattle.std.specs.Prelude.{ℕ, ◌||◌, ◌&&◌, ◌==◌, nat_lt, not, List, [], ◌∷◌, ◌++◌, length, Bool, true, false, Option, Some, None, is_some, is_none, option_and_then, drop, slice_get}
 use Rattle.class_defs.specs.Rules.{Sight, must, scope_of, type_in_sight, is_part, is_class, fits}
 use Rattle.class_defs.specs.Types.{class_named, class_or_untold, field_of, field_type, method_of, type_named, type_step}
 use Rattle.class_defs.specs.declared.classes.Class.{Class}

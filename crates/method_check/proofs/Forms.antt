@@ -1,8 +1,8 @@
 -- What a check says of an expression, by the form of the expression.
-use Rattle.std.proofs.Common.{◌≡◌, ℕ, List, [], ◌∷◌, ◌++◌, map, Option, refl, Bool, rules, ap, ◌∙◌, sym}
+use Rattle.std.proofs.Common.{◌≡◌, ℕ, List, map, refl, ap, ◌∙◌, sym}
 use Rattle.class_defs.specs.ExpressionRules.{Judged, judged, judge_step, line_at, null_at, negate_rules, binary_rules, call_rules}
 use Rattle.class_defs.specs.Rules.{Sight}
-use Rattle.class_defs.specs.declared.expressions.Expr.{Expr, out-Expr, fold-Expr, map-Expr}
+use Rattle.class_defs.specs.declared.expressions.Expr.{Expr, out-Expr, map-Expr}
 use Rattle.class_defs.specs.declared.expressions.Name.{Name}
 use Rattle.class_defs.specs.declared.expressions.Expr.TheVariants.{Negate, Binary, Call, rolls-Negate, rolls-Binary, rolls-Call}
 use Rattle.class_defs.specs.declared.expressions.Expr.TheFolds.{fold_out-Expr, fold-roll-Expr}

@@ -1,11 +1,11 @@
 -- The names that a statement declares, by the form of the statement.
-use Rattle.std.proofs.Common.{◌≡◌, ℕ, List, ◌++◌, map, ap, ◌∙◌, sym, refl}
+use Rattle.std.proofs.Common.{◌≡◌, List, ◌++◌, map, ap, ◌∙◌, sym, refl}
 use Rattle.std.specs.List.{flat_map}
 use Rattle.std.proofs.lemmas.List.Folds.{flat_map-map}
 use Rattle.class_defs.specs.StatementRules.{names_at, names_declared, names_in}
 use Rattle.class_defs.specs.declared.expressions.Expr.{Expr}
 use Rattle.class_defs.specs.declared.expressions.Name.{Name}
-use Rattle.class_defs.specs.declared.statements.Stmt.{Stmt, fold-Stmt}
+use Rattle.class_defs.specs.declared.statements.Stmt.{Stmt}
 use Rattle.class_defs.specs.declared.statements.Stmt.TheVariants.{If, IfElse, While, rolls-If, rolls-IfElse, rolls-While}
 use Rattle.class_defs.specs.declared.statements.Stmt.TheFolds.{fold-roll-Stmt}
 use Rattle.class_defs.specs.declared.statements.Stmt.TheOpen.{Stmt-F}

@@ -1,5 +1,5 @@
 -- The least of faults that are found piece by piece.
-use Rattle.std.proofs.Common.{ℕ, ◌+◌, ◌<◌, take, get_or, arith, sym, ◌∙◌, ◌≡◌, List, [], ◌∷◌, ◌++◌, Option, refl, map, length, ap, suc}
+use Rattle.std.proofs.Common.{ℕ, ◌+◌, ◌<◌, take, get_or, sym, ◌∙◌, ◌≡◌, List, [], ◌∷◌, ◌++◌, Option, refl, map, length, ap, suc}
 use Rattle.std.specs.List.{flat_map}
 use Rattle.std.proofs.lemmas.List.{take_more, flat_map_more}
 use Rattle.class_defs.specs.Rules.{least_with, lesser}
@@ -19,6 +19,6 @@ pub each_more : {X : Type 0} (f : X → List TypeFault) (all : List X) (i : ℕ)
 each_more f all i x found within is =
     sym (least_append found (flat_map f (take i all)) (f x))
     ∙ ap (least_with found) (
-        flat_map_more f [] (take i all) x
-        ∙ ap (λ q. flat_map f (take i all ++ q ∷ [])) is
-        ∙ ap (flat_map f) (sym (take_more all i x within)))
+    flat_map_more f [] (take i all) x
+    ∙ ap (λ q. flat_map f (take i all ++ q ∷ [])) is
+    ∙ ap (flat_map f) (sym (take_more all i x within)))

@@ -1,9 +1,9 @@
 -- What a check says of a statement, by the form of the statement.
-use Rattle.std.proofs.Common.{◌≡◌, ℕ, List, ◌++◌, map, ap, ◌∙◌, sym}
+use Rattle.std.proofs.Common.{◌≡◌, List, ◌++◌, ap, ◌∙◌, sym}
 use Rattle.class_defs.specs.Rules.{Sight}
 use Rattle.class_defs.specs.StatementRules.{Ruled, ruled, rule_step, block_rules, must_be_number}
 use Rattle.class_defs.specs.declared.expressions.Expr.{Expr}
-use Rattle.class_defs.specs.declared.statements.Stmt.{Stmt, fold-Stmt}
+use Rattle.class_defs.specs.declared.statements.Stmt.{Stmt}
 use Rattle.class_defs.specs.declared.statements.Stmt.TheVariants.{If, IfElse, While, rolls-If, rolls-IfElse, rolls-While}
 use Rattle.class_defs.specs.declared.statements.Stmt.TheFolds.{fold-roll-Stmt}
 use Rattle.class_defs.specs.declared.statements.Stmt.TheOpen.{Stmt-F}

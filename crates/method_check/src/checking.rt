@@ -35,11 +35,7 @@ fn class_names(
 }
 
 /// T1 of the roots.
-fn root_names(
-    alloc: Global,
-    schema: &Schema,
-    found: &mut Option<TypeFault>,
-) -> Result<(), NoMemory>
+fn root_names(alloc: Global, schema: &Schema, found: &mut Option<TypeFault>) -> Result<(), NoMemory>
     ensures { OnOk result (found.new ≡ least_with found.old (spec.root_names schema.now)) }
 {
     let mut names = Names::new(alloc);
@@ -50,12 +46,7 @@ fn root_names(
 
 /// What a root breaks.
 #[tactic(auto, using(crate::proofs::Pieces::least_append))]
-fn root_rules(
-    classes: &Classes,
-    repos: u8,
-    root: &RootDeclaration,
-    found: &mut Option<TypeFault>,
-)
+fn root_rules(classes: &Classes, repos: u8, root: &RootDeclaration, found: &mut Option<TypeFault>)
     requires { length classes.now ≤ 65536 }
     ensures { found.new ≡ least_with found.old (spec.root_rules classes.now repos root.now) }
 {
@@ -67,12 +58,7 @@ fn root_rules(
 }
 
 /// What the roots break.
-fn roots(
-    classes: &Classes,
-    repos: u8,
-    roots: &[RootDeclaration],
-    found: &mut Option<TypeFault>,
-)
+fn roots(classes: &Classes, repos: u8, roots: &[RootDeclaration], found: &mut Option<TypeFault>)
     requires { length classes.now ≤ 65536 }
     ensures { found.new ≡ least_with found.old (flat_map (spec.root_rules classes.now repos) roots.now) }
 {

@@ -79,7 +79,14 @@ fn class_rules(
 {
     member_names(alloc, class, found)?;
     field_types(&schema.classes, class.fields.as_slice(), found);
-    methods(alloc, schema, repos, number, class.methods.as_slice(), found)
+    methods(
+        alloc,
+        schema,
+        repos,
+        number,
+        class.methods.as_slice(),
+        found,
+    )
 }
 
 /// What the classes of a schema break.

@@ -99,5 +99,11 @@ fn judge_argument(
     ensures { found.new ≡ least_with found.old (argument_rules body.now.schema.now.classes (option_copied parameter.entry) (judged (sight body.now locals.now) argument.now)) }
 {
     let given = judge(body, locals, argument, Place::Value, found);
-    argument_fits(&body.schema.classes, parameter, given, line_of(argument), found);
+    argument_fits(
+        &body.schema.classes,
+        parameter,
+        given,
+        line_of(argument),
+        found,
+    );
 }

@@ -7,8 +7,8 @@ ghost use Rattle.method_check.specs.Bodies.{sight};
 
 use crate::body::Body;
 use class_defs::{
-    ClassKind, Classes, ExprType, Field, Method, Name, NamedType, NamedTypes, Operator, RootDeclaration,
-    TypeName, class_named,
+    ClassKind, Classes, ExprType, Field, Method, Name, NamedType, NamedTypes, Operator,
+    RootDeclaration, TypeName, class_named,
 };
 
 /// The type of the objects of the class with this name.
@@ -140,7 +140,11 @@ pub fn local_named<'a>(locals: &'a NamedTypes, name: &Name) -> Option<&'a NamedT
 }
 
 /// The root with this name; in a method none can be named.
-pub fn root_named<'a>(body: &Body<'a>, locals: &NamedTypes, name: &Name) -> Option<&'a RootDeclaration>
+pub fn root_named<'a>(
+    body: &Body<'a>,
+    locals: &NamedTypes,
+    name: &Name,
+) -> Option<&'a RootDeclaration>
     ensures { option_copied result ≡ rules.root_named (sight body.now locals.now) name.now.text }
 {
     match body.this {
@@ -168,7 +172,11 @@ pub fn type_in_sight(body: &Body<'_>, locals: &NamedTypes, name: &Name) -> Optio
 }
 
 /// The method that is called on a value of this type.
-pub fn method_called<'a>(classes: &'a Classes, receiver: ExprType, name: &Name) -> Option<&'a Method>
+pub fn method_called<'a>(
+    classes: &'a Classes,
+    receiver: ExprType,
+    name: &Name,
+) -> Option<&'a Method>
     ensures { option_copied result ≡ expression_rules.method_called classes.now receiver name.now }
 {
     match receiver {

@@ -10,9 +10,7 @@ use crate::body::Body;
 use crate::declared::names_of;
 use crate::kinds::type_named;
 use crate::names::{names_in, stand_once};
-use class_defs::{
-    Classes, Method, NamedType, NamedTypes, Names, Parameter, Schema, TypeFault,
-};
+use class_defs::{Classes, Method, NamedType, NamedTypes, Names, Parameter, Schema, TypeFault};
 use std::alloc::Global;
 use thor_value::{NoMemory, TryCopy};
 

@@ -1,8 +1,8 @@
 use Rattle.std.proofs.Common.{◌≡◌, ℕ, ◌+◌, ◌<◌, ◌≤◌, List, ◌∷◌, ◌++◌, length, drop, take, get_or, map, arith, ◌∙◌, ap, sym, Option}
 use Rattle.std.proofs.lemmas.List.{at_drop_more, take-append-le}
 use Rattle.std.proofs.lemmas.Grind.{common_steps}
-use Rattle.class_defs.specs.Rules.{Sight, least_with}
-use Rattle.class_defs.specs.StatementRules.{in_turn, ruled, with_locals}
+use Rattle.class_defs.specs.Rules.{least_with}
+use Rattle.class_defs.specs.StatementRules.{in_turn, ruled}
 use Rattle.class_defs.specs.declared.rules.NamedType.{NamedType}
 use Rattle.class_defs.specs.declared.rules.TypeFault.{TypeFault}
 use Rattle.class_defs.specs.declared.statements.Stmt.{Stmt}

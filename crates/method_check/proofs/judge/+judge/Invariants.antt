@@ -9,4 +9,4 @@ abbrev pub invariant-judge_arguments-loop-argument : goal.invariant-judge_argume
 invariant-judge_arguments-loop-argument l =
     let s = sight l.body l.locals in
     least_with l.found (arguments_rules s.schema.classes l.rest (map (judged s) (drop l.argument-index l.arguments)))
-      ≡ least_with l.fn.found (arguments_rules s.schema.classes l.parameters (map (judged s) l.arguments))
+    ≡ least_with l.fn.found (arguments_rules s.schema.classes l.parameters (map (judged s) l.arguments))
