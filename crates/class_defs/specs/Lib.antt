@@ -1,10 +1,14 @@
 pub mod Calls
+pub mod ExpressionRules
 pub mod Expressions
 pub mod Grammar
 pub mod Objects
+pub mod Rules
 pub mod Run
+pub mod SchemaRules
 pub mod Shape
 pub mod Spelling
+pub mod StatementRules
 pub mod Statements
 pub mod Steps
 pub mod Touched

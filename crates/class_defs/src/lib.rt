@@ -1,6 +1,7 @@
 //! The trees of the language, and the definitions of what they mean.
 #![tactic(auto)]
 
+mod checked;
 mod classes;
 mod declarations;
 mod expressions;
@@ -9,11 +10,13 @@ mod look;
 mod machine;
 mod places;
 mod run_laws;
+mod rules;
 mod statements;
 mod store;
 mod types;
 mod upgrades;
 
+pub use checked::Checked;
 pub use classes::{
     Class, ClassKind, Classes, Field, Fields, Method, Methods, Parameter, Parameters,
 };
@@ -26,6 +29,7 @@ pub use places::Place;
 pub use run_laws::{
     fault_leaves_the_store, run_changes_what_it_wrote, runs_depend_on_what_they_touch,
 };
+pub use rules::{NamedType, NamedTypes, Position, Rule, TypeFault};
 pub use statements::{Block, Blocks, Stmt};
 pub use store::{
     Epochs, Object, Plain, PlainObjects, Root, RootDeclaration, RootDeclarations, Roots, Schema,

@@ -1,0 +1,142 @@
+-- The rules T1 to T8 of the language (this project's): what a broken rule is, which one a check tells, and the
+-- rules on names and on the words of types.
+use Rattle.std.specs.Prelude.{ℕ, ◌||◌, ◌&&◌, ◌==◌, nat_lt, not, if◌then◌else◌, find, List, [], ◌∷◌, ◌++◌, Bool, true, false, Option, Some, None, is_some, option_map, slice_get}
+use Rattle.std.specs.List.{list_any}
+use Rattle.std.specs.Str.{bytes_eq}
+use Rattle.class_defs.specs.Objects.{first_of}
+use Rattle.class_defs.specs.Types.{Scope, class_named, class_or_untold}
+use Rattle.class_defs.specs.declared.classes.Class.{Class}
+use Rattle.class_defs.specs.declared.classes.ClassKind.{ClassKind}
+use Rattle.class_defs.specs.declared.classes.ClassKind.TheVariants.{Free, Part}
+use Rattle.class_defs.specs.declared.expressions.Name.{Name}
+use Rattle.class_defs.specs.declared.expressions.TypeName.{TypeName}
+use Rattle.class_defs.specs.declared.expressions.TypeName.TheVariants as type_name
+use Rattle.class_defs.specs.declared.rules.NamedType.{NamedType}
+use Rattle.class_defs.specs.declared.rules.Rule.{Rule}
+use Rattle.class_defs.specs.declared.rules.Rule.TheVariants.{T1, T2, T3, T4, T5, T6, T7, T8}
+use Rattle.class_defs.specs.declared.rules.TypeFault.{TypeFault}
+use Rattle.class_defs.specs.declared.store.RootDeclaration.{RootDeclaration}
+use Rattle.class_defs.specs.declared.store.Schema.{Schema}
+use Rattle.class_defs.specs.declared.types.ExprType.{ExprType}
+use Rattle.class_defs.specs.declared.types.ExprType.TheVariants as type
+
+-- What must hold. Where it doesn't, the rule is broken on the line.
+abbrev pub must : Bool → Rule → ℕ → List TypeFault
+must true rule line = []
+must false rule line = record { line = line; rule = rule } ∷ []
+
+-- ---- the answer of a check
+
+abbrev pub rule_number : Rule → ℕ
+rule_number T1 = 1
+rule_number T2 = 2
+rule_number T3 = 3
+rule_number T4 = 4
+rule_number T5 = 5
+rule_number T6 = 6
+rule_number T7 = 7
+rule_number T8 = 8
+
+-- whether one fault is told rather than another: it has the lesser line, or the lesser rule on the same line
+abbrev pub told_before : TypeFault → TypeFault → Bool
+told_before f g = nat_lt f.line g.line || (f.line == g.line && nat_lt (rule_number f.rule) (rule_number g.rule))
+
+abbrev pub lesser : Option TypeFault → TypeFault → Option TypeFault
+lesser None f = Some f
+lesser (Some g) f = if told_before f g then Some f else Some g
+
+-- the least of some faults and of one that was found before
+abbrev pub least_with : Option TypeFault → List TypeFault → Option TypeFault
+least_with found [] = found
+least_with found (f ∷ fs) = least_with (lesser found f) fs
+
+-- what a check answers: the fault with the least line, and of those on that line the one with the least rule
+abbrev pub least : List TypeFault → Option TypeFault
+least fs = least_with None fs
+
+-- ---- names
+
+-- T1: each of these names stands for the first time, also behind the earlier ones
+abbrev pub stand_once : List Name → List Name → List TypeFault
+stand_once earlier [] = []
+stand_once earlier (n ∷ ns) = must (not (list_any (λ m. bytes_eq m.text n.text) earlier)) T1 n.line ++ stand_once (earlier ++ n ∷ []) ns
+
+-- What is in sight at a place in a body.
+pub record Sight : Type 0 where
+  -- the classes, and the roots, which items alone can name
+  pub schema : Schema
+  -- how many repositories there are
+  pub repos : ℕ
+  -- the class of `this`; none in an item
+  pub this : Option ℕ
+  -- the type that a `return` gives
+  pub result : ExprType
+  -- the parameters, and the locals of the blocks around the place that were declared before it
+  pub locals : List NamedType
+
+abbrev pub roots_in_sight : Schema → Option ℕ → List RootDeclaration
+roots_in_sight schema None = schema.roots
+roots_in_sight schema (Some c) = []
+
+-- the local or parameter with this name
+abbrev pub local_named : List NamedType → List ℕ → Option NamedType
+local_named locals name = find (λ l. bytes_eq l.name name) locals
+
+-- the root with this name
+abbrev pub root_named : Sight → List ℕ → Option RootDeclaration
+root_named s name = find (λ r. bytes_eq r.name.text name) (roots_in_sight s.schema s.this)
+
+-- a name is that of a local or parameter, or else, in an item, of a root
+abbrev pub type_in_sight : Sight → List ℕ → Option ExprType
+type_in_sight s name =
+    first_of (option_map (λ l. l.kind) (local_named s.locals name)) (option_map (λ r. class_or_untold (class_named s.schema.classes r.class.text)) (root_named s name))
+
+-- what an expression can name there
+abbrev pub scope_of : Sight → Scope
+scope_of s = record { classes = s.schema.classes; this = s.this; named = type_in_sight s }
+
+-- ---- types
+
+abbrev pub is_part_kind : Option ClassKind → Bool
+is_part_kind (Some Part) = true
+is_part_kind (Some Free) = false
+is_part_kind None = false
+
+-- whether a type is a part class
+abbrev pub is_part : List Class → ExprType → Bool
+is_part classes (type.Class c) = is_part_kind (option_map (λ d. d.kind) (slice_get classes c))
+is_part classes type.Int = false
+is_part classes type.Null = false
+is_part classes type.Untold = false
+
+-- T2: the name is that of a class
+abbrev pub is_class : List Class → Name → List TypeFault
+is_class classes name = must (is_some (class_named classes name.text)) T2 name.line
+
+-- T2 and T5: the name is that of a class, and not of a part class
+abbrev pub is_free_class : List Class → Name → List TypeFault
+is_free_class classes name = is_class classes name ++ must (not (is_part classes (class_or_untold (class_named classes name.text)))) T5 name.line
+
+-- T2 of the word of a field's type
+abbrev pub is_type : List Class → TypeName → List TypeFault
+is_type classes (type_name.Int line) = []
+is_type classes (type_name.Class name) = is_class classes name
+
+-- T2 and T5 of the word of a parameter's, a result's or a local's type
+abbrev pub is_free_type : List Class → TypeName → List TypeFault
+is_free_type classes (type_name.Int line) = []
+is_free_type classes (type_name.Class name) = is_free_class classes name
+
+-- Whether a value of the second type may stand where the first is declared. Null stands for an object of any
+-- class. A type that can't be told breaks nothing.
+abbrev pub fits : ExprType → ExprType → Bool
+fits type.Int type.Int = true
+fits type.Int type.Null = false
+fits type.Int (type.Class d) = false
+fits type.Int type.Untold = true
+fits (type.Class c) type.Int = false
+fits (type.Class c) type.Null = true
+fits (type.Class c) (type.Class d) = c == d
+fits (type.Class c) type.Untold = true
+fits type.Null given = true
+fits type.Untold given = true

@@ -1,0 +1,80 @@
+use crate::types::ExprType;
+use std::fmt;
+use thor_value::{NoMemory, Sequence, Text, TryCopy};
+
+/// A rule of the language, by the word that the program prints for it. The lesser of two is the one that
+/// comes first here.
+#[derive(Clone, Copy, Debug, PartialEq, Eq)]
+pub enum Rule {
+    /// A name is declared once.
+    T1,
+    /// A name is declared where it is used.
+    T2,
+    /// Types agree, and a root isn't assigned.
+    T3,
+    /// A call has as many arguments as the method has parameters.
+    T4,
+    /// Roots, parameters, results and locals are of no part class.
+    T5,
+    /// An owned field is given only a new part or null, and its part isn't handed on.
+    T6,
+    /// A part doesn't hand itself on.
+    T7,
+    /// A part is made for an owned field alone; `at` names a repository that is there, in items alone.
+    T8,
+}
+
+/// A rule that is broken.
+#[derive(Clone, Copy, Debug, PartialEq, Eq)]
+pub struct TypeFault {
+    /// The line of the name or symbol that breaks it, from 1.
+    pub line: u32,
+    pub rule: Rule,
+}
+
+/// Where an expression stands, as far as the rules on parts tell places apart.
+#[derive(Clone, Copy, Debug, PartialEq, Eq)]
+pub enum Position {
+    /// As the receiver of a call.
+    Receiver,
+    /// On one side of `==` or `!=`, with the word `null` on the other.
+    BesideNull,
+    /// As the whole right side of an assignment to an owned field.
+    IntoOwnedField,
+    /// Anywhere else.
+    Value,
+}
+
+/// A local or parameter in sight, with its declared type.
+#[derive(Debug, Drop)]
+pub struct NamedType {
+    pub name: Text,
+    pub kind: ExprType,
+}
+
+/// Locals and parameters in sight, in the order in which they were declared.
+pub type NamedTypes = Sequence<NamedType>;
+
+impl fmt::Display for Rule {
+    fn fmt<W: fmt::Write>(&self, f: &mut fmt::Formatter<W>) -> fmt::Result {
+        f.write_str(match self {
+            Rule::T1 => "T1",
+            Rule::T2 => "T2",
+            Rule::T3 => "T3",
+            Rule::T4 => "T4",
+            Rule::T5 => "T5",
+            Rule::T6 => "T6",
+            Rule::T7 => "T7",
+            Rule::T8 => "T8",
+        })
+    }
+}
+
+impl TryCopy for NamedType {
+    fn copy(&self) -> Result<NamedType, NoMemory> {
+        Ok(NamedType {
+            name: self.name.copy()?,
+            kind: self.kind,
+        })
+    }
+}

@@ -1,0 +1,19 @@
+//! The check of the language's rules T1 to T8.
+#![tactic(auto)]
+
+mod assignments;
+mod blocks;
+mod body;
+mod checking;
+mod classes;
+mod declared;
+mod error;
+mod judge;
+mod kinds;
+mod least;
+mod methods;
+mod names;
+mod nodes;
+
+pub use checking::{check, check_item};
+pub use error::CheckError;
