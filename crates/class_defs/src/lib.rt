@@ -9,8 +9,8 @@ mod limits;
 mod look;
 mod machine;
 mod places;
-mod run_laws;
 mod rules;
+mod run_laws;
 mod statements;
 mod store;
 mod types;
@@ -26,10 +26,10 @@ pub use limits::{CREATE_LIMIT, DEPTH_LIMIT, READ_LIMIT, STEP_LIMIT};
 pub use look::{class_named, field_named, field_of, method_of};
 pub use machine::{Flow, Local, Locals, Machine, NameSupply, Receiver, Stop};
 pub use places::Place;
+pub use rules::{NamedType, NamedTypes, Position, Rule, TypeFault};
 pub use run_laws::{
     fault_leaves_the_store, run_changes_what_it_wrote, runs_depend_on_what_they_touch,
 };
-pub use rules::{NamedType, NamedTypes, Position, Rule, TypeFault};
 pub use statements::{Block, Blocks, Stmt};
 pub use store::{
     Epochs, Object, Plain, PlainObjects, Root, RootDeclaration, RootDeclarations, Roots, Schema,

@@ -85,10 +85,11 @@ answered schema n store (tx ∷ txs) ds before low h =
     let d : Did = did n tx p.answer in
     let P : List Did → Type 0 = λ es. AreAnswered (before ++ es) (items_from 1 n (map Tx (tx ∷ txs))) (map ended es) in
     let Q : List Did → Type 0 = λ es. AreAnswered es (items_from 1 (n + 1) (map Tx txs)) (map ended p.rest) in
-    subst P (sym p.are)
-      (refl,
-       answered_one (before ++ d ∷ p.rest) n tx p.answer (one_entry n tx p.answer before p.rest low (numbered schema (n + 1) (n + 1) p.after txs p.rest (omega arith) p.others)),
-       subst Q (append_assoc before (d ∷ []) p.rest) (answered schema (n + 1) p.after txs p.rest (before ++ d ∷ []) (all_end (Below (n + 1)) before d (below_more n before low) (refl, omega arith)) p.others))
+    subst P (sym p.are) (
+      refl,
+      answered_one (before ++ d ∷ p.rest) n tx p.answer (one_entry n tx p.answer before p.rest low (numbered schema (n + 1) (n + 1) p.after txs p.rest (omega arith) p.others)),
+      subst Q (append_assoc before (d ∷ []) p.rest) (answered schema (n + 1) p.after txs p.rest (before ++ d ∷ []) (all_end (Below (n + 1)) before d (below_more n before low) (refl, omega arith)) p.others),
+    )
 
 -- every entry is of an item
 pub of_items : (schema : Schema) (n : ℕ) (store : Plain) (txs : List (List Stmt)) (ds : List Did) (before : List Item) → performance schema n store txs ≡ Some ds → AreOfItems (before ++ items_from 1 n (map Tx txs)) ds
@@ -98,9 +99,10 @@ of_items schema n store (tx ∷ txs) ds before h =
     let items : List Item = items_from 1 (n + 1) (map Tx txs) in
     let P : List Did → Type 0 = λ es. AreOfItems (before ++ item n tx ∷ items) es in
     let Q : List Item → Type 0 = λ is. AreOfItems is p.rest in
-    subst P (sym p.are)
-      (Contains-append_right before (item n tx ∷ items) (item n tx) (0, omega arith, refl),
-       subst Q (append_assoc before (item n tx ∷ []) items) (of_items schema (n + 1) p.after txs p.rest (before ++ item n tx ∷ []) p.others))
+    subst P (sym p.are) (
+      Contains-append_right before (item n tx ∷ items) (item n tx) (0, omega arith, refl),
+      subst Q (append_assoc before (item n tx ∷ []) items) (of_items schema (n + 1) p.after txs p.rest (before ++ item n tx ∷ []) p.others),
+    )
 
 later : (n : ℕ) (ds : List Did) → AllByRecursion (From (n + 1)) ds → AllByRecursion (λ e. 1 ≡ e.who.client → n < e.who.index) ds
 later n [] all = tt

@@ -36,12 +36,12 @@ pub some_is : {X : Type 0} {x y : X} → Some x ≡ Some y → x ≡ y
 some_is {x = x} {y = y} e = cc
 
 parts_more : (schema : Schema) (n : ℕ) (store : Plain) (tx : List Stmt) (txs : List (List Stmt)) (ds : List Did) (e : Answer × Plain) (o : Option (List Did))
-  → effect_of schema tx store [] ≡ Some e → performance schema (n + 1) e.1 txs ≡ o → option_map (λ rest. did n tx e.0 ∷ rest) o ≡ Some ds → Parts schema n store tx txs ds
+    → effect_of schema tx store [] ≡ Some e → performance schema (n + 1) e.1 txs ≡ o → option_map (λ rest. did n tx e.0 ∷ rest) o ≡ Some ds → Parts schema n store tx txs ds
 parts_more schema n store tx txs ds e None ran others h = absurd (let bad : None ≡ Some ds = h in cc)
 parts_more schema n store tx txs ds e (Some rest) ran others h = record { answer = e.0; after = e.1; rest = rest; ran = ran; others = others; are = sym (some_is h) }
 
 parts_by : (schema : Schema) (n : ℕ) (store : Plain) (tx : List Stmt) (txs : List (List Stmt)) (ds : List Did) (o : Option (Answer × Plain))
-  → effect_of schema tx store [] ≡ o → option_and_then (λ e. option_map (λ rest. did n tx e.0 ∷ rest) (performance schema (n + 1) e.1 txs)) o ≡ Some ds → Parts schema n store tx txs ds
+    → effect_of schema tx store [] ≡ o → option_and_then (λ e. option_map (λ rest. did n tx e.0 ∷ rest) (performance schema (n + 1) e.1 txs)) o ≡ Some ds → Parts schema n store tx txs ds
 parts_by schema n store tx txs ds None ran h = absurd (let bad : None ≡ Some ds = h in cc)
 parts_by schema n store tx txs ds (Some e) ran h = parts_more schema n store tx txs ds e (performance schema (n + 1) e.1 txs) ran refl h
 

@@ -39,8 +39,8 @@ stopped schema store txs i tx done all within is e h =
 
 -- the same by what the code's run of the transaction says
 pub turn_on : (schema : Schema) (roots : List Root) (old new : View) (txs : List (List Stmt)) (i : ℕ) (tx : List Stmt) (names : List Oref) (done pushed : List Did) (d : Did) (a : Answer) (r : Option Answer) (all : Option (List Did))
-  → i < length txs → tx ≡ get_or txs i tx → names ≡ [] → r ≡ Some a → RanOn schema tx names roots old r new → d ≡ did (i + 1) tx a → pushed ≡ done ++ d ∷ [] → behind done (performance schema (i + 1) (plain roots old) (drop i txs)) ≡ all
-  → behind pushed (performance schema (i + 1 + 1) (plain roots new) (drop (i + 1) txs)) ≡ all
+    → i < length txs → tx ≡ get_or txs i tx → names ≡ [] → r ≡ Some a → RanOn schema tx names roots old r new → d ≡ did (i + 1) tx a → pushed ≡ done ++ d ∷ [] → behind done (performance schema (i + 1) (plain roots old) (drop i txs)) ≡ all
+    → behind pushed (performance schema (i + 1 + 1) (plain roots new) (drop (i + 1) txs)) ≡ all
 turn_on schema roots old new txs i tx names done pushed d a r all within is none some ran made put h =
     let P : Option Answer → Type 0 = λ o. RanOn schema tx names roots old o new in
     let Q : List Oref → Type 0 = λ ns. effect_of schema tx (plain roots old) ns ≡ Some (a, plain roots new) in
@@ -48,7 +48,7 @@ turn_on schema roots old new txs i tx names done pushed d a r all within is none
     ∙ turn schema (plain roots old) (plain roots new) txs i tx done a all within is (subst Q none (subst P some ran)) h
 
 pub stopped_on : (schema : Schema) (roots : List Root) (old new : View) (txs : List (List Stmt)) (i : ℕ) (tx : List Stmt) (names : List Oref) (done : List Did) (r : Option Answer) (all : Option (List Did))
-  → i < length txs → tx ≡ get_or txs i tx → names ≡ [] → r ≡ None → RanOn schema tx names roots old r new → behind done (performance schema (i + 1) (plain roots old) (drop i txs)) ≡ all → None ≡ all
+    → i < length txs → tx ≡ get_or txs i tx → names ≡ [] → r ≡ None → RanOn schema tx names roots old r new → behind done (performance schema (i + 1) (plain roots old) (drop i txs)) ≡ all → None ≡ all
 stopped_on schema roots old new txs i tx names done r all within is none undefined ran h =
     let P : Option Answer → Type 0 = λ o. RanOn schema tx names roots old o new in
     let Q : List Oref → Type 0 = λ ns. effect_of schema tx (plain roots old) ns ≡ None in

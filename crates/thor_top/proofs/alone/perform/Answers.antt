@@ -12,7 +12,7 @@ read_of xs ys i x e h = let P : List (List Stmt) → Type 0 = λ zs. x ≡ get_o
 pub returns-in-None : goal.returns-in-None
 returns-in-None c = record {
   performed = λ roots. stopped_on c.args.schema.now roots c.loop-place.view c.run_on.new.view c.args.blocks.now c.loop-place.place c.block-item.result c.new-none.result c.loop-place.history c.in_ok-answer.field-0 _
-    (within_of _ _ _ c.as_slice-block-items.ensures c.loop-place-test.true) (read_of _ _ _ _ c.as_slice-block-items.ensures c.block-item.is) c.new-none.ensures c.in-None.is (c.in_ok-answer.ensures.ran roots) (c.loop-place.invariant roots);
+      (within_of _ _ _ c.as_slice-block-items.ensures c.loop-place-test.true) (read_of _ _ _ _ c.as_slice-block-items.ensures c.block-item.is) c.new-none.ensures c.in-None.is (c.in_ok-answer.ensures.ran roots) (c.loop-place.invariant roots);
 }
 
 pub loop-place-preserved : goal.loop-place-preserved
