@@ -1,0 +1,4 @@
+pub mod Breaches
+pub mod Schedules
+pub mod Faults
+pub mod Parses

@@ -1,0 +1,5 @@
+pub mod Numbers
+pub mod Kinds
+pub mod Schedule
+pub mod Breaks
+pub mod Written
