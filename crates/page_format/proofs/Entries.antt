@@ -1,9 +1,8 @@
 -- The objects of a page and their bytes stand for one another.
-use Rattle.std.proofs.Common.{◌≡◌, ℕ, zero, suc, ◌+◌, ◌-◌, ◌*◌, ◌^◌, ◌<◌, ◌≤◌, Bool, true, false, cond, ltb, List, [], ◌∷◌, ◌++◌, length, get_or, take, drop, Option, Some, None, refl, sym, ap, subst, ◌∙◌, append_assoc, arith}
+use Rattle.std.proofs.Common.{◌≡◌, ℕ, zero, suc, ◌^◌, ◌<◌, ◌≤◌, Bool, true, false, cond, ltb, List, [], ◌∷◌, ◌++◌, length, take, drop, Option, Some, None, refl, sym, ap, subst, ◌∙◌, append_assoc, arith}
 use Rattle.std.specs.Int.{w16, from_be_bytes, to_be_bytes}
-use Rattle.std.specs.List.{flat_map, AllByRecursion}
-use Rattle.std.specs.Option.{option_map_or}
-use Rattle.std.proofs.lemmas.Bool.{lt-ltb, le-ltb, ltb-false}
+use Rattle.std.specs.List.{AllByRecursion}
+use Rattle.std.proofs.lemmas.Bool.{le-ltb, ltb-false}
 use Rattle.std.proofs.lemmas.List.{append-nil, length-append, length-take, take-append-drop}
 use Rattle.std.proofs.lemmas.List.Concat.{flat_map-cons}
 use Rattle.std.proofs.lemmas.Nat.{be_bytes_2, from_be_bytes-to_be_bytes_2}
@@ -11,7 +10,7 @@ use Rattle.std.proofs.Math.Seq.{take-append_seam, drop-append_seam}
 use Rattle.thor_value.proofs.Exactness.{IsBytes, IsBytes-rest}
 use Rattle.page_format.specs.Pages.{object_entry, entries, Rises, ObjectFits, ObjectsFit}
 use Rattle.page_format.specs.Walking.{first_at, pairs_of, behind_at, AreStored}
-use Rattle.page_format.proofs.Walks.{First, pairs_more, pairs_none, pairs_zero, behind_more, behind_none, behind_zero}
+use Rattle.page_format.proofs.Walks.{First, pairs_more, pairs_zero, behind_more, behind_none, behind_zero}
 
 abbrev Pairs : Type 0
 Pairs = List (ℕ × List ℕ)

@@ -1,16 +1,16 @@
 -- A page and its bytes stand for one another.
-use Rattle.std.proofs.Common.{◌≡◌, ℕ, zero, suc, ◌+◌, ◌-◌, ◌*◌, ◌^◌, ◌<◌, ◌≤◌, Bool, true, false, cond, eqb, List, [], ◌∷◌, ◌++◌, length, get_or, take, drop, Option, Some, None, All, refl, sym, ap, subst, ◌∙◌, append_assoc, arith}
+use Rattle.std.proofs.Common.{◌≡◌, ℕ, zero, suc, ◌+◌, ◌-◌, ◌*◌, ◌^◌, ◌<◌, ◌≤◌, Bool, true, false, cond, eqb, List, [], ◌∷◌, ◌++◌, length, take, drop, Option, Some, None, All, refl, sym, ap, subst, ◌∙◌, append_assoc, arith}
 use Rattle.std.specs.Prelude.{replicate, slice_index, ◌&&◌}
 use Rattle.std.specs.Int.{w32, from_be_bytes, to_be_bytes}
-use Rattle.std.specs.List.{flat_map, AllByRecursion, list_all}
+use Rattle.std.specs.List.{AllByRecursion}
 use Rattle.std.specs.Option.{option_map_or}
 use Rattle.std.proofs.lemmas.Bool.{eqb-true, eq-eqb}
-use Rattle.std.proofs.lemmas.List.{append-nil, length-append, length-replicate, length-drop, take_all}
+use Rattle.std.proofs.lemmas.List.{append-nil, length-append, length-replicate, take_all}
 use Rattle.std.proofs.lemmas.List.Elements.{recursion_from_All}
 use Rattle.std.proofs.lemmas.Nat.{be_bytes_4, from_be_bytes-to_be_bytes_4}
 use Rattle.std.proofs.Math.Seq.{take-append_seam}
 use Rattle.thor_value.proofs.Exactness.{IsBytes, IsBytes-rest}
-use Rattle.page_format.specs.Pages.{Contents, PageFits, ObjectsFit, ObjectFits, entries, object_entry, head, page_bytes, Rises}
+use Rattle.page_format.specs.Pages.{Contents, PageFits, ObjectsFit, entries, object_entry, head, page_bytes}
 use Rattle.page_format.specs.Walking.{head_at, has_head, pairs_of, behind_at, all_zero, parts_at, AreStored}
 use Rattle.page_format.proofs.Entries.{Passed, pairs_again, behind_again, behind_found, stored, entries_cons}
 

@@ -1,5 +1,5 @@
 -- Putting an object among others.
-use Rattle.std.proofs.Common.{◌≡◌, ℕ, zero, suc, ◌+◌, ◌-◌, ◌^◌, ◌<◌, ◌≤◌, List, [], ◌∷◌, ◌++◌, length, take, drop, Some, refl, sym, ap, subst, ◌∙◌, append_assoc, arith, inl, inr, ◌⊎◌}
+use Rattle.std.proofs.Common.{◌≡◌, ℕ, suc, ◌+◌, ◌-◌, ◌^◌, ◌<◌, ◌≤◌, List, [], ◌∷◌, ◌++◌, length, take, drop, Some, refl, sym, ap, subst, ◌∙◌, append_assoc, arith, inl, inr, ◌⊎◌}
 use Rattle.std.specs.List.{AllByRecursion}
 use Rattle.std.specs.Ordering.{nat_cmp, match_ordering}
 use Rattle.std.specs.declared.cmp.Ordering.{Ordering}
@@ -8,7 +8,7 @@ use Rattle.std.specs.BTreeMap.{insert_entry}
 use Rattle.std.proofs.lemmas.Cmp.{ranked}
 use Rattle.std.proofs.lemmas.List.{append-nil, length-append, length-take, length-drop}
 use Rattle.std.proofs.Math.Seq.{drop-append_seam, take-append-add, drop-append-add}
-use Rattle.page_format.specs.Pages.{object_entry, entries, Rises, ObjectFits, ObjectsFit, Passes}
+use Rattle.page_format.specs.Pages.{object_entry, entries, Rises, ObjectFits, ObjectsFit}
 use Rattle.page_format.specs.Walking.{first_at, pairs_of, place_at, shifted, AreStored}
 use Rattle.page_format.proofs.Walks.{place_more, place_zero}
 use Rattle.page_format.proofs.Entries.{first_again, entries_cons, pairs_again, stored}

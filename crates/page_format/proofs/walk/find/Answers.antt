@@ -1,4 +1,3 @@
-use Rattle.std.specs.Ordering.{nat_cmp}
 use Rattle.page_format.specs.Walking.{pairs_of}
 use Rattle.page_format.proofs.Walks.{found_in, find_none, find_here, find_other, find_ends}
 use Rattle.page_format.proofs.walk.find.Goals as goal

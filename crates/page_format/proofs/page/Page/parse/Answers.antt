@@ -1,6 +1,5 @@
-use Rattle.std.proofs.Common.{◌≡◌, List, ℕ, ◌∙◌, ap, sym, subst, arith}
-use Rattle.page_format.specs.Pages.{PageFits, page_bytes}
-use Rattle.page_format.specs.Walking.{AreStored, pairs_of, parts_at}
+use Rattle.std.proofs.Common.{List, ℕ, ◌∙◌, ap, sym, subst, arith}
+use Rattle.page_format.specs.Walking.{pairs_of, parts_at}
 use Rattle.page_format.proofs.Pages.{Parted, made, parts_found, parts_are, no_page}
 use Rattle.page_format.proofs.page.Page.parse.Goals as goal
 
