@@ -1,0 +1,5 @@
+pub mod Disks
+pub mod Calls
+pub mod Ticks
+pub mod Fuse
+pub mod Fused
