@@ -1,1 +1,2 @@
 pub mod FusedCalls
+pub mod FileCalls

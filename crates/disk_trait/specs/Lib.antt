@@ -3,3 +3,5 @@ pub mod Calls
 pub mod Ticks
 pub mod Fuse
 pub mod Fused
+pub mod Counts
+pub mod Files

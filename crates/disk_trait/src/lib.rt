@@ -2,10 +2,13 @@
 #![tactic(auto)]
 
 mod clock;
+mod counts;
+mod files;
 mod fuse;
 mod fused;
 mod parts;
 
 pub use clock::{Clock, SystemClock, TickClock};
+pub use files::FileParts;
 pub use fused::Fused;
-pub use parts::{Outage, Parts};
+pub use parts::{FARTHEST_END, Outage, Parts};

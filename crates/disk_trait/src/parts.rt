@@ -1,4 +1,4 @@
-ghost use Rattle.std.specs.Prelude.{◌≡◌, ◌+◌, ◌<◌, ◌≤◌, ℕ, List, length, max, Some};
+ghost use Rattle.std.specs.Prelude.{◌≡◌, ◌+◌, ◌^◌, ◌<◌, ◌≤◌, ◌↔◌, ℕ, List, length, max, Some, IsTrue};
 ghost use Rattle.disk_trait.specs.Disks.{Disks, WhereTold, MayLeave, SameDisks};
 ghost use Rattle.disk_trait.specs.Calls.{Reads, Writes, Syncs, TellsLength, Restarts};
 ghost use Rattle.disk_trait.specs.declared.parts.Outage.TheVariants.{NoMemory};
@@ -37,6 +37,19 @@ impl<T: Drop> From<AllocFailed<T>> for Outage {
 
     fn from(_refused: AllocFailed<T>) -> Outage {
         Outage::NoMemory
+    }
+}
+
+/// The greatest place at which a write may end.
+pub const FARTHEST_END: u64 = 1 << 40;
+
+/// Whether a write of so many bytes at a place would end too far.
+pub(crate) fn ends_too_far(at: u64, len: usize) -> bool
+    ensures { IsTrue result ↔ (2 ^ 40 < at + len) }
+{
+    match at.checked_add(len as u64) {
+        Some(end) => end > FARTHEST_END,
+        None => true,
     }
 }
 
