@@ -1,2 +1,3 @@
 pub mod FusedCalls
 pub mod FileCalls
+pub mod Writes

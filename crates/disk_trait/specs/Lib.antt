@@ -5,3 +5,8 @@ pub mod Fuse
 pub mod Fused
 pub mod Counts
 pub mod Files
+pub mod Images
+pub mod Change
+pub mod Record
+pub mod Kept
+pub mod Write

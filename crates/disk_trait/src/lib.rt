@@ -6,9 +6,12 @@ mod counts;
 mod files;
 mod fuse;
 mod fused;
+mod mem_disk;
 mod parts;
+mod record;
 
 pub use clock::{Clock, SystemClock, TickClock};
 pub use files::FileParts;
 pub use fused::Fused;
 pub use parts::{FARTHEST_END, Outage, Parts};
+pub use record::{Call, Change, Did};
