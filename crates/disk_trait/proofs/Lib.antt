@@ -1,3 +1,6 @@
 pub mod FusedCalls
 pub mod FileCalls
 pub mod Writes
+pub mod Newest
+pub mod Torn
+pub mod TornCalls

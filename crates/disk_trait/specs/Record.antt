@@ -1,6 +1,6 @@
 -- The record of a disk in memory. Calls stand with the newest first, and `bytes` is what a read gives
 -- behind all of them.
-use Rattle.std.specs.Prelude.{◌≡◌, ℕ, ◌+◌, ◌%◌, ◌≤◌, Bool, nat_le, ◌==◌, if◌then◌else◌, List, [], ◌∷◌, length, MatchBool}
+use Rattle.std.specs.Prelude.{◌≡◌, ℕ, ◌+◌, ◌%◌, ◌≤◌, Bool, true, false, nat_le, ◌==◌, if◌then◌else◌, List, [], ◌∷◌, length, MatchBool}
 use Rattle.disk_trait.specs.Images.{Image, is_in}
 use Rattle.disk_trait.specs.Change.{put_back}
 use Rattle.disk_trait.specs.declared.record.Did.{Did}
@@ -35,6 +35,12 @@ ranges_past _ before = before
 abbrev pub ranges_of : List Call → List (ℕ × ℕ)
 ranges_of [] = []
 ranges_of (call ∷ calls) = ranges_past call.did (ranges_of calls)
+
+-- whether what stood there before no longer counts: behind a sync or restart
+abbrev pub settles : Did → Bool
+settles Synced = true
+settles (Restarted pick change) = true
+settles _ = false
 
 -- a crash behind all these calls may leave this image
 abbrev pub ImageNow : List Call → List ℕ → List ℕ → Type 0

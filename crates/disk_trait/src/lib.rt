@@ -3,6 +3,7 @@
 
 mod clock;
 mod counts;
+mod crash;
 mod files;
 mod fuse;
 mod fused;

@@ -160,7 +160,7 @@ fn grow(bytes: &mut Vec<u8>, at: usize, put: &[u8]) -> Result<(), AllocError>
 }
 
 /// Puts bytes in the place of as many.
-fn overwrite(bytes: &mut [u8], from: usize, put: &[u8])
+pub(crate) fn overwrite(bytes: &mut [u8], from: usize, put: &[u8])
     requires { from + length put.now ≤ length bytes.old }
     ensures { bytes.new ≡ over bytes.old from put.now }
 {
