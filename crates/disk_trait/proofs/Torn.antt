@@ -1,10 +1,11 @@
 -- What tearing does to the bytes of a disk in memory.
-use Rattle.std.proofs.Common.{◌≡◌, ◌≢◌, ℕ, ◌+◌, ◌-◌, ◌%◌, ◌<◌, ◌≤◌, min, Bool, true, false, cond, ◌&&◌, ◌||◌, nat_le, nat_lt, List, [], ◌∷◌, ◌++◌, length, take, drop, get_or, set, slice_index, refl, ap, sym, ◌∙◌, arith, add-one, inl, inr, zero, suc}
-use Rattle.std.proofs.lemmas.List.{length-set, get_or-set_same, get_or-set_other}
+use Rattle.std.proofs.Common.{◌≡◌, ◌≢◌, ℕ, ◌+◌, ◌-◌, ◌%◌, ◌<◌, ◌≤◌, min, Bool, true, false, cond, ◌&&◌, ◌||◌, nat_le, nat_lt, List, [], ◌∷◌, ◌++◌, length, take, drop, get_or, set, slice_index, refl, ap, sym, ◌∙◌, arith, add-one, inl, inr, zero, suc, take-append-drop}
+use Rattle.std.proofs.lemmas.List.{length-set, get_or-set_same, get_or-set_other, drop_all, append-nil}
 use Rattle.std.proofs.lemmas.Grind.{same_number_lists, common_steps}
 use Rattle.std.proofs.lemmas.Bool.{cases_lt, cases_eq}
 use Rattle.std.proofs.lemmas.Bool.Decides.{nat_tests}
 use Rattle.disk_trait.specs.Images.{is_in}
+use Rattle.disk_trait.specs.Change.{PutBack, put_back}
 use Rattle.disk_trait.specs.Record.{at_places, torn}
 
 pub length-at_places : (f : ℕ → ℕ → ℕ) (i : ℕ) (bytes : List ℕ) → length (at_places f i bytes) ≡ length bytes
@@ -101,3 +102,8 @@ torn_cut pick from end bytes = torn_same pick ((min from (min end (length bytes)
 pub torn_ended : (pick from end first place : ℕ) (bytes now : List ℕ) → first ≡ min from (min end (length bytes)) → place ≡ min end (length bytes) → now ≡ torn pick ((first, place) ∷ []) bytes → now ≡ torn pick ((from, end) ∷ []) bytes
 torn_ended pick from end first place bytes now is_first is_place so_far =
     so_far ∙ ap (λ (f : ℕ). torn pick ((f, place) ∷ []) bytes) is_first ∙ ap (λ (p : ℕ). torn pick ((min from (min end (length bytes)), p) ∷ []) bytes) is_place ∙ torn_cut pick from end bytes
+
+-- the tail behind what is the same, given back
+pub tail_back : (new old : List ℕ) (n : ℕ) → n ≤ length new → take n new ≡ take n old → put_back (record { from = n; end = length new; old = drop n old }) new ≡ old
+tail_back new old n within same =
+    rw (same, drop_all (length new) new (omega arith)) (append-nil (take n old ++ drop n old) ∙ take-append-drop n old)

@@ -137,3 +137,46 @@ pub(crate) fn picked_image(
     tear_since(&mut image, pick, synced.len(), calls);
     Ok(image)
 }
+
+/// How many bytes at the front are the same.
+fn same_front(some: &[u8], other: &[u8]) -> usize
+    ensures in_some { result ≤ length some.now }
+    ensures in_other { result ≤ length other.now }
+    ensures same { take result some.now ≡ take result other.now }
+{
+    let least = some.len().min(other.len());
+    for place in 0..least {
+        if some[place] != other[place] {
+            return place;
+        }
+    }
+    least
+}
+
+/// What gives the old bytes back in place of the new ones.
+#[tactic(auto, using(crate::proofs::Torn::tail_back))]
+pub(crate) fn difference(alloc: Global, new: &[u8], old: &[u8]) -> Result<Change, AllocError>
+    ensures { IfOk result (λ change. put_back change new.now ≡ old.now) }
+{
+    let from = same_front(new, old);
+    let behind = Vec::from_slice(alloc, old.split_at(from).1)?;
+    Ok(Change::new(from, new.len(), behind))
+}
+
+/// Whether a write may not be on the disk yet. `calls` stand with the oldest first.
+#[tactic(auto, using(crate::proofs::TornCalls::settled_here, crate::proofs::TornCalls::settled_before, crate::proofs::TornCalls::settled_done))]
+pub(crate) fn has_unsynced(calls: &[Call]) -> bool
+    ensures { result ≡ false → ranges_of (reverse calls.now) ≡ [] }
+{
+    let mut left = calls;
+    while let Some((call, earlier)) = left.split_last() {
+        if is_settled_by(&call.did) {
+            return false;
+        }
+        if let Did::Wrote { .. } = &call.did {
+            return true;
+        }
+        left = earlier;
+    }
+    false
+}

@@ -3,6 +3,7 @@ ghost use Rattle.disk_trait.specs.Kept.{Kept, noted, failed_at, WroteTo, Restart
 ghost use Rattle.disk_trait.specs.Write.{grown, over, inside, change_of};
 ghost use Rattle.disk_trait.specs.declared.record.Did.TheVariants.{Read, Length, Synced};
 
+use crate::crash::{difference, has_unsynced, picked_image};
 use crate::record::{Call, Change, Did};
 use std::alloc::AllocError;
 use std::marker::Model;
@@ -95,6 +96,24 @@ impl MemDisk {
             return Err(AllocError);
         }
         self.overwrite(from, &put[..inside]);
+        Ok(())
+    }
+
+    /// Crashes and leaves the image of the pick.
+    #[tactic(auto, using(crate::proofs::TornCalls::picked_settled))]
+    pub(crate) fn restart(&mut self, time: u64, pick: u64) -> Result<(), AllocError>
+        ensures ok { OnOk result (RestartedTo self.old self.new time pick) }
+        ensures err { OnErr result (self.new ≡ self.old) }
+    {
+        let alloc = *self.bytes.allocator();
+        if pick == 1 || !has_unsynced(&self.calls) {
+            let change = Change::new(0, 0, Vec::new(alloc));
+            return self.note(time, Did::Restarted { pick, change });
+        }
+        let image = picked_image(alloc, &self.bytes, &self.calls, pick)?;
+        let change = difference(alloc, &image, &self.bytes)?;
+        self.note(time, Did::Restarted { pick, change })?;
+        self.bytes = image;
         Ok(())
     }
 
