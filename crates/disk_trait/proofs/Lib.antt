@@ -4,3 +4,6 @@ pub mod Writes
 pub mod Newest
 pub mod Torn
 pub mod TornCalls
+pub mod ImageLaws
+pub mod Moments
+pub mod MemCalls

@@ -10,3 +10,4 @@ pub mod Change
 pub mod Record
 pub mod Kept
 pub mod Write
+pub mod Mem

@@ -1,12 +1,20 @@
 ghost use Rattle.std.specs.Prelude.{◌≡◌, ◌+◌, ◌-◌, ◌*◌, ◌^◌, ◌%◌, ◌<◌, ◌≤◌, ◌++◌, ℕ, List, [], ◌∷◌, length, take, drop, replicate, min, IfOk, IfErr, OnOk, OnErr};
-ghost use Rattle.disk_trait.specs.Kept.{Kept, noted, failed_at, WroteTo, RestartedTo};
+ghost use Rattle.disk_trait.specs.Kept.{Kept, noted, WroteTo, RestartedTo, Ended, IsTurn};
 ghost use Rattle.disk_trait.specs.Write.{grown, over, inside, change_of};
 ghost use Rattle.disk_trait.specs.declared.record.Did.TheVariants.{Read, Length, Synced};
 
 use crate::crash::{difference, has_unsynced, picked_image};
+use crate::parts::Outage;
 use crate::record::{Call, Change, Did};
 use std::alloc::AllocError;
 use std::marker::Model;
+
+/// Whether a call is one of those that are to fail.
+#[derive(Clone, Copy, Debug, PartialEq, Eq)]
+pub(crate) enum Turn {
+    Fails,
+    Works,
+}
 
 /// A disk in memory.
 #[derive(Debug, Drop)]
@@ -59,29 +67,90 @@ impl MemDisk {
     }
 
     /// Records a call that fails and changes nothing.
-    pub(crate) fn fail(&mut self, time: u64) -> Result<(), AllocError>
-        ensures ok { OnOk result (self.new ≡ failed_at self.old time) }
-        ensures err { OnErr result (self.new ≡ self.old) }
+    pub(crate) fn fail<T>(&mut self, time: u64) -> Result<T, Outage>
+        ensures { Ended self.old self.new time ⊥ result }
     {
         self.note(time, Did::Failed)?;
         self.faults = self.faults.saturating_add(1);
-        Ok(())
+        Err(Outage::Failed)
     }
 
-    pub(crate) fn read_at(&mut self, time: u64, at: usize, into: &mut [u8]) -> Result<(), AllocError>
+    pub(crate) fn read_at(
+        &mut self,
+        time: u64,
+        turn: Turn,
+        at: usize,
+        into: &mut [u8],
+    ) -> Result<(), Outage>
         requires { at + length into.old ≤ length self.old.bytes }
-        ensures ok { OnOk result (self.new ≡ noted self.old time (Read at (length into.old))) }
+        ensures ended { Ended self.old self.new time (self.new ≡ noted self.old time (Read at (length into.old))) result }
         ensures bytes { OnOk result (into.new ≡ take (length into.old) (drop at self.old.bytes)) }
-        ensures err { OnErr result (self.new ≡ self.old) }
+        ensures turn { IsTurn turn result }
     {
+        if turn == Turn::Fails {
+            return self.fail(time);
+        }
         self.note(time, Did::Read { at: at as u64, len: into.len() })?;
         let behind = self.bytes.split_at(at).1;
         into.copy_from_slice(behind.split_at(into.len()).0);
         Ok(())
     }
 
+    pub(crate) fn write_at(
+        &mut self,
+        time: u64,
+        turn: Turn,
+        at: usize,
+        put: &[u8],
+    ) -> Result<(), Outage>
+        requires { at + length put.now ≤ 2 ^ 40 }
+        ensures ended { Ended self.old self.new time (WroteTo self.old self.new time at put.now) result }
+        ensures turn { IsTurn turn result }
+    {
+        if turn == Turn::Fails {
+            return self.fail(time);
+        }
+        self.write(time, at, put)?;
+        Ok(())
+    }
+
+    pub(crate) fn sync(&mut self, time: u64, turn: Turn) -> Result<(), Outage>
+        ensures ended { Ended self.old self.new time (self.new ≡ noted self.old time Synced) result }
+        ensures turn { IsTurn turn result }
+    {
+        if turn == Turn::Fails {
+            return self.fail(time);
+        }
+        self.note(time, Did::Synced)?;
+        Ok(())
+    }
+
+    pub(crate) fn len(&mut self, time: u64, turn: Turn) -> Result<u64, Outage>
+        ensures ended { Ended self.old self.new time (self.new ≡ noted self.old time Length) result }
+        ensures bytes { IfOk result (λ n. n ≡ length self.old.bytes) }
+        ensures turn { IsTurn turn result }
+    {
+        if turn == Turn::Fails {
+            return self.fail(time);
+        }
+        self.note(time, Did::Length)?;
+        Ok(self.bytes.len() as u64)
+    }
+
+    /// Crashes and leaves the image of the pick.
+    pub(crate) fn restart(&mut self, time: u64, turn: Turn, pick: u64) -> Result<(), Outage>
+        ensures ended { Ended self.old self.new time (RestartedTo self.old self.new time pick) result }
+        ensures turn { IsTurn turn result }
+    {
+        if turn == Turn::Fails {
+            return self.fail(time);
+        }
+        self.crash(time, pick)?;
+        Ok(())
+    }
+
     #[tactic(auto, using(crate::proofs::Writes::wrote))]
-    pub(crate) fn write_at(&mut self, time: u64, at: usize, put: &[u8]) -> Result<(), AllocError>
+    fn write(&mut self, time: u64, at: usize, put: &[u8]) -> Result<(), AllocError>
         requires { at + length put.now ≤ 2 ^ 40 }
         ensures ok { OnOk result (WroteTo self.old self.new time at put.now) }
         ensures err { OnErr result (self.new ≡ self.old) }
@@ -99,9 +168,8 @@ impl MemDisk {
         Ok(())
     }
 
-    /// Crashes and leaves the image of the pick.
     #[tactic(auto, using(crate::proofs::TornCalls::picked_settled))]
-    pub(crate) fn restart(&mut self, time: u64, pick: u64) -> Result<(), AllocError>
+    fn crash(&mut self, time: u64, pick: u64) -> Result<(), AllocError>
         ensures ok { OnOk result (RestartedTo self.old self.new time pick) }
         ensures err { OnErr result (self.new ≡ self.old) }
     {

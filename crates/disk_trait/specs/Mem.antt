@@ -1,0 +1,45 @@
+-- Parts in memory.
+use Rattle.std.specs.Prelude.{◌≡◌, ℕ, ◌+◌, ◌-◌, ◌^◌, min, Bool, ◌&&◌, ◌==◌, List, [], ◌∷◌, Option, Some, None, IfSome, slice_get, slice_set, Result}
+use Rattle.std.specs.List.{list_any}
+use Rattle.disk_trait.specs.Disks.{Disks}
+use Rattle.disk_trait.specs.Kept.{Kept, Ended}
+use Rattle.disk_trait.specs.Record.{ImageAt}
+use Rattle.disk_trait.specs.declared.parts.Outage.{Outage}
+
+-- the bytes of a disk, where there is one
+abbrev pub bytes_of : Option Kept → Option (List ℕ)
+bytes_of (Some disk) = Some disk.bytes
+bytes_of None = None
+
+-- how often a disk failed
+abbrev pub faults_of : Option Kept → ℕ
+faults_of (Some disk) = min disk.faults (2 ^ 64 - 1)
+faults_of None = 0
+
+-- what a crash at a moment may have left of a disk
+abbrev pub images_of : ℕ → Option Kept → List ℕ → Type 0
+images_of moment (Some disk) image = ImageAt moment disk.calls disk.bytes image
+images_of moment None image = ⊥
+
+-- What contracts see of parts in memory: all there is to know.
+abbrev pub told : List Kept → ℕ → ℕ → Disks
+told disks moment clock =
+    record {
+      content = λ d. bytes_of (slice_get disks d);
+      time = moment;
+      images = λ m d image. images_of m (slice_get disks d) image;
+      faults = λ d. faults_of (slice_get disks d);
+      clock = clock;
+    }
+
+-- whether the next call on this disk, before which it had so many, is in the list of those that fail
+abbrev pub is_listed : List (ℕ × ℕ) → ℕ → ℕ → Bool
+is_listed fails disk count = list_any (λ fail. (fail.0 == disk) && (fail.1 == count + 1)) fails
+
+-- One call on a disk in memory: what it made of the disk, and that the other disks stay.
+pub record MemCall {T : Type 0} (before after : List Kept) (disk moment : ℕ) (done : Kept → Kept → Type 0) (result : Result T Outage) : Type 0 where
+  pub old : Kept
+  pub new : Kept
+  pub stood : slice_get before disk ≡ Some old
+  pub stands : after ≡ slice_set before disk new
+  pub ended : Ended old new moment (done old new) result
