@@ -1,17 +1,17 @@
 -- What one call on a disk in memory does to the parts.
-use Rattle.std.proofs.Common.{◌≡◌, ◌≢◌, ℕ, ◌+◌, ◌-◌, ◌^◌, ◌<◌, ◌≤◌, min, max, Bool, true, false, List, [], ◌∷◌, length, set, get_or, Option, Some, None, Result, Ok, Err, is_some, IsErrOf, IfOk, OnOk, if◌then◌else◌, ◌==◌, refl, ap, sym, ◌∙◌, subst, arith, zero, suc, inl, inr, slice_get, slice_set, take, drop}
+use Rattle.std.proofs.Common.{◌≡◌, ◌≢◌, ℕ, ◌+◌, ◌-◌, ◌^◌, ◌<◌, ◌≤◌, min, max, Bool, true, false, List, [], ◌∷◌, length, set, get_or, Option, Some, None, Result, Ok, Err, is_some, IsErr, IsErrOf, IfOk, OnOk, if◌then◌else◌, ◌==◌, refl, ap, sym, ◌∙◌, subst, arith, zero, suc, inl, inr, slice_get, slice_set, take, drop}
 use Rattle.std.proofs.lemmas.Bool.{cases_eq}
 use Rattle.std.proofs.lemmas.List.{length-set}
 use Rattle.std.proofs.lemmas.List.Elements.{All-set}
-use Rattle.std.proofs.lemmas.Option.{slice_get_within, get_or_from_slice_get}
+use Rattle.std.proofs.lemmas.Option.{slice_get_within, get_or_from_slice_get, slice_get-get_or}
 use Rattle.std.specs.List.{All}
 use Rattle.disk_trait.specs.Images.{Image}
 use Rattle.disk_trait.specs.Change.{PutBack, put_back}
 use Rattle.disk_trait.specs.Disks.{Disks, OnDisk, Torn, written}
 use Rattle.disk_trait.specs.Calls.{IsCall, Reads, Writes, Syncs, TellsLength, Restarts}
 use Rattle.disk_trait.specs.Record.{ImageNow, ImageAt, undone, newest, picked, torn, synced_of, ranges_of}
-use Rattle.disk_trait.specs.Kept.{Kept, noted, failed_at, WroteTo, RestartedTo, IsSound, Ended}
-use Rattle.disk_trait.specs.Mem.{bytes_of, faults_of, images_of, told, MemCall}
+use Rattle.disk_trait.specs.Kept.{Kept, noted, failed_at, WroteTo, RestartedTo, IsSound, Ended, IsTurn}
+use Rattle.disk_trait.specs.Mem.{bytes_of, faults_of, images_of, told, MemCall, turn_of}
 use Rattle.disk_trait.specs.declared.record.Did.{Did}
 use Rattle.disk_trait.specs.declared.record.Did.TheVariants.{Failed as FailedCall, Read, Length, Wrote, Synced, Restarted}
 use Rattle.disk_trait.specs.declared.parts.Outage.{Outage}
@@ -248,7 +248,7 @@ module _ (before : List Kept) (moment clock disk : ℕ) (old : Kept) (stood : sl
     step_wrote : (at : ℕ) (put : List ℕ) → WroteTo old new (moment + 1) at put → Step (moment + 1) old new
     step_wrote at put wrote = step_by moment old new (Wrote at wrote.change) (ap (λ (k : Kept). k.calls) wrote.is) wrote.back (omega (arith, ap (λ (k : Kept). k.faults) wrote.is))
 
-    pub mem_write_at : {T : Type 0} (at : ℕ) (put : List ℕ) (result : Result T Outage) → Ended old new (moment + 1) (WroteTo old new (moment + 1) at put) result → (2 ^ 40 < at + length put → IsErrOf result Failed) → Writes (told before moment clock) (told (set before disk new) (moment + 1) clock) disk at put result
+    pub mem_write_at : {T : Type 0} (at : ℕ) (put : List ℕ) (result : Result T Outage) → Ended old new (moment + 1) (WroteTo old new (moment + 1) at put) result → (2 ^ 40 < at + length put → IsErr result) → Writes (told before moment clock) (told (set before disk new) (moment + 1) clock) disk at put result
     mem_write_at at put (Ok answer) wrote far =
         let step = step_wrote at put wrote in
         record {
@@ -275,3 +275,68 @@ module _ (before : List Kept) (moment clock disk : ℕ) (old : Kept) (stood : sl
       unchanged = λ beyond. content_by (ap (λ (k : Kept). k.bytes) is);
       untorn = λ beyond. none_crash is;
     }
+
+-- where no moment is left, nothing is called
+module _ (disks : List Kept) (moment clock disk : ℕ) where
+  alone_unmade : OnDisk (told disks moment clock) (told disks moment clock) disk
+  alone_unmade = record {
+    later = omega arith;
+    past = λ m d image early left. left;
+    kept = λ m d image early left. left;
+    told = refl;
+    others = λ d other. refl;
+    others_images = λ m d image other from to left. at_same m d image from to left;
+    others_kept = λ m d image other from to left. at_same_back m d image from to left;
+    others_faults = λ d other. refl;
+    faults_stay = omega arith;
+    clock = refl;
+  }
+    where
+      at_same : (m d : ℕ) (image : List ℕ) → moment ≤ m → m ≤ moment → images_of m (slice_get disks d) image → images_of moment (slice_get disks d) image
+      at_same m d image from to left = let e : m ≡ moment = omega arith in subst (λ n. images_of n (slice_get disks d) image) e left
+      at_same_back : (m d : ℕ) (image : List ℕ) → moment ≤ m → m ≤ moment → images_of moment (slice_get disks d) image → images_of m (slice_get disks d) image
+      at_same_back m d image from to left = let e : moment ≡ m = omega arith in subst (λ n. images_of n (slice_get disks d) image) e left
+
+  call_unmade : {T : Type 0} → IsCall {T = T} (told disks moment clock) (told disks moment clock) disk (Err NoMemory)
+  call_unmade = record { alone = alone_unmade; one_moment = omega arith; ticks = tt; failed = λ same. cc }
+
+  pub unmade_read_at : {T : Type 0} (at : ℕ) (into out : List ℕ) → Reads {T = T} (told disks moment clock) (told disks moment clock) disk at into out (Err NoMemory)
+  unmade_read_at at into out = record { call = call_unmade; bytes = tt; content = refl; crash = λ image left. left }
+
+  pub unmade_write_at : {T : Type 0} (at : ℕ) (put : List ℕ) → Writes {T = T} (told disks moment clock) (told disks moment clock) disk at put (Err NoMemory)
+  unmade_write_at at put = record {
+    call = call_unmade;
+    content = tt;
+    crash = λ image left. (image, left, record { no_shorter = omega arith; no_longer = omega arith; outside = λ i within out. refl });
+    too_far = λ far. refl;
+    unchanged = λ far. refl;
+    untorn = λ far image left. left;
+  }
+
+  pub unmade_sync : {T : Type 0} → Syncs {T = T} (told disks moment clock) (told disks moment clock) disk (Err NoMemory)
+  unmade_sync = record { call = call_unmade; settled = tt; content = refl; crash = λ image left. left }
+
+  pub unmade_restart : {T : Type 0} → Restarts {T = T} (told disks moment clock) (told disks moment clock) disk (Err NoMemory)
+  unmade_restart = record { call = call_unmade; settled = tt; crash = λ image left. left }
+
+pub unmade_len : (disks : List Kept) (moment clock disk : ℕ) → TellsLength (told disks moment clock) (told disks moment clock) disk (Err NoMemory)
+unmade_len disks moment clock disk = record { call = call_unmade disks moment clock disk; bytes = tt; content = refl; crash = λ image left. left }
+
+-- a call on one of the disks
+pub mem_made : {T : Type 0} (before : List Kept) (disk moment : ℕ) (fails : Kept → Bool) (done : Kept → Kept → Type 0) (old new : Kept) (result : Result T Outage) → disk < length before → old ≡ get_or before disk old → Ended old new moment (done old new) result → IsTurn (turn_of (fails old)) result → MemCall before (set before disk new) disk moment fails done result
+mem_made before disk moment fails done old new result within is ended turn = record {
+  old = old;
+  new = new;
+  stood = slice_get-get_or before disk old within ∙ ap Some (sym is);
+  stands = refl;
+  ended = ended;
+  due = λ due. by_due (fails old) due turn;
+  failed = λ failed. by_failed (fails old) failed turn;
+}
+  where
+    by_due : (b : Bool) → b ≡ true → IsTurn (turn_of b) result → IsErr result
+    by_due true e t = t
+    by_due false e t = cc
+    by_failed : (b : Bool) → IsErrOf result Failed → IsTurn (turn_of b) result → b ≡ true
+    by_failed true f t = refl
+    by_failed false f t = absurd (t f)

@@ -1,5 +1,5 @@
 -- What the calls of a repository's parts do. `result` is what the call answers.
-use Rattle.std.specs.Prelude.{◌≡◌, ℕ, ◌+◌, ◌-◌, ◌^◌, ◌<◌, ◌≤◌, List, length, take, drop, Some, Result, IfOk, OnOk, IsErrOf}
+use Rattle.std.specs.Prelude.{◌≡◌, ℕ, ◌+◌, ◌-◌, ◌^◌, ◌<◌, ◌≤◌, List, length, take, drop, Some, Result, IfOk, OnOk, IsErr, IsErrOf}
 use Rattle.disk_trait.specs.Disks.{Disks, OnDisk, Rose, WhereTold, MayLeave, IsSettled, NoNewImage, TornAlone, written}
 use Rattle.disk_trait.specs.declared.parts.Outage.{Outage}
 use Rattle.disk_trait.specs.declared.parts.Outage.TheVariants.{Failed}
@@ -19,12 +19,12 @@ pub record Reads {T : Type 0} (old new : Disks) (disk at : ℕ) (before after : 
   pub content : new.content disk ≡ old.content disk
   pub crash : NoNewImage old new disk
 
--- a write of bytes at a place; one whose end would be above 2 ^ 40 is Failed and changes nothing
+-- a write of bytes at a place; one whose end would be above 2 ^ 40 is refused and changes nothing
 pub record Writes {T : Type 0} (old new : Disks) (disk at : ℕ) (bytes : List ℕ) (result : Result T Outage) : Type 0 where
   pub call : IsCall old new disk result
   pub content : OnOk result (WhereTold old disk (λ before. new.content disk ≡ Some (written before at bytes)))
   pub crash : TornAlone old new disk at (length bytes)
-  pub too_far : 2 ^ 40 < at + length bytes → IsErrOf result Failed
+  pub too_far : 2 ^ 40 < at + length bytes → IsErr result
   pub unchanged : 2 ^ 40 < at + length bytes → new.content disk ≡ old.content disk
   pub untorn : 2 ^ 40 < at + length bytes → NoNewImage old new disk
 

@@ -11,3 +11,4 @@ pub mod Record
 pub mod Kept
 pub mod Write
 pub mod Mem
+pub mod MemParts

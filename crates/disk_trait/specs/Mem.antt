@@ -1,10 +1,13 @@
 -- Parts in memory.
-use Rattle.std.specs.Prelude.{◌≡◌, ℕ, ◌+◌, ◌-◌, ◌^◌, min, Bool, ◌&&◌, ◌==◌, List, [], ◌∷◌, Option, Some, None, IfSome, slice_get, slice_set, Result}
+use Rattle.std.specs.Prelude.{◌≡◌, ℕ, ◌+◌, ◌-◌, ◌^◌, min, Bool, true, false, ◌&&◌, ◌==◌, List, [], ◌∷◌, Option, Some, None, IfSome, slice_get, slice_set, Result, IsErr, IsErrOf}
 use Rattle.std.specs.List.{list_any}
 use Rattle.disk_trait.specs.Disks.{Disks}
 use Rattle.disk_trait.specs.Kept.{Kept, Ended}
 use Rattle.disk_trait.specs.Record.{ImageAt}
 use Rattle.disk_trait.specs.declared.parts.Outage.{Outage}
+use Rattle.disk_trait.specs.declared.parts.Outage.TheVariants.{Failed}
+use Rattle.disk_trait.specs.declared.mem_disk.Turn.{Turn}
+use Rattle.disk_trait.specs.declared.mem_disk.Turn.TheVariants.{Fails, Works}
 
 -- the bytes of a disk, where there is one
 abbrev pub bytes_of : Option Kept → Option (List ℕ)
@@ -32,14 +35,31 @@ told disks moment clock =
       clock = clock;
     }
 
+-- whether this pair is the next call on this disk, before which it had so many; calls count from 1
+abbrev pub is_call : ℕ × ℕ → ℕ → ℕ → Bool
+is_call fail disk count = (fail.0 == disk) && (fail.1 == count + 1)
+
 -- whether the next call on this disk, before which it had so many, is in the list of those that fail
 abbrev pub is_listed : List (ℕ × ℕ) → ℕ → ℕ → Bool
-is_listed fails disk count = list_any (λ fail. (fail.0 == disk) && (fail.1 == count + 1)) fails
+is_listed fails disk count = list_any (λ fail. is_call fail disk count) fails
 
--- One call on a disk in memory: what it made of the disk, and that the other disks stay.
-pub record MemCall {T : Type 0} (before after : List Kept) (disk moment : ℕ) (done : Kept → Kept → Type 0) (result : Result T Outage) : Type 0 where
+-- One call on a disk in memory, which fails where it is due to: what it made of the disk, and that the
+-- other disks stay.
+pub record MemCall {T : Type 0} (before after : List Kept) (disk moment : ℕ) (fails : Kept → Bool) (done : Kept → Kept → Type 0) (result : Result T Outage) : Type 0 where
   pub old : Kept
   pub new : Kept
   pub stood : slice_get before disk ≡ Some old
   pub stands : after ≡ slice_set before disk new
   pub ended : Ended old new moment (done old new) result
+  pub due : fails old ≡ true → IsErr result
+  pub failed : IsErrOf result Failed → fails old ≡ true
+
+-- what a call with this turn is due to do
+abbrev pub turn_of : Bool → Turn
+turn_of true = Fails
+turn_of false = Works
+
+-- a disk with these bytes that nobody has called
+abbrev pub fresh : List ℕ → Kept
+fresh bytes = record { bytes = bytes; calls = []; faults = 0 }
+
