@@ -7,3 +7,4 @@ pub mod TornCalls
 pub mod ImageLaws
 pub mod Moments
 pub mod MemCalls
+pub mod MemLifts

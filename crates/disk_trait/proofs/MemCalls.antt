@@ -16,7 +16,8 @@ use Rattle.disk_trait.specs.declared.record.Did.{Did}
 use Rattle.disk_trait.specs.declared.record.Did.TheVariants.{Failed as FailedCall, Read, Length, Wrote, Synced, Restarted}
 use Rattle.disk_trait.specs.declared.parts.Outage.{Outage}
 use Rattle.disk_trait.specs.declared.parts.Outage.TheVariants.{Failed, NoMemory}
-use Rattle.disk_trait.proofs.Moments.{at_now, now_at, at_before, before_at}
+use Rattle.disk_trait.specs.MemLaws.{now_at, sound_at}
+use Rattle.disk_trait.proofs.Moments.{at_now, at_before, before_at}
 use Rattle.disk_trait.proofs.ImageLaws.{image_settled, image_synced, image_written, image_torn, image_before, is_before, torn_from}
 
 -- a list of disks at the place of a write, and elsewhere
@@ -31,11 +32,6 @@ slice_get-set_other (y ∷ xs) zero zero x other = absurd (other refl)
 slice_get-set_other (y ∷ xs) zero (suc j) x other = refl
 slice_get-set_other (y ∷ xs) (suc i) zero x other = refl
 slice_get-set_other (y ∷ xs) (suc i) (suc j) x other = slice_get-set_other xs i j x (λ e. other (ap suc e))
-
--- what holds of each disk holds of this one
-pub sound_at : (moment : ℕ) (disks : List Kept) (d : ℕ) (disk : Kept) → All (IsSound moment) disks → slice_get disks d ≡ Some disk → IsSound moment disk
-sound_at moment disks d disk all stood =
-    subst (IsSound moment) (get_or_from_slice_get disks d disk disk stood) (all d disk (slice_get_within disks d disk stood))
 
 -- a call that ended at this moment: the past stays
 pub record Step (moment : ℕ) (old new : Kept) : Type 0 where

@@ -16,10 +16,6 @@ pick_false : (test : Bool) (P Q : Type 0) → test ≡ false → MatchBool test 
 pick_false true P Q is h = cc
 pick_false false P Q is h = h
 
-give_true : (test : Bool) (P Q : Type 0) → test ≡ true → P → MatchBool test P Q
-give_true true P Q is h = h
-give_true false P Q is h = cc
-
 give_false : (test : Bool) (P Q : Type 0) → test ≡ false → Q → MatchBool test P Q
 give_false true P Q is h = cc
 give_false false P Q is h = h
@@ -28,10 +24,6 @@ give_false false P Q is h = h
 pub at_now : (moment : ℕ) (calls : List Call) (bytes image : List ℕ) → newest calls ≤ moment → ImageAt moment calls bytes image → ImageNow calls bytes image
 at_now moment [] bytes image past left = left
 at_now moment (call ∷ calls) bytes image past left = pick_true (nat_le call.time moment) _ _ (grind (arith, nat_tests)) left
-
-pub now_at : (moment : ℕ) (calls : List Call) (bytes image : List ℕ) → newest calls ≤ moment → ImageNow calls bytes image → ImageAt moment calls bytes image
-now_at moment [] bytes image past left = left
-now_at moment (call ∷ calls) bytes image past left = give_true (nat_le call.time moment) _ _ (grind (arith, nat_tests)) left
 
 -- Before a call it left what it left without the call.
 module _ (moment : ℕ) (call : Call) (calls : List Call) (old new image : List ℕ) (earlier : moment < call.time) (back : undone call.did new ≡ old) where

@@ -12,3 +12,4 @@ pub mod Kept
 pub mod Write
 pub mod Mem
 pub mod MemParts
+pub mod MemLaws

@@ -1,9 +1,10 @@
 -- Parts in memory.
-use Rattle.std.specs.Prelude.{◌≡◌, ℕ, ◌+◌, ◌-◌, ◌^◌, min, Bool, true, false, ◌&&◌, ◌==◌, List, [], ◌∷◌, Option, Some, None, IfSome, slice_get, slice_set, Result, IsErr, IsErrOf}
+use Rattle.std.specs.Prelude.{◌≡◌, ℕ, ◌+◌, ◌-◌, ◌^◌, min, Bool, true, false, ◌&&◌, ◌||◌, ◌==◌, nat_lt, List, [], ◌∷◌, Option, Some, None, IfSome, slice_get, slice_set, Result, IsErr, IsErrOf}
 use Rattle.std.specs.List.{list_any}
 use Rattle.disk_trait.specs.Disks.{Disks}
 use Rattle.disk_trait.specs.Kept.{Kept, Ended}
 use Rattle.disk_trait.specs.Record.{ImageAt}
+use Rattle.disk_trait.specs.declared.record.Call.{Call}
 use Rattle.disk_trait.specs.declared.parts.Outage.{Outage}
 use Rattle.disk_trait.specs.declared.parts.Outage.TheVariants.{Failed}
 use Rattle.disk_trait.specs.declared.mem_disk.Turn.{Turn}
@@ -13,6 +14,11 @@ use Rattle.disk_trait.specs.declared.mem_disk.Turn.TheVariants.{Fails, Works}
 abbrev pub bytes_of : Option Kept → Option (List ℕ)
 bytes_of (Some disk) = Some disk.bytes
 bytes_of None = None
+
+-- the record of a disk, the newest call first
+abbrev pub calls_of : Option Kept → List Call
+calls_of (Some disk) = disk.calls
+calls_of None = []
 
 -- how often a disk failed
 abbrev pub faults_of : Option Kept → ℕ
@@ -42,6 +48,10 @@ is_call fail disk count = (fail.0 == disk) && (fail.1 == count + 1)
 -- whether the next call on this disk, before which it had so many, is in the list of those that fail
 abbrev pub is_listed : List (ℕ × ℕ) → ℕ → ℕ → Bool
 is_listed fails disk count = list_any (λ fail. is_call fail disk count) fails
+
+-- whether a write with this end fails: it is in the list, or ends above 2 ^ 40
+abbrev pub is_refused : List (ℕ × ℕ) → ℕ → ℕ → ℕ → Bool
+is_refused fails disk count end = nat_lt (2 ^ 40) end || is_listed fails disk count
 
 -- One call on a disk in memory, which fails where it is due to: what it made of the disk, and that the
 -- other disks stay.

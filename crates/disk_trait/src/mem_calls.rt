@@ -1,7 +1,7 @@
 // A call on one of several disks in memory.
-ghost use Rattle.std.specs.Prelude.{true, ◌≡◌, ◌+◌, ◌^◌, ◌<◌, ◌≤◌, ◌||◌, ◌&&◌, ◌==◌, ◌↔◌, ℕ, List, length, take, drop, nat_lt, slice_get, Some, IfOk, OnOk, OnErr, IsErrOf, IsTrue};
+ghost use Rattle.std.specs.Prelude.{true, ◌≡◌, ◌+◌, ◌^◌, ◌<◌, ◌≤◌, ◌||◌, ◌&&◌, ◌==◌, ◌↔◌, ℕ, List, length, take, drop, nat_lt, slice_get, Some, IfOk, OnOk, OnErr, IsErr, IsErrOf, IsTrue};
 ghost use Rattle.disk_trait.specs.Kept.{Kept, noted, WroteTo, RestartedTo};
-ghost use Rattle.disk_trait.specs.Mem.{MemCall, is_listed, is_call, turn_of};
+ghost use Rattle.disk_trait.specs.Mem.{MemCall, is_listed, is_refused, is_call, turn_of};
 ghost use Rattle.disk_trait.specs.declared.record.Did.TheVariants.{Read, Length, Synced};
 
 use crate::mem_disk::{MemDisk, Turn};
@@ -57,6 +57,7 @@ pub(crate) fn read_at(
     place.read_at(time, turn, at, into)
 }
 
+/// A write that ends above 2 ^ 40 fails.
 pub(crate) fn write_at(
     disks: &mut [MemDisk],
     fails: &[(u8, u64)],
@@ -65,22 +66,16 @@ pub(crate) fn write_at(
     at: usize,
     put: &[u8],
 ) -> Result<(), Outage>
-    requires there { disk < length disks.old }
-    requires near { at + length put.now ≤ 2 ^ 40 }
-    ensures { MemCall disks.old disks.new disk time (λ old. is_listed fails.now disk (length old.calls)) (λ old new. WroteTo old new time at put.now) result }
+    requires { disk < length disks.old }
+    ensures made { MemCall disks.old disks.new disk time (λ old. is_refused fails.now disk (length old.calls) (at + length put.now)) (λ old new. WroteTo old new time at put.now) result }
+    ensures too_far { 2 ^ 40 < at + length put.now → IsErr result }
 {
     let place = &mut disks[usize::from(disk)];
+    if ends_too_far(at as u64, put.len()) {
+        return place.fail(time);
+    }
     let turn = turn(fails, disk, place.count());
     place.write_at(time, turn, at, put)
-}
-
-/// A write that is refused.
-pub(crate) fn refuse(disks: &mut [MemDisk], time: u64, disk: u8) -> Result<(), Outage>
-    requires { disk < length disks.old }
-    ensures { MemCall disks.old disks.new disk time (λ old. true) (λ old new. ⊥) result }
-{
-    let place = &mut disks[usize::from(disk)];
-    place.fail(time)
 }
 
 pub(crate) fn sync(

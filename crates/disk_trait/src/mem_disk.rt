@@ -1,4 +1,4 @@
-ghost use Rattle.std.specs.Prelude.{◌≡◌, ◌+◌, ◌-◌, ◌*◌, ◌^◌, ◌%◌, ◌<◌, ◌≤◌, ◌++◌, ℕ, List, [], ◌∷◌, length, take, drop, replicate, min, IfOk, IfErr, OnOk, OnErr};
+ghost use Rattle.std.specs.Prelude.{◌≡◌, ◌+◌, ◌-◌, ◌*◌, ◌^◌, ◌%◌, ◌<◌, ◌≤◌, ◌++◌, ℕ, List, [], ◌∷◌, reverse, length, take, drop, replicate, min, IfOk, IfErr, OnOk, OnErr};
 ghost use Rattle.disk_trait.specs.Kept.{Kept, noted, WroteTo, RestartedTo, Ended, IsTurn};
 ghost use Rattle.disk_trait.specs.Write.{grown, over, inside, change_of};
 ghost use Rattle.disk_trait.specs.declared.record.Did.TheVariants.{Read, Length, Synced};
@@ -49,6 +49,13 @@ impl MemDisk {
         ensures { result.now ≡ self.now.bytes }
     {
         &self.bytes
+    }
+
+    /// The record, the oldest call first.
+    pub(crate) fn calls(&self) -> &[Call]
+        ensures { self.now.calls ≡ reverse result.now }
+    {
+        &self.calls
     }
 
     /// How many calls were recorded.
