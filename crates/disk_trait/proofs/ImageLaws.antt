@@ -55,7 +55,7 @@ module _ (synced : List ℕ) (ranges : List (ℕ × ℕ)) (at end : ℕ) (image 
     no_shorter = omega (arith, length_before, least (length synced) ranges, is.no_shorter);
     no_longer = omega (arith, length_before);
     outside = λ i within out.
-      at_place i (omega (arith, within, length_before, least (length synced) ranges, is.no_shorter)) ∙ by_test i within out (nat_le at i && nat_lt i end) refl;
+        at_place i (omega (arith, within, length_before, least (length synced) ranges, is.no_shorter)) ∙ by_test i within out (nat_le at i && nat_lt i end) refl;
   }
     where
       by_test : (i : ℕ) → i < length synced → is_in ranges i ≡ false → (test : Bool) → (nat_le at i && nat_lt i end) ≡ test → cond test (slice_index synced i) (slice_index image i) ≡ slice_index synced i
@@ -105,21 +105,22 @@ image_written synced ranges old at put is = record {
   no_shorter = omega (arith, is.no_shorter, length-written old at put);
   no_longer = omega (arith, is.no_longer, length-written old at put);
   outside = λ i within out.
-    let apart = or_false (nat_le at i && nat_lt i (at + length put)) (is_in ranges i) out in
-    written_outside old at put i (omega (arith, within, is.no_shorter)) (missed i apart.0) ∙ is.outside i within apart.1;
+      let apart = or_false (nat_le at i && nat_lt i (at + length put)) (is_in ranges i) out in
+      written_outside old at put i (omega (arith, within, is.no_shorter)) (missed i apart.0) ∙ is.outside i within apart.1;
 }
   where
     or_false : (a b : Bool) → a || b ≡ false → (a ≡ false) × (b ≡ false)
     or_false true b e = cc
     or_false false b e = (refl, e)
+
     missed : (i : ℕ) → (nat_le at i && nat_lt i (at + length put)) ≡ false → (i < at) ⊎ (at + length put ≤ i)
     missed i miss = elim (cases_lt i at) [
       | inl before ↦ inl before
       | inr from ↦ elim (cases_lt i (at + length put)) [
         | inr behind ↦ inr behind
         | inl inside ↦
-          let hit : (nat_le at i && nat_lt i (at + length put)) ≡ true = grind (arith, nat_tests) in
-          absurd (false≢true (sym miss ∙ hit))
+            let hit : (nat_le at i && nat_lt i (at + length put)) ≡ true = grind (arith, nat_tests) in
+            absurd (false≢true (sym miss ∙ hit))
       ]
     ]
 
@@ -129,11 +130,11 @@ image_torn pick synced ranges bytes is = record {
   no_shorter = omega (arith, is.no_shorter, length-torn pick ((length synced, length bytes) ∷ ranges) bytes);
   no_longer = omega (arith, is.no_longer, length-torn pick ((length synced, length bytes) ∷ ranges) bytes);
   outside = λ i within out.
-    let before : (nat_le (length synced) i && nat_lt i (length bytes)) ≡ false = before_end i within in
-    get_or-torn pick ((length synced, length bytes) ∷ ranges) bytes i (omega (arith, within, is.no_shorter))
-    ∙ ap (λ b. cond (b || is_in ranges i) ((pick + i) % 256) (slice_index bytes i)) before
-    ∙ ap (λ b. cond b ((pick + i) % 256) (slice_index bytes i)) out
-    ∙ is.outside i within out;
+      let before : (nat_le (length synced) i && nat_lt i (length bytes)) ≡ false = before_end i within in
+      get_or-torn pick ((length synced, length bytes) ∷ ranges) bytes i (omega (arith, within, is.no_shorter))
+      ∙ ap (λ b. cond (b || is_in ranges i) ((pick + i) % 256) (slice_index bytes i)) before
+      ∙ ap (λ b. cond b ((pick + i) % 256) (slice_index bytes i)) out
+      ∙ is.outside i within out;
 }
   where
     before_end : (i : ℕ) → i < length synced → (nat_le (length synced) i && nat_lt i (length bytes)) ≡ false

@@ -8,3 +8,4 @@ pub mod ImageLaws
 pub mod Moments
 pub mod MemCalls
 pub mod MemLifts
+pub mod Runs

@@ -191,7 +191,7 @@ module _ (before : List Kept) (moment clock disk : ℕ) (old : Kept) (stood : sl
         let step = step_did Synced is refl in
         let same = ap (λ (k : Kept). k.bytes) is in
         let only : (image : List ℕ) → ImageNow new.calls new.bytes image → image ≡ new.bytes = λ image left.
-          image_settled old.bytes image (subst (λ (k : Kept). ImageNow k.calls k.bytes image) is left) ∙ sym same in
+        image_settled old.bytes image (subst (λ (k : Kept). ImageNow k.calls k.bytes image) is left) ∙ sym same in
         record {
           call = call_ok answer step;
           settled = λ bytes told_so image left. only image (new_now image step.newest left) ∙ new_told bytes told_so;
@@ -215,7 +215,7 @@ module _ (before : List Kept) (moment clock disk : ℕ) (old : Kept) (stood : sl
         let step = step_by moment old new (Restarted pick is.change) (ap (λ (k : Kept). k.calls) is.is) is.back (omega (arith, ap (λ (k : Kept). k.faults) is.is)) in
         let same = ap (λ (k : Kept). k.bytes) is.is in
         let only : (image : List ℕ) → ImageNow new.calls new.bytes image → image ≡ picked pick old.calls old.bytes = λ image left.
-          image_settled (picked pick old.calls old.bytes) image (subst (λ (k : Kept). ImageNow k.calls k.bytes image) is.is left) in
+        image_settled (picked pick old.calls old.bytes) image (subst (λ (k : Kept). ImageNow k.calls k.bytes image) is.is left) in
         record {
           call = call_ok answer step;
           settled = λ bytes told_so image left. only image (new_now image step.newest left) ∙ sym same ∙ new_told bytes told_so;
@@ -230,8 +230,7 @@ module _ (before : List Kept) (moment clock disk : ℕ) (old : Kept) (stood : sl
         let now = new_now image past left in
         let so : Image (synced_of old.calls (put_back wrote.change (written old.bytes at put))) ((at, wrote.change.end) ∷ ranges_of old.calls) image = subst (λ (k : Kept). ImageNow k.calls k.bytes image) wrote.is now in
         let back : put_back wrote.change (written old.bytes at put) ≡ old.bytes = ap (put_back wrote.change) (sym (ap (λ (k : Kept). k.bytes) wrote.is)) ∙ wrote.back in
-        let is : Image (synced_of old.calls old.bytes) ((at, wrote.change.end) ∷ ranges_of old.calls) image = subst (λ bytes. Image (synced_of old.calls bytes) ((at, wrote.change.end) ∷ ranges_of old.calls) image) back so in
-        (
+        let is : Image (synced_of old.calls old.bytes) ((at, wrote.change.end) ∷ ranges_of old.calls) image = subst (λ bytes. Image (synced_of old.calls bytes) ((at, wrote.change.end) ∷ ranges_of old.calls) image) back so in (
           image_before (synced_of old.calls old.bytes) (ranges_of old.calls) at wrote.change.end image is,
           old_now _ (is_before (synced_of old.calls old.bytes) (ranges_of old.calls) at wrote.change.end image is),
           torn_from (synced_of old.calls old.bytes) (ranges_of old.calls) at wrote.change.end image is (length put) wrote.end,
@@ -290,6 +289,7 @@ module _ (disks : List Kept) (moment clock disk : ℕ) where
     where
       at_same : (m d : ℕ) (image : List ℕ) → moment ≤ m → m ≤ moment → images_of m (slice_get disks d) image → images_of moment (slice_get disks d) image
       at_same m d image from to left = let e : m ≡ moment = omega arith in subst (λ n. images_of n (slice_get disks d) image) e left
+
       at_same_back : (m d : ℕ) (image : List ℕ) → moment ≤ m → m ≤ moment → images_of moment (slice_get disks d) image → images_of m (slice_get disks d) image
       at_same_back m d image from to left = let e : moment ≡ m = omega arith in subst (λ n. images_of n (slice_get disks d) image) e left
 
@@ -333,6 +333,7 @@ mem_made before disk moment fails done old new result within is ended turn = rec
     by_due : (b : Bool) → b ≡ true → IsTurn (turn_of b) result → IsErr result
     by_due true e t = t
     by_due false e t = cc
+
     by_failed : (b : Bool) → IsErrOf result Failed → IsTurn (turn_of b) result → b ≡ true
     by_failed true f t = refl
     by_failed false f t = absurd (t f)

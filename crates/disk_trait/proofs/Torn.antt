@@ -31,8 +31,8 @@ get_or-torn pick ranges bytes k within =
 pub torn_same : (pick : ℕ) (some all : List (ℕ × ℕ)) (bytes : List ℕ) → ((k : ℕ) → k < length bytes → is_in some k ≡ is_in all k) → torn pick some bytes ≡ torn pick all bytes
 torn_same pick some all bytes alike =
     same_number_lists _ _ (length-torn pick some bytes ∙ sym (length-torn pick all bytes)) (λ k h.
-      let within : k < length bytes = omega (arith, length-torn pick some bytes) in
-      get_or-torn pick some bytes k within ∙ ap (λ b. cond b ((pick + k) % 256) (get_or bytes k 0)) (alike k within) ∙ sym (get_or-torn pick all bytes k within))
+    let within : k < length bytes = omega (arith, length-torn pick some bytes) in
+    get_or-torn pick some bytes k within ∙ ap (λ b. cond b ((pick + k) % 256) (get_or bytes k 0)) (alike k within) ∙ sym (get_or-torn pick all bytes k within))
 
 -- with no range nothing is torn
 pub torn_none : (pick : ℕ) (bytes : List ℕ) → torn pick [] bytes ≡ bytes
@@ -56,12 +56,12 @@ is_in-append (range ∷ some) more i = or_more (nat_le range.0 i && nat_lt i ran
 pub torn_append : (pick : ℕ) (some more : List (ℕ × ℕ)) (bytes : List ℕ) → torn pick (some ++ more) bytes ≡ torn pick more (torn pick some bytes)
 torn_append pick some more bytes =
     same_number_lists _ _ (length-torn pick (some ++ more) bytes ∙ sym (length-torn pick more (torn pick some bytes) ∙ length-torn pick some bytes)) (λ k h.
-      let within : k < length bytes = omega (arith, length-torn pick (some ++ more) bytes) in
-      get_or-torn pick (some ++ more) bytes k within
-      ∙ ap (λ b. cond b ((pick + k) % 256) (get_or bytes k 0)) (is_in-append some more k)
-      ∙ cond_or (is_in some k) (is_in more k) ((pick + k) % 256) (get_or bytes k 0)
-      ∙ ap (cond (is_in more k) ((pick + k) % 256)) (sym (get_or-torn pick some bytes k within))
-      ∙ sym (get_or-torn pick more (torn pick some bytes) k (omega (arith, length-torn pick some bytes))))
+    let within : k < length bytes = omega (arith, length-torn pick (some ++ more) bytes) in
+    get_or-torn pick (some ++ more) bytes k within
+    ∙ ap (λ b. cond b ((pick + k) % 256) (get_or bytes k 0)) (is_in-append some more k)
+    ∙ cond_or (is_in some k) (is_in more k) ((pick + k) % 256) (get_or bytes k 0)
+    ∙ ap (cond (is_in more k) ((pick + k) % 256)) (sym (get_or-torn pick some bytes k within))
+    ∙ sym (get_or-torn pick more (torn pick some bytes) k (omega (arith, length-torn pick some bytes))))
 
 -- one place more of a range
 module _ (pick from i : ℕ) (bytes : List ℕ) (begun : from ≤ i) (within : i < length bytes) where
@@ -77,15 +77,15 @@ module _ (pick from i : ℕ) (bytes : List ℕ) (begun : from ≤ i) (within : i
       let at_i : get_or (set (torn pick ((from, i) ∷ []) bytes) i ((pick + i) % 256)) i 0 ≡ get_or (torn pick ((from, i + 1) ∷ []) bytes) i 0 =
       get_or-set_same (torn pick ((from, i) ∷ []) bytes) i ((pick + i) % 256) 0 (omega (arith, size)) ∙ sym (get_or-torn pick ((from, i + 1) ∷ []) bytes i within ∙ ap (λ b. cond b ((pick + i) % 256) (get_or bytes i 0)) hit) in
       same_number_lists (set (torn pick ((from, i) ∷ []) bytes) i ((pick + i) % 256)) (torn pick ((from, i + 1) ∷ []) bytes)
-        (length-set (torn pick ((from, i) ∷ []) bytes) i ((pick + i) % 256) ∙ size ∙ sym (length-torn pick ((from, i + 1) ∷ []) bytes)) (λ (k : ℕ) (h : k < length (set (torn pick ((from, i) ∷ []) bytes) i ((pick + i) % 256))).
-        let inside : k < length bytes = omega (arith, h, length-set (torn pick ((from, i) ∷ []) bytes) i ((pick + i) % 256), size) in
-        elim (cases_eq k i) [
-          | inl here ↦ rw here at_i
-          | inr other ↦
+      (length-set (torn pick ((from, i) ∷ []) bytes) i ((pick + i) % 256) ∙ size ∙ sym (length-torn pick ((from, i + 1) ∷ []) bytes)) (λ (k : ℕ) (h : k < length (set (torn pick ((from, i) ∷ []) bytes) i ((pick + i) % 256))).
+      let inside : k < length bytes = omega (arith, h, length-set (torn pick ((from, i) ∷ []) bytes) i ((pick + i) % 256), size) in
+      elim (cases_eq k i) [
+        | inl here ↦ rw here at_i
+        | inr other ↦
             get_or-set_other (torn pick ((from, i) ∷ []) bytes) i k ((pick + i) % 256) 0 other ∙ get_or-torn pick ((from, i) ∷ []) bytes k inside
             ∙ ap (λ b. cond b ((pick + k) % 256) (get_or bytes k 0)) (same_test k other)
             ∙ sym (get_or-torn pick ((from, i + 1) ∷ []) bytes k inside)
-        ])
+      ])
 
 -- at its first place a range has torn nothing yet
 pub torn_begun : (pick from : ℕ) (bytes : List ℕ) → bytes ≡ torn pick ((from, from) ∷ []) bytes

@@ -43,31 +43,31 @@ over_the_end old at put within over_end =
 pub grown_written : (old : List ℕ) (at : ℕ) (put : List ℕ) → over (grown old at put) (min at (length old)) (take (inside old at (length put)) put) ≡ written old at put
 grown_written old at put = elim (cases_lt at (length old)) [
   | inr past ↦
-    let from : min at (length old) ≡ length old = omega arith in
-    let inside : min (at + length put) (length old) - length old ≡ 0 = omega arith in
-    rw (from, inside) (past_the_end old at put past)
+      let from : min at (length old) ≡ length old = omega arith in
+      let inside : min (at + length put) (length old) - length old ≡ 0 = omega arith in
+      rw (from, inside) (past_the_end old at put past)
   | inl within ↦
-    let from : min at (length old) ≡ at = omega arith in
-    elim (cases_lt (at + length put) (length old)) [
-      | inr over_end ↦
-        let inside : min (at + length put) (length old) - at ≡ length old - at = omega arith in
-        rw (from, inside) (over_the_end old at put (omega arith) over_end)
-      | inl in_end ↦
-        let inside : min (at + length put) (length old) - at ≡ length put = omega arith in
-        rw (from, inside) (inside_the_end old at put (omega arith))
-    ]
+      let from : min at (length old) ≡ at = omega arith in
+      elim (cases_lt (at + length put) (length old)) [
+        | inr over_end ↦
+            let inside : min (at + length put) (length old) - at ≡ length old - at = omega arith in
+            rw (from, inside) (over_the_end old at put (omega arith) over_end)
+        | inl in_end ↦
+            let inside : min (at + length put) (length old) - at ≡ length put = omega arith in
+            rw (from, inside) (inside_the_end old at put (omega arith))
+      ]
 ]
 
 -- what stood in a range of the old bytes, and what stands behind the range
 rest_of : (old : List ℕ) (at n : ℕ) → at ≤ length old → take (min (at + n) (length old) - at) (drop at old) ++ drop (at + n) old ≡ drop at old
 rest_of old at n within = elim (cases_lt (at + n) (length old)) [
   | inl ends ↦
-    let size : min (at + n) (length old) - at ≡ n = omega arith in
-    rw (size, ← (drop-drop n at old)) (take-append-drop n (drop at old))
+      let size : min (at + n) (length old) - at ≡ n = omega arith in
+      rw (size, ← (drop-drop n at old)) (take-append-drop n (drop at old))
   | inr over_end ↦
-    let none : drop (at + n) old ≡ [] = drop_all (at + n) old over_end in
-    let all : take (min (at + n) (length old) - at) (drop at old) ≡ drop at old = take_all _ (drop at old) (omega (arith, length-drop at old)) in
-    rw (none, all) (append-nil (drop at old))
+      let none : drop (at + n) old ≡ [] = drop_all (at + n) old over_end in
+      let all : take (min (at + n) (length old) - at) (drop at old) ≡ drop at old = take_all _ (drop at old) (omega (arith, length-drop at old)) in
+      rw (none, all) (append-nil (drop at old))
 ]
 
 back_inside : (old : List ℕ) (at : ℕ) (put : List ℕ) → at ≤ length old → take at (written old at put) ++ take (min (at + length put) (length old) - at) (drop at old) ++ drop (at + length put) (written old at put) ≡ old
@@ -89,12 +89,12 @@ back_past old at put past =
 pub written_back : (old : List ℕ) (at : ℕ) (put : List ℕ) → put_back (change_of old at (length put)) (written old at put) ≡ old
 written_back old at put = elim (cases_lt at (length old)) [
   | inl within ↦
-    let from : min at (length old) ≡ at = omega arith in
-    rw from (back_inside old at put (omega arith))
+      let from : min at (length old) ≡ at = omega arith in
+      rw from (back_inside old at put (omega arith))
   | inr past ↦
-    let from : min at (length old) ≡ length old = omega arith in
-    let none : min (at + length put) (length old) - length old ≡ 0 = omega arith in
-    rw (from, none) (back_past old at put past)
+      let from : min at (length old) ≡ length old = omega arith in
+      let none : min (at + length put) (length old) - length old ≡ 0 = omega arith in
+      rw (from, none) (back_past old at put past)
 ]
 
 pub wrote : (old : Kept) (moment at : ℕ) (put : List ℕ) → WroteTo old (record (noted (record old { bytes = grown old.bytes at put }) moment (Wrote at (change_of old.bytes at (length put)))) { bytes = over (grown old.bytes at put) (min at (length old.bytes)) (take (inside old.bytes at (length put)) put) }) moment at put

@@ -19,6 +19,9 @@ answer_of None = Err Failed
 abbrev pub untold : Counts → ℕ → Disks
 untold counts clock =
     record {
-      content = λ d. None; time = min counts.time (2 ^ 64 - 1); images = λ m d bytes. Unit {0}; clock = clock;
+      content = λ d. None;
+      time = min counts.time (2 ^ 64 - 1);
+      images = λ m d bytes. Unit {0};
+      clock = clock;
       faults = λ d. min (slice_index counts.faults d) (2 ^ 64 - 1);
     }

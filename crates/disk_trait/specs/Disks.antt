@@ -45,9 +45,11 @@ pub record OnDisk (old new : Disks) (disk : ℕ) : Type 0 where
   pub faults_stay : old.faults disk ≤ new.faults disk
   pub clock : new.clock ≡ old.clock
 
--- A crash of the disk at any moment from old to new leaves what has P.
-abbrev pub EachMoment : Disks → Disks → ℕ → (List ℕ → Type 0) → Type 0
-EachMoment old new d P = (m : ℕ) (image : List ℕ) → old.time ≤ m → m ≤ new.time → new.images m d image → P image
+-- Calls on one disk alone led from old to new, and a crash of the disk at any moment from old to new,
+-- both included, leaves what has P.
+pub record Leaves (old new : Disks) (disk : ℕ) (P : List ℕ → Type 0) : Type 0 where
+  pub alone : OnDisk old new disk
+  pub each : (m : ℕ) (image : List ℕ) → old.time ≤ m → m ≤ new.time → new.images m disk image → P image
 
 -- Only the clock was asked.
 pub record SameDisks (old new : Disks) : Type 0 where

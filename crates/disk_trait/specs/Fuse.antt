@@ -32,6 +32,9 @@ stopped fuse answer = answer_after (fuse.left == 1) answer
 abbrev pub with_falls : Disks → List ℕ → Disks
 with_falls disks falls =
     record {
-      content = disks.content; time = disks.time; images = disks.images; clock = disks.clock;
+      content = disks.content;
+      time = disks.time;
+      images = disks.images;
+      clock = disks.clock;
       faults = λ d. min (disks.faults d + slice_index falls d) (2 ^ 64 - 1);
     }

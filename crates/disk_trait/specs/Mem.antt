@@ -72,4 +72,3 @@ turn_of false = Works
 -- a disk with these bytes that nobody has called
 abbrev pub fresh : List ℕ → Kept
 fresh bytes = record { bytes = bytes; calls = []; faults = 0 }
-

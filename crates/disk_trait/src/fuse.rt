@@ -22,6 +22,15 @@ impl Fuse {
         }
     }
 
+    /// A stop that fell as often as a count can tell.
+    #[cfg(test)]
+    pub(crate) fn at_greatest() -> Fuse {
+        Fuse {
+            left: 0,
+            falls: [u64::MAX; 3],
+        }
+    }
+
     pub(crate) fn arm(&mut self, calls: u32)
         ensures { self.new ≡ record self.old { left = calls } }
     {
@@ -37,7 +46,11 @@ impl Fuse {
     }
 
     /// Counts a call on a disk that was made, and answers what the call does.
-    pub(crate) fn after<T: Drop>(&mut self, disk: u8, answer: Result<T, Outage>) -> Result<T, Outage>
+    pub(crate) fn after<T: Drop>(
+        &mut self,
+        disk: u8,
+        answer: Result<T, Outage>,
+    ) -> Result<T, Outage>
         requires { disk < 3 }
         ensures fuse { self.new ≡ burnt self.old disk }
         ensures answer { result ≡ stopped self.old answer }

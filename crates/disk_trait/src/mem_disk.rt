@@ -97,7 +97,13 @@ impl MemDisk {
         if turn == Turn::Fails {
             return self.fail(time);
         }
-        self.note(time, Did::Read { at: at as u64, len: into.len() })?;
+        self.note(
+            time,
+            Did::Read {
+                at: at as u64,
+                len: into.len(),
+            },
+        )?;
         let behind = self.bytes.split_at(at).1;
         into.copy_from_slice(behind.split_at(into.len()).0);
         Ok(())

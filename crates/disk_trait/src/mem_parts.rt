@@ -45,11 +45,7 @@ impl<C> MemParts<C> {
         ensures clock { clock_in result ≡ clock }
     {
         MemParts {
-            disks: [
-                MemDisk::new(log0),
-                MemDisk::new(log1),
-                MemDisk::new(pages),
-            ],
+            disks: [MemDisk::new(log0), MemDisk::new(log1), MemDisk::new(pages)],
             time: 0,
             fails,
             clock,
@@ -88,7 +84,14 @@ impl<C: Clock> Parts for MemParts<C> {
         ensures fails { fails_of self.new ≡ fails_of self.old }
     {
         let time = next_moment(self.time)?;
-        let answer = mem_calls::read_at(&mut self.disks, &self.fails, time, disk, at as usize, into);
+        let answer = mem_calls::read_at(
+            &mut self.disks,
+            &self.fails,
+            time,
+            disk,
+            at as usize,
+            into,
+        );
         self.time = time;
         answer
     }
@@ -100,7 +103,14 @@ impl<C: Clock> Parts for MemParts<C> {
         ensures fails { fails_of self.new ≡ fails_of self.old }
     {
         let time = next_moment(self.time)?;
-        let answer = mem_calls::write_at(&mut self.disks, &self.fails, time, disk, at as usize, bytes);
+        let answer = mem_calls::write_at(
+            &mut self.disks,
+            &self.fails,
+            time,
+            disk,
+            at as usize,
+            bytes,
+        );
         self.time = time;
         answer
     }

@@ -9,8 +9,8 @@ returns-in_err-time-clause-made g c =
 
 pub invariant_of-self : goal.invariant_of-self
 invariant_of-self g c =
-    record { sound = (kept_len c.args.self.now.disks c.len-answer.new.disks c.args.disk c.args.self.now.time c.in_ok-time.time (g.C.Clock.greatest c.args.self.now.clock) c.in_ok-time.ensures.ok c.args.self.now.sound  _ c.len-answer.result c.len-answer.ensures.made c.len-answer.ensures.bytes).0 }
+    record { sound = (kept_len c.args.self.now.disks c.len-answer.new.disks c.args.disk c.args.self.now.time c.in_ok-time.time (g.C.Clock.greatest c.args.self.now.clock) c.in_ok-time.ensures.ok c.args.self.now.sound _ c.len-answer.result c.len-answer.ensures.made c.len-answer.ensures.bytes).0 }
 
 pub returns-clause-call : goal.returns-clause-call
 returns-clause-call g c =
-    (kept_len c.args.self.now.disks c.len-answer.new.disks c.args.disk c.args.self.now.time c.in_ok-time.time (g.C.Clock.greatest c.args.self.now.clock) c.in_ok-time.ensures.ok c.args.self.now.sound  _ c.len-answer.result c.len-answer.ensures.made c.len-answer.ensures.bytes).1
+    (kept_len c.args.self.now.disks c.len-answer.new.disks c.args.disk c.args.self.now.time c.in_ok-time.time (g.C.Clock.greatest c.args.self.now.clock) c.in_ok-time.ensures.ok c.args.self.now.sound _ c.len-answer.result c.len-answer.ensures.made c.len-answer.ensures.bytes).1

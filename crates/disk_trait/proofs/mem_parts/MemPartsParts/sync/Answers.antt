@@ -9,8 +9,8 @@ returns-in_err-time-clause-made g c =
 
 pub invariant_of-self : goal.invariant_of-self
 invariant_of-self g c =
-    record { sound = (kept_sync c.args.self.now.disks c.sync-answer.new.disks c.args.disk c.args.self.now.time c.in_ok-time.time (g.C.Clock.greatest c.args.self.now.clock) c.in_ok-time.ensures.ok c.args.self.now.sound  _ c.sync-answer.result c.sync-answer.ensures).0 }
+    record { sound = (kept_sync c.args.self.now.disks c.sync-answer.new.disks c.args.disk c.args.self.now.time c.in_ok-time.time (g.C.Clock.greatest c.args.self.now.clock) c.in_ok-time.ensures.ok c.args.self.now.sound _ c.sync-answer.result c.sync-answer.ensures).0 }
 
 pub returns-clause-call : goal.returns-clause-call
 returns-clause-call g c =
-    (kept_sync c.args.self.now.disks c.sync-answer.new.disks c.args.disk c.args.self.now.time c.in_ok-time.time (g.C.Clock.greatest c.args.self.now.clock) c.in_ok-time.ensures.ok c.args.self.now.sound  _ c.sync-answer.result c.sync-answer.ensures).1
+    (kept_sync c.args.self.now.disks c.sync-answer.new.disks c.args.disk c.args.self.now.time c.in_ok-time.time (g.C.Clock.greatest c.args.self.now.clock) c.in_ok-time.ensures.ok c.args.self.now.sound _ c.sync-answer.result c.sync-answer.ensures).1
