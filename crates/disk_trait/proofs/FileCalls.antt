@@ -1,9 +1,9 @@
 -- What holds of each call on parts that tell nothing but their counts.
-use Rattle.std.proofs.Common.{◌≡◌, ◌≢◌, ℕ, ◌+◌, ◌-◌, ◌^◌, ◌<◌, ◌≤◌, min, Bool, true, false, List, length, slice_index, slice_set, Option, Some, None, Result, Ok, Err, IsErrOf, is_err, refl, ap, sym, arith, ◌⊎◌}
+use Rattle.std.proofs.Common.{◌≡◌, ℕ, ◌+◌, ◌-◌, ◌^◌, ◌<◌, min, Bool, true, false, List, length, slice_index, Option, Some, None, is_err, refl, ap, arith}
 use Rattle.std.proofs.lemmas.List.{get_or-set_same, get_or-set_other}
-use Rattle.disk_trait.specs.Disks.{Disks, OnDisk, TornAlone, Torn}
+use Rattle.disk_trait.specs.Disks.{OnDisk, Torn}
 use Rattle.disk_trait.specs.Calls.{IsCall, Reads, Writes, Syncs, TellsLength, Restarts}
-use Rattle.disk_trait.specs.Fuse.{one_more, falls_after}
+use Rattle.disk_trait.specs.Fuse.{one_more}
 use Rattle.disk_trait.specs.Counts.{counted, answer_of, untold}
 use Rattle.disk_trait.specs.declared.counts.Counts.{Counts}
 

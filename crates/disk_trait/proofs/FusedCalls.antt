@@ -1,5 +1,5 @@
 -- A call through parts with a stop does what the call inside does, and counts the stop as a fault.
-use Rattle.std.proofs.Common.{◌≡◌, ◌≢◌, ℕ, ◌+◌, ◌-◌, ◌^◌, ◌<◌, ◌≤◌, min, Bool, true, false, List, length, slice_index, slice_set, Result, Err, refl, ap, sym, arith}
+use Rattle.std.proofs.Common.{◌≡◌, ◌≢◌, ℕ, ◌-◌, ◌^◌, ◌<◌, ◌≤◌, min, Bool, true, false, List, length, slice_index, Result, refl, arith}
 use Rattle.std.proofs.lemmas.List.{get_or-set_same, get_or-set_other}
 use Rattle.disk_trait.specs.Disks.{Disks, OnDisk}
 use Rattle.disk_trait.specs.Calls.{IsCall, Reads, Writes, Syncs, TellsLength, Restarts}

@@ -1,13 +1,11 @@
 -- What one call on a disk in memory does to the parts.
-use Rattle.std.proofs.Common.{◌≡◌, ◌≢◌, ℕ, ◌+◌, ◌-◌, ◌^◌, ◌<◌, ◌≤◌, min, max, Bool, true, false, List, [], ◌∷◌, length, set, get_or, Option, Some, None, Result, Ok, Err, is_some, IsErr, IsErrOf, IfOk, OnOk, if◌then◌else◌, ◌==◌, refl, ap, sym, ◌∙◌, subst, arith, zero, suc, inl, inr, slice_get, slice_set, take, drop}
+use Rattle.std.proofs.Common.{◌≡◌, ◌≢◌, ℕ, ◌+◌, ◌-◌, ◌^◌, ◌<◌, ◌≤◌, min, Bool, true, false, List, [], ◌∷◌, length, set, get_or, Option, Some, None, Result, Ok, Err, is_some, IsErr, IsErrOf, IfOk, OnOk, if◌then◌else◌, ◌==◌, refl, ap, sym, ◌∙◌, subst, arith, zero, suc, inl, inr, slice_get, take, drop}
 use Rattle.std.proofs.lemmas.Bool.{cases_eq}
-use Rattle.std.proofs.lemmas.List.{length-set}
-use Rattle.std.proofs.lemmas.List.Elements.{All-set}
-use Rattle.std.proofs.lemmas.Option.{slice_get_within, get_or_from_slice_get, slice_get-get_or}
+use Rattle.std.proofs.lemmas.Option.{slice_get_within, slice_get-get_or}
 use Rattle.std.specs.List.{All}
 use Rattle.disk_trait.specs.Images.{Image}
-use Rattle.disk_trait.specs.Change.{PutBack, put_back}
-use Rattle.disk_trait.specs.Disks.{Disks, OnDisk, Torn, written}
+use Rattle.disk_trait.specs.Change.{put_back}
+use Rattle.disk_trait.specs.Disks.{OnDisk, Torn, written}
 use Rattle.disk_trait.specs.Calls.{IsCall, Reads, Writes, Syncs, TellsLength, Restarts}
 use Rattle.disk_trait.specs.Record.{ImageNow, ImageAt, undone, newest, picked, torn, synced_of, ranges_of}
 use Rattle.disk_trait.specs.Kept.{Kept, noted, failed_at, WroteTo, RestartedTo, IsSound, Ended, IsTurn}
@@ -18,7 +16,7 @@ use Rattle.disk_trait.specs.declared.parts.Outage.{Outage}
 use Rattle.disk_trait.specs.declared.parts.Outage.TheVariants.{Failed, NoMemory}
 use Rattle.disk_trait.specs.MemLaws.{now_at, sound_at}
 use Rattle.disk_trait.proofs.Moments.{at_now, at_before, before_at}
-use Rattle.disk_trait.proofs.ImageLaws.{image_settled, image_synced, image_written, image_torn, image_before, is_before, torn_from}
+use Rattle.disk_trait.proofs.ImageLaws.{image_settled, image_synced, image_torn, image_before, is_before, torn_from}
 
 -- a list of disks at the place of a write, and elsewhere
 pub slice_get-set_same : {X : Type 0} (xs : List X) (i : ℕ) (x : X) → i < length xs → slice_get (set xs i x) i ≡ Some x

@@ -1,20 +1,20 @@
 -- A call on one of the disks in memory is a call on the parts, and leaves each disk sound.
-use Rattle.std.proofs.Common.{◌≡◌, ◌≢◌, ℕ, ◌+◌, ◌-◌, ◌^◌, ◌<◌, ◌≤◌, ◌||◌, Bool, true, false, List, [], ◌∷◌, length, set, Option, Some, None, Result, Ok, Err, IsErr, IsErrOf, IfOk, OnOk, refl, ap, sym, ◌∙◌, subst, arith, slice_get, slice_set, nat_lt, take, drop, zero, suc}
+use Rattle.std.proofs.Common.{◌≡◌, ℕ, ◌+◌, ◌^◌, ◌<◌, Bool, List, [], ◌∷◌, length, set, Some, Result, Ok, Err, IsErr, IsErrOf, IfOk, OnOk, refl, ap, sym, ◌∙◌, subst, arith, slice_get, take, drop, zero, suc}
 use Rattle.std.proofs.lemmas.List.Elements.{All-set}
 use Rattle.std.specs.List.{All}
 use Rattle.disk_trait.specs.Images.{Image}
 use Rattle.disk_trait.specs.Change.{put_back}
 use Rattle.disk_trait.specs.Disks.{written}
 use Rattle.disk_trait.specs.Calls.{Reads, Writes, Syncs, TellsLength, Restarts}
-use Rattle.disk_trait.specs.Record.{ImageNow, synced_of, ranges_of, picked}
+use Rattle.disk_trait.specs.Record.{synced_of, ranges_of, picked}
 use Rattle.disk_trait.specs.Kept.{Kept, noted, failed_at, WroteTo, RestartedTo, IsSound, Ended}
 use Rattle.disk_trait.specs.Mem.{told, MemCall, fresh}
 use Rattle.disk_trait.specs.MemLaws.{sound_at}
-use Rattle.disk_trait.specs.declared.record.Did.TheVariants.{Read, Length, Wrote, Synced, Restarted}
+use Rattle.disk_trait.specs.declared.record.Did.TheVariants.{Read, Length, Synced}
 use Rattle.disk_trait.specs.declared.parts.Outage.{Outage}
 use Rattle.disk_trait.specs.declared.parts.Outage.TheVariants.{Failed, NoMemory}
 use Rattle.disk_trait.proofs.ImageLaws.{image_synced, image_written}
-use Rattle.disk_trait.proofs.MemCalls.{mem_read_at, mem_write_at, mem_len, mem_sync, mem_restart, unmade_read_at, unmade_write_at, unmade_len, unmade_sync, unmade_restart}
+use Rattle.disk_trait.proofs.MemCalls.{mem_read_at, mem_write_at, mem_len, mem_sync, mem_restart}
 
 -- a disk that nobody has called is sound
 pub sound_fresh : (moment : ℕ) (bytes : List ℕ) → IsSound moment (fresh bytes)

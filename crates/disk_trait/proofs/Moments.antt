@@ -1,11 +1,7 @@
 -- What a disk in memory could have left at each moment.
-use Rattle.std.proofs.Common.{◌≡◌, ◌≢◌, ℕ, ◌+◌, ◌-◌, ◌<◌, ◌≤◌, Bool, true, false, nat_le, List, [], ◌∷◌, MatchBool, refl, ap, sym, ◌∙◌, subst, arith}
+use Rattle.std.proofs.Common.{◌≡◌, ℕ, ◌<◌, ◌≤◌, Bool, true, false, nat_le, List, [], ◌∷◌, MatchBool, sym, subst, arith}
 use Rattle.std.proofs.lemmas.Bool.Decides.{nat_tests}
-use Rattle.disk_trait.specs.Images.{Image}
-use Rattle.disk_trait.specs.Change.{put_back}
-use Rattle.disk_trait.specs.Record.{ImageNow, ImageAt, undone, newest, picked, synced_of, ranges_of}
-use Rattle.disk_trait.specs.Kept.{Kept, noted, failed_at, WroteTo, RestartedTo, IsSound}
-use Rattle.disk_trait.specs.declared.record.Did.{Did}
+use Rattle.disk_trait.specs.Record.{ImageNow, ImageAt, undone, newest}
 use Rattle.disk_trait.specs.declared.record.Call.{Call}
 
 pick_true : (test : Bool) (P Q : Type 0) → test ≡ true → MatchBool test P Q → P

@@ -1,11 +1,11 @@
 -- What tearing does to the bytes of a disk in memory.
-use Rattle.std.proofs.Common.{◌≡◌, ◌≢◌, ℕ, ◌+◌, ◌-◌, ◌%◌, ◌<◌, ◌≤◌, min, Bool, true, false, cond, ◌&&◌, ◌||◌, nat_le, nat_lt, List, [], ◌∷◌, ◌++◌, length, take, drop, get_or, set, slice_index, refl, ap, sym, ◌∙◌, arith, add-one, inl, inr, zero, suc, take-append-drop}
+use Rattle.std.proofs.Common.{◌≡◌, ◌≢◌, ℕ, ◌+◌, ◌%◌, ◌<◌, ◌≤◌, min, Bool, true, false, cond, ◌&&◌, ◌||◌, nat_le, nat_lt, List, [], ◌∷◌, ◌++◌, length, take, drop, get_or, set, refl, ap, sym, ◌∙◌, arith, inl, inr, zero, suc, take-append-drop}
 use Rattle.std.proofs.lemmas.List.{length-set, get_or-set_same, get_or-set_other, drop_all, append-nil}
-use Rattle.std.proofs.lemmas.Grind.{same_number_lists, common_steps}
-use Rattle.std.proofs.lemmas.Bool.{cases_lt, cases_eq}
+use Rattle.std.proofs.lemmas.Grind.{same_number_lists}
+use Rattle.std.proofs.lemmas.Bool.{cases_eq}
 use Rattle.std.proofs.lemmas.Bool.Decides.{nat_tests}
 use Rattle.disk_trait.specs.Images.{is_in}
-use Rattle.disk_trait.specs.Change.{PutBack, put_back}
+use Rattle.disk_trait.specs.Change.{put_back}
 use Rattle.disk_trait.specs.Record.{at_places, torn}
 
 pub length-at_places : (f : ℕ → ℕ → ℕ) (i : ℕ) (bytes : List ℕ) → length (at_places f i bytes) ≡ length bytes

@@ -1,10 +1,10 @@
 -- What a write in memory does to the bytes.
-use Rattle.std.proofs.Common.{◌≡◌, ℕ, ◌+◌, ◌-◌, ◌<◌, ◌≤◌, min, List, [], ◌∷◌, ◌++◌, length, take, drop, replicate, get_or, slice_index, refl, ap, sym, ◌∙◌, arith, rules, ◌⊎◌, inl, inr, ⊎_elim, length-append, length-drop, append_assoc, take-append-drop, add-zero}
-use Rattle.std.proofs.lemmas.List.{append-nil, take_all, drop_all, take-append-le, drop-append-le, drop_at, take_at, places, same_lists, length-take-le, drop-drop, length-replicate}
+use Rattle.std.proofs.Common.{◌≡◌, ℕ, ◌+◌, ◌-◌, ◌≤◌, min, List, [], ◌++◌, length, take, drop, replicate, refl, ap, sym, ◌∙◌, arith, inl, inr, length-append, length-drop, append_assoc, take-append-drop, add-zero}
+use Rattle.std.proofs.lemmas.List.{append-nil, take_all, drop_all, take-append-le, drop_at, take_at, length-take-le, drop-drop, length-replicate}
 use Rattle.std.proofs.lemmas.Bool.{cases_lt}
 use Rattle.disk_trait.specs.Disks.{written}
 use Rattle.disk_trait.specs.Write.{grown, over, inside, change_of}
-use Rattle.disk_trait.specs.Change.{PutBack, put_back}
+use Rattle.disk_trait.specs.Change.{put_back}
 use Rattle.disk_trait.specs.Kept.{Kept, noted, WroteTo}
 use Rattle.disk_trait.specs.declared.record.Did.TheVariants.{Wrote}
 

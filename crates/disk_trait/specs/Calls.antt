@@ -1,6 +1,6 @@
 -- What the calls of a repository's parts do. `result` is what the call answers.
 use Rattle.std.specs.Prelude.{◌≡◌, ℕ, ◌+◌, ◌-◌, ◌^◌, ◌<◌, ◌≤◌, List, length, take, drop, Some, Result, IfOk, OnOk, IsErr, IsErrOf}
-use Rattle.disk_trait.specs.Disks.{Disks, OnDisk, Rose, WhereTold, MayLeave, IsSettled, NoNewImage, TornAlone, written}
+use Rattle.disk_trait.specs.Disks.{Disks, OnDisk, Rose, WhereTold, IsSettled, NoNewImage, TornAlone, written}
 use Rattle.disk_trait.specs.declared.parts.Outage.{Outage}
 use Rattle.disk_trait.specs.declared.parts.Outage.TheVariants.{Failed}
 

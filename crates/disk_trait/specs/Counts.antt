@@ -1,5 +1,5 @@
 -- Parts that tell nothing but how often they were called and how often each disk failed.
-use Rattle.std.specs.Prelude.{ℕ, ◌-◌, ◌^◌, min, Bool, Option, Some, None, List, [], ◌∷◌, slice_index, Result, Ok, Err}
+use Rattle.std.specs.Prelude.{ℕ, ◌-◌, ◌^◌, min, Bool, Option, Some, None, slice_index, Result, Ok, Err}
 use Rattle.disk_trait.specs.Disks.{Disks}
 use Rattle.disk_trait.specs.Fuse.{one_more, falls_after}
 use Rattle.disk_trait.specs.declared.parts.Outage.{Outage}

@@ -1,5 +1,5 @@
 -- The disk model: what a crash may leave of a disk.
-use Rattle.std.specs.Prelude.{◌≡◌, ℕ, ◌+◌, ◌<◌, ◌≤◌, max, Bool, true, false, ◌&&◌, ◌||◌, nat_le, nat_lt, List, [], ◌∷◌, length, slice_index}
+use Rattle.std.specs.Prelude.{◌≡◌, ℕ, ◌<◌, ◌≤◌, max, Bool, false, ◌&&◌, ◌||◌, nat_le, nat_lt, List, [], ◌∷◌, length, slice_index}
 
 -- whether a place lies in one of these ranges, each from its first place up to its end
 abbrev pub is_in : List (ℕ × ℕ) → ℕ → Bool

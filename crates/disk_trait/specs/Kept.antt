@@ -1,5 +1,5 @@
 -- What contracts see of a disk in memory.
-use Rattle.std.specs.Prelude.{◌≡◌, ℕ, ◌+◌, ◌-◌, ◌^◌, ◌≤◌, min, List, [], ◌∷◌, length, Result, Ok, Err, IsErr, IsErrOf}
+use Rattle.std.specs.Prelude.{◌≡◌, ℕ, ◌+◌, ◌≤◌, List, ◌∷◌, length, Result, Ok, Err, IsErr, IsErrOf}
 use Rattle.disk_trait.specs.Change.{PutBack, put_back}
 use Rattle.disk_trait.specs.Disks.{written}
 use Rattle.disk_trait.specs.Fuse.{one_more}

@@ -1,5 +1,5 @@
 -- Parts in memory.
-use Rattle.std.specs.Prelude.{◌≡◌, ℕ, ◌+◌, ◌-◌, ◌^◌, min, Bool, true, false, ◌&&◌, ◌||◌, ◌==◌, nat_lt, List, [], ◌∷◌, Option, Some, None, IfSome, slice_get, slice_set, Result, IsErr, IsErrOf}
+use Rattle.std.specs.Prelude.{◌≡◌, ℕ, ◌+◌, ◌-◌, ◌^◌, min, Bool, true, false, ◌&&◌, ◌||◌, ◌==◌, nat_lt, List, [], Option, Some, None, slice_get, slice_set, Result, IsErr, IsErrOf}
 use Rattle.std.specs.List.{list_any}
 use Rattle.disk_trait.specs.Disks.{Disks}
 use Rattle.disk_trait.specs.Kept.{Kept, Ended}

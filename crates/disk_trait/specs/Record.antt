@@ -1,10 +1,10 @@
 -- The record of a disk in memory. Calls stand with the newest first, and `bytes` is what a read gives
 -- behind all of them.
-use Rattle.std.specs.Prelude.{◌≡◌, ℕ, ◌+◌, ◌%◌, ◌≤◌, Bool, true, false, nat_le, ◌==◌, if◌then◌else◌, List, [], ◌∷◌, length, MatchBool}
+use Rattle.std.specs.Prelude.{ℕ, ◌+◌, ◌%◌, Bool, true, false, nat_le, ◌==◌, if◌then◌else◌, List, [], ◌∷◌, length, MatchBool}
 use Rattle.disk_trait.specs.Images.{Image, is_in}
 use Rattle.disk_trait.specs.Change.{put_back}
 use Rattle.disk_trait.specs.declared.record.Did.{Did}
-use Rattle.disk_trait.specs.declared.record.Did.TheVariants.{Failed, Read, Length, Wrote, Synced, Restarted}
+use Rattle.disk_trait.specs.declared.record.Did.TheVariants.{Wrote, Synced, Restarted}
 use Rattle.disk_trait.specs.declared.record.Call.{Call}
 
 -- the bytes before a call

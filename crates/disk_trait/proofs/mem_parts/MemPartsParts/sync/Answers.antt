@@ -1,4 +1,4 @@
-use Rattle.std.proofs.Common.{rules, arith, ◌≡◌, ◌+◌, ◌<◌, length}
+use Rattle.std.proofs.Common.{rules, ◌<◌, length}
 use Rattle.disk_trait.proofs.MemLifts.{kept_sync, mem_unmade}
 use Rattle.disk_trait.proofs.mem_parts.MemPartsParts.sync.Goals as goal
 
