@@ -13,3 +13,4 @@ pub mod Write
 pub mod Mem
 pub mod MemParts
 pub mod MemLaws
+pub mod SystemTime

@@ -10,9 +10,13 @@ pub trait Clock: Send + Drop {
     /// The greatest number that it gave, 0 before the first.
     ghost greatest: { Self → ℕ };
 
+    /// `gives clock now then`: asked, the clock may give the number `now` and be `then` afterwards.
+    ghost gives: { Self → ℕ → Self → Type 0 };
+
     /// Any number.
     fn now(&mut self) -> u64
-        ensures { greatest self.new ≡ max (greatest self.old) result };
+        ensures greatest { greatest self.new ≡ max (greatest self.old) result }
+        ensures asked { gives self.old result self.new };
 }
 
 /// A clock that counts how often it was asked, and stays at the greatest `u64`.
@@ -45,11 +49,9 @@ impl TickClock {
 impl Clock for TickClock {
     ghost greatest = { λ clock. clock.greatest };
 
-    fn now(&mut self) -> u64
-        ensures greatest { self.new.greatest ≡ max self.old.greatest result }
-        ensures now { result ≡ self.old.next }
-        ensures then { self.new ≡ ticks_after self.old }
-    {
+    ghost gives = { λ clock now then. (now ≡ clock.next) × (then ≡ ticks_after clock) };
+
+    fn now(&mut self) -> u64 {
         let now = self.next;
         self.greatest = self.greatest.max(now);
         self.next = now.saturating_add(1);
@@ -66,7 +68,12 @@ pub struct SystemClock<R: rt::Clock + Send + Drop> {
 }
 
 impl<R: rt::Clock + Send + Drop> SystemClock<R> {
-    pub fn new(rt: R) -> SystemClock<R> {
+    ghost use Rattle.disk_trait.specs.SystemTime.{no_number_yet};
+
+    /// A clock that gave no number yet.
+    pub fn new(rt: R) -> SystemClock<R>
+        ensures { no_number_yet result }
+    {
         SystemClock {
             rt,
             last: 0,
@@ -77,6 +84,8 @@ impl<R: rt::Clock + Send + Drop> SystemClock<R> {
 
 impl<R: rt::Clock + Send + Drop> Clock for SystemClock<R> {
     ghost greatest = { λ clock. clock.greatest };
+
+    ghost gives = { λ clock now then. now ≡ then.last };
 
     /// Where the machine's clock can't be read, its last number again, 0 before the first.
     fn now(&mut self) -> u64 {

@@ -85,6 +85,8 @@ fn file_len(file: Option<&File>) -> Option<u64> {
 impl<C: Clock> Parts for FileParts<C> {
     ghost disks = { file_disks C.greatest };
 
+    ghost asked = { λ files now then. C.gives files.clock now then.clock };
+
     #[tactic(auto, using(crate::proofs::FileCalls::untold_read))]
     fn read_at(&mut self, disk: u8, at: u64, into: &mut [u8]) -> Result<(), Outage>
         requires disk_is_there { disk < 3 }
@@ -145,6 +147,7 @@ impl<C: Clock> Parts for FileParts<C> {
         ensures disks { SameDisks (file_disks C.greatest self.old) (file_disks C.greatest self.new) }
         ensures clock { (file_disks C.greatest self.new).clock ≡ max (file_disks C.greatest self.old).clock result }
         ensures counts { counts_of self.new ≡ counts_of self.old }
+        ensures asked { C.gives (clock_of self.old) result (clock_of self.new) }
     {
         self.clock.now()
     }

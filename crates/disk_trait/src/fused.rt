@@ -65,6 +65,8 @@ impl<P> Fused<P> {
 impl<P: Parts> Parts for Fused<P> {
     ghost disks = { fused_disks P.disks };
 
+    ghost asked = { λ fused now then. P.asked fused.parts now then.parts };
+
     #[tactic(auto, using(crate::proofs::FusedCalls::fused_read_at))]
     fn read_at(&mut self, disk: u8, at: u64, into: &mut [u8]) -> Result<(), Outage>
         requires disk_is_there { disk < 3 }
@@ -126,6 +128,7 @@ impl<P: Parts> Parts for Fused<P> {
         ensures clock { (fused_disks P.disks self.new).clock ≡ max (fused_disks P.disks self.old).clock result }
         ensures inside { SameDisks (P.disks (parts_of self.old)) (P.disks (parts_of self.new)) }
         ensures fuse { fuse_of self.new ≡ fuse_of self.old }
+        ensures asked { P.asked (parts_of self.old) result (parts_of self.new) }
     {
         self.parts.now()
     }

@@ -72,9 +72,11 @@ impl<C> MemParts<C> {
 }
 
 impl<C: Clock> Parts for MemParts<C> {
-    ghost use Rattle.disk_trait.specs.MemParts.{disks_of, time_of, fails_of, mem_disks};
+    ghost use Rattle.disk_trait.specs.MemParts.{disks_of, time_of, fails_of, clock_in, mem_disks};
 
     ghost disks = { mem_disks C.greatest };
+
+    ghost asked = { λ parts now then. C.gives parts.clock now then.clock };
 
     fn read_at(&mut self, disk: u8, at: u64, into: &mut [u8]) -> Result<(), Outage>
         requires disk_is_there { disk < 3 }
@@ -155,6 +157,7 @@ impl<C: Clock> Parts for MemParts<C> {
         ensures disks { SameDisks (mem_disks C.greatest self.old) (mem_disks C.greatest self.new) }
         ensures clock { (mem_disks C.greatest self.new).clock ≡ max (mem_disks C.greatest self.old).clock result }
         ensures made { disks_of self.new ≡ disks_of self.old }
+        ensures asked { C.gives (clock_in self.old) result (clock_in self.new) }
     {
         self.clock.now()
     }

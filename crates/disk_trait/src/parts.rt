@@ -61,6 +61,10 @@ pub trait Parts: Send + Drop {
     /// What contracts see of the parts.
     ghost disks: { Self → Disks };
 
+    /// `asked parts now then`: the clock, asked, may give the number `now`, and the parts be `then`
+    /// afterwards.
+    ghost asked: { Self → ℕ → Self → Type 0 };
+
     /// Reads bytes into the whole of `into`, from `at` on. Where the content isn't told, a range that
     /// passes the disk's end is `Failed`.
     fn read_at(&mut self, disk: u8, at: u64, into: &mut [u8]) -> Result<(), Outage>
@@ -93,7 +97,8 @@ pub trait Parts: Send + Drop {
     /// Asks the clock, which may give any number.
     fn now(&mut self) -> u64
         ensures disks { SameDisks (disks self.old) (disks self.new) }
-        ensures clock { (disks self.new).clock ≡ max (disks self.old).clock result };
+        ensures clock { (disks self.new).clock ≡ max (disks self.old).clock result }
+        ensures asked { asked self.old result self.new };
 
     /// What a read gives is one of the images that a crash may leave.
     ghost reads: { (parts : Self) (d : ℕ) (bytes : List ℕ) → (disks parts).content d ≡ Some bytes → MayLeave (disks parts) d bytes };
