@@ -1,0 +1,9 @@
+//! A log on a disk that a crash may tear.
+#![tactic(auto)]
+
+mod fault;
+mod log;
+mod reading;
+
+pub use fault::LogFault;
+pub use log::{Log, Records};
