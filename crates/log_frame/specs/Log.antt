@@ -93,3 +93,10 @@ pub record Agrees (place : Place) (bytes : List ℕ) : Type 0 where
   pub stands : Stands bytes opened
   pub sequence : place.sequence ≡ opened.sequence
   pub end : place.end ≡ end_of opened
+
+-- a disk with these bytes opens as nothing, or as a log that agrees with them
+abbrev pub IsFound : ℕ → List ℕ → Option (Place × List ℕ × List (List ℕ)) → Type 0
+IsFound disk bytes None = read_log bytes ≡ None
+IsFound disk bytes (Some found) =
+    Stands bytes (record { sequence = found.0.sequence; head = found.1; bodies = found.2 })
+    × (found.0.disk ≡ disk) × (found.0.end ≡ end_of (record { sequence = found.0.sequence; head = found.1; bodies = found.2 }))

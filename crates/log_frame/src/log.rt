@@ -1,9 +1,112 @@
-use thor_value::Texts;
+ghost use Rattle.std.specs.Prelude.{◌≡◌, ◌+◌, ◌^◌, ◌≤◌, ◌<◌, ℕ, List, length, IfOk, IfErr, OnOk, IsErrOf, Some, None, Ok, Err};
+ghost use Rattle.disk_trait.specs.Disks.{Disks, OnDisk, Leaves, WhereTold, MayLeave, IsSettled, NoNewImage, Rose};
+ghost use Rattle.log_frame.specs.Log.{Opened, Place, Stands, Agrees, IsFound, IsBeforeOrAfter, IsOldOrNew, with_body, new_log, read_log};
+ghost use Rattle.log_frame.specs.declared.fault.LogFault.TheVariants.{Damaged, Failed};
 
-/// The bodies of a log's records.
+use crate::fault::LogFault;
+use crate::reading::{Parsed, parse};
+use disk_trait::Parts;
+use std::alloc::Global;
+use std::marker::Model;
+use thor_value::{Text, Texts};
+
+/// The bodies of a log's records, the first one first.
 pub type Records = Texts;
 
-/// An open log.
+/// An open log on one of two disks: a sequence, a head, and records that are added one by one.
+///
+/// A crash at any moment leaves whole records. After a fault the log is opened again.
+#[derive(Debug, Drop)]
 pub struct Log {
+    alloc: Global,
+    disk: u8,
+    sequence: u64,
+    /// The place of the gate behind the last record.
     end: u64,
+}
+
+impl Model for Log {
+    ghost use Rattle.std.specs.Prelude.{◌-◌, ◌^◌, ◌<◌};
+    ghost use Rattle.log_frame.specs.Log.{Place};
+
+    ghost Value = { Place };
+
+    ghost view = { λ log. record { disk = log.disk; sequence = log.sequence; end = log.end } };
+
+    ghost invariant = { λ log. log.end < 2 ^ 64 - 1 };
+}
+
+impl Log {
+    /// Reads a log. `None` where the header isn't open.
+    ///
+    /// `Damaged` tells the place of the open header or record that runs past the disk's end or has no
+    /// gate behind it. The disk stays as it was.
+    pub fn open<P: Parts>(
+        alloc: Global,
+        parts: &mut P,
+        disk: u8,
+    ) -> Result<Option<(Log, Text, Records)>, LogFault>
+        requires { disk < 2 }
+        ensures alone { OnDisk (P.disks parts.old) (P.disks parts.new) disk }
+        ensures content { (P.disks parts.new).content disk ≡ (P.disks parts.old).content disk }
+        ensures crash { NoNewImage (P.disks parts.old) (P.disks parts.new) disk }
+        ensures found { IfOk result (λ found. WhereTold (P.disks parts.old) disk (λ bytes. IsFound disk bytes found)) }
+        ensures damaged { (place : ℕ) → IsErrOf result (Damaged place) → WhereTold (P.disks parts.old) disk (λ bytes. read_log bytes ≡ Some (Err place)) }
+        ensures failed { IsErrOf result Failed → Rose ((P.disks parts.old).faults disk) ((P.disks parts.new).faults disk) }
+    {
+        let bytes = read_disk(alloc, parts, disk)?;
+        match parse(alloc, &bytes)? {
+            None => Ok(None),
+            Some(Parsed {
+                sequence,
+                head,
+                bodies,
+                end,
+            }) => {
+                let log = Log {
+                    alloc,
+                    disk,
+                    sequence,
+                    end: end as u64,
+                };
+                Ok(Some((log, head, bodies)))
+            }
+        }
+    }
+
+    /// The sequence that the log was formatted with.
+    pub fn sequence(&self) -> u64
+        ensures { result ≡ self.now.sequence }
+    {
+        self.sequence
+    }
+}
+
+/// All the bytes of a disk.
+#[tactic(auto, using(disk_trait::proofs::Runs::alone_then))]
+fn read_disk<P: Parts>(alloc: Global, parts: &mut P, disk: u8) -> Result<Vec<u8>, LogFault>
+    requires { disk < 3 }
+    ensures alone { OnDisk (P.disks parts.old) (P.disks parts.new) disk }
+    ensures content { (P.disks parts.new).content disk ≡ (P.disks parts.old).content disk }
+    ensures crash { NoNewImage (P.disks parts.old) (P.disks parts.new) disk }
+    ensures all { IfOk result (λ all. WhereTold (P.disks parts.old) disk (λ bytes. all.items ≡ bytes)) }
+    ensures damaged { (place : ℕ) → IsErrOf result (Damaged place) → ⊥ }
+    ensures failed { IsErrOf result Failed → Rose ((P.disks parts.old).faults disk) ((P.disks parts.new).faults disk) }
+{
+    let len = parts.len(disk)?;
+    let mut bytes = zeros(alloc, len)?;
+    parts.read_at(disk, 0, &mut bytes)?;
+    Ok(bytes)
+}
+
+/// So many bytes of 0.
+fn zeros(alloc: Global, len: u64) -> Result<Vec<u8>, LogFault>
+    ensures len { IfOk result (λ bytes. length bytes.items ≡ len) }
+    ensures damaged { (place : ℕ) → IsErrOf result (Damaged place) → ⊥ }
+    ensures failed { IsErrOf result Failed → ⊥ }
+{
+    let Ok(len) = usize::try_from(len) else {
+        return Err(LogFault::NoMemory);
+    };
+    Ok(vec![in alloc; 0u8; len]?)
 }
