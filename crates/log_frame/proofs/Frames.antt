@@ -30,7 +30,7 @@ u32_taken bytes = ap (from_be_bytes w32) (take-take 4 4 bytes (omega arith))
 
 pub u32_spelled : (n : ℕ) → n < 2 ^ 32 → u32_in (to_be_bytes w32 n) ≡ n
 unfolding u32_in
-u32_spelled n below = from_be_bytes-to_be_bytes_4 n below
+u32_spelled n below = ap (from_be_bytes w32) (take_all 4 (to_be_bytes w32 n) (omega arith)) ∙ from_be_bytes-to_be_bytes_4 n below
 
 -- these bytes are a length, this body, and something behind it
 pub record Framed (bytes body behind : List ℕ) : Type 0 where
