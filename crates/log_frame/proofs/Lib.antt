@@ -1,3 +1,5 @@
 pub mod Frames
 pub mod Headers
 pub mod Ends
+pub mod Tears
+pub mod Appends

@@ -100,3 +100,7 @@ IsFound disk bytes None = read_log bytes ≡ None
 IsFound disk bytes (Some found) =
     Stands bytes (record { sequence = found.0.sequence; head = found.1; bodies = found.2 })
     × (found.0.disk ≡ disk) × (found.0.end ≡ end_of (record { sequence = found.0.sequence; head = found.1; bodies = found.2 }))
+
+-- a record behind its gate, and the closed gate behind it
+abbrev pub closed_record : List ℕ → List ℕ
+closed_record body = to_be_bytes w32 (length body) ++ (body ++ 0 ∷ [])
