@@ -3,3 +3,4 @@ pub mod Headers
 pub mod Ends
 pub mod Tears
 pub mod Appends
+pub mod AppendRuns

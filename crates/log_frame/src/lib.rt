@@ -1,6 +1,7 @@
 //! A log on a disk that a crash may tear.
 #![tactic(auto)]
 
+mod append;
 mod fault;
 mod log;
 mod reading;

@@ -12,6 +12,9 @@ use thor_value::{NoMemory, Text};
 /// An open gate.
 pub(crate) const OPEN: u8 = 1;
 
+/// A closed one.
+pub(crate) const CLOSED: u8 = 0;
+
 /// The number in the first four bytes.
 #[tactic(auto, unfolding(crate::specs::Log::u32_in))]
 fn u32_of(bytes: &[u8]) -> u32
