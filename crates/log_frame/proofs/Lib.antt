@@ -4,3 +4,4 @@ pub mod Ends
 pub mod Tears
 pub mod Appends
 pub mod AppendRuns
+pub mod LogAppends

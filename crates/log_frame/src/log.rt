@@ -3,6 +3,7 @@ ghost use Rattle.disk_trait.specs.Disks.{Disks, OnDisk, Leaves, WhereTold, MayLe
 ghost use Rattle.log_frame.specs.Log.{Opened, Place, Stands, Agrees, IsFound, IsBeforeOrAfter, IsOldOrNew, with_body, new_log, read_log};
 ghost use Rattle.log_frame.specs.declared.fault.LogFault.TheVariants.{Damaged, Failed};
 
+use crate::append::{append_at, closed_record};
 use crate::fault::LogFault;
 use crate::reading::{Parsed, parse};
 use disk_trait::Parts;
@@ -33,7 +34,7 @@ impl Model for Log {
 
     ghost view = { λ log. record { disk = log.disk; sequence = log.sequence; end = log.end } };
 
-    ghost invariant = { λ log. log.end < 2 ^ 64 - 1 };
+    ghost invariant = { λ log. (log.end < 2 ^ 64 - 1) × (log.disk < 2) };
 }
 
 impl Log {
@@ -72,6 +73,31 @@ impl Log {
                 Ok(Some((log, head, bodies)))
             }
         }
+    }
+
+    /// Adds a record: four device calls, before which the memory for its one buffer is taken.
+    ///
+    /// At each moment a crash leaves the records from before, or these and the new one. After `Ok` each
+    /// crash leaves the new one. After a fault the log is opened again.
+    pub fn append<P: Parts>(&mut self, parts: &mut P, body: &[u8]) -> Result<(), LogFault>
+        requires settled { IsSettled (P.disks parts.old) self.old.disk }
+        requires agrees { WhereTold (P.disks parts.old) self.old.disk (λ bytes. Agrees self.old bytes) }
+        ensures alone { OnDisk (P.disks parts.old) (P.disks parts.new) self.old.disk }
+        ensures any_moment { (opened : Opened) → WhereTold (P.disks parts.old) self.old.disk (λ bytes. Stands bytes opened → Leaves (P.disks parts.old) (P.disks parts.new) self.old.disk (IsBeforeOrAfter opened body.now)) }
+        ensures appended { OnOk result ((opened : Opened) → WhereTold (P.disks parts.old) self.old.disk (λ bytes. Stands bytes opened → WhereTold (P.disks parts.new) self.old.disk (λ final. Stands final (with_body opened body.now)))) }
+        ensures kept { OnOk result ((opened : Opened) → WhereTold (P.disks parts.old) self.old.disk (λ bytes. Stands bytes opened → (image : List ℕ) → MayLeave (P.disks parts.new) self.old.disk image → Stands image (with_body opened body.now))) }
+        ensures settled { OnOk result (IsSettled (P.disks parts.new) self.old.disk) }
+        ensures agrees { OnOk result (WhereTold (P.disks parts.new) self.old.disk (λ bytes. Agrees self.new bytes)) }
+        ensures disk { self.new.disk ≡ self.old.disk }
+        ensures sequence { self.new.sequence ≡ self.old.sequence }
+        ensures calls { OnOk result ((P.disks parts.old).time + 4 < 2 ^ 64 → (P.disks parts.new).time ≡ (P.disks parts.old).time + 4) }
+        ensures damaged { (place : ℕ) → IsErrOf result (Damaged place) → ⊥ }
+        ensures failed { IsErrOf result Failed → Rose ((P.disks parts.old).faults self.old.disk) ((P.disks parts.new).faults self.old.disk) }
+    {
+        let put = closed_record(self.alloc, body)?;
+        append_at(parts, self.disk, self.end, &put)?;
+        self.end += put.len() as u64;
+        Ok(())
     }
 
     /// The sequence that the log was formatted with.
