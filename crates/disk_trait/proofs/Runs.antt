@@ -1,7 +1,7 @@
 -- How calls on one disk follow one another. For crates above.
 use Rattle.std.proofs.Common.{◌≡◌, ◌≢◌, ℕ, ◌≤◌, List, Result, ◌∙◌, refl, subst, arith, inl, inr}
 use Rattle.std.proofs.lemmas.Bool.{cases_lt}
-use Rattle.disk_trait.specs.Disks.{Disks, OnDisk, Leaves, MayLeave}
+use Rattle.disk_trait.specs.Disks.{Disks, OnDisk, Leaves, MayLeave, NoNewImage}
 use Rattle.disk_trait.specs.Calls.{IsCall}
 use Rattle.disk_trait.specs.declared.parts.Outage.{Outage}
 
@@ -83,3 +83,10 @@ leaves_call old mid new disk P result first call now = record {
 -- what has P has Q
 pub leaves_weaker : (old new : Disks) (disk : ℕ) (P Q : List ℕ → Type 0) → ((image : List ℕ) → P image → Q image) → Leaves old new disk P → Leaves old new disk Q
 leaves_weaker old new disk P Q leads run = record { alone = run.alone; each = λ m image from to left. leads image (run.each m image from to left) }
+
+-- What is looked at alone stays: at each moment a crash leaves what it could leave at first.
+pub still_none : (disks : Disks) (disk : ℕ) → Leaves disks disks disk (MayLeave disks disk)
+still_none disks disk = leaves_none disks disk (MayLeave disks disk) (λ image left. left)
+
+pub still_call : {T : Type 0} (old mid new : Disks) (disk : ℕ) (result : Result T Outage) → Leaves old mid disk (MayLeave old disk) → IsCall mid new disk result → NoNewImage mid new disk → Leaves old new disk (MayLeave old disk)
+still_call old mid new disk result still call same = leaves_call old mid new disk (MayLeave old disk) result still call (λ image left. still.each mid.time image still.alone.later (omega arith) (same image left))

@@ -5,3 +5,5 @@ pub mod Tears
 pub mod Appends
 pub mod AppendRuns
 pub mod LogAppends
+pub mod Formats
+pub mod FormatRuns

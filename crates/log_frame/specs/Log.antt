@@ -1,5 +1,5 @@
 -- What the bytes of a log disk stand for.
-use Rattle.std.specs.Prelude.{◌≡◌, ◌⊎◌, ℕ, zero, suc, ◌+◌, ◌≤◌, ◌<◌, nat_le, ◌==◌, if◌then◌else◌, Bool, true, false, List, [], ◌∷◌, ◌++◌, length, take, drop, sum_by, Option, Some, None, Result, Ok, Err}
+use Rattle.std.specs.Prelude.{◌≡◌, ◌≢◌, ◌⊎◌, ℕ, zero, suc, ◌+◌, ◌≤◌, ◌<◌, nat_le, ◌==◌, if◌then◌else◌, Bool, true, false, List, [], ◌∷◌, ◌++◌, length, take, drop, sum_by, slice_index, Option, Some, None, Result, Ok, Err}
 use Rattle.std.specs.Int.{w32, w64, from_be_bytes, to_be_bytes}
 
 -- what an open log holds: its sequence, its head, and the bodies of its records, the first one first
@@ -104,3 +104,23 @@ IsFound disk bytes (Some found) =
 -- a record behind its gate, and the closed gate behind it
 abbrev pub closed_record : List ℕ → List ℕ
 closed_record body = to_be_bytes w32 (length body) ++ (body ++ 0 ∷ [])
+
+-- what stands behind the header's gate of a new log: its sequence, its head, and a closed gate
+abbrev pub header_bytes : ℕ → List ℕ → List ℕ
+header_bytes sequence head = to_be_bytes w64 sequence ++ closed_record head
+
+-- the first byte is there and isn't an open gate
+abbrev pub IsShut : List ℕ → Type 0
+IsShut bytes = (0 < length bytes) × (slice_index bytes 0 ≢ 1)
+
+-- the header is open where there is one
+abbrev pub MayBeOpen : List ℕ → Type 0
+MayBeOpen bytes = 1 < length bytes → slice_index bytes 0 ≡ 1
+
+-- the old bytes, or no open header
+abbrev pub IsOldOrShut : List ℕ → List ℕ → Type 0
+IsOldOrShut old image = (image ≡ old) ⊎ (read_log image ≡ None)
+
+-- no open header, or the new log
+abbrev pub IsShutOrNew : Opened → List ℕ → Type 0
+IsShutOrNew new image = (read_log image ≡ None) ⊎ Stands image new

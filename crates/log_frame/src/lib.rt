@@ -3,6 +3,7 @@
 
 mod append;
 mod fault;
+mod format;
 mod log;
 mod reading;
 

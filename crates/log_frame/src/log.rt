@@ -5,6 +5,7 @@ ghost use Rattle.log_frame.specs.declared.fault.LogFault.TheVariants.{Damaged, F
 
 use crate::append::{append_at, closed_record};
 use crate::fault::LogFault;
+use crate::format::{spell_header, write_log};
 use crate::reading::{Parsed, parse};
 use disk_trait::Parts;
 use std::alloc::Global;
@@ -51,6 +52,7 @@ impl Log {
         ensures alone { OnDisk (P.disks parts.old) (P.disks parts.new) disk }
         ensures content { (P.disks parts.new).content disk ≡ (P.disks parts.old).content disk }
         ensures crash { NoNewImage (P.disks parts.old) (P.disks parts.new) disk }
+        ensures any_moment { Leaves (P.disks parts.old) (P.disks parts.new) disk (MayLeave (P.disks parts.old) disk) }
         ensures found { IfOk result (λ found. WhereTold (P.disks parts.old) disk (λ bytes. IsFound disk bytes found)) }
         ensures damaged { (place : ℕ) → IsErrOf result (Damaged place) → WhereTold (P.disks parts.old) disk (λ bytes. read_log bytes ≡ Some (Err place)) }
         ensures failed { IsErrOf result Failed → Rose ((P.disks parts.old).faults disk) ((P.disks parts.new).faults disk) }
@@ -73,6 +75,40 @@ impl Log {
                 Ok(Some((log, head, bodies)))
             }
         }
+    }
+
+    /// Writes a log without records over what stood on a disk.
+    ///
+    /// At each moment a crash leaves what stood there, or no open header, or the new log. Where the
+    /// header was open or had no room it is closed first; it is opened last.
+    pub fn format<P: Parts>(
+        alloc: Global,
+        parts: &mut P,
+        disk: u8,
+        sequence: u64,
+        head: &[u8],
+    ) -> Result<Log, LogFault>
+        requires there { disk < 2 }
+        requires settled { IsSettled (P.disks parts.old) disk }
+        ensures alone { OnDisk (P.disks parts.old) (P.disks parts.new) disk }
+        ensures any_moment { WhereTold (P.disks parts.old) disk (λ bytes. Leaves (P.disks parts.old) (P.disks parts.new) disk (IsOldOrNew bytes (new_log sequence head.now))) }
+        ensures formatted { OnOk result (WhereTold (P.disks parts.old) disk (λ bytes. WhereTold (P.disks parts.new) disk (λ final. Stands final (new_log sequence head.now)))) }
+        ensures kept { OnOk result (WhereTold (P.disks parts.old) disk (λ bytes. (image : List ℕ) → MayLeave (P.disks parts.new) disk image → Stands image (new_log sequence head.now))) }
+        ensures settled { OnOk result (IsSettled (P.disks parts.new) disk) }
+        ensures agrees { IfOk result (λ log. WhereTold (P.disks parts.new) disk (λ bytes. Agrees log bytes)) }
+        ensures disk { IfOk result (λ log. log.disk ≡ disk) }
+        ensures sequence { IfOk result (λ log. log.sequence ≡ sequence) }
+        ensures damaged { (place : ℕ) → IsErrOf result (Damaged place) → ⊥ }
+        ensures failed { IsErrOf result Failed → Rose ((P.disks parts.old).faults disk) ((P.disks parts.new).faults disk) }
+    {
+        let put = spell_header(alloc, sequence, head)?;
+        write_log(parts, disk, &put)?;
+        Ok(Log {
+            alloc,
+            disk,
+            sequence,
+            end: put.len() as u64,
+        })
     }
 
     /// Adds a record: four device calls, before which the memory for its one buffer is taken.
@@ -109,12 +145,13 @@ impl Log {
 }
 
 /// All the bytes of a disk.
-#[tactic(auto, using(disk_trait::proofs::Runs::alone_then))]
+#[tactic(auto, using(disk_trait::proofs::Runs::alone_then, disk_trait::proofs::Runs::still_none, disk_trait::proofs::Runs::still_call))]
 fn read_disk<P: Parts>(alloc: Global, parts: &mut P, disk: u8) -> Result<Vec<u8>, LogFault>
     requires { disk < 3 }
     ensures alone { OnDisk (P.disks parts.old) (P.disks parts.new) disk }
     ensures content { (P.disks parts.new).content disk ≡ (P.disks parts.old).content disk }
     ensures crash { NoNewImage (P.disks parts.old) (P.disks parts.new) disk }
+    ensures any_moment { Leaves (P.disks parts.old) (P.disks parts.new) disk (MayLeave (P.disks parts.old) disk) }
     ensures all { IfOk result (λ all. WhereTold (P.disks parts.old) disk (λ bytes. all.items ≡ bytes)) }
     ensures damaged { (place : ℕ) → IsErrOf result (Damaged place) → ⊥ }
     ensures failed { IsErrOf result Failed → Rose ((P.disks parts.old).faults disk) ((P.disks parts.new).faults disk) }
