@@ -1,19 +1,19 @@
 -- A call on one of the disks in memory is a call on the parts, and leaves each disk sound.
-use Rattle.std.proofs.Common.{◌≡◌, ℕ, ◌+◌, ◌^◌, ◌<◌, Bool, List, [], ◌∷◌, length, set, Some, Result, Ok, Err, IsErr, IsErrOf, IfOk, OnOk, refl, ap, sym, ◌∙◌, subst, arith, slice_get, take, drop, zero, suc}
+use Rattle.std.proofs.Common.{◌≡◌, ℕ, ◌+◌, ◌^◌, ◌<◌, Bool, List, [], ◌∷◌, length, set, Option, Some, None, Result, Ok, Err, IsErr, IsErrOf, IfOk, OnOk, refl, ap, sym, ◌∙◌, subst, arith, slice_get, take, drop, zero, suc}
 use Rattle.std.proofs.lemmas.List.Elements.{All-set}
 use Rattle.std.specs.List.{All}
 use Rattle.disk_trait.specs.Images.{Image}
 use Rattle.disk_trait.specs.Change.{put_back}
-use Rattle.disk_trait.specs.Disks.{written}
+use Rattle.disk_trait.specs.Disks.{IsSettled, written}
 use Rattle.disk_trait.specs.Calls.{Reads, Writes, Syncs, TellsLength, Restarts}
-use Rattle.disk_trait.specs.Record.{synced_of, ranges_of, picked}
+use Rattle.disk_trait.specs.Record.{ImageAt, synced_of, ranges_of, picked}
 use Rattle.disk_trait.specs.Kept.{Kept, noted, failed_at, WroteTo, RestartedTo, IsSound, Ended}
-use Rattle.disk_trait.specs.Mem.{told, MemCall, fresh}
+use Rattle.disk_trait.specs.Mem.{told, MemCall, fresh, bytes_of, images_of}
 use Rattle.disk_trait.specs.MemLaws.{sound_at}
 use Rattle.disk_trait.specs.declared.record.Did.TheVariants.{Read, Length, Synced}
 use Rattle.disk_trait.specs.declared.parts.Outage.{Outage}
 use Rattle.disk_trait.specs.declared.parts.Outage.TheVariants.{Failed, NoMemory}
-use Rattle.disk_trait.proofs.ImageLaws.{image_synced, image_written}
+use Rattle.disk_trait.proofs.ImageLaws.{image_settled, image_synced, image_written}
 use Rattle.disk_trait.proofs.MemCalls.{mem_read_at, mem_write_at, mem_len, mem_sync, mem_restart}
 
 -- a disk that nobody has called is sound
@@ -148,3 +148,25 @@ mem_unmade before disk moment fails done (Err Failed) within none = cc
 mem_unmade before disk moment fails done (Err NoMemory) within none =
     let one = disk_there before disk within in
     record { old = one.0; new = one.0; stood = one.1; stands = sym one.2; ended = refl; due = λ due. refl; failed = λ same. cc }
+
+-- Disks that nobody has called are settled.
+pub fresh_settled : (log0 log1 pages : List ℕ) (clock d : ℕ) → IsSettled (told (fresh log0 ∷ fresh log1 ∷ fresh pages ∷ []) 0 clock) d
+fresh_settled log0 log1 pages clock d = λ bytes told_so image left. by_disk (slice_get (fresh log0 ∷ fresh log1 ∷ fresh pages ∷ []) d) (all_fresh d) bytes told_so image left
+  where
+    all_fresh : (k : ℕ) (one : Kept) → slice_get (fresh log0 ∷ fresh log1 ∷ fresh pages ∷ []) k ≡ Some one → one ≡ fresh one.bytes
+    all_fresh zero one is = let e : fresh log0 ≡ one = cc in sym e ∙ ap (λ (k : Kept). fresh k.bytes) e
+    all_fresh (suc zero) one is = let e : fresh log1 ≡ one = cc in sym e ∙ ap (λ (k : Kept). fresh k.bytes) e
+    all_fresh (suc (suc zero)) one is = let e : fresh pages ≡ one = cc in sym e ∙ ap (λ (k : Kept). fresh k.bytes) e
+    all_fresh (suc (suc (suc k))) one is = cc
+    by_disk : (o : Option Kept) → ((one : Kept) → o ≡ Some one → one ≡ fresh one.bytes) → (bytes : List ℕ) → bytes_of o ≡ Some bytes → (image : List ℕ) → images_of 0 o image → image ≡ bytes
+    by_disk None new bytes told_so image left = absurd left
+    by_disk (Some one) new bytes told_so image left =
+        let is : one ≡ fresh one.bytes = new one refl in
+        let same : one.bytes ≡ bytes = cc in
+        let now : Image one.bytes [] image = subst (λ (k : Kept). ImageAt 0 k.calls k.bytes image) is left in
+        image_settled one.bytes image now ∙ same
+
+pub made_settled : (one two three : Kept) (log0 log1 pages : List ℕ) → one ≡ fresh log0 → two ≡ fresh log1 → three ≡ fresh pages → (clock d : ℕ) → IsSettled (told (one ∷ two ∷ three ∷ []) 0 clock) d
+made_settled one two three log0 log1 pages is_one is_two is_three clock d =
+    let same : one ∷ two ∷ three ∷ [] ≡ fresh log0 ∷ fresh log1 ∷ fresh pages ∷ [] = ap (λ (k : Kept). k ∷ two ∷ three ∷ []) is_one ∙ ap (λ (k : Kept). fresh log0 ∷ k ∷ three ∷ []) is_two ∙ ap (λ (k : Kept). fresh log0 ∷ fresh log1 ∷ k ∷ []) is_three in
+    subst (λ (disks : List Kept). IsSettled (told disks 0 clock) d) (sym same) (fresh_settled log0 log1 pages clock d)

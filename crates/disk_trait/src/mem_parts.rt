@@ -1,9 +1,9 @@
 ghost use Rattle.std.specs.Prelude.{◌≡◌, ◌+◌, ◌^◌, ◌<◌, ◌≤◌, ◌||◌, ◌∷◌, [], ℕ, List, length, max, nat_lt, IfOk, OnErr, IsErrOf, Some, slice_get, reverse};
 ghost use Rattle.std.specs.List.{All};
-ghost use Rattle.disk_trait.specs.Disks.{WhereTold, SameDisks};
+ghost use Rattle.disk_trait.specs.Disks.{WhereTold, SameDisks, IsSettled};
 ghost use Rattle.disk_trait.specs.Calls.{Reads, Writes, Syncs, TellsLength, Restarts};
 ghost use Rattle.disk_trait.specs.Kept.{Kept, IsSound, noted, WroteTo, RestartedTo};
-ghost use Rattle.disk_trait.specs.Mem.{MemCall, is_listed, is_refused, fresh, bytes_of, calls_of};
+ghost use Rattle.disk_trait.specs.Mem.{told, MemCall, is_listed, is_refused, fresh, bytes_of, calls_of};
 ghost use Rattle.disk_trait.specs.MemLaws.{mem_reads};
 ghost use Rattle.disk_trait.specs.declared.record.Did.TheVariants.{Read, Length, Synced};
 
@@ -43,6 +43,7 @@ impl<C> MemParts<C> {
         ensures time { time_of result ≡ 0 }
         ensures fails { fails_of result ≡ fails.items }
         ensures clock { clock_in result ≡ clock }
+        ensures settled { (asked d : ℕ) → IsSettled (told (disks_of result) (time_of result) asked) d }
     {
         MemParts {
             disks: [MemDisk::new(log0), MemDisk::new(log1), MemDisk::new(pages)],
