@@ -91,9 +91,9 @@ module _ (bytes : List ℕ) (opened : Opened) (stands : Stands bytes opened) whe
     pub done_stands : Stands (written (written bytes (end_of opened + 1) (closed_record body)) (end_of opened) (1 ∷ [])) (with_body opened body)
     done_stands =
         ap read_log (
-          written_within (written bytes (end_of opened + 1) (closed_record body)) (end_of opened) (1 ∷ []) (omega (arith, staged_there))
-          ∙ ap (λ (l : List ℕ). l ++ (1 ∷ drop (end_of opened + 1) (written bytes (end_of opened + 1) (closed_record body)))) staged_front
-          ∙ ap (λ (l : List ℕ). take (end_of opened) bytes ++ (1 ∷ l)) staged_back
+        written_within (written bytes (end_of opened + 1) (closed_record body)) (end_of opened) (1 ∷ []) (omega (arith, staged_there))
+        ∙ ap (λ (l : List ℕ). l ++ (1 ∷ drop (end_of opened + 1) (written bytes (end_of opened + 1) (closed_record body)))) staged_front
+        ∙ ap (λ (l : List ℕ). take (end_of opened) bytes ++ (1 ∷ l)) staged_back
         ) ∙ open_again (drop (end_of opened + 1 + length (closed_record body)) bytes)
 
 -- the gate behind one record more

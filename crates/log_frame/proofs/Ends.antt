@@ -40,16 +40,16 @@ ends_more place rest body behind bodies split four number more =
       within = omega (arith, sums, more.within, ap length whole, length-append front behind, size);
       shut = λ open_gate. more.shut (sym (get_or-append-add front behind (reach bodies) 0) ∙ ap (λ (l : List ℕ). get_or l (length front + reach bodies) 0) (sym whole) ∙ ap (λ (k : ℕ). get_or (1 ∷ rest) k 0) (sym far) ∙ open_gate);
       again = λ tail some.
-        let inner = take (reach bodies) behind ++ tail in
-        let place_is : place + (5 + length body) + reach bodies ≡ place + reach (body ∷ bodies) = omega (arith, sums) in
-        let frame = framed (take 4 rest) body inner four number (omega (arith, length-append (take (reach bodies) behind) tail, some)) in
-        ap (λ (l : List ℕ). bodies_from 0 place (l ++ tail)) taken
-        ∙ ap (bodies_from 0 place) (append_assoc front (take (reach bodies) behind) tail)
-        ∙ ap (λ (l : List ℕ). bodies_from 0 place (1 ∷ l)) (append_assoc (take 4 rest) body inner)
-        ∙ bodies_open place (take 4 rest ++ (body ++ inner)) body inner frame
-        ∙ ap (with_first body) (more.again tail some)
-        ∙ prepend_first body bodies (bodies_from 0 (place + (5 + length body) + reach bodies) tail)
-        ∙ ap (λ (k : ℕ). prepend (body ∷ bodies) (bodies_from 0 k tail)) place_is;
+          let inner = take (reach bodies) behind ++ tail in
+          let place_is : place + (5 + length body) + reach bodies ≡ place + reach (body ∷ bodies) = omega (arith, sums) in
+          let frame = framed (take 4 rest) body inner four number (omega (arith, length-append (take (reach bodies) behind) tail, some)) in
+          ap (λ (l : List ℕ). bodies_from 0 place (l ++ tail)) taken
+          ∙ ap (bodies_from 0 place) (append_assoc front (take (reach bodies) behind) tail)
+          ∙ ap (λ (l : List ℕ). bodies_from 0 place (1 ∷ l)) (append_assoc (take 4 rest) body inner)
+          ∙ bodies_open place (take 4 rest ++ (body ++ inner)) body inner frame
+          ∙ ap (with_first body) (more.again tail some)
+          ∙ prepend_first body bodies (bodies_from 0 (place + (5 + length body) + reach bodies) tail)
+          ∙ ap (λ (k : ℕ). prepend (body ∷ bodies) (bodies_from 0 k tail)) place_is;
     }
 
 -- Records that are read end.
@@ -60,9 +60,11 @@ ends [] place (gate ∷ rest) some read = by_gate (cases_eq gate 1)
     none_first : (body : List ℕ) (more : Result (List (List ℕ)) ℕ) → with_first body more ≢ Ok []
     none_first body (Ok more) is = cc
     none_first body (Err at) is = cc
+
     open_not : (whole : Bool) → (if whole then with_first (body_in rest) (bodies_from (4 + u32_in rest) (place + 1) rest) else Err place) ≢ Ok []
     open_not true is = none_first _ _ is
     open_not false is = cc
+
     by_gate : (gate ≡ 1) ⊎ (gate ≡ 1 → ⊥) → Ends [] place (gate ∷ rest)
     by_gate (inr shut) = ends_none place gate rest shut
     by_gate (inl is) = absurd (open_not (is_whole rest) (ap (λ (g : ℕ). bodies_from 0 place (g ∷ rest)) (sym is) ∙ read))
@@ -71,6 +73,7 @@ ends (body ∷ bodies) place (gate ∷ rest) some read = by_gate (λ p b. ends b
     first_is : (one : List ℕ) (more : Result (List (List ℕ)) ℕ) → with_first one more ≡ Ok (body ∷ bodies) → (one ≡ body) × (more ≡ Ok bodies)
     first_is one (Ok more) is = (cc, cc)
     first_is one (Err at) is = cc
+
     by_whole : ((p : ℕ) (b : List ℕ) → 0 < length b → bodies_from 0 p b ≡ Ok bodies → Ends bodies p b) → (whole : Bool) → is_whole rest ≡ whole → (if whole then with_first (body_in rest) (bodies_from (4 + u32_in rest) (place + 1) rest) else Err place) ≡ Ok (body ∷ bodies) → Ends (body ∷ bodies) place (1 ∷ rest)
     by_whole rec false cut is = cc
     by_whole rec true whole is =
@@ -82,9 +85,10 @@ ends (body ∷ bodies) place (gate ∷ rest) some read = by_gate (λ p b. ends b
         let read_on : bodies_from 0 (place + (5 + length body)) (drop (4 + u32_in rest) rest) ≡ Ok bodies =
         ap (λ (k : ℕ). bodies_from 0 k (drop (4 + u32_in rest) rest)) (sym place_is) ∙ sym (bodies_skip (4 + u32_in rest) (place + 1) rest) ∙ here.1 in
         ends_more place rest body (drop (4 + u32_in rest) rest) bodies
-          (parts.split ∙ ap (λ (l : List ℕ). take 4 rest ++ (l ++ drop (4 + u32_in rest) rest)) here.0)
-          parts.four (u32_taken rest ∙ sym size)
-          (rec (place + (5 + length body)) (drop (4 + u32_in rest) rest) parts.more read_on)
+        (parts.split ∙ ap (λ (l : List ℕ). take 4 rest ++ (l ++ drop (4 + u32_in rest) rest)) here.0)
+        parts.four (u32_taken rest ∙ sym size)
+        (rec (place + (5 + length body)) (drop (4 + u32_in rest) rest) parts.more read_on)
+
     by_gate : ((p : ℕ) (b : List ℕ) → 0 < length b → bodies_from 0 p b ≡ Ok bodies → Ends bodies p b) → (gate ≡ 1) ⊎ (gate ≡ 1 → ⊥) → Ends (body ∷ bodies) place (gate ∷ rest)
     by_gate rec (inr shut) = let no : Ok [] ≡ Ok (body ∷ bodies) = sym (bodies_closed place gate rest shut) ∙ read in cc
     by_gate rec (inl is) = subst (λ (g : ℕ). Ends (body ∷ bodies) place (g ∷ rest)) (sym is) (by_whole rec (is_whole rest) refl (ap (λ (g : ℕ). bodies_from 0 place (g ∷ rest)) (sym is) ∙ read))
@@ -116,15 +120,15 @@ log_ends_by eight four head behind opened size four_size number more is =
       within = omega (arith, far, more.within, ap length whole, length-append front behind);
       shut = λ open_gate. more.shut (sym (get_or-append-add front behind (reach opened.bodies) 0) ∙ ap (λ (l : List ℕ). get_or l (length front + reach opened.bodies) 0) (sym whole) ∙ ap (λ (k : ℕ). get_or (1 ∷ (eight ++ (four ++ (head ++ behind)))) k 0) (sym far) ∙ open_gate);
       again = λ tail some.
-        let inner : List ℕ = take (reach opened.bodies) behind ++ tail in
-        let place_is : 13 + length head + reach opened.bodies ≡ end_of opened = omega (arith, far, front_size) in
-        ap (λ (l : List ℕ). read_log (l ++ tail)) taken
-        ∙ ap read_log (append_assoc front (take (reach opened.bodies) behind) tail)
-        ∙ ap (λ (l : List ℕ). read_log (1 ∷ l)) (append_assoc eight (four ++ head) inner ∙ ap (λ (l : List ℕ). eight ++ l) (append_assoc four head inner))
-        ∙ header_read eight four head inner size four_size number (omega (arith, length-append (take (reach opened.bodies) behind) tail, some))
-        ∙ ap (λ r. Some (opened_by (u64_in eight) head r)) (more.again tail some)
-        ∙ ap (λ (k : ℕ). Some (opened_by (u64_in eight) head (prepend opened.bodies (bodies_from 0 k tail)))) place_is
-        ∙ sym (ap (λ (o : Opened). Some (opened_by o.sequence o.head (prepend opened.bodies (bodies_from 0 (end_of opened) tail)))) is);
+          let inner : List ℕ = take (reach opened.bodies) behind ++ tail in
+          let place_is : 13 + length head + reach opened.bodies ≡ end_of opened = omega (arith, far, front_size) in
+          ap (λ (l : List ℕ). read_log (l ++ tail)) taken
+          ∙ ap read_log (append_assoc front (take (reach opened.bodies) behind) tail)
+          ∙ ap (λ (l : List ℕ). read_log (1 ∷ l)) (append_assoc eight (four ++ head) inner ∙ ap (λ (l : List ℕ). eight ++ l) (append_assoc four head inner))
+          ∙ header_read eight four head inner size four_size number (omega (arith, length-append (take (reach opened.bodies) behind) tail, some))
+          ∙ ap (λ r. Some (opened_by (u64_in eight) head r)) (more.again tail some)
+          ∙ ap (λ (k : ℕ). Some (opened_by (u64_in eight) head (prepend opened.bodies (bodies_from 0 k tail)))) place_is
+          ∙ sym (ap (λ (o : Opened). Some (opened_by o.sequence o.head (prepend opened.bodies (bodies_from 0 (end_of opened) tail)))) is);
     }
 
 log_ends_open : (rest : List ℕ) (opened : Opened) → read_open rest ≡ Ok opened → LogEnds opened (1 ∷ rest)
@@ -133,20 +137,28 @@ log_ends_open rest opened read = subst (λ (l : List ℕ). LogEnds opened (1 ∷
     there : (whole : Bool) → is_whole (drop 8 rest) ≡ whole → (if whole then opened_by (u64_in rest) (body_in (drop 8 rest)) (bodies_from (12 + u32_in (drop 8 rest)) 1 rest) else Err 0) ≡ Ok opened → is_whole (drop 8 rest) ≡ true
     there true whole found = whole
     there false cut found = cc
+
     is_there : is_whole (drop 8 rest) ≡ true
     is_there = there (is_whole (drop 8 rest)) refl read
+
     parts : Unframed (drop 8 rest)
     parts = unframed (drop 8 rest) is_there
+
     eight_size : length (take 8 rest) ≡ 8
     eight_size = length-take-le 8 rest (omega (arith, length-drop 8 rest, length-take 4 (drop 8 rest), parts.four))
+
     split : rest ≡ take 8 rest ++ (take 4 (drop 8 rest) ++ (body_in (drop 8 rest) ++ drop (4 + u32_in (drop 8 rest)) (drop 8 rest)))
     split = sym (take-append-drop 8 rest) ∙ ap (λ (l : List ℕ). take 8 rest ++ l) parts.split
+
     found : (opened ≡ record { sequence = u64_in rest; head = body_in (drop 8 rest); bodies = opened.bodies }) × (bodies_from 0 (9 + (4 + u32_in (drop 8 rest))) (drop (4 + u32_in (drop 8 rest)) (drop 8 rest)) ≡ Ok opened.bodies)
     found = opened_by_ok (u64_in rest) (body_in (drop 8 rest)) _ opened (sym (read_open_whole rest (drop 8 rest) (4 + u32_in (drop 8 rest)) (u64_in rest) (body_in (drop 8 rest)) refl is_there refl refl refl) ∙ read)
+
     place_is : 9 + (4 + u32_in (drop 8 rest)) ≡ 13 + length (body_in (drop 8 rest))
     place_is = omega (arith, parts.size)
+
     records : Ends opened.bodies (13 + length (body_in (drop 8 rest))) (drop (4 + u32_in (drop 8 rest)) (drop 8 rest))
     records = ends opened.bodies (13 + length (body_in (drop 8 rest))) (drop (4 + u32_in (drop 8 rest)) (drop 8 rest)) parts.more (ap (λ (k : ℕ). bodies_from 0 k (drop (4 + u32_in (drop 8 rest)) (drop 8 rest))) (sym place_is) ∙ found.1)
+
     is : opened ≡ record { sequence = u64_in (take 8 rest); head = body_in (drop 8 rest); bodies = opened.bodies }
     is = found.0 ∙ ap (λ (k : ℕ). record { sequence = k; head = body_in (drop 8 rest); bodies = opened.bodies }) (sym (u64_taken rest))
 
@@ -159,9 +171,11 @@ log_ends (gate ∷ byte ∷ rest) opened stands = by_gate (cases_eq gate 1)
     some_is : (test : Bool) → (if test then Some (read_open (byte ∷ rest)) else None) ≡ Some (Ok opened) → read_open (byte ∷ rest) ≡ Ok opened
     some_is true is = cc
     some_is false is = cc
+
     tested : (test : Bool) → test ≡ false → (if test then Some (read_open (byte ∷ rest)) else None) ≡ Some (Ok opened) → ⊥
     tested true is found = cc
     tested false is found = cc
+
     by_gate : (gate ≡ 1) ⊎ (gate ≡ 1 → ⊥) → LogEnds opened (gate ∷ byte ∷ rest)
     by_gate (inl is) = subst (λ (g : ℕ). LogEnds opened (g ∷ byte ∷ rest)) (sym is) (log_ends_open (byte ∷ rest) opened (some_is (gate == 1) stands))
     by_gate (inr shut) = absurd (tested (gate == 1) (grind (arith, nat_tests)) stands)

@@ -15,8 +15,8 @@ from_shut old image new (inr none) = inr (inl none)
 pub both_leave : (d0 d1 d2 : Disks) (disk : ℕ) (new : Opened) (bytes : List ℕ) → Leaves d0 d1 disk (IsOldOrShut bytes) → Leaves d1 d2 disk (IsShutOrNew new) → Leaves d0 d2 disk (IsOldOrNew bytes new)
 both_leave d0 d1 d2 disk new bytes shut opened =
     leaves_then d0 d1 d2 disk (IsOldOrNew bytes new)
-      (leaves_weaker d0 d1 disk (IsOldOrShut bytes) (IsOldOrNew bytes new) (λ image left. from_shut bytes image new left) shut)
-      (leaves_weaker d1 d2 disk (IsShutOrNew new) (IsOldOrNew bytes new) (λ image left. inr left) opened)
+    (leaves_weaker d0 d1 disk (IsOldOrShut bytes) (IsOldOrNew bytes new) (λ image left. from_shut bytes image new left) shut)
+    (leaves_weaker d1 d2 disk (IsShutOrNew new) (IsOldOrNew bytes new) (λ image left. inr left) opened)
 
 -- the first part alone
 pub shut_leaves : (d0 d1 : Disks) (disk : ℕ) (new : Opened) (bytes : List ℕ) → Leaves d0 d1 disk (IsOldOrShut bytes) → Leaves d0 d1 disk (IsOldOrNew bytes new)

@@ -37,8 +37,8 @@ torn_shut bytes image open_there torn = elim (cases_lt 1 (length bytes)) [
   | inl long ↦ elim (cases_eq (slice_index image 0) 1) [
     | inr shut ↦ inr (shut_none image shut)
     | inl same ↦
-      let gate : slice_index image 0 ≡ slice_index bytes 0 = same ∙ sym (open_there long) in
-      inl (torn_byte_place 0 bytes image torn (omega arith) ∙ ap (λ (g : ℕ). g ∷ drop 1 bytes) gate ∙ sym (split_at_place bytes 0 (omega arith)))
+        let gate : slice_index image 0 ≡ slice_index bytes 0 = same ∙ sym (open_there long) in
+        inl (torn_byte_place 0 bytes image torn (omega arith) ∙ ap (λ (g : ℕ). g ∷ drop 1 bytes) gate ∙ sym (split_at_place bytes 0 (omega arith)))
   ]
 ]
 
@@ -78,9 +78,9 @@ module _ (sequence : ℕ) (head : List ℕ) (small : sequence < 2 ^ 64) (fits : 
     torn_open image torn = elim (cases_eq (slice_index image 0) 1) [
       | inr shut_still ↦ inl (shut_none image shut_still)
       | inl is ↦ inr (
-        ap read_log (torn_byte_place 0 (written bytes 1 (header_bytes sequence head)) image torn header_there ∙ ap (λ (g : ℕ). g ∷ drop 1 (written bytes 1 (header_bytes sequence head))) is ∙ ap (λ (l : List ℕ). 1 ∷ l) header_back)
-        ∙ opened_now (drop (1 + length (header_bytes sequence head)) bytes)
-      )
+          ap read_log (torn_byte_place 0 (written bytes 1 (header_bytes sequence head)) image torn header_there ∙ ap (λ (g : ℕ). g ∷ drop 1 (written bytes 1 (header_bytes sequence head))) is ∙ ap (λ (l : List ℕ). 1 ∷ l) header_back)
+          ∙ opened_now (drop (1 + length (header_bytes sequence head)) bytes)
+          )
     ]
 
     pub opened_written : Stands (written (written bytes 1 (header_bytes sequence head)) 0 (1 ∷ [])) (new_log sequence head)

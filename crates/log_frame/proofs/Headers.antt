@@ -47,7 +47,7 @@ header_read eight four head behind size four_size number some =
     let place : 9 + (4 + length head) ≡ 13 + length head = omega arith in
     read_log_open (eight ++ (four ++ (head ++ behind))) (omega (arith, length-append eight (four ++ (head ++ behind)), size))
     ∙ ap Some (
-      read_open_whole (eight ++ (four ++ (head ++ behind))) (four ++ (head ++ behind)) (4 + length head) (u64_in eight) head (sym (drop_at eight (four ++ (head ++ behind)) 8 size)) frame.whole (ap (λ (k : ℕ). 4 + k) (sym frame.number)) (sym (u64_front eight (four ++ (head ++ behind)) size)) (sym frame.body_is)
-      ∙ ap (λ (k : ℕ). opened_by (u64_in eight) head (bodies_from 0 k (drop (4 + length head) (four ++ (head ++ behind))))) place
-      ∙ ap (λ (l : List ℕ). opened_by (u64_in eight) head (bodies_from 0 (13 + length head) l)) frame.behind_is
+    read_open_whole (eight ++ (four ++ (head ++ behind))) (four ++ (head ++ behind)) (4 + length head) (u64_in eight) head (sym (drop_at eight (four ++ (head ++ behind)) 8 size)) frame.whole (ap (λ (k : ℕ). 4 + k) (sym frame.number)) (sym (u64_front eight (four ++ (head ++ behind)) size)) (sym frame.body_is)
+    ∙ ap (λ (k : ℕ). opened_by (u64_in eight) head (bodies_from 0 k (drop (4 + length head) (four ++ (head ++ behind))))) place
+    ∙ ap (λ (l : List ℕ). opened_by (u64_in eight) head (bodies_from 0 (13 + length head) l)) frame.behind_is
     )

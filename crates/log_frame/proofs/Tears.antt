@@ -9,15 +9,15 @@ pub torn_front : (at n k : ℕ) (old image : List ℕ) → Torn at n old image �
 torn_front at n k old image torn before within =
     let size : length (take k image) ≡ k = length-take-le k image (omega (arith, torn.no_shorter, within)) in
     same_number_lists (take k image) (take k old) (size ∙ sym (length-take-le k old within)) (λ (i : ℕ) (h : i < length (take k image)).
-      let here : i < k = omega (arith, h, size) in
-      get_or-take k image i 0 here ∙ torn.outside i (omega (arith, here, within)) (inl (omega (arith, here, before))) ∙ sym (get_or-take k old i 0 here))
+    let here : i < k = omega (arith, h, size) in
+    get_or-take k image i 0 here ∙ torn.outside i (omega (arith, here, within)) (inl (omega (arith, here, before))) ∙ sym (get_or-take k old i 0 here))
 
 -- Where the write lies within the old bytes, what stands behind it stays.
 pub torn_back : (at n : ℕ) (old image : List ℕ) → Torn at n old image → at + n ≤ length old → drop (at + n) image ≡ drop (at + n) old
 torn_back at n old image torn within =
     let size : length image ≡ length old = omega (arith, torn.no_shorter, torn.no_longer, within) in
     same_number_lists (drop (at + n) image) (drop (at + n) old) (length-drop (at + n) image ∙ omega (arith, size, length-drop (at + n) old)) (λ (i : ℕ) (h : i < length (drop (at + n) image)).
-      get_or-drop (at + n) image i 0 ∙ torn.outside (at + n + i) (omega (arith, h, length-drop (at + n) image, size)) (inr (omega arith)) ∙ sym (get_or-drop (at + n) old i 0))
+    get_or-drop (at + n) image i 0 ∙ torn.outside (at + n + i) (omega (arith, h, length-drop (at + n) image, size)) (inr (omega arith)) ∙ sym (get_or-drop (at + n) old i 0))
 
 -- bytes at a place within them
 pub split_at_place : (bytes : List ℕ) (k : ℕ) → k < length bytes → bytes ≡ take k bytes ++ (slice_index bytes k ∷ drop (k + 1) bytes)

@@ -9,3 +9,6 @@ mod reading;
 
 pub use fault::LogFault;
 pub use log::{Log, Records};
+
+#[cfg(test)]
+mod tests;

@@ -60,12 +60,14 @@ impl Log {
         let bytes = read_disk(alloc, parts, disk)?;
         match parse(alloc, &bytes)? {
             None => Ok(None),
-            Some(Parsed {
-                sequence,
-                head,
-                bodies,
-                end,
-            }) => {
+            Some(
+                Parsed {
+                    sequence,
+                    head,
+                    bodies,
+                    end,
+                },
+            ) => {
                 let log = Log {
                     alloc,
                     disk,
