@@ -1,0 +1,11 @@
+pub mod FusedCalls
+pub mod FileCalls
+pub mod Writes
+pub mod Newest
+pub mod Torn
+pub mod TornCalls
+pub mod ImageLaws
+pub mod Moments
+pub mod MemCalls
+pub mod MemLifts
+pub mod Runs

@@ -1,0 +1,16 @@
+pub mod Disks
+pub mod Calls
+pub mod Ticks
+pub mod Fuse
+pub mod Fused
+pub mod Counts
+pub mod Files
+pub mod Images
+pub mod Change
+pub mod Record
+pub mod Kept
+pub mod Write
+pub mod Mem
+pub mod MemParts
+pub mod MemLaws
+pub mod SystemTime

@@ -1,0 +1,156 @@
+ghost use Rattle.std.specs.Prelude.{◌≡◌, ◌+◌, ◌^◌, ◌<◌, ◌≤◌, ℕ, List, length, max, is_err, IsErrOf};
+ghost use Rattle.disk_trait.specs.Disks.{WhereTold, SameDisks};
+ghost use Rattle.disk_trait.specs.Calls.{Reads, Writes, Syncs, TellsLength, Restarts};
+ghost use Rattle.disk_trait.specs.Counts.{counted};
+ghost use Rattle.disk_trait.specs.Files.{counts_of, clock_of, no_counts, file_disks};
+
+use crate::clock::Clock;
+use crate::counts::Counts;
+use crate::parts::{Outage, Parts, ends_too_far};
+use std::fs::{File, OpenOptions};
+use std::os::unix::fs::FileExt;
+use std::rt::Files;
+
+/// Parts over three files, which tell contracts nothing but their counts. They never want memory.
+///
+/// Where a file couldn't be opened, each call on that disk is `Failed`.
+#[derive(Drop)]
+pub struct FileParts<C> {
+    log0: Option<File>,
+    log1: Option<File>,
+    pages: Option<File>,
+    counts: Counts,
+    clock: C,
+}
+
+impl<C> FileParts<C> {
+    /// Opens each file for reading and writing, and makes it where it is absent.
+    pub fn open<R: Files<File = File>>(
+        rt: &R,
+        log0: &str,
+        log1: &str,
+        pages: &str,
+        clock: C,
+    ) -> FileParts<C>
+        ensures counts { counts_of result ≡ no_counts }
+        ensures clock { clock_of result ≡ clock }
+    {
+        FileParts {
+            log0: open_file(rt, log0),
+            log1: open_file(rt, log1),
+            pages: open_file(rt, pages),
+            counts: Counts::new(),
+            clock,
+        }
+    }
+
+    fn file(&self, disk: u8) -> Option<&File> {
+        match disk {
+            0 => self.log0.as_ref(),
+            1 => self.log1.as_ref(),
+            _ => self.pages.as_ref(),
+        }
+    }
+}
+
+fn open_file<R: Files<File = File>>(rt: &R, path: &str) -> Option<File> {
+    let mut options = OpenOptions::new();
+    options.read(true);
+    options.write(true);
+    options.create(true);
+    options.open(rt, path).ok()
+}
+
+fn read(file: Option<&File>, at: u64, into: &mut [u8]) -> Option<()> {
+    file?.read_exact_at(into, at).ok()
+}
+
+fn write(file: Option<&File>, at: u64, bytes: &[u8]) -> Option<()>
+    ensures { 2 ^ 40 < at + length bytes.now → result ≡ None }
+{
+    if ends_too_far(at, bytes.len()) {
+        return None;
+    }
+    file?.write_all_at(bytes, at).ok()
+}
+
+fn sync(file: Option<&File>) -> Option<()> {
+    file?.sync_all().ok()
+}
+
+fn file_len(file: Option<&File>) -> Option<u64> {
+    Some(file?.metadata().ok()?.len())
+}
+
+impl<C: Clock> Parts for FileParts<C> {
+    ghost disks = { file_disks C.greatest };
+
+    ghost asked = { λ files now then. C.gives files.clock now then.clock };
+
+    #[tactic(auto, using(crate::proofs::FileCalls::untold_read))]
+    fn read_at(&mut self, disk: u8, at: u64, into: &mut [u8]) -> Result<(), Outage>
+        requires disk_is_there { disk < 3 }
+        requires within { WhereTold (file_disks C.greatest self.old) disk (λ bytes. at + length into.old ≤ length bytes) }
+        ensures call { Reads (file_disks C.greatest self.old) (file_disks C.greatest self.new) disk at into.old into.new result }
+        ensures counts { counts_of self.new ≡ counted (counts_of self.old) disk (is_err result) }
+        ensures no_memory { IsErrOf result Outage.NoMemory → ⊥ }
+    {
+        let answer = read(self.file(disk), at, into);
+        self.counts.after(disk, answer)
+    }
+
+    fn write_at(&mut self, disk: u8, at: u64, bytes: &[u8]) -> Result<(), Outage>
+        requires { disk < 3 }
+        ensures call { Writes (file_disks C.greatest self.old) (file_disks C.greatest self.new) disk at bytes.now result }
+        ensures counts { counts_of self.new ≡ counted (counts_of self.old) disk (is_err result) }
+        ensures no_memory { IsErrOf result Outage.NoMemory → ⊥ }
+    {
+        let answer = write(self.file(disk), at, bytes);
+        self.counts.after(disk, answer)
+    }
+
+    #[tactic(auto, using(crate::proofs::FileCalls::untold_sync))]
+    fn sync(&mut self, disk: u8) -> Result<(), Outage>
+        requires { disk < 3 }
+        ensures call { Syncs (file_disks C.greatest self.old) (file_disks C.greatest self.new) disk result }
+        ensures counts { counts_of self.new ≡ counted (counts_of self.old) disk (is_err result) }
+        ensures no_memory { IsErrOf result Outage.NoMemory → ⊥ }
+    {
+        let answer = sync(self.file(disk));
+        self.counts.after(disk, answer)
+    }
+
+    #[tactic(auto, using(crate::proofs::FileCalls::untold_len))]
+    fn len(&mut self, disk: u8) -> Result<u64, Outage>
+        requires { disk < 3 }
+        ensures call { TellsLength (file_disks C.greatest self.old) (file_disks C.greatest self.new) disk result }
+        ensures counts { counts_of self.new ≡ counted (counts_of self.old) disk (is_err result) }
+        ensures no_memory { IsErrOf result Outage.NoMemory → ⊥ }
+    {
+        let answer = file_len(self.file(disk));
+        self.counts.after(disk, answer)
+    }
+
+    /// Keeps the open file as it is, and ignores the pick.
+    #[tactic(auto, using(crate::proofs::FileCalls::untold_restart))]
+    fn restart(&mut self, disk: u8, _pick: u64) -> Result<(), Outage>
+        requires { disk < 3 }
+        ensures call { Restarts (file_disks C.greatest self.old) (file_disks C.greatest self.new) disk result }
+        ensures counts { counts_of self.new ≡ counted (counts_of self.old) disk (is_err result) }
+        ensures no_memory { IsErrOf result Outage.NoMemory → ⊥ }
+    {
+        let answer = self.file(disk).map(|_| ());
+        self.counts.after(disk, answer)
+    }
+
+    fn now(&mut self) -> u64
+        ensures disks { SameDisks (file_disks C.greatest self.old) (file_disks C.greatest self.new) }
+        ensures clock { (file_disks C.greatest self.new).clock ≡ max (file_disks C.greatest self.old).clock result }
+        ensures counts { counts_of self.new ≡ counts_of self.old }
+        ensures asked { C.gives (clock_of self.old) result (clock_of self.new) }
+    {
+        self.clock.now()
+    }
+
+    ghost reads = { λ files d bytes told. tt };
+}

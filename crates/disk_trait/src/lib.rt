@@ -1,0 +1,24 @@
+//! A repository's parts: three disks that a crash may tear, and a clock.
+#![tactic(auto)]
+
+mod clock;
+mod counts;
+mod crash;
+mod files;
+mod fuse;
+mod fused;
+mod mem_calls;
+mod mem_disk;
+mod mem_parts;
+mod parts;
+mod record;
+
+pub use clock::{Clock, SystemClock, TickClock};
+pub use files::FileParts;
+pub use fused::Fused;
+pub use mem_parts::MemParts;
+pub use parts::{FARTHEST_END, Outage, Parts};
+pub use record::{Call, Change, Did};
+
+#[cfg(test)]
+mod tests;
