@@ -1,21 +1,19 @@
 -- What one more member, and one less, leave of a queue.
-use Rattle.std.proofs.Common.{◌≡◌, ◌<◌, Bool, List, [], ◌∷◌, ap, arith, cond, false, refl, rules, subst, sym, true, ◌∙◌, ℕ}
-use Rattle.std.proofs.lemmas.Bool.Decides.{nat_tests}
+use Rattle.std.proofs.Common.{◌≡◌, Bool, List, [], ◌∷◌, ap, cond, false, refl, subst, sym, true, ◌∙◌}
 use Rattle.std.proofs.lemmas.Cmp.{tied_itself}
 use Rattle.std.specs.BTreeMap.{is_at}
 use Rattle.std.specs.Map.{lookup}
-use Rattle.std.specs.Option.{IfSome, IsSome, is_none, option_map, option_or}
+use Rattle.std.specs.Option.{IfSome, IsSome, is_some, option_map}
 use Rattle.std.specs.Ordering.{eq_by_cmp, is_eq}
-use Rattle.std.specs.Prelude.{◌&&◌, None, Option, Some, find, nat_le}
+use Rattle.std.specs.Prelude.{None, Option, Some, find}
 use Rattle.std.specs.declared.cmp.Ordering.TheVariants.{Equal, Greater, Less}
 use Rattle.std.specs.declared.cmp.Ordering.{Ordering}
 use Rattle.thor_value.proofs.FiniteMap.{IsSorted-insert, IsSorted-remove, get-insert, get-remove, same_map}
 use Rattle.thor_value.proofs.NameOrders.{ts_exact, ts_total}
-use Rattle.thor_value.specs.FiniteMap.{IsSorted, Map, get, insert, len, remove}
+use Rattle.thor_value.specs.FiniteMap.{IsSorted, Map, get, has, insert, remove}
 use Rattle.thor_value.specs.Names.{ts_cmp}
 use Rattle.thor_value.specs.declared.names.Ts.{Ts}
-use Rattle.validation_queue.specs.Clashes.{clash, comes_earlier, comes_later, first_some, full, too_old}
-use Rattle.validation_queue.specs.Contents.{Contents, Transaction, first_decided, is_full, leaving}
+use Rattle.validation_queue.specs.Contents.{Contents, first_decided, is_full, leaving}
 use Rattle.validation_queue.specs.declared.member.Member.{Member}
 
 -- the two orders of a change at k and one at l, as what stands at a key
@@ -32,19 +30,23 @@ equal Greater h = cc
 one : (t u : Ts) → eq_by_cmp ts_cmp t u ≡ true → t ≡ u
 one t u h = ts_exact t u (equal (ts_cmp t u) h)
 
+none_from : {X : Type 0} (o : Option X) → is_some o ≡ false → o ≡ None
+none_from None h = refl
+none_from (Some x) h = cc
+
 -- one key comes in and another leaves, in either order
-pub remove_insert : (m : Map ts_cmp Member) (k l : Ts) (v : Member) → IsSorted m → get m k ≡ None → IsSome (get m l) → remove (insert m k v) l ≡ insert (remove m l) k v
+pub remove_insert : (m : Map ts_cmp Member) (k l : Ts) (v : Member) → IsSorted m → has m k ≡ false → IsSome (get m l) → remove (insert m k v) l ≡ insert (remove m l) k v
 remove_insert m k l v h new there =
     same_map ts_total ts_exact _ _ (IsSorted-remove ts_cmp (insert m k v) l (IsSorted-insert ts_total m k v h)) (IsSorted-insert ts_total (remove m l) k v (IsSorted-remove ts_cmp m l h))
-      (λ q. get-remove ts_total (insert m k v) l q (IsSorted-insert ts_total m k v h)
-          ∙ ap (cond (eq_by_cmp ts_cmp l q) None) (get-insert ts_total m k v q)
-          ∙ in_turn (eq_by_cmp ts_cmp l q) (eq_by_cmp ts_cmp q k) (Some v) (get m q) (λ a b. apart q (one l q a) (one q k b))
-          ∙ ap (cond (eq_by_cmp ts_cmp q k) (Some v)) (sym (get-remove ts_total m l q h))
-          ∙ sym (get-insert ts_total (remove m l) k v q))
+    (λ q. get-remove ts_total (insert m k v) l q (IsSorted-insert ts_total m k v h)
+    ∙ ap (cond (eq_by_cmp ts_cmp l q) None) (get-insert ts_total m k v q)
+    ∙ in_turn (eq_by_cmp ts_cmp l q) (eq_by_cmp ts_cmp q k) (Some v) (get m q) (λ a b. apart q (one l q a) (one q k b))
+    ∙ ap (cond (eq_by_cmp ts_cmp q k) (Some v)) (sym (get-remove ts_total m l q h))
+    ∙ sym (get-insert ts_total (remove m l) k v q))
   where
     apart : (q : Ts) → l ≡ q → q ≡ k → ⊥
     apart q a b =
-        let e : get m l ≡ None = ap (get m) (a ∙ b) ∙ new in
+        let e : get m l ≡ None = ap (get m) (a ∙ b) ∙ none_from (get m k) new in
         let n : IsSome {T = Member} None = subst (λ (v : Option Member). IsSome v) e there in
         cc
 
@@ -72,21 +74,3 @@ leaving_is_there Q = by (is_full Q)
     by : (b : Bool) → IfSome (cond b (first_decided Q) None) (λ t. IsSome (get Q.members t))
     by true = found (λ e. e.1.decided) Q.members.pairs
     by false = tt
-
-last_none : {X : Type 0} (a b : Option X) → option_or a b ≡ None → b ≡ None
-last_none None b h = h
-last_none (Some x) b h = cc
-
-not_full : {X Y : Type 0} (f : Bool) (d : Option X) (c : Y) → cond (f && is_none d) (Some c) None ≡ None → cond f d None ≡ None → f ≡ false
-not_full false d c h n = refl
-not_full true None c h n = cc
-not_full true (Some x) c h n = cc
-
-below : (n m : ℕ) → nat_le m n ≡ false → n < m
-below n m h = grind (arith, nat_tests)
-
--- where nothing stands against a request and none leaves, there is room
-pub has_room : (Q : Contents) (t : Transaction) → clash Q t ≡ None → leaving Q ≡ None → len Q.members < 1024
-has_room Q t h n =
-    let f : full Q ≡ None = last_none (first_some (comes_later t.tx t.read t.written) Q.members.pairs) _ (last_none (first_some (comes_earlier t.tx t.read) Q.members.pairs) _ (last_none (too_old Q t) _ h)) in
-    below (len Q.members) 1024 (not_full (is_full Q) (first_decided Q) _ f n)

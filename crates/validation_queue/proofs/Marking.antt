@@ -1,5 +1,5 @@
 -- Writing a new value at a key that is there is putting the value at the key.
-use Rattle.std.proofs.Common.{◌≡◌, Bool, List, [], ◌∷◌, ap, cond, false, refl, subst, sym, true, ◌∙◌}
+use Rattle.std.proofs.Common.{◌≡◌, List, [], ◌∷◌, ap, cond, refl, subst, true, ◌∙◌}
 use Rattle.std.specs.BTreeMap.{insert_entry, is_at}
 use Rattle.std.specs.Cmp.{IsTotalOrder}
 use Rattle.std.specs.List.{AllByRecursion}

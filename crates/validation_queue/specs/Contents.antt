@@ -3,13 +3,12 @@
 use Rattle.std.specs.BTreeMap.{BTreeMap}
 use Rattle.std.specs.Map.{keys_of}
 use Rattle.std.specs.Option.{option_map}
-use Rattle.std.specs.Prelude.{Bool, List, None, Option, Some, cond, false, find, nat_le, not, true, ◌≡◌, ℕ}
+use Rattle.std.specs.Prelude.{Bool, List, None, Option, Some, cond, false, find, nat_le, not, true, ℕ}
 use Rattle.thor_value.specs.FiniteMap.{Map, empty, get, insert, len, remove}
 use Rattle.thor_value.specs.Names.{later_of, ts_cmp}
 use Rattle.thor_value.specs.declared.names.Oref.{Oref}
 use Rattle.thor_value.specs.declared.names.Ts.{Ts}
 use Rattle.thor_value.specs.declared.values.Obj.{Obj}
-use Rattle.validation_queue.specs.Names.{Rises, is_among}
 use Rattle.validation_queue.specs.declared.member.Member.{Member}
 
 -- A transaction as a queue sees it: its timestamp, whether it is an upgrade, and the names that it
@@ -23,12 +22,6 @@ pub record Transaction : Type 0 where
 -- the transaction that a request tells
 abbrev pub transaction : Ts → Bool → List Oref → List (Oref × Obj) → Transaction
 transaction tx upgrade ros writes = record { tx = tx; upgrade = upgrade; read = ros; written = keys_of writes }
-
--- What a request says of objects: its names rise, and it read what it wrote.
-pub record IsInOrder (t : Transaction) : Type 0 where
-  pub reads_rise : Rises t.read
-  pub writes_rise : Rises t.written
-  pub within : (x : Oref) → is_among t.written x ≡ true → is_among t.read x ≡ true
 
 -- What a queue holds: some transactions by their timestamps, and a timestamp at or above those of the
 -- committed ones that have left.

@@ -78,13 +78,7 @@ fn earlier(tx: Ts, ros: &[Oref], of: Ts, member: &Member) -> Option<Clash>
 }
 
 /// What stands against a request by a member's being later.
-fn later(
-    tx: Ts,
-    ros: &[Oref],
-    writes: &[(Oref, Obj)],
-    of: Ts,
-    member: &Member,
-) -> Option<Clash>
+fn later(tx: Ts, ros: &[Oref], writes: &[(Oref, Obj)], of: Ts, member: &Member) -> Option<Clash>
     requires { Rises (keys_of writes.now) }
     ensures { result ≡ comes_later tx ros.now (keys_of writes.now) (of, member.now) }
 {
@@ -111,12 +105,7 @@ pub fn first_earlier(members: &Members, tx: Ts, ros: &[Oref]) -> Option<Clash>
 }
 
 /// The clash with the least member that is later.
-pub fn first_later(
-    members: &Members,
-    tx: Ts,
-    ros: &[Oref],
-    writes: &[(Oref, Obj)],
-) -> Option<Clash>
+pub fn first_later(members: &Members, tx: Ts, ros: &[Oref], writes: &[(Oref, Obj)]) -> Option<Clash>
     requires { Rises (keys_of writes.now) }
     ensures { result ≡ first_some (comes_later tx ros.now (keys_of writes.now)) members.now.entries }
 {

@@ -13,5 +13,5 @@ mod tests;
 
 pub use clash::Clash;
 pub use member::Member;
-pub use name_set::NameSet;
+pub use name_set::{NameSet, is_in_order};
 pub use queue::Queue;

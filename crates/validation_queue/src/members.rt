@@ -1,9 +1,9 @@
 //! The members of a queue, and how one more comes in.
 
-ghost use Rattle.std.specs.Prelude.{◌≡◌, ◌+◌, None, IfOk, IfSome, IsSome, OnErr, OnOk, cond, is_some};
+ghost use Rattle.std.specs.Prelude.{◌≡◌, ◌+◌, None, IfOk, IfSome, IsSome, OnErr, OnOk, cond, false, is_some};
 ghost use Rattle.std.specs.BTreeMap.{btree_map_len};
 ghost use Rattle.std.specs.Map.{keys_of};
-ghost use Rattle.thor_value.specs.FiniteMap.{get, insert};
+ghost use Rattle.thor_value.specs.FiniteMap.{get, has, insert};
 ghost use Rattle.validation_queue.specs.Contents.{members_of, omit, raise};
 ghost use Rattle.validation_queue.specs.Names.{Rises};
 
@@ -54,7 +54,7 @@ pub fn replace(
     tx: Ts,
     member: Member,
 ) -> Result<(), NoMemory>
-    requires new { get (members_of members.old) tx ≡ None }
+    requires new { has (members_of members.old) tx ≡ false }
     requires there { IfSome leaving (λ t. IsSome (get (members_of members.old) t)) }
     ensures ok { OnOk result (members_of members.new ≡ insert (omit (members_of members.old) leaving) tx member) }
     ensures err { OnErr result (members_of members.new ≡ members_of members.old) }

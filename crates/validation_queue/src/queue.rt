@@ -1,7 +1,9 @@
 ghost use Rattle.std.specs.Prelude.{◌≡◌, ◌<◌, ◌≤◌, OnOk, OnErr, false, is_none};
-ghost use Rattle.thor_value.specs.FiniteMap.{get, len};
+ghost use Rattle.thor_value.specs.FiniteMap.{has, len};
+ghost use Rattle.validation_queue.specs.Names.{IsInOrder};
+ghost use Rattle.std.specs.Map.{keys_of};
 ghost use Rattle.validation_queue.specs.Clashes.{answer, bar, clash, full};
-ghost use Rattle.validation_queue.specs.Contents.{IsInOrder, cleared, decide, enter, first_blocking, first_undecided, leaving, room_for, transaction, with_one};
+ghost use Rattle.validation_queue.specs.Contents.{cleared, decide, enter, first_blocking, first_undecided, leaving, room_for, transaction, with_one};
 
 use crate::clash::Clash;
 use crate::clashes::{
@@ -56,6 +58,21 @@ impl Queue {
         self.threshold
     }
 
+    /// Whether the transaction is in the queue.
+    pub fn has(&self, tx: Ts) -> bool
+        ensures { result ≡ has self.now.members tx }
+    {
+        self.members.contains_key(&tx)
+    }
+
+    /// How many transactions are in the queue: at most 1,024.
+    pub fn len(&self) -> usize
+        ensures value { result ≡ len self.now.members }
+        ensures within { len self.now.members ≤ room_for }
+    {
+        self.members.len()
+    }
+
     /// The least undecided transaction.
     pub fn undecided(&self) -> Option<Ts>
         ensures { result ≡ first_undecided self.now }
@@ -77,14 +94,8 @@ impl Queue {
     ///
     /// It looks at the transactions in the queue alone, of which there are at most 1,024, and takes no
     /// memory.
-    pub fn validate(
-        &self,
-        tx: Ts,
-        upgrade: bool,
-        ros: &Orefs,
-        writes: &Writes,
-    ) -> Result<(), Clash>
-        requires { IsInOrder (transaction tx upgrade ros.now writes.now) }
+    pub fn validate(&self, tx: Ts, upgrade: bool, ros: &Orefs, writes: &Writes) -> Result<(), Clash>
+        requires { IsInOrder ros.now (keys_of writes.now) }
         ensures { result ≡ answer (clash self.now (transaction tx upgrade ros.now writes.now)) }
     {
         let threshold = self.bar(upgrade);
@@ -115,15 +126,21 @@ impl Queue {
         writes: &Writes,
         decided: bool,
     ) -> Result<(), NoMemory>
-        requires in_order { IsInOrder (transaction tx upgrade ros.now writes.now) }
+        requires in_order { IsInOrder ros.now (keys_of writes.now) }
         requires accepted { clash self.old (transaction tx upgrade ros.now writes.now) ≡ None }
-        requires new { get self.old.members tx ≡ None }
+        requires new { has self.old.members tx ≡ false }
         ensures ok { OnOk result (self.new ≡ enter self.old (transaction tx upgrade ros.now writes.now) decided) }
         ensures err { OnErr result (self.new ≡ self.old) }
         ensures within { len self.new.members ≤ room_for }
     {
         let leaving = self.leaving();
-        let member = member_of(self.alloc, upgrade, ros.as_slice(), writes.as_slice(), decided)?;
+        let member = member_of(
+            self.alloc,
+            upgrade,
+            ros.as_slice(),
+            writes.as_slice(),
+            decided,
+        )?;
         replace(&mut self.members, leaving, tx, member)?;
         self.threshold = raised(self.threshold, leaving);
         Ok(())
@@ -138,13 +155,19 @@ impl Queue {
         ros: &Orefs,
         writes: &Writes,
     ) -> Result<(), NoMemory>
-        requires in_order { IsInOrder (transaction tx upgrade ros.now writes.now) }
-        requires new { get self.old.members tx ≡ None }
+        requires in_order { IsInOrder ros.now (keys_of writes.now) }
+        requires new { has self.old.members tx ≡ false }
         requires room { len self.old.members < room_for }
         ensures ok { OnOk result (self.new ≡ with_one self.old (transaction tx upgrade ros.now writes.now) false) }
         ensures err { OnErr result (self.new ≡ self.old) }
     {
-        let member = member_of(self.alloc, upgrade, ros.as_slice(), writes.as_slice(), false)?;
+        let member = member_of(
+            self.alloc,
+            upgrade,
+            ros.as_slice(),
+            writes.as_slice(),
+            false,
+        )?;
         replace(&mut self.members, None, tx, member)
     }
 

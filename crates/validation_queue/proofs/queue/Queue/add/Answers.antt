@@ -1,4 +1,3 @@
-use Rattle.std.proofs.Common.{rules}
 use Rattle.validation_queue.proofs.Entering.{leaving_is_there}
 use Rattle.validation_queue.specs.Contents.{Contents, members_of}
 use Rattle.validation_queue.proofs.queue.Queue.add.Goals as goal

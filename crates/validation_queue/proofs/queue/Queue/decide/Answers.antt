@@ -1,4 +1,4 @@
-use Rattle.std.proofs.Common.{rules, sym, true}
+use Rattle.std.proofs.Common.{sym, true}
 use Rattle.validation_queue.proofs.Marking.{marked}
 use Rattle.validation_queue.specs.declared.member.Member.{Member}
 use Rattle.validation_queue.proofs.queue.Queue.decide.Goals as goal
