@@ -1,0 +1,4 @@
+mod Entering
+mod Marking
+mod Ordered
+mod Searching

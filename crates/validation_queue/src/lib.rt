@@ -1,0 +1,17 @@
+//! The transactions against which a repository validates a request: the undecided ones, and those
+//! that committed last. The threshold stands for all that committed before.
+#![tactic(auto)]
+
+mod clash;
+mod clashes;
+mod member;
+mod members;
+mod name_set;
+mod queue;
+#[cfg(test)]
+mod tests;
+
+pub use clash::Clash;
+pub use member::Member;
+pub use name_set::{NameSet, is_in_order};
+pub use queue::Queue;
