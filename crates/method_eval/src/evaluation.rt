@@ -13,7 +13,7 @@ use class_defs::{Block, Flow, Machine, Object, Schema, Stop};
 use std::alloc::Global;
 use thor_value::{Answer, Ints, NoMemory, Obj, Oref, OrefMap, Orefs, Sequence, TryCopy, Writes};
 
-fn begun(alloc: Global, view: &View) -> Result<Machine, NoMemory>
+pub(crate) fn begun(alloc: Global, view: &View) -> Result<Machine, NoMemory>
     ensures { IfOk result (λ machine. machine ≡ begun view.now.names.waiting view.now.names.stand_in) }
 {
     Ok(Machine {
@@ -31,7 +31,11 @@ fn begun(alloc: Global, view: &View) -> Result<Machine, NoMemory>
 
 /// A transaction's statements, from a state on.
 #[tactic(auto, unfolding(class_defs::specs::Run::execute_all))]
-fn execute_all(world: &World<'_>, machine: &mut Machine, tx: &Block) -> Result<Flow, Halt>
+pub(crate) fn execute_all(
+    world: &World<'_>,
+    machine: &mut Machine,
+    tx: &Block,
+) -> Result<Flow, Halt>
     ensures { Does result machine.new (execute_all (reading world.now) tx.now machine.old) }
 {
     block(world, 100_001, machine, tx)
