@@ -2,6 +2,7 @@ pub mod Calls
 pub mod ExpressionRules
 pub mod Expressions
 pub mod Objects
+pub mod RuleRows
 pub mod Rules
 pub mod Run
 pub mod SchemaRules

@@ -7,6 +7,7 @@ mod expressions;
 mod limits;
 mod look;
 mod machine;
+mod rule_rows;
 mod rules;
 mod statements;
 mod store;
