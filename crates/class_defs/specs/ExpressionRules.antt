@@ -11,8 +11,8 @@ use Rattle.class_defs.specs.declared.expressions.Expr.TheOpen.{Expr-F}
 use Rattle.class_defs.specs.declared.expressions.Name.{Name}
 use Rattle.class_defs.specs.declared.expressions.Operator.{Operator}
 use Rattle.class_defs.specs.declared.expressions.Operator.TheVariants.{Add, Subtract, Multiply, Equal, Unequal, Less}
-use Rattle.class_defs.specs.declared.rules.Place.{Place}
-use Rattle.class_defs.specs.declared.rules.Place.TheVariants.{Receiver, BesideNull, IntoOwnedField, Value}
+use Rattle.class_defs.specs.declared.rules.Position.{Position}
+use Rattle.class_defs.specs.declared.rules.Position.TheVariants.{Receiver, BesideNull, IntoOwnedField, Value}
 use Rattle.class_defs.specs.declared.rules.Rule.TheVariants.{T2, T3, T4, T6, T7, T8}
 use Rattle.class_defs.specs.declared.rules.TypeFault.{TypeFault}
 use Rattle.class_defs.specs.declared.types.ExprType.{ExprType}
@@ -26,7 +26,7 @@ pub record Judged : Type 0 where
   -- whether it is the word `null`
   pub null : Bool
   -- the rules that it breaks where it stands
-  pub broken : Place → List TypeFault
+  pub broken : Position → List TypeFault
 
 -- the line of an expression's own token
 abbrev pub line_at : {A : Type 0} → Expr-F A → ℕ
@@ -73,21 +73,21 @@ kinds_at (Expr-F.Call receiver method arguments) = Expr-F.Call receiver.kind met
 -- ---- parts stay with their owner
 
 -- where a part may name itself: as the receiver of a call
-abbrev pub may_be_this : Place → Bool
+abbrev pub may_be_this : Position → Bool
 may_be_this Receiver = true
 may_be_this BesideNull = false
 may_be_this IntoOwnedField = false
 may_be_this Value = false
 
 -- where an owned field may be read: as the receiver of a call and beside null
-abbrev pub may_be_read : Place → Bool
+abbrev pub may_be_read : Position → Bool
 may_be_read Receiver = true
 may_be_read BesideNull = true
 may_be_read IntoOwnedField = false
 may_be_read Value = false
 
 -- where a part may be made: right of the assignment to an owned field
-abbrev pub may_be_made : Place → Bool
+abbrev pub may_be_made : Position → Bool
 may_be_made Receiver = false
 may_be_made BesideNull = false
 may_be_made IntoOwnedField = true
@@ -96,12 +96,12 @@ may_be_made Value = false
 -- ---- one node
 
 -- T7: `this` of a part isn't handed on. (T2: in an item there is none; the text of an item can't say it.)
-abbrev pub this_rules : Sight → ℕ → Place → List TypeFault
+abbrev pub this_rules : Sight → ℕ → Position → List TypeFault
 this_rules s line place =
     must (is_some s.this) T2 line ++ must (may_be_this place || not (is_part s.schema.classes (class_or_untold s.this))) T7 line
 
 -- T2 and T6: the class has the field, and an owned one isn't handed on
-abbrev pub field_rules : Sight → Name → Place → List TypeFault
+abbrev pub field_rules : Sight → Name → Position → List TypeFault
 field_rules s name place =
     must (is_some (option_and_then (λ c. field_of s.schema.classes c name.text) s.this)) T2 name.line
     ++ must (may_be_read place || not (is_part s.schema.classes (field_type (scope_of s) name.text))) T6 name.line
@@ -112,7 +112,7 @@ at_rules s None = []
 at_rules s (Some at) = must (is_none s.this) T8 at.line ++ must (nat_lt at.number s.repos) T8 at.number_line
 
 -- T2 and T8 of `new`
-abbrev pub new_rules : Sight → Name → Option At → Place → List TypeFault
+abbrev pub new_rules : Sight → Name → Option At → Position → List TypeFault
 new_rules s class at place =
     is_class s.schema.classes class
     ++ must (may_be_made place || not (is_part s.schema.classes (class_or_untold (class_named s.schema.classes class.text)))) T8 class.line
@@ -148,7 +148,7 @@ abbrev pub negate_rules : Judged → ℕ → List TypeFault
 negate_rules operand line = operand.broken Value ++ must (is_number operand.kind) T3 line
 
 -- the place beside an operator, with null on the other side or not
-abbrev pub beside : Operator → Bool → Place
+abbrev pub beside : Operator → Bool → Position
 beside Equal true = BesideNull
 beside Unequal true = BesideNull
 beside Equal false = Value
@@ -211,7 +211,7 @@ call_rules s receiver name arguments =
 -- ---- any expression
 
 -- The rules that an expression breaks: those that its parts break where they stand, and its own.
-abbrev pub broken_at : Sight → Expr-F Judged → Place → List TypeFault
+abbrev pub broken_at : Sight → Expr-F Judged → Position → List TypeFault
 broken_at s (Expr-F.Int value line) place = []
 broken_at s (Expr-F.Null line) place = []
 broken_at s (Expr-F.This line) place = this_rules s line place

@@ -10,8 +10,8 @@ use Rattle.class_defs.specs.declared.expressions.Expr.TheOpen.{Expr-F}
 use Rattle.class_defs.specs.declared.expressions.Name.{Name}
 use Rattle.class_defs.specs.declared.expressions.TypeName.{TypeName}
 use Rattle.class_defs.specs.declared.rules.NamedType.{NamedType}
-use Rattle.class_defs.specs.declared.rules.Place.{Place}
-use Rattle.class_defs.specs.declared.rules.Place.TheVariants.{IntoOwnedField, Value}
+use Rattle.class_defs.specs.declared.rules.Position.{Position}
+use Rattle.class_defs.specs.declared.rules.Position.TheVariants.{IntoOwnedField, Value}
 use Rattle.class_defs.specs.declared.rules.Rule.TheVariants.{T2, T3, T6}
 use Rattle.class_defs.specs.declared.rules.TypeFault.{TypeFault}
 use Rattle.class_defs.specs.declared.statements.Stmt.{Stmt, fold-Stmt}
@@ -74,7 +74,7 @@ gives_part classes kind (Expr-F.Binary operator left right line) = false
 gives_part classes kind (Expr-F.Call receiver method arguments) = false
 
 -- the right side of an assignment to a field
-abbrev pub place_for : Bool → Place
+abbrev pub place_for : Bool → Position
 place_for true = IntoOwnedField
 place_for false = Value
 

@@ -34,7 +34,7 @@ pub struct TypeFault {
 
 /// Where an expression stands, as far as the rules on parts tell places apart.
 #[derive(Clone, Copy, Debug, PartialEq, Eq)]
-pub enum Place {
+pub enum Position {
     /// As the receiver of a call.
     Receiver,
     /// On one side of `==` or `!=`, with the word `null` on the other.

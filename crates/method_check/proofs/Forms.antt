@@ -8,7 +8,7 @@ use Rattle.class_defs.specs.declared.expressions.Expr.TheVariants.{Negate, Binar
 use Rattle.class_defs.specs.declared.expressions.Expr.TheFolds.{fold_out-Expr, fold-roll-Expr}
 use Rattle.class_defs.specs.declared.expressions.Expr.TheOpen.{Expr-F}
 use Rattle.class_defs.specs.declared.expressions.Operator.{Operator}
-use Rattle.class_defs.specs.declared.rules.Place.{Place}
+use Rattle.class_defs.specs.declared.rules.Position.{Position}
 
 line_mapped : (f : Expr → Judged) (x : Expr-F Expr) → line_at (map-Expr Expr Judged f x) ≡ line_at x
 line_mapped f (Expr-F.Int value line) = refl
@@ -44,14 +44,14 @@ line_judged s e = ap (λ j. j.line) (judged_out s e) ∙ line_mapped (judged s) 
 pub null_judged : (s : Sight) (e : Expr) → (judged s e).null ≡ null_at (out-Expr e)
 null_judged s e = ap (λ j. j.null) (judged_out s e) ∙ null_mapped (judged s) (out-Expr e)
 
-pub judged_negate : (s : Sight) (e : Expr) (line : ℕ) (place : Place) → (judged s (Negate e line)).broken place ≡ negate_rules (judged s e) line
+pub judged_negate : (s : Sight) (e : Expr) (line : ℕ) (place : Position) → (judged s (Negate e line)).broken place ≡ negate_rules (judged s e) line
 unfolding judged
 judged_negate s e line place = ap (λ j. j.broken place) (ap (judged s) (sym (rolls-Negate e line)) ∙ fold-roll-Expr Judged (judge_step s) (Expr-F.Negate e line))
 
-pub judged_binary : (s : Sight) (o : Operator) (a b : Expr) (line : ℕ) (place : Place) → (judged s (Binary o a b line)).broken place ≡ binary_rules s o (judged s a) (judged s b) line
+pub judged_binary : (s : Sight) (o : Operator) (a b : Expr) (line : ℕ) (place : Position) → (judged s (Binary o a b line)).broken place ≡ binary_rules s o (judged s a) (judged s b) line
 unfolding judged
 judged_binary s o a b line place = ap (λ j. j.broken place) (ap (judged s) (sym (rolls-Binary o a b line)) ∙ fold-roll-Expr Judged (judge_step s) (Expr-F.Binary o a b line))
 
-pub judged_call : (s : Sight) (r : Expr) (m : Name) (more : List Expr) (place : Place) → (judged s (Call r m more)).broken place ≡ call_rules s (judged s r) m (map (judged s) more)
+pub judged_call : (s : Sight) (r : Expr) (m : Name) (more : List Expr) (place : Position) → (judged s (Call r m more)).broken place ≡ call_rules s (judged s r) m (map (judged s) more)
 unfolding judged
 judged_call s r m more place = ap (λ j. j.broken place) (ap (judged s) (sym (rolls-Call r m more)) ∙ fold-roll-Expr Judged (judge_step s) (Expr-F.Call r m more))

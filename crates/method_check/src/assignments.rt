@@ -16,7 +16,7 @@ use crate::kinds::{
 use crate::least::must;
 use crate::nodes::{is_class, line_of};
 use class_defs::{
-    Classes, Expr, ExprType, Name, NamedType, NamedTypes, Place, RootDeclaration, Rule, TypeFault,
+    Classes, Expr, ExprType, Name, NamedType, NamedTypes, Position, RootDeclaration, Rule, TypeFault,
     TypeName,
 };
 use thor_value::{NoMemory, TryCopy};
@@ -32,7 +32,7 @@ pub fn must_fit(
 )
     ensures { found.new ≡ least_with found.old (spec.must_fit (sight body.now locals.now) declared value.now) }
 {
-    let kind = judge(body, locals, value, Place::Value, found);
+    let kind = judge(body, locals, value, Position::Value, found);
     must(fits(declared, kind), Rule::T3, line_of(value), found);
 }
 
@@ -46,7 +46,7 @@ pub fn must_be_number(
 )
     ensures { found.new ≡ least_with found.old (spec.must_be_number (sight body.now locals.now) value.now) }
 {
-    let kind = judge(body, locals, value, Place::Value, found);
+    let kind = judge(body, locals, value, Position::Value, found);
     must(is_number(kind), Rule::T3, line_of(value), found);
 }
 
@@ -85,7 +85,7 @@ pub fn var_rules(
     ensures { found.new ≡ least_with found.old (spec.var_rules (sight body.now locals.now) type_name.now line value.now) }
 {
     is_free_type(&body.schema.classes, type_name, found);
-    let kind = judge(body, locals, value, Place::Value, found);
+    let kind = judge(body, locals, value, Position::Value, found);
     let declared = type_named(&body.schema.classes, type_name);
     must(fits(declared, kind), Rule::T3, line, found);
 }
@@ -120,7 +120,7 @@ pub fn assign_rules(
 )
     ensures { found.new ≡ least_with found.old (spec.assign_rules (sight body.now locals.now) name.now line value.now) }
 {
-    let kind = judge(body, locals, value, Place::Value, found);
+    let kind = judge(body, locals, value, Position::Value, found);
     let local = local_named(locals, name);
     let root = root_named(body, locals, name);
     assigned_fits(local, root, name, kind, line, found);
@@ -139,13 +139,13 @@ fn gives_part(classes: &Classes, kind: ExprType, value: &Expr) -> bool
 }
 
 /// The place right of an assignment to a field.
-fn place_for(owned: bool) -> Place
+fn place_for(owned: bool) -> Position
     ensures { result ≡ spec.place_for owned }
 {
     if owned {
-        Place::IntoOwnedField
+        Position::IntoOwnedField
     } else {
-        Place::Value
+        Position::Value
     }
 }
 

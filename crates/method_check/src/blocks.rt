@@ -8,7 +8,7 @@ use crate::assignments::{
 };
 use crate::body::Body;
 use crate::judge::judge;
-use class_defs::{Block, NamedTypes, Place, Stmt, TypeFault};
+use class_defs::{Block, NamedTypes, Position, Stmt, TypeFault};
 use thor_value::NoMemory;
 
 /// Finds the rules that a statement breaks, and puts the local that it declares in sight.
@@ -62,7 +62,7 @@ fn statement(
         }
         Stmt::Print { value } => must_be_number(body, locals, value, found),
         Stmt::Evaluate { value } => {
-            judge(body, locals, value, Place::Value, found);
+            judge(body, locals, value, Position::Value, found);
         }
     }
     Ok(())

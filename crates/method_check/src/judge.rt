@@ -11,7 +11,7 @@ use crate::nodes::{
     argument_fits, behind_first, beside, called_rules, field_rules, line_of, name_rules, new_rules,
     parameters_of, result_type, this_rules,
 };
-use class_defs::{Expr, ExprType, Exprs, NamedTypes, Parameter, Place, Rule, TypeFault};
+use class_defs::{Expr, ExprType, Exprs, NamedTypes, Parameter, Position, Rule, TypeFault};
 
 /// Finds the rules that an expression breaks where it stands, and gives its type.
 #[cycle(judge)]
@@ -20,7 +20,7 @@ pub fn judge(
     body: &Body<'_>,
     locals: &NamedTypes,
     expr: &Expr,
-    place: Place,
+    place: Position,
     found: &mut Option<TypeFault>,
 ) -> ExprType
     ensures kind { result ≡ (judged (sight body.now locals.now) expr.now).kind }
@@ -33,9 +33,9 @@ pub fn judge(
         Expr::Field { name } => field_rules(body, locals, name, place, found),
         Expr::Variable { name } => name_rules(body, locals, name, found),
         Expr::New { class, at } => new_rules(body, locals, class, *at, place, found),
-        Expr::Parens { inner, line: _ } => judge(body, locals, inner.get(), Place::Value, found),
+        Expr::Parens { inner, line: _ } => judge(body, locals, inner.get(), Position::Value, found),
         Expr::Negate { operand, line } => {
-            let kind = judge(body, locals, operand.get(), Place::Value, found);
+            let kind = judge(body, locals, operand.get(), Position::Value, found);
             must(is_number(kind), Rule::T3, *line, found);
             ExprType::Int
         }
@@ -58,7 +58,7 @@ pub fn judge(
             method: name,
             arguments,
         } => {
-            let kind = judge(body, locals, receiver.get(), Place::Receiver, found);
+            let kind = judge(body, locals, receiver.get(), Position::Receiver, found);
             let method = method_called(&body.schema.classes, kind, name);
             called_rules(kind, method, name, arguments.len(), found);
             judge_arguments(body, locals, parameters_of(method), arguments, found);
@@ -98,7 +98,7 @@ fn judge_argument(
 )
     ensures { found.new ≡ least_with found.old (argument_rules body.now.schema.now.classes (option_copied parameter.entry) (judged (sight body.now locals.now) argument.now)) }
 {
-    let given = judge(body, locals, argument, Place::Value, found);
+    let given = judge(body, locals, argument, Position::Value, found);
     argument_fits(
         &body.schema.classes,
         parameter,

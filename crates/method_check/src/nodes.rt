@@ -16,7 +16,7 @@ use crate::kinds::{
 };
 use crate::least::must;
 use class_defs::{
-    At, Classes, Expr, ExprType, Method, Name, NamedTypes, Operator, Parameter, Place, Rule,
+    At, Classes, Expr, ExprType, Method, Name, NamedTypes, Operator, Parameter, Position, Rule,
     TypeFault, class_named,
 };
 
@@ -57,46 +57,46 @@ fn is_null(expr: &Expr) -> bool
     }
 }
 
-fn may_be_this(place: Place) -> bool
+fn may_be_this(place: Position) -> bool
     ensures { result ≡ spec.may_be_this place }
 {
     match place {
-        Place::Receiver => true,
-        Place::BesideNull | Place::IntoOwnedField | Place::Value => false,
+        Position::Receiver => true,
+        Position::BesideNull | Position::IntoOwnedField | Position::Value => false,
     }
 }
 
-fn may_be_read(place: Place) -> bool
+fn may_be_read(place: Position) -> bool
     ensures { result ≡ spec.may_be_read place }
 {
     match place {
-        Place::Receiver | Place::BesideNull => true,
-        Place::IntoOwnedField | Place::Value => false,
+        Position::Receiver | Position::BesideNull => true,
+        Position::IntoOwnedField | Position::Value => false,
     }
 }
 
-fn may_be_made(place: Place) -> bool
+fn may_be_made(place: Position) -> bool
     ensures { result ≡ spec.may_be_made place }
 {
     match place {
-        Place::IntoOwnedField => true,
-        Place::Receiver | Place::BesideNull | Place::Value => false,
+        Position::IntoOwnedField => true,
+        Position::Receiver | Position::BesideNull | Position::Value => false,
     }
 }
 
 /// The place beside an operator, with another expression on the other side.
-pub fn beside(operator: Operator, other: &Expr) -> Place
+pub fn beside(operator: Operator, other: &Expr) -> Position
     ensures { result ≡ spec.beside operator (null_at (out-Expr other.now)) }
 {
     match operator {
         Operator::Equal | Operator::Unequal => {
             if is_null(other) {
-                Place::BesideNull
+                Position::BesideNull
             } else {
-                Place::Value
+                Position::Value
             }
         }
-        Operator::Add | Operator::Subtract | Operator::Multiply | Operator::Less => Place::Value,
+        Operator::Add | Operator::Subtract | Operator::Multiply | Operator::Less => Position::Value,
     }
 }
 
@@ -116,7 +116,7 @@ pub fn this_rules(
     body: &Body<'_>,
     locals: &NamedTypes,
     line: u32,
-    place: Place,
+    place: Position,
     found: &mut Option<TypeFault>,
 ) -> ExprType
     ensures kind { result ≡ class_or_untold body.now.this }
@@ -138,7 +138,7 @@ pub fn field_rules(
     body: &Body<'_>,
     locals: &NamedTypes,
     name: &Name,
-    place: Place,
+    place: Position,
     found: &mut Option<TypeFault>,
 ) -> ExprType
     ensures kind { result ≡ types.field_type (rules.scope_of (sight body.now locals.now)) name.now.text }
@@ -189,7 +189,7 @@ pub fn new_rules(
     locals: &NamedTypes,
     class: &Name,
     at: Option<At>,
-    place: Place,
+    place: Position,
     found: &mut Option<TypeFault>,
 ) -> ExprType
     ensures kind { result ≡ class_or_untold (types.class_named body.now.schema.now.classes class.now.text) }
