@@ -3,5 +3,6 @@ pub mod AlikeCalls
 pub mod AlikeObjects
 pub mod AlikeRun
 pub mod AlikeSteps
+pub mod RuleForms
 pub mod RunOutcomes
 pub mod TouchedStores

@@ -9,6 +9,7 @@ mod limits;
 mod look;
 mod machine;
 mod places;
+mod rule_rows;
 mod rules;
 mod run_laws;
 mod statements;

@@ -17,3 +17,10 @@ mod nodes;
 
 pub use checking::{check, check_item};
 pub use error::CheckError;
+
+#[cfg(test)]
+mod body_tests;
+#[cfg(test)]
+mod building;
+#[cfg(test)]
+mod item_tests;
