@@ -12,3 +12,4 @@ pub mod Ends
 pub mod Eats
 pub mod Heads
 pub mod ListOnly
+pub mod ExpressionOnly
