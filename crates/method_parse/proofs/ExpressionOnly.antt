@@ -80,16 +80,16 @@ abbrev NoDot : Expr-F Expr → List Token → Type 0
 NoDot (Expr-F.This l) rest = next (is (codes ".")) rest ≡ false
 NoDot _ rest = Unit {0}
 
-deep_is : (place : Place) (x : Expr) (d : ℕ) → (shape place x).depth ≡ d → record { expr = x; depth = d } ≡ deep place x
+pub deep_is : (place : Place) (x : Expr) (d : ℕ) → (shape place x).depth ≡ d → record { expr = x; depth = d } ≡ deep place x
 deep_is place x d same = ap (λ (n : ℕ). record { expr = x; depth = n }) (sym same)
 
-abbrev got : Deep → List Token → Result (Deep × List Token) ℕ
+abbrev pub got : Deep → List Token → Result (Deep × List Token) ℕ
 got d rest = Ok (d, rest)
 
-read_is : (place : Place) (x : Expr) (d : ℕ) (rest : List Token) → (shape place x).depth ≡ d → got (record { expr = x; depth = d }) rest ≡ got (deep place x) rest
+pub read_is : (place : Place) (x : Expr) (d : ℕ) (rest : List Token) → (shape place x).depth ≡ d → got (record { expr = x; depth = d }) rest ≡ got (deep place x) rest
 read_is place x d rest same = ap (λ (y : Deep). got y rest) (deep_is place x d same)
 
-depth_is : {s t : Shape} → s ≡ t → s.depth ≡ t.depth
+pub depth_is : {s t : Shape} → s ≡ t → s.depth ≡ t.depth
 depth_is h = ap (λ (x : Shape). x.depth) h
 
 module _ (place : Place) (room : Room) (below : ℕ) (deeper : room.depth ≡ below + 1) (inner : Reader Deep) (parts : Parts)

@@ -13,3 +13,4 @@ pub mod Eats
 pub mod Heads
 pub mod ListOnly
 pub mod ExpressionOnly
+pub mod OperatorOnly
