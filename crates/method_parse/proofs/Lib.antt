@@ -14,3 +14,4 @@ pub mod Heads
 pub mod ListOnly
 pub mod ExpressionOnly
 pub mod OperatorOnly
+pub mod StatementOnly
