@@ -15,3 +15,4 @@ pub mod ListOnly
 pub mod ExpressionOnly
 pub mod OperatorOnly
 pub mod StatementOnly
+pub mod SetupOnly
