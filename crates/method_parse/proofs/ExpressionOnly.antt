@@ -43,9 +43,9 @@ at_reads None ts rest h none = rw (nothing ts h, none) refl
 at_reads (Some a) [] rest h none = absurd h
 at_reads (Some a) (t ∷ ts) rest h none =
     rw (fixed_is (codes "at") t h.0.0 h.0.1)
-      (line_then rest (Ok (Some a, rest)) (codes "at") a.line (Numbered (pos a.number) a.number_line ∷ []) (t ∷ ts) (λ line. number >>= λ n. give (Some (record { line = line; number = n.0; number_line = n.1 }))) h
-        (λ us k. number_then rest (Ok (Some a, rest)) a.number a.number_line [] us (λ n. give (Some (record { line = a.line; number = n.0; number_line = n.1 }))) k
-          (λ vs m. rw (nothing vs m) refl)))
+    (line_then rest (Ok (Some a, rest)) (codes "at") a.line (Numbered (pos a.number) a.number_line ∷ []) (t ∷ ts) (λ line. number >>= λ n. give (Some (record { line = line; number = n.0; number_line = n.1 }))) h
+    (λ us k. number_then rest (Ok (Some a, rest)) a.number a.number_line [] us (λ n. give (Some (record { line = a.line; number = n.0; number_line = n.1 }))) k
+    (λ vs m. rw (nothing vs m) refl)))
 
 -- a reader of a keyword or symbol, for a token that is one
 fixed_starts : (place : Place) (room : Room) (k : TokenKind) (text known : List ℕ) → is_fixed_kind k ≡ true → text ≡ known → start_by place room k text ≡ fixed_start place room known
@@ -114,14 +114,14 @@ module _ (place : Place) (room : Room) (below : ℕ) (deeper : room.depth ≡ be
   unfolding primary_by
   natural_reads n l ts rest k =
       by_start starts.Number (ts ++ rest) _ (starts_at place room ts rest _ [] starts.Number k (λ t w. number_starts place room t.kind t.text (pos n) w.0))
-        (number_then rest _ n l [] ts (λ m. give (leaf (e.Int (pos m.0) m.1))) k
-          (λ us m. ap (λ (u : List Token). got (leaf (e.Int (pos n) l)) (u ++ rest)) (nothing us m) ∙ read_is place (e.Int (pos n) l) 1 rest (depth_is (eq.shape-Int place (pos n) l))))
+      (number_then rest _ n l [] ts (λ m. give (leaf (e.Int (pos m.0) m.1))) k
+      (λ us m. ap (λ (u : List Token). got (leaf (e.Int (pos n) l)) (u ++ rest)) (nothing us m) ∙ read_is place (e.Int (pos n) l) 1 rest (depth_is (eq.shape-Int place (pos n) l))))
 
   int_by : (v : ℤ) (l : ℕ) (o : Option ℕ) (ts rest : List Token) → option_map pos o ≡ Some v → AreWords ts (Numbered v l ∷ []) → primary_here (ts ++ rest) ≡ got (deep place (e.Int v l)) rest
   int_by v l (Some n) ts rest is k =
       let same : pos n ≡ v = cc in
       subst (λ (w : ℤ). primary_here (ts ++ rest) ≡ got (deep place (e.Int w l)) rest) same
-        (natural_reads n l ts rest (subst (λ (w : ℤ). AreWords ts (Numbered w l ∷ [])) (sym same) k))
+      (natural_reads n l ts rest (subst (λ (w : ℤ). AreWords ts (Numbered w l ∷ [])) (sym same) k))
   int_by v l None ts rest is k = absurd cc
 
   int_reads : (v : ℤ) (l : ℕ) → Primary (Expr-F.Int v l) (e.Int v l)
@@ -135,16 +135,16 @@ module _ (place : Place) (room : Room) (below : ℕ) (deeper : room.depth ≡ be
   null_reads l ts rest h fit calm dot =
       let k : AreWords ts (FixedAt (codes "null") l ∷ []) = subst (λ (w : List Word). AreWords ts w) (eq.words-Null l) h in
       by_start starts.Null (ts ++ rest) _ (starts_at place room ts rest _ [] starts.Null k (λ t w. fixed_starts place room t.kind t.text (codes "null") w.0 w.1))
-        (line_then rest _ (codes "null") l [] ts (λ line. give (leaf (e.Null line))) k
-          (λ us m. ap (λ (u : List Token). got (leaf (e.Null l)) (u ++ rest)) (nothing us m) ∙ read_is place (e.Null l) 1 rest (depth_is (eq.shape-Null place l))))
+      (line_then rest _ (codes "null") l [] ts (λ line. give (leaf (e.Null line))) k
+      (λ us m. ap (λ (u : List Token). got (leaf (e.Null l)) (u ++ rest)) (nothing us m) ∙ read_is place (e.Null l) 1 rest (depth_is (eq.shape-Null place l))))
 
   variable_reads : (n : Name) → Primary (Expr-F.Variable n) (e.Variable n)
   unfolding primary_by
   variable_reads n ts rest h fit calm dot =
       let k : AreWords ts (name_word n ∷ []) = subst (λ (w : List Word). AreWords ts w) (eq.words-Variable n) h in
       by_start starts.Name (ts ++ rest) _ (starts_at place room ts rest _ [] starts.Name k (λ t w. name_starts place room t.kind t.text w.0))
-        (name_then rest _ n [] ts (λ m. give (leaf (e.Variable m))) k
-          (λ us m. ap (λ (u : List Token). got (leaf (e.Variable n)) (u ++ rest)) (nothing us m) ∙ read_is place (e.Variable n) 1 rest (depth_is (eq.shape-Variable place n))))
+      (name_then rest _ n [] ts (λ m. give (leaf (e.Variable m))) k
+      (λ us m. ap (λ (u : List Token). got (leaf (e.Variable n)) (u ++ rest)) (nothing us m) ∙ read_is place (e.Variable n) 1 rest (depth_is (eq.shape-Variable place n))))
 
   this_here : (x : Expr) (b : Bool) (level : ℕ) → (shape place x).proper ≡ b → Fit level x → b ≡ true
   this_here x b level same fit = sym same ∙ fit.proper
@@ -158,8 +158,8 @@ module _ (place : Place) (room : Room) (below : ℕ) (deeper : room.depth ≡ be
       let k : AreWords ts (FixedAt (codes "this") l ∷ []) = subst (λ (w : List Word). AreWords ts w) (eq.words-This l) h in
       let here : in_method place ≡ true = this_here (e.This l) (in_method place) 5 (ap (λ (s : Shape). s.proper) (eq.shape-This place l)) fit in
       by_start starts.This (ts ++ rest) _ (starts_at place room ts rest _ [] starts.This k (λ t w. fixed_starts place room t.kind t.text (codes "this") w.0 w.1 ∙ this_start here))
-        (line_then rest _ (codes "this") l [] ts (after_this room inner) k
-          (λ us m. rw (nothing us m, dot) (read_is place (e.This l) 1 rest (depth_is (eq.shape-This place l)))))
+      (line_then rest _ (codes "this") l [] ts (after_this room inner) k
+      (λ us m. rw (nothing us m, dot) (read_is place (e.This l) 1 rest (depth_is (eq.shape-This place l)))))
 
   -- a bracket may open, and there is room below
   room_for : (x : Expr) → Fit 0 x → 1 < (shape place x).depth → 0 < below
@@ -179,7 +179,7 @@ module _ (place : Place) (room : Room) (below : ℕ) (deeper : room.depth ≡ be
   call_fit : (r : Expr) (n : Name) (xs : List Expr) → Fit 4 (e.Call r n xs) → CallFit r xs
   call_fit r n xs fit =
       let f : Suits room.brackets room.depth 4 (record { level = 4; depth = max (shape place r).depth (deepest (map (shape place) xs)) + 1; nesting = max (shape place r).nesting (most_nested (map (shape place) xs) + 1); proper = ((shape place r).proper && nat_le 4 (shape place r).level) && all_proper (map (shape place) xs) })
-          = subst (λ (s : Shape). Suits room.brackets room.depth 4 s) (eq.shape-Call place r n xs) fit in
+      = subst (λ (s : Shape). Suits room.brackets room.depth 4 s) (eq.shape-Call place r n xs) fit in
       let all = both_true ((shape place r).proper && nat_le 4 (shape place r).level) (all_proper (map (shape place) xs)) f.proper in
       let two = both_true (shape place r).proper (nat_le 4 (shape place r).level) all.0 in
       record {
@@ -201,19 +201,19 @@ module _ (place : Place) (room : Room) (below : ℕ) (deeper : room.depth ≡ be
   this_call_reads l n xs ts rest h fit =
       let k1 : AreWords ts (expr_words (e.This l) ++ Fixed (codes ".") ∷ name_word n ∷ Fixed (codes "(") ∷ (with_commas (map expr_words xs) ++ Fixed (codes ")") ∷ [])) = subst (λ (w : List Word). AreWords ts w) (eq.words-Call (e.This l) n xs) h in
       let k : AreWords ts (FixedAt (codes "this") l ∷ Fixed (codes ".") ∷ name_word n ∷ Fixed (codes "(") ∷ (with_commas (map expr_words xs) ++ Fixed (codes ")") ∷ []))
-          = subst (λ (w : List Word). AreWords ts (w ++ Fixed (codes ".") ∷ name_word n ∷ Fixed (codes "(") ∷ (with_commas (map expr_words xs) ++ Fixed (codes ")") ∷ []))) (eq.words-This l) k1 in
+      = subst (λ (w : List Word). AreWords ts (w ++ Fixed (codes ".") ∷ name_word n ∷ Fixed (codes "(") ∷ (with_commas (map expr_words xs) ++ Fixed (codes ")") ∷ []))) (eq.words-This l) k1 in
       let c = call_fit (e.This l) n xs fit in
       let here : in_method place ≡ true = this_here (e.This l) (in_method place) 4 (ap (λ (s : Shape). s.proper) (eq.shape-This place l)) c.receiver in
       by_start starts.This (ts ++ rest) _ (starts_at place room ts rest _ _ starts.This k (λ t w. fixed_starts place room t.kind t.text (codes "this") w.0 w.1 ∙ this_start here))
-        (line_then rest _ (codes "this") l _ ts (after_this room inner) k (λ us m.
-          rw (head_passes (codes ".") us rest _ m)
-            (word_then rest _ (codes ".") _ us (λ dot. name >>= λ field. after_field room inner l field) m (λ d vs o.
-              name_then rest _ n _ vs (after_field room inner l) o (λ ws q.
-                rw (field_call_passes c.some c.deep_enough ws rest _ q)
-                  (arguments_then place (room.brackets - 1) below inner (inner_reads c.some c.deep_enough) xs [] ws rest _ (λ read. give (call (leaf (e.This l)) n read)) q c.suit (λ ys r.
-                    ap (λ (u : List Token). got (record { expr = e.Call (e.This l) n xs; depth = max 1 (deepest (map (shape place) xs)) + 1 }) (u ++ rest)) (nothing ys r)
-                    ∙ read_is place (e.Call (e.This l) n xs) (max 1 (deepest (map (shape place) xs)) + 1) rest
-                        (depth_is (eq.shape-Call place (e.This l) n xs) ∙ ap (λ (d : ℕ). max d (deepest (map (shape place) xs)) + 1) (depth_is (eq.shape-This place l))))))))))
+      (line_then rest _ (codes "this") l _ ts (after_this room inner) k (λ us m.
+      rw (head_passes (codes ".") us rest _ m)
+      (word_then rest _ (codes ".") _ us (λ dot. name >>= λ field. after_field room inner l field) m (λ d vs o.
+      name_then rest _ n _ vs (after_field room inner l) o (λ ws q.
+      rw (field_call_passes c.some c.deep_enough ws rest _ q)
+      (arguments_then place (room.brackets - 1) below inner (inner_reads c.some c.deep_enough) xs [] ws rest _ (λ read. give (call (leaf (e.This l)) n read)) q c.suit (λ ys r.
+      ap (λ (u : List Token). got (record { expr = e.Call (e.This l) n xs; depth = max 1 (deepest (map (shape place) xs)) + 1 }) (u ++ rest)) (nothing ys r)
+      ∙ read_is place (e.Call (e.This l) n xs) (max 1 (deepest (map (shape place) xs)) + 1) rest
+      (depth_is (eq.shape-Call place (e.This l) n xs) ∙ ap (λ (d : ℕ). max d (deepest (map (shape place) xs)) + 1) (depth_is (eq.shape-This place l))))))))))
 
   field_reads : (n : Name) → Primary (Expr-F.Field n) (e.Field n)
   unfolding primary_by after_this after_field
@@ -221,11 +221,11 @@ module _ (place : Place) (room : Room) (below : ℕ) (deeper : room.depth ≡ be
       let k : AreWords ts (Fixed (codes "this") ∷ Fixed (codes ".") ∷ name_word n ∷ []) = subst (λ (w : List Word). AreWords ts w) (eq.words-Field n) h in
       let here : in_method place ≡ true = this_here (e.Field n) (in_method place) 5 (ap (λ (s : Shape). s.proper) (eq.shape-Field place n)) fit in
       by_start starts.This (ts ++ rest) _ (starts_at place room ts rest _ _ starts.This k (λ t w. fixed_starts place room t.kind t.text (codes "this") w.0 w.1 ∙ this_start here))
-        (word_then rest _ (codes "this") (Fixed (codes ".") ∷ name_word n ∷ []) ts (after_this room inner) k (λ l us m.
-          rw (head_passes (codes ".") us rest _ m)
-            (word_then rest _ (codes ".") (name_word n ∷ []) us (λ dot. name >>= λ field. after_field room inner l field) m (λ d vs o.
-              name_then rest _ n [] vs (after_field room inner l) o (λ ws q.
-                rw (nothing ws q, no_field_call rest calm.open_next) (read_is place (e.Field n) 1 rest (depth_is (eq.shape-Field place n))))))))
+      (word_then rest _ (codes "this") (Fixed (codes ".") ∷ name_word n ∷ []) ts (after_this room inner) k (λ l us m.
+      rw (head_passes (codes ".") us rest _ m)
+      (word_then rest _ (codes ".") (name_word n ∷ []) us (λ dot. name >>= λ field. after_field room inner l field) m (λ d vs o.
+      name_then rest _ n [] vs (after_field room inner l) o (λ ws q.
+      rw (nothing ws q, no_field_call rest calm.open_next) (read_is place (e.Field n) 1 rest (depth_is (eq.shape-Field place n))))))))
     where
       no_field_call : (rest : List Token) → next (is (codes "(")) rest ≡ false → next (is_field_call room) rest ≡ false
       no_field_call [] h = refl
@@ -238,11 +238,11 @@ module _ (place : Place) (room : Room) (below : ℕ) (deeper : room.depth ≡ be
       let nesting : (shape place (e.New n a)).nesting ≡ 1 = ap (λ (s : Shape). s.nesting) (eq.shape-New place n a) in
       let some : nat_lt 0 room.brackets ≡ true = lt-ltb 0 room.brackets (omega (arith, fit.nested)) in
       by_start starts.New (ts ++ rest) _ (starts_at place room ts rest _ _ starts.New k (λ t w. fixed_starts place room t.kind t.text (codes "new") w.0 w.1 ∙ rw some refl))
-        (word_then rest _ (codes "new") _ ts (λ l. name >>= λ class. word (codes "(") >>= λ o. word (codes ")") >>= λ c. at >>= λ place. give (leaf (e.New class place))) k (λ l us m.
-          name_then rest _ n _ us (λ class. word (codes "(") >>= λ o. word (codes ")") >>= λ c. at >>= λ place. give (leaf (e.New class place))) m (λ vs o.
-            word_then rest _ (codes "(") _ vs (λ o. word (codes ")") >>= λ c. at >>= λ place. give (leaf (e.New n place))) o (λ l1 ws q.
-              word_then rest _ (codes ")") _ ws (λ c. at >>= λ place. give (leaf (e.New n place))) q (λ l2 xs r.
-                ap (λ res. onward res (λ place. give (leaf (e.New n place)))) (at_reads a xs rest r calm.place) ∙ read_is place (e.New n a) 1 rest (depth_is (eq.shape-New place n a)))))))
+      (word_then rest _ (codes "new") _ ts (λ l. name >>= λ class. word (codes "(") >>= λ o. word (codes ")") >>= λ c. at >>= λ place. give (leaf (e.New class place))) k (λ l us m.
+      name_then rest _ n _ us (λ class. word (codes "(") >>= λ o. word (codes ")") >>= λ c. at >>= λ place. give (leaf (e.New class place))) m (λ vs o.
+      word_then rest _ (codes "(") _ vs (λ o. word (codes ")") >>= λ c. at >>= λ place. give (leaf (e.New n place))) o (λ l1 ws q.
+      word_then rest _ (codes ")") _ ws (λ c. at >>= λ place. give (leaf (e.New n place))) q (λ l2 xs r.
+      ap (λ res. onward res (λ place. give (leaf (e.New n place)))) (at_reads a xs rest r calm.place) ∙ read_is place (e.New n a) 1 rest (depth_is (eq.shape-New place n a)))))))
 
   parens_read : (x : Expr) (l : ℕ) → Primary (Expr-F.Parens x l) (e.Parens x l)
   unfolding primary_by parens
@@ -253,11 +253,11 @@ module _ (place : Place) (room : Room) (below : ℕ) (deeper : room.depth ≡ be
       let deep_enough : 0 < below = omega (arith, f.within, positive place x) in
       let inside : Suits (room.brackets - 1) below 0 (shape place x) = record { within = omega (arith, f.within); nested = omega (arith, f.nested); tight = omega arith; proper = f.proper } in
       by_start starts.Parens (ts ++ rest) _ (starts_at place room ts rest _ _ starts.Parens k (λ t w. fixed_starts place room t.kind t.text (codes "(") w.0 w.1 ∙ rw (may some deep_enough) refl))
-        (line_then rest _ (codes "(") l _ ts (λ line. inner >>= λ read. word (codes ")") >>= λ c. give (record { expr = e.Parens read.expr line; depth = read.depth + 1 })) k (λ us m.
-          part_then rest _ inner (deep place x) (expr_words x) (Fixed (codes ")") ∷ []) us (λ read. word (codes ")") >>= λ c. give (record { expr = e.Parens read.expr l; depth = read.depth + 1 })) m
-            (λ front more p q. inner_reads some deep_enough x front (more ++ rest) p inside (stops_before 0 (codes ")") more rest [] (stop_close 0) q))
-            (λ vs o. word_then rest _ (codes ")") [] vs (λ c. give (record { expr = e.Parens x l; depth = (shape place x).depth + 1 })) o (λ c ws q.
-              ap (λ (u : List Token). got (record { expr = e.Parens x l; depth = (shape place x).depth + 1 }) (u ++ rest)) (nothing ws q) ∙ read_is place (e.Parens x l) ((shape place x).depth + 1) rest (depth_is (eq.shape-Parens place x l))))))
+      (line_then rest _ (codes "(") l _ ts (λ line. inner >>= λ read. word (codes ")") >>= λ c. give (record { expr = e.Parens read.expr line; depth = read.depth + 1 })) k (λ us m.
+      part_then rest _ inner (deep place x) (expr_words x) (Fixed (codes ")") ∷ []) us (λ read. word (codes ")") >>= λ c. give (record { expr = e.Parens read.expr l; depth = read.depth + 1 })) m
+      (λ front more p q. inner_reads some deep_enough x front (more ++ rest) p inside (stops_before 0 (codes ")") more rest [] (stop_close 0) q))
+      (λ vs o. word_then rest _ (codes ")") [] vs (λ c. give (record { expr = e.Parens x l; depth = (shape place x).depth + 1 })) o (λ c ws q.
+      ap (λ (u : List Token). got (record { expr = e.Parens x l; depth = (shape place x).depth + 1 }) (u ++ rest)) (nothing ws q) ∙ read_is place (e.Parens x l) ((shape place x).depth + 1) rest (depth_is (eq.shape-Parens place x l))))))
 
   -- ---- calls, one on the other
 
@@ -268,7 +268,7 @@ module _ (place : Place) (room : Room) (below : ℕ) (deeper : room.depth ≡ be
   call_passes d some less [] rest ws h = absurd h
   call_passes d some less (t ∷ us) rest ws h =
       and-both (is (codes ".") t) (nat_lt 0 room.brackets && nat_lt d.depth room.depth) (fixed_is (codes ".") t h.0.0 h.0.1)
-        (and-both (nat_lt 0 room.brackets) (nat_lt d.depth room.depth) (lt-ltb 0 room.brackets some) (lt-ltb d.depth room.depth less))
+      (and-both (nat_lt 0 room.brackets) (nat_lt d.depth room.depth) (lt-ltb 0 room.brackets some) (lt-ltb d.depth room.depth less))
 
   call_step : (r : Expr) (n : Name) (xs : List Expr) (k : ℕ) (us rest : List Token) → CallFit r xs → AreWords us (Fixed (codes ".") ∷ name_word n ∷ Fixed (codes "(") ∷ (with_commas (map expr_words xs) ++ Fixed (codes ")") ∷ []))
       → go_on (suc k) (deep place r) (us ++ rest) ≡ go_on k (deep place (e.Call r n xs)) rest
@@ -277,12 +277,12 @@ module _ (place : Place) (room : Room) (below : ℕ) (deeper : room.depth ≡ be
       turn (is_call room) (called inner) k (deep place r) (us ++ rest) (call_passes (deep place r) c.some c.less us rest _ h)
       ∙ (bind_assoc (word (codes ".") (us ++ rest)) (λ d. name >>= λ m. arguments inner >>= λ a. give (call (deep place r) m a)) (go_on k)
       ∙ word_then rest _ (codes ".") _ us (λ d vs. onward ((name >>= λ m. arguments inner >>= λ a. give (call (deep place r) m a)) vs) (go_on k)) h (λ l vs m.
-          bind_assoc (name (vs ++ rest)) (λ m. arguments inner >>= λ a. give (call (deep place r) m a)) (go_on k)
-          ∙ name_then rest _ n _ vs (λ m ws. onward ((arguments inner >>= λ a. give (call (deep place r) m a)) ws) (go_on k)) m (λ ws o.
-              bind_assoc (arguments inner (ws ++ rest)) (λ a. give (call (deep place r) n a)) (go_on k)
-              ∙ arguments_then place (room.brackets - 1) below inner (inner_reads c.some c.deep_enough) xs [] ws rest _ (λ a. go_on k (call (deep place r) n a)) o c.suit (λ ys q.
-                  ap (λ (u : List Token). go_on k (call (deep place r) n (record { exprs = xs; depth = deepest (map (shape place) xs) })) (u ++ rest)) (nothing ys q)
-                  ∙ ap (λ (d : Deep). go_on k d rest) (deep_is place (e.Call r n xs) (max (shape place r).depth (deepest (map (shape place) xs)) + 1) (depth_is (eq.shape-Call place r n xs)))))))
+      bind_assoc (name (vs ++ rest)) (λ m. arguments inner >>= λ a. give (call (deep place r) m a)) (go_on k)
+      ∙ name_then rest _ n _ vs (λ m ws. onward ((arguments inner >>= λ a. give (call (deep place r) m a)) ws) (go_on k)) m (λ ws o.
+      bind_assoc (arguments inner (ws ++ rest)) (λ a. give (call (deep place r) n a)) (go_on k)
+      ∙ arguments_then place (room.brackets - 1) below inner (inner_reads c.some c.deep_enough) xs [] ws rest _ (λ a. go_on k (call (deep place r) n a)) o c.suit (λ ys q.
+      ap (λ (u : List Token). go_on k (call (deep place r) n (record { exprs = xs; depth = deepest (map (shape place) xs) })) (u ++ rest)) (nothing ys q)
+      ∙ ap (λ (d : Deep). go_on k d rest) (deep_is place (e.Call r n xs) (max (shape place r).depth (deepest (map (shape place) xs)) + 1) (depth_is (eq.shape-Call place r n xs)))))))
 
   record Spine (o : Expr-F Expr) (x : Expr) : Type 0 where
     turns : ℕ
@@ -294,8 +294,8 @@ module _ (place : Place) (room : Room) (below : ℕ) (deeper : room.depth ≡ be
     turns = 0;
     small = positive place x;
     reads = λ ts rest n h calm dot.
-      let same : n + 0 ≡ n = omega arith in
-      ap (λ (r : Result (Deep × List Token) ℕ). onward r (go_on (n + 0))) (reads ts rest h calm dot) ∙ ap (λ (k : ℕ). go_on k (deep place x) rest) same;
+        let same : n + 0 ≡ n = omega arith in
+        ap (λ (r : Result (Deep × List Token) ℕ). onward r (go_on (n + 0))) (reads ts rest h calm dot) ∙ ap (λ (k : ℕ). go_on k (deep place x) rest) same;
   }
 
   spine_call : (o p : Expr-F Expr) (r : Expr) (n : Name) (xs : List Expr) → CallFit r xs → Spine o r → ((rest : List Token) → NoDot o rest) → Spine p (e.Call r n xs)
@@ -303,14 +303,14 @@ module _ (place : Place) (room : Room) (below : ℕ) (deeper : room.depth ≡ be
     turns = s.turns + 1;
     small = omega (arith, s.small, depth_is (eq.shape-Call place r n xs));
     reads = λ ts rest k h calm d.
-      let w : AreWords ts (expr_words r ++ Fixed (codes ".") ∷ name_word n ∷ Fixed (codes "(") ∷ (with_commas (map expr_words xs) ++ Fixed (codes ")") ∷ [])) = subst (λ (w : List Word). AreWords ts w) (eq.words-Call r n xs) h in
-      let t = split ts (expr_words r) (Fixed (codes ".") ∷ name_word n ∷ Fixed (codes "(") ∷ (with_commas (map expr_words xs) ++ Fixed (codes ")") ∷ [])) w in
-      let e1 : ts ++ rest ≡ t.front ++ (t.rest ++ rest) = ap (λ (u : List Token). u ++ rest) t.parts ∙ append_assoc t.front t.rest rest in
-      let e2 : k + (s.turns + 1) ≡ suc k + s.turns = omega arith in
-      let quiet : Calm (t.rest ++ rest) = record { open_next = head_fails (codes ".") (codes "(") t.rest rest _ t.second refl; place = head_fails (codes ".") (codes "at") t.rest rest _ t.second refl } in
-      ap (λ (u : List Token). onward (primary_here u) (go_on (k + (s.turns + 1)))) e1
-      ∙ (ap (λ (m : ℕ). onward (primary_here (t.front ++ (t.rest ++ rest))) (go_on m)) e2
-      ∙ (s.reads t.front (t.rest ++ rest) (suc k) t.first quiet (dot (t.rest ++ rest)) ∙ call_step r n xs k t.rest rest c t.second));
+        let w : AreWords ts (expr_words r ++ Fixed (codes ".") ∷ name_word n ∷ Fixed (codes "(") ∷ (with_commas (map expr_words xs) ++ Fixed (codes ")") ∷ [])) = subst (λ (w : List Word). AreWords ts w) (eq.words-Call r n xs) h in
+        let t = split ts (expr_words r) (Fixed (codes ".") ∷ name_word n ∷ Fixed (codes "(") ∷ (with_commas (map expr_words xs) ++ Fixed (codes ")") ∷ [])) w in
+        let e1 : ts ++ rest ≡ t.front ++ (t.rest ++ rest) = ap (λ (u : List Token). u ++ rest) t.parts ∙ append_assoc t.front t.rest rest in
+        let e2 : k + (s.turns + 1) ≡ suc k + s.turns = omega arith in
+        let quiet : Calm (t.rest ++ rest) = record { open_next = head_fails (codes ".") (codes "(") t.rest rest _ t.second refl; place = head_fails (codes ".") (codes "at") t.rest rest _ t.second refl } in
+        ap (λ (u : List Token). onward (primary_here u) (go_on (k + (s.turns + 1)))) e1
+        ∙ (ap (λ (m : ℕ). onward (primary_here (t.front ++ (t.rest ++ rest))) (go_on m)) e2
+        ∙ (s.reads t.front (t.rest ++ rest) (suc k) t.first quiet (dot (t.rest ++ rest)) ∙ call_step r n xs k t.rest rest c t.second));
   }
 
   five : (x : Expr) (s : Shape) → shape place x ≡ s → 5 ≤ s.level → Fit 4 x → Fit 5 x
@@ -334,8 +334,8 @@ module _ (place : Place) (room : Room) (below : ℕ) (deeper : room.depth ≡ be
   call_by m to p r n xs le fit (Expr-F.This l) is =
       let back : e.This l ≡ r = sym (e.rolls-This l) ∙ is in
       spine_base p (e.Call r n xs) (λ ts rest h calm dot.
-        subst (λ (y : Expr). primary_here (ts ++ rest) ≡ got (deep place (e.Call y n xs)) rest) back
-          (this_call_reads l n xs ts rest (subst (λ (y : Expr). AreWords ts (expr_words (e.Call y n xs))) (sym back) h) (subst (λ (y : Expr). Fit 4 (e.Call y n xs)) (sym back) fit)))
+      subst (λ (y : Expr). primary_here (ts ++ rest) ≡ got (deep place (e.Call y n xs)) rest) back
+      (this_call_reads l n xs ts rest (subst (λ (y : Expr). AreWords ts (expr_words (e.Call y n xs))) (sym back) h) (subst (λ (y : Expr). Fit 4 (e.Call y n xs)) (sym back) fit)))
   call_by m to p r n xs le fit o is =
       let c = call_fit r n xs fit in
       let less : (shape place r).depth ≤ m = omega (arith, depth_is (eq.shape-Call place r n xs)) in

@@ -16,3 +16,4 @@ pub mod ExpressionOnly
 pub mod OperatorOnly
 pub mod StatementOnly
 pub mod SetupOnly
+pub mod Only

@@ -42,13 +42,16 @@ pub record SuitAll (place : Place) (brackets room : ℕ) (xs : List Expr) : Type
 
 suits_first : (place : Place) (brackets room : ℕ) (x : Expr) (xs : List Expr) → SuitAll place brackets room (x ∷ xs) → Suits brackets room 0 (shape place x)
 suits_first place brackets room x xs all = record {
-  within = omega (arith, all.within); nested = omega (arith, all.nested); tight = omega arith;
+  within = omega (arith, all.within);
+  nested = omega (arith, all.nested);
+  tight = omega arith;
   proper = (both_true (shape place x).proper (all_proper (map (shape place) xs)) all.proper).0;
 }
 
 suit_rest : (place : Place) (brackets room : ℕ) (x : Expr) (xs : List Expr) → SuitAll place brackets room (x ∷ xs) → SuitAll place brackets room xs
 suit_rest place brackets room x xs all = record {
-  within = omega (arith, all.within); nested = omega (arith, all.nested);
+  within = omega (arith, all.within);
+  nested = omega (arith, all.nested);
   proper = (both_true (shape place x).proper (all_proper (map (shape place) xs)) all.proper).1;
 }
 
@@ -126,9 +129,9 @@ module _ (place : Place) (brackets room : ℕ) (inner : Reader Deep) (reads : Re
   after_argument x ws a g ts rest result h suits stops goes =
       bind_assoc (word (codes ",") (ts ++ rest)) (λ comma. inner >>= λ more. give (with_argument a more)) g
       ∙ word_then rest result (codes ",") (expr_words x ++ ws) ts (λ comma us. onward ((inner >>= λ more. give (with_argument a more)) us) g) h (λ line us k.
-          bind_assoc (inner (us ++ rest)) (λ more. give (with_argument a more)) g
-          ∙ part_then rest result inner (deep place x) (expr_words x) ws us (λ more vs. onward (give (with_argument a more) vs) g) k
-              (λ front more p q. reads x front (more ++ rest) p suits (stops more q)) goes)
+      bind_assoc (inner (us ++ rest)) (λ more. give (with_argument a more)) g
+      ∙ part_then rest result inner (deep place x) (expr_words x) ws us (λ more vs. onward (give (with_argument a more) vs) g) k
+      (λ front more p q. reads x front (more ++ rest) p suits (stops more q)) goes)
 
   stops_more : (xs : List Expr) (us rest : List Token) → AreWords us (behind_commas (map expr_words xs)) → Stops 0 rest → Stops 0 (us ++ rest)
   stops_more [] us rest h stops = subst (λ (u : List Token). Stops 0 (u ++ rest)) (sym (nothing us h)) stops
@@ -143,18 +146,18 @@ module _ (place : Place) (brackets room : ℕ) (inner : Reader Deep) (reads : Re
   arguments_more (x ∷ xs) a (suc n) ts rest h suit stops fails le =
       turn is_comma (argument inner) n a (ts ++ rest) (head_passes (codes ",") ts rest _ h)
       ∙ after_argument x (behind_commas (map expr_words xs)) a (repeat n is_comma (argument inner)) ts rest (Ok (pushed (with_argument a (deep place x)) xs, rest)) h (suits_first place brackets room x xs suit)
-          (λ more k. stops_more xs more rest k stops)
-          (λ us k. arguments_more xs (with_argument a (deep place x)) n us rest k (suit_rest place brackets room x xs suit) stops fails (omega arith))
+      (λ more k. stops_more xs more rest k stops)
+      (λ us k. arguments_more xs (with_argument a (deep place x)) n us rest k (suit_rest place brackets room x xs suit) stops fails (omega arith))
 
   some_read : (x : Expr) (xs : List Expr) (ts rest : List Token) → AreWords ts (expr_words x ++ behind_commas (map expr_words xs)) → SuitAll place brackets room (x ∷ xs) → Stops 0 rest
       → next (is (codes ",")) rest ≡ false → some_arguments inner (ts ++ rest) ≡ Ok (args (x ∷ xs), rest)
   unfolding some_arguments more_arguments
   some_read x xs ts rest h suit stops fails =
       part_then rest (Ok (args (x ∷ xs), rest)) inner (deep place x) (expr_words x) (behind_commas (map expr_words xs)) ts (λ first. more_arguments inner (first_argument first)) h
-        (λ front more p q. reads x front (more ++ rest) p (suits_first place brackets room x xs suit) (stops_more xs more rest q stops))
-        (λ us k. arguments_more xs (first_argument (deep place x)) (length (us ++ rest)) us rest k (suit_rest place brackets room x xs suit) stops fails
-            (omega (arith, length-append us rest, same_length us (behind_commas (map expr_words xs)) k, commas_long (map expr_words xs), length-map xs))
-          ∙ ap (λ (b : Arguments). Ok (b, rest)) (pushed-is xs (first_argument (deep place x))))
+      (λ front more p q. reads x front (more ++ rest) p (suits_first place brackets room x xs suit) (stops_more xs more rest q stops))
+      (λ us k. arguments_more xs (first_argument (deep place x)) (length (us ++ rest)) us rest k (suit_rest place brackets room x xs suit) stops fails
+      (omega (arith, length-append us rest, same_length us (behind_commas (map expr_words xs)) k, commas_long (map expr_words xs), length-map xs))
+      ∙ ap (λ (b : Arguments). Ok (b, rest)) (pushed-is xs (first_argument (deep place x))))
 
   listed_reads : (xs : List Expr) (ts rest : List Token) → AreWords ts (with_commas (map expr_words xs)) → SuitAll place brackets room xs → Stops 0 rest
       → next (is (codes ",")) rest ≡ false → next (is (codes ")")) rest ≡ true → listed inner (ts ++ rest) ≡ Ok (args xs, rest)
@@ -171,9 +174,9 @@ module _ (place : Place) (brackets room : ℕ) (inner : Reader Deep) (reads : Re
   arguments_then xs ws ts rest result g h suit goes =
       bind_assoc (word (codes "(") (ts ++ rest)) (λ o. listed inner >>= λ read. word (codes ")") >>= λ c. give read) g
       ∙ word_then rest result (codes "(") (with_commas (map expr_words xs) ++ Fixed (codes ")") ∷ ws) ts (λ o us. onward ((listed inner >>= λ read. word (codes ")") >>= λ c. give read) us) g) h (λ line us k.
-          bind_assoc (listed inner (us ++ rest)) (λ read. word (codes ")") >>= λ c. give read) g
-          ∙ part_then rest result (listed inner) (args xs) (with_commas (map expr_words xs)) (Fixed (codes ")") ∷ ws) us (λ read vs. onward ((word (codes ")") >>= λ c. give read) vs) g) k
-              (λ front more p q. listed_reads xs front (more ++ rest) p suit (stops_before 0 (codes ")") more rest ws (stop_close 0) q)
-                (head_fails (codes ")") (codes ",") more rest ws q refl) (head_passes (codes ")") more rest ws q))
-              (λ vs m. bind_assoc (word (codes ")") (vs ++ rest)) (λ c. give (args xs)) g
-                ∙ word_then rest result (codes ")") ws vs (λ c us. onward (give (args xs) us) g) m (λ l ys n. goes ys n)))
+      bind_assoc (listed inner (us ++ rest)) (λ read. word (codes ")") >>= λ c. give read) g
+      ∙ part_then rest result (listed inner) (args xs) (with_commas (map expr_words xs)) (Fixed (codes ")") ∷ ws) us (λ read vs. onward ((word (codes ")") >>= λ c. give read) vs) g) k
+      (λ front more p q. listed_reads xs front (more ++ rest) p suit (stops_before 0 (codes ")") more rest ws (stop_close 0) q)
+      (head_fails (codes ")") (codes ",") more rest ws q refl) (head_passes (codes ")") more rest ws q))
+      (λ vs m. bind_assoc (word (codes ")") (vs ++ rest)) (λ c. give (args xs)) g
+      ∙ word_then rest result (codes ")") ws vs (λ c us. onward (give (args xs) us) g) m (λ l ys n. goes ys n)))

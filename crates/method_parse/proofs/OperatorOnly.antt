@@ -93,8 +93,12 @@ left_some operators.Less = omega arith
 
 loosen : (level higher : ℕ) (rest : List Token) → level ≤ higher → Stops level rest → Stops higher rest
 loosen level higher rest le stops = record {
-  dot = stops.dot; open_next = stops.open_next; place = stops.place;
-  term = λ h. stops.term (omega arith); sum = λ h. stops.sum (omega arith); comparison = λ h. stops.comparison (omega arith);
+  dot = stops.dot;
+  open_next = stops.open_next;
+  place = stops.place;
+  term = λ h. stops.term (omega arith);
+  sum = λ h. stops.sum (omega arith);
+  comparison = λ h. stops.comparison (omega arith);
 }
 
 weak : (ts : List Token) (text : List ℕ) (line : ℕ) (ws : List Word) → AreWords ts (FixedAt text line ∷ ws) → AreWords ts (Fixed text ∷ ws)
@@ -170,7 +174,7 @@ module _ (place : Place) (room : Room) (below : ℕ) (deeper : room.depth ≡ be
       let e1 : ts ++ rest ≡ s.front ++ (s.rest ++ rest) = ap (λ (u : List Token). u ++ rest) s.parts ∙ append_assoc s.front s.rest rest in
       ap (next (is_minus room)) e1
       ∙ to r (omega (arith, depth_is (ap (shape place) back ∙ eq.shape-Call place r n xs)))
-          (record { within = omega (arith, f.within); nested = omega (arith, f.nested); tight = leb-true 4 (shape place r).level two.1; proper = two.0 }) s.front (s.rest ++ rest) s.first
+      (record { within = omega (arith, f.within); nested = omega (arith, f.nested); tight = leb-true 4 (shape place r).level two.1; proper = two.0 }) s.front (s.rest ++ rest) s.first
 
   no_minus : (m : ℕ) → NoMinus m
   no_minus zero x le fit ts rest h = absurd (omega (arith, positive place x))
@@ -194,9 +198,9 @@ module _ (place : Place) (room : Room) (below : ℕ) (deeper : room.depth ≡ be
       let enough : 0 < below = omega (arith, f.within, positive place x) in
       let part : Suits room.brackets below 3 (shape place x) = record { within = omega (arith, f.within); nested = f.nested; tight = leb-true 3 (shape place x).level two.1; proper = two.0 } in
       rw (minus_passes enough ts rest _ (weak ts (codes "-") l (expr_words x) k))
-        (line_then rest _ (codes "-") l (expr_words x) ts (λ line. parts levels.Unary >>= λ operand. give (record { expr = e.Negate operand.expr line; depth = operand.depth + 1 })) k (λ us m.
-          ap (λ r. onward r (λ operand. give (record { expr = e.Negate operand.expr l; depth = operand.depth + 1 }))) (parts_read enough levels.Unary x us rest m part stops)
-          ∙ read_is place (e.Negate x l) ((shape place x).depth + 1) rest (depth_is (eq.shape-Negate place x l))))
+      (line_then rest _ (codes "-") l (expr_words x) ts (λ line. parts levels.Unary >>= λ operand. give (record { expr = e.Negate operand.expr line; depth = operand.depth + 1 })) k (λ us m.
+      ap (λ r. onward r (λ operand. give (record { expr = e.Negate operand.expr l; depth = operand.depth + 1 }))) (parts_read enough levels.Unary x us rest m part stops)
+      ∙ read_is place (e.Negate x l) ((shape place x).depth + 1) rest (depth_is (eq.shape-Negate place x l))))
 
   tighter_four : (x : Expr) (s : Shape) → shape place x ≡ s → 4 ≤ s.level → Fit 3 x → Fit 4 x
   tighter_four x s same le fit = record { within = fit.within; nested = fit.nested; tight = subst (λ (t : Shape). 4 ≤ t.level) (sym same) le; proper = fit.proper }
@@ -213,7 +217,7 @@ module _ (place : Place) (room : Room) (below : ℕ) (deeper : room.depth ≡ be
   unary_form (Expr-F.Negate y l) x is fit ts rest h stops =
       let back : e.Negate y l ≡ x = sym (e.rolls-Negate y l) ∙ is in
       subst (λ (z : Expr). unary place room inner parts (ts ++ rest) ≡ got (deep place z) rest) back
-        (negate_case y l (subst (λ (z : Expr). Fit 3 z) (sym back) fit) ts rest (subst (λ (z : Expr). AreWords ts (expr_words z)) (sym back) h) stops)
+      (negate_case y l (subst (λ (z : Expr). Fit 3 z) (sym back) fit) ts rest (subst (λ (z : Expr). AreWords ts (expr_words z)) (sym back) h) stops)
   unary_form (Expr-F.Binary o y z l) x is fit ts rest h stops =
       let level : (shape place x).level ≡ level_of o = ap (λ (s : Shape). s.level) (ap (shape place) (sym is ∙ e.rolls-Binary o y z l) ∙ eq.shape-Binary place o y z l) in
       absurd (omega (arith, fit.tight, level_small o))
@@ -232,7 +236,7 @@ module _ (place : Place) (room : Room) (below : ℕ) (deeper : room.depth ≡ be
   binary_fit : (level : ℕ) (o : Operator) (l r : Expr) (line : ℕ) → Fit level (e.Binary o l r line) → BinaryFit o l r
   binary_fit level o l r line fit =
       let f : Suits room.brackets room.depth level (record { level = level_of o; depth = max (shape place l).depth (shape place r).depth + 1; nesting = max (shape place l).nesting (shape place r).nesting; proper = ((shape place l).proper && nat_le (left_level o) (shape place l).level) && ((shape place r).proper && nat_le (right_level o) (shape place r).level) })
-          = subst (λ (s : Shape). Suits room.brackets room.depth level s) (eq.shape-Binary place o l r line) fit in
+      = subst (λ (s : Shape). Suits room.brackets room.depth level s) (eq.shape-Binary place o l r line) fit in
       let all = both_true ((shape place l).proper && nat_le (left_level o) (shape place l).level) ((shape place r).proper && nat_le (right_level o) (shape place r).level) f.proper in
       let a = both_true (shape place l).proper (nat_le (left_level o) (shape place l).level) all.0 in
       let b = both_true (shape place r).proper (nat_le (right_level o) (shape place r).level) all.1 in
@@ -260,9 +264,9 @@ module _ (place : Place) (room : Room) (below : ℕ) (deeper : room.depth ≡ be
         turn (is_join level room) (joined level parts) k (deep place l) (us ++ rest) (join_passes o (deep place l) line of fit.less us rest _ h)
         ∙ (bind_assoc (operator level (us ++ rest)) (λ o. parts (tighter level) >>= λ right. give (record { expr = e.Binary o.0 l right.expr o.1; depth = max (shape place l).depth right.depth + 1 })) (join_on k)
         ∙ operator_takes level o line (expr_words r) us rest _ (λ o vs. onward ((parts (tighter level) >>= λ right. give (record { expr = e.Binary o.0 l right.expr o.1; depth = max (shape place l).depth right.depth + 1 })) vs) (join_on k)) of h (λ vs m.
-            ap (λ res. onward (onward res (λ right. give (record { expr = e.Binary o l right.expr line; depth = max (shape place l).depth right.depth + 1 }))) (join_on k))
-              (parts_read fit.enough (tighter level) r vs rest m right (subst (λ (n : ℕ). Stops n rest) (sym next_level) stops))
-            ∙ ap (λ (d : Deep). join_on k d rest) (deep_is place (e.Binary o l r line) (max (shape place l).depth (shape place r).depth + 1) (depth_is (eq.shape-Binary place o l r line)))))
+        ap (λ res. onward (onward res (λ right. give (record { expr = e.Binary o l right.expr line; depth = max (shape place l).depth right.depth + 1 }))) (join_on k))
+        (parts_read fit.enough (tighter level) r vs rest m right (subst (λ (n : ℕ). Stops n rest) (sym next_level) stops))
+        ∙ ap (λ (d : Deep). join_on k d rest) (deep_is place (e.Binary o l r line) (max (shape place l).depth (shape place r).depth + 1) (depth_is (eq.shape-Binary place o l r line)))))
 
     record Row (x : Expr) : Type 0 where
       turns : ℕ
@@ -278,8 +282,8 @@ module _ (place : Place) (room : Room) (below : ℕ) (deeper : room.depth ≡ be
       none = λ le. refl;
       one = λ z. omega arith;
       reads = λ ts rest n h stops.
-        let same : n + 0 ≡ n = omega arith in
-        ap (λ (r : Result (Deep × List Token) ℕ). onward r (join_on (n + 0))) (tight_reads x ts rest h fit stops) ∙ ap (λ (k : ℕ). join_on k (deep place x) rest) same;
+          let same : n + 0 ≡ n = omega arith in
+          ap (λ (r : Result (Deep × List Token) ℕ). onward r (join_on (n + 0))) (tight_reads x ts rest h fit stops) ∙ ap (λ (k : ℕ). join_on k (deep place x) rest) same;
     }
 
     row_step : (o : Operator) (l r : Expr) (line : ℕ) → tightness level ≡ level_of o → BinaryFit o l r → Row l → Row (e.Binary o l r line)
@@ -289,14 +293,14 @@ module _ (place : Place) (room : Room) (below : ℕ) (deeper : room.depth ≡ be
       none = λ le. let is : (shape place (e.Binary o l r line)).level ≡ level_of o = ap (λ (s : Shape). s.level) (eq.shape-Binary place o l r line) in absurd (omega arith);
       one = λ z. omega (arith, s.none (omega (arith, left_some o, fit.left.tight)));
       reads = λ ts rest k h stops.
-        let w : AreWords ts (expr_words l ++ FixedAt (symbol_of o) line ∷ expr_words r) = subst (λ (w : List Word). AreWords ts w) (eq.words-Binary o l r line) h in
-        let t = split ts (expr_words l) (FixedAt (symbol_of o) line ∷ expr_words r) w in
-        let e1 : ts ++ rest ≡ t.front ++ (t.rest ++ rest) = ap (λ (u : List Token). u ++ rest) t.parts ∙ append_assoc t.front t.rest rest in
-        let e2 : k + (s.turns + 1) ≡ suc k + s.turns = omega arith in
-        let stop : Stops (tightness level + 1) (t.rest ++ rest) = subst (λ (n : ℕ). Stops (n + 1) (t.rest ++ rest)) (sym of) (stops_before (level_of o + 1) (symbol_of o) t.rest rest (expr_words r) (operator_stops o) (weak t.rest (symbol_of o) line (expr_words r) t.second)) in
-        ap (λ (u : List Token). onward (tight_reader u) (join_on (k + (s.turns + 1)))) e1
-        ∙ (ap (λ (m : ℕ). onward (tight_reader (t.front ++ (t.rest ++ rest))) (join_on m)) e2
-        ∙ (s.reads t.front (t.rest ++ rest) (suc k) t.first stop ∙ join_step o l r line k t.rest rest of fit t.second stops));
+          let w : AreWords ts (expr_words l ++ FixedAt (symbol_of o) line ∷ expr_words r) = subst (λ (w : List Word). AreWords ts w) (eq.words-Binary o l r line) h in
+          let t = split ts (expr_words l) (FixedAt (symbol_of o) line ∷ expr_words r) w in
+          let e1 : ts ++ rest ≡ t.front ++ (t.rest ++ rest) = ap (λ (u : List Token). u ++ rest) t.parts ∙ append_assoc t.front t.rest rest in
+          let e2 : k + (s.turns + 1) ≡ suc k + s.turns = omega arith in
+          let stop : Stops (tightness level + 1) (t.rest ++ rest) = subst (λ (n : ℕ). Stops (n + 1) (t.rest ++ rest)) (sym of) (stops_before (level_of o + 1) (symbol_of o) t.rest rest (expr_words r) (operator_stops o) (weak t.rest (symbol_of o) line (expr_words r) t.second)) in
+          ap (λ (u : List Token). onward (tight_reader u) (join_on (k + (s.turns + 1)))) e1
+          ∙ (ap (λ (m : ℕ). onward (tight_reader (t.front ++ (t.rest ++ rest))) (join_on m)) e2
+          ∙ (s.reads t.front (t.rest ++ rest) (suc k) t.first stop ∙ join_step o l r line k t.rest rest of fit t.second stops));
     }
 
     abbrev RowTo : ℕ → Type 0
@@ -328,7 +332,7 @@ module _ (place : Place) (room : Room) (below : ℕ) (deeper : room.depth ≡ be
     row_form m to (Expr-F.Binary o l r line) x is le fit =
         let back : e.Binary o l r line ≡ x = sym (e.rolls-Binary o l r line) ∙ is in
         subst (λ (z : Expr). Row z) back
-          (binary_row m to o l r line (subst (λ (z : Expr). (shape place z).depth ≤ suc m) (sym back) le) (subst (λ (z : Expr). Fit (tightness level) z) (sym back) fit) (leb (tightness level + 1) (level_of o)) refl)
+        (binary_row m to o l r line (subst (λ (z : Expr). (shape place z).depth ≤ suc m) (sym back) le) (subst (λ (z : Expr). Fit (tightness level) z) (sym back) fit) (leb (tightness level + 1) (level_of o)) refl)
 
     row : (m : ℕ) → RowTo m
     row zero x le fit = absurd (omega (arith, positive place x))
@@ -371,6 +375,6 @@ unfolding expression_in
 expression_reads place brackets zero level lt = absurd (omega arith)
 expression_reads place brackets (suc depth) level lt =
     at_level_reads place (record { brackets = brackets; depth = suc depth }) depth (omega arith)
-      (expression_in place (brackets - 1) depth levels.Comparison) (expression_in place brackets depth)
-      (λ some deep. expression_reads place (brackets - 1) depth levels.Comparison deep)
-      (λ deep l. expression_reads place brackets depth l deep) level
+    (expression_in place (brackets - 1) depth levels.Comparison) (expression_in place brackets depth)
+    (λ some deep. expression_reads place (brackets - 1) depth levels.Comparison deep)
+    (λ deep l. expression_reads place brackets depth l deep) level

@@ -100,8 +100,8 @@ field_reads : (x : Field) (ts rest : List Token) → AreWords ts (field_words x)
 unfolding field
 field_reads x ts rest h any =
     type_then rest _ x.type_name _ ts (λ type. name >>= λ called. word (codes ";") >>= λ e. give (record { type_name = type; name = called })) h (λ us a.
-      name_then rest _ x.name _ us (λ called. word (codes ";") >>= λ e. give (record { type_name = x.type_name; name = called })) a (λ vs b.
-        word_then rest _ (codes ";") [] vs (λ e. give x) b (λ l ws c. ap (λ (u : List Token). gives x (u ++ rest)) (nothing ws c))))
+    name_then rest _ x.name _ us (λ called. word (codes ";") >>= λ e. give (record { type_name = x.type_name; name = called })) a (λ vs b.
+    word_then rest _ (codes ";") [] vs (λ e. give x) b (λ l ws c. ap (λ (u : List Token). gives x (u ++ rest)) (nothing ws c))))
 
 fields_read : (xs : List Field) (ts rest : List Token) → AreWords ts (in_turn (map field_words xs)) → length xs ≤ 32 → next begins_type rest ≡ false → fields (ts ++ rest) ≡ gives xs rest
 unfolding fields more_fields
@@ -111,7 +111,7 @@ parameter_reads : (x : Parameter) (ts rest : List Token) → AreWords ts (parame
 unfolding parameter
 parameter_reads x ts rest h =
     type_then rest _ x.type_name _ ts (λ type. name >>= λ called. give (record { type_name = type; name = called })) h (λ us a.
-      name_then rest _ x.name [] us (λ called. give (record { type_name = x.type_name; name = called })) a (λ vs b. ap (λ (u : List Token). gives x (u ++ rest)) (nothing vs b)))
+    name_then rest _ x.name [] us (λ called. give (record { type_name = x.type_name; name = called })) a (λ vs b. ap (λ (u : List Token). gives x (u ++ rest)) (nothing vs b)))
 
 others_read : (xs before : List Parameter) (n : ℕ) (ts rest : List Token) → AreWords ts (behind_commas (map parameter_words xs)) → length xs ≤ n → next (is (codes ",")) rest ≡ false
     → repeat n (λ ps. is (codes ",")) more_parameters before (ts ++ rest) ≡ gives (before ++ xs) rest
@@ -124,19 +124,19 @@ others_read (x ∷ xs) before (suc n) ts rest h le ends =
     turn (λ ps. is (codes ",")) more_parameters n before (ts ++ rest) (head_passes (codes ",") ts rest _ h)
     ∙ (bind_assoc (word (codes ",") (ts ++ rest)) (λ c. parameter >>= λ y. give (before ++ y ∷ [])) (repeat n (λ ps. is (codes ",")) more_parameters)
     ∙ word_then rest _ (codes ",") (parameter_words x ++ behind_commas (map parameter_words xs)) ts (λ c us. onward ((parameter >>= λ y. give (before ++ y ∷ [])) us) (repeat n (λ ps. is (codes ",")) more_parameters)) h (λ l us k.
-        bind_assoc (parameter (us ++ rest)) (λ y. give (before ++ y ∷ [])) (repeat n (λ ps. is (codes ",")) more_parameters)
-        ∙ part_then rest _ parameter x (parameter_words x) (behind_commas (map parameter_words xs)) us (λ y vs. onward (give (before ++ y ∷ []) vs) (repeat n (λ ps. is (codes ",")) more_parameters)) k
-            (λ front more p q. parameter_reads x front (more ++ rest) p)
-            (λ vs m. others_read xs (before ++ x ∷ []) n vs rest m (omega arith) ends ∙ ap (λ (b : List Parameter). gives b rest) (append_assoc before (x ∷ []) xs))))
+    bind_assoc (parameter (us ++ rest)) (λ y. give (before ++ y ∷ [])) (repeat n (λ ps. is (codes ",")) more_parameters)
+    ∙ part_then rest _ parameter x (parameter_words x) (behind_commas (map parameter_words xs)) us (λ y vs. onward (give (before ++ y ∷ []) vs) (repeat n (λ ps. is (codes ",")) more_parameters)) k
+    (λ front more p q. parameter_reads x front (more ++ rest) p)
+    (λ vs m. others_read xs (before ++ x ∷ []) n vs rest m (omega arith) ends ∙ ap (λ (b : List Parameter). gives b rest) (append_assoc before (x ∷ []) xs))))
 
 listed_reads : (xs : List Parameter) (ts rest : List Token) → AreWords ts (with_commas (map parameter_words xs)) → length xs ≤ 8 → next (is (codes ",")) rest ≡ false → next (is (codes ")")) rest ≡ true → listed (ts ++ rest) ≡ gives xs rest
 unfolding listed some_parameters other_parameters
 listed_reads [] ts rest h le ends closes = rw (nothing ts h, closes) refl
 listed_reads (x ∷ xs) ts rest h le ends closes =
     rw (type_fails x.type_name (name_word x.name ∷ behind_commas (map parameter_words xs)) ts rest h)
-      (part_then rest _ parameter x (parameter_words x) (behind_commas (map parameter_words xs)) ts (λ first. repeat 7 (λ ps. is (codes ",")) more_parameters (first ∷ [])) h
-        (λ front more p q. parameter_reads x front (more ++ rest) p)
-        (λ us k. others_read xs (x ∷ []) 7 us rest k (omega arith) ends))
+    (part_then rest _ parameter x (parameter_words x) (behind_commas (map parameter_words xs)) ts (λ first. repeat 7 (λ ps. is (codes ",")) more_parameters (first ∷ [])) h
+    (λ front more p q. parameter_reads x front (more ++ rest) p)
+    (λ us k. others_read xs (x ∷ []) 7 us rest k (omega arith) ends))
 
 -- ---- methods and classes
 
@@ -144,17 +144,17 @@ method_reads : (x : Method) (ts rest : List Token) → AreWords ts (method_words
 unfolding method parameters
 method_reads x ts rest h fits =
     word_then rest _ (codes "method") _ ts (λ l. type_word >>= λ r. name >>= λ c. parameters >>= λ ps. block_in places.Method max_nesting >>= λ b. give (record { result = r; name = c; parameters = ps; body = b })) h (λ l us a.
-      type_then rest _ x.result _ us (λ r. name >>= λ c. parameters >>= λ ps. block_in places.Method max_nesting >>= λ b. give (record { result = r; name = c; parameters = ps; body = b })) a (λ vs b.
-        name_then rest _ x.name _ vs (λ c. parameters >>= λ ps. block_in places.Method max_nesting >>= λ b. give (record { result = x.result; name = c; parameters = ps; body = b })) b (λ ws c.
-          bind_assoc (word (codes "(") (ws ++ rest)) (λ o. listed >>= λ ps. word (codes ")") >>= λ e. give ps) (λ ps. block_in places.Method max_nesting >>= λ b. give (record { result = x.result; name = x.name; parameters = ps; body = b }))
-          ∙ word_then rest _ (codes "(") _ ws (λ o us. onward ((listed >>= λ ps. word (codes ")") >>= λ e. give ps) us) (λ ps. block_in places.Method max_nesting >>= λ b. give (record { result = x.result; name = x.name; parameters = ps; body = b }))) c (λ l xs d.
-              bind_assoc (listed (xs ++ rest)) (λ ps. word (codes ")") >>= λ e. give ps) (λ ps. block_in places.Method max_nesting >>= λ b. give (record { result = x.result; name = x.name; parameters = ps; body = b }))
-              ∙ part_then rest _ listed x.parameters (with_commas (map parameter_words x.parameters)) (Fixed (codes ")") ∷ block_words x.body) xs (λ ps us. onward ((word (codes ")") >>= λ e. give ps) us) (λ ps. block_in places.Method max_nesting >>= λ b. give (record { result = x.result; name = x.name; parameters = ps; body = b }))) d
-                  (λ front more p q. listed_reads x.parameters front (more ++ rest) p fits.parameters (head_fails (codes ")") (codes ",") more rest _ q refl) (head_passes (codes ")") more rest _ q))
-                  (λ ys m. bind_assoc (word (codes ")") (ys ++ rest)) (λ e. give x.parameters) (λ ps. block_in places.Method max_nesting >>= λ b. give (record { result = x.result; name = x.name; parameters = ps; body = b }))
-                    ∙ word_then rest _ (codes ")") (block_words x.body) ys (λ e. block_in places.Method max_nesting >>= λ b. give (record { result = x.result; name = x.name; parameters = x.parameters; body = b })) m (λ l zs n.
-                        ap (λ r. onward r (λ (b : List Stmt). give (record { result = x.result; name = x.name; parameters = x.parameters; body = b })))
-                          (block_reads places.Method max_nesting (omega arith) x.body zs rest n (record { deep = fits.body.depth; nested = fits.body.nesting; proper = fits.body.proper }))))))))
+    type_then rest _ x.result _ us (λ r. name >>= λ c. parameters >>= λ ps. block_in places.Method max_nesting >>= λ b. give (record { result = r; name = c; parameters = ps; body = b })) a (λ vs b.
+    name_then rest _ x.name _ vs (λ c. parameters >>= λ ps. block_in places.Method max_nesting >>= λ b. give (record { result = x.result; name = c; parameters = ps; body = b })) b (λ ws c.
+    bind_assoc (word (codes "(") (ws ++ rest)) (λ o. listed >>= λ ps. word (codes ")") >>= λ e. give ps) (λ ps. block_in places.Method max_nesting >>= λ b. give (record { result = x.result; name = x.name; parameters = ps; body = b }))
+    ∙ word_then rest _ (codes "(") _ ws (λ o us. onward ((listed >>= λ ps. word (codes ")") >>= λ e. give ps) us) (λ ps. block_in places.Method max_nesting >>= λ b. give (record { result = x.result; name = x.name; parameters = ps; body = b }))) c (λ l xs d.
+    bind_assoc (listed (xs ++ rest)) (λ ps. word (codes ")") >>= λ e. give ps) (λ ps. block_in places.Method max_nesting >>= λ b. give (record { result = x.result; name = x.name; parameters = ps; body = b }))
+    ∙ part_then rest _ listed x.parameters (with_commas (map parameter_words x.parameters)) (Fixed (codes ")") ∷ block_words x.body) xs (λ ps us. onward ((word (codes ")") >>= λ e. give ps) us) (λ ps. block_in places.Method max_nesting >>= λ b. give (record { result = x.result; name = x.name; parameters = ps; body = b }))) d
+    (λ front more p q. listed_reads x.parameters front (more ++ rest) p fits.parameters (head_fails (codes ")") (codes ",") more rest _ q refl) (head_passes (codes ")") more rest _ q))
+    (λ ys m. bind_assoc (word (codes ")") (ys ++ rest)) (λ e. give x.parameters) (λ ps. block_in places.Method max_nesting >>= λ b. give (record { result = x.result; name = x.name; parameters = ps; body = b }))
+    ∙ word_then rest _ (codes ")") (block_words x.body) ys (λ e. block_in places.Method max_nesting >>= λ b. give (record { result = x.result; name = x.name; parameters = x.parameters; body = b })) m (λ l zs n.
+    ap (λ r. onward r (λ (b : List Stmt). give (record { result = x.result; name = x.name; parameters = x.parameters; body = b })))
+    (block_reads places.Method max_nesting (omega arith) x.body zs rest n (record { deep = fits.body.depth; nested = fits.body.nesting; proper = fits.body.proper }))))))))
 
 methods_read : (xs : List Method) (ts rest : List Token) → AreWords ts (in_turn (map method_words xs)) → AllByRecursion IsMethod xs → length xs ≤ 64 → next (is (codes "method")) rest ≡ false → methods (ts ++ rest) ≡ gives xs rest
 unfolding methods more_methods
@@ -177,14 +177,14 @@ class_reads : (x : Class) (ts rest : List Token) → AreWords ts (class_words x)
 unfolding class
 class_reads x ts rest h fits =
     kind_then x.kind _ ts rest _ (λ k. word (codes "class") >>= λ l. name >>= λ n. word (codes "{") >>= λ o. fields >>= λ fs. methods >>= λ ms. word (codes "}") >>= λ c. give (record { kind = k; name = n; fields = fs; methods = ms })) h (λ us a.
-      word_then rest _ (codes "class") _ us (λ l. name >>= λ n. word (codes "{") >>= λ o. fields >>= λ fs. methods >>= λ ms. word (codes "}") >>= λ c. give (record { kind = x.kind; name = n; fields = fs; methods = ms })) a (λ l vs b.
-        name_then rest _ x.name _ vs (λ n. word (codes "{") >>= λ o. fields >>= λ fs. methods >>= λ ms. word (codes "}") >>= λ c. give (record { kind = x.kind; name = n; fields = fs; methods = ms })) b (λ ws c.
-          word_then rest _ (codes "{") _ ws (λ o. fields >>= λ fs. methods >>= λ ms. word (codes "}") >>= λ c. give (record { kind = x.kind; name = x.name; fields = fs; methods = ms })) c (λ l xs d.
-            part_then rest _ fields x.fields (in_turn (map field_words x.fields)) (in_turn (map method_words x.methods) ++ Fixed (codes "}") ∷ []) xs (λ fs. methods >>= λ ms. word (codes "}") >>= λ c. give (record { kind = x.kind; name = x.name; fields = fs; methods = ms })) d
-              (λ front more p q. fields_read x.fields front (more ++ rest) p fits.fields (methods_no_type x.methods more rest q))
-              (λ ys e. part_then rest _ methods x.methods (in_turn (map method_words x.methods)) (Fixed (codes "}") ∷ []) ys (λ ms. word (codes "}") >>= λ c. give (record { kind = x.kind; name = x.name; fields = x.fields; methods = ms })) e
-                (λ front more p q. methods_read x.methods front (more ++ rest) p fits.each fits.methods (head_fails (codes "}") (codes "method") more rest [] q refl))
-                (λ zs f. word_then rest _ (codes "}") [] zs (λ c. give x) f (λ l bs g. ap (λ (u : List Token). gives x (u ++ rest)) (nothing bs g))))))))
+    word_then rest _ (codes "class") _ us (λ l. name >>= λ n. word (codes "{") >>= λ o. fields >>= λ fs. methods >>= λ ms. word (codes "}") >>= λ c. give (record { kind = x.kind; name = n; fields = fs; methods = ms })) a (λ l vs b.
+    name_then rest _ x.name _ vs (λ n. word (codes "{") >>= λ o. fields >>= λ fs. methods >>= λ ms. word (codes "}") >>= λ c. give (record { kind = x.kind; name = n; fields = fs; methods = ms })) b (λ ws c.
+    word_then rest _ (codes "{") _ ws (λ o. fields >>= λ fs. methods >>= λ ms. word (codes "}") >>= λ c. give (record { kind = x.kind; name = x.name; fields = fs; methods = ms })) c (λ l xs d.
+    part_then rest _ fields x.fields (in_turn (map field_words x.fields)) (in_turn (map method_words x.methods) ++ Fixed (codes "}") ∷ []) xs (λ fs. methods >>= λ ms. word (codes "}") >>= λ c. give (record { kind = x.kind; name = x.name; fields = fs; methods = ms })) d
+    (λ front more p q. fields_read x.fields front (more ++ rest) p fits.fields (methods_no_type x.methods more rest q))
+    (λ ys e. part_then rest _ methods x.methods (in_turn (map method_words x.methods)) (Fixed (codes "}") ∷ []) ys (λ ms. word (codes "}") >>= λ c. give (record { kind = x.kind; name = x.name; fields = x.fields; methods = ms })) e
+    (λ front more p q. methods_read x.methods front (more ++ rest) p fits.each fits.methods (head_fails (codes "}") (codes "method") more rest [] q refl))
+    (λ zs f. word_then rest _ (codes "}") [] zs (λ c. give x) f (λ l bs g. ap (λ (u : List Token). gives x (u ++ rest)) (nothing bs g))))))))
 
 class_begins : (x : Class) (ts rest : List Token) → AreWords ts (class_words x) → next begins_class (ts ++ rest) ≡ true
 class_begins x ts rest h = by_kind x.kind ts rest _ h
@@ -204,15 +204,15 @@ root_reads : (x : WrittenRoot) (ts rest : List Token) → AreWords ts (root_word
 unfolding root
 root_reads x ts rest h any =
     word_then rest _ (codes "root") _ ts (λ l. name >>= λ n. word (codes "=") >>= λ q. word (codes "new") >>= λ w. name >>= λ c. word (codes "(") >>= λ o. word (codes ")") >>= λ p. at >>= λ a. word (codes ";") >>= λ e. give (record { name = n; class = c; at = a })) h (λ l us a.
-      name_then rest _ x.name _ us (λ n. word (codes "=") >>= λ q. word (codes "new") >>= λ w. name >>= λ c. word (codes "(") >>= λ o. word (codes ")") >>= λ p. at >>= λ a. word (codes ";") >>= λ e. give (record { name = n; class = c; at = a })) a (λ vs b.
-        word_then rest _ (codes "=") _ vs (λ q. word (codes "new") >>= λ w. name >>= λ c. word (codes "(") >>= λ o. word (codes ")") >>= λ p. at >>= λ a. word (codes ";") >>= λ e. give (record { name = x.name; class = c; at = a })) b (λ l ws c.
-          word_then rest _ (codes "new") _ ws (λ w. name >>= λ c. word (codes "(") >>= λ o. word (codes ")") >>= λ p. at >>= λ a. word (codes ";") >>= λ e. give (record { name = x.name; class = c; at = a })) c (λ l xs d.
-            name_then rest _ x.class _ xs (λ c. word (codes "(") >>= λ o. word (codes ")") >>= λ p. at >>= λ a. word (codes ";") >>= λ e. give (record { name = x.name; class = c; at = a })) d (λ ys f.
-              word_then rest _ (codes "(") _ ys (λ o. word (codes ")") >>= λ p. at >>= λ a. word (codes ";") >>= λ e. give (record { name = x.name; class = x.class; at = a })) f (λ l zs g.
-                word_then rest _ (codes ")") _ zs (λ p. at >>= λ a. word (codes ";") >>= λ e. give (record { name = x.name; class = x.class; at = a })) g (λ l bs i.
-                  part_then rest _ at x.at (at_words x.at) (Fixed (codes ";") ∷ []) bs (λ a. word (codes ";") >>= λ e. give (record { name = x.name; class = x.class; at = a })) i
-                    (λ front more p q. at_reads x.at front (more ++ rest) p (head_fails (codes ";") (codes "at") more rest [] q refl))
-                    (λ ds j. word_then rest _ (codes ";") [] ds (λ e. give x) j (λ l cs k. ap (λ (u : List Token). gives x (u ++ rest)) (nothing cs k))))))))))
+    name_then rest _ x.name _ us (λ n. word (codes "=") >>= λ q. word (codes "new") >>= λ w. name >>= λ c. word (codes "(") >>= λ o. word (codes ")") >>= λ p. at >>= λ a. word (codes ";") >>= λ e. give (record { name = n; class = c; at = a })) a (λ vs b.
+    word_then rest _ (codes "=") _ vs (λ q. word (codes "new") >>= λ w. name >>= λ c. word (codes "(") >>= λ o. word (codes ")") >>= λ p. at >>= λ a. word (codes ";") >>= λ e. give (record { name = x.name; class = c; at = a })) b (λ l ws c.
+    word_then rest _ (codes "new") _ ws (λ w. name >>= λ c. word (codes "(") >>= λ o. word (codes ")") >>= λ p. at >>= λ a. word (codes ";") >>= λ e. give (record { name = x.name; class = c; at = a })) c (λ l xs d.
+    name_then rest _ x.class _ xs (λ c. word (codes "(") >>= λ o. word (codes ")") >>= λ p. at >>= λ a. word (codes ";") >>= λ e. give (record { name = x.name; class = c; at = a })) d (λ ys f.
+    word_then rest _ (codes "(") _ ys (λ o. word (codes ")") >>= λ p. at >>= λ a. word (codes ";") >>= λ e. give (record { name = x.name; class = x.class; at = a })) f (λ l zs g.
+    word_then rest _ (codes ")") _ zs (λ p. at >>= λ a. word (codes ";") >>= λ e. give (record { name = x.name; class = x.class; at = a })) g (λ l bs i.
+    part_then rest _ at x.at (at_words x.at) (Fixed (codes ";") ∷ []) bs (λ a. word (codes ";") >>= λ e. give (record { name = x.name; class = x.class; at = a })) i
+    (λ front more p q. at_reads x.at front (more ++ rest) p (head_fails (codes ";") (codes "at") more rest [] q refl))
+    (λ ds j. word_then rest _ (codes ";") [] ds (λ e. give x) j (λ l cs k. ap (λ (u : List Token). gives x (u ++ rest)) (nothing cs k))))))))))
 
 roots_read : (xs : List WrittenRoot) (ts rest : List Token) → AreWords ts (in_turn (map root_words xs)) → length xs ≤ 256 → next (is (codes "root")) rest ≡ false → roots (ts ++ rest) ≡ gives xs rest
 unfolding roots more_roots
@@ -231,5 +231,5 @@ pub setup_reads : (x : Declarations) (ts : List Token) → AreWords ts (setup_wo
 unfolding setup
 setup_reads x ts h fits =
     part_then [] _ classes x.classes (in_turn (map class_words x.classes)) (in_turn (map root_words x.roots)) ts (λ cs. roots >>= λ rs. give (record { classes = cs; roots = rs })) h
-      (λ front more p q. classes_read x.classes front (more ++ []) p fits.each fits.classes (roots_no_class x.roots more q))
-      (λ us k. ap (λ r. onward r (λ (rs : List WrittenRoot). give (record { classes = x.classes; roots = rs }))) (roots_read x.roots us [] k fits.roots refl))
+    (λ front more p q. classes_read x.classes front (more ++ []) p fits.each fits.classes (roots_no_class x.roots more q))
+    (λ us k. ap (λ r. onward r (λ (rs : List WrittenRoot). give (record { classes = x.classes; roots = rs }))) (roots_read x.roots us [] k fits.roots refl))

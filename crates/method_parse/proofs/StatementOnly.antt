@@ -87,7 +87,8 @@ opens_expr place x ws ts h =
     let s = split ts (expr_words x) ws h in
     let b = begins place x s.front s.first in
     record {
-      token = b.token; rest = b.rest ++ s.rest;
+      token = b.token;
+      rest = b.rest ++ s.rest;
       parts = s.parts ∙ ap (λ (u : List Token). u ++ s.rest) b.parts;
       no_else = head_not b.token (codes "else") b.head no_starter_else;
       no_end = head_not b.token (codes "}") b.head no_starter_end;
@@ -155,16 +156,16 @@ module _ (place : Place) (brackets : ℕ) where
   unfolding ended
   ended_reads x ts rest h fits =
       part_then rest _ (expression place brackets) x (expr_words x) (Fixed (codes ";") ∷ []) ts (λ value. word (codes ";") >>= λ e. give value) h
-        (λ front more p q. expr_reads place brackets x front (more ++ rest) p fits (stops_before 0 (codes ";") more rest [] (stop_semicolon 0) q))
-        (λ us k. word_then rest _ (codes ";") [] us (λ e. give x) k (λ l vs m. ap (λ (u : List Token). gives x (u ++ rest)) (nothing vs m)))
+      (λ front more p q. expr_reads place brackets x front (more ++ rest) p fits (stops_before 0 (codes ";") more rest [] (stop_semicolon 0) q))
+      (λ us k. word_then rest _ (codes ";") [] us (λ e. give x) k (λ l vs m. ap (λ (u : List Token). gives x (u ++ rest)) (nothing vs m)))
 
   condition_reads : (x : Expr) (ts rest : List Token) → AreWords ts (condition_words x) → ExprFits place (brackets - 1) x → condition place brackets (ts ++ rest) ≡ gives x rest
   unfolding condition
   condition_reads x ts rest h fits =
       word_then rest _ (codes "(") _ ts (λ o. expression place (brackets - 1) >>= λ value. word (codes ")") >>= λ c. give value) h (λ l us k.
-        part_then rest _ (expression place (brackets - 1)) x (expr_words x) (Fixed (codes ")") ∷ []) us (λ value. word (codes ")") >>= λ c. give value) k
-          (λ front more p q. expr_reads place (brackets - 1) x front (more ++ rest) p fits (stops_before 0 (codes ")") more rest [] (stop_close 0) q))
-          (λ vs m. word_then rest _ (codes ")") [] vs (λ c. give x) m (λ l ws n. ap (λ (u : List Token). gives x (u ++ rest)) (nothing ws n))))
+      part_then rest _ (expression place (brackets - 1)) x (expr_words x) (Fixed (codes ")") ∷ []) us (λ value. word (codes ")") >>= λ c. give value) k
+      (λ front more p q. expr_reads place (brackets - 1) x front (more ++ rest) p fits (stops_before 0 (codes ")") more rest [] (stop_close 0) q))
+      (λ vs m. word_then rest _ (codes ")") [] vs (λ c. give x) m (λ l ws n. ap (λ (u : List Token). gives x (u ++ rest)) (nothing ws n))))
 
   -- what fits of a statement that has a value
   value_fits : (x : Expr) (b : Bool) → FormFits brackets (with_value place x b) → ExprFits place brackets x × (b ≡ true)
@@ -196,19 +197,19 @@ module _ (place : Place) (brackets : ℕ) where
   unfolding simple assigned_name
   assign_reads n l x ts rest h fits =
       part_then rest _ (expression place brackets) (e.Variable n) (name_word n ∷ []) (FixedAt (codes "=") l ∷ spelling.ended x) ts (after_expression place brackets) h
-        (λ front more p q. expr_reads place brackets (e.Variable n) front (more ++ rest) (subst (λ (w : List Word). AreWords front w) (sym (eq.words-Variable n)) p) (leaf_fits (e.Variable n) true (eq.shape-Variable place n) refl) (stops_before 0 (codes "=") more rest (spelling.ended x) (stop_equals 0) (plain_line more (codes "=") l (spelling.ended x) q)))
-        (λ us k. ap (λ (r : Reader Stmt). r (us ++ rest)) (variable_target n) ∙ rw (head_passes (codes "=") us rest (spelling.ended x) (plain_line us (codes "=") l (spelling.ended x) k))
-          (line_then rest _ (codes "=") l (spelling.ended x) us (λ line. ended place brackets >>= λ value. give (s.Assign n line value)) k (λ vs m.
-            ap (λ r. onward r (λ (value : Expr). give (s.Assign n l value))) (ended_reads x vs rest m fits))))
+      (λ front more p q. expr_reads place brackets (e.Variable n) front (more ++ rest) (subst (λ (w : List Word). AreWords front w) (sym (eq.words-Variable n)) p) (leaf_fits (e.Variable n) true (eq.shape-Variable place n) refl) (stops_before 0 (codes "=") more rest (spelling.ended x) (stop_equals 0) (plain_line more (codes "=") l (spelling.ended x) q)))
+      (λ us k. ap (λ (r : Reader Stmt). r (us ++ rest)) (variable_target n) ∙ rw (head_passes (codes "=") us rest (spelling.ended x) (plain_line us (codes "=") l (spelling.ended x) k))
+      (line_then rest _ (codes "=") l (spelling.ended x) us (λ line. ended place brackets >>= λ value. give (s.Assign n line value)) k (λ vs m.
+      ap (λ r. onward r (λ (value : Expr). give (s.Assign n l value))) (ended_reads x vs rest m fits))))
 
   field_assign_reads : (n : Name) (l : ℕ) (x : Expr) (ts rest : List Token) → in_method place ≡ true → AreWords ts ((Fixed (codes "this") ∷ Fixed (codes ".") ∷ name_word n ∷ []) ++ FixedAt (codes "=") l ∷ spelling.ended x) → ExprFits place brackets x → simple place brackets (ts ++ rest) ≡ gives (s.FieldAssign n l x) rest
   unfolding simple assigned_field
   field_assign_reads n l x ts rest here h fits =
       part_then rest _ (expression place brackets) (e.Field n) (Fixed (codes "this") ∷ Fixed (codes ".") ∷ name_word n ∷ []) (FixedAt (codes "=") l ∷ spelling.ended x) ts (after_expression place brackets) h
-        (λ front more p q. expr_reads place brackets (e.Field n) front (more ++ rest) (subst (λ (w : List Word). AreWords front w) (sym (eq.words-Field n)) p) (leaf_fits (e.Field n) (in_method place) (eq.shape-Field place n) here) (stops_before 0 (codes "=") more rest (spelling.ended x) (stop_equals 0) (plain_line more (codes "=") l (spelling.ended x) q)))
-        (λ us k. ap (λ (r : Reader Stmt). r (us ++ rest)) (field_target n) ∙ rw (head_passes (codes "=") us rest (spelling.ended x) (plain_line us (codes "=") l (spelling.ended x) k))
-          (line_then rest _ (codes "=") l (spelling.ended x) us (λ line. ended place brackets >>= λ value. give (s.FieldAssign n line value)) k (λ vs m.
-            ap (λ r. onward r (λ (value : Expr). give (s.FieldAssign n l value))) (ended_reads x vs rest m fits))))
+      (λ front more p q. expr_reads place brackets (e.Field n) front (more ++ rest) (subst (λ (w : List Word). AreWords front w) (sym (eq.words-Field n)) p) (leaf_fits (e.Field n) (in_method place) (eq.shape-Field place n) here) (stops_before 0 (codes "=") more rest (spelling.ended x) (stop_equals 0) (plain_line more (codes "=") l (spelling.ended x) q)))
+      (λ us k. ap (λ (r : Reader Stmt). r (us ++ rest)) (field_target n) ∙ rw (head_passes (codes "=") us rest (spelling.ended x) (plain_line us (codes "=") l (spelling.ended x) k))
+      (line_then rest _ (codes "=") l (spelling.ended x) us (λ line. ended place brackets >>= λ value. give (s.FieldAssign n line value)) k (λ vs m.
+      ap (λ r. onward r (λ (value : Expr). give (s.FieldAssign n l value))) (ended_reads x vs rest m fits))))
 
   -- an expression alone
   evaluate_by : (x : Expr) (o : Expr-F Expr) → roll-Expr o ≡ x → (us rest : List Token) → AreWords us (Fixed (codes ";") ∷ []) → after_expression_by place brackets x o (us ++ rest) ≡ gives (s.Evaluate x) rest
@@ -230,29 +231,29 @@ module _ (place : Place) (brackets : ℕ) where
   unfolding simple after_expression
   evaluate_reads x ts rest h fits =
       part_then rest _ (expression place brackets) x (expr_words x) (Fixed (codes ";") ∷ []) ts (after_expression place brackets) h
-        (λ front more p q. expr_reads place brackets x front (more ++ rest) p fits (stops_before 0 (codes ";") more rest [] (stop_semicolon 0) q))
-        (λ us k. evaluate_by x (out-Expr x) (roll-out-Expr x) us rest k)
+      (λ front more p q. expr_reads place brackets x front (more ++ rest) p fits (stops_before 0 (codes ";") more rest [] (stop_semicolon 0) q))
+      (λ us k. evaluate_by x (out-Expr x) (roll-out-Expr x) us rest k)
 
   variable_reads : (t : TypeName) (n : Name) (l : ℕ) (x : Expr) (ts rest : List Token) → AreWords ts (Fixed (codes "var") ∷ spelling.type_word t ∷ name_word n ∷ FixedAt (codes "=") l ∷ spelling.ended x) → ExprFits place brackets x → variable place brackets (ts ++ rest) ≡ gives (s.Var t n l x) rest
   unfolding variable
   variable_reads t n l x ts rest h fits =
       word_then rest _ (codes "var") _ ts (λ w. type_word >>= λ type. name >>= λ called. word (codes "=") >>= λ equals. ended place brackets >>= λ value. give (s.Var type called equals value)) h (λ w us a.
-        type_then rest _ t _ us (λ type. name >>= λ called. word (codes "=") >>= λ equals. ended place brackets >>= λ value. give (s.Var type called equals value)) a (λ vs b.
-          name_then rest _ n _ vs (λ called. word (codes "=") >>= λ equals. ended place brackets >>= λ value. give (s.Var t called equals value)) b (λ ws c.
-            line_then rest _ (codes "=") l (spelling.ended x) ws (λ equals. ended place brackets >>= λ value. give (s.Var t n equals value)) c (λ xs d.
-              ap (λ r. onward r (λ (value : Expr). give (s.Var t n l value))) (ended_reads x xs rest d fits)))))
+      type_then rest _ t _ us (λ type. name >>= λ called. word (codes "=") >>= λ equals. ended place brackets >>= λ value. give (s.Var type called equals value)) a (λ vs b.
+      name_then rest _ n _ vs (λ called. word (codes "=") >>= λ equals. ended place brackets >>= λ value. give (s.Var t called equals value)) b (λ ws c.
+      line_then rest _ (codes "=") l (spelling.ended x) ws (λ equals. ended place brackets >>= λ value. give (s.Var t n equals value)) c (λ xs d.
+      ap (λ r. onward r (λ (value : Expr). give (s.Var t n l value))) (ended_reads x xs rest d fits)))))
 
   returned_reads : (x : Expr) (ts rest : List Token) → AreWords ts (Fixed (codes "return") ∷ spelling.ended x) → ExprFits place brackets x → returned place brackets (ts ++ rest) ≡ gives (s.Return x) rest
   unfolding returned
   returned_reads x ts rest h fits =
       word_then rest _ (codes "return") (spelling.ended x) ts (λ l. ended place brackets >>= λ value. give (s.Return value)) h (λ l us k.
-        ap (λ r. onward r (λ (value : Expr). give (s.Return value))) (ended_reads x us rest k fits))
+      ap (λ r. onward r (λ (value : Expr). give (s.Return value))) (ended_reads x us rest k fits))
 
   printed_reads : (x : Expr) (ts rest : List Token) → AreWords ts (Fixed (codes "print") ∷ spelling.ended x) → ExprFits place brackets x → printed place brackets (ts ++ rest) ≡ gives (s.Print x) rest
   unfolding printed
   printed_reads x ts rest h fits =
       word_then rest _ (codes "print") (spelling.ended x) ts (λ l. ended place brackets >>= λ value. give (s.Print value)) h (λ l us k.
-        ap (λ r. onward r (λ (value : Expr). give (s.Print value))) (ended_reads x us rest k fits))
+      ap (λ r. onward r (λ (value : Expr). give (s.Print value))) (ended_reads x us rest k fits))
 
   -- ---- statements with blocks
 
@@ -276,17 +277,17 @@ module _ (place : Place) (brackets : ℕ) where
     unfolding while_loop
     while_reads x b ts rest h fits =
         word_then rest _ (codes "while") _ ts (λ l. condition place brackets >>= λ test. block >>= λ body. give (s.While test body)) h (λ l us k.
-          part_then rest _ (condition place brackets) x (condition_words x) (brace_words (map stmt_words b)) us (λ test. block >>= λ body. give (s.While test body)) k
-            (λ front more p q. condition_reads x front (more ++ rest) p fits.test)
-            (λ vs m. ap (λ r. onward r (λ (body : List Stmt). give (s.While x body))) (block_reads fits.some b vs rest m fits.inner)))
+        part_then rest _ (condition place brackets) x (condition_words x) (brace_words (map stmt_words b)) us (λ test. block >>= λ body. give (s.While test body)) k
+        (λ front more p q. condition_reads x front (more ++ rest) p fits.test)
+        (λ vs m. ap (λ r. onward r (λ (body : List Stmt). give (s.While x body))) (block_reads fits.some b vs rest m fits.inner)))
 
     if_reads : (x : Expr) (b : List Stmt) (ts rest : List Token) → AreWords ts (Fixed (codes "if") ∷ (condition_words x ++ brace_words (map stmt_words b))) → IfFits x (in_braces (map (form place) b)) → next (is (codes "else")) rest ≡ false → branch place brackets block (ts ++ rest) ≡ gives (s.If x b) rest
     unfolding branch after_branch
     if_reads x b ts rest h fits none =
         word_then rest _ (codes "if") _ ts (λ l. condition place brackets >>= λ test. block >>= λ chosen. after_branch block test chosen) h (λ l us k.
-          part_then rest _ (condition place brackets) x (condition_words x) (brace_words (map stmt_words b)) us (λ test. block >>= λ chosen. after_branch block test chosen) k
-            (λ front more p q. condition_reads x front (more ++ rest) p fits.test)
-            (λ vs m. ap (λ r. onward r (λ (chosen : List Stmt). after_branch block x chosen)) (block_reads fits.some b vs rest m fits.inner) ∙ rw none refl))
+        part_then rest _ (condition place brackets) x (condition_words x) (brace_words (map stmt_words b)) us (λ test. block >>= λ chosen. after_branch block test chosen) k
+        (λ front more p q. condition_reads x front (more ++ rest) p fits.test)
+        (λ vs m. ap (λ r. onward r (λ (chosen : List Stmt). after_branch block x chosen)) (block_reads fits.some b vs rest m fits.inner) ∙ rw none refl))
 
     both_fits : (a b : Form) → FormFits brackets (both a b) → FormFits brackets a × FormFits brackets b
     both_fits a b fits =
@@ -298,13 +299,13 @@ module _ (place : Place) (brackets : ℕ) where
     else_reads x b c ts rest h fits =
         let f = both_fits (in_braces (map (form place) b)) (in_braces (map (form place) c)) fits.inner in
         word_then rest _ (codes "if") _ ts (λ l. condition place brackets >>= λ test. block >>= λ chosen. after_branch block test chosen) h (λ l us k.
-          part_then rest _ (condition place brackets) x (condition_words x) (brace_words (map stmt_words b) ++ Fixed (codes "else") ∷ brace_words (map stmt_words c)) us (λ test. block >>= λ chosen. after_branch block test chosen) k
-            (λ front more p q. condition_reads x front (more ++ rest) p fits.test)
-            (λ vs m. part_then rest _ block b (brace_words (map stmt_words b)) (Fixed (codes "else") ∷ brace_words (map stmt_words c)) vs (λ chosen. after_branch block x chosen) m
-              (λ front more p q. block_reads fits.some b front (more ++ rest) p f.0)
-              (λ ws n. rw (head_passes (codes "else") ws rest _ n)
-                (word_then rest _ (codes "else") (brace_words (map stmt_words c)) ws (λ l. block >>= λ otherwise. give (s.IfElse x b otherwise)) n (λ l ys o.
-                  ap (λ r. onward r (λ (otherwise : List Stmt). give (s.IfElse x b otherwise))) (block_reads fits.some c ys rest o f.1))))))
+        part_then rest _ (condition place brackets) x (condition_words x) (brace_words (map stmt_words b) ++ Fixed (codes "else") ∷ brace_words (map stmt_words c)) us (λ test. block >>= λ chosen. after_branch block test chosen) k
+        (λ front more p q. condition_reads x front (more ++ rest) p fits.test)
+        (λ vs m. part_then rest _ block b (brace_words (map stmt_words b)) (Fixed (codes "else") ∷ brace_words (map stmt_words c)) vs (λ chosen. after_branch block x chosen) m
+        (λ front more p q. block_reads fits.some b front (more ++ rest) p f.0)
+        (λ ws n. rw (head_passes (codes "else") ws rest _ n)
+        (word_then rest _ (codes "else") (brace_words (map stmt_words c)) ws (λ l. block >>= λ otherwise. give (s.IfElse x b otherwise)) n (λ l ys o.
+        ap (λ r. onward r (λ (otherwise : List Stmt). give (s.IfElse x b otherwise))) (block_reads fits.some c ys rest o f.1))))))
 
     by_start : (st : StmtStart) (ts : List Token) (result : Result (Stmt × List Token) ℕ) → start place brackets ts ≡ st → statement_by place brackets block st ts ≡ result → statement place brackets block ts ≡ result
     unfolding statement
@@ -333,12 +334,12 @@ module _ (place : Place) (brackets : ℕ) where
     form_reads (Stmt-F.Assign n l v) = subst ReadsStmt (sym (s.rolls-Assign n l v)) (λ ts rest h fits none.
         let w = words_as (s.Assign n l v) _ ts (eq.words-Assign n l v) h in
         by_start starts.Other (ts ++ rest) _ (starts_expr place brackets (e.Variable n) (FixedAt (codes "=") l ∷ spelling.ended v) ts rest (subst (λ (u : List Word). AreWords ts (u ++ FixedAt (codes "=") l ∷ spelling.ended v)) (sym (eq.words-Variable n)) w))
-          (assign_reads n l v ts rest w (value_fits v true (fits_as (s.Assign n l v) _ (eq.form-Assign place n l v) fits)).0))
+        (assign_reads n l v ts rest w (value_fits v true (fits_as (s.Assign n l v) _ (eq.form-Assign place n l v) fits)).0))
     form_reads (Stmt-F.FieldAssign n l v) = subst ReadsStmt (sym (s.rolls-FieldAssign n l v)) (λ ts rest h fits none.
         let w = words_as (s.FieldAssign n l v) _ ts (eq.words-FieldAssign n l v) h in
         let f = value_fits v (in_method place) (fits_as (s.FieldAssign n l v) _ (eq.form-FieldAssign place n l v) fits) in
         by_start starts.Other (ts ++ rest) _ (starts_expr place brackets (e.Field n) (FixedAt (codes "=") l ∷ spelling.ended v) ts rest (subst (λ (u : List Word). AreWords ts (u ++ FixedAt (codes "=") l ∷ spelling.ended v)) (sym (eq.words-Field n)) w))
-          (field_assign_reads n l v ts rest f.1 w f.0))
+        (field_assign_reads n l v ts rest f.1 w f.0))
     form_reads (Stmt-F.Return v) = subst ReadsStmt (sym (s.rolls-Return v)) (λ ts rest h fits none.
         let w = words_as (s.Return v) _ ts (eq.words-Return v) h in
         let f = value_fits v (in_method place) (fits_as (s.Return v) _ (eq.form-Return place v) fits) in
@@ -403,7 +404,7 @@ module _ (place : Place) (brackets : ℕ) where
         ∙ (ap (λ (k : ℕ). repeat k goes_on (more_statements place brackets block) before (t.front ++ (t.rest ++ rest))) one
         ∙ (turn goes_on (more_statements place brackets block) (n - 1) before (t.front ++ (t.rest ++ rest)) (goes_next t.front (t.rest ++ rest) o).1
         ∙ (ap (λ r. onward (onward r (λ (y : Stmt). give (before ++ y ∷ []))) (repeat (n - 1) goes_on (more_statements place brackets block)))
-            (statement_reads x t.front (t.rest ++ rest) t.first f.0 (no_else_next xs t.rest rest t.second none))
+        (statement_reads x t.front (t.rest ++ rest) t.first f.0 (no_else_next xs t.rest rest t.second none))
         ∙ (stmts_read xs (before ++ x ∷ []) (n - 1) t.rest rest t.second f.1 ends none (omega arith) ∙ ap (λ (b : List Stmt). gives b rest) (append_assoc before (x ∷ []) xs)))))
 
     not_end : (ts rest : List Token) (ws : List Word) → AreWords ts (Fixed (codes "}") ∷ ws) → next is_not_end (ts ++ rest) ≡ false
@@ -414,9 +415,9 @@ module _ (place : Place) (brackets : ℕ) where
     unfolding braces statements
     braces_read b ts rest h fits =
         word_then rest _ (codes "{") _ ts (λ l. statements place brackets block >>= λ stmts. word (codes "}") >>= λ c. give stmts) h (λ l us k.
-          part_then rest _ (statements place brackets block) b (in_turn (map stmt_words b)) (Fixed (codes "}") ∷ []) us (λ stmts. word (codes "}") >>= λ c. give stmts) k
-            (λ front more p q. stmts_read b [] (length (front ++ (more ++ rest))) front (more ++ rest) p (record { deep = fits.deep; nested = omega (arith, fits.nested); proper = fits.proper }) (not_end more rest [] q) (head_fails (codes "}") (codes "else") more rest [] q refl) (omega (arith, length-append front (more ++ rest))))
-            (λ vs m. word_then rest _ (codes "}") [] vs (λ c. give b) m (λ l ws n. ap (λ (u : List Token). gives b (u ++ rest)) (nothing ws n))))
+        part_then rest _ (statements place brackets block) b (in_turn (map stmt_words b)) (Fixed (codes "}") ∷ []) us (λ stmts. word (codes "}") >>= λ c. give stmts) k
+        (λ front more p q. stmts_read b [] (length (front ++ (more ++ rest))) front (more ++ rest) p (record { deep = fits.deep; nested = omega (arith, fits.nested); proper = fits.proper }) (not_end more rest [] q) (head_fails (codes "}") (codes "else") more rest [] q refl) (omega (arith, length-append front (more ++ rest))))
+        (λ vs m. word_then rest _ (codes "}") [] vs (λ c. give b) m (λ l ws n. ap (λ (u : List Token). gives b (u ++ rest)) (nothing ws n))))
 
 -- a block that is spelled is read, with room for its brackets
 pub block_reads : (place : Place) (brackets : ℕ) → 0 < brackets → (b : List Stmt) (ts rest : List Token) → AreWords ts (brace_words (map stmt_words b)) → FormFits brackets (in_braces (map (form place) b)) → block_in place brackets (ts ++ rest) ≡ gives b rest

@@ -1,5 +1,5 @@
 use super::*;
-use script_text::{scan, SyntaxError};
+use script_text::{SyntaxError, scan};
 use std::test::*;
 
 /// The line of the fault in a block, or 0.
@@ -59,7 +59,10 @@ const SETUPS: &[(&[u8], u32)] = &[
         b"free class A { int n; B b; method int get() { return this.n; } method B f(int a, B b) { this.b = b; return this.g(a); } }",
         0,
     ),
-    (b"free class A { }\npart class B { } root a = new A(); root b = new A() at 3;", 0),
+    (
+        b"free class A { }\npart class B { } root a = new A(); root b = new A() at 3;",
+        0,
+    ),
     (b"root a = new A();\nfree class A { }", 2),
     (b"free class A {\n method int f() { print 1; } }", 2),
     (b"free class A { method int f() { return old.x; } }", 1),
