@@ -12,3 +12,8 @@ pub mod Ends
 pub mod Eats
 pub mod Heads
 pub mod ListOnly
+pub mod ExpressionOnly
+pub mod OperatorOnly
+pub mod StatementOnly
+pub mod SetupOnly
+pub mod Only

@@ -11,7 +11,7 @@ mod statements;
 mod take;
 mod whole;
 
-pub use parse::{parse_block, parse_setup};
+pub use parse::{parse_block, parse_setup, spellings_are_unique};
 
 #[cfg(test)]
 mod tests;
