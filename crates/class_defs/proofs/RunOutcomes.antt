@@ -12,7 +12,7 @@ use Rattle.thor_value.specs.Names.{oref_cmp, same_oref}
 use Rattle.thor_value.specs.declared.names.Oref.{Oref}
 use Rattle.thor_value.specs.declared.values.Answer.TheVariants as answer
 use Rattle.thor_value.specs.declared.values.Fault.{Fault}
-use Rattle.class_defs.specs.Run.{Ran, begun, execute_all, ran_by, run, world_of}
+use Rattle.class_defs.specs.Run.{takes, Ran, begun, execute_all, ran_by, run, world_of}
 use Rattle.class_defs.specs.declared.machine.Flow.{Flow}
 use Rattle.class_defs.specs.declared.machine.Machine.{Machine}
 use Rattle.class_defs.specs.declared.machine.Stop.{Stop}
@@ -70,7 +70,7 @@ into false store names f m r empty is = cc
 
 pub ran : (store : Plain) (names : List Oref) (outcome : Result Flow Stop) (m : Machine) (r : Ran) → ran_by store names outcome m ≡ Some r → Behind store names r
 ran store names (Ok flow) m r is =
-    through (pointwise same_oref m.created names) store names _ r (record {
+    through (takes m.created names) store names _ r (record {
       fault = λ f h. cc;
       objects = λ x h. get-overwrite store.objects m.writes.pairs x h;
       epoch = refl;

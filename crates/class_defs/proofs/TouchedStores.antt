@@ -11,7 +11,7 @@ use Rattle.thor_value.specs.declared.values.Fault.{Fault}
 use Rattle.class_defs.proofs.Alike.{Ended}
 use Rattle.class_defs.proofs.AlikeRun.{ends_alike}
 use Rattle.class_defs.proofs.AlikeSteps.{over, Agree}
-use Rattle.class_defs.specs.Run.{Ran, begun, execute_all, ran_by, run, world_of}
+use Rattle.class_defs.specs.Run.{takes, Ran, begun, execute_all, ran_by, run, world_of}
 use Rattle.class_defs.specs.Touched.{AgreeOn, HadObjects, on_store}
 use Rattle.class_defs.specs.declared.machine.Flow.{Flow}
 use Rattle.class_defs.specs.declared.machine.Machine.{Machine}
@@ -52,7 +52,7 @@ picked false w r h = cc
 
 through : (store other : Plain) (flow : Flow) (names : List Oref) (m : Machine) (r : Ran) → ran_by store names (Ok flow) m ≡ Some r → Elsewhere other names (Ok flow) m r
 through store other flow names m r is =
-    let p = picked (pointwise same_oref m.created names) _ r is in
+    let p = picked (takes m.created names) _ r is in
     record { had = tt; touched = ap (λ (q : Ran). q.touched) p.1; ran = rw p.0 (ap (λ (q : Ran). Some (on_store other q)) p.1) }
 
 into : (store other : Plain) (f : Fault) (names : List Oref) (m : Machine) (r : Ran) → ran_by store names (Err (stop.Fault f)) m ≡ Some r → Elsewhere other names (Err (stop.Fault f)) m r

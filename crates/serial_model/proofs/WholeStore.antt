@@ -3,18 +3,17 @@ use Rattle.std.proofs.Common.{is_some, IfOk, if◌then◌else◌, length, ◌==�
 use Rattle.std.proofs.Math.Path.{fun_ext}
 use Rattle.std.proofs.lemmas.Bool.Decides.{nat_tests}
 use Rattle.std.specs.BTreeMap.{insert_entry, is_at}
-use Rattle.std.specs.Cmp.Lexicographic.{pointwise}
 use Rattle.std.specs.Map.{lookup}
 use Rattle.std.specs.Ordering.{match_ordering}
 use Rattle.std.specs.declared.cmp.Ordering.TheVariants.{Less, Equal, Greater}
 use Rattle.thor_value.specs.FiniteMap.{Map, get, has, insert, overwrite}
-use Rattle.thor_value.specs.Names.{oref_cmp, same_oref}
+use Rattle.thor_value.specs.Names.{oref_cmp}
 use Rattle.thor_value.specs.declared.memory.NoMemory.{NoMemory}
 use Rattle.thor_value.specs.declared.names.Oref.{Oref}
 use Rattle.thor_value.specs.declared.values.Obj.{Obj}
 use Rattle.thor_value.specs.declared.values.Answer.{Answer}
 use Rattle.thor_value.specs.declared.values.Answer.TheVariants as answer
-use Rattle.class_defs.specs.Run.{begun, execute_all, ran_by, run}
+use Rattle.class_defs.specs.Run.{begun, execute_all, ran_by, run, takes}
 use Rattle.class_defs.specs.Steps as steps
 use Rattle.class_defs.specs.Steps.{World}
 use Rattle.class_defs.specs.declared.machine.Flow.{Flow}
@@ -85,7 +84,7 @@ same_world schema first m = ap (λ (f : Oref → Option Object). record { schema
 -- what the evaluation that ended so tells of the run
 abbrev pub Agrees : List Oref → List Root → View → Ran → Option (Answer × Plain) → Type 0
 Agrees names roots view (Done (answer.Ints ints) reads writes fresh) e =
-    e ≡ (if pointwise same_oref fresh names then Some (answer.Ints ints, plain roots (record view { objects = overwrite view.objects writes })) else None)
+    e ≡ (if takes fresh names then Some (answer.Ints ints, plain roots (record view { objects = overwrite view.objects writes })) else None)
 Agrees names roots view (Done (answer.Fault f) reads writes fresh) e = e ≡ (if length names == 0 then Some (answer.Fault f, plain roots view) else None)
 Agrees names roots view (Need x owners) e = e ≡ None
 Agrees names roots view (NeedName repo) e = e ≡ None
@@ -96,8 +95,8 @@ map_if f false x = refl
 
 agree : (names : List Oref) (roots : List Root) (view : View) (r : Result Flow Stop) (m : Machine) → Agrees names roots view (ran_at view.epoch r m) (option_map effect (ran_by (plain roots view) names r m))
 agree names roots view (Ok flow) m =
-    map_if effect (pointwise same_oref m.created names) _
-    ∙ ap (λ objects. cond (pointwise same_oref m.created names) (Some (answer.Ints m.printed, record (plain roots view) { objects = objects })) None) (sym (overwrite_bare view.objects view.epoch m.writes.pairs))
+    map_if effect (takes m.created names) _
+    ∙ ap (λ objects. cond (takes m.created names) (Some (answer.Ints m.printed, record (plain roots view) { objects = objects })) None) (sym (overwrite_bare view.objects view.epoch m.writes.pairs))
 agree names roots view (Err (stop.Fault f)) m = map_if effect (length names == 0) _
 agree names roots view (Err (stop.Need x owners)) m = refl
 agree names roots view (Err (stop.NeedName repo)) m = refl
@@ -122,7 +121,7 @@ same_either false v = refl
 
 settled : (schema : Schema) (tx : List Stmt) (names : List Oref) (roots : List Root) (old : View) (a : Answer) (reads fresh : List Oref) (writes : List (Oref × Obj)) (taken : Option Answer) (new : View)
     → Agrees names roots old (Done a reads writes fresh) (effect_of schema tx (plain roots old) names) → Settles names fresh writes old a taken new → RanOn schema tx names roots old taken new
-settled schema tx names roots old (answer.Ints ints) reads fresh writes taken new e s = by_test (pointwise same_oref fresh names) schema tx names roots old _ _ taken new e s.0 s.1
+settled schema tx names roots old (answer.Ints ints) reads fresh writes taken new e s = by_test (takes fresh names) schema tx names roots old _ _ taken new e s.0 s.1
 settled schema tx names roots old (answer.Fault f) reads fresh writes taken new e s = by_test (length names == 0) schema tx names roots old old _ taken new e s.0 (s.1 ∙ same_either (length names == 0) old)
 
 -- what is taken over of an evaluation that ended is what the run gives
@@ -146,7 +145,7 @@ epoch_either false after old new same is = ap (λ (v : View). v.epoch) is
 
 -- the epoch stays
 pub settled_epoch : (names fresh : List Oref) (writes : List (Oref × Obj)) (old : View) (a : Answer) (taken : Option Answer) (new : View) → Settles names fresh writes old a taken new → new.epoch ≡ old.epoch
-settled_epoch names fresh writes old (answer.Ints ints) taken new s = epoch_either (pointwise same_oref fresh names) _ old new refl s.1
+settled_epoch names fresh writes old (answer.Ints ints) taken new s = epoch_either (takes fresh names) _ old new refl s.1
 settled_epoch names fresh writes old (answer.Fault f) taken new s = ap (λ (v : View). v.epoch) s.1
 
 pub done_result : (schema : Schema) → IsFirst schema → (tx : List Stmt) (names : List Oref) (old : View) (a : Answer) (reads fresh : List Oref) (writes : List (Oref × Obj)) (new : View) (r : Result (Option Answer) NoMemory)

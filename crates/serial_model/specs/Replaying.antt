@@ -1,13 +1,12 @@
 -- What the code that runs entries says of a run on a whole store.
 use Rattle.std.specs.Prelude.{◌≡◌, List, Option, Some, None, option_map, if◌then◌else◌, length, ◌==◌}
-use Rattle.std.specs.Cmp.Lexicographic.{pointwise}
-use Rattle.thor_value.specs.Names.{same_oref}
 use Rattle.thor_value.specs.declared.names.Oref.{Oref}
 use Rattle.thor_value.specs.FiniteMap.{overwrite}
 use Rattle.thor_value.specs.declared.values.Answer.{Answer}
 use Rattle.thor_value.specs.declared.values.Answer.TheVariants.{Ints, Fault}
 use Rattle.thor_value.specs.declared.values.Obj.{Obj}
 use Rattle.class_defs.specs.Run as run
+use Rattle.class_defs.specs.Run.{takes}
 use Rattle.class_defs.specs.declared.statements.Stmt.{Stmt}
 use Rattle.class_defs.specs.declared.store.Plain.{Plain}
 use Rattle.class_defs.specs.declared.store.Root.{Root}
@@ -33,5 +32,5 @@ RanOn schema tx names roots old (Some answer) new = effect_of schema tx (plain r
 -- where there are no names.
 abbrev pub Settles : List Oref → List Oref → List (Oref × Obj) → View → Answer → Option Answer → View → Type 0
 Settles names fresh writes old (Ints ints) taken new =
-    (taken ≡ (if pointwise same_oref fresh names then Some (Ints ints) else None)) × (new ≡ (if pointwise same_oref fresh names then record old { objects = overwrite old.objects writes } else old))
+    (taken ≡ (if takes fresh names then Some (Ints ints) else None)) × (new ≡ (if takes fresh names then record old { objects = overwrite old.objects writes } else old))
 Settles names fresh writes old (Fault fault) taken new = (taken ≡ (if length names == 0 then Some (Fault fault) else None)) × (new ≡ old)

@@ -1,7 +1,9 @@
-ghost use Rattle.std.specs.Prelude.{◌≡◌, ◌≤◌, List, length, IfOk, OnOk};
+ghost use Rattle.std.specs.Prelude.{◌≡◌, ◌≤◌, List, length, IfOk, OnOk, ◌==◌};
 ghost use Rattle.std.specs.Cmp.Lexicographic.{pointwise};
+ghost use Rattle.std.specs.List.{list_any};
 ghost use Rattle.thor_value.specs.FiniteMap.{overwrite};
 ghost use Rattle.thor_value.specs.Names.{same_oref};
+ghost use Rattle.class_defs.specs.Run.{takes};
 ghost use Rattle.class_defs.specs.declared.store.Root.{Root};
 ghost use Rattle.serial_model.specs.Replaying.{RanOn, Settles};
 ghost use Rattle.serial_model.specs.Whole.{IsFirst};
@@ -11,11 +13,28 @@ use method_eval::{Ran, View, eval};
 use std::alloc::Global;
 use thor_value::{Answer, NoMemory, Obj, OrefMap, Orefs, TryCopy, Writes};
 
-/// Whether two lists have the same names in the same order.
 fn same_names(left: &Orefs, right: &Orefs) -> bool
     ensures { result ≡ pointwise same_oref left.now right.now }
 {
     left.as_slice() == right.as_slice()
+}
+
+fn has_stand_in(names: &Orefs) -> bool
+    ensures { result ≡ list_any (λ x. x.repo == 255) names.now }
+{
+    for name in names.as_slice() {
+        if name.repo == 255 {
+            return true;
+        }
+    }
+    false
+}
+
+/// Whether created objects took just these names, in their order, of which none is a stand-in name.
+fn takes(created: &Orefs, names: &Orefs) -> bool
+    ensures { result ≡ takes created.now names.now }
+{
+    same_names(created, names) && !has_stand_in(names)
 }
 
 /// Puts written objects in the places of those before.
@@ -40,7 +59,7 @@ fn settle(
 {
     match answer {
         Answer::Ints(ints) => {
-            if !same_names(fresh, names) {
+            if !takes(fresh, names) {
                 return Ok(None);
             }
             overwrite(&mut view.objects, writes)?;

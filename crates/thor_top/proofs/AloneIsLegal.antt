@@ -1,15 +1,14 @@
 -- What a client that is alone does is a legal history.
 use Rattle.std.proofs.Common.{◌≡◌, ℕ, ◌+◌, ◌<◌, Bool, true, false, cond, List, [], ◌∷◌, Option, Some, None, option_map, option_and_then, unwrap_or, IsSomeAnd, Result, Ok, Err, refl, ap, sym, ◌∙◌, subst, arith, length, ◌==◌}
-use Rattle.std.specs.Cmp.Lexicographic.{pointwise}
 use Rattle.std.specs.Cmp.{nat_cmp_is}
 use Rattle.std.specs.Ordering.{nat_cmp, ordering_then}
 use Rattle.std.specs.declared.cmp.Ordering.{Ordering}
 use Rattle.std.specs.declared.cmp.Ordering.TheVariants.{Less}
-use Rattle.thor_value.specs.Names.{Before, same_oref}
+use Rattle.thor_value.specs.Names.{Before}
 use Rattle.thor_value.specs.declared.names.Oref.{Oref}
 use Rattle.thor_value.specs.declared.names.Ts.{Ts}
 use Rattle.thor_value.specs.declared.values.Answer.{Answer}
-use Rattle.class_defs.specs.Run.{Ran, run, ran_by, execute_all, world_of, begun}
+use Rattle.class_defs.specs.Run.{Ran, run, ran_by, takes, execute_all, world_of, begun}
 use Rattle.class_defs.specs.declared.machine.Flow.{Flow}
 use Rattle.class_defs.specs.declared.machine.Machine.{Machine}
 use Rattle.class_defs.specs.declared.machine.Stop.{Stop}
@@ -54,7 +53,7 @@ epoch_of_chosen true store r s same is = ap (λ (x : Ran). x.store.epoch) (sym (
 epoch_of_chosen false store r s same is = absurd (let bad : None ≡ Some s = is in cc)
 
 epoch_by : (store : Plain) (names : List Oref) (r : Result Flow Stop) (m : Machine) (s : Ran) → ran_by store names r m ≡ Some s → s.store.epoch ≡ store.epoch
-epoch_by store names (Ok flow) m s is = epoch_of_chosen (pointwise same_oref m.created names) store _ s refl is
+epoch_by store names (Ok flow) m s is = epoch_of_chosen (takes m.created names) store _ s refl is
 epoch_by store names (Err (stop.Fault f)) m s is = epoch_of_chosen (length names == 0) store _ s refl is
 epoch_by store names (Err (stop.Need x owners)) m s is = absurd (let bad : None ≡ Some s = is in cc)
 epoch_by store names (Err (stop.NeedName repo)) m s is = absurd (let bad : None ≡ Some s = is in cc)
