@@ -1,5 +1,5 @@
 -- Where the tokens are no schedule, the fault is at the first of them that no schedule goes on with.
-use Rattle.std.proofs.Common.{◌≡◌, ◌⊎◌, ℕ, List, [], ◌∷◌, ◌++◌, Result, Ok, Err, refl, sym, ap, ◌∙◌, subst, inl, inr, append_assoc}
+use Rattle.std.proofs.Common.{◌≡◌, ℕ, List, [], ◌∷◌, ◌++◌, Result, Ok, Err, refl, sym, ap, ◌∙◌, subst, inl, inr, append_assoc}
 use Rattle.std.specs.Prelude.{fold, codes}
 use Rattle.std.proofs.lemmas.List.Sums.{fold-append}
 use Rattle.script_text.specs.declared.token.Token.{Token}
@@ -10,7 +10,7 @@ use Rattle.schedule.specs.declared.reader.Reader.{Reader}
 use Rattle.schedule.specs.declared.reader.Reader.TheVariants.{Ready, Named, Dotted, Stopped}
 use Rattle.schedule.specs.Schedule.{Mark, IsName, IsPoint, IsNumber, IsOther, mark_of, alone_event, pair_event, ready_step, named_step, dotted_step, step, at_end, last_line, read, events_of}
 use Rattle.schedule.specs.Written.{AreEventsOf, Begin, StopAt, EndShort, IsFirstFault}
-use Rattle.schedule.proofs.Schedules.{events_read, Holds, read_holds, events_held}
+use Rattle.schedule.proofs.Schedules.{events_read, read_holds, events_held}
 
 -- a fault is at the token
 abbrev IsHere : Reader → Token → Type 0

@@ -1,11 +1,11 @@
 -- What follows of an answer from what it is by the definition.
-use Rattle.std.proofs.Common.{◌≡◌, List, Result, Ok, Err, sym, ◌∙◌, subst}
+use Rattle.std.proofs.Common.{◌≡◌, List, Result, Ok, Err, subst}
 use Rattle.std.specs.Prelude.{IfOk, IfErr}
 use Rattle.script_text.specs.declared.token.Token.{Token}
 use Rattle.script_text.specs.declared.syntax.Syntax.{Syntax}
 use Rattle.script_text.specs.declared.syntax.SyntaxError.{SyntaxError}
 use Rattle.script_text.specs.declared.syntax.SyntaxError.TheVariants.{Fault, NoMemory}
-use Rattle.script_text.specs.Reading.{Gives, IsFaultOf}
+use Rattle.script_text.specs.Reading.{Gives}
 use Rattle.schedule.specs.declared.events.Event.{Event}
 use Rattle.schedule.specs.Schedule.{events_of}
 use Rattle.schedule.specs.Written.{AreEventsOf, IsFirstFault, IsFaultIn}

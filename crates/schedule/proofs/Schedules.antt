@@ -4,7 +4,6 @@ use Rattle.std.specs.Prelude.{map, fold}
 use Rattle.std.specs.List.{AllByRecursion, flat_map}
 use Rattle.std.proofs.lemmas.Grind.{flat_map-append}
 use Rattle.std.proofs.lemmas.List.{map-append}
-use Rattle.std.proofs.lemmas.List.Sums.{fold-append}
 use Rattle.script_text.specs.declared.token.Token.{Token}
 use Rattle.script_text.specs.declared.syntax.Syntax.{Syntax}
 use Rattle.schedule.specs.declared.events.Event.{Event}

@@ -3,3 +3,4 @@ pub mod Kinds
 pub mod Schedule
 pub mod Breaks
 pub mod Written
+pub mod Rows

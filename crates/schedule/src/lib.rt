@@ -14,4 +14,6 @@ pub use events::{Event, EventKind, Events};
 pub use parsing::parse_schedule;
 
 #[cfg(test)]
+mod rows;
+#[cfg(test)]
 mod tests;
