@@ -1,4 +1,4 @@
-ghost use Rattle.std.specs.Prelude.{◌≡◌, ◌<◌, ◌≤◌, ℕ, ◌++◌, ◌+◌, ◌*◌, List, length, All, Ok, Err, OnOk, OnErr, IfOk, IsErrOf};
+ghost use Rattle.std.specs.Prelude.{◌≡◌, ◌<◌, ◌≤◌, ℕ, ◌++◌, ◌+◌, ◌*◌, List, length, All, Ok, Err, OnOk, OnErr, IfOk, IsErrOf, IsOk};
 ghost use Rattle.std.specs.Option.{option_copied};
 ghost use Rattle.thor_value.specs.FiniteMap.{empty, get, insert, len as object_count};
 ghost use Rattle.page_format.specs.Pages.{Contents, PageFits, ObjectsFit, Passes, Parsed, page_bytes, page_size, taken};
@@ -8,7 +8,7 @@ use crate::splice::{spelled, spliced};
 use crate::walk::{find, parts_of};
 use std::alloc::Global;
 use std::marker::Model;
-use thor_value::{NoMemory, Sequence, Text};
+use thor_value::{NoMemory, Sequence, Text, TryCopy};
 
 /// A page: its number, and the bytes of the object in each slot that has one. What the bytes of an
 /// object mean is told by no page.
@@ -31,9 +31,10 @@ impl Model for Page {
 }
 
 impl Page {
-    /// A page that has no object.
+    /// A page that has no object. It takes no memory.
     pub fn empty(alloc: Global, page: u32) -> Result<Page, NoMemory>
-        ensures { IfOk result (λ made. made ≡ record { number = page; objects = empty }) }
+        ensures made { IfOk result (λ made. made ≡ record { number = page; objects = empty }) }
+        ensures ok { IsOk result }
     {
         Ok(Page {
             number: page,
@@ -102,6 +103,17 @@ impl Page {
         let alloc = *self.entries.allocator();
         let bytes = spelled(alloc, self.number, self.count, self.entries.as_slice())?;
         Ok(Sequence::from_vec(bytes))
+    }
+}
+
+impl TryCopy for Page {
+    fn copy(&self) -> Result<Page, NoMemory> {
+        let alloc = *self.entries.allocator();
+        Ok(Page {
+            number: self.number,
+            count: self.count,
+            entries: Vec::from_slice(alloc, self.entries.as_slice())?,
+        })
     }
 }
 

@@ -1,7 +1,7 @@
 use crate::{Damaged, Full, Page};
 use std::alloc::Global;
 use std::test::Fail;
-use thor_value::{NoMemory, Text};
+use thor_value::{NoMemory, Text, TryCopy};
 
 /// The object of class 0 and version 0 with one number, 5, as it is spelled.
 const FIVE: [u8; 16] = [0, 0, 0, 0, 0, 0, 1, 1, 0, 0, 0, 0, 0, 0, 0, 5];
@@ -30,6 +30,7 @@ fn empty_page_is_its_head_and_zeros(rt: HostRuntime) -> Result<(), Fail> {
     assert_eq!(rt; page.spell()?.as_slice(), want.as_slice());
     let read = Page::parse(rt.alloc(), want.as_slice())?;
     assert_eq!(rt; read.number(), 3);
+    assert_eq!(rt; read.copy()?.spell()?.as_slice(), want.as_slice());
     assert_eq!(rt; read.get(0), None);
     Ok(())
 }

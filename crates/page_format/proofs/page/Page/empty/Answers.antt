@@ -9,5 +9,5 @@ use Rattle.page_format.proofs.page.Page.empty.Goals as goal
 pub invariant_of-result : goal.invariant_of-result
 invariant_of-result c = rw c.new.ensures.items (stored [] (record { rising = tt; each = tt; count = omega arith; room = omega arith }))
 
-pub returns : goal.returns
-returns c = ap (λ (pairs : List (ℕ × List ℕ)). made c.args.page pairs) (ap (pairs_of 0) c.new.ensures.items ∙ pairs_zero [])
+pub returns-clause-made : goal.returns-clause-made
+returns-clause-made c = ap (λ (pairs : List (ℕ × List ℕ)). made c.args.page pairs) (ap (pairs_of 0) c.new.ensures.items ∙ pairs_zero [])
