@@ -158,6 +158,7 @@ fresh_settled log0 log1 pages clock d = λ bytes told_so image left. by_disk (sl
     all_fresh (suc zero) one is = let e : fresh log1 ≡ one = cc in sym e ∙ ap (λ (k : Kept). fresh k.bytes) e
     all_fresh (suc (suc zero)) one is = let e : fresh pages ≡ one = cc in sym e ∙ ap (λ (k : Kept). fresh k.bytes) e
     all_fresh (suc (suc (suc k))) one is = cc
+
     by_disk : (o : Option Kept) → ((one : Kept) → o ≡ Some one → one ≡ fresh one.bytes) → (bytes : List ℕ) → bytes_of o ≡ Some bytes → (image : List ℕ) → images_of 0 o image → image ≡ bytes
     by_disk None new bytes told_so image left = absurd left
     by_disk (Some one) new bytes told_so image left =

@@ -1,5 +1,5 @@
 -- The four device calls of an append, one after the other.
-use Rattle.std.proofs.Common.{◌≡◌, ◌≢◌, ℕ, ◌+◌, ◌-◌, ◌<◌, ◌≤◌, ◌^◌, List, [], ◌∷◌, ◌++◌, length, Option, Some, None, Result, refl, ap, sym, ◌∙◌, subst, arith, inl, inr, ◌⊎◌}
+use Rattle.std.proofs.Common.{◌≡◌, ℕ, ◌+◌, ◌<◌, ◌^◌, List, [], ◌∷◌, length, Some, Result, ap, sym, ◌∙◌, subst, inl}
 use Rattle.disk_trait.specs.Disks.{Disks, Leaves, MayLeave, IsSettled, WhereTold, Torn, written}
 use Rattle.disk_trait.specs.Calls.{Writes, Syncs}
 use Rattle.disk_trait.specs.declared.parts.Outage.{Outage}

@@ -1,6 +1,6 @@
 -- What a crash leaves in each of the two steps of an append.
-use Rattle.std.proofs.Common.{◌≡◌, ◌≢◌, ℕ, zero, suc, ◌+◌, ◌-◌, ◌<◌, ◌≤◌, ◌^◌, List, [], ◌∷◌, ◌++◌, length, take, drop, get_or, slice_index, sum_by, Option, Some, None, Result, Ok, Err, refl, ap, sym, ◌∙◌, subst, arith, length-append, append_assoc, take-append-drop, inl, inr, ◌⊎◌}
-use Rattle.std.proofs.lemmas.List.{append-nil, take_at, drop_at, take_all, drop_all, length-take-le, length-take, length-drop, take_more, get_or_at}
+use Rattle.std.proofs.Common.{◌≡◌, ◌≢◌, ℕ, ◌+◌, ◌<◌, ◌^◌, List, [], ◌∷◌, ◌++◌, length, take, drop, slice_index, Some, Ok, refl, ap, sym, ◌∙◌, subst, arith, length-append, append_assoc, inl, inr}
+use Rattle.std.proofs.lemmas.List.{append-nil, take_at, drop_at, length-take-le, take_more}
 use Rattle.std.proofs.lemmas.List.Sums.{sum_by-append}
 use Rattle.std.proofs.lemmas.Bool.{cases_eq}
 use Rattle.std.specs.Int.{w32, to_be_bytes}
@@ -8,7 +8,7 @@ use Rattle.disk_trait.specs.Disks.{Torn, written}
 use Rattle.log_frame.specs.Log.{Opened, Stands, with_body, IsBeforeOrAfter, bodies_from, opened_by, with_first, read_log, end_of, closed_record}
 use Rattle.log_frame.proofs.Frames.{prepend, framed, bodies_closed, bodies_open, u32_spelled}
 use Rattle.log_frame.proofs.Ends.{LogEnds, log_ends}
-use Rattle.log_frame.proofs.Tears.{torn_behind_place, torn_byte_place, split_at_place, written_within}
+use Rattle.log_frame.proofs.Tears.{torn_behind_place, torn_byte_place, written_within}
 
 module _ (bytes : List ℕ) (opened : Opened) (stands : Stands bytes opened) where
   log_end : LogEnds opened bytes

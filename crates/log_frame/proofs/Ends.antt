@@ -1,11 +1,11 @@
 -- The end of a whole log: what stands before it, and what may be put there.
-use Rattle.std.proofs.Common.{◌≡◌, ◌≢◌, ℕ, zero, suc, ◌+◌, ◌-◌, ◌<◌, ◌≤◌, ◌^◌, Bool, true, false, nat_le, ◌==◌, if◌then◌else◌, List, [], ◌∷◌, ◌++◌, length, take, drop, get_or, slice_index, sum_by, Option, Some, None, Result, Ok, Err, refl, ap, sym, ◌∙◌, subst, arith, length-append, append_assoc, take-append-drop, inl, inr, ◌⊎◌}
-use Rattle.std.proofs.lemmas.List.{append-nil, take_at, drop_at, take_all, drop_all, length-take-le, length-take, length-drop, drop-drop, take-take, get_or-take, get_or-append-add}
+use Rattle.std.proofs.Common.{◌≡◌, ◌≢◌, ℕ, ◌+◌, ◌<◌, Bool, true, false, ◌==◌, if◌then◌else◌, List, [], ◌∷◌, ◌++◌, length, take, drop, get_or, slice_index, sum_by, Some, None, Result, Ok, Err, refl, ap, sym, ◌∙◌, subst, arith, length-append, append_assoc, take-append-drop, inl, inr, ◌⊎◌}
+use Rattle.std.proofs.lemmas.List.{length-take-le, length-take, length-drop, get_or-append-add}
 use Rattle.std.proofs.lemmas.List.Sums.{sum_by-cons}
 use Rattle.std.proofs.lemmas.Bool.{cases_eq}
 use Rattle.std.proofs.lemmas.Bool.Decides.{nat_tests}
-use Rattle.log_frame.specs.Log.{Opened, Stands, with_body, u32_in, u64_in, is_whole, body_in, with_first, bodies_from, opened_by, read_open, read_log, end_of}
-use Rattle.log_frame.proofs.Frames.{prepend, take_add, u32_taken, Framed, framed, Unframed, unframed, bodies_skip, bodies_closed, bodies_open, bodies_damaged, prepend_none, prepend_first}
+use Rattle.log_frame.specs.Log.{Opened, Stands, u32_in, u64_in, is_whole, body_in, with_first, bodies_from, opened_by, read_open, read_log, end_of}
+use Rattle.log_frame.proofs.Frames.{prepend, take_add, u32_taken, framed, Unframed, unframed, bodies_skip, bodies_closed, bodies_open, prepend_none, prepend_first}
 use Rattle.log_frame.proofs.Headers.{read_open_whole, header_read, u64_taken}
 
 -- how far bodies reach from the gate of the first

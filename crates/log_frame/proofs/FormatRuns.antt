@@ -1,11 +1,10 @@
 -- A header is closed, and then a new log is written.
-use Rattle.std.proofs.Common.{◌≡◌, ◌≢◌, ℕ, ◌+◌, ◌<◌, ◌≤◌, ◌^◌, List, [], ◌∷◌, ◌++◌, length, Option, Some, None, Result, Ok, Err, OnOk, refl, ap, sym, ◌∙◌, subst, arith, inl, inr, ◌⊎◌, length-append}
+use Rattle.std.proofs.Common.{◌≡◌, ℕ, ◌+◌, List, length, Result, Ok, Err, OnOk, arith, inl, inr, length-append}
 use Rattle.std.specs.Int.{w64, to_be_bytes}
-use Rattle.disk_trait.specs.Disks.{Disks, OnDisk, Leaves, WhereTold}
+use Rattle.disk_trait.specs.Disks.{Disks, Leaves}
 use Rattle.disk_trait.proofs.Runs.{leaves_then, leaves_weaker}
-use Rattle.log_frame.specs.Log.{Opened, Place, Agrees, Stands, end_of, new_log, closed_record, header_bytes, IsOldOrShut, IsShutOrNew, IsOldOrNew}
+use Rattle.log_frame.specs.Log.{Opened, Place, Agrees, Stands, new_log, closed_record, header_bytes, IsOldOrShut, IsShutOrNew, IsOldOrNew}
 use Rattle.log_frame.proofs.Appends.{record_size}
-use Rattle.log_frame.proofs.LogAppends.{told_on}
 
 from_shut : (old image : List ℕ) (new : Opened) → IsOldOrShut old image → IsOldOrNew old new image
 from_shut old image new (inl is) = inl is

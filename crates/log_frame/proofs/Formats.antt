@@ -1,6 +1,6 @@
 -- What a crash leaves in each step of formatting.
-use Rattle.std.proofs.Common.{◌≡◌, ◌≢◌, ℕ, zero, suc, ◌+◌, ◌-◌, ◌<◌, ◌≤◌, ◌^◌, max, List, [], ◌∷◌, ◌++◌, length, take, drop, slice_index, Option, Some, None, Result, Ok, Err, Bool, true, false, ◌==◌, if◌then◌else◌, refl, ap, sym, ◌∙◌, subst, arith, length-append, append_assoc, take-append-drop, inl, inr, ◌⊎◌}
-use Rattle.std.proofs.lemmas.List.{append-nil, take_at, drop_at, length-take-le, length-drop, take_more, drop_more}
+use Rattle.std.proofs.Common.{◌≡◌, ◌≢◌, ℕ, ◌+◌, ◌<◌, ◌^◌, List, [], ◌∷◌, ◌++◌, length, drop, slice_index, Some, None, Result, Ok, Bool, true, false, ◌==◌, if◌then◌else◌, refl, ap, sym, ◌∙◌, subst, arith, append_assoc, inl, inr}
+use Rattle.std.proofs.lemmas.List.{take_more}
 use Rattle.std.proofs.lemmas.Bool.{cases_eq, cases_lt}
 use Rattle.std.proofs.lemmas.Bool.Decides.{nat_tests}
 use Rattle.std.specs.Int.{w32, w64, to_be_bytes}
@@ -8,11 +8,11 @@ use Rattle.disk_trait.specs.Disks.{Disks, OnDisk, Leaves, MayLeave, IsSettled, W
 use Rattle.disk_trait.specs.Calls.{Writes, Syncs}
 use Rattle.disk_trait.specs.declared.parts.Outage.{Outage}
 use Rattle.disk_trait.proofs.Runs.{leaves_none, leaves_call}
-use Rattle.log_frame.specs.Log.{Opened, Stands, u64_in, bodies_from, opened_by, read_open, read_log, new_log, closed_record, header_bytes, IsShut, MayBeOpen, IsOldOrShut, IsShutOrNew}
+use Rattle.log_frame.specs.Log.{Stands, u64_in, opened_by, read_open, read_log, new_log, closed_record, header_bytes, IsShut, MayBeOpen, IsOldOrShut, IsShutOrNew}
 use Rattle.log_frame.proofs.Frames.{bodies_closed, u32_spelled}
 use Rattle.log_frame.proofs.Headers.{header_read, u64_spelled}
 use Rattle.log_frame.proofs.LogAppends.{told_on}
-use Rattle.log_frame.proofs.Tears.{torn_front, torn_byte_place, split_at_place, written_within}
+use Rattle.log_frame.proofs.Tears.{torn_byte_place, split_at_place, written_within}
 
 -- no open header in front
 pub shut_none : (bytes : List ℕ) → slice_index bytes 0 ≢ 1 → read_log bytes ≡ None

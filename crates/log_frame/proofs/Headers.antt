@@ -1,10 +1,10 @@
 -- What stands behind an open header's gate.
-use Rattle.std.proofs.Common.{◌≡◌, ◌≢◌, ℕ, zero, suc, ◌+◌, ◌-◌, ◌<◌, ◌≤◌, ◌^◌, Bool, true, false, nat_le, ◌==◌, if◌then◌else◌, List, [], ◌∷◌, ◌++◌, length, take, drop, Option, Some, None, Result, Ok, Err, refl, ap, sym, ◌∙◌, subst, arith, length-append, append_assoc, take-append-drop, inl, inr}
-use Rattle.std.proofs.lemmas.List.{append-nil, take_at, drop_at, take_all, drop_all, length-take-le, length-drop, drop-drop, take-take}
-use Rattle.log_frame.specs.Log.{Opened, u32_in, u64_in, is_whole, body_in, with_first, bodies_from, opened_by, read_open, read_log}
+use Rattle.std.proofs.Common.{◌≡◌, ℕ, ◌+◌, ◌<◌, ◌^◌, Bool, true, if◌then◌else◌, List, [], ◌∷◌, ◌++◌, length, take, drop, Some, Err, refl, ap, sym, ◌∙◌, subst, arith, length-append}
+use Rattle.std.proofs.lemmas.List.{take_at, drop_at, take_all, drop-drop, take-take}
+use Rattle.log_frame.specs.Log.{u32_in, u64_in, is_whole, body_in, bodies_from, opened_by, read_open, read_log}
 use Rattle.std.specs.Int.{w64, from_be_bytes, to_be_bytes}
 use Rattle.std.proofs.lemmas.Nat.{from_be_bytes-to_be_bytes_8}
-use Rattle.log_frame.proofs.Frames.{prepend, bodies_skip, Framed, framed}
+use Rattle.log_frame.proofs.Frames.{bodies_skip, framed}
 
 -- where all of the header is there
 pub read_open_whole : (rest framed : List ℕ) (n sequence : ℕ) (head : List ℕ) → framed ≡ drop 8 rest → is_whole framed ≡ true → n ≡ 4 + u32_in framed → sequence ≡ u64_in rest → head ≡ body_in framed → read_open rest ≡ opened_by sequence head (bodies_from 0 (9 + n) (drop n framed))

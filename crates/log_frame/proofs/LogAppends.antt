@@ -1,8 +1,8 @@
 -- An append to a log that agrees with its disk.
-use Rattle.std.proofs.Common.{◌≡◌, ◌≢◌, ℕ, ◌+◌, ◌-◌, ◌<◌, ◌≤◌, ◌^◌, List, [], ◌∷◌, ◌++◌, length, Option, Some, None, Result, Ok, Err, Bool, true, false, is_some, refl, ap, sym, ◌∙◌, subst, arith, inl, inr, ◌⊎◌}
+use Rattle.std.proofs.Common.{◌≡◌, ℕ, ◌+◌, List, length, Option, Some, None, Ok, is_some, refl, ap, sym, ◌∙◌, subst, arith, inl}
 use Rattle.disk_trait.specs.Disks.{Disks, OnDisk, Leaves, MayLeave, IsSettled, WhereTold}
 use Rattle.disk_trait.proofs.Runs.{leaves_none}
-use Rattle.log_frame.specs.Log.{Opened, Place, Agrees, Stands, with_body, IsBeforeOrAfter, end_of, read_log}
+use Rattle.log_frame.specs.Log.{Opened, Place, Agrees, Stands, with_body, IsBeforeOrAfter, end_of}
 use Rattle.log_frame.proofs.Appends.{end_more}
 
 -- bytes stand for one log

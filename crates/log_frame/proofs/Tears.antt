@@ -1,6 +1,6 @@
 -- What a crash leaves of a write that isn't synced, as parts of the bytes.
-use Rattle.std.proofs.Common.{◌≡◌, ◌≢◌, ℕ, zero, suc, ◌+◌, ◌-◌, ◌<◌, ◌≤◌, min, max, List, [], ◌∷◌, ◌++◌, length, take, drop, get_or, slice_index, replicate, refl, ap, sym, ◌∙◌, subst, arith, length-append, append_assoc, take-append-drop, inl, inr, ◌⊎◌}
-use Rattle.std.proofs.lemmas.List.{append-nil, take_at, drop_at, take_all, drop_all, length-take-le, length-take, length-drop, get_or-take, get_or-drop, drop_more, take_more}
+use Rattle.std.proofs.Common.{◌≡◌, ℕ, ◌+◌, ◌-◌, ◌<◌, ◌≤◌, List, ◌∷◌, ◌++◌, length, take, drop, slice_index, ap, sym, ◌∙◌, arith, append_assoc, take-append-drop, inl, inr}
+use Rattle.std.proofs.lemmas.List.{append-nil, length-take-le, length-drop, get_or-take, get_or-drop, drop_more}
 use Rattle.std.proofs.lemmas.Grind.{same_number_lists}
 use Rattle.disk_trait.specs.Disks.{Torn, written}
 

@@ -1,5 +1,5 @@
 -- What the bytes of a log disk stand for.
-use Rattle.std.specs.Prelude.{◌≡◌, ◌≢◌, ◌⊎◌, ℕ, zero, suc, ◌+◌, ◌≤◌, ◌<◌, nat_le, ◌==◌, if◌then◌else◌, Bool, true, false, List, [], ◌∷◌, ◌++◌, length, take, drop, sum_by, slice_index, Option, Some, None, Result, Ok, Err}
+use Rattle.std.specs.Prelude.{◌≡◌, ◌≢◌, ◌⊎◌, ℕ, zero, suc, ◌+◌, ◌<◌, nat_le, ◌==◌, if◌then◌else◌, Bool, List, [], ◌∷◌, ◌++◌, length, take, drop, sum_by, slice_index, Option, Some, None, Result, Ok, Err}
 use Rattle.std.specs.Int.{w32, w64, from_be_bytes, to_be_bytes}
 
 -- what an open log holds: its sequence, its head, and the bodies of its records, the first one first

@@ -1,4 +1,3 @@
-use Rattle.std.proofs.Common.{◌≡◌}
 use Rattle.log_frame.proofs.AppendRuns.{after_write, after_sync, after_gate, after_all, appended}
 use Rattle.log_frame.proofs.append.append_at.Goals as goal
 

@@ -1,4 +1,4 @@
-use Rattle.std.proofs.Common.{◌≡◌, ◌∙◌, inl}
+use Rattle.std.proofs.Common.{◌∙◌, inl}
 use Rattle.disk_trait.specs.Disks.{MayLeave}
 use Rattle.disk_trait.proofs.Runs.{leaves_weaker, leaves_then}
 use Rattle.log_frame.specs.Log.{IsOldOrShut}

@@ -1,4 +1,3 @@
-use Rattle.std.proofs.Common.{◌≡◌}
 use Rattle.log_frame.proofs.Formats.{after_header, after_header_sync, after_open, after_open_sync, formatted}
 use Rattle.log_frame.proofs.format.open_header.Goals as goal
 

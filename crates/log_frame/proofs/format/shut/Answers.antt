@@ -1,4 +1,3 @@
-use Rattle.std.proofs.Common.{◌≡◌}
 use Rattle.log_frame.proofs.Formats.{after_shut_write, after_shut_sync, shut_reads}
 use Rattle.log_frame.proofs.format.shut.Goals as goal
 

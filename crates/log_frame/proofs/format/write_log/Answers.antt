@@ -1,7 +1,6 @@
-use Rattle.std.proofs.Common.{◌≡◌}
 use Rattle.log_frame.specs.Log.{new_log}
 use Rattle.log_frame.proofs.LogAppends.{told_on}
-use Rattle.log_frame.proofs.FormatRuns.{both_leave, shut_leaves, on_ok}
+use Rattle.log_frame.proofs.FormatRuns.{both_leave, on_ok}
 use Rattle.log_frame.proofs.format.write_log.Goals as goal
 
 pub returns-clause-any_moment : goal.returns-clause-any_moment

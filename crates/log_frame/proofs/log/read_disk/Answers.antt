@@ -1,4 +1,4 @@
-use Rattle.std.proofs.Common.{arith, rules, ◌≡◌, ◌≤◌, ◌++◌, ◌∙◌, ap, sym, length, take, drop, ℕ, List, []}
+use Rattle.std.proofs.Common.{arith, rules, ◌≡◌, ◌∙◌, ap, length, take}
 use Rattle.std.proofs.lemmas.List.{take_all, drop_all, append-nil}
 use Rattle.log_frame.proofs.log.read_disk.Goals as goal
 

@@ -1,6 +1,5 @@
-use Rattle.std.proofs.Common.{arith, rules, ◌≡◌, ◌∷◌, ◌+◌, ◌∙◌, ap, sym, length, length-drop, drop, sum_by}
-use Rattle.log_frame.specs.Log.{bodies_from, body_in}
-use Rattle.log_frame.proofs.Frames.{prepend, read_step, sum_step}
+use Rattle.std.proofs.Common.{arith, rules, ◌≡◌, ◌∷◌, ap, length}
+use Rattle.log_frame.proofs.Frames.{read_step, sum_step}
 use Rattle.log_frame.proofs.reading.read_bodies.Goals as goal
 
 pub loop-gate-preserved : goal.loop-gate-preserved

@@ -1,4 +1,4 @@
-use Rattle.std.proofs.Common.{arith, rules, ◌≡◌, ◌+◌, ◌∙◌, ap, sym, length, drop}
+use Rattle.std.proofs.Common.{rules, ◌+◌, ◌∙◌, ap, sym}
 use Rattle.log_frame.specs.Log.{opened_by, bodies_from}
 use Rattle.log_frame.proofs.Headers.{read_open_whole}
 use Rattle.log_frame.proofs.reading.read_open.Goals as goal

@@ -1,4 +1,4 @@
-use Rattle.std.proofs.Common.{◌≡◌, ◌+◌, ◌∙◌, refl, ap, sym, arith, length}
+use Rattle.std.proofs.Common.{◌≡◌, ◌+◌, ◌∙◌, refl, ap, arith, length}
 use Rattle.log_frame.specs.Log.{Place}
 use Rattle.log_frame.proofs.Appends.{record_size}
 use Rattle.log_frame.proofs.LogAppends.{end_agrees, none_leaves, kept_after, agrees_after}

@@ -1,4 +1,4 @@
-use Rattle.std.proofs.Common.{◌≡◌, ◌+◌, ◌<◌, ◌^◌, ◌∙◌, refl, ap, sym, arith, length}
+use Rattle.std.proofs.Common.{◌<◌, ◌^◌, ◌∙◌, refl, ap, sym, arith, length}
 use Rattle.log_frame.specs.Log.{Place, new_log}
 use Rattle.log_frame.proofs.LogAppends.{told_on, kept_after}
 use Rattle.log_frame.proofs.FormatRuns.{header_size, agrees_new}
