@@ -19,8 +19,4 @@ pub use checking::{check, check_item};
 pub use error::CheckError;
 
 #[cfg(test)]
-mod body_tests;
-#[cfg(test)]
-mod building;
-#[cfg(test)]
-mod item_tests;
+mod tests;

@@ -9,10 +9,6 @@ mod objects;
 mod operators;
 mod run;
 mod steps;
-#[cfg(test)]
-mod tests;
-#[cfg(test)]
-mod trees;
 mod types;
 mod view;
 mod world;

@@ -1,9 +1,7 @@
-use Rattle.std.proofs.Common.{◌≡◌, ℕ, ◌+◌, ◌<◌, Bool, true, false, ◌&&◌, List, length, drop, get_or, ap, sym, ◌∙◌, arith}
-use Rattle.std.proofs.lemmas.Grind.{common_steps}
+use Rattle.std.proofs.Common.{◌≡◌, ℕ, ◌+◌, ◌<◌, Bool, true, false, ◌&&◌, List, length, drop, get_or, ap, sym, ◌∙◌}
 use Rattle.std.proofs.lemmas.List.{at_drop_more}
 use Rattle.thor_value.specs.declared.names.Oref.{Oref}
 use Rattle.class_defs.specs.declared.store.Plain.{Plain}
-use Rattle.class_defs.specs.declared.store.Root.{Root}
 use Rattle.serial_model.specs.History.{are_fresh, is_new}
 use Rattle.serial_model.specs.Whole.{plain}
 use Rattle.serial_model.proofs.fresh.are_fresh.Goals as goal

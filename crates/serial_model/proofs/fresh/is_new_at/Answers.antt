@@ -1,4 +1,4 @@
-use Rattle.std.proofs.Common.{◌≡◌, ap, sym, ◌∙◌, rules, arith, ℕ, ◌<◌, ◌+◌, List, [], ◌∷◌, zero, suc, length, get_or, drop, refl, Bool}
+use Rattle.std.proofs.Common.{◌≡◌, ap, ◌∙◌, arith, ℕ, ◌<◌, ◌+◌, List, [], ◌∷◌, zero, suc, length, get_or, drop, refl, Bool}
 use Rattle.thor_value.specs.declared.names.Oref.{Oref}
 use Rattle.class_defs.specs.declared.store.Plain.{Plain}
 use Rattle.serial_model.specs.History.{is_new}
