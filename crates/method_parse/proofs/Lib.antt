@@ -17,3 +17,4 @@ pub mod OperatorOnly
 pub mod StatementOnly
 pub mod SetupOnly
 pub mod Only
+pub mod Local
