@@ -18,3 +18,5 @@ pub mod StatementOnly
 pub mod SetupOnly
 pub mod Only
 pub mod Local
+pub mod LocalReaders
+pub mod Faults
