@@ -20,3 +20,4 @@ pub mod Only
 pub mod Local
 pub mod LocalReaders
 pub mod Faults
+pub mod Rows
