@@ -18,7 +18,7 @@ use Rattle.method_parse.proofs.SetupLaws.{IsSetupText, lawful_setup}
 
 module _ {X : Type 0} (S : Says X) where
   -- the tokens say the value
-  abbrev Spelt : List Token → X → Type 0
+  abbrev pub Spelt : List Token → X → Type 0
   Spelt tokens x = S x tokens
 
   whole_found : (tokens : List Token) (r : Result (X × List Token) ℕ) (x : X) → Reads S tokens r → whole r ≡ Ok x → S x tokens
@@ -29,17 +29,17 @@ module _ {X : Type 0} (S : Says X) where
   whole_found tokens (Err n) x broke h = absurd cc
 
   -- where reading stopped
-  record Stopped (tokens : List Token) (left : ℕ) : Type 0 where
-    before : List Token
-    behind : List Token
-    parts : tokens ≡ before ++ behind
-    at : left ≡ length behind
-    begins : Begins Spelt before
+  pub record Stopped (tokens : List Token) (left : ℕ) : Type 0 where
+    pub before : List Token
+    pub behind : List Token
+    pub parts : tokens ≡ before ++ behind
+    pub at : left ≡ length behind
+    pub begins : Begins Spelt before
 
   same_number : (n left : ℕ) (read : Result X ℕ) → read ≡ Err n → read ≡ Err left → left ≡ n
   same_number n left read p q = cc
 
-  whole_stopped : (tokens : List Token) (r : Result (X × List Token) ℕ) (left : ℕ) → Reads S tokens r → whole r ≡ Err left → Stopped tokens left
+  pub whole_stopped : (tokens : List Token) (r : Result (X × List Token) ℕ) (left : ℕ) → Reads S tokens r → whole r ≡ Err left → Stopped tokens left
   whole_stopped tokens (Ok (y, [])) left took h = absurd cc
   whole_stopped tokens (Ok (y, t ∷ ts)) left took h = record {
     before = took.front;
@@ -57,7 +57,7 @@ module _ {X : Type 0} (S : Says X) where
   }
 
   -- what is left is what stands behind
-  left_is : (tokens before behind : List Token) (left : ℕ) → tokens ≡ before ++ behind → left ≡ length behind → drop (length tokens - left) tokens ≡ behind
+  pub left_is : (tokens before behind : List Token) (left : ℕ) → tokens ≡ before ++ behind → left ≡ length behind → drop (length tokens - left) tokens ≡ behind
   left_is tokens before behind left parts at =
       let n : length (before ++ behind) - length behind ≡ length before = omega (arith, length-append before behind) in
       rw (parts, at, n) (drop_at before behind (length before) refl)
@@ -84,16 +84,16 @@ module _ {X : Type 0} (S : Says X) where
   answered_up_to tokens r (Ok x) reads answers = tt
   answered_up_to tokens r (Err e) reads answers = up_to tokens r e reads answers
 
-abbrev SaysBlock : Says (List Stmt)
+abbrev pub SaysBlock : Says (List Stmt)
 SaysBlock block tokens = SpellsBlock tokens block
 
-abbrev SaysSetup : Says Declarations
+abbrev pub SaysSetup : Says Declarations
 SaysSetup setup tokens = SpellsSetup tokens setup
 
-lawful_item : Lawful SaysBlock (block_in Item max_nesting)
+pub lawful_item : Lawful SaysBlock (block_in Item max_nesting)
 lawful_item = lawful_as (λ b ts s. (s.spelled, record { depth = s.fits.deep; nesting = s.fits.nested; proper = s.fits.proper })) (lawful_block Item max_nesting (omega arith))
 
-lawful_declarations : Lawful SaysSetup setup
+pub lawful_declarations : Lawful SaysSetup setup
 lawful_declarations = lawful_as (λ x ts s. (s.spelled, s.is)) lawful_setup
 
 pub block_found : (tokens : List Token) (result : Result (List Stmt) SyntaxError) → Answers tokens result (block_of tokens) → IfOk result (SpellsBlock tokens)

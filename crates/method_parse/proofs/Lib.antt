@@ -17,3 +17,7 @@ pub mod OperatorOnly
 pub mod StatementOnly
 pub mod SetupOnly
 pub mod Only
+pub mod Local
+pub mod LocalReaders
+pub mod Faults
+pub mod Rows

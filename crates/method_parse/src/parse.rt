@@ -5,7 +5,7 @@ ghost use Rattle.class_defs.specs.declared.declarations.Declarations.{Declaratio
 ghost use Rattle.class_defs.specs.declared.statements.Stmt.{Stmt};
 ghost use Rattle.script_text.specs.declared.token.Token.{Token};
 ghost use Rattle.script_text.specs.Reading.{Gives};
-ghost use Rattle.method_parse.specs.Texts.{SpellsBlock, SpellsSetup, IsUpTo};
+ghost use Rattle.method_parse.specs.Texts.{SpellsBlock, SpellsSetup, IsFaultOf};
 
 use crate::whole::{block, declarations};
 use class_defs::{Block, Declarations};
@@ -16,11 +16,11 @@ use std::alloc::Global;
 ///
 /// `Fault` is at the line of the first token that can't go on; at the end of the tokens, at that of the
 /// last one, or 1.
-#[tactic(auto, using(crate::proofs::Ends::block_found, crate::proofs::Only::block_only, crate::proofs::Ends::block_up_to))]
+#[tactic(auto, using(crate::proofs::Ends::block_found, crate::proofs::Only::block_only, crate::proofs::Faults::block_fault))]
 pub fn parse_block(alloc: Global, tokens: &Tokens) -> Result<Block, SyntaxError>
     ensures found { IfOk result (SpellsBlock tokens.now) }
     ensures only { (block : List Stmt) → SpellsBlock tokens.now block → Gives result (Ok block) }
-    ensures fault { IfErr result (IsUpTo SpellsBlock tokens.now) }
+    ensures fault { IfErr result (IsFaultOf SpellsBlock tokens.now) }
 {
     block(alloc, tokens.as_slice())
 }
@@ -29,11 +29,11 @@ pub fn parse_block(alloc: Global, tokens: &Tokens) -> Result<Block, SyntaxError>
 ///
 /// `Fault` is at the line of the first token that can't go on; at the end of the tokens, at that of the
 /// last one, or 1.
-#[tactic(auto, using(crate::proofs::Ends::setup_found, crate::proofs::Only::setup_only, crate::proofs::Ends::setup_up_to))]
+#[tactic(auto, using(crate::proofs::Ends::setup_found, crate::proofs::Only::setup_only, crate::proofs::Faults::setup_fault))]
 pub fn parse_setup(alloc: Global, tokens: &Tokens) -> Result<Declarations, SyntaxError>
     ensures found { IfOk result (SpellsSetup tokens.now) }
     ensures only { (setup : Declarations) → SpellsSetup tokens.now setup → Gives result (Ok setup) }
-    ensures fault { IfErr result (IsUpTo SpellsSetup tokens.now) }
+    ensures fault { IfErr result (IsFaultOf SpellsSetup tokens.now) }
 {
     declarations(alloc, tokens.as_slice())
 }

@@ -4,6 +4,9 @@ use std::test::*;
 
 /// The line of the fault in a block, or 0.
 fn block_line(rt: &HostRuntime, text: &[u8]) -> u32 {
+    if 1_000_000 < text.len() {
+        return 7777;
+    }
     let tokens = match scan(rt.alloc(), text) {
         Ok(tokens) => tokens,
         Err(_) => return 9999,
@@ -17,6 +20,9 @@ fn block_line(rt: &HostRuntime, text: &[u8]) -> u32 {
 
 /// The line of the fault in a setup, or 0.
 fn setup_line(rt: &HostRuntime, text: &[u8]) -> u32 {
+    if 1_000_000 < text.len() {
+        return 7777;
+    }
     let tokens = match scan(rt.alloc(), text) {
         Ok(tokens) => tokens,
         Err(_) => return 9999,
