@@ -16,8 +16,8 @@ use crate::kinds::{
 use crate::least::must;
 use crate::nodes::{is_class, line_of};
 use class_defs::{
-    Classes, Expr, ExprType, Name, NamedType, NamedTypes, Position, RootDeclaration, Rule, TypeFault,
-    TypeName,
+    Classes, Expr, ExprType, Name, NamedType, NamedTypes, Position, RootDeclaration, Rule,
+    TypeFault, TypeName,
 };
 use thor_value::{NoMemory, TryCopy};
 

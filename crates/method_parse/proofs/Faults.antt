@@ -56,8 +56,8 @@ module _ {X : Type 0} (S : Says X) (reader : Reader X) (local : Local reader) (r
   none_begins tokens before t post parts stops begun =
       let regroup : (before ++ t ∷ []) ++ begun.0 ≡ before ++ t ∷ begun.0 = append_assoc before (t ∷ []) begun.0 in
       no_value t post begun.0 (reader (before ++ t ∷ post)) (reader (before ++ t ∷ begun.0)) begun.1 (local.same before t post begun.0)
-        (subst (λ (u : List Token). whole (reader u) ≡ Err (suc (length post))) parts stops)
-        (only (before ++ t ∷ begun.0) begun.1 (subst (λ (u : List Token). S begun.1 u) regroup begun.2))
+      (subst (λ (u : List Token). whole (reader u) ≡ Err (suc (length post))) parts stops)
+      (only (before ++ t ∷ begun.0) begun.1 (subst (λ (u : List Token). S begun.1 u) regroup begun.2))
 
   none_spelt : (tokens : List Token) (left : ℕ) → whole (reader tokens) ≡ Err left → (x : X) → S x tokens → ⊥
   none_spelt tokens left stops x said =
@@ -74,7 +74,11 @@ module _ {X : Type 0} (S : Says X) (reader : Reader X) (local : Local reader) (r
     on_line = refl;
   })
   by_rest tokens before (t ∷ post) left parts at begins stops = inl (record {
-    before = before; token = t; behind = post; parts = parts; begins = begins;
+    before = before;
+    token = t;
+    behind = post;
+    parts = parts;
+    begins = begins;
     ends = none_begins tokens before t post parts (stops ∙ ap (λ (n : ℕ). Err n) at);
     on_line = refl;
   })
@@ -83,7 +87,7 @@ module _ {X : Type 0} (S : Says X) (reader : Reader X) (local : Local reader) (r
   fault_at tokens left stops =
       let s = whole_stopped S tokens (reader tokens) left (reads tokens) stops in
       subst (λ (n : ℕ). IsFaultAt Spelt tokens n) (ap (line_at tokens) (sym (left_is S tokens s.before s.behind left s.parts s.at)))
-        (by_rest tokens s.before s.behind left s.parts s.at s.begins stops)
+      (by_rest tokens s.before s.behind left s.parts s.at s.begins stops)
 
   error_at : (tokens : List Token) (e : SyntaxError) → IsErrorOf tokens (whole (reader tokens)) e → IsFaultOf Spelt tokens e
   error_at tokens (Fault f) error = subst (λ (n : ℕ). IsFaultAt Spelt tokens n) (sym error.2) (fault_at tokens error.0 error.1)

@@ -41,7 +41,7 @@ onward_same : {A B : Type 0} (t : Token) (post other : List Token) (r o : Result
 onward_same t post other (Ok read) o next (inl le) local = gone t post other read.1 (next read.0 read.1) (onward o next) le ((local read.0).within read.1)
 onward_same t post other (Ok read) o next (inr k) local =
     subst (λ p. Same t post other (next read.0 read.1) (onward p next)) (sym k.2)
-      (subst (λ (u : List Token). Same t post other (next read.0 u) (next read.0 (k.0 ++ t ∷ other))) (sym k.1) ((local read.0).same k.0 t post other))
+    (subst (λ (u : List Token). Same t post other (next read.0 u) (next read.0 (k.0 ++ t ∷ other))) (sym k.1) ((local read.0).same k.0 t post other))
 onward_same t post other (Err left) o next (inl le) local = inl le
 onward_same t post other (Err left) o next (inr k) local = inr (k.0, k.1, ap (λ p. onward p next) k.2)
 
@@ -98,7 +98,7 @@ pub local_if : {X : Type 0} (test : Token → Bool) {one other : Reader X} → L
 local_if test {one = one} {other = two} first second = record {
   within = λ u. chosen_within (length u) (next test u) (one u) (two u) (first.within u) (second.within u);
   same = λ mid t post other.
-    subst (λ (b : Bool). Same t post other (cond (next test (mid ++ t ∷ post)) (one (mid ++ t ∷ post)) (two (mid ++ t ∷ post))) (cond b (one (mid ++ t ∷ other)) (two (mid ++ t ∷ other)))) (next_same test mid t post other)
+      subst (λ (b : Bool). Same t post other (cond (next test (mid ++ t ∷ post)) (one (mid ++ t ∷ post)) (two (mid ++ t ∷ post))) (cond b (one (mid ++ t ∷ other)) (two (mid ++ t ∷ other)))) (next_same test mid t post other)
       (chosen_same t post other (next test (mid ++ t ∷ post)) (one (mid ++ t ∷ post)) (two (mid ++ t ∷ post)) (one (mid ++ t ∷ other)) (two (mid ++ t ∷ other)) (first.same mid t post other) (second.same mid t post other));
 }
 
@@ -106,7 +106,7 @@ pub local_by : {X C : Type 0} (see : List Token → C) (readers : C → Reader X
 local_by see readers seen local = record {
   within = λ u. (local (see u)).within u;
   same = λ mid t post other.
-    subst (λ c. Same t post other (readers (see (mid ++ t ∷ post)) (mid ++ t ∷ post)) (readers c (mid ++ t ∷ other))) (seen mid t post other) ((local (see (mid ++ t ∷ post))).same mid t post other);
+      subst (λ c. Same t post other (readers (see (mid ++ t ∷ post)) (mid ++ t ∷ post)) (readers c (mid ++ t ∷ other))) (seen mid t post other) ((local (see (mid ++ t ∷ post))).same mid t post other);
 }
 
 pub local_repeat : {X : Type 0} (test : X → Token → Bool) (step : X → Reader X) → ((x : X) → Local (step x)) → (n : ℕ) (x : X) → Local (repeat n test step x)
@@ -144,10 +144,10 @@ module _ {X : Type 0} (test : X → Token → Bool) (step : X → Reader X) (str
   local_repeat_all local x = record {
     within = λ u. (local_repeat test step local (length u) x).within u;
     same = λ mid t post other.
-      let a = mid ++ t ∷ post in
-      let b = mid ++ t ∷ other in
-      let n = max (length a) (length b) in
-      subst (λ r. Same t post other r (repeat (length b) test step x b)) (enough n (length a) x a (omega arith) (omega arith))
+        let a = mid ++ t ∷ post in
+        let b = mid ++ t ∷ other in
+        let n = max (length a) (length b) in
+        subst (λ r. Same t post other r (repeat (length b) test step x b)) (enough n (length a) x a (omega arith) (omega arith))
         (subst (λ r. Same t post other (repeat n test step x a) r) (enough n (length b) x b (omega arith) (omega arith)) ((local_repeat test step local n x).same mid t post other));
   }
 

@@ -125,7 +125,7 @@ unfolding expression_in
 local_expression_in place brackets zero l = local_stuck
 local_expression_in place brackets (suc depth) l =
     local_level place (record { brackets = brackets; depth = suc depth }) (expression_in place (brackets - 1) depth levels.Comparison) (expression_in place brackets depth)
-      (local_expression_in place (brackets - 1) depth levels.Comparison) (local_expression_in place brackets depth) l
+    (local_expression_in place (brackets - 1) depth levels.Comparison) (local_expression_in place brackets depth) l
 
 -- ---- statements
 
@@ -326,10 +326,10 @@ local_root : Local root
 unfolding root
 local_root =
     local_bind (local_word _) (λ l. local_bind local_name (λ n. local_bind (local_word _) (λ q. local_bind (local_word _) (λ w. local_bind local_name (λ c. local_bind (local_word _) (λ o. local_bind (local_word _) (λ p.
-      local_bind local_at (λ a. local_bind (local_word _) (λ e. local_give _)))))))))
+    local_bind local_at (λ a. local_bind (local_word _) (λ e. local_give _)))))))))
 
 pub local_setup : Local setup
 unfolding setup classes roots more_classes more_roots
 local_setup =
     local_bind (local_repeat _ _ (λ xs. local_bind local_class (λ x. local_give _)) 256 []) (λ cs.
-      local_bind (local_repeat _ _ (λ xs. local_bind local_root (λ x. local_give _)) 256 []) (λ rs. local_give _))
+    local_bind (local_repeat _ _ (λ xs. local_bind local_root (λ x. local_give _)) 256 []) (λ rs. local_give _))

@@ -1,3 +1,0 @@
-pub mod AloneAnswers
-pub mod AloneIsLegal
-pub mod Performing

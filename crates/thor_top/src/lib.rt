@@ -1,4 +1,0 @@
-//! The top call.
-#![tactic(auto)]
-
-mod alone;
