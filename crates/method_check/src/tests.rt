@@ -1,7 +1,7 @@
 use super::*;
 use class_defs::{
-    Block, Class, ClassKind, Classes, Epochs, Expr, Exprs, Field, Fields, Method, Methods, Name,
-    Parameters, RootDeclaration, RootDeclarations, Rule, Schema, Stmt, TypeFault, TypeName,
+    Block, Checked, Class, ClassKind, Classes, Epochs, Expr, Exprs, Field, Fields, Method, Methods,
+    Name, Parameters, RootDeclaration, RootDeclarations, Rule, Schema, Stmt, TypeFault, TypeName,
 };
 use std::alloc::Global;
 use std::test::*;
@@ -81,13 +81,49 @@ fn item(alloc: Global, root: &[u8]) -> Result<Block, NoMemory> {
     Ok(block)
 }
 
-/// The line and rule that a check told, or nothing.
-fn told<T: Drop>(answer: Result<T, CheckError>) -> Result<Option<TypeFault>, Fail> {
-    match answer {
-        Ok(_) => Ok(None),
-        Err(CheckError::Broken(fault)) => Ok(Some(fault)),
-        Err(CheckError::NoMemory) => Err("memory".into()),
+/// The fault that a check told, or nothing.
+fn told(error: CheckError) -> Result<Option<TypeFault>, Fail> {
+    match error {
+        CheckError::Broken(fault) => Ok(Some(fault)),
+        CheckError::NoMemory => Err("memory".into()),
     }
+}
+
+/// What is told of the schema with this field in its method.
+fn told_of_schema(alloc: Global, field: &[u8]) -> Result<Option<TypeFault>, Fail> {
+    let schema = schema(alloc, field).ok().ok_or("memory")?;
+    if schema.classes.len() > 9 {
+        return Err("one class".into());
+    }
+    match check(alloc, &schema, 1) {
+        Ok(_) => Ok(None),
+        Err(error) => told(error),
+    }
+}
+
+/// What is told of the item on this root.
+fn told_of_item(alloc: Global, schema: &Checked, root: &[u8]) -> Result<Option<TypeFault>, Fail> {
+    let item = item(alloc, root).ok().ok_or("memory")?;
+    if schema.schema.classes.len() > 9 {
+        return Err("one class".into());
+    }
+    match check_item(alloc, schema, &item, 1) {
+        Ok(()) => Ok(None),
+        Err(error) => told(error),
+    }
+}
+
+/// The schema that breaks no rule.
+fn checked(alloc: Global) -> Result<Checked, Fail> {
+    let schema = schema(alloc, b"n").ok().ok_or("memory")?;
+    if schema.classes.len() > 9 {
+        return Err("one class".into());
+    }
+    Ok(
+        check(alloc, &schema, 1)
+            .ok()
+            .ok_or("the schema breaks no rule")?,
+    )
 }
 
 const UNKNOWN_FIELD: TypeFault = TypeFault {
@@ -103,17 +139,9 @@ const UNKNOWN_ROOT: TypeFault = TypeFault {
 #[test]
 fn schemas_and_items_are_checked(rt: HostRuntime) -> Result<(), Fail> {
     let alloc = rt.alloc();
-    let broken = schema(alloc, b"m").ok().ok_or("memory")?;
-    assert!(rt; broken.classes.len() < 9);
-    assert!(rt; told(check(alloc, &broken, 1))? == Some(UNKNOWN_FIELD));
-    let sound = schema(alloc, b"n").ok().ok_or("memory")?;
-    assert!(rt; sound.classes.len() < 9);
-    let checked = check(alloc, &sound, 1)
-        .ok()
-        .ok_or("the schema breaks no rule")?;
-    let known = item(alloc, b"a").ok().ok_or("memory")?;
-    assert!(rt; told(check_item(alloc, &checked, &known, 1))?.is_none());
-    let unknown = item(alloc, b"b").ok().ok_or("memory")?;
-    assert!(rt; told(check_item(alloc, &checked, &unknown, 1))? == Some(UNKNOWN_ROOT));
+    assert!(rt; told_of_schema(alloc, b"m")? == Some(UNKNOWN_FIELD));
+    let schema = checked(alloc)?;
+    assert!(rt; told_of_item(alloc, &schema, b"a")?.is_none());
+    assert!(rt; told_of_item(alloc, &schema, b"b")? == Some(UNKNOWN_ROOT));
     Ok(())
 }

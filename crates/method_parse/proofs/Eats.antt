@@ -1,5 +1,5 @@
 -- What is spelled is read: one word, one part after the other.
-use Rattle.std.proofs.Common.{◌≡◌, ℕ, zero, suc, ◌≤◌, Bool, true, false, cond, List, [], ◌∷◌, ◌++◌, Option, Some, None, Result, Ok, Err, pos, refl, sym, ap, subst, ◌∙◌, append_assoc}
+use Rattle.std.proofs.Common.{◌≡◌, ℕ, ◌≤◌, Bool, true, false, List, [], ◌∷◌, ◌++◌, Option, Some, None, Result, Ok, pos, refl, sym, ap, subst, ◌∙◌, append_assoc}
 use Rattle.std.specs.Prelude.{codes, ◌&&◌, option_map}
 use Rattle.std.specs.Str.{bytes_eq}
 use Rattle.std.specs.Option.{is_some}
@@ -8,15 +8,14 @@ use Rattle.script_text.specs.declared.token.Token.{Token}
 use Rattle.script_text.specs.declared.token.TokenKind.{TokenKind}
 use Rattle.script_text.specs.declared.token.TokenKind.TheVariants as kinds
 use Rattle.class_defs.specs.declared.expressions.Name.{Name}
-use Rattle.class_defs.specs.declared.expressions.Operator.{Operator}
 use Rattle.class_defs.specs.declared.expressions.TypeName.{TypeName}
 use Rattle.class_defs.specs.declared.expressions.TypeName.TheVariants as types
-use Rattle.class_defs.specs.Words.{Word, Fixed, FixedAt, Named, Numbered, name_word}
+use Rattle.class_defs.specs.Words.{Word, Fixed, FixedAt, Numbered, name_word}
 use Rattle.class_defs.specs.Spelling as spelling
 use Rattle.method_parse.specs.declared.deep.Level.{Level}
 use Rattle.method_parse.specs.declared.deep.Level.TheVariants as levels
-use Rattle.method_parse.specs.Matching.{IsWord, AreWords, is, is_name_kind, is_fixed_kind, number_in, number_of}
-use Rattle.method_parse.specs.Reader.{Reader, ◌>>=◌, onward, give, taken, take_by, word, name, name_in, number, with_line, type_word, type_in, next}
+use Rattle.method_parse.specs.Matching.{IsWord, AreWords, is, is_name_kind, is_fixed_kind, number_in}
+use Rattle.method_parse.specs.Reader.{Reader, ◌>>=◌, onward, give, take_by, word, name, name_in, number, with_line, type_word, type_in, next}
 use Rattle.method_parse.specs.Expressions.{operator_of, operator_by, operator_in}
 
 -- a token that is a keyword or symbol

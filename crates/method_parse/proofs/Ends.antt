@@ -1,5 +1,5 @@
 -- What is read of all tokens.
-use Rattle.std.proofs.Common.{◌≡◌, ℕ, ◌-◌, ◌+◌, List, [], ◌∷◌, ◌++◌, length, drop, Result, Ok, Err, refl, sym, ap, subst, ◌∙◌, arith}
+use Rattle.std.proofs.Common.{◌≡◌, ℕ, ◌-◌, List, [], ◌∷◌, ◌++◌, length, drop, Result, Ok, Err, refl, sym, ap, subst, ◌∙◌, arith}
 use Rattle.std.proofs.lemmas.List.{append-nil, length-append, drop_at}
 use Rattle.std.specs.Prelude.{IfOk, IfErr}
 use Rattle.script_text.specs.declared.token.Token.{Token}
@@ -12,9 +12,9 @@ use Rattle.class_defs.specs.Grammar.{max_nesting}
 use Rattle.method_parse.specs.Setups.{whole, block_of, setup_of, setup}
 use Rattle.method_parse.specs.Statements.{block_in}
 use Rattle.method_parse.specs.Texts.{SpellsBlock, SpellsSetup, Begins, line_at, fault_line, GoesUpTo, IsUpTo, Answers, IsErrorOf}
-use Rattle.method_parse.proofs.Lawful.{Says, Took, Broke, Reads, Lawful, lawful_as}
-use Rattle.method_parse.proofs.StatementLaws.{IsBraces, lawful_block}
-use Rattle.method_parse.proofs.SetupLaws.{IsSetupText, lawful_setup}
+use Rattle.method_parse.proofs.Lawful.{Says, Reads, Lawful, lawful_as}
+use Rattle.method_parse.proofs.StatementLaws.{lawful_block}
+use Rattle.method_parse.proofs.SetupLaws.{lawful_setup}
 
 module _ {X : Type 0} (S : Says X) where
   -- the tokens say the value

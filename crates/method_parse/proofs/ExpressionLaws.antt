@@ -1,6 +1,6 @@
 -- Each expression that is read is spelled by what was taken, and where the reader is stuck, the tokens
 -- before begin some expression.
-use Rattle.std.proofs.Common.{◌≡◌, ℕ, zero, suc, ◌+◌, ◌-◌, ◌≤◌, ◌<◌, max, Bool, true, false, ltb, List, [], ◌∷◌, ◌++◌, map, Option, Some, None, pos, refl, sym, ap, subst, ◌∙◌, append_assoc, arith}
+use Rattle.std.proofs.Common.{◌≡◌, ℕ, zero, suc, ◌+◌, ◌-◌, ◌≤◌, ◌<◌, max, Bool, true, false, List, [], ◌∷◌, ◌++◌, map, Option, Some, None, pos, refl, sym, ap, subst, ◌∙◌, arith}
 use Rattle.std.specs.Prelude.{codes, ◌&&◌, nat_lt, nat_le}
 use Rattle.std.proofs.lemmas.List.{append-nil}
 use Rattle.std.proofs.lemmas.Bool.{ltb-true, le-leb}
@@ -18,9 +18,9 @@ use Rattle.class_defs.specs.declared.expressions.Operator.TheVariants as operato
 use Rattle.class_defs.specs.declared.expressions.Expr.{Expr}
 use Rattle.class_defs.specs.declared.expressions.Expr.TheVariants as e
 use Rattle.class_defs.specs.declared.places.Place.{Place}
-use Rattle.class_defs.specs.Words.{Word, Fixed, FixedAt, Named, Numbered, name_word, symbol_of, with_commas}
+use Rattle.class_defs.specs.Words.{Word, Fixed, FixedAt, Numbered, name_word, symbol_of, with_commas}
 use Rattle.class_defs.specs.Spelling.{at_words, expr_words}
-use Rattle.class_defs.specs.Shape.{Shape, shape, deepest, most_nested, all_proper, in_method, level_of, left_level, right_level}
+use Rattle.class_defs.specs.Shape.{Shape, shape, all_proper, in_method, level_of, left_level, right_level}
 use Rattle.method_parse.specs.declared.deep.Deep.{Deep}
 use Rattle.method_parse.specs.declared.deep.Arguments.{Arguments}
 use Rattle.method_parse.specs.declared.deep.Level.{Level}
@@ -29,12 +29,12 @@ use Rattle.method_parse.specs.declared.deep.Room.{Room}
 use Rattle.method_parse.specs.declared.deep.Start.{Start}
 use Rattle.method_parse.specs.declared.deep.Start.TheVariants as starts
 use Rattle.method_parse.specs.Matching.{AreWords, is, is_fixed_kind}
-use Rattle.method_parse.specs.Reader.{Reader, ◌>>=◌, give, word, name, number, if_next, repeat, repeat_all}
+use Rattle.method_parse.specs.Reader.{Reader, ◌>>=◌, repeat}
 use Rattle.method_parse.specs.Expressions.{at, with_argument, first_argument, argument, is_comma, more_arguments, some_arguments, listed, arguments, call, leaf, may_call, is_field_call, after_field, after_this, created, parens, fixed_start, start_by, start, primary_by, primary, called, is_call, calls, postfix, Parts, is_minus, unary, operator_of, operator_by, operator_in, with_operator_line, operator, tighter, joined, is_join, joins, at_level, expression_in}
 use Rattle.method_parse.proofs.Lawful.{Says, Lawful, Some_text, behind, lawful_bind, lawful_give, lawful_last, lawful_stuck, lawful_as, lawful_if, lawful_repeat, lawful_repeat_all}
-use Rattle.method_parse.proofs.Matched.{join, plain, SaysWord, SaysName, SaysNumber, both_true, is_text, lawful_one, lawful_word, lawful_name, lawful_number}
+use Rattle.method_parse.proofs.Matched.{join, plain, SaysWord, SaysName, both_true, lawful_one, lawful_word, lawful_name, lawful_number}
 use Rattle.method_parse.proofs.Equations as eq
-use Rattle.method_parse.proofs.Fits.{tightness, FitsIn, IsRead, looser, ListFits, IsListed, IsFilled, IsBegun, IsApplied, commas-push, filled-push, deepest-push, nested-push, and-both, proper-push}
+use Rattle.method_parse.proofs.Fits.{tightness, FitsIn, IsRead, looser, ListFits, IsListed, IsBegun, IsApplied, commas-push, filled-push, deepest-push, nested-push, and-both, proper-push}
 
 abbrev pub SaysAt : Says (Option At)
 SaysAt o ts = AreWords ts (at_words o)

@@ -1,8 +1,6 @@
 -- Expressions that are spelled are read.
-use Rattle.std.proofs.Common.{◌≡◌, ℕ, ℤ, zero, suc, ◌+◌, ◌-◌, ◌≤◌, ◌<◌, max, Bool, true, false, cond, List, [], ◌∷◌, ◌++◌, length, map, Option, Some, None, Result, Ok, Err, pos, refl, sym, ap, subst, ◌∙◌, append_assoc, arith}
+use Rattle.std.proofs.Common.{◌≡◌, ℕ, ℤ, zero, suc, ◌+◌, ◌-◌, ◌≤◌, ◌<◌, max, Bool, true, false, List, [], ◌∷◌, ◌++◌, map, Option, Some, None, Result, Ok, pos, refl, sym, ap, subst, ◌∙◌, append_assoc, arith}
 use Rattle.std.specs.Prelude.{codes, ◌&&◌, nat_lt, nat_le, option_map}
-use Rattle.std.specs.Str.{bytes_eq}
-use Rattle.std.specs.Option.{is_some}
 use Rattle.std.proofs.lemmas.Bool.{leb-true, lt-ltb}
 use Rattle.script_text.specs.declared.token.Token.{Token}
 use Rattle.script_text.specs.declared.token.TokenKind.{TokenKind}
@@ -15,26 +13,24 @@ use Rattle.class_defs.specs.declared.expressions.Expr.{Expr, out-Expr, roll-Expr
 use Rattle.class_defs.specs.declared.expressions.Expr.TheOpen.{Expr-F}
 use Rattle.class_defs.specs.declared.expressions.Expr.TheVariants as e
 use Rattle.class_defs.specs.declared.places.Place.{Place}
-use Rattle.class_defs.specs.Words.{Word, Fixed, FixedAt, Named, Numbered, name_word, symbol_of, with_commas, behind_commas}
+use Rattle.class_defs.specs.Words.{Word, Fixed, FixedAt, Numbered, name_word, with_commas}
 use Rattle.class_defs.specs.Spelling.{expr_words, at_words}
-use Rattle.class_defs.specs.Shape.{Shape, shape, deepest, most_nested, all_proper, in_method, level_of, left_level, right_level}
+use Rattle.class_defs.specs.Shape.{Shape, shape, deepest, most_nested, all_proper, in_method, level_of}
 use Rattle.method_parse.specs.declared.deep.Deep.{Deep}
-use Rattle.method_parse.specs.declared.deep.Arguments.{Arguments}
 use Rattle.method_parse.specs.declared.deep.Level.{Level}
-use Rattle.method_parse.specs.declared.deep.Level.TheVariants as levels
 use Rattle.method_parse.specs.declared.deep.Room.{Room}
 use Rattle.method_parse.specs.declared.deep.Start.{Start}
 use Rattle.method_parse.specs.declared.deep.Start.TheVariants as starts
 use Rattle.method_parse.specs.Matching.{IsWord, AreWords, is, is_fixed_kind, is_name_kind, number_in}
-use Rattle.method_parse.specs.Reader.{Reader, ◌>>=◌, onward, give, word, name, number, next, if_next, repeat}
-use Rattle.method_parse.specs.Expressions.{at, arguments, call, leaf, may_call, is_field_call, after_field, after_this, created, parens, fixed_start, start_by, start, primary_by, primary, called, is_call, calls, postfix, Parts, is_minus, unary}
+use Rattle.method_parse.specs.Reader.{Reader, ◌>>=◌, onward, give, word, name, number, next, repeat}
+use Rattle.method_parse.specs.Expressions.{at, arguments, call, leaf, may_call, is_field_call, after_field, after_this, created, parens, fixed_start, start_by, start, primary_by, primary, called, is_call, calls, postfix, Parts}
 use Rattle.method_parse.proofs.Matched.{both_true}
 use Rattle.method_parse.proofs.Repeats.{no_turn}
 use Rattle.method_parse.proofs.Fits.{tightness, and-both}
 use Rattle.method_parse.proofs.Equations as eq
-use Rattle.method_parse.proofs.Eats.{fixed_is, is_not, First, first, Split, split, nothing, word_then, line_then, name_then, number_then, part_then, Stops, stops_before, stop_close}
+use Rattle.method_parse.proofs.Eats.{fixed_is, first, split, nothing, word_then, line_then, name_then, number_then, part_then, stops_before, stop_close}
 use Rattle.method_parse.proofs.Heads.{positive}
-use Rattle.method_parse.proofs.ListOnly.{deep, Suits, ReadsAll, SuitAll, bind_assoc, head_passes, head_fails, turn, args, arguments_then}
+use Rattle.method_parse.proofs.ListOnly.{deep, Suits, ReadsAll, SuitAll, bind_assoc, head_passes, head_fails, turn, arguments_then}
 
 -- the optional place
 pub at_reads : (o : Option At) (ts rest : List Token) → AreWords ts (at_words o) → next (is (codes "at")) rest ≡ false → at (ts ++ rest) ≡ Ok (o, rest)

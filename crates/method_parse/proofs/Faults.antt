@@ -1,6 +1,6 @@
 -- The fault is at the first token that can't go on.
-use Rattle.std.proofs.Common.{◌≡◌, ℕ, suc, ◌-◌, ◌+◌, ◌≤◌, List, [], ◌∷◌, ◌++◌, length, drop, Result, Ok, Err, refl, sym, ap, subst, ◌∙◌, append_assoc, arith, ◌⊎◌, inl, inr}
-use Rattle.std.proofs.lemmas.List.{append-nil, length-append, drop_at}
+use Rattle.std.proofs.Common.{◌≡◌, ℕ, suc, ◌+◌, List, [], ◌∷◌, ◌++◌, length, Result, Ok, Err, refl, sym, ap, subst, ◌∙◌, append_assoc, arith, inl, inr}
+use Rattle.std.proofs.lemmas.List.{append-nil}
 use Rattle.std.specs.Prelude.{IfErr}
 use Rattle.script_text.specs.declared.token.Token.{Token}
 use Rattle.script_text.specs.declared.syntax.SyntaxError.{SyntaxError}
@@ -12,9 +12,9 @@ use Rattle.class_defs.specs.Grammar.{max_nesting}
 use Rattle.method_parse.specs.Reader.{Reader}
 use Rattle.method_parse.specs.Setups.{whole, block_of, setup_of, setup}
 use Rattle.method_parse.specs.Statements.{block_in}
-use Rattle.method_parse.specs.Texts.{SpellsBlock, SpellsSetup, Begins, last_line, line_at, fault_line, IsFirstFault, IsCutOff, IsFaultAt, IsFaultOf, Answers, IsErrorOf}
+use Rattle.method_parse.specs.Texts.{SpellsBlock, SpellsSetup, Begins, line_at, fault_line, IsFaultAt, IsFaultOf, Answers, IsErrorOf}
 use Rattle.method_parse.proofs.Lawful.{Says, Reads}
-use Rattle.method_parse.proofs.Ends.{Stopped, whole_stopped, left_is, SaysBlock, SaysSetup, lawful_item, lawful_declarations}
+use Rattle.method_parse.proofs.Ends.{whole_stopped, left_is, SaysBlock, SaysSetup, lawful_item, lawful_declarations}
 use Rattle.method_parse.proofs.Only.{block_is_read, setup_is_read}
 use Rattle.method_parse.proofs.Local.{Same, Local}
 use Rattle.method_parse.proofs.LocalReaders.{local_block, local_setup}

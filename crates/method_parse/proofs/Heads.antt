@@ -1,6 +1,6 @@
 -- What an expression begins with.
-use Rattle.std.proofs.Common.{◌≡◌, ℕ, ℤ, zero, suc, ◌+◌, ◌≤◌, ◌<◌, max, Bool, true, false, List, [], ◌∷◌, ◌++◌, map, pos, refl, sym, ap, subst, ◌∙◌, arith, ◌⊎◌, inl, inr}
-use Rattle.std.specs.Prelude.{codes, ◌&&◌, option_map, Some}
+use Rattle.std.proofs.Common.{◌≡◌, ℕ, ℤ, zero, suc, ◌≤◌, ◌<◌, true, false, List, ◌∷◌, ◌++◌, pos, refl, sym, ap, subst, ◌∙◌, arith, ◌⊎◌, inl, inr}
+use Rattle.std.specs.Prelude.{codes, option_map, Some}
 use Rattle.std.specs.Str.{bytes_eq}
 use Rattle.script_text.specs.declared.token.Token.{Token}
 use Rattle.script_text.specs.declared.token.TokenKind.{TokenKind}
@@ -9,12 +9,11 @@ use Rattle.class_defs.specs.declared.expressions.Expr.{Expr, out-Expr, roll-Expr
 use Rattle.class_defs.specs.declared.expressions.Expr.TheOpen.{Expr-F}
 use Rattle.class_defs.specs.declared.expressions.Expr.TheFolds.{fold-roll-Expr, map-Expr}
 use Rattle.class_defs.specs.declared.places.Place.{Place}
-use Rattle.class_defs.specs.Words.{Word, Fixed, FixedAt, Named, Numbered}
+use Rattle.class_defs.specs.Words.{Word}
 use Rattle.class_defs.specs.Spelling.{expr_step, expr_words}
 use Rattle.class_defs.specs.Shape.{Shape, shape_step, shape}
 use Rattle.method_parse.specs.Matching.{IsWord, AreWords, is, is_name_kind, is_fixed_kind, number_in}
-use Rattle.method_parse.specs.Reader.{next}
-use Rattle.method_parse.proofs.Eats.{is_not, Split, split, First, first}
+use Rattle.method_parse.proofs.Eats.{is_not, split, first}
 
 -- the words and the shape of one level
 pub words_of : (o : Expr-F Expr) → expr_words (roll-Expr o) ≡ expr_step (map-Expr Expr (List Word) expr_words o)

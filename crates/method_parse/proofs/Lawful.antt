@@ -1,6 +1,6 @@
 -- What holds of a reader: what it takes from the front says the value, and where it is stuck, the tokens
 -- before begin a text that says some value.
-use Rattle.std.proofs.Common.{◌≡◌, ℕ, zero, suc, Bool, true, false, cond, List, [], ◌∷◌, ◌++◌, length, Result, Ok, Err, refl, sym, ap, subst, ◌∙◌, append_assoc, arith}
+use Rattle.std.proofs.Common.{◌≡◌, ℕ, zero, suc, Bool, true, false, cond, List, [], ◌∷◌, ◌++◌, length, Result, Ok, Err, refl, sym, ap, subst, ◌∙◌, append_assoc}
 use Rattle.std.proofs.lemmas.List.{append-nil}
 use Rattle.script_text.specs.declared.token.Token.{Token}
 use Rattle.method_parse.specs.Reader.{Reader, onward, ◌>>=◌, give, stuck, next, if_next, repeat, repeat_all}

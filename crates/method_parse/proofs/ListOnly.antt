@@ -1,6 +1,6 @@
 -- Arguments that are spelled are read.
-use Rattle.std.proofs.Common.{◌≡◌, ℕ, zero, suc, ◌+◌, ◌-◌, ◌≤◌, ◌<◌, max, Bool, true, false, cond, List, [], ◌∷◌, ◌++◌, length, map, Result, Ok, Err, refl, sym, ap, subst, ◌∙◌, append_assoc, arith}
-use Rattle.std.specs.Prelude.{codes, ◌&&◌}
+use Rattle.std.proofs.Common.{◌≡◌, ℕ, zero, suc, ◌≤◌, max, Bool, true, false, List, [], ◌∷◌, ◌++◌, length, map, Result, Ok, Err, refl, sym, ap, subst, ◌∙◌, append_assoc, arith}
+use Rattle.std.specs.Prelude.{codes}
 use Rattle.std.specs.Str.{bytes_eq}
 use Rattle.std.proofs.lemmas.List.{append-nil, length-append}
 use Rattle.script_text.specs.declared.token.Token.{Token}
@@ -16,8 +16,8 @@ use Rattle.method_parse.specs.Reader.{Reader, ◌>>=◌, onward, give, word, nex
 use Rattle.method_parse.specs.Expressions.{with_argument, first_argument, argument, is_comma, more_arguments, some_arguments, listed, arguments}
 use Rattle.method_parse.proofs.Matched.{both_true}
 use Rattle.method_parse.proofs.Repeats.{no_turn}
-use Rattle.method_parse.proofs.Eats.{fixed_is, is_not, Split, split, nothing, word_then, part_then, Stops, stops_before, stop_close, stop_comma}
-use Rattle.method_parse.proofs.Heads.{Starter, AtNull, AtThis, AtNew, AtOpen, AtMinus, starter_text, head_not, Headed, begins}
+use Rattle.method_parse.proofs.Eats.{fixed_is, is_not, split, nothing, word_then, part_then, Stops, stops_before, stop_close, stop_comma}
+use Rattle.method_parse.proofs.Heads.{Starter, AtNull, AtThis, AtNew, AtOpen, AtMinus, starter_text, head_not, begins}
 
 -- what an expression that fits is read as
 abbrev pub deep : Place → Expr → Deep

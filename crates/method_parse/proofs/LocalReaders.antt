@@ -18,9 +18,8 @@ use Rattle.method_parse.specs.declared.deep.Start.{Start}
 use Rattle.method_parse.specs.declared.deep.Start.TheVariants as starts
 use Rattle.method_parse.specs.declared.deep.StmtStart.{StmtStart}
 use Rattle.method_parse.specs.declared.deep.StmtStart.TheVariants as stmts
-use Rattle.method_parse.specs.Matching.{is}
-use Rattle.method_parse.specs.Reader.{Reader, ◌>>=◌, give, word, name}
-use Rattle.method_parse.specs.Expressions.{at, argument, is_comma, more_arguments, some_arguments, listed, arguments, is_field_call, after_field, after_this, created, parens, start, primary_by, primary, called, is_call, calls, postfix, Parts, is_minus, unary, operator, joined, is_join, most_joins, joins, tighter, at_level, expression_in}
+use Rattle.method_parse.specs.Reader.{Reader, word}
+use Rattle.method_parse.specs.Expressions.{at, argument, is_comma, more_arguments, some_arguments, listed, arguments, after_field, after_this, created, parens, start, primary_by, primary, called, is_call, calls, postfix, Parts, unary, operator, joined, is_join, most_joins, joins, tighter, at_level, expression_in}
 use Rattle.method_parse.specs.Statements as st
 use Rattle.method_parse.specs.Statements.{expression, ended, condition, variable, returned, printed, evaluated, assigned_name, assigned_field, after_expression_by, after_expression, simple, after_branch, branch, while_loop, statement_by, statement, goes_on, more_statements, statements, braces, block_in}
 use Rattle.method_parse.specs.Setups as setups

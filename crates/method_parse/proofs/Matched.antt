@@ -1,5 +1,5 @@
 -- How tokens and words go together.
-use Rattle.std.proofs.Common.{◌≡◌, ℕ, Bool, true, false, cond, List, [], ◌∷◌, ◌++◌, map, Option, Some, None, pos, refl, sym, ap, subst, ◌∙◌, append_assoc}
+use Rattle.std.proofs.Common.{◌≡◌, ℕ, Bool, true, false, cond, List, [], ◌∷◌, ◌++◌, Option, Some, None, pos, refl, ap, subst}
 use Rattle.std.specs.Prelude.{codes, ◌&&◌, option_map}
 use Rattle.std.specs.Str.{bytes_eq}
 use Rattle.std.proofs.lemmas.Slice.Eq.{bytes_eq-Decides}
@@ -9,11 +9,11 @@ use Rattle.script_text.specs.declared.token.TokenKind.TheVariants as kinds
 use Rattle.class_defs.specs.declared.expressions.Name.{Name}
 use Rattle.class_defs.specs.declared.expressions.TypeName.{TypeName}
 use Rattle.class_defs.specs.declared.expressions.TypeName.TheVariants as types
-use Rattle.class_defs.specs.Words.{Word, Fixed, FixedAt, Named, Numbered, name_word}
+use Rattle.class_defs.specs.Words.{Word, Fixed, FixedAt, Numbered, name_word}
 use Rattle.class_defs.specs.Spelling as spelling
-use Rattle.method_parse.specs.Matching.{IsWord, AreWords, is, is_name_kind, is_fixed_kind, number_in, number_of}
-use Rattle.method_parse.specs.Reader.{Reader, taken, take_by, word, name, name_in, number, with_line, type_word, type_in}
-use Rattle.method_parse.proofs.Lawful.{Says, Took, Broke, Reads, Some_text, Lawful}
+use Rattle.method_parse.specs.Matching.{AreWords, is, is_name_kind, is_fixed_kind, number_in}
+use Rattle.method_parse.specs.Reader.{taken, take_by, word, name, name_in, number, with_line, type_word, type_in}
+use Rattle.method_parse.proofs.Lawful.{Says, Reads, Some_text, Lawful}
 
 -- words behind words
 pub join : (ts us : List Token) (ws vs : List Word) → AreWords ts ws → AreWords us vs → AreWords (ts ++ us) (ws ++ vs)

@@ -1,5 +1,5 @@
 -- What all tokens spell is what is read of them.
-use Rattle.std.proofs.Common.{◌≡◌, ℕ, List, [], ◌∷◌, ◌++◌, Result, Ok, Err, refl, sym, ap, ◌∙◌, arith}
+use Rattle.std.proofs.Common.{◌≡◌, ℕ, List, [], Result, Ok, Err, sym, ap, ◌∙◌, arith}
 use Rattle.std.proofs.lemmas.List.{append-nil}
 use Rattle.script_text.specs.declared.token.Token.{Token}
 use Rattle.script_text.specs.declared.syntax.SyntaxError.{SyntaxError}
@@ -11,7 +11,7 @@ use Rattle.class_defs.specs.declared.places.Place.TheVariants.{Item}
 use Rattle.class_defs.specs.Grammar.{max_nesting}
 use Rattle.method_parse.specs.Setups.{whole, block_of, setup_of, setup}
 use Rattle.method_parse.specs.Statements.{block_in}
-use Rattle.method_parse.specs.Texts.{SpellsBlock, SpellsSetup, Answers, IsErrorOf}
+use Rattle.method_parse.specs.Texts.{SpellsBlock, SpellsSetup, Answers}
 use Rattle.method_parse.proofs.StatementOnly.{block_reads}
 use Rattle.method_parse.proofs.SetupOnly.{setup_reads}
 

@@ -1,7 +1,6 @@
 -- Expressions with operators that are spelled are read.
-use Rattle.std.proofs.Common.{◌≡◌, ℕ, zero, suc, ◌+◌, ◌-◌, ◌≤◌, ◌<◌, max, Bool, true, false, cond, leb, List, [], ◌∷◌, ◌++◌, map, Option, Some, None, Result, Ok, Err, pos, ℤ, refl, sym, ap, subst, ◌∙◌, append_assoc, arith}
+use Rattle.std.proofs.Common.{◌≡◌, ℕ, zero, suc, ◌+◌, ◌-◌, ◌≤◌, ◌<◌, max, Bool, true, false, leb, List, [], ◌∷◌, ◌++◌, Some, Result, pos, ℤ, refl, sym, ap, subst, ◌∙◌, append_assoc, arith}
 use Rattle.std.specs.Prelude.{codes, ◌&&◌, nat_lt, nat_le, option_map}
-use Rattle.std.specs.Str.{bytes_eq}
 use Rattle.std.specs.Option.{is_some}
 use Rattle.std.proofs.lemmas.Bool.{leb-true, leb-false, lt-ltb}
 use Rattle.script_text.specs.declared.token.Token.{Token}
@@ -13,7 +12,7 @@ use Rattle.class_defs.specs.declared.expressions.Expr.{Expr, out-Expr, roll-Expr
 use Rattle.class_defs.specs.declared.expressions.Expr.TheOpen.{Expr-F}
 use Rattle.class_defs.specs.declared.expressions.Expr.TheVariants as e
 use Rattle.class_defs.specs.declared.places.Place.{Place}
-use Rattle.class_defs.specs.Words.{Word, Fixed, FixedAt, Named, Numbered, name_word, symbol_of}
+use Rattle.class_defs.specs.Words.{Word, Fixed, FixedAt, symbol_of}
 use Rattle.class_defs.specs.Spelling.{expr_words}
 use Rattle.class_defs.specs.Shape.{Shape, shape, level_of, left_level, right_level}
 use Rattle.method_parse.specs.declared.deep.Deep.{Deep}
@@ -21,13 +20,13 @@ use Rattle.method_parse.specs.declared.deep.Level.{Level}
 use Rattle.method_parse.specs.declared.deep.Level.TheVariants as levels
 use Rattle.method_parse.specs.declared.deep.Room.{Room}
 use Rattle.method_parse.specs.Matching.{IsWord, AreWords, is, is_fixed_kind, is_name_kind, number_in}
-use Rattle.method_parse.specs.Reader.{Reader, ◌>>=◌, onward, give, taken, take_by, word, next, if_next, repeat}
-use Rattle.method_parse.specs.Expressions.{postfix, Parts, is_minus, unary, operator_of, operator_by, operator_in, with_operator_line, operator, tighter, joined, is_join, most_joins, joins, at_level, expression_in}
+use Rattle.method_parse.specs.Reader.{Reader, ◌>>=◌, onward, give, next, repeat}
+use Rattle.method_parse.specs.Expressions.{Parts, is_minus, unary, operator_of, operator_by, operator_in, with_operator_line, operator, tighter, joined, is_join, most_joins, joins, at_level, expression_in}
 use Rattle.method_parse.proofs.Matched.{both_true}
 use Rattle.method_parse.proofs.Repeats.{no_turn}
 use Rattle.method_parse.proofs.Fits.{tightness, and-both}
 use Rattle.method_parse.proofs.Equations as eq
-use Rattle.method_parse.proofs.Eats.{fixed_is, is_not, Split, split, line_then, Stops, StopWord, stops_before}
+use Rattle.method_parse.proofs.Eats.{fixed_is, is_not, split, line_then, Stops, StopWord, stops_before}
 use Rattle.method_parse.proofs.Heads.{positive}
 use Rattle.method_parse.proofs.ListOnly.{deep, Suits, ReadsAll, bind_assoc, turn}
 use Rattle.method_parse.proofs.ExpressionOnly.{got, read_is, deep_is, depth_is, postfix_reads}

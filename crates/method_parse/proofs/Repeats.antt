@@ -1,5 +1,5 @@
 -- One turn of a repetition, as a loop takes it.
-use Rattle.std.proofs.Common.{◌≡◌, ℕ, zero, suc, ◌-◌, ◌+◌, ◌≤◌, ◌<◌, Bool, true, false, List, Result, Ok, Err, refl, sym, ap, ◌∙◌, arith}
+use Rattle.std.proofs.Common.{◌≡◌, ℕ, zero, suc, ◌-◌, ◌+◌, ◌≤◌, ◌<◌, Bool, true, false, List, Result, Ok, refl, ap, ◌∙◌, arith}
 use Rattle.script_text.specs.declared.token.Token.{Token}
 use Rattle.method_parse.specs.declared.error.ParseError.{ParseError}
 use Rattle.method_parse.specs.declared.error.ParseError.TheVariants as errors

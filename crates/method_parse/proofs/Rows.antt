@@ -1,5 +1,5 @@
 -- Worked rows: what the definitions give for trees written out.
-use Rattle.std.proofs.Common.{◌≡◌, ℕ, List, [], ◌∷◌, ◌++◌, pos, refl, sym, ap, ◌∙◌, true, false, None}
+use Rattle.std.proofs.Common.{◌≡◌, ℕ, List, [], ◌∷◌, true, false}
 use Rattle.std.specs.Prelude.{codes}
 use Rattle.class_defs.specs.declared.expressions.Name.{Name}
 use Rattle.class_defs.specs.declared.expressions.Operator.TheVariants.{Add, Subtract, Multiply, Less, Equal}
@@ -7,9 +7,9 @@ use Rattle.class_defs.specs.declared.expressions.Expr.{Expr}
 use Rattle.class_defs.specs.declared.expressions.Expr.TheVariants as e
 use Rattle.class_defs.specs.declared.statements.Stmt.TheVariants as s
 use Rattle.class_defs.specs.declared.places.Place.TheVariants as places
-use Rattle.class_defs.specs.Words.{Word, Fixed, FixedAt, Named, Numbered}
-use Rattle.class_defs.specs.Spelling.{expr_words, stmt_words, block_words}
-use Rattle.class_defs.specs.Shape.{Shape, shape, form, Form}
+use Rattle.class_defs.specs.Words.{Fixed, FixedAt, Named}
+use Rattle.class_defs.specs.Spelling.{expr_words}
+use Rattle.class_defs.specs.Shape.{shape, form}
 use Rattle.method_parse.proofs.Equations as eq
 
 abbrev named : List ℕ → Name

@@ -1,31 +1,26 @@
 -- Each class and root that is read is spelled by what was taken, and where the reader is stuck, the
 -- tokens before begin some setup.
-use Rattle.std.proofs.Common.{◌≡◌, ℕ, zero, suc, ◌+◌, ◌≤◌, ◌<◌, Bool, true, false, List, [], ◌∷◌, ◌++◌, length, map, refl, sym, ap, subst, ◌∙◌, append_assoc, arith}
+use Rattle.std.proofs.Common.{◌≡◌, ℕ, suc, ◌+◌, ◌≤◌, ◌<◌, Bool, List, [], ◌∷◌, ◌++◌, length, map, sym, ap, subst, ◌∙◌, append_assoc, arith}
 use Rattle.std.specs.Prelude.{codes}
 use Rattle.std.specs.List.{AllByRecursion}
 use Rattle.std.proofs.lemmas.List.{append-nil, length_push}
 use Rattle.script_text.specs.declared.token.Token.{Token}
 use Rattle.class_defs.specs.declared.classes.ClassKind.{ClassKind}
 use Rattle.class_defs.specs.declared.classes.ClassKind.TheVariants.{Free, Part}
-use Rattle.class_defs.specs.declared.classes.Field.{Field}
 use Rattle.class_defs.specs.declared.classes.Parameter.{Parameter}
-use Rattle.class_defs.specs.declared.classes.Method.{Method}
-use Rattle.class_defs.specs.declared.classes.Class.{Class}
-use Rattle.class_defs.specs.declared.declarations.WrittenRoot.{WrittenRoot}
 use Rattle.class_defs.specs.declared.declarations.Declarations.{Declarations}
 use Rattle.class_defs.specs.declared.places.Place.TheVariants as places
-use Rattle.class_defs.specs.declared.statements.Stmt.{Stmt}
-use Rattle.class_defs.specs.Words.{Word, Fixed, FixedAt, name_word, with_commas, behind_commas, in_turn}
+use Rattle.class_defs.specs.Words.{Word, Fixed, name_word, with_commas, behind_commas, in_turn}
 use Rattle.class_defs.specs.Spelling as spelling
 use Rattle.class_defs.specs.Spelling.{field_words, parameter_words, method_words, kind_text, class_words, root_words, setup_words, at_words, block_words}
-use Rattle.class_defs.specs.Grammar.{max_nesting, IsBlock, IsMethod, IsClass, IsSetup}
+use Rattle.class_defs.specs.Grammar.{max_nesting, IsMethod, IsClass, IsSetup}
 use Rattle.method_parse.specs.Matching.{AreWords, is}
-use Rattle.method_parse.specs.Reader.{Reader, ◌>>=◌, give, word, name, type_word, if_next, repeat}
+use Rattle.method_parse.specs.Reader.{Reader, ◌>>=◌, give, repeat}
 use Rattle.method_parse.specs.Setups.{begins_type, field, more_fields, parameter, more_parameters, other_parameters, some_parameters, listed, parameters, method, more_methods, kind, fields, methods, class, more_classes, begins_class, root, more_roots, classes, roots, setup}
-use Rattle.method_parse.proofs.Lawful.{Says, Lawful, behind, lawful_bind, lawful_give, lawful_last, lawful_as, lawful_if, lawful_repeat_up_to}
-use Rattle.method_parse.proofs.Matched.{join, plain, SaysType, lawful_word, lawful_name, lawful_type}
+use Rattle.method_parse.proofs.Lawful.{Says, Lawful, behind, lawful_bind, lawful_give, lawful_last, lawful_if, lawful_repeat_up_to}
+use Rattle.method_parse.proofs.Matched.{join, plain, lawful_word, lawful_name, lawful_type}
 use Rattle.method_parse.proofs.ExpressionLaws.{lawful_at}
-use Rattle.method_parse.proofs.StatementLaws.{IsBraces, lawful_block}
+use Rattle.method_parse.proofs.StatementLaws.{lawful_block}
 
 -- ---- lists that grow at the end
 

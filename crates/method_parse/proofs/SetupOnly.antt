@@ -1,9 +1,9 @@
 -- Classes and roots that are spelled are read.
-use Rattle.std.proofs.Common.{◌≡◌, ℕ, zero, suc, ◌+◌, ◌-◌, ◌≤◌, ◌<◌, Bool, true, false, cond, List, [], ◌∷◌, ◌++◌, length, map, Result, Ok, Err, refl, sym, ap, subst, ◌∙◌, append_assoc, arith}
+use Rattle.std.proofs.Common.{◌≡◌, ℕ, zero, suc, ◌≤◌, Bool, true, false, List, [], ◌∷◌, ◌++◌, length, map, Result, refl, sym, ap, ◌∙◌, append_assoc, arith}
 use Rattle.std.specs.Prelude.{codes, ◌&&◌, ◌||◌}
 use Rattle.std.specs.Str.{bytes_eq}
 use Rattle.std.specs.List.{AllByRecursion}
-use Rattle.std.proofs.lemmas.List.{append-nil, length-append}
+use Rattle.std.proofs.lemmas.List.{append-nil}
 use Rattle.script_text.specs.declared.token.Token.{Token}
 use Rattle.script_text.specs.declared.token.TokenKind.{TokenKind}
 use Rattle.script_text.specs.declared.token.TokenKind.TheVariants as kinds
@@ -19,17 +19,17 @@ use Rattle.class_defs.specs.declared.declarations.WrittenRoot.{WrittenRoot}
 use Rattle.class_defs.specs.declared.declarations.Declarations.{Declarations}
 use Rattle.class_defs.specs.declared.places.Place.TheVariants as places
 use Rattle.class_defs.specs.declared.statements.Stmt.{Stmt}
-use Rattle.class_defs.specs.Words.{Word, Fixed, FixedAt, Named, name_word, with_commas, behind_commas, in_turn}
+use Rattle.class_defs.specs.Words.{Word, Fixed, name_word, with_commas, behind_commas, in_turn}
 use Rattle.class_defs.specs.Spelling as spelling
 use Rattle.class_defs.specs.Spelling.{field_words, parameter_words, method_words, kind_text, class_words, root_words, setup_words, at_words, block_words}
-use Rattle.class_defs.specs.Grammar.{max_nesting, IsBlock, IsMethod, IsClass, IsSetup}
-use Rattle.method_parse.specs.Matching.{IsWord, AreWords, is, is_fixed_kind, is_name_kind}
-use Rattle.method_parse.specs.Reader.{Reader, ◌>>=◌, onward, give, word, name, type_word, if_next, next, repeat}
+use Rattle.class_defs.specs.Grammar.{max_nesting, IsMethod, IsClass, IsSetup}
+use Rattle.method_parse.specs.Matching.{AreWords, is, is_fixed_kind, is_name_kind}
+use Rattle.method_parse.specs.Reader.{Reader, ◌>>=◌, onward, give, word, name, type_word, next, repeat}
 use Rattle.method_parse.specs.Expressions.{at}
 use Rattle.method_parse.specs.Statements.{block_in}
 use Rattle.method_parse.specs.Setups.{begins_type, field, more_fields, parameter, more_parameters, other_parameters, some_parameters, listed, parameters, method, more_methods, kind, fields, methods, class, more_classes, begins_class, root, more_roots, classes, roots, setup}
 use Rattle.method_parse.proofs.Repeats.{no_turn}
-use Rattle.method_parse.proofs.Eats.{fixed_is, is_not, Split, split, nothing, word_then, name_then, type_then, part_then}
+use Rattle.method_parse.proofs.Eats.{fixed_is, is_not, split, nothing, word_then, name_then, type_then, part_then}
 use Rattle.method_parse.proofs.ListOnly.{head_passes, head_fails, turn, bind_assoc}
 use Rattle.method_parse.proofs.ExpressionOnly.{at_reads}
 use Rattle.method_parse.proofs.StatementOnly.{gives, block_reads}

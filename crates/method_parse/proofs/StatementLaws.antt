@@ -1,6 +1,6 @@
 -- Each statement and block that is read is spelled by what was taken, and where the reader is stuck, the
 -- tokens before begin some statement or block.
-use Rattle.std.proofs.Common.{◌≡◌, ℕ, zero, suc, ◌+◌, ◌-◌, ◌≤◌, ◌<◌, max, Bool, true, false, cond, List, [], ◌∷◌, ◌++◌, map, refl, sym, ap, subst, ◌∙◌, append_assoc, arith}
+use Rattle.std.proofs.Common.{◌≡◌, ℕ, zero, suc, ◌+◌, ◌-◌, ◌≤◌, ◌<◌, Bool, true, List, [], ◌∷◌, ◌++◌, map, refl, sym, ap, subst, ◌∙◌, append_assoc, arith}
 use Rattle.std.specs.Prelude.{codes, ◌&&◌, nat_lt}
 use Rattle.std.specs.Str.{bytes_eq}
 use Rattle.std.proofs.lemmas.List.{append-nil}
@@ -9,14 +9,13 @@ use Rattle.script_text.specs.declared.token.Token.{Token}
 use Rattle.script_text.specs.declared.token.TokenKind.{TokenKind}
 use Rattle.script_text.specs.declared.token.TokenKind.TheVariants as kinds
 use Rattle.class_defs.specs.declared.expressions.Name.{Name}
-use Rattle.class_defs.specs.declared.expressions.TypeName.{TypeName}
 use Rattle.class_defs.specs.declared.expressions.Expr.{Expr, out-Expr, roll-Expr, roll-out-Expr}
 use Rattle.class_defs.specs.declared.expressions.Expr.TheOpen.{Expr-F}
 use Rattle.class_defs.specs.declared.expressions.Expr.TheVariants as e
 use Rattle.class_defs.specs.declared.statements.Stmt.{Stmt}
 use Rattle.class_defs.specs.declared.statements.Stmt.TheVariants as s
 use Rattle.class_defs.specs.declared.places.Place.{Place}
-use Rattle.class_defs.specs.Words.{Word, Fixed, FixedAt, Named, name_word, in_turn}
+use Rattle.class_defs.specs.Words.{Word, Fixed, FixedAt, name_word, in_turn}
 use Rattle.class_defs.specs.Spelling as spelling
 use Rattle.class_defs.specs.Spelling.{expr_words, condition_words, braces as brace_words, stmt_words}
 use Rattle.class_defs.specs.Shape.{shape, Form, form, inside, in_braces, with_value, with_condition, both, in_method, in_item}
@@ -26,13 +25,12 @@ use Rattle.method_parse.specs.declared.deep.Level.TheVariants as levels
 use Rattle.method_parse.specs.declared.deep.StmtStart.{StmtStart}
 use Rattle.method_parse.specs.declared.deep.StmtStart.TheVariants as starts
 use Rattle.method_parse.specs.Matching.{AreWords, is}
-use Rattle.method_parse.specs.Reader.{Reader, ◌>>=◌, give, word, name, type_word, if_next, repeat_all}
-use Rattle.method_parse.specs.Expressions.{expression_in}
+use Rattle.method_parse.specs.Reader.{Reader}
 use Rattle.method_parse.specs.Statements.{expression, ended, condition, variable, returned, printed, evaluated, assigned_name, assigned_field, after_expression_by, after_expression, simple, after_branch, branch, while_loop, fixed_start, start_by, start, statement_by, statement, goes_on, more_statements, statements, braces, block_in}
-use Rattle.method_parse.proofs.Lawful.{Says, Lawful, Some_text, behind, lawful_bind, lawful_give, lawful_last, lawful_stuck, lawful_as, lawful_if, lawful_repeat_all}
-use Rattle.method_parse.proofs.Matched.{join, plain, SaysWord, SaysName, SaysType, both_true, lawful_word, lawful_name, lawful_type}
+use Rattle.method_parse.proofs.Lawful.{Lawful, behind, lawful_bind, lawful_give, lawful_last, lawful_if, lawful_repeat_all}
+use Rattle.method_parse.proofs.Matched.{join, plain, both_true, lawful_word, lawful_name, lawful_type}
 use Rattle.method_parse.proofs.Equations as eq
-use Rattle.method_parse.proofs.Fits.{FitsIn, IsRead, and-both}
+use Rattle.method_parse.proofs.Fits.{IsRead, and-both}
 use Rattle.method_parse.proofs.ExpressionLaws.{lawful_expression, picked}
 
 -- a whole expression that fits

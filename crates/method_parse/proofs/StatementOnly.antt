@@ -1,6 +1,6 @@
 -- Statements and blocks that are spelled are read.
-use Rattle.std.proofs.Common.{◌≡◌, ℕ, zero, suc, ◌+◌, ◌-◌, ◌≤◌, ◌<◌, max, Bool, true, false, cond, List, [], ◌∷◌, ◌++◌, length, map, Result, Ok, Err, refl, sym, ap, subst, ◌∙◌, append_assoc, arith, inl, inr}
-use Rattle.std.specs.Prelude.{codes, ◌&&◌, nat_lt, not}
+use Rattle.std.proofs.Common.{◌≡◌, ℕ, zero, suc, ◌+◌, ◌-◌, ◌≤◌, ◌<◌, Bool, true, false, List, [], ◌∷◌, ◌++◌, length, map, Result, Ok, refl, sym, ap, subst, ◌∙◌, append_assoc, arith, inl, inr}
+use Rattle.std.specs.Prelude.{codes, ◌&&◌, not}
 use Rattle.std.specs.Str.{bytes_eq}
 use Rattle.std.proofs.lemmas.List.{append-nil, length-append}
 use Rattle.std.proofs.lemmas.Bool.{lt-ltb}
@@ -16,7 +16,7 @@ use Rattle.class_defs.specs.declared.statements.Stmt.{Stmt, out-Stmt, roll-Stmt,
 use Rattle.class_defs.specs.declared.statements.Stmt.TheOpen.{Stmt-F}
 use Rattle.class_defs.specs.declared.statements.Stmt.TheVariants as s
 use Rattle.class_defs.specs.declared.places.Place.{Place}
-use Rattle.class_defs.specs.Words.{Word, Fixed, FixedAt, Named, Numbered, name_word, in_turn}
+use Rattle.class_defs.specs.Words.{Word, Fixed, FixedAt, name_word, in_turn}
 use Rattle.class_defs.specs.Spelling as spelling
 use Rattle.class_defs.specs.Spelling.{expr_words, condition_words, braces as brace_words, stmt_words}
 use Rattle.class_defs.specs.Shape.{shape, Shape, Form, form, inside, in_braces, with_value, with_condition, both, in_method, in_item}
@@ -25,16 +25,15 @@ use Rattle.method_parse.specs.declared.deep.Deep.{Deep}
 use Rattle.method_parse.specs.declared.deep.Level.TheVariants as levels
 use Rattle.method_parse.specs.declared.deep.StmtStart.{StmtStart}
 use Rattle.method_parse.specs.declared.deep.StmtStart.TheVariants as starts
-use Rattle.method_parse.specs.Matching.{IsWord, AreWords, is, is_fixed_kind, is_name_kind}
-use Rattle.method_parse.specs.Reader.{Reader, ◌>>=◌, onward, give, word, name, type_word, if_next, next, repeat}
-use Rattle.method_parse.specs.Expressions.{expression_in}
+use Rattle.method_parse.specs.Matching.{AreWords, is, is_fixed_kind, is_name_kind}
+use Rattle.method_parse.specs.Reader.{Reader, ◌>>=◌, onward, give, word, name, type_word, next, repeat}
 use Rattle.method_parse.specs.Statements.{expression, ended, condition, variable, returned, printed, evaluated, assigned_name, assigned_field, after_expression_by, after_expression, simple, after_branch, branch, while_loop, fixed_start, start_by, start, statement_by, statement, is_not_end, goes_on, more_statements, statements, braces, block_in}
 use Rattle.method_parse.proofs.Matched.{both_true}
 use Rattle.method_parse.proofs.Repeats.{no_turn}
 use Rattle.method_parse.proofs.Equations as eq
-use Rattle.method_parse.proofs.Eats.{fixed_is, is_not, First, first, Split, split, nothing, word_then, line_then, name_then, type_then, part_then, Stops, stops_before, stop_close, stop_semicolon, stop_equals}
-use Rattle.method_parse.proofs.Heads.{Starter, AtNull, AtThis, AtNew, AtOpen, AtMinus, starter_text, IsHead, head_not, Headed, begins}
-use Rattle.method_parse.proofs.ListOnly.{deep, Suits, head_passes, head_fails, turn, bind_assoc}
+use Rattle.method_parse.proofs.Eats.{fixed_is, is_not, split, nothing, word_then, line_then, name_then, type_then, part_then, Stops, stops_before, stop_close, stop_semicolon, stop_equals}
+use Rattle.method_parse.proofs.Heads.{Starter, AtNull, AtThis, AtNew, AtOpen, AtMinus, starter_text, IsHead, head_not, begins}
+use Rattle.method_parse.proofs.ListOnly.{head_passes, head_fails, turn}
 use Rattle.method_parse.proofs.OperatorOnly.{expression_reads}
 use Rattle.method_parse.proofs.StatementLaws.{ExprFits, FormFits}
 

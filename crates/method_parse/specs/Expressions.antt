@@ -1,5 +1,5 @@
 -- How expressions are read.
-use Rattle.std.specs.Prelude.{◌≡◌, ◌+◌, ◌-◌, max, pos, ℕ, zero, suc, Bool, false, ◌&&◌, nat_lt, List, [], ◌∷◌, ◌++◌, Option, Some, None, if◌then◌else◌, codes}
+use Rattle.std.specs.Prelude.{◌+◌, ◌-◌, max, pos, ℕ, zero, suc, Bool, ◌&&◌, nat_lt, List, [], ◌∷◌, ◌++◌, Option, Some, None, if◌then◌else◌, codes}
 use Rattle.class_defs.specs.declared.expressions.Name.{Name}
 use Rattle.class_defs.specs.declared.expressions.At.{At}
 use Rattle.class_defs.specs.declared.expressions.Operator.{Operator}
@@ -21,7 +21,7 @@ use Rattle.method_parse.specs.declared.deep.Start.{Start}
 use Rattle.method_parse.specs.declared.deep.Start.TheVariants as starts
 use Rattle.method_parse.specs.declared.deep.Room.{Room}
 use Rattle.method_parse.specs.Matching.{is}
-use Rattle.method_parse.specs.Reader.{Reader, ◌>>=◌, give, stuck, take_by, word, name, number, next, if_next, repeat, repeat_all}
+use Rattle.method_parse.specs.Reader.{Reader, ◌>>=◌, give, stuck, take_by, word, name, number, if_next, repeat, repeat_all}
 
 abbrev pub leaf : Expr → Deep
 leaf expr = record { expr = expr; depth = 1 }

@@ -1,5 +1,5 @@
 -- Which token is which word. This project's.
-use Rattle.std.specs.Prelude.{◌≡◌, ◌*◌, ◌+◌, ◌-◌, ℕ, ℤ, pos, Bool, false, true, ◌&&◌, nat_le, List, [], ◌∷◌, Option, Some, None, option_map, fold, if◌then◌else◌}
+use Rattle.std.specs.Prelude.{◌≡◌, ◌*◌, ◌+◌, ◌-◌, ℕ, pos, Bool, false, true, ◌&&◌, nat_le, List, [], ◌∷◌, Option, Some, None, option_map, fold, if◌then◌else◌}
 use Rattle.std.specs.Str.{bytes_eq}
 use Rattle.std.specs.Char.{is_ascii_digit}
 use Rattle.script_text.specs.declared.token.Token.{Token}

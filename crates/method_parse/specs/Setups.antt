@@ -1,6 +1,5 @@
 -- How classes, roots, a whole block and a whole setup are read.
-use Rattle.std.specs.Prelude.{ℕ, Bool, ◌||◌, List, [], ◌∷◌, ◌++◌, length, cond, Option, Result, Ok, Err, codes, if◌then◌else◌}
-use Rattle.class_defs.specs.declared.expressions.Name.{Name}
+use Rattle.std.specs.Prelude.{ℕ, Bool, ◌||◌, List, [], ◌∷◌, ◌++◌, length, Result, Ok, Err, codes}
 use Rattle.class_defs.specs.declared.classes.ClassKind.{ClassKind}
 use Rattle.class_defs.specs.declared.classes.ClassKind.TheVariants.{Free, Part}
 use Rattle.class_defs.specs.declared.classes.Field.{Field}
@@ -14,7 +13,7 @@ use Rattle.class_defs.specs.declared.places.Place.TheVariants as places
 use Rattle.class_defs.specs.Grammar.{max_nesting}
 use Rattle.script_text.specs.declared.token.Token.{Token}
 use Rattle.method_parse.specs.Matching.{is, is_name_kind}
-use Rattle.method_parse.specs.Reader.{Reader, ◌>>=◌, give, stuck, word, name, type_word, if_next, repeat}
+use Rattle.method_parse.specs.Reader.{Reader, ◌>>=◌, give, word, name, type_word, if_next, repeat}
 use Rattle.method_parse.specs.Expressions.{at}
 use Rattle.method_parse.specs.Statements.{block_in}
 

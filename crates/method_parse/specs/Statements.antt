@@ -1,5 +1,5 @@
 -- How statements and blocks are read.
-use Rattle.std.specs.Prelude.{Bool, ◌-◌, ℕ, zero, suc, not, ◌&&◌, nat_lt, List, [], ◌∷◌, ◌++◌, Option, Some, None, if◌then◌else◌, codes}
+use Rattle.std.specs.Prelude.{Bool, ◌-◌, ℕ, zero, suc, not, ◌&&◌, nat_lt, List, [], ◌∷◌, ◌++◌, if◌then◌else◌, codes}
 use Rattle.std.specs.Str.{bytes_eq}
 use Rattle.class_defs.specs.declared.expressions.Name.{Name}
 use Rattle.class_defs.specs.declared.expressions.Expr.{Expr, out-Expr}

@@ -1,4 +1,4 @@
-use Rattle.std.proofs.Common.{◌≡◌, ◌<◌, ◌≤◌, ◌-◌, length, refl, sym, ap, ◌∙◌, arith, rules}
+use Rattle.std.proofs.Common.{◌≡◌, ◌-◌, length, refl, sym, ◌∙◌, arith}
 use Rattle.std.proofs.lemmas.Result.{err_from_is_err_and}
 use Rattle.method_parse.specs.Expressions.{is_comma, argument, more_arguments, is_call, called, calls, is_join, joined, joins, expression_in, inner_of, parts_of}
 use Rattle.method_parse.proofs.Repeats.{goes_on, stops, ends, breaks}

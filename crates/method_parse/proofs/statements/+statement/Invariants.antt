@@ -1,4 +1,4 @@
-use Rattle.std.proofs.Common.{◌≡◌, ◌-◌, ◌+◌, ◌*◌, ℕ}
+use Rattle.std.proofs.Common.{◌≡◌, ◌-◌, ◌+◌, ◌*◌}
 use Rattle.method_parse.specs.Reader.{repeat}
 use Rattle.method_parse.specs.Statements.{goes_on, more_statements, statements, block_in}
 use Rattle.method_parse.proofs.statements.+statement.Given as goal

@@ -1,4 +1,4 @@
-use Rattle.std.proofs.Common.{◌≡◌, sym}
+use Rattle.std.proofs.Common.{sym}
 use Rattle.method_parse.proofs.LastLine.{last_at}
 use Rattle.method_parse.proofs.whole.last_line.Goals as goal
 

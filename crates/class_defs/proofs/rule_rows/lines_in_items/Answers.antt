@@ -1,16 +1,12 @@
 use Rattle.std.proofs.Common.{refl}
 use Rattle.class_defs.specs.SchemaRules.{item_rules}
 use Rattle.class_defs.proofs.RuleForms.{the_forms}
-use Rattle.class_defs.proofs.rule_rows.items.Goals as goal
+use Rattle.class_defs.proofs.rule_rows.lines_in_items.Goals as goal
 
 pub returns : goal.returns
 unfolding item_rules
 returns c = record {
-  call_of_a_root = simp the_forms refl;
-  unknown_name = simp the_forms refl;
   method_of_an_int = simp the_forms refl;
-  sum_with_a_reference = simp the_forms refl;
-  number_beside_null = simp the_forms refl;
   root_assigned = simp the_forms refl;
   argument_missing = simp the_forms refl;
   local_of_a_part_class = simp the_forms refl;

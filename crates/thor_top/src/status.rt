@@ -1,0 +1,33 @@
+/// How the program ended.
+#[derive(Clone, Copy, Debug, PartialEq, Eq)]
+pub enum Status {
+    /// The report was written.
+    Done,
+    /// The words are not those of a command.
+    Words,
+    /// The script is refused.
+    Script,
+    /// The source failed.
+    SourceFault,
+    /// The sink failed.
+    SinkFault,
+    /// The script is too long.
+    Limit,
+    /// Memory was not there.
+    NoMemory,
+}
+
+impl Status {
+    /// The exit status of the program.
+    pub fn code(self) -> i32 {
+        match self {
+            Status::Done => 0,
+            Status::Words => 2,
+            Status::Script => 3,
+            Status::SourceFault => 4,
+            Status::SinkFault => 5,
+            Status::Limit => 8,
+            Status::NoMemory => 9,
+        }
+    }
+}
