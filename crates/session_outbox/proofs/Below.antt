@@ -29,7 +29,7 @@ filter_none p (x ∷ xs) h = ap (λ c. cond c (x ∷ filter p xs) (filter p xs))
 
 module _ (b : Base) where
   -- the commits of some entries stand at their places
-  within : (S : State) (H : List Entry) → AllByRecursion (λ c. (S.length ≤ c.0) × (c.0 < S.length + length H)) (commits_from b S H)
+  pub within : (S : State) (H : List Entry) → AllByRecursion (λ c. (S.length ≤ c.0) × (c.0 < S.length + length H)) (commits_from b S H)
   within S [] = tt
   within S (e ∷ H) = all_append _ (commit_of b S e) (commits_from b (put b S e) H)
       (elim (commit_shape b S e) [

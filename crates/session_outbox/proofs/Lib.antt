@@ -14,3 +14,9 @@ pub mod Traces
 pub mod Covered
 pub mod Validated
 pub mod Below
+pub mod Sessions
+pub mod Copies
+pub mod Kept
+pub mod Told
+pub mod Taken
+pub mod Own

@@ -1,10 +1,14 @@
 pub mod Checking
 pub mod Covers
+pub mod Current
 pub mod Examples
 pub mod History
 pub mod Laws
 pub mod Order
+pub mod Messages
 pub mod Requests
+pub mod Session
+pub mod SessionExamples
 pub mod Sound
 pub mod Trace
 pub mod Verdict

@@ -1,12 +1,14 @@
 //! The history of one repository and what it means: which transactions stand committed, what each
-//! entry owes to those before it, and the laws by which such a history is serial. Beside it the
-//! messages to sessions, and the port through which clients reach repositories.
+//! entry owes to those before it, and the laws by which such a history is serial. Beside it what a
+//! session is sent, and why the copies that it holds stay right.
 #![tactic(auto)]
 
 mod history_examples;
 mod history_laws;
 mod mark;
 mod refusal;
+mod session_laws;
+mod told_examples;
 mod trace_laws;
 
 pub use history_examples::{
@@ -20,4 +22,9 @@ pub use history_laws::{
 };
 pub use mark::Mark;
 pub use refusal::Refusal;
+pub use session_laws::{
+    commits_are_told, copies_are_current, copies_stay_right, messages_are_in_order,
+    messages_keep_copies, sessions_grow,
+};
+pub use told_examples::{session_examples, session_life_examples};
 pub use trace_laws::traces_grow;

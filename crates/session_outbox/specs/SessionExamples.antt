@@ -1,0 +1,49 @@
+-- A small trace with two sessions, on which the definitions of sessions are computed. The transactions
+-- are of the first session; the second one reads.
+use Rattle.commit_log.specs.declared.entry.Entry.TheVariants.{Life}
+use Rattle.session_outbox.specs.Examples.{home, read_x, set_x, x}
+use Rattle.session_outbox.specs.History.{Base}
+use Rattle.session_outbox.specs.Session.{Notice, invalid, session, upto_of, waiting}
+use Rattle.session_outbox.specs.Trace.{E, Item, M, entries}
+use Rattle.session_outbox.specs.declared.mark.Mark.TheVariants as the
+use Rattle.std.specs.Option.{option_and_then, option_map}
+use Rattle.std.specs.Prelude.{Bool, List, Option, Some, [], ℕ, ◌++◌, ◌∷◌}
+
+-- both clients connect, the second one fetches page 0 and takes it, and the first one writes x
+abbrev pub written_since : List Item
+written_since =
+    M (the.Connected 1 1) ∷ M (the.Connected 2 2) ∷ M (the.Fetched 2 0 0) ∷ M (the.Took 2 0)
+    ∷ E (read_x 1) ∷ E (set_x 2 7) ∷ []
+
+-- the second client takes the invalidation
+abbrev pub invalid_taken : List Item
+invalid_taken = written_since ++ M (the.Took 2 1) ∷ []
+
+-- and acknowledges it with its next fetch
+abbrev pub acknowledged : List Item
+acknowledged = invalid_taken ++ M (the.Fetched 2 0 2) ∷ []
+
+-- it connects anew
+abbrev pub connected_anew : List Item
+connected_anew = written_since ++ M (the.Connected 3 2) ∷ []
+
+-- the repository is restarted
+abbrev pub restarted : List Item
+restarted = written_since ++ E (Life 1) ∷ []
+
+-- a base whose sessions may leave no news unacknowledged
+abbrev pub hasty : Base
+hasty = record home { silence = Some 0 }
+
+-- of the second session: whether it is live, what waits for it, what it knows, and where x is invalid
+abbrev pub live_in : Base → List Item → Option Bool
+live_in b T = option_map (λ v. v.live) (session b T 2)
+
+abbrev pub waiting_in : List Item → Option (List Notice)
+waiting_in T = option_map waiting (session home T 2)
+
+abbrev pub known_in : List Item → Option ℕ
+known_in T = option_map upto_of (session home T 2)
+
+abbrev pub x_invalid_in : List Item → Option ℕ
+x_invalid_in T = option_and_then (λ v. invalid home (entries T) 2 v x) (session home T 2)

@@ -1,0 +1,81 @@
+//! What is proved of sessions and of the messages to them.
+
+ghost use Rattle.commit_log.specs.declared.entry.Entry.{Entry};
+ghost use Rattle.commit_log.specs.declared.request.Request.{Request};
+ghost use Rattle.session_outbox.specs.Requests.{written};
+ghost use Rattle.session_outbox.specs.Current.{InStep, IsCurrent, IsRightOrStale, NoUpgrades, OthersSince, OthersWrite, RightAt, Takes, Tells, commits_in, is_taking, names_invalid};
+ghost use Rattle.session_outbox.specs.History.{Base, commit_of, objects_at, state, writers};
+ghost use Rattle.session_outbox.specs.Messages.{KeepsOrder, WaitsByPlace};
+ghost use Rattle.session_outbox.specs.Session.{Notice, Page, Session, acked_after, bound, meet, session, upto_of};
+ghost use Rattle.session_outbox.specs.declared.mark.Mark.TheVariants as the;
+ghost use Rattle.session_outbox.specs.Trace.{E, Item, M, entries};
+ghost use Rattle.std.specs.List.{All};
+ghost use Rattle.std.specs.Option.{IfSome, IsSomeAnd};
+ghost use Rattle.std.specs.Prelude.{List, [], ◌∷◌, ◌++◌, ℕ, ◌≡◌, ◌≤◌, ◌+◌, Bool, false, length, max, true};
+ghost use Rattle.thor_value.specs.FiniteMap.{get};
+ghost use Rattle.thor_value.specs.declared.names.Oref.{Oref};
+ghost use Rattle.thor_value.specs.declared.names.Ts.{Ts};
+ghost use Rattle.thor_value.specs.declared.values.Obj.{Obj};
+
+/// A session grows with its repository's trace, by one step of its fold.
+pub fn sessions_grow()
+    ensures { (b : Base) (T : List Item) (i : Item) (s : ℕ) →
+        session b (T ++ i ∷ []) s ≡ meet b s (state b (entries T)) (session b T s) i }
+{}
+
+/// The places of the messages to a session don't fall, and what its client knows by the messages that
+/// it has taken tells which ones wait. An invalidation waits exactly where it was sent and isn't known.
+pub fn messages_are_in_order()
+    ensures order { (b : Base) (T : List Item) (s : ℕ) →
+        IfSome (session b T s) (λ v. KeepsOrder v (length (entries T))) }
+    ensures waits { (b : Base) (T : List Item) (s : ℕ) → IfSome (session b T s) (λ v. WaitsByPlace v) }
+{}
+
+/// A copy that was right at a place which the client doesn't know to be passed, and that other
+/// sessions alone have written since, is right now or is in the invalid set.
+pub fn copies_are_current()
+    ensures { (b : Base) (H : List Entry) (s : ℕ) (v : Session) (committed : Ts → Bool) (x : Oref) (o : Obj) →
+        v.live ≡ true → InStep v → IsCurrent b H s v committed x o → IsRightOrStale b H s v committed x o }
+{}
+
+/// A copy that was right at a place stays so while its client takes no message and other sessions
+/// alone write its object, whatever else the trace gains. The client stays in step with its session
+/// where it acknowledges no more than it knows. What a transaction wrote is right behind its commit,
+/// also where it is the session's own.
+pub fn copies_stay_right()
+    ensures right { (b : Base) (T : List Item) (i : Item) (s : ℕ) (v w : Session) (x : Oref) (o : Obj) (m : ℕ) →
+        session b T s ≡ Some v → session b (T ++ i ∷ []) s ≡ Some w → InStep v →
+        is_taking s i ≡ false → OthersWrite s x (commits_in b (entries T) i) →
+        RightAt b (entries T) s v x o m → RightAt b (entries (T ++ i ∷ [])) s w x o m }
+    ensures step { (b : Base) (T : List Item) (i : Item) (s : ℕ) (v w : Session) →
+        session b T s ≡ Some v → session b (T ++ i ∷ []) s ≡ Some w → InStep v →
+        is_taking s i ≡ false → acked_after s v.acked i ≤ upto_of v → InStep w }
+    ensures committed { (b : Base) (T : List Item) (e : Entry) (s : ℕ) (v w : Session) (q : Request) (x : Oref) (o : Obj) →
+        session b T s ≡ Some v → session b (T ++ E e ∷ []) s ≡ Some w → InStep v →
+        commit_of b (state b (entries T)) e ≡ (length (entries T), q) ∷ [] → get (written q) x ≡ Some o →
+        IsSomeAnd (get v.pages x.page) (λ c. c ≤ length (entries T)) →
+        RightAt b (entries (T ++ E e ∷ [])) s w x o (length (entries T) + 1) }
+{}
+
+/// A live session was told of each commit by another session of an object on one of its pages, from
+/// the page's first fetch or grant on; an upgrade's commit is told as such.
+pub fn commits_are_told()
+    ensures { (b : Base) (T : List Item) (s : ℕ) (v : Session) → session b T s ≡ Some v → v.live ≡ true →
+        (x : Oref) → All (Tells s v x) (writers b (entries T) x) }
+{}
+
+/// A copy stays right where its client takes a message that doesn't name its object: it was right at
+/// the place that the message makes known, too. What a page brings is right at its place, where other
+/// sessions alone have written it since.
+pub fn messages_keep_copies()
+    ensures kept { (b : Base) (T : List Item) (s : ℕ) (v w : Session) (place : ℕ) (m : Notice) (x : Oref) (o : Obj) (n : ℕ) →
+        Takes b T s v w place m → names_invalid x m ≡ false → NoUpgrades (writers b (entries T) x) →
+        RightAt b (entries T) s v x o n →
+        RightAt b (entries (T ++ M (the.Took s place) ∷ [])) s w x o (max n (bound m)) }
+    ensures brought { (b : Base) (T : List Item) (s : ℕ) (v w : Session) (place page k : ℕ) (x : Oref) (o : Obj) →
+        Takes b T s v w place (Page page k) → x.page ≡ page →
+        get (objects_at b (entries T) k) x ≡ Some o → OthersSince s k (writers b (entries T) x) →
+        RightAt b (entries (T ++ M (the.Took s place) ∷ [])) s w x o k }
+    ensures step { (b : Base) (T : List Item) (s : ℕ) (v w : Session) (place : ℕ) (m : Notice) →
+        Takes b T s v w place m → InStep v → InStep w }
+{}
