@@ -8,6 +8,8 @@ mod playing;
 mod reading;
 mod script;
 mod status;
+#[cfg(test)]
+mod tests;
 mod top;
 
 pub use alone::{ends_of, perform};

@@ -19,7 +19,7 @@ pub enum Status {
 
 impl Status {
     /// The exit status of the program.
-    pub fn code(self) -> i32 {
+    pub fn code(self) -> u8 {
         match self {
             Status::Done => 0,
             Status::Words => 2,
