@@ -1,5 +1,5 @@
 -- What the program says (this project's): for each status the text that the sink takes, and when it comes.
-use Rattle.std.specs.Prelude.{◌≡◌, ℕ, Bool, true, false, List, [], ◌∷◌, Option, Some, None, Result, Ok, Err, codes, map, ◌++◌}
+use Rattle.std.specs.Prelude.{◌≡◌, ℕ, Bool, true, false, List, [], ◌∷◌, Option, Some, None, Result, Ok, Err, codes, map, ◌++◌, ◌≤◌, length}
 use Rattle.std.specs.Str.{bytes_eq}
 use Rattle.thor_value.specs.declared.memory.NoMemory.{NoMemory}
 use Rattle.outside.specs.Streams.{IsAtEnd, IsMoreThan, Put, PutFront, Took}
@@ -53,10 +53,12 @@ is_play [] = false
 is_play (word ∷ []) = bytes_eq word (codes "play")
 is_play (word ∷ other ∷ words) = false
 
--- the source was read to its end, and these were all its bytes, where it tells them
+-- the source was read to its end, and these were all its bytes, where it tells them; they are no more than a script
+-- may have
 pub record WasRead (before after : Option (List ℕ)) (bytes : List ℕ) : Type 0 where
   pub took : Took before bytes after
   pub at_end : IsAtEnd after
+  pub short : length bytes ≤ 8388608
 
 -- what the status and its text tell of a script's bytes
 abbrev pub Tells : List ℕ → Status → List ℕ → Type 0
