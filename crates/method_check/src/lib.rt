@@ -15,7 +15,7 @@ mod methods;
 mod names;
 mod nodes;
 
-pub use checking::{check, check_item};
+pub use checking::{check, check_item, check_script};
 pub use error::CheckError;
 
 #[cfg(test)]

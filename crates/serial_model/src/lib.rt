@@ -5,8 +5,10 @@ mod entries;
 mod fresh;
 mod outcomes;
 mod running;
+mod taking;
 
 pub use entries::{Did, Dids, What};
 pub use fresh::are_fresh;
 pub use outcomes::{Cause, Ended, Ends, ItemOutcome};
 pub use running::run_on;
+pub use taking::names_taken;

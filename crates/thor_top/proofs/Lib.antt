@@ -1,5 +1,7 @@
 pub mod AloneAnswers
 pub mod AloneIsLegal
+pub mod CommitLaws
+pub mod NamesLaws
 pub mod Performing
-pub mod ReadingLaws
+pub mod ReadingParts
 pub mod TopLaws

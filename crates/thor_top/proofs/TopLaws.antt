@@ -1,14 +1,25 @@
 -- What the top call says, from what its parts do.
-use Rattle.std.proofs.Common.{◌≡◌, ℕ, Bool, true, List, [], ◌∷◌, map, Option, Some, None, Result, Ok, Err, IfOk, refl, subst, sym}
+use Rattle.std.proofs.Common.{◌≡◌, ◌&&◌, inl, inr, ℕ, suc, ◌+◌, arith, ◌<◌, ◌≤◌, Bool, true, false, List, [], ◌∷◌, length, map, Option, Some, Result, Ok, Err, IfOk, refl, ap, subst, sym, ◌∙◌}
 use Rattle.thor_value.specs.declared.memory.NoMemory.{NoMemory}
+use Rattle.class_defs.specs.declared.declarations.Declarations.{Declarations}
+use Rattle.class_defs.specs.declared.declarations.WrittenRoot.{WrittenRoot}
+use Rattle.class_defs.specs.declared.statements.Stmt.{Stmt}
 use Rattle.class_defs.specs.declared.store.Schema.{Schema}
-use Rattle.serial_model.specs.declared.entries.Did.{Did}
+use Rattle.schedule.specs.Written.{AreEventsOf}
+use Rattle.script_text.specs.declared.sections.Split.{Split}
+use Rattle.script_text.specs.declared.syntax.Syntax.{Syntax}
 use Rattle.thor_top.specs.Alone.{ended}
-use Rattle.thor_top.specs.Opened.{opened, schema_of}
-use Rattle.thor_top.specs.Playing.{Does, Plays}
-use Rattle.thor_top.specs.Reads.{Reads}
-use Rattle.thor_top.specs.Script.{IsWritten}
-use Rattle.thor_top.specs.Top.{IsReport, IsRefused, Reports, Runs, Says, Tells, WasRead, is_play}
+use Rattle.thor_top.specs.Opened.{opened, placed_from, schema_of}
+use Rattle.thor_top.specs.Playing.{Does, Plays, first_items, is_alone}
+use Rattle.thor_top.specs.Reads.{Each, Reads}
+use Rattle.thor_top.specs.Script.{AreItems, HasFew, IsRefusedEnd, IsRefusedSchedule, IsRefusedSplit, IsSetupPart}
+use Rattle.thor_top.specs.Top.{IsAccepted, IsReport, IsResult, Says, Tells, WasRead, repos_of}
+use Rattle.thor_top.specs.Words.{command_of}
+use Rattle.thor_top.specs.declared.command.Command.{Command}
+use Rattle.thor_top.specs.declared.command.Command.TheVariants.{Play}
+use Rattle.thor_top.specs.declared.error.ReadError.{ReadError}
+use Rattle.thor_top.specs.declared.error.ReadError.TheVariants as errors
+use Rattle.thor_top.specs.declared.refusal.Refusal.TheVariants as refusal
 use Rattle.thor_top.specs.declared.script.Script.{Script}
 use Rattle.thor_top.specs.declared.status.Status.{Status}
 use Rattle.thor_top.specs.declared.status.Status.TheVariants as status
@@ -16,48 +27,85 @@ use Rattle.thor_top.specs.declared.top.Reply.{Reply}
 use Rattle.thor_top.proofs.AloneAnswers.{alone_answers}
 use Rattle.thor_top.proofs.AloneIsLegal.{is_legal}
 
+-- what is true of a status and a text is true of the reply that has them
+pub said : (P : Status → List ℕ → Type 0) (s : Status) (text : List ℕ) (r : Result Reply NoMemory) → P s text → IfOk r (λ reply. reply.status ≡ s) → IfOk r (λ reply. reply.text ≡ text) → IfOk r (λ reply. P reply.status reply.text)
+said P s text (Ok reply) h same written =
+    let Q : Status → Type 0 = λ t. P t reply.text in
+    let R : List ℕ → Type 0 = λ t. P s t in
+    subst Q (sym same) (subst R (sym written) h)
+said P s text (Err e) h same written = tt
+
+-- the fault of the splitting is told at last
+pub refused_end : (fault : Option Syntax) (f : Syntax) → fault ≡ Some f → IsRefusedEnd fault (refusal.Syntax f.line)
+refused_end fault f is = let P : Option Syntax → Type 0 = λ o. IsRefusedEnd o (refusal.Syntax f.line) in subst P (sym is) refl
+
 first_epoch : (schema : Schema) → (opened schema).epoch ≡ 0
 unfolding opened
 first_epoch schema = refl
 
-reported : (bytes : List ℕ) (script : Script) (r : Result (Option (List ℕ)) NoMemory) → IsWritten bytes script → ((other : Script) → IsWritten bytes other → other ≡ script) → Plays script r → Reports bytes r
-reported bytes script (Ok (Some text)) written only p =
-    let schema : Schema = schema_of script.setup in
+both : (a b : Bool) → (a && b) ≡ true → a ≡ true
+both true b h = refl
+both false b h = absurd (let bad : false ≡ true = h in cc)
+
+-- the report of a script that runs is that of one serial history
+pub reported : (script : Script) (schema : Schema) (played : Option (List ℕ)) (text : List ℕ) → IsAccepted 1 script schema → played ≡ Some text → Plays schema script played → IsReport script text
+reported script schema played text accepted some plays =
+    let P : Option (List ℕ) → Type 0 = λ o. Plays schema script o in
+    let p : Plays schema script (Some text) = subst P some plays in
+    let d : Does schema script p.0 = p.1.0 in
     record {
-      script = script;
+      schema = schema;
       history = p.0;
       ended = map ended p.0;
-      runs = record { written = written; does = p.1.0 };
+      accepted = accepted;
+      does = d;
       serial = record {
-        legal = is_legal schema (opened schema) script.blocks p.0 (first_epoch schema) p.1.0.1;
-        answers = alone_answers schema (opened schema) script.blocks p.0 p.1.0.1;
+        legal = is_legal schema (opened schema) (first_items script.clients) p.0 (first_epoch schema) d.is;
+        answers = alone_answers schema (opened schema) script.clients p.0 (both (is_alone script.clients) _ d.can) d.is;
       };
       written_out = p.1.1;
     }
-reported bytes script (Ok None) written only p = λ other history runs. p history (let P : Script → Type 0 = λ s. Does s history in subst P (only other runs.written) runs.does)
-reported bytes script (Err e) written only p = tt
 
-pub report_found : (bytes : List ℕ) (o : Option Script) (script : Script) (r : Result (Option (List ℕ)) NoMemory) → o ≡ Some script → Reads (IsWritten bytes) (Ok o) → Plays script r → Reports bytes r
-report_found bytes o script r is read p =
-    let P : Option Script → Type 0 = λ q. Reads (IsWritten bytes) (Ok q) in
-    let h : Reads (IsWritten bytes) (Ok (Some script)) = subst P is read in
-    reported bytes script r h.0 h.1 p
+-- what is said of a script that `play` ran
+pub result_of_play : (script : Script) (schema : Schema) (command : Command) (tries : ℕ) (played : Option (List ℕ)) (text : List ℕ) → command ≡ Play tries → IsAccepted (repos_of command) script schema → played ≡ Some text → Plays schema script played → IsResult command script text
+result_of_play script schema command tries played text is =
+    let P : Command → Type 0 = λ d. IsAccepted (repos_of d) script schema → played ≡ Some text → Plays schema script played → IsResult d script text in
+    subst P (sym is) (reported script schema played text)
 
-pub report_nothing : (bytes : List ℕ) (o : Option Script) → o ≡ None → Reads (IsWritten bytes) (Ok o) → IsRefused bytes
-report_nothing bytes o is read =
-    let P : Option Script → Type 0 = λ q. Reads (IsWritten bytes) (Ok q) in
-    let h : Reads (IsWritten bytes) (Ok None) = subst P is read in
-    λ script history runs. h script runs.written
+length_placed : (n : ℕ) (roots : List WrittenRoot) → length (placed_from n roots) ≡ length roots
+length_placed n [] = refl
+length_placed n (r ∷ roots) = ap suc (length_placed (n + 1) roots)
 
-says_of : (words : List (List ℕ)) (before after : Option (List ℕ)) (bytes : List ℕ) (s : Status) (text : List ℕ) → is_play words ≡ true → WasRead before after bytes → Tells bytes s text → Says words before after s text
-says_of words before after bytes status.Done text play read t = (play, (bytes, (read, t)))
-says_of words before after bytes status.Script text play read t = (play, (bytes, (read, t.0)), t.1)
-says_of words before after bytes status.Words text play read t = absurd t
-says_of words before after bytes status.SourceFault text play read t = absurd t
-says_of words before after bytes status.Limit text play read t = absurd t
-says_of words before after bytes status.SinkFault text play read t = absurd t
-says_of words before after bytes status.NoMemory text play read t = absurd t
+few_roots : (n : ℕ) → n ≤ 256 → n < 4294967296
+few_roots n h = omega (arith, h)
 
-pub says_result : (words : List (List ℕ)) (before after : Option (List ℕ)) (bytes slice : List ℕ) (r : Result Reply NoMemory) → is_play words ≡ true → WasRead before after bytes → slice ≡ bytes → IfOk r (λ reply. Tells slice reply.status reply.text) → IfOk r (λ reply. Says words before after reply.status reply.text)
-says_result words before after bytes slice (Ok reply) play read same t = says_of words before after bytes reply.status reply.text play read (let P : List ℕ → Type 0 = λ b. Tells b reply.status reply.text in subst P same t)
-says_result words before after bytes slice (Err e) play read same t = tt
+-- a setup has few roots, and so has its schema
+pub roots_are_few : (o : Option Declarations) (setup : Declarations) (schema : Schema) → o ≡ Some setup → schema ≡ schema_of setup → HasFew o → length schema.roots < 4294967296
+roots_are_few o setup schema is made few =
+    let P : Option Declarations → Type 0 = λ q. HasFew q in
+    let f : HasFew (Some setup) = subst P is few in
+    let Q : ℕ → Type 0 = λ n. n < 4294967296 in
+    subst Q (sym (ap (λ (s : Schema). length s.roots) made ∙ length_placed 0 setup.roots)) (few_roots (length setup.roots) f.1)
+
+-- the schedule is refused, behind parts that were read
+pub events_refused : (split : Split) (setup : Option Declarations) (clients : List (List (List Stmt))) (error : ReadError) (Any : Script → Type 0) → IsSetupPart split.sections.setup setup → Each AreItems split.sections.clients clients
+    → Reads (AreEventsOf split.sections.schedule) (IsRefusedSchedule split.sections.schedule) (Err error) → Reads Any (IsRefusedSplit split) (Err error)
+events_refused split setup clients (errors.Refused r) Any s c h = inr (setup, (s, inr (clients, (c, inl h))))
+events_refused split setup clients errors.NoMemory Any s c h = tt
+
+says_of : (words : List (List ℕ)) (before after : Option (List ℕ)) (command : Command) (bytes : List ℕ) (s : Status) (text : List ℕ) → command_of words ≡ Some command → WasRead before after bytes → Tells command bytes s text → Says words before after s text
+says_of words before after command bytes status.Done text is read t = (command, (is, (bytes, (read, t))))
+says_of words before after command bytes status.Script text is read t = (command, (is, (bytes, (read, t))))
+says_of words before after command bytes status.Limit text is read t = inl (command, (is, (bytes, (read, t))))
+says_of words before after command bytes status.Words text is read (inl t) = absurd t
+says_of words before after command bytes status.Words text is read (inr t) = absurd t.1.1
+says_of words before after command bytes status.SourceFault text is read (inl t) = absurd t
+says_of words before after command bytes status.SourceFault text is read (inr t) = absurd t.1.1
+says_of words before after command bytes status.SinkFault text is read (inl t) = absurd t
+says_of words before after command bytes status.SinkFault text is read (inr t) = absurd t.1.1
+says_of words before after command bytes status.NoMemory text is read (inl t) = absurd t
+says_of words before after command bytes status.NoMemory text is read (inr t) = absurd t.1.1
+
+pub says_result : (words : List (List ℕ)) (before after : Option (List ℕ)) (command : Command) (bytes slice : List ℕ) (r : Result Reply NoMemory) → command_of words ≡ Some command → WasRead before after bytes → slice ≡ bytes → IfOk r (λ reply. Tells command slice reply.status reply.text) → IfOk r (λ reply. Says words before after reply.status reply.text)
+says_result words before after command bytes slice (Ok reply) is read same t = says_of words before after command bytes reply.status reply.text is read (let P : List ℕ → Type 0 = λ b. Tells command b reply.status reply.text in subst P same t)
+says_result words before after command bytes slice (Err e) is read same t = tt

@@ -1,6 +1,10 @@
 pub mod Alone
+pub mod Committing
+pub mod Judging
 pub mod Opened
 pub mod Playing
 pub mod Reads
+pub mod Refusals
 pub mod Script
 pub mod Top
+pub mod Words

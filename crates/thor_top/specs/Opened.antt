@@ -1,11 +1,10 @@
 -- The store that a fresh repository opens with: the roots of the setup, as their fields begin (this project's). For now
 -- there is one repository.
-use Rattle.std.specs.Prelude.{ℕ, ◌+◌, ◌/◌, ◌%◌, List, [], ◌∷◌, map, Option, Some, None, unwrap_or}
+use Rattle.std.specs.Prelude.{ℕ, ◌+◌, ◌/◌, ◌%◌, List, [], ◌∷◌, map, unwrap_or}
 use Rattle.thor_value.specs.FiniteMap.{empty, overwrite}
 use Rattle.thor_value.specs.declared.names.Oref.{Oref}
 use Rattle.class_defs.specs.Steps.{beginning}
 use Rattle.class_defs.specs.Types.{class_named, fields_of, type_named}
-use Rattle.class_defs.specs.declared.classes.Class.{Class}
 use Rattle.class_defs.specs.declared.declarations.Declarations.{Declarations}
 use Rattle.class_defs.specs.declared.declarations.WrittenRoot.{WrittenRoot}
 use Rattle.class_defs.specs.declared.store.Object.{Object}

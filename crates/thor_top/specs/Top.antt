@@ -1,8 +1,9 @@
 -- What the program says (this project's): for each status the text that the sink takes, and when it comes.
-use Rattle.std.specs.Prelude.{◌≡◌, ℕ, Bool, true, false, List, [], ◌∷◌, Option, Some, None, Result, Ok, Err, codes, map, ◌++◌, ◌≤◌, length}
-use Rattle.std.specs.Str.{bytes_eq}
-use Rattle.thor_value.specs.declared.memory.NoMemory.{NoMemory}
+use Rattle.std.specs.Prelude.{◌≡◌, ◌⊎◌, ℕ, List, [], ◌∷◌, Option, Some, None, codes, map, ◌++◌, ◌≤◌, ◌<◌, length}
+use Rattle.std.specs.Fmt.{decimal}
 use Rattle.outside.specs.Streams.{IsAtEnd, IsMoreThan, Put, PutFront, Took}
+use Rattle.class_defs.specs.declared.declarations.Declarations.{Declarations}
+use Rattle.class_defs.specs.declared.store.Schema.{Schema}
 use Rattle.report_text.specs.Report.{report_text}
 use Rattle.serial_model.specs.History.{IsLegal}
 use Rattle.serial_model.specs.Outcomes.{Answers, all_items}
@@ -10,48 +11,105 @@ use Rattle.serial_model.specs.declared.entries.Did.{Did}
 use Rattle.serial_model.specs.declared.entries.What.TheVariants.{Tx}
 use Rattle.serial_model.specs.declared.outcomes.Ended.{Ended}
 use Rattle.thor_top.specs.Alone.{schemas_of}
+use Rattle.thor_top.specs.Judging.{BreaksRule, KeepsRules}
 use Rattle.thor_top.specs.Opened.{opened, schema_of}
-use Rattle.thor_top.specs.Playing.{Does}
-use Rattle.thor_top.specs.Script.{IsWritten}
+use Rattle.thor_top.specs.Playing.{CantRun, Does}
+use Rattle.thor_top.specs.Refusals.{refusal_text}
+use Rattle.thor_top.specs.Script.{IsRefusedText, IsWritten}
+use Rattle.thor_top.specs.Words.{command_of}
+use Rattle.thor_top.specs.declared.command.Command.{Command}
+use Rattle.thor_top.specs.declared.command.Command.TheVariants.{Check, Play}
+use Rattle.thor_top.specs.declared.refusal.Refusal.{Refusal}
+use Rattle.thor_top.specs.declared.refusal.Refusal.TheVariants as refusal
 use Rattle.thor_top.specs.declared.script.Script.{Script}
 use Rattle.thor_top.specs.declared.status.Status.{Status}
 use Rattle.thor_top.specs.declared.status.Status.TheVariants as status
 
--- The bytes are an accepted script, which does this: they are a script by the grammar that breaks no rule, and the run
--- of each of its transactions is defined. That is what runs for now.
-pub record Runs (bytes : List ℕ) (script : Script) (history : List Did) : Type 0 where
-  pub written : IsWritten bytes script
-  pub does : Does script history
+-- ---- accepted scripts
+
+-- The script has a setup with this schema, and breaks no rule over so many repositories.
+pub record IsAccepted (repos : ℕ) (script : Script) (schema : Schema) : Type 0 where
+  pub setup : Declarations
+  pub set_up : script.setup ≡ Some setup
+  pub schema_is : schema ≡ schema_of setup
+  pub keeps : KeepsRules schema repos script
 
 -- The history is one serial history from the opened store, with strictly rising timestamps, in which each entry has the
 -- answer that its run gives; and the outcomes are answered by it, each item's once and each client's in its order.
-pub record IsSerial (script : Script) (history : List Did) (ended : List Ended) : Type 0 where
-  pub legal : IsLegal (schemas_of (schema_of script.setup)) history (opened (schema_of script.setup))
-  pub answers : Answers history (all_items (map Tx script.blocks ∷ [])) ended
+pub record IsSerial (schema : Schema) (script : Script) (history : List Did) (ended : List Ended) : Type 0 where
+  pub legal : IsLegal (schemas_of schema) history (opened schema)
+  pub answers : Answers history (all_items (map (λ items. map Tx items) script.clients)) ended
 
 -- the text is the report of an accepted script's outcomes and history
-pub record IsReport (bytes text : List ℕ) : Type 0 where
-  pub script : Script
+pub record IsReport (script : Script) (text : List ℕ) : Type 0 where
+  pub schema : Schema
   pub history : List Did
   pub ended : List Ended
-  pub runs : Runs bytes script history
-  pub serial : IsSerial script history ended
+  pub accepted : IsAccepted 1 script schema
+  pub does : Does schema script history
+  pub serial : IsSerial schema script history ended
   pub written_out : text ≡ report_text ended history
 
--- the bytes are no accepted script
-abbrev pub IsRefused : List ℕ → Type 0
-IsRefused bytes = (script : Script) (history : List Did) → Runs bytes script history → ⊥
+-- what a command writes of a script
+abbrev pub IsResult : Command → Script → List ℕ → Type 0
+IsResult (Check repos) script text = ((schema : Schema) × IsAccepted repos script schema) × (text ≡ codes "ok" ++ 10 ∷ [])
+IsResult (Play tries) script text = IsReport script text
 
-abbrev pub Reports : List ℕ → Result (Option (List ℕ)) NoMemory → Type 0
-Reports bytes (Ok (Some text)) = IsReport bytes text
-Reports bytes (Ok None) = IsRefused bytes
-Reports bytes (Err refused) = Unit {0}
+-- ---- refused scripts
 
--- the words are the one word `play`
-abbrev pub is_play : List (List ℕ) → Bool
-is_play [] = false
-is_play (word ∷ []) = bytes_eq word (codes "play")
-is_play (word ∷ other ∷ words) = false
+abbrev pub repos_of : Command → ℕ
+repos_of (Check repos) = repos
+repos_of (Play tries) = 1
+
+-- the script breaks no rule and can't run yet
+abbrev pub IsUnbuilt : Command → Script → Refusal → Type 0
+IsUnbuilt (Check repos) script r = ⊥
+IsUnbuilt (Play tries) script r = (r ≡ refusal.Unbuilt) × ((schema : Schema) × (IsAccepted 1 script schema × CantRun schema script))
+
+-- a script with a setup is refused for a rule that it breaks, and else where it can't run yet
+abbrev pub IsRefusedOn : Command → Script → Option Declarations → Refusal → Type 0
+IsRefusedOn command script None r = r ≡ refusal.Setup
+IsRefusedOn command script (Some setup) r = BreaksRule (schema_of setup) (repos_of command) script r ⊎ IsUnbuilt command script r
+
+abbrev pub IsRefused : Command → Script → Refusal → Type 0
+IsRefused command script r = IsRefusedOn command script script.setup r
+
+-- ---- what is said
+
+-- at most 64 clients, and at most 1,000,000 events
+pub record IsWithinLimits (script : Script) : Type 0 where
+  pub clients : length script.clients ≤ 64
+  pub events : length script.events ≤ 1000000
+
+abbrev pub IsOverLimit : Script → ℕ → Type 0
+IsOverLimit script limit = ((64 < length script.clients) × (limit ≡ 64)) ⊎ ((length script.clients ≤ 64) × (1000000 < length script.events) × (limit ≡ 1000000))
+
+abbrev pub limit_text : ℕ → List ℕ
+limit_text limit = codes "limit " ++ (decimal limit ++ 10 ∷ [])
+
+-- what the status and its text tell of a script that was read
+abbrev pub TellsOf : Command → Script → Status → List ℕ → Type 0
+TellsOf command script status.Done text = IsWithinLimits script × IsResult command script text
+TellsOf command script status.Script text = IsWithinLimits script × ((r : Refusal) × (IsRefused command script r × (text ≡ refusal_text r)))
+TellsOf command script status.Limit text = (limit : ℕ) × (IsOverLimit script limit × (text ≡ limit_text limit))
+TellsOf command script status.Words text = ⊥
+TellsOf command script status.SourceFault text = ⊥
+TellsOf command script status.SinkFault text = ⊥
+TellsOf command script status.NoMemory text = ⊥
+
+-- what the status and its text tell of bytes that are no script, or one that isn't read yet
+abbrev pub TellsRefused : List ℕ → Status → List ℕ → Type 0
+TellsRefused bytes status.Script text = (r : Refusal) × (IsRefusedText bytes r × (text ≡ refusal_text r))
+TellsRefused bytes status.Done text = ⊥
+TellsRefused bytes status.Limit text = ⊥
+TellsRefused bytes status.Words text = ⊥
+TellsRefused bytes status.SourceFault text = ⊥
+TellsRefused bytes status.SinkFault text = ⊥
+TellsRefused bytes status.NoMemory text = ⊥
+
+-- what they tell of a script's bytes
+abbrev pub Tells : Command → List ℕ → Status → List ℕ → Type 0
+Tells command bytes s text = TellsRefused bytes s text ⊎ ((script : Script) × (IsWritten bytes script × TellsOf command script s text))
 
 -- the source was read to its end, and these were all its bytes, where it tells them; they are no more than a script
 -- may have
@@ -60,23 +118,20 @@ pub record WasRead (before after : Option (List ℕ)) (bytes : List ℕ) : Type 
   pub at_end : IsAtEnd after
   pub short : length bytes ≤ 8388608
 
--- what the status and its text tell of a script's bytes
-abbrev pub Tells : List ℕ → Status → List ℕ → Type 0
-Tells bytes status.Done text = IsReport bytes text
-Tells bytes status.Script text = IsRefused bytes × (text ≡ codes "script 1 Unbuilt" ++ 10 ∷ [])
-Tells bytes status.Words text = ⊥
-Tells bytes status.SourceFault text = ⊥
-Tells bytes status.Limit text = ⊥
-Tells bytes status.SinkFault text = ⊥
-Tells bytes status.NoMemory text = ⊥
+-- the words are a command, and of the bytes of the source this is told
+abbrev pub SaysOf : List (List ℕ) → Option (List ℕ) → Option (List ℕ) → Status → List ℕ → Type 0
+SaysOf words before after s text = (command : Command) × ((command_of words ≡ Some command) × ((bytes : List ℕ) × (WasRead before after bytes × Tells command bytes s text)))
+
+abbrev pub HasCommand : List (List ℕ) → Type 0
+HasCommand words = (command : Command) × (command_of words ≡ Some command)
 
 -- What is true where the program ends with a status and has this text to write.
 abbrev pub Says : List (List ℕ) → Option (List ℕ) → Option (List ℕ) → Status → List ℕ → Type 0
-Says words before after status.Done text = (is_play words ≡ true) × ((bytes : List ℕ) × (WasRead before after bytes × IsReport bytes text))
-Says words before after status.Words text = (is_play words ≡ false) × (text ≡ codes "words" ++ 10 ∷ [])
-Says words before after status.Script text = (is_play words ≡ true) × ((bytes : List ℕ) × (WasRead before after bytes × IsRefused bytes)) × (text ≡ codes "script 1 Unbuilt" ++ 10 ∷ [])
-Says words before after status.SourceFault text = (is_play words ≡ true) × (text ≡ codes "source" ++ 10 ∷ [])
-Says words before after status.Limit text = (is_play words ≡ true) × IsMoreThan 8388608 before × (text ≡ codes "limit 8388608" ++ 10 ∷ [])
+Says words before after status.Done text = SaysOf words before after status.Done text
+Says words before after status.Script text = SaysOf words before after status.Script text
+Says words before after status.Limit text = SaysOf words before after status.Limit text ⊎ (HasCommand words × IsMoreThan 8388608 before × (text ≡ limit_text 8388608))
+Says words before after status.Words text = (command_of words ≡ None) × (text ≡ codes "words" ++ 10 ∷ [])
+Says words before after status.SourceFault text = HasCommand words × (text ≡ codes "source" ++ 10 ∷ [])
 Says words before after status.SinkFault text = ⊥
 Says words before after status.NoMemory text = ⊥
 

@@ -1,11 +1,16 @@
-//! The top call: how a script is read, and what a client that is alone does with it.
+//! The top call: how a script is read and judged, and what a client that is alone does with it.
 #![tactic(auto)]
 
 mod alone;
+mod command;
+mod error;
+mod judging;
 mod laws;
+mod names;
 mod opening;
 mod playing;
 mod reading;
+mod refusal;
 mod script;
 mod status;
 #[cfg(test)]
@@ -13,8 +18,12 @@ mod tests;
 mod top;
 
 pub use alone::{ends_of, perform};
+pub use command::{Command, command_of};
+pub use error::ReadError;
+pub use judging::judge;
 pub use laws::{alone_histories_answer, alone_histories_are_legal};
 pub use reading::read_script;
-pub use script::Script;
+pub use refusal::Refusal;
+pub use script::{ClientBlocks, Script};
 pub use status::Status;
 pub use top::{SCRIPT_LIMIT, thor};

@@ -1,57 +1,66 @@
-ghost use Rattle.std.specs.Prelude.{◌≡◌, ◌<◌, ◌≤◌, ◌+◌, ◌^◌, List, [], length, IfOk, IsTrue};
-ghost use Rattle.class_defs.specs.SchemaRules.{schema_rules};
-ghost use Rattle.thor_top.specs.Opened as opened;
-ghost use Rattle.thor_top.specs.Playing.{BreakNoRule, Judges, KeepsRules, Plays};
+ghost use Rattle.std.specs.Prelude.{◌≡◌, ◌<◌, ◌≤◌, ◌^◌, length, IfOk};
+ghost use Rattle.std.specs.List.{list_any};
+ghost use Rattle.serial_model.specs.Whole.{IsFirst};
+ghost use Rattle.thor_top.specs.Playing as spec;
+ghost use Rattle.thor_top.specs.Playing.{Plays};
 
 use crate::alone::{ends_of, perform};
-use crate::opening::{open, schema_of};
+use crate::opening::open;
 use crate::script::Script;
-use class_defs::{Blocks, Checked, Schema};
-use method_check::{CheckError, check, check_item};
+use class_defs::{Block, Blocks, Schema};
 use report_text::print_report;
 use std::alloc::Global;
 use thor_value::{NoMemory, Text};
 
-/// Whether the transactions break no rule on a schema that breaks none.
-fn items_keep_rules(alloc: Global, schema: &Checked, blocks: &Blocks) -> Result<bool, NoMemory>
-    requires { length schema.now.schema.classes ≤ 65536 }
-    ensures { Judges (BreakNoRule schema.now.schema blocks.now) result }
+/// The transactions of client 1.
+fn first_items(clients: &[Blocks]) -> &[Block]
+    ensures { result.now ≡ spec.first_items clients.now }
 {
-    for block in blocks.as_slice() {
-        match check_item(alloc, schema, block, 1) {
-            Ok(()) => {}
-            Err(CheckError::Broken(_)) => return Ok(false),
-            Err(CheckError::NoMemory) => return Err(NoMemory),
+    match clients {
+        [] => &[],
+        [first, ..] => first.as_slice(),
+    }
+}
+
+/// Whether one of the clients has a transaction.
+fn are_busy(clients: &[Blocks]) -> bool
+    ensures { result ≡ list_any spec.is_busy clients.now }
+{
+    for client in clients {
+        if !client.is_empty() {
+            return true;
         }
     }
-    Ok(true)
+    false
 }
 
-/// Whether the schema and the transactions break no rule.
-fn keeps_rules(alloc: Global, schema: &Schema, blocks: &Blocks) -> Result<bool, NoMemory>
-    requires { length schema.now.classes ≤ 65536 }
-    ensures { Judges (KeepsRules schema.now blocks.now) result }
+/// Whether client 1 alone has transactions, and the schedule no event.
+fn can_run(script: &Script) -> bool
+    ensures { result ≡ spec.can_run script.now }
 {
-    match check(alloc, schema, 1) {
-        Ok(checked) => items_keep_rules(alloc, &checked, blocks),
-        Err(CheckError::Broken(_)) => Ok(false),
-        Err(CheckError::NoMemory) => Err(NoMemory),
+    match script.clients.as_slice() {
+        [] => script.events.is_empty(),
+        [_first, others @ ..] => !are_busy(others) && script.events.is_empty(),
     }
 }
 
-/// The report of a script's run; nothing where it breaks a rule or a run is undefined.
-pub fn play(alloc: Global, script: &Script) -> Result<Option<Text>, NoMemory>
-    requires classes { length script.now.setup.classes ≤ 65536 }
-    requires roots { length script.now.setup.roots < 2 ^ 32 }
-    requires items { length script.now.blocks + 1 < 2 ^ 32 }
-    ensures { Plays script.now result }
+/// The report of a script's run, under its schema; nothing where it can't run yet or a run is undefined.
+pub fn play(alloc: Global, schema: &Schema, script: &Script) -> Result<Option<Text>, NoMemory>
+    requires classes { length schema.now.classes ≤ 65536 }
+    requires roots { length schema.now.roots < 2 ^ 32 }
+    requires first { IsFirst schema.now }
+    ensures played { IfOk result (Plays schema.now script.now) }
 {
-    let schema = schema_of(alloc, &script.setup)?;
-    if !keeps_rules(alloc, &schema, &script.blocks)? {
+    if !can_run(script) {
         return Ok(None);
     }
-    let mut view = open(alloc, &schema)?;
-    match perform(alloc, &schema, &mut view, &script.blocks)? {
+    let mut view = open(alloc, schema)?;
+    match perform(
+        alloc,
+        schema,
+        &mut view,
+        first_items(script.clients.as_slice()),
+    )? {
         Some(history) => {
             let ends = ends_of(alloc, &history)?;
             Ok(Some(print_report(alloc, &ends, &history)?))

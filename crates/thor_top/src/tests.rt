@@ -13,11 +13,11 @@ fn only(alloc: Global, number: i64) -> Result<Ints, NoMemory> {
     Ok(numbers)
 }
 
-/// `count` times the one word `play`.
-fn plays(alloc: Global, count: usize) -> Result<Texts, NoMemory> {
+/// The words of a command, which one space parts.
+fn words_of(alloc: Global, command: &str) -> Result<Texts, NoMemory> {
     let mut words = Texts::new(alloc);
-    for _ in 0..count {
-        words.push(Text::from_slice(alloc, b"play".as_slice())?)?;
+    for word in command.split(' ') {
+        words.push(Text::from_slice(alloc, word.as_bytes())?)?;
     }
     Ok(words)
 }
@@ -31,9 +31,19 @@ free class Box {
 root a = new Box() at 0;
 client 1 tx { ";
 
+const LIST: &str = "setup
+free class Node {
+  int value; Node next;
+  method int set(int v, Node behind) { this.value = v; this.next = behind; return v; }
+  method int push(int v) { var Node n = new Node(); n.set(v, this.next); this.next = n; return v; }
+  method int sum() { if (this.next == null) { return this.value; } return this.value + this.next.sum(); }
+}
+root a = new Node() at 0;
+client 1 tx { ";
+
 /// The bytes of a script: a setup with the root `a`, and a transaction of client 1 with these statements.
-fn script_of(alloc: Global, statements: &str) -> Result<Text, NoMemory> {
-    let mut bytes = Text::from_slice(alloc, BOX.as_bytes())?;
+fn script_of(alloc: Global, setup: &str, statements: &str) -> Result<Text, NoMemory> {
+    let mut bytes = Text::from_slice(alloc, setup.as_bytes())?;
     for byte in statements.as_bytes() {
         bytes.push(*byte)?;
     }
@@ -43,68 +53,158 @@ fn script_of(alloc: Global, statements: &str) -> Result<Text, NoMemory> {
     Ok(bytes)
 }
 
-const UNBUILT: &str = "script 1 Unbuilt\n";
-
 #[test]
 fn transactions_are_done_and_reported(rt: HostRuntime) -> Result<(), Fail> {
-    // The statements, and what is reported behind the outcome and behind the entry of the history.
+    // The setup, the statements, and what is written.
     let rows = [
         (
+            BOX,
             "print a.get();",
             "1.1 Done 1.0.1 try 1 : 0\nhistory\n1.0.1 1.1 : 0\nend 1\n",
         ),
         (
-            "print a.add(7); print a.get() + 1;",
-            "1.1 Done 1.0.1 try 1 : 7 8\nhistory\n1.0.1 1.1 : 7 8\nend 1\n",
-        ),
-        (
+            BOX,
             "print 9223372036854775807 + 1;",
             "1.1 Done 1.0.1 try 1 : -9223372036854775808\nhistory\n1.0.1 1.1 : -9223372036854775808\nend 1\n",
         ),
-        ("print a.gone();", UNBUILT),
-        ("print", UNBUILT),
+        (
+            BOX,
+            "a.add(7); } tx { a.add(1); var Box b = null; b.get(); } tx { print a.get();",
+            "1.1 Done 1.0.1 try 1 :\n1.2 Faulted NullCall 2.0.1 try 1\n1.3 Done 3.0.1 try 1 : 7\nhistory\n1.0.1 1.1 :\n2.0.1 1.2 ! NullCall\n3.0.1 1.3 : 7\nend 3\n",
+        ),
+        (
+            LIST,
+            "a.push(4); var Node none = null; none.sum(); } tx { a.push(5); a.push(6); } tx { a.push(7); print a.sum();",
+            "1.1 Faulted NullCall 1.0.1 try 1\n1.2 Done 2.0.1 try 1 :\n1.3 Done 3.0.1 try 1 : 18\nhistory\n1.0.1 1.1 ! NullCall\n2.0.1 1.2 new 0.1.0 0.1.1 :\n3.0.1 1.3 new 0.1.2 : 18\nend 3\n",
+        ),
     ];
-    for (statements, want) in rows {
-        let mut source = MemSource::new(script_of(rt.alloc(), statements)?, Ints::new(rt.alloc()));
+    for (setup, statements, want) in rows {
+        let mut source = MemSource::new(
+            script_of(rt.alloc(), setup, statements)?,
+            Ints::new(rt.alloc()),
+        );
         let mut sink = MemSink::new(Ints::new(rt.alloc()));
         let status = thor(
             rt.alloc(),
-            plays(rt.alloc(), 1)?.as_slice(),
+            words_of(rt.alloc(), "play")?.as_slice(),
             &mut source,
             &mut sink,
         );
         assert_eq!(rt; sink.taken(), want.as_bytes());
-        assert_eq!(rt; status == Status::Done, want != UNBUILT);
+        assert_eq!(rt; status, Status::Done);
+    }
+    Ok(())
+}
+
+#[test]
+fn scripts_are_checked(rt: HostRuntime) -> Result<(), Fail> {
+    // The words, the script, the status, and what is written.
+    let rows = [
+        ("check", "setup", Status::Done, "ok\n"),
+        (
+            "check --repos 2",
+            "setup schedule\nf1",
+            Status::Done,
+            "ok\n",
+        ),
+        (
+            "check",
+            "setup schedule\nf1",
+            Status::Script,
+            "script 2 T9\n",
+        ),
+        ("check", "", Status::Script, "script 1 Setup\n"),
+        ("play", "schedule", Status::Script, "script 1 Setup\n"),
+        (
+            "play",
+            "setup\nclient 1\ntx { return 1 }",
+            Status::Script,
+            "script 3 Syntax\n",
+        ),
+        (
+            "play",
+            "setup\nclient 1 tx { print a; }\ntx { print b; }",
+            Status::Script,
+            "script 2 T2\n",
+        ),
+        (
+            "play",
+            "setup client 1 tx { print null; } schedule s2",
+            Status::Script,
+            "script 1 T3\n",
+        ),
+        (
+            "play",
+            "setup client 1 tx { print\nnull; } schedule\ns2",
+            Status::Script,
+            "script 2 T3\n",
+        ),
+        (
+            "play --tries 3",
+            "setup client 1 tx { }",
+            Status::Done,
+            "1.1 Done 1.0.1 try 1 :\nhistory\n1.0.1 1.1 :\nend 1\n",
+        ),
+        (
+            "play",
+            "setup client 1 client 2 tx { }",
+            Status::Script,
+            "script 1 Unbuilt\n",
+        ),
+        (
+            "play",
+            "setup client 1 schedule s1",
+            Status::Script,
+            "script 1 Unbuilt\n",
+        ),
+        (
+            "play",
+            "setup client 1 upgrade { }",
+            Status::Script,
+            "script 1 Unbuilt\n",
+        ),
+        ("play --tries 0", "", Status::Words, "words\n"),
+        ("play --tries 101", "", Status::Words, "words\n"),
+        ("play --repos 1", "", Status::Words, "words\n"),
+        ("check --repos 0000000001", "", Status::Words, "words\n"),
+        ("check --repos +1", "", Status::Words, "words\n"),
+        ("check --repos 1 --repos 1", "", Status::Words, "words\n"),
+        ("", "", Status::Words, "words\n"),
+    ];
+    for (words, script, want, text) in rows {
+        let bytes = Text::from_slice(rt.alloc(), script.as_bytes())?;
+        let mut source = MemSource::new(bytes, Ints::new(rt.alloc()));
+        let mut sink = MemSink::new(Ints::new(rt.alloc()));
+        let status = thor(
+            rt.alloc(),
+            words_of(rt.alloc(), words)?.as_slice(),
+            &mut source,
+            &mut sink,
+        );
+        assert_eq!(rt; sink.taken(), text.as_bytes());
+        assert_eq!(rt; status, want);
     }
     Ok(())
 }
 
 #[test]
 fn faults_have_a_status_and_a_text(rt: HostRuntime) -> Result<(), Fail> {
-    // How often the word `play` is given, which read fails, which write fails, the status, and what is written.
+    // Which read fails, which write fails, the status, and what is written.
     let rows = [
-        (0, 0, 0, Status::Words, "words\n"),
-        (2, 0, 0, Status::Words, "words\n"),
-        (1, 1, 0, Status::SourceFault, "source\n"),
-        (1, 2, 0, Status::SourceFault, "source\n"),
-        (1, 0, 1, Status::SinkFault, ""),
-        (
-            1,
-            0,
-            2,
-            Status::SinkFault,
-            "1.1 Done 1.0.1 try 1 : 0\nhistory",
-        ),
+        (1, 0, Status::SourceFault, "source\n"),
+        (2, 0, Status::SourceFault, "source\n"),
+        (0, 1, Status::SinkFault, ""),
+        (0, 2, Status::SinkFault, "1.1 Done 1.0.1 try 1 : 0\nhistory"),
     ];
-    for (words, read, write, want, text) in rows {
+    for (read, write, want, text) in rows {
         let mut source = MemSource::new(
-            script_of(rt.alloc(), "print a.get();")?,
+            script_of(rt.alloc(), BOX, "print a.get();")?,
             only(rt.alloc(), read)?,
         );
         let mut sink = MemSink::new(only(rt.alloc(), write)?);
         let status = thor(
             rt.alloc(),
-            plays(rt.alloc(), words)?.as_slice(),
+            words_of(rt.alloc(), "play")?.as_slice(),
             &mut source,
             &mut sink,
         );
@@ -114,23 +214,39 @@ fn faults_have_a_status_and_a_text(rt: HostRuntime) -> Result<(), Fail> {
     Ok(())
 }
 
+/// A script with so many spaces, and then so often a text.
+fn repeated(alloc: Global, spaces: usize, count: usize, text: &str) -> Result<Text, NoMemory> {
+    let mut bytes = Text::new(alloc);
+    for _ in 0..spaces {
+        bytes.push(b' ')?;
+    }
+    for _ in 0..count {
+        bytes.extend_from_slice(text.as_bytes())?;
+    }
+    Ok(bytes)
+}
+
 #[test]
-fn scripts_have_a_greatest_length(rt: HostRuntime) -> Result<(), Fail> {
-    // How many spaces the script is, the status, and what is written.
+fn scripts_have_greatest_lengths(rt: HostRuntime) -> Result<(), Fail> {
+    // The script, the status, and what is written.
     let rows = [
-        (0, Status::Script, UNBUILT),
-        (SCRIPT_LIMIT + 1, Status::Limit, "limit 8388608\n"),
+        (
+            repeated(rt.alloc(), SCRIPT_LIMIT, 0, "")?,
+            Status::Script,
+            "script 1 Setup\n",
+        ),
+        (
+            repeated(rt.alloc(), SCRIPT_LIMIT + 1, 0, "")?,
+            Status::Limit,
+            "limit 8388608\n",
+        ),
     ];
-    for (length, want, text) in rows {
-        let mut bytes = Text::new(rt.alloc());
-        for _ in 0..length {
-            bytes.push(b' ')?;
-        }
+    for (bytes, want, text) in rows {
         let mut source = MemSource::new(bytes, Ints::new(rt.alloc()));
         let mut sink = MemSink::new(Ints::new(rt.alloc()));
         let status = thor(
             rt.alloc(),
-            plays(rt.alloc(), 1)?.as_slice(),
+            words_of(rt.alloc(), "check")?.as_slice(),
             &mut source,
             &mut sink,
         );

@@ -1,43 +1,39 @@
-ghost use Rattle.std.specs.Prelude.{◌≡◌, ◌<◌, ◌≤◌, ◌^◌, length, IfOk, Ok};
+ghost use Rattle.std.specs.Prelude.{◌≡◌, ◌<◌, ◌≤◌, ◌^◌, length, IfOk, Ok, Some};
 ghost use Rattle.outside.specs.Faults.{Rose};
-ghost use Rattle.thor_top.specs.Top.{Reports, Says, Tells, Wrote, is_play};
+ghost use Rattle.serial_model.specs.Whole.{IsFirst};
+ghost use Rattle.thor_top.specs.Refusals.{refusal_text};
+ghost use Rattle.thor_top.specs.Script.{HasFew};
+ghost use Rattle.thor_top.specs.Top.{IsAccepted, IsWithinLimits, Says, Tells, TellsOf, Wrote, limit_text, repos_of};
 
+use crate::command::{Command, command_of};
+use crate::error::ReadError;
+use crate::judging::judge;
+use crate::opening::schema_of;
 use crate::playing::play;
 use crate::reading::read_script;
+use crate::refusal::{Refusal, refusal_text};
+use crate::script::Script;
 use crate::status::Status;
+use class_defs::{Declarations, Schema};
 use outside::{ReadAll, Sink, Source, read_all, write_all};
 use std::alloc::Global;
+use std::fmt::Write;
 use thor_value::{NoMemory, Text};
 
 /// The most bytes that a script may have.
 pub const SCRIPT_LIMIT: usize = 8_388_608;
+
+/// The most clients that a script may have.
+const CLIENT_LIMIT: usize = 64;
+
+/// The most events that a schedule may have.
+const EVENT_LIMIT: usize = 1_000_000;
 
 /// What the program has to write, and the status with which it ends.
 #[derive(Debug, Drop)]
 struct Reply {
     status: Status,
     text: Text,
-}
-
-/// Whether the words are the one word `play`.
-fn is_play(words: &[Text]) -> bool
-    ensures { result ≡ is_play words.now }
-{
-    match words {
-        [word] => word.as_slice() == b"play".as_slice(),
-        _ => false,
-    }
-}
-
-/// The report of the script that the bytes are; nothing where they are no accepted one.
-fn report(alloc: Global, bytes: &[u8]) -> Result<Option<Text>, NoMemory>
-    requires { length bytes.now < 2 ^ 32 }
-    ensures { Reports bytes.now result }
-{
-    match read_script(alloc, bytes)? {
-        Some(script) => play(alloc, &script),
-        None => Ok(None),
-    }
 }
 
 fn says(alloc: Global, status: Status, text: &[u8]) -> Result<Reply, NoMemory>
@@ -50,22 +46,117 @@ fn says(alloc: Global, status: Status, text: &[u8]) -> Result<Reply, NoMemory>
     })
 }
 
-/// What the program says of a script whose bytes are these.
-fn report_or_refusal(alloc: Global, bytes: &[u8]) -> Result<Reply, NoMemory>
-    requires { length bytes.now < 2 ^ 32 }
-    ensures { IfOk result (λ reply. Tells bytes.now reply.status reply.text) }
+/// The reply to a script that is refused.
+fn refused(alloc: Global, refusal: Refusal) -> Result<Reply, NoMemory>
+    ensures status { IfOk result (λ reply. reply.status ≡ Status.Script) }
+    ensures text { IfOk result (λ reply. reply.text ≡ refusal_text refusal) }
 {
-    match report(alloc, bytes)? {
-        Some(text) => Ok(Reply {
-            status: Status::Done,
-            text,
-        }),
-        None => says(alloc, Status::Script, b"script 1 Unbuilt\n"),
+    Ok(Reply {
+        status: Status::Script,
+        text: refusal_text(alloc, refusal)?,
+    })
+}
+
+/// The reply to a script that passes a limit.
+#[tactic(auto, using(std::proofs::Common::append_assoc))]
+fn limited(alloc: Global, limit: usize) -> Result<Reply, NoMemory>
+    ensures status { IfOk result (λ reply. reply.status ≡ Status.Limit) }
+    ensures text { IfOk result (λ reply. reply.text ≡ limit_text limit) }
+{
+    let mut out = String::new(alloc);
+    write!(out, "limit {limit}\n")?;
+    Ok(Reply {
+        status: Status::Limit,
+        text: Text::from_vec(out.into_bytes()),
+    })
+}
+
+/// How many repositories the rules are judged for.
+fn repos_of(command: Command) -> u8
+    ensures { result ≡ repos_of command }
+{
+    match command {
+        Command::Check { repos } => repos,
+        Command::Play { tries: _ } => 1,
     }
 }
 
-/// Reads the script and plays it.
-fn read_and_play<S: Source>(
+/// The reply to a command on a script that breaks no rule.
+fn reply_accepted(
+    alloc: Global,
+    command: Command,
+    schema: &Schema,
+    script: &Script,
+) -> Result<Reply, NoMemory>
+    requires classes { length schema.now.classes ≤ 65536 }
+    requires roots { length schema.now.roots < 2 ^ 32 }
+    requires first { IsFirst schema.now }
+    requires within { IsWithinLimits script.now }
+    requires accepted { IsAccepted (repos_of command) script.now schema.now }
+    ensures { IfOk result (λ reply. TellsOf command script.now reply.status reply.text) }
+{
+    match command {
+        Command::Check { repos: _ } => says(alloc, Status::Done, b"ok\n"),
+        Command::Play { tries: _ } => match play(alloc, schema, script)? {
+            Some(text) => Ok(Reply {
+                status: Status::Done,
+                text,
+            }),
+            None => refused(alloc, Refusal::Unbuilt),
+        },
+    }
+}
+
+/// The reply to a command on a script with a setup.
+fn reply_set_up(
+    alloc: Global,
+    command: Command,
+    setup: &Declarations,
+    script: &Script,
+) -> Result<Reply, NoMemory>
+    requires few { HasFew script.now.setup }
+    requires set_up { script.now.setup ≡ Some setup.now }
+    requires within { IsWithinLimits script.now }
+    ensures { IfOk result (λ reply. TellsOf command script.now reply.status reply.text) }
+{
+    let schema = schema_of(alloc, setup)?;
+    match judge(alloc, &schema, script, repos_of(command))? {
+        Some(refusal) => refused(alloc, refusal),
+        None => reply_accepted(alloc, command, &schema, script),
+    }
+}
+
+/// The reply to a command on a script that was read.
+fn reply_to(alloc: Global, command: Command, script: &Script) -> Result<Reply, NoMemory>
+    requires { HasFew script.now.setup }
+    ensures { IfOk result (λ reply. TellsOf command script.now reply.status reply.text) }
+{
+    if CLIENT_LIMIT < script.clients.len() {
+        return limited(alloc, CLIENT_LIMIT);
+    }
+    if EVENT_LIMIT < script.events.len() {
+        return limited(alloc, EVENT_LIMIT);
+    }
+    match &script.setup {
+        None => refused(alloc, Refusal::Setup),
+        Some(setup) => reply_set_up(alloc, command, setup, script),
+    }
+}
+
+/// The reply to a command on a script's bytes.
+fn reply_to_bytes(alloc: Global, command: Command, bytes: &[u8]) -> Result<Reply, NoMemory>
+    requires { length bytes.now < 2 ^ 32 }
+    ensures { IfOk result (λ reply. Tells command bytes.now reply.status reply.text) }
+{
+    match read_script(alloc, bytes) {
+        Ok(script) => reply_to(alloc, command, &script),
+        Err(ReadError::Refused(refusal)) => refused(alloc, refusal),
+        Err(ReadError::NoMemory) => Err(NoMemory),
+    }
+}
+
+/// Reads the script and does what the words ask for.
+fn read_and_reply<S: Source>(
     alloc: Global,
     words: &[Text],
     source: &mut S,
@@ -73,20 +164,22 @@ fn read_and_play<S: Source>(
     ensures says { IfOk result (λ reply. Says words.now (S.left source.old) (S.left source.new) reply.status reply.text) }
     ensures fault { IfOk result (λ reply. reply.status ≡ Status.SourceFault → Rose (S.faults source.old) (S.faults source.new)) }
 {
-    if !is_play(words) {
+    let Some(command) = command_of(words) else {
         return says(alloc, Status::Words, b"words\n");
-    }
+    };
     match read_all(alloc, source, SCRIPT_LIMIT) {
-        Ok(bytes) => report_or_refusal(alloc, bytes.as_slice()),
+        Ok(bytes) => reply_to_bytes(alloc, command, bytes.as_slice()),
         Err(ReadAll::Failed) => says(alloc, Status::SourceFault, b"source\n"),
-        Err(ReadAll::Over) => says(alloc, Status::Limit, b"limit 8388608\n"),
+        Err(ReadAll::Over) => limited(alloc, SCRIPT_LIMIT),
         Err(ReadAll::NoMemory) => Err(NoMemory),
     }
 }
 
-/// The program: reads a script from the source, plays it and writes its report to the sink.
+/// The program: reads a script from the source, does with it what the words ask for, and writes the answer to
+/// the sink.
 ///
-/// The words are the one word `play`. The text that is written ends in a newline.
+/// `check` tells whether the script breaks a rule, and `play` runs it. The text that is written ends in a
+/// newline.
 pub fn thor<S: Source, K: Sink>(
     alloc: Global,
     words: &[Text],
@@ -99,7 +192,7 @@ pub fn thor<S: Source, K: Sink>(
     ensures source_fault { result ≡ Status.SourceFault → Rose (S.faults source.old) (S.faults source.new) }
     ensures sink_fault { result ≡ Status.SinkFault → Rose (K.faults sink.old) (K.faults sink.new) }
 {
-    match read_and_play(alloc, words, source) {
+    match read_and_reply(alloc, words, source) {
         Ok(said) => match write_all(sink, said.text.as_slice()) {
             Ok(()) => said.status,
             Err(_) => Status::SinkFault,

@@ -6,4 +6,4 @@ use Rattle.thor_top.proofs.alone.perform.Given as goal
 
 -- the entries so far, and those of the transactions to come, are those of all
 abbrev pub invariant-loop-place : goal.invariant-loop-place
-invariant-loop-place l = (roots : List Root) → behind l.history (performance l.schema (l.place + 1) (plain roots l.view) (drop l.place l.blocks)) ≡ performance l.schema 1 (plain roots l.fn.view) l.blocks
+invariant-loop-place l = (roots : List Root) → behind l.history (performance l.schema (l.place + 1) l.given (plain roots l.view) (drop l.place l.blocks)) ≡ performance l.schema 1 0 (plain roots l.fn.view) l.blocks

@@ -1,0 +1,39 @@
+-- Which rule a script breaks (this project's): T1 to T8 in its classes, roots and transactions, T9 in its schedule. The
+-- refusal that is told has the least line of all, and on that line the least rule.
+use Rattle.std.specs.Prelude.{◌≡◌, ℕ, nat_lt, if◌then◌else◌, List, [], length, Option, Some, None}
+use Rattle.class_defs.specs.Rules.{least}
+use Rattle.class_defs.specs.declared.rules.TypeFault.{TypeFault}
+use Rattle.class_defs.specs.declared.store.Schema.{Schema}
+use Rattle.method_check.specs.Scripts.{script_rules}
+use Rattle.schedule.specs.Breaks.{AllKeep, IsLeastBreach}
+use Rattle.schedule.specs.declared.events.Event.{Event}
+use Rattle.thor_top.specs.declared.refusal.Refusal.{Refusal}
+use Rattle.thor_top.specs.declared.refusal.Refusal.TheVariants as refusal
+use Rattle.thor_top.specs.declared.script.Script.{Script}
+
+-- the least line of an event that breaks the rule, where one does
+abbrev pub IsToldEvent : ℕ → ℕ → List Event → Option ℕ → Type 0
+IsToldEvent clients repos events None = AllKeep clients repos events
+IsToldEvent clients repos events (Some line) = IsLeastBreach clients repos events line
+
+-- the one with the lesser line, and on one line the broken rule T1 to T8
+abbrev pub told : Option TypeFault → Option ℕ → Option Refusal
+told None None = None
+told (Some fault) None = Some (refusal.Rule fault)
+told None (Some line) = Some (refusal.Event line)
+told (Some fault) (Some line) = Some (if nat_lt line fault.line then refusal.Event line else refusal.Rule fault)
+
+-- the script breaks no rule
+pub record KeepsRules (schema : Schema) (repos : ℕ) (script : Script) : Type 0 where
+  pub rules : script_rules schema repos script.clients ≡ []
+  pub events : AllKeep (length script.clients) repos script.events
+
+-- the script breaks a rule, and this is told
+pub record BreaksRule (schema : Schema) (repos : ℕ) (script : Script) (r : Refusal) : Type 0 where
+  pub event : Option ℕ
+  pub first : IsToldEvent (length script.clients) repos script.events event
+  pub is : told (least (script_rules schema repos script.clients)) event ≡ Some r
+
+abbrev pub Judges : Schema → ℕ → Script → Option Refusal → Type 0
+Judges schema repos script None = KeepsRules schema repos script
+Judges schema repos script (Some r) = BreaksRule schema repos script r

@@ -1,0 +1,36 @@
+-- Why a script is refused, and the text of a refusal (this project's).
+use Rattle.std.specs.Prelude.{ℕ, List, [], ◌∷◌, ◌++◌, codes}
+use Rattle.std.specs.Fmt.{decimal}
+use Rattle.class_defs.specs.declared.rules.Rule.{Rule}
+use Rattle.class_defs.specs.declared.rules.Rule.TheVariants.{T1, T2, T3, T4, T5, T6, T7, T8}
+use Rattle.thor_top.specs.declared.refusal.Refusal.{Refusal}
+use Rattle.thor_top.specs.declared.refusal.Refusal.TheVariants as refusal
+
+abbrev pub rule_word : Rule → List ℕ
+rule_word T1 = codes "T1"
+rule_word T2 = codes "T2"
+rule_word T3 = codes "T3"
+rule_word T4 = codes "T4"
+rule_word T5 = codes "T5"
+rule_word T6 = codes "T6"
+rule_word T7 = codes "T7"
+rule_word T8 = codes "T8"
+
+-- the line that is told; of what has none, 1
+abbrev pub line_of : Refusal → ℕ
+line_of (refusal.Syntax line) = line
+line_of refusal.Setup = 1
+line_of (refusal.Rule fault) = fault.line
+line_of (refusal.Event line) = line
+line_of refusal.Unbuilt = 1
+
+abbrev pub word_of : Refusal → List ℕ
+word_of (refusal.Syntax line) = codes "Syntax"
+word_of refusal.Setup = codes "Setup"
+word_of (refusal.Rule fault) = rule_word fault.rule
+word_of (refusal.Event line) = codes "T9"
+word_of refusal.Unbuilt = codes "Unbuilt"
+
+-- one line: `script`, the line of the script and the word
+abbrev pub refusal_text : Refusal → List ℕ
+refusal_text r = codes "script " ++ (decimal (line_of r) ++ (32 ∷ (word_of r ++ 10 ∷ [])))
