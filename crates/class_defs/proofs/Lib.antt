@@ -3,6 +3,9 @@ pub mod AlikeCalls
 pub mod AlikeObjects
 pub mod AlikeRun
 pub mod AlikeSteps
+pub mod Moving
 pub mod RuleForms
 pub mod RunOutcomes
+pub mod TfForms
 pub mod TouchedStores
+pub mod Values

@@ -5,6 +5,7 @@ pub mod ExpressionRules
 pub mod Expressions
 pub mod Grammar
 pub mod KeptOwnership
+pub mod LazyExamples
 pub mod Levels
 pub mod Objects
 pub mod Ownership

@@ -1,0 +1,43 @@
+//! That lazy upgrades are unseen: what a stored map stands for, and what leaves it as it is. Each law is a function with
+//! an empty body, whose clauses are proved once for all callers.
+
+ghost use Rattle.std.specs.Prelude.{◌≡◌, ◌≤◌, ◌+◌, ℕ, Option, Some, None, false, option_map};
+ghost use Rattle.thor_value.specs.FiniteMap.{IsSorted, get};
+ghost use Rattle.thor_value.specs.declared.names.Oref.{Oref};
+ghost use Rattle.thor_value.specs.declared.values.Obj.{Obj};
+ghost use Rattle.class_defs.specs.Eager.{eager, value};
+ghost use Rattle.class_defs.specs.Epochs.{classes_of, upgrade_to};
+ghost use Rattle.class_defs.specs.Levels.{is_due, lags, level};
+ghost use Rattle.class_defs.specs.Stored.{Objects, Stored, bare};
+ghost use Rattle.class_defs.specs.Upgrades.{up};
+ghost use Rattle.class_defs.specs.declared.store.Schemas.{Schemas};
+ghost use Rattle.class_defs.specs.declared.upgrades.Upgrade.{Upgrade};
+
+/// Up to its level the value of an object is what is stored, and no other object is looked at: it is the same over
+/// every map. At its level no upgrade has changed it; it is due exactly where one up to the map's epoch does.
+pub fn undue_objects_stay()
+    ensures level { (s : Schemas) → (m : Objects) → (e k : ℕ) → (o : Obj)
+        → k ≤ level s e o → value s m k o ≡ bare o }
+    ensures undue { (s : Schemas) → (m : Objects) → (e : ℕ) → (o : Obj)
+        → is_due s e o ≡ false → value s m e o ≡ bare o }
+    ensures eager { (s : Schemas) → (L : Stored) → (x : Oref) → (o : Obj)
+        → get L.objects x ≡ Some o → is_due s L.epoch o ≡ false → get (eager s L).objects x ≡ Some (bare o) }
+    ensures alone { (s : Schemas) → (m : Objects) → (n : Objects) → (e k : ℕ) → (o : Obj)
+        → k ≤ level s e o → value s m k o ≡ value s n k o }
+    ensures due { (s : Schemas) → (e : ℕ) → (o : Obj) → is_due s e o ≡ lags s o e }
+{}
+
+/// What a stored map stands for has the objects of the map, each with its value in the map's epoch.
+pub fn eager_objects()
+    ensures { (s : Schemas) → (L : Stored) → (x : Oref)
+        → get (eager s L).objects x ≡ option_map (value s L.objects L.epoch) (get L.objects x) }
+{}
+
+/// An upgrade that is installed changes no stored object and raises the epoch by one. What the map stands for is
+/// then behind the eager upgrade of what it stood for.
+pub fn upgrade_moves_up()
+    ensures { (s : Schemas) → (L : Stored) → (u : Upgrade)
+        → IsSorted L.objects → ((x : Oref) → (o : Obj) → get L.objects x ≡ Some o → o.ver ≤ L.epoch)
+        → upgrade_to s (L.epoch + 1) ≡ Some u
+        → eager s (record L { epoch = L.epoch + 1 }) ≡ up (classes_of s L.epoch) (classes_of s (L.epoch + 1)) u (eager s L) }
+{}
