@@ -3,9 +3,12 @@ pub mod AlikeCalls
 pub mod AlikeObjects
 pub mod AlikeRun
 pub mod AlikeSteps
+pub mod Handing
+pub mod Locality
 pub mod Moving
 pub mod RuleForms
 pub mod RunOutcomes
+pub mod Shrinking
 pub mod TfForms
 pub mod TouchedStores
 pub mod Values
