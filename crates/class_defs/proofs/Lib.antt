@@ -11,4 +11,5 @@ pub mod RunOutcomes
 pub mod Shrinking
 pub mod TfForms
 pub mod TouchedStores
+pub mod Unseen
 pub mod Values

@@ -1,15 +1,18 @@
 //! That lazy upgrades are unseen: what a stored map stands for, and what leaves it as it is. Each law is a function with
 //! an empty body, whose clauses are proved once for all callers.
 
-ghost use Rattle.std.specs.Prelude.{◌≡◌, ◌≤◌, ◌+◌, ℕ, Option, Some, None, false, option_map};
-ghost use Rattle.thor_value.specs.FiniteMap.{IsSorted, get};
+ghost use Rattle.std.specs.Prelude.{◌≡◌, ◌≤◌, ◌+◌, ℕ, suc, Option, Some, None, false, option_map};
+ghost use Rattle.thor_value.specs.FiniteMap.{IsSorted, get, insert};
 ghost use Rattle.thor_value.specs.declared.names.Oref.{Oref};
 ghost use Rattle.thor_value.specs.declared.values.Obj.{Obj};
-ghost use Rattle.class_defs.specs.Eager.{eager, value};
+ghost use Rattle.class_defs.specs.Eager.{brought, eager, value};
 ghost use Rattle.class_defs.specs.Epochs.{classes_of, upgrade_to};
+ghost use Rattle.class_defs.specs.KeptOwnership.{AllKeepClasses};
 ghost use Rattle.class_defs.specs.Levels.{is_due, lags, level};
+ghost use Rattle.class_defs.specs.Ownership.{IsAbove};
 ghost use Rattle.class_defs.specs.Stored.{Objects, Stored, bare};
 ghost use Rattle.class_defs.specs.Upgrades.{up};
+ghost use Rattle.class_defs.specs.WellOwned.{IsWellOwned};
 ghost use Rattle.class_defs.specs.declared.store.Schemas.{Schemas};
 ghost use Rattle.class_defs.specs.declared.upgrades.Upgrade.{Upgrade};
 
@@ -40,4 +43,24 @@ pub fn upgrade_moves_up()
         → IsSorted L.objects → ((x : Oref) → (o : Obj) → get L.objects x ≡ Some o → o.ver ≤ L.epoch)
         → upgrade_to s (L.epoch + 1) ≡ Some u
         → eager s (record L { epoch = L.epoch + 1 }) ≡ up (classes_of s L.epoch) (classes_of s (L.epoch + 1)) u (eager s L) }
+{}
+
+/// In a well owned map the value of an object depends on it and on what it owns, directly or further down, alone: it
+/// is the same over every map that has the same objects there.
+pub fn values_are_local()
+    ensures { (s : Schemas) → (L : Stored) → (m : Objects) → (x : Oref) → (o : Obj) → (k : ℕ)
+        → AllKeepClasses s L.epoch → IsWellOwned s L
+        → get L.objects x ≡ Some o → k ≤ L.epoch
+        → ((n : ℕ) → (z : Oref) → IsAbove s L.objects n x z → get L.objects z ≡ get m z)
+        → value s L.objects k o ≡ value s m k o }
+{}
+
+/// An object of a well owned map none of whose owners is due can be brought to the map's epoch, and what the map
+/// stands for is as it was.
+pub fn transforms_are_unseen()
+    ensures { (s : Schemas) → (L : Stored) → (x : Oref) → (o : Obj)
+        → AllKeepClasses s L.epoch → IsWellOwned s L → IsSorted L.objects
+        → get L.objects x ≡ Some o
+        → ((n : ℕ) → (a : Oref) → (p : Obj) → IsAbove s L.objects (suc n) a x → get L.objects a ≡ Some p → is_due s L.epoch p ≡ false)
+        → eager s (record L { objects = insert L.objects x (brought s L o) }) ≡ eager s L }
 {}
