@@ -89,7 +89,8 @@ pub record From (old new : List Class) (v : Object) (u : ClassUpgrade) (i d : �
   pub handed : handed old v.class upgrade.value ≡ Some (Some field)
   pub refers : Refers old v field d z
 
-types_of : (new : List Class) (fs : List Field) (gs : List FieldUpgrade) (i : ℕ) → map (λ f. f.type_name) fs ≡ map (λ f. f.type_name) gs
+-- the types of the new fields are those that the upgrade says
+pub types_of : (new : List Class) (fs : List Field) (gs : List FieldUpgrade) (i : ℕ) → map (λ f. f.type_name) fs ≡ map (λ f. f.type_name) gs
     → option_map (λ f. type_named new f.type_name) (slice_get fs i) ≡ option_map (λ f. type_named new f.type_name) (slice_get gs i)
 types_of new fs gs i h =
     through (slice_get fs i) ∙ ap (option_map (type_named new)) (sym (slice_get-map (λ f. f.type_name) fs i))
@@ -145,7 +146,8 @@ module _ (s : Schemas) (old new : List Class) (objects : Oref → Option Object)
 
 -- ---- from one epoch to the next
 
-same_types : (old new : List Class) → ((t : TypeName) → type_named new t ≡ type_named old t) → (f : Option Field)
+-- where a type's word keeps its meaning, a field keeps its type
+pub same_types : (old new : List Class) → ((t : TypeName) → type_named new t ≡ type_named old t) → (f : Option Field)
     → option_map (λ f. type_named new f.type_name) f ≡ option_map (λ f. type_named old f.type_name) f
 same_types old new h (Some f) = ap Some (h f.type_name)
 same_types old new h None = refl

@@ -6,6 +6,9 @@ pub mod AlikeSteps
 pub mod Handing
 pub mod Locality
 pub mod Moving
+pub mod OfItsClass
+pub mod Owned
+pub mod OwnedMaps
 pub mod RuleForms
 pub mod RunOutcomes
 pub mod Shrinking

@@ -10,6 +10,7 @@ mod lazy_laws;
 mod limits;
 mod look;
 mod machine;
+mod ownership_laws;
 mod places;
 mod rule_rows;
 mod rules;
@@ -32,6 +33,9 @@ pub use lazy_laws::{
 pub use limits::{CREATE_LIMIT, DEPTH_LIMIT, READ_LIMIT, STEP_LIMIT};
 pub use look::{class_named, field_named, field_of, method_of};
 pub use machine::{Flow, Local, Locals, Machine, NameSupply, Receiver, Stop};
+pub use ownership_laws::{
+    eager_stays_owned, references_shrink, transforms_stay_owned, upgrades_stay_owned,
+};
 pub use places::Place;
 pub use rules::{NamedType, NamedTypes, Position, Rule, TypeFault};
 pub use run_laws::{

@@ -1,0 +1,77 @@
+-- That an object stays of its class through upgrades: it gets as many fields as its class, each of its kind.
+use Rattle.std.proofs.Common.{◌≡◌, List, [], ◌∷◌, ℕ, suc, length, Option, Some, None, option_map, slice_get, map, refl, ap, sym, ◌∙◌, subst}
+use Rattle.std.proofs.lemmas.List.{length-map}
+use Rattle.std.proofs.lemmas.Option.{slice_get-map}
+use Rattle.thor_value.specs.declared.names.Oref.{Oref}
+use Rattle.thor_value.specs.declared.values.Value.{Value}
+use Rattle.thor_value.specs.declared.values.Value.TheVariants as value
+use Rattle.class_defs.proofs.Handing.{same_types, types_of}
+use Rattle.class_defs.specs.Epochs.{classes_of, next_of}
+use Rattle.class_defs.specs.KeptOwnership.{KeepsClasses, KeepsOwnership}
+use Rattle.class_defs.specs.Objects.{fitted_or_beginning}
+use Rattle.class_defs.specs.Ownership.{type_at}
+use Rattle.class_defs.specs.Steps.{fitted}
+use Rattle.class_defs.specs.Types.{fields_of, type_named}
+use Rattle.class_defs.specs.Upgrades.{tf_value, transformed}
+use Rattle.class_defs.specs.WellOwned.{IsOfItsClass}
+use Rattle.class_defs.specs.declared.classes.Class.{Class}
+use Rattle.class_defs.specs.declared.store.Object.{Object}
+use Rattle.class_defs.specs.declared.store.Schemas.{Schemas}
+use Rattle.class_defs.specs.declared.types.ExprType.{ExprType}
+use Rattle.class_defs.specs.declared.types.ExprType.TheVariants as type
+use Rattle.class_defs.specs.declared.upgrades.ClassUpgrade.{ClassUpgrade}
+use Rattle.class_defs.specs.declared.upgrades.FieldUpgrade.{FieldUpgrade}
+
+fitted_twice : (t : ExprType) (w : Value) → fitted t (fitted t w) ≡ fitted t w
+fitted_twice type.Int (value.Int n) = refl
+fitted_twice type.Int (value.Ref x) = refl
+fitted_twice type.Int value.Null = refl
+fitted_twice (type.Class c) (value.Int n) = refl
+fitted_twice (type.Class c) (value.Ref x) = refl
+fitted_twice (type.Class c) value.Null = refl
+fitted_twice type.Null w = refl
+fitted_twice type.Untold w = refl
+
+fitted_beginning : (t : ExprType) → fitted t (fitted_or_beginning t None) ≡ fitted_or_beginning t None
+fitted_beginning type.Int = refl
+fitted_beginning (type.Class c) = refl
+fitted_beginning type.Null = refl
+fitted_beginning type.Untold = refl
+
+fitted_then : (t : ExprType) (w : Option Value) → fitted t (fitted_or_beginning t w) ≡ fitted_or_beginning t w
+fitted_then t (Some w) = fitted_twice t w
+fitted_then t None = fitted_beginning t
+
+some : {X : Type 0} (x y : X) → Some x ≡ Some y → x ≡ y
+some x y h = cc
+
+module _ (s : Schemas) (old new : List Class) (objects : Oref → Option Object) (v : Object) (u : ClassUpgrade) (keeps : KeepsOwnership s old new v.class u) where
+  abbrev becomes : FieldUpgrade → Value
+  becomes f = fitted_or_beginning (type_named new f.type_name) (tf_value old objects v f.value)
+
+  kind : (f : Option FieldUpgrade) (t : ExprType) (w : Value) → option_map (λ f. type_named new f.type_name) f ≡ Some t → option_map becomes f ≡ Some w → fitted t w ≡ w
+  kind None t w h g = cc
+  kind (Some f) t w h g =
+      let a : type_named new f.type_name ≡ t = some _ _ h in
+      let b : becomes f ≡ w = some _ _ g in
+      subst (λ x. fitted t x ≡ x) b (subst (λ k. fitted k (becomes f) ≡ becomes f) a (fitted_then (type_named new f.type_name) (tf_value old objects v f.value)))
+
+  named : IsOfItsClass new (transformed old new objects v (Some u))
+  named = record {
+    count = length-map u.fields becomes ∙ sym (length-map u.fields (λ f. f.type_name)) ∙ ap length (sym keeps.fields)
+        ∙ length-map (fields_of new v.class) (λ f. f.type_name);
+    kinds = λ i t w h g. kind (slice_get u.fields i) t w (sym (types_of new (fields_of new v.class) u.fields i keeps.fields) ∙ h)
+        (sym (slice_get-map becomes u.fields i) ∙ g);
+  }
+
+module _ (s : Schemas) (k : ℕ) (keeps : KeepsClasses s k) (objects : Oref → Option Object) (v : Object) where
+  -- behind an upgrade an object is of its new class
+  pub next_kinds : (w : Option ClassUpgrade) → next_of s k v.class ≡ w → IsOfItsClass (classes_of s k) v
+      → IsOfItsClass (classes_of s (suc k)) (transformed (classes_of s k) (classes_of s (suc k)) objects v w)
+  next_kinds None is h = record {
+    count = h.count ∙ sym (ap length (keeps.others v.class is));
+    kinds = λ i t w g r. h.kinds i t w
+        (sym (ap (λ fs. option_map (λ f. type_named (classes_of s (suc k)) f.type_name) (slice_get fs i)) (keeps.others v.class is)
+          ∙ same_types (classes_of s k) (classes_of s (suc k)) keeps.types (slice_get (fields_of (classes_of s k) v.class) i)) ∙ g) r;
+  }
+  next_kinds (Some u) is h = named s (classes_of s k) (classes_of s (suc k)) objects v u (keeps.named v.class u is)
