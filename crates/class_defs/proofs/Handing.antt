@@ -183,7 +183,7 @@ module _ (s : Schemas) (k : ℕ) (keeps : KeepsClasses s k) (objects : Oref → 
       → From old new v u i c z → From old new v u j d z → i ≡ j
   apart_from once u keeps i j c d z p q f g =
       let e : f.field ≡ g.field = once f.field g.field c d z p q f.refers g.refers in
-      keeps.once i j c f.field f.upgrade g.upgrade f.place g.place f.typed p f.handed (g.handed ∙ ap (λ n. Some (Some n)) (sym e))
+      keeps.once i j c d f.field f.upgrade g.upgrade f.place g.place f.typed p g.typed q f.handed (g.handed ∙ ap (λ n. Some (Some n)) (sym e))
 
   pub next_apart : (w : Option ClassUpgrade) → next_of s k v.class ≡ w → AreApart s old v → AreApart s new (transformed old new objects v w)
   next_apart None is once i j c d z p q r t = once i j c d z p q (unnamed is i c z r) (unnamed is j d z t)

@@ -42,6 +42,22 @@ fitted_then : (t : ExprType) (w : Option Value) → fitted t (fitted_or_beginnin
 fitted_then t (Some w) = fitted_twice t w
 fitted_then t None = fitted_beginning t
 
+-- a reference fits a class alone
+fitted_class : (t : ExprType) (w : Option Value) (z : Oref) → fitted_or_beginning t w ≡ value.Ref z → (d : ℕ) × (t ≡ type.Class d)
+fitted_class (type.Class d) w z h = (d, refl)
+fitted_class type.Int (Some (value.Int n)) z h = cc
+fitted_class type.Int (Some (value.Ref x)) z h = cc
+fitted_class type.Int (Some value.Null) z h = cc
+fitted_class type.Int None z h = cc
+fitted_class type.Null (Some w) z h = cc
+fitted_class type.Null None z h = cc
+fitted_class type.Untold (Some w) z h = cc
+fitted_class type.Untold None z h = cc
+
+-- each reference of an object stands in a field of a class
+abbrev pub AreDeclared : List Class → Object → Type 0
+AreDeclared classes v = (i : ℕ) → (z : Oref) → slice_get v.fields i ≡ Some (value.Ref z) → (d : ℕ) × (type_at classes v.class i ≡ Some (type.Class d))
+
 some : {X : Type 0} (x y : X) → Some x ≡ Some y → x ≡ y
 some x y h = cc
 
@@ -56,6 +72,16 @@ module _ (s : Schemas) (old new : List Class) (objects : Oref → Option Object)
       let b : becomes f ≡ w = some _ _ g in
       subst (λ x. fitted t x ≡ x) b (subst (λ k. fitted k (becomes f) ≡ becomes f) a (fitted_then (type_named new f.type_name) (tf_value old objects v f.value)))
 
+  class_of : (i : ℕ) (z : Oref) (f : Option FieldUpgrade) → slice_get u.fields i ≡ f → option_map becomes f ≡ Some (value.Ref z)
+      → (d : ℕ) × (type_at new v.class i ≡ Some (type.Class d))
+  class_of i z None is h = cc
+  class_of i z (Some f) is h =
+      let p = fitted_class (type_named new f.type_name) (tf_value old objects v f.value) z (some _ _ h) in
+      (p.0, types_of new (fields_of new v.class) u.fields i keeps.fields ∙ ap (option_map (λ f. type_named new f.type_name)) is ∙ ap Some p.1)
+
+  declared : AreDeclared new (transformed old new objects v (Some u))
+  declared i z h = class_of i z (slice_get u.fields i) refl (sym (slice_get-map becomes u.fields i) ∙ h)
+
   named : IsOfItsClass new (transformed old new objects v (Some u))
   named = record {
     count = length-map u.fields becomes ∙ sym (length-map u.fields (λ f. f.type_name)) ∙ ap length (sym keeps.fields)
@@ -65,13 +91,23 @@ module _ (s : Schemas) (old new : List Class) (objects : Oref → Option Object)
   }
 
 module _ (s : Schemas) (k : ℕ) (keeps : KeepsClasses s k) (objects : Oref → Option Object) (v : Object) where
+  -- a class that the upgrade doesn't name keeps the types of its fields
+  same_type : next_of s k v.class ≡ None → (i : ℕ) → type_at (classes_of s (suc k)) v.class i ≡ type_at (classes_of s k) v.class i
+  same_type is i =
+      ap (λ fs. option_map (λ f. type_named (classes_of s (suc k)) f.type_name) (slice_get fs i)) (keeps.others v.class is)
+      ∙ same_types (classes_of s k) (classes_of s (suc k)) keeps.types (slice_get (fields_of (classes_of s k) v.class) i)
+
   -- behind an upgrade an object is of its new class
   pub next_kinds : (w : Option ClassUpgrade) → next_of s k v.class ≡ w → IsOfItsClass (classes_of s k) v
       → IsOfItsClass (classes_of s (suc k)) (transformed (classes_of s k) (classes_of s (suc k)) objects v w)
   next_kinds None is h = record {
     count = h.count ∙ sym (ap length (keeps.others v.class is));
-    kinds = λ i t w g r. h.kinds i t w
-        (sym (ap (λ fs. option_map (λ f. type_named (classes_of s (suc k)) f.type_name) (slice_get fs i)) (keeps.others v.class is)
-          ∙ same_types (classes_of s k) (classes_of s (suc k)) keeps.types (slice_get (fields_of (classes_of s k) v.class) i)) ∙ g) r;
+    kinds = λ i t w g r. h.kinds i t w (sym (same_type is i) ∙ g) r;
   }
   next_kinds (Some u) is h = named s (classes_of s k) (classes_of s (suc k)) objects v u (keeps.named v.class u is)
+
+  -- and each of its references stands in a field of a class
+  pub next_declared : (w : Option ClassUpgrade) → next_of s k v.class ≡ w → AreDeclared (classes_of s k) v
+      → AreDeclared (classes_of s (suc k)) (transformed (classes_of s k) (classes_of s (suc k)) objects v w)
+  next_declared None is h i z r = let p = h i z r in (p.0, same_type is i ∙ p.1)
+  next_declared (Some u) is h i z r = declared s (classes_of s k) (classes_of s (suc k)) objects v u (keeps.named v.class u is) i z r

@@ -6,7 +6,7 @@ use Rattle.thor_value.specs.FiniteMap.{get}
 use Rattle.thor_value.specs.declared.names.Oref.{Oref}
 use Rattle.thor_value.specs.declared.values.Obj.{Obj}
 use Rattle.class_defs.proofs.Handing.{AreApart}
-use Rattle.class_defs.proofs.OfItsClass.{next_kinds}
+use Rattle.class_defs.proofs.OfItsClass.{AreDeclared, next_declared, next_kinds}
 use Rattle.class_defs.proofs.Shrinking.{along, keeps_apart, shrinks}
 use Rattle.class_defs.specs.Eager.{brought, value, values}
 use Rattle.class_defs.specs.Epochs.{classes_of, next_of}
@@ -23,7 +23,8 @@ pub record From (s : Schemas) (L : Stored) (a : Oref) (q : Obj) : Type 0 where
   pub stored : get L.objects a ≡ Some object
   pub is : (q ≡ object) ⊎ (q ≡ brought s L object)
 
-is_some_and : {X : Type 0} (o : Option X) (P Q : X → Type 0) → IsSomeAnd o P → ((x : X) → P x → Q x) → IsSomeAnd o Q
+-- what follows from what holds of a value that is there
+pub is_some_and : {X : Type 0} (o : Option X) (P Q : X → Type 0) → IsSomeAnd o P → ((x : X) → P x → Q x) → IsSomeAnd o Q
 is_some_and (Some x) P Q h f = f x h
 is_some_and None P Q h f = absurd h
 
@@ -96,6 +97,14 @@ module _ (s : Schemas) (L : Stored) (keeps : AllKeepClasses s L.epoch) (owned : 
   version a q o is (inl e) = subst (λ w. w.ver ≤ L.epoch) (sym e) (owned.versions a o is)
   version a q o is (inr e) = subst (λ w. w.ver ≤ L.epoch) (sym e) (omega arith)
 
+  only_by : (a : Oref) (q o : Obj) → get L.objects a ≡ Some o → (q ≡ o) ⊎ (q ≡ brought s L o) → AreDeclared (classes_of s q.ver) (bare q)
+  only_by a q o is (inl e) = subst (λ w. AreDeclared (classes_of s w.ver) (bare w)) (sym e) (λ i z r. owned.only a o i z is r)
+  only_by a q o is (inr e) =
+      subst (λ w. AreDeclared (classes_of s w.ver) (bare w)) (sym e)
+      (along s L.epoch keeps L.objects o AreDeclared (λ i z r. owned.only a o i z is r)
+        (λ k b w before. next_declared s k (keeps k b) (get (values s L.objects k)) (value s L.objects k o) (next_of s k (value s L.objects k o).class) refl before)
+        L.epoch (owned.versions a o is) (omega arith))
+
   pub version_at : (a : Oref) (q : Obj) → get n a ≡ Some q → q.ver ≤ L.epoch
   version_at a q is = let f = back a q is in version a q f.object f.stored f.is
 
@@ -103,6 +112,7 @@ module _ (s : Schemas) (L : Stored) (keeps : AllKeepClasses s L.epoch) (owned : 
       → IsWellOwned s (record L { objects = n })
   still_owned levels = record {
     versions = version_at;
+    only = λ a q i z is r. let f = back a q is in only_by a q f.object f.stored f.is i z r;
     declared = λ a i d z r. let p = names_back a i d z r in kept z d (get L.objects z) refl (owned.declared a p.0 d z p.1);
     once = one_owner;
     near = λ a i z o. let p = owns_back a i z o in owned.near a p.0 z p.1;

@@ -8,12 +8,12 @@ use Rattle.thor_value.specs.FiniteMap.{get, insert}
 use Rattle.thor_value.specs.Names.{same_oref}
 use Rattle.thor_value.specs.declared.names.Oref.{Oref}
 use Rattle.thor_value.specs.declared.values.Obj.{Obj}
-use Rattle.class_defs.proofs.Owned.{From, owns_back, still_kinds, still_owned, version_at}
+use Rattle.class_defs.proofs.Owned.{From, is_some_and, owns_back, still_kinds, still_owned, version_at}
 use Rattle.class_defs.proofs.Values.{due_is, get-each, greatest_within, lags_early, undue_level, value_class}
 use Rattle.class_defs.specs.Eager.{brought, eager, value, values}
 use Rattle.class_defs.specs.KeptOwnership.{AllKeepClasses}
 use Rattle.class_defs.specs.Levels.{greatest, is_due, lags, level}
-use Rattle.class_defs.specs.Ownership.{IsAbove, Owns}
+use Rattle.class_defs.specs.Ownership.{IsAbove, IsPart, Owns}
 use Rattle.class_defs.specs.Stored.{Objects, Stored, all_written, in_epoch}
 use Rattle.class_defs.specs.WellOwned.{AreOfTheirClasses, IsWellOwned}
 use Rattle.class_defs.specs.declared.store.Schemas.{Schemas}
@@ -134,6 +134,7 @@ next_level s e o = let n : suc e ≡ e + 1 = omega arith in subst (λ n. level s
 pub next_owned : (s : Schemas) (L : Stored) → IsWellOwned s L → IsWellOwned s (record L { epoch = L.epoch + 1 })
 next_owned s L owned = record {
   versions = λ x o is. let v = owned.versions x o is in omega (arith, v);
+  only = owned.only;
   declared = owned.declared;
   once = owned.once;
   near = owned.near;
@@ -141,3 +142,23 @@ next_owned s L owned = record {
   ends = owned.ends;
   levels = λ j a z o p h is t. let l = owned.levels j a z o p h is t in let m = next_level s L.epoch o in omega (arith, l, m);
 }
+
+-- ---- owners in a well owned map
+
+module _ (s : Schemas) (L : Stored) (owned : IsWellOwned s L) where
+  -- at each distance there is one owner at most
+  pub one_above : (n : ℕ) (a b z : Oref) → IsAbove s L.objects n a z → IsAbove s L.objects n b z → a ≡ b
+  one_above zero a b z h g = h ∙ sym g
+  one_above (suc n) a b z h g =
+      let e : h.0 ≡ g.0 = one_above n h.0 g.0 z h.1.1.1 g.1.1.1 in
+      (owned.once a b h.1.0 g.1.0 g.0 (subst (λ w. Owns s L.objects a h.1.0 w) e h.1.1.0) g.1.1.0).0
+
+  pub near_above : (n : ℕ) (a z : Oref) → IsAbove s L.objects n a z → a.repo ≡ z.repo
+  near_above zero a z h = ap (λ w. w.repo) h
+  near_above (suc n) a z h = owned.near a h.1.0 h.0 h.1.1.0 ∙ near_above n h.0 z h.1.1.1
+
+  -- what is owned is a part
+  pub owned_part : (a : Oref) (i : ℕ) (z : Oref) → Owns s L.objects a i z → IsSomeAnd (get L.objects z) (λ o. IsPart s o.class)
+  owned_part a i z o =
+      is_some_and (get L.objects z) (λ p. p.class ≡ o.class) (λ p. IsPart s p.class) (owned.declared a i o.class z o.reference)
+      (λ p e. subst (λ c. IsPart s c) (sym e) o.part)

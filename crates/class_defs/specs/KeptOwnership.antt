@@ -78,8 +78,8 @@ pub record KeepsOwnership (s : Schemas) (old new : List Class) (c : ℕ) (u : Cl
   pub paths : (i : ℕ) → (f : FieldUpgrade) → slice_get u.fields i ≡ Some f → reads_owned old c f.value ≡ true
   pub references : (i d : ℕ) → (f : FieldUpgrade) → slice_get u.fields i ≡ Some f → type_named new f.type_name ≡ type.Class d
       → IsHanded old c d (handed old c f.value)
-  pub once : (i j d h : ℕ) → (f g : FieldUpgrade) → slice_get u.fields i ≡ Some f → slice_get u.fields j ≡ Some g
-      → type_named new f.type_name ≡ type.Class d → IsPart s d
+  pub once : (i j d e h : ℕ) → (f g : FieldUpgrade) → slice_get u.fields i ≡ Some f → slice_get u.fields j ≡ Some g
+      → type_named new f.type_name ≡ type.Class d → IsPart s d → type_named new g.type_name ≡ type.Class e → IsPart s e
       → handed old c f.value ≡ Some (Some h) → handed old c g.value ≡ Some (Some h) → i ≡ j
 
 -- From epoch k to the next, types keep their meaning, classes their kinds, classes that the upgrade doesn't name their

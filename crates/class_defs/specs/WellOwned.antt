@@ -5,6 +5,7 @@ use Rattle.thor_value.specs.FiniteMap.{get}
 use Rattle.thor_value.specs.declared.names.Oref.{Oref}
 use Rattle.thor_value.specs.declared.values.Obj.{Obj}
 use Rattle.thor_value.specs.declared.values.Value.{Value}
+use Rattle.thor_value.specs.declared.values.Value.TheVariants as value
 use Rattle.class_defs.specs.Epochs.{classes_of}
 use Rattle.class_defs.specs.Levels.{level}
 use Rattle.class_defs.specs.Ownership.{IsAbove, IsPart, Names, Owns, type_at}
@@ -16,13 +17,16 @@ use Rattle.class_defs.specs.declared.store.Object.{Object}
 use Rattle.class_defs.specs.declared.store.Root.{Root}
 use Rattle.class_defs.specs.declared.store.Schemas.{Schemas}
 use Rattle.class_defs.specs.declared.types.ExprType.{ExprType}
+use Rattle.class_defs.specs.declared.types.ExprType.TheVariants as type
 
--- A stored map is well owned where no object is of a later epoch than the map, each reference names an object of the
--- class that its field declares, each part has one owner at most, in its own repository, who names it once, roots name
--- free objects of their classes, going from part to owner ends, and no part was written in an epoch that one of its
--- owners, direct or further up, hasn't reached.
+-- A stored map is well owned where no object is of a later epoch than the map; each reference stands in a field of a
+-- class and names an object of this class; each part has one owner at most, in its own repository, who names it once;
+-- roots name free objects of their classes; going from part to owner ends; and no part was written in an epoch that one
+-- of its owners, direct or further up, hasn't reached.
 pub record IsWellOwned (s : Schemas) (L : Stored) : Type 0 where
   pub versions : (x : Oref) → (o : Obj) → get L.objects x ≡ Some o → o.ver ≤ L.epoch
+  pub only : (x : Oref) → (o : Obj) → (i : ℕ) → (z : Oref) → get L.objects x ≡ Some o → slice_get o.fields i ≡ Some (value.Ref z)
+      → (d : ℕ) × (type_at (classes_of s o.ver) o.class i ≡ Some (type.Class d))
   pub declared : (a : Oref) → (i d : ℕ) → (z : Oref) → Names s L.objects a i d z → IsSomeAnd (get L.objects z) (λ o. o.class ≡ d)
   pub once : (a b : Oref) → (i j : ℕ) → (z : Oref) → Owns s L.objects a i z → Owns s L.objects b j z → (a ≡ b) × (i ≡ j)
   pub near : (a : Oref) → (i : ℕ) → (z : Oref) → Owns s L.objects a i z → a.repo ≡ z.repo

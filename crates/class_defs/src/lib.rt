@@ -34,7 +34,8 @@ pub use limits::{CREATE_LIMIT, DEPTH_LIMIT, READ_LIMIT, STEP_LIMIT};
 pub use look::{class_named, field_named, field_of, method_of};
 pub use machine::{Flow, Local, Locals, Machine, NameSupply, Receiver, Stop};
 pub use ownership_laws::{
-    eager_stays_owned, references_shrink, transforms_stay_owned, upgrades_stay_owned,
+    eager_stays_owned, owners_are_alone, references_shrink, transforms_stay_owned,
+    upgrades_stay_owned,
 };
 pub use places::Place;
 pub use rules::{NamedType, NamedTypes, Position, Rule, TypeFault};

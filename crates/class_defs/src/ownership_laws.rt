@@ -1,18 +1,29 @@
 //! That a well owned map stays well owned where objects are brought and upgrades are installed. Each law is a function
 //! with an empty body, whose clauses are proved once for all callers.
 
-ghost use Rattle.std.specs.Prelude.{◌≡◌, ◌≤◌, ◌+◌, ℕ, suc, Some, false};
+ghost use Rattle.std.specs.Prelude.{◌≡◌, ◌≤◌, ◌+◌, ℕ, suc, Some, false, IsSomeAnd};
 ghost use Rattle.thor_value.specs.FiniteMap.{get, insert};
 ghost use Rattle.thor_value.specs.declared.names.Oref.{Oref};
 ghost use Rattle.thor_value.specs.declared.values.Obj.{Obj};
 ghost use Rattle.class_defs.specs.Eager.{brought, eager, value};
 ghost use Rattle.class_defs.specs.Epochs.{classes_of};
 ghost use Rattle.class_defs.specs.KeptOwnership.{AllKeepClasses};
-ghost use Rattle.class_defs.specs.Levels.{is_due};
-ghost use Rattle.class_defs.specs.Ownership.{IsAbove, Owns, Refers};
+ghost use Rattle.class_defs.specs.Levels.{is_due, level};
+ghost use Rattle.class_defs.specs.Ownership.{IsAbove, IsPart, Owns, Refers};
 ghost use Rattle.class_defs.specs.Stored.{Objects, Stored, all_written, bare};
 ghost use Rattle.class_defs.specs.WellOwned.{AreOfTheirClasses, IsWellOwned};
 ghost use Rattle.class_defs.specs.declared.store.Schemas.{Schemas};
+
+/// In a well owned map what is owned is a part, and lies in its owner's repository. Going up from it one meets one owner
+/// at most at each distance.
+pub fn owners_are_alone()
+    ensures one { (s : Schemas) → (L : Stored) → (n : ℕ) → (a b z : Oref)
+        → IsWellOwned s L → IsAbove s L.objects n a z → IsAbove s L.objects n b z → a ≡ b }
+    ensures near { (s : Schemas) → (L : Stored) → (n : ℕ) → (a z : Oref)
+        → IsWellOwned s L → IsAbove s L.objects n a z → a.repo ≡ z.repo }
+    ensures parts { (s : Schemas) → (L : Stored) → (a : Oref) → (i : ℕ) → (z : Oref)
+        → IsWellOwned s L → Owns s L.objects a i z → IsSomeAnd (get L.objects z) (λ o. IsPart s o.class) }
+{}
 
 /// Upgrades drop references or keep them: each one in the value of an object is one of the stored object, in a field
 /// declared to be of the same class.
@@ -44,8 +55,9 @@ pub fn transforms_stay_owned()
         → AreOfTheirClasses s L → AreOfTheirClasses s (record L { objects = insert L.objects x (brought s L o) }) }
 {}
 
-/// A map stays well owned where an upgrade is installed.
+/// A map stays well owned where an upgrade is installed, since levels don't fall.
 pub fn upgrades_stay_owned()
+    ensures levels { (s : Schemas) → (e : ℕ) → (o : Obj) → level s e o ≤ level s (e + 1) o }
     ensures owned { (s : Schemas) → (L : Stored) → IsWellOwned s L → IsWellOwned s (record L { epoch = L.epoch + 1 }) }
     ensures kinds { (s : Schemas) → (L : Stored) → AreOfTheirClasses s L → AreOfTheirClasses s (record L { epoch = L.epoch + 1 }) }
 {}
