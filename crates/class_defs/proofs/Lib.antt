@@ -5,6 +5,7 @@ pub mod AlikeRun
 pub mod AlikeSteps
 pub mod Handing
 pub mod Locality
+pub mod MixedOwned
 pub mod Moving
 pub mod OfItsClass
 pub mod Owned
@@ -14,5 +15,6 @@ pub mod RunOutcomes
 pub mod Shrinking
 pub mod TfForms
 pub mod TouchedStores
+pub mod TwiceKeeps
 pub mod Unseen
 pub mod Values

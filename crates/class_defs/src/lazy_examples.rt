@@ -2,8 +2,10 @@
 
 ghost use Rattle.std.specs.Prelude.{◌≡◌, [], ◌∷◌, Some, false, pos, true};
 ghost use Rattle.thor_value.specs.declared.values.Value.TheVariants.{Int, Null, Ref};
+ghost use Rattle.class_defs.specs.KeptOwnership.{AllKeepClasses};
 ghost use Rattle.class_defs.specs.LazyExamples.{a, box, bring, count, later_count, lone, m, mixed, part, seen, twice, written, z};
 ghost use Rattle.class_defs.specs.Levels.{is_due, level};
+ghost use Rattle.class_defs.specs.WellOwned.{AreOfTheirClasses, IsWellOwned};
 
 /// What objects are in the store that the stored map stands for. An owner's expressions read its parts as they
 /// were, though the same upgrade changes them.
@@ -33,4 +35,12 @@ pub fn level_examples()
     ensures due { is_due twice 2 part ≡ true }
     ensures not_due { is_due twice 2 (written 4 0 (Int (pos 3) ∷ [])) ≡ false }
     ensures not_due_before { is_due twice 0 part ≡ false }
+{}
+
+/// What the laws on lazy upgrades ask for holds here. It doesn't, where the part is brought first.
+pub fn premise_examples()
+    ensures upgrades { AllKeepClasses twice 2 }
+    ensures well_owned { IsWellOwned twice mixed }
+    ensures kinds { AreOfTheirClasses twice mixed }
+    ensures part_first { ¬ IsWellOwned twice (bring z part mixed) }
 {}

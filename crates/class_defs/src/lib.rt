@@ -26,7 +26,7 @@ pub use classes::{
 };
 pub use declarations::{Declarations, WrittenRoot, WrittenRoots};
 pub use expressions::{At, Expr, Exprs, Name, Operator, TypeName};
-pub use lazy_examples::{eager_examples, level_examples, order_examples};
+pub use lazy_examples::{eager_examples, level_examples, order_examples, premise_examples};
 pub use lazy_laws::{
     eager_objects, transforms_are_unseen, undue_objects_stay, upgrade_moves_up, values_are_local,
 };
