@@ -10,7 +10,7 @@ use Rattle.thor_value.specs.declared.names.Oref.{Oref}
 use Rattle.thor_value.specs.declared.values.Obj.{Obj}
 use Rattle.class_defs.specs.Eager.{eager, next_value, value}
 use Rattle.class_defs.specs.Epochs.{classes_of, next_of}
-use Rattle.class_defs.specs.Levels.{changes, greatest, is_due, lags, level}
+use Rattle.class_defs.specs.Levels.{changes, greatest, is_due, lags, last_naming, level}
 use Rattle.class_defs.specs.Stored.{Objects, Stored, bare, each_value}
 use Rattle.class_defs.specs.Upgrades.{transformed}
 use Rattle.class_defs.specs.declared.classes.Class.{Class}
@@ -150,3 +150,39 @@ unfolding value
 value_class s m zero o = refl
 value_class s m (suc k) o =
     class_at s k (get (each_value (value s m k) m)) (value s m k o) (nat_lt k o.ver) (next_of s k o.class) ∙ value_class s m k o
+
+-- ---- the last upgrade that names a class
+
+last_at : (v k n : ℕ) (w : Option ClassUpgrade) (l : Bool) → l ≡ nat_lt v n → n ≤ k
+    → (l || (not (nat_lt k v) && is_some w)) ≡ nat_lt v (cond (is_some w) (suc k) n)
+last_at v k n None true h b = h
+last_at v k n None false h b = nothing (nat_lt k v) ∙ h
+  where
+    nothing : (c : Bool) → (not c && false) ≡ false
+    nothing true = refl
+    nothing false = refl
+last_at v k n (Some u) true h b = let below = ltb-true v n (sym h) in sym (lt-ltb v (suc k) (omega (arith, below, b)))
+last_at v k n (Some u) false h b = by_place (nat_lt k v) refl
+  where
+    by_place : (c : Bool) → nat_lt k v ≡ c → (not c && true) ≡ nat_lt v (suc k)
+    by_place true is = let above = ltb-true k v is in sym (le-ltb v (suc k) (omega (arith, above)))
+    by_place false is = let below = ltb-false k v is in sym (lt-ltb v (suc k) (omega (arith, below)))
+
+last_bound : (k n : ℕ) (b : Bool) → n ≤ k → cond b (suc k) n ≤ suc k
+last_bound k n true h = omega arith
+last_bound k n false h = omega (arith, h)
+
+last_within : (s : Schemas) (c k : ℕ) → last_naming s c k ≤ k
+unfolding last_naming
+last_within s c zero = omega arith
+last_within s c (suc k) = last_bound k (last_naming s c k) (is_some (next_of s k c)) (last_within s c k)
+
+-- an object lags where the last upgrade that names its class comes behind its last write
+lags_by_last : (s : Schemas) (o : Obj) (k : ℕ) → lags s o k ≡ nat_lt o.ver (last_naming s o.class k)
+unfolding lags last_naming
+lags_by_last s o zero = sym (le-ltb o.ver zero (omega arith))
+lags_by_last s o (suc k) =
+    last_at o.ver k (last_naming s o.class k) (next_of s k o.class) (lags s o k) (lags_by_last s o k) (last_within s o.class k)
+
+pub due_by_last : (s : Schemas) (e : ℕ) (o : Obj) → is_due s e o ≡ nat_lt o.ver (last_naming s o.class e)
+due_by_last s e o = due_is s e o ∙ lags_by_last s o e

@@ -25,3 +25,8 @@ level s e o = greatest (λ k. not (lags s o k)) e
 -- an object is due where its level is below the epoch of the store
 abbrev pub is_due : Schemas → ℕ → Obj → Bool
 is_due s e o = nat_lt (level s e o) e
+
+-- the number of the last of the first n upgrades that names a class, 0 where none does
+unfoldable pub last_naming : Schemas → ℕ → ℕ → ℕ
+last_naming s c zero = zero
+last_naming s c (suc k) = if is_some (next_of s k c) then suc k else last_naming s c k

@@ -1,14 +1,14 @@
 //! That lazy upgrades are unseen: what a stored map stands for, and what leaves it as it is. Each law is a function with
 //! an empty body, whose clauses are proved once for all callers.
 
-ghost use Rattle.std.specs.Prelude.{◌≡◌, ◌≤◌, ◌+◌, ℕ, suc, Option, Some, None, false, option_map};
+ghost use Rattle.std.specs.Prelude.{◌≡◌, ◌≤◌, ◌+◌, ℕ, suc, Option, Some, false, nat_lt, option_map};
 ghost use Rattle.thor_value.specs.FiniteMap.{IsSorted, get, insert};
 ghost use Rattle.thor_value.specs.declared.names.Oref.{Oref};
 ghost use Rattle.thor_value.specs.declared.values.Obj.{Obj};
 ghost use Rattle.class_defs.specs.Eager.{brought, eager, value};
 ghost use Rattle.class_defs.specs.Epochs.{classes_of, upgrade_to};
 ghost use Rattle.class_defs.specs.KeptOwnership.{AllKeepClasses};
-ghost use Rattle.class_defs.specs.Levels.{is_due, lags, level};
+ghost use Rattle.class_defs.specs.Levels.{is_due, lags, last_naming, level};
 ghost use Rattle.class_defs.specs.Ownership.{IsAbove};
 ghost use Rattle.class_defs.specs.Stored.{Objects, Stored, bare};
 ghost use Rattle.class_defs.specs.Upgrades.{up};
@@ -17,7 +17,8 @@ ghost use Rattle.class_defs.specs.declared.store.Schemas.{Schemas};
 ghost use Rattle.class_defs.specs.declared.upgrades.Upgrade.{Upgrade};
 
 /// Up to its level the value of an object is what is stored, and no other object is looked at: it is the same over
-/// every map. At its level no upgrade has changed it; it is due exactly where one up to the map's epoch does.
+/// every map. It is due exactly where an upgrade up to the map's epoch changes it, which is where the last one that
+/// names its class comes behind its last write.
 pub fn undue_objects_stay()
     ensures level { (s : Schemas) → (m : Objects) → (e k : ℕ) → (o : Obj)
         → k ≤ level s e o → value s m k o ≡ bare o }
@@ -28,6 +29,7 @@ pub fn undue_objects_stay()
     ensures alone { (s : Schemas) → (m : Objects) → (n : Objects) → (e k : ℕ) → (o : Obj)
         → k ≤ level s e o → value s m k o ≡ value s n k o }
     ensures due { (s : Schemas) → (e : ℕ) → (o : Obj) → is_due s e o ≡ lags s o e }
+    ensures last { (s : Schemas) → (e : ℕ) → (o : Obj) → is_due s e o ≡ nat_lt o.ver (last_naming s o.class e) }
 {}
 
 /// What a stored map stands for has the objects of the map, each with its value in the map's epoch.

@@ -1,5 +1,5 @@
 use Rattle.std.proofs.Common.{◌≡◌, Some, option_map, ap, sym, ◌∙◌}
-use Rattle.class_defs.proofs.Values.{due_is, get-each, lags_to_level, value_stays}
+use Rattle.class_defs.proofs.Values.{due_by_last, due_is, get-each, lags_to_level, value_stays}
 use Rattle.class_defs.specs.Eager.{value}
 use Rattle.class_defs.proofs.lazy_laws.undue_objects_stay.Goals as goal
 
@@ -12,4 +12,5 @@ returns c = record {
     ∙ ap Some (value_stays s L.objects L.epoch o (sym (due_is s L.epoch o) ∙ h));
   alone = λ s m n e k o h. value_stays s m k o (lags_to_level s e k o h) ∙ sym (value_stays s n k o (lags_to_level s e k o h));
   due = due_is;
+  last = due_by_last;
 }
