@@ -1,6 +1,6 @@
 -- What one upgrade does to the references of an object: those behind it are references of the object before, each
 -- declared to be of the same class; and no part is handed to two fields.
-use Rattle.std.proofs.Common.{◌≡◌, Bool, true, false, cond, List, [], ◌∷◌, ℕ, suc, Option, Some, None, option_map, slice_get, map, refl, ap, sym, ◌∙◌, subst}
+use Rattle.std.proofs.Common.{◌≡◌, List, [], ◌∷◌, ℕ, suc, Option, Some, None, option_map, slice_get, map, refl, ap, sym, ◌∙◌, subst}
 use Rattle.std.proofs.lemmas.Option.{slice_get-map}
 use Rattle.thor_value.specs.declared.names.Oref.{Oref}
 use Rattle.thor_value.specs.declared.values.Value.{Value}
@@ -8,7 +8,7 @@ use Rattle.thor_value.specs.declared.values.Value.TheVariants as value
 use Rattle.class_defs.specs.Epochs.{classes_of, next_of}
 use Rattle.class_defs.specs.KeptOwnership.{IsHanded, KeepsClasses, KeepsOwnership, handed, handed_path, handed_step}
 use Rattle.class_defs.specs.Objects.{field_at, fitted_or_beginning}
-use Rattle.class_defs.specs.Ownership.{IsPart, Refers, type_at}
+use Rattle.class_defs.specs.Ownership.{IsPart, Refers}
 use Rattle.class_defs.specs.Types.{field_named, fields_of, type_named}
 use Rattle.class_defs.specs.Upgrades.{path_value, tf_step, tf_value, transformed}
 use Rattle.class_defs.specs.declared.classes.Class.{Class}
@@ -17,7 +17,6 @@ use Rattle.class_defs.specs.declared.expressions.Name.{Name}
 use Rattle.class_defs.specs.declared.expressions.TypeName.{TypeName}
 use Rattle.class_defs.specs.declared.store.Object.{Object}
 use Rattle.class_defs.specs.declared.store.Schemas.{Schemas}
-use Rattle.class_defs.specs.declared.types.ExprType.{ExprType}
 use Rattle.class_defs.specs.declared.types.ExprType.TheVariants as type
 use Rattle.class_defs.specs.declared.upgrades.ClassUpgrade.{ClassUpgrade}
 use Rattle.class_defs.specs.declared.upgrades.FieldUpgrade.{FieldUpgrade}

@@ -8,16 +8,16 @@ use Rattle.thor_value.specs.declared.names.Oref.{Oref}
 use Rattle.thor_value.specs.declared.values.Obj.{Obj}
 use Rattle.thor_value.specs.declared.values.Value.{Value}
 use Rattle.thor_value.specs.declared.values.Value.TheVariants as value
-use Rattle.class_defs.proofs.Shrinking.{same_kind, shrinks, value_next}
+use Rattle.class_defs.proofs.Shrinking.{same_kind, shrinks}
 use Rattle.class_defs.proofs.Values.{changes_not, get-each, lags_to_level, value_class}
 use Rattle.class_defs.specs.Eager.{next_value, value as value_of, values}
 use Rattle.class_defs.specs.Epochs.{classes_of, next_of}
 use Rattle.class_defs.specs.KeptOwnership.{AllKeepClasses, is_owned_path, owned_step, part_class, part_held, reads_owned}
 use Rattle.class_defs.specs.Levels.{changes, level}
 use Rattle.class_defs.specs.Objects.{field_at, fitted_or_beginning}
-use Rattle.class_defs.specs.Ownership.{IsAbove, IsPart, Names, Owns, Refers, type_at}
+use Rattle.class_defs.specs.Ownership.{IsAbove, Names, Owns, Refers, type_at}
 use Rattle.class_defs.specs.Rules.{is_part}
-use Rattle.class_defs.specs.Stored.{Objects, bare}
+use Rattle.class_defs.specs.Stored.{Objects}
 use Rattle.class_defs.specs.Types.{field_named, type_named}
 use Rattle.class_defs.specs.Upgrades.{field_of_object, object_behind, path_value, tf_step, tf_value, transformed}
 use Rattle.class_defs.specs.declared.classes.Class.{Class}
@@ -28,7 +28,7 @@ use Rattle.class_defs.specs.declared.types.ExprType.{ExprType}
 use Rattle.class_defs.specs.declared.types.ExprType.TheVariants as type
 use Rattle.class_defs.specs.declared.upgrades.ClassUpgrade.{ClassUpgrade}
 use Rattle.class_defs.specs.declared.upgrades.FieldUpgrade.{FieldUpgrade}
-use Rattle.class_defs.specs.declared.upgrades.Tf.{Tf, map-Tf, roll-Tf}
+use Rattle.class_defs.specs.declared.upgrades.Tf.{Tf, map-Tf}
 use Rattle.class_defs.specs.declared.upgrades.Tf.TheFolds.{fold-roll-Tf, ind-Tf}
 use Rattle.class_defs.specs.declared.upgrades.Tf.TheOpen.{Tf-F}
 

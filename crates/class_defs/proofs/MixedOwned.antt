@@ -1,5 +1,5 @@
 -- That the small store is well owned as it was found, and no longer where its innermost part is brought first.
-use Rattle.std.proofs.Common.{◌≡◌, ◌≤◌, ◌<◌, ◌+◌, arith, Bool, true, false, cond, List, [], ◌∷◌, ℕ, zero, suc, Option, Some, None, slice_get, inl, inr, refl, ap, sym, ◌∙◌, subst}
+use Rattle.std.proofs.Common.{◌≡◌, ◌≤◌, ◌+◌, arith, Bool, true, false, cond, List, [], ◌∷◌, ℕ, zero, suc, Some, is_some, slice_get, inl, inr, refl, ap, sym, ◌∙◌, subst}
 use Rattle.std.proofs.lemmas.Map.Views.{tells_apart}
 use Rattle.std.specs.BTreeMap.{is_at}
 use Rattle.std.specs.Map.{lookup}
@@ -15,7 +15,7 @@ use Rattle.thor_value.specs.declared.values.Value.TheVariants as value
 use Rattle.class_defs.specs.Epochs.{classes_of}
 use Rattle.class_defs.specs.Levels.{greatest, lags, level}
 use Rattle.class_defs.specs.LazyExamples.{a, bring, m, mixed, part, twice, written, z}
-use Rattle.class_defs.specs.Ownership.{IsAbove, IsPart, Names, Owns, Refers, type_at}
+use Rattle.class_defs.specs.Ownership.{IsAbove, IsPart, Names, Owns, type_at}
 use Rattle.class_defs.specs.Steps.{fitted}
 use Rattle.class_defs.specs.Stored.{Stored, bare}
 use Rattle.class_defs.specs.Types.{fields_of}
@@ -209,16 +209,16 @@ fits t u v w h p q = subst (λ k. fitted k w ≡ w) (type_is p) (subst (λ x. fi
 abbrev IsKind : Oref → Obj → Type 0
 IsKind x o = IsOfItsClass (classes_of twice o.ver) (bare o)
 
-one_number : (c v n : ℕ) → type_at (classes_of twice v) c 0 ≡ Some type.Int → length (fields_of (classes_of twice v) c) ≡ 1
+one_number : (c v n : ℕ) → is_some (slice_get (classes_of twice v) c) ≡ true → type_at (classes_of twice v) c 0 ≡ Some type.Int → length (fields_of (classes_of twice v) c) ≡ 1
     → IsOfItsClass (classes_of twice v) (bare (written c v (value.Int (pos n) ∷ [])))
-one_number c v n t l = record { count = sym l; kinds = kinds }
+one_number c v n there t l = record { class = there; count = sym l; kinds = kinds }
   where
     kinds : (i : ℕ) (u : ExprType) (w : Value) → type_at (classes_of twice v) c i ≡ Some u → slice_get (value.Int (pos n) ∷ []) i ≡ Some w → fitted u w ≡ w
     kinds zero u w h g = fits type.Int u (value.Int (pos n)) w refl (sym t ∙ h) g
     kinds (suc i) u w h g = cc
 
 an_a : (n : ℕ) (r : Value) → fitted (type.Class 1) r ≡ r → IsOfItsClass (classes_of twice 0) (bare (written 0 0 (value.Int (pos n) ∷ r ∷ [])))
-an_a n r k = record { count = refl; kinds = kinds }
+an_a n r k = record { class = refl; count = refl; kinds = kinds }
   where
     kinds : (i : ℕ) (u : ExprType) (w : Value) → type_at (classes_of twice 0) 0 i ≡ Some u → slice_get (value.Int (pos n) ∷ r ∷ []) i ≡ Some w → fitted u w ≡ w
     kinds zero u w h g = fits type.Int u (value.Int (pos n)) w refl h g
@@ -226,7 +226,7 @@ an_a n r k = record { count = refl; kinds = kinds }
     kinds (suc (suc i)) u w h g = cc
 
 an_m : IsOfItsClass (classes_of twice 0) (bare (written 1 0 (value.Ref z ∷ [])))
-an_m = record { count = refl; kinds = kinds }
+an_m = record { class = refl; count = refl; kinds = kinds }
   where
     kinds : (i : ℕ) (u : ExprType) (w : Value) → type_at (classes_of twice 0) 1 i ≡ Some u → slice_get (value.Ref z ∷ []) i ≡ Some w → fitted u w ≡ w
     kinds zero u w h g = fits (type.Class 2) u (value.Ref z) w refl h g
@@ -235,11 +235,11 @@ an_m = record { count = refl; kinds = kinds }
 kind_at : (i : ℕ) (e : Oref × Obj) → slice_get mixed.objects.pairs i ≡ Some e → IsKind e.0 e.1
 kind_at zero e h = pair IsKind h (an_a 0 (value.Ref m) refl)
 kind_at (suc zero) e h = pair IsKind h an_m
-kind_at (suc (suc zero)) e h = pair IsKind h (one_number 2 0 7 refl refl)
+kind_at (suc (suc zero)) e h = pair IsKind h (one_number 2 0 7 refl refl refl)
 kind_at (suc (suc (suc zero))) e h = pair IsKind h (an_a 5 value.Null refl)
-kind_at (suc (suc (suc (suc zero)))) e h = pair IsKind h (one_number 3 0 4 refl refl)
-kind_at (suc (suc (suc (suc (suc zero))))) e h = pair IsKind h (one_number 3 1 6 refl refl)
-kind_at (suc (suc (suc (suc (suc (suc zero)))))) e h = pair IsKind h (one_number 4 0 3 refl refl)
+kind_at (suc (suc (suc (suc zero)))) e h = pair IsKind h (one_number 3 0 4 refl refl refl)
+kind_at (suc (suc (suc (suc (suc zero))))) e h = pair IsKind h (one_number 3 1 6 refl refl refl)
+kind_at (suc (suc (suc (suc (suc (suc zero)))))) e h = pair IsKind h (one_number 4 0 3 refl refl refl)
 kind_at (suc (suc (suc (suc (suc (suc (suc i))))))) e h = cc
 
 pub mixed_kinds : AreOfTheirClasses twice mixed

@@ -11,14 +11,13 @@ use Rattle.thor_value.specs.Names.{oref_cmp}
 use Rattle.thor_value.specs.declared.names.Oref.{Oref}
 use Rattle.thor_value.specs.declared.values.Obj.{Obj}
 use Rattle.class_defs.proofs.Values.{get-each, value_class}
-use Rattle.class_defs.specs.Eager.{eager, next_value, value, values}
+use Rattle.class_defs.specs.Eager.{eager, value, values}
 use Rattle.class_defs.specs.Epochs.{classes_of, next_of, upgrade_to}
-use Rattle.class_defs.specs.Stored.{Objects, Stored, bare, each_value}
+use Rattle.class_defs.specs.Stored.{Stored, each_value}
 use Rattle.class_defs.specs.Upgrades.{transformed, up, upgrade_of}
 use Rattle.class_defs.specs.declared.store.Object.{Object}
 use Rattle.class_defs.specs.declared.store.Plain.{Plain}
 use Rattle.class_defs.specs.declared.store.Schemas.{Schemas}
-use Rattle.class_defs.specs.declared.upgrades.ClassUpgrade.{ClassUpgrade}
 use Rattle.class_defs.specs.declared.upgrades.Upgrade.{Upgrade}
 
 keys-each : {X Y : Type 0} (f : X → Y) (es : List (Oref × X)) → keys_of (map (λ p. (p.0, f p.1)) es) ≡ keys_of es

@@ -1,5 +1,5 @@
 -- That an object stays of its class through upgrades: it gets as many fields as its class, each of its kind.
-use Rattle.std.proofs.Common.{◌≡◌, List, [], ◌∷◌, ℕ, suc, length, Option, Some, None, option_map, slice_get, map, refl, ap, sym, ◌∙◌, subst}
+use Rattle.std.proofs.Common.{◌≡◌, List, ℕ, suc, length, Option, Some, None, is_some, true, option_map, slice_get, refl, ap, sym, ◌∙◌, subst}
 use Rattle.std.proofs.lemmas.List.{length-map}
 use Rattle.std.proofs.lemmas.Option.{slice_get-map}
 use Rattle.thor_value.specs.declared.names.Oref.{Oref}
@@ -82,8 +82,9 @@ module _ (s : Schemas) (old new : List Class) (objects : Oref → Option Object)
   declared : AreDeclared new (transformed old new objects v (Some u))
   declared i z h = class_of i z (slice_get u.fields i) refl (sym (slice_get-map becomes u.fields i) ∙ h)
 
-  named : IsOfItsClass new (transformed old new objects v (Some u))
-  named = record {
+  named : is_some (slice_get new v.class) ≡ true → IsOfItsClass new (transformed old new objects v (Some u))
+  named there = record {
+    class = there;
     count = length-map u.fields becomes ∙ sym (length-map u.fields (λ f. f.type_name)) ∙ ap length (sym keeps.fields)
         ∙ length-map (fields_of new v.class) (λ f. f.type_name);
     kinds = λ i t w h g. kind (slice_get u.fields i) t w (sym (types_of new (fields_of new v.class) u.fields i keeps.fields) ∙ h)
@@ -101,10 +102,11 @@ module _ (s : Schemas) (k : ℕ) (keeps : KeepsClasses s k) (objects : Oref → 
   pub next_kinds : (w : Option ClassUpgrade) → next_of s k v.class ≡ w → IsOfItsClass (classes_of s k) v
       → IsOfItsClass (classes_of s (suc k)) (transformed (classes_of s k) (classes_of s (suc k)) objects v w)
   next_kinds None is h = record {
+    class = keeps.known v.class ∙ h.class;
     count = h.count ∙ sym (ap length (keeps.others v.class is));
     kinds = λ i t w g r. h.kinds i t w (sym (same_type is i) ∙ g) r;
   }
-  next_kinds (Some u) is h = named s (classes_of s k) (classes_of s (suc k)) objects v u (keeps.named v.class u is)
+  next_kinds (Some u) is h = named s (classes_of s k) (classes_of s (suc k)) objects v u (keeps.named v.class u is) (keeps.known v.class ∙ h.class)
 
   -- and each of its references stands in a field of a class
   pub next_declared : (w : Option ClassUpgrade) → next_of s k v.class ≡ w → AreDeclared (classes_of s k) v

@@ -1,5 +1,5 @@
 -- That a map of which each object is one of a well owned map, or such a one brought to its epoch, is well owned.
-use Rattle.std.proofs.Common.{◌≡◌, ◌≤◌, arith, ℕ, zero, suc, Option, Some, None, inl, inr, refl, ap, sym, ◌∙◌, subst}
+use Rattle.std.proofs.Common.{◌≡◌, ◌≤◌, arith, ℕ, zero, suc, Option, Some, None, inl, inr, refl, sym, ◌∙◌, subst}
 use Rattle.std.specs.Option.{IsSomeAnd}
 use Rattle.std.specs.Prelude.{◌⊎◌}
 use Rattle.thor_value.specs.FiniteMap.{get}
@@ -12,7 +12,7 @@ use Rattle.class_defs.specs.Eager.{brought, value, values}
 use Rattle.class_defs.specs.Epochs.{classes_of, next_of}
 use Rattle.class_defs.specs.KeptOwnership.{AllKeepClasses}
 use Rattle.class_defs.specs.Levels.{level}
-use Rattle.class_defs.specs.Ownership.{IsAbove, IsPart, Names, Owns, Refers}
+use Rattle.class_defs.specs.Ownership.{IsAbove, Names, Owns, Refers}
 use Rattle.class_defs.specs.Stored.{Objects, Stored, bare}
 use Rattle.class_defs.specs.WellOwned.{AreOfTheirClasses, IsOfItsClass, IsWellOwned}
 use Rattle.class_defs.specs.declared.store.Schemas.{Schemas}

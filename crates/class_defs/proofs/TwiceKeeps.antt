@@ -1,10 +1,9 @@
 -- That the upgrades of the small store keep ownership.
-use Rattle.std.proofs.Common.{◌≡◌, ◌<◌, arith, List, [], ◌∷◌, ℕ, zero, suc, Option, Some, None, slice_get, map, refl, ap, sym, ◌∙◌, subst, true}
+use Rattle.std.proofs.Common.{◌≡◌, ◌<◌, arith, [], ◌∷◌, ℕ, zero, suc, Some, None, is_some, slice_get, map, refl, ap, sym, ◌∙◌, subst, true}
 use Rattle.class_defs.proofs.TfForms.{tf_forms}
 use Rattle.class_defs.specs.Epochs.{classes_of, next_of}
-use Rattle.class_defs.specs.KeptOwnership.{AllKeepClasses, IsHanded, KeepsClasses, KeepsOwnership, handed, reads_owned}
+use Rattle.class_defs.specs.KeptOwnership.{AllKeepClasses, IsHanded, KeepsOwnership, handed, reads_owned}
 use Rattle.class_defs.specs.LazyExamples.{twice}
-use Rattle.class_defs.specs.Ownership.{IsPart, type_at}
 use Rattle.class_defs.specs.Rules.{is_part}
 use Rattle.class_defs.specs.Types.{fields_of, type_named}
 use Rattle.class_defs.specs.declared.expressions.TypeName.{TypeName}
@@ -35,6 +34,16 @@ kinds_at zero h (suc (suc (suc (suc zero)))) = refl
 kinds_at zero h (suc (suc (suc (suc (suc c))))) = refl
 kinds_at (suc zero) h c = refl
 kinds_at (suc (suc k)) h c = absurd (omega (arith, h))
+
+known_at : (k : ℕ) → k < 2 → (c : ℕ) → is_some (slice_get (classes_of twice (suc k)) c) ≡ is_some (slice_get (classes_of twice k) c)
+known_at zero h zero = refl
+known_at zero h (suc zero) = refl
+known_at zero h (suc (suc zero)) = refl
+known_at zero h (suc (suc (suc zero))) = refl
+known_at zero h (suc (suc (suc (suc zero)))) = refl
+known_at zero h (suc (suc (suc (suc (suc c))))) = refl
+known_at (suc zero) h c = refl
+known_at (suc (suc k)) h c = absurd (omega (arith, h))
 
 kinds_of : (k : ℕ) → k < 2 → (t : ExprType) → is_part (classes_of twice (suc k)) t ≡ is_part (classes_of twice k) t
 kinds_of k h (type.Class c) = kinds_at k h c
@@ -157,4 +166,4 @@ names_of (suc zero) h = second_names
 names_of (suc (suc k)) h = absurd (omega (arith, h))
 
 pub twice_keeps : AllKeepClasses twice 2
-twice_keeps k h = record { types = types_at k h; kinds = kinds_of k h; others = others_at k h; named = names_of k h }
+twice_keeps k h = record { types = types_at k h; known = known_at k h; kinds = kinds_of k h; others = others_at k h; named = names_of k h }

@@ -2,7 +2,6 @@
 use Rattle.std.proofs.Common.{◌≡◌, ◌≤◌, arith, Bool, true, false, cond, ℕ, zero, suc, Option, Some, None, option_map, refl, ap, sym, ◌∙◌, subst}
 use Rattle.std.proofs.lemmas.Cmp.{eq_by_cmp_equiv}
 use Rattle.std.proofs.lemmas.Map.Views.{tells_apart}
-use Rattle.std.specs.Ordering.{eq_by_cmp}
 use Rattle.thor_value.proofs.FiniteMap.{IsSorted-insert, get-insert}
 use Rattle.thor_value.proofs.NameOrders.{oref_exact, oref_total}
 use Rattle.thor_value.specs.FiniteMap.{IsSorted, Map, get, insert}
@@ -13,14 +12,13 @@ use Rattle.class_defs.proofs.Locality.{down_one, value_local}
 use Rattle.class_defs.proofs.Moving.{same_each}
 use Rattle.class_defs.proofs.Shrinking.{value_early}
 use Rattle.class_defs.proofs.Values.{due_is, value_stays}
-use Rattle.class_defs.specs.Eager.{brought, eager, value, values}
+use Rattle.class_defs.specs.Eager.{brought, eager, value}
 use Rattle.class_defs.specs.KeptOwnership.{AllKeepClasses}
 use Rattle.class_defs.specs.Levels.{is_due}
-use Rattle.class_defs.specs.Ownership.{IsAbove, Owns}
+use Rattle.class_defs.specs.Ownership.{IsAbove}
 use Rattle.class_defs.specs.Stored.{Objects, Stored}
 use Rattle.class_defs.specs.WellOwned.{IsWellOwned}
 use Rattle.class_defs.specs.declared.store.Object.{Object}
-use Rattle.class_defs.specs.declared.store.Plain.{Plain}
 use Rattle.class_defs.specs.declared.store.Schemas.{Schemas}
 
 pub value_below : (s : Schemas) (L : Stored) (m : Objects) (x : Oref) (o : Obj) (k : ℕ) → AllKeepClasses s L.epoch → IsWellOwned s L

@@ -1,5 +1,5 @@
 -- What holds of values in an epoch by themselves: up to an object's level they are what is stored.
-use Rattle.std.proofs.Common.{◌≡◌, ◌≤◌, arith, Bool, true, false, cond, not, List, ℕ, zero, suc, nat_lt, Option, Some, None, is_some, option_map, refl, ap, sym, ◌∙◌, subst}
+use Rattle.std.proofs.Common.{◌≡◌, ◌≤◌, arith, Bool, true, false, cond, not, List, ℕ, zero, suc, nat_lt, Option, Some, None, is_some, option_map, refl, sym, ◌∙◌, subst}
 use Rattle.std.proofs.lemmas.Bool.{lt-ltb, ltb-true, le-ltb, ltb-false}
 use Rattle.std.proofs.lemmas.Map.Made.{lookup-map_values}
 use Rattle.std.specs.BTreeMap.{is_at}
@@ -8,10 +8,10 @@ use Rattle.thor_value.specs.FiniteMap.{Map, get}
 use Rattle.thor_value.specs.Names.{oref_cmp}
 use Rattle.thor_value.specs.declared.names.Oref.{Oref}
 use Rattle.thor_value.specs.declared.values.Obj.{Obj}
-use Rattle.class_defs.specs.Eager.{eager, next_value, value}
+use Rattle.class_defs.specs.Eager.{next_value, value}
 use Rattle.class_defs.specs.Epochs.{classes_of, next_of}
 use Rattle.class_defs.specs.Levels.{changes, greatest, is_due, lags, last_naming, level}
-use Rattle.class_defs.specs.Stored.{Objects, Stored, bare, each_value}
+use Rattle.class_defs.specs.Stored.{Objects, bare, each_value}
 use Rattle.class_defs.specs.Upgrades.{transformed}
 use Rattle.class_defs.specs.declared.classes.Class.{Class}
 use Rattle.class_defs.specs.declared.store.Object.{Object}

@@ -1,6 +1,6 @@
 -- What of the rules on upgrades keeps ownership as it is: expressions read through owned fields alone, and a reference
 -- is null or that of an old field, of which an owned one is handed over once. This project's.
-use Rattle.std.specs.Prelude.{◌≡◌, ◌<◌, ℕ, suc, Bool, true, false, ◌&&◌, if◌then◌else◌, List, [], ◌∷◌, map, Option, Some, None, option_and_then, slice_get}
+use Rattle.std.specs.Prelude.{◌≡◌, ◌<◌, ℕ, suc, Bool, true, false, ◌&&◌, if◌then◌else◌, List, [], ◌∷◌, map, Option, Some, None, is_some, option_and_then, slice_get}
 use Rattle.class_defs.specs.Epochs.{classes_of, next_of}
 use Rattle.class_defs.specs.Ownership.{IsPart, type_at}
 use Rattle.class_defs.specs.Rules.{is_part}
@@ -82,10 +82,11 @@ pub record KeepsOwnership (s : Schemas) (old new : List Class) (c : ℕ) (u : Cl
       → type_named new f.type_name ≡ type.Class d → IsPart s d → type_named new g.type_name ≡ type.Class e → IsPart s e
       → handed old c f.value ≡ Some (Some h) → handed old c g.value ≡ Some (Some h) → i ≡ j
 
--- From epoch k to the next, types keep their meaning, classes their kinds, classes that the upgrade doesn't name their
--- fields, and what it says of the others keeps ownership.
+-- From epoch k to the next, types keep their meaning, classes stay and keep their kinds, those that the upgrade doesn't
+-- name keep their fields, and what it says of the others keeps ownership.
 pub record KeepsClasses (s : Schemas) (k : ℕ) : Type 0 where
   pub types : (t : TypeName) → type_named (classes_of s (suc k)) t ≡ type_named (classes_of s k) t
+  pub known : (c : ℕ) → is_some (slice_get (classes_of s (suc k)) c) ≡ is_some (slice_get (classes_of s k) c)
   pub kinds : (t : ExprType) → is_part (classes_of s (suc k)) t ≡ is_part (classes_of s k) t
   pub others : (c : ℕ) → next_of s k c ≡ None → fields_of (classes_of s (suc k)) c ≡ fields_of (classes_of s k) c
   pub named : (c : ℕ) → (u : ClassUpgrade) → next_of s k c ≡ Some u → KeepsOwnership s (classes_of s k) (classes_of s (suc k)) c u

@@ -1,5 +1,5 @@
 -- Which stored objects lag behind the upgrades that are installed (Boyapati and others, OOPSLA 2003).
-use Rattle.std.specs.Prelude.{ℕ, zero, suc, Bool, true, false, not, ◌&&◌, ◌||◌, if◌then◌else◌, nat_lt, is_some}
+use Rattle.std.specs.Prelude.{ℕ, zero, suc, Bool, false, not, ◌&&◌, ◌||◌, if◌then◌else◌, nat_lt, is_some}
 use Rattle.thor_value.specs.declared.values.Obj.{Obj}
 use Rattle.class_defs.specs.Epochs.{next_of}
 use Rattle.class_defs.specs.declared.store.Schemas.{Schemas}

@@ -1,4 +1,4 @@
-use Rattle.std.proofs.Common.{◌≡◌, Some, option_map, ap, sym, ◌∙◌}
+use Rattle.std.proofs.Common.{Some, option_map, ap, sym, ◌∙◌}
 use Rattle.class_defs.proofs.Values.{due_by_last, due_is, get-each, lags_to_level, value_stays}
 use Rattle.class_defs.specs.Eager.{value}
 use Rattle.class_defs.proofs.lazy_laws.undue_objects_stay.Goals as goal
