@@ -10,10 +10,11 @@ use Rattle.thor_value.specs.FiniteMap.{IsSorted, Map, get}
 use Rattle.thor_value.specs.Names.{oref_cmp}
 use Rattle.thor_value.specs.declared.names.Oref.{Oref}
 use Rattle.thor_value.specs.declared.values.Obj.{Obj}
+use Rattle.class_defs.proofs.Shrinking.{value_early}
 use Rattle.class_defs.proofs.Values.{get-each, value_class}
 use Rattle.class_defs.specs.Eager.{eager, value, values}
 use Rattle.class_defs.specs.Epochs.{classes_of, next_of, upgrade_to}
-use Rattle.class_defs.specs.Stored.{Stored, each_value}
+use Rattle.class_defs.specs.Stored.{Stored, all_written, each_value, in_epoch}
 use Rattle.class_defs.specs.Upgrades.{transformed, up, upgrade_of}
 use Rattle.class_defs.specs.declared.store.Object.{Object}
 use Rattle.class_defs.specs.declared.store.Plain.{Plain}
@@ -81,3 +82,18 @@ moves_up s L u is sorted h =
       epoch = n;
       roots = L.roots;
     }
+
+-- ---- a store all of whose objects were written in its epoch
+
+as_before : (f : Obj → Object) (e : ℕ) → ((v : Object) → f (in_epoch e v) ≡ v) → (es : List (Oref × Object))
+    → map (λ (p : Oref × Obj). (p.0, f p.1)) (map (λ (p : Oref × Object). (p.0, in_epoch e p.1)) es) ≡ es
+as_before f e h [] = refl
+as_before f e h (p ∷ es) =
+    ap (λ (v : Object). (p.0, v) ∷ map (λ (p : Oref × Obj). (p.0, f p.1)) (map (λ (p : Oref × Object). (p.0, in_epoch e p.1)) es)) (h p.1)
+    ∙ ap (λ qs. p ∷ qs) (as_before f e h es)
+
+pub stands_for_itself : (s : Schemas) (store : Plain) → eager s (all_written store) ≡ store
+stands_for_itself s store =
+    ap (λ (es : List (Oref × Object)). record { objects = record { pairs = es }; epoch = store.epoch; roots = store.roots })
+    (as_before (value s (all_written store).objects store.epoch) store.epoch
+      (λ v. value_early s (all_written store).objects store.epoch (in_epoch store.epoch v) (omega arith)) store.objects.pairs)

@@ -10,9 +10,10 @@ ghost use Rattle.class_defs.specs.Epochs.{classes_of, upgrade_to};
 ghost use Rattle.class_defs.specs.KeptOwnership.{AllKeepClasses};
 ghost use Rattle.class_defs.specs.Levels.{is_due, lags, last_naming, level};
 ghost use Rattle.class_defs.specs.Ownership.{IsAbove};
-ghost use Rattle.class_defs.specs.Stored.{Objects, Stored, bare};
+ghost use Rattle.class_defs.specs.Stored.{Objects, Stored, all_written, bare};
 ghost use Rattle.class_defs.specs.Upgrades.{up};
 ghost use Rattle.class_defs.specs.WellOwned.{IsWellOwned};
+ghost use Rattle.class_defs.specs.declared.store.Plain.{Plain};
 ghost use Rattle.class_defs.specs.declared.store.Schemas.{Schemas};
 ghost use Rattle.class_defs.specs.declared.upgrades.Upgrade.{Upgrade};
 
@@ -36,6 +37,11 @@ pub fn undue_objects_stay()
 pub fn eager_objects()
     ensures { (s : Schemas) → (L : Stored) → (x : Oref)
         → get (eager s L).objects x ≡ option_map (value s L.objects L.epoch) (get L.objects x) }
+{}
+
+/// A store all of whose objects were written in its epoch stands for itself.
+pub fn written_stores_stand()
+    ensures { (s : Schemas) → (store : Plain) → eager s (all_written store) ≡ store }
 {}
 
 /// An upgrade that is installed changes no stored object and raises the epoch by one. What the map stands for is

@@ -29,6 +29,7 @@ pub use expressions::{At, Expr, Exprs, Name, Operator, TypeName};
 pub use lazy_examples::{eager_examples, level_examples, order_examples, premise_examples};
 pub use lazy_laws::{
     eager_objects, transforms_are_unseen, undue_objects_stay, upgrade_moves_up, values_are_local,
+    written_stores_stand,
 };
 pub use limits::{CREATE_LIMIT, DEPTH_LIMIT, READ_LIMIT, STEP_LIMIT};
 pub use look::{class_named, field_named, field_of, method_of};
