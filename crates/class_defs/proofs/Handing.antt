@@ -99,7 +99,8 @@ types_of new fs gs i h =
     through : (f : Option Field) → option_map (λ f. type_named new f.type_name) f ≡ option_map (type_named new) (option_map (λ f. f.type_name) f)
     through (Some f) = refl
     through None = refl
-    through_upgrade : (f : Option FieldUpgrade) → option_map (λ f. type_named new f.type_name) f ≡ option_map (type_named new) (option_map (λ f. f.type_name) f)
+    through_upgrade : (f : Option FieldUpgrade)
+        → option_map (λ f. type_named new f.type_name) f ≡ option_map (type_named new) (option_map (λ f. f.type_name) f)
     through_upgrade (Some f) = refl
     through_upgrade None = refl
 
@@ -111,7 +112,8 @@ module _ (s : Schemas) (old new : List Class) (objects : Oref → Option Object)
   becomes f = fitted_or_beginning (type_named new f.type_name) (tf_value old objects v f.value)
 
   from_field : (i d j : ℕ) (z : Oref) (f : FieldUpgrade) → slice_get u.fields i ≡ Some f → type_named new f.type_name ≡ type.Class d
-      → (h : Option (Option ℕ)) → handed old v.class f.value ≡ h → h ≡ Some (Some j) → IsHanded old v.class d h → slice_get v.fields j ≡ Some (value.Ref z)
+      → (h : Option (Option ℕ)) → handed old v.class f.value ≡ h → h ≡ Some (Some j) → IsHanded old v.class d h
+      → slice_get v.fields j ≡ Some (value.Ref z)
       → From old new v u i d z
   from_field i d j z f place typed h is at handed holds = record {
     upgrade = f;
@@ -133,7 +135,8 @@ module _ (s : Schemas) (old new : List Class) (objects : Oref → Option Object)
       from_given i d z f place typed
       (given old objects v d z f.value (keeps.references i d f place typed) (subst (λ t. fitted_or_beginning t (tf_value old objects v f.value) ≡ value.Ref z) typed h))
 
-  by_place : (i d : ℕ) (z : Oref) (f : Option FieldUpgrade) → slice_get u.fields i ≡ f → option_map (λ f. type_named new f.type_name) f ≡ Some (type.Class d)
+  by_place : (i d : ℕ) (z : Oref) (f : Option FieldUpgrade) → slice_get u.fields i ≡ f
+      → option_map (λ f. type_named new f.type_name) f ≡ Some (type.Class d)
       → option_map becomes f ≡ Some (value.Ref z) → From old new v u i d z
   by_place i d z None place t h = cc
   by_place i d z (Some f) place t h = from_upgrade i d z f place (some _ _ t) (some _ _ h)

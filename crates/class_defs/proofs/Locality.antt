@@ -55,7 +55,8 @@ module _ (classes : List Class) (f g : Oref → Option Object) (v : Object)
   abbrev IsAlike : Tf → Type 0
   IsAlike t = reads_owned classes v.class t ≡ true → tf_value classes f v t ≡ tf_value classes g v t
 
-  by_layer : (y : Tf-F ((t : Tf) × IsAlike t)) → owned_step classes v.class (map-Tf Tf Bool (reads_owned classes v.class) (map-Tf ((t : Tf) × IsAlike t) Tf (λ p. p.0) y)) ≡ true
+  by_layer : (y : Tf-F ((t : Tf) × IsAlike t))
+      → owned_step classes v.class (map-Tf Tf Bool (reads_owned classes v.class) (map-Tf ((t : Tf) × IsAlike t) Tf (λ p. p.0) y)) ≡ true
       → tf_step classes f v (map-Tf Tf (Option Value) (tf_value classes f v) (map-Tf ((t : Tf) × IsAlike t) Tf (λ p. p.0) y))
       ≡ tf_step classes g v (map-Tf Tf (Option Value) (tf_value classes g v) (map-Tf ((t : Tf) × IsAlike t) Tf (λ p. p.0) y))
   by_layer (Tf-F.Null line) h = refl
@@ -97,14 +98,16 @@ module _ (classes : List Class) (v : Object) (d : ℕ) (z : Oref) where
       }
   held_class i c false is t h e = cc
 
-  held_type : (i : ℕ) (t : Option ExprType) → type_at classes v.class i ≡ t → slice_get v.fields i ≡ Some (value.Ref z) → part_class classes t ≡ Some d → Held classes v d z
+  held_type : (i : ℕ) (t : Option ExprType) → type_at classes v.class i ≡ t → slice_get v.fields i ≡ Some (value.Ref z)
+      → part_class classes t ≡ Some d → Held classes v d z
   held_type i (Some (type.Class c)) t h e = held_class i c (is_part classes (type.Class c)) refl t h e
   held_type i (Some type.Int) t h e = cc
   held_type i (Some type.Null) t h e = cc
   held_type i (Some type.Untold) t h e = cc
   held_type i None t h e = cc
 
-  held_at : (i : Option ℕ) → field_at (Some v) i ≡ Some (value.Ref z) → part_class classes (option_and_then (type_at classes v.class) i) ≡ Some d → Held classes v d z
+  held_at : (i : Option ℕ) → field_at (Some v) i ≡ Some (value.Ref z)
+      → part_class classes (option_and_then (type_at classes v.class) i) ≡ Some d → Held classes v d z
   held_at (Some i) h e = held_type i (type_at classes v.class i) refl h e
   held_at None h e = cc
 
@@ -113,7 +116,8 @@ module _ (classes : List Class) (v : Object) (d : ℕ) (z : Oref) where
 
 -- ---- values over two maps
 
-nothing_alike : (classes : List Class) (f g : Oref → Option Object) (names : List Name) → path_value classes f None names ≡ path_value classes g None names
+nothing_alike : (classes : List Class) (f g : Oref → Option Object) (names : List Name)
+    → path_value classes f None names ≡ path_value classes g None names
 nothing_alike classes f g [] = refl
 nothing_alike classes f g (name ∷ []) = refl
 nothing_alike classes f g (name ∷ next ∷ names) = nothing_alike classes f g (next ∷ names)
@@ -143,7 +147,8 @@ module _ (s : Schemas) (e : ℕ) (keeps : AllKeepClasses s e) (m n : Objects) (P
     theirs_at z p q is =
         get-each (value_of s n k) n z ∙ ap (option_map (value_of s n k)) (sym (same z q) ∙ is) ∙ ap Some (sym (before z p q is))
 
-    owns : (y z : Oref) (p : Obj) (d : ℕ) → get m y ≡ Some p → p.ver ≤ k → Held old (value_of s m k p) d z → (i : ℕ) × (Owns s m y i z × Names s m y i d z)
+    owns : (y z : Oref) (p : Obj) (d : ℕ) → get m y ≡ Some p → p.ver ≤ k → Held old (value_of s m k p) d z
+        → (i : ℕ) × (Owns s m y i z × Names s m y i d z)
     owns y z p d is h t =
         let r = shrinks s e keeps m p k h within t.field d z t.refers in
         let name : Names s m y r.0 d z = record { object = p; stored = is; refers = r.1 } in
@@ -155,7 +160,8 @@ module _ (s : Schemas) (e : ℕ) (keeps : AllKeepClasses s e) (m n : Objects) (P
         → path_value old ours (Some (value_of s m k p)) names ≡ path_value old theirs (Some (value_of s m k p)) names
 
     into_part : (names : List Name) (j : ℕ) (z : Oref) (d : ℕ) → GoesOn names → P z → IsAbove s m j x z → is_owned_path old (Some d) names ≡ true
-        → (o : Option Obj) → get m z ≡ o → IsSomeAnd o (λ p. p.class ≡ d) → path_value old ours (ours z) names ≡ path_value old theirs (theirs z) names
+        → (o : Option Obj) → get m z ≡ o → IsSomeAnd o (λ p. p.class ≡ d)
+        → path_value old ours (ours z) names ≡ path_value old theirs (theirs z) names
     into_part names j z d rest q a h None is c = absurd c
     into_part names j z d rest q a h (Some p) is c =
         ap (λ o. path_value old ours o names) (ours_at z p is)

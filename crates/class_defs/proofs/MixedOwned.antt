@@ -33,7 +33,8 @@ found : (P : Oref → Obj → Type 0) (x : Oref) (o : Obj) (es : List (Oref × O
 found P x o [] all h = cc
 found P x o (e ∷ es) all h = by_key (same_oref x e.0) refl h (λ rest. found P x o es (λ i f g. all (suc i) f g) rest)
   where
-    by_key : (b : Bool) → same_oref x e.0 ≡ b → cond b (Some e.1) (lookup (is_at (oref_cmp x)) es) ≡ Some o → (lookup (is_at (oref_cmp x)) es ≡ Some o → P x o) → P x o
+    by_key : (b : Bool) → same_oref x e.0 ≡ b → cond b (Some e.1) (lookup (is_at (oref_cmp x)) es) ≡ Some o
+        → (lookup (is_at (oref_cmp x)) es ≡ Some o → P x o) → P x o
     by_key true is g rest = subst (λ w. P w o) (sym (tells_apart oref_exact x e.0 is)) (subst (P e.0) (some g) (all zero e refl))
     by_key false is g rest = rest g
 
@@ -192,7 +193,8 @@ mixed_owned = record {
     omega (arith, v);
 }
   where
-    no_root : (i : ℕ) (r : Root) → slice_get mixed.roots i ≡ Some r → (¬ IsPart twice r.class) × IsSomeAnd (get mixed.objects r.oref) (λ o. o.class ≡ r.class)
+    no_root : (i : ℕ) (r : Root) → slice_get mixed.roots i ≡ Some r
+        → (¬ IsPart twice r.class) × IsSomeAnd (get mixed.objects r.oref) (λ o. o.class ≡ r.class)
     no_root i r h = cc
 
 -- ---- kinds
@@ -209,18 +211,21 @@ fits t u v w h p q = subst (λ k. fitted k w ≡ w) (type_is p) (subst (λ x. fi
 abbrev IsKind : Oref → Obj → Type 0
 IsKind x o = IsOfItsClass (classes_of twice o.ver) (bare o)
 
-one_number : (c v n : ℕ) → is_some (slice_get (classes_of twice v) c) ≡ true → type_at (classes_of twice v) c 0 ≡ Some type.Int → length (fields_of (classes_of twice v) c) ≡ 1
+one_number : (c v n : ℕ) → is_some (slice_get (classes_of twice v) c) ≡ true → type_at (classes_of twice v) c 0 ≡ Some type.Int
+    → length (fields_of (classes_of twice v) c) ≡ 1
     → IsOfItsClass (classes_of twice v) (bare (written c v (value.Int (pos n) ∷ [])))
 one_number c v n there t l = record { class = there; count = sym l; kinds = kinds }
   where
-    kinds : (i : ℕ) (u : ExprType) (w : Value) → type_at (classes_of twice v) c i ≡ Some u → slice_get (value.Int (pos n) ∷ []) i ≡ Some w → fitted u w ≡ w
+    kinds : (i : ℕ) (u : ExprType) (w : Value) → type_at (classes_of twice v) c i ≡ Some u → slice_get (value.Int (pos n) ∷ []) i ≡ Some w
+        → fitted u w ≡ w
     kinds zero u w h g = fits type.Int u (value.Int (pos n)) w refl (sym t ∙ h) g
     kinds (suc i) u w h g = cc
 
 an_a : (n : ℕ) (r : Value) → fitted (type.Class 1) r ≡ r → IsOfItsClass (classes_of twice 0) (bare (written 0 0 (value.Int (pos n) ∷ r ∷ [])))
 an_a n r k = record { class = refl; count = refl; kinds = kinds }
   where
-    kinds : (i : ℕ) (u : ExprType) (w : Value) → type_at (classes_of twice 0) 0 i ≡ Some u → slice_get (value.Int (pos n) ∷ r ∷ []) i ≡ Some w → fitted u w ≡ w
+    kinds : (i : ℕ) (u : ExprType) (w : Value) → type_at (classes_of twice 0) 0 i ≡ Some u → slice_get (value.Int (pos n) ∷ r ∷ []) i ≡ Some w
+        → fitted u w ≡ w
     kinds zero u w h g = fits type.Int u (value.Int (pos n)) w refl h g
     kinds (suc zero) u w h g = fits (type.Class 1) u r w k h g
     kinds (suc (suc i)) u w h g = cc

@@ -65,7 +65,8 @@ module _ (s : Schemas) (old new : List Class) (objects : Oref → Option Object)
   abbrev becomes : FieldUpgrade → Value
   becomes f = fitted_or_beginning (type_named new f.type_name) (tf_value old objects v f.value)
 
-  kind : (f : Option FieldUpgrade) (t : ExprType) (w : Value) → option_map (λ f. type_named new f.type_name) f ≡ Some t → option_map becomes f ≡ Some w → fitted t w ≡ w
+  kind : (f : Option FieldUpgrade) (t : ExprType) (w : Value) → option_map (λ f. type_named new f.type_name) f ≡ Some t
+      → option_map becomes f ≡ Some w → fitted t w ≡ w
   kind None t w h g = cc
   kind (Some f) t w h g =
       let a : type_named new f.type_name ≡ t = some _ _ h in

@@ -35,7 +35,8 @@ module _ (s : Schemas) (L : Stored) (keeps : AllKeepClasses s L.epoch) (owned : 
   all_at a =
       get-each (in_epoch L.epoch) (values s L.objects L.epoch) a ∙ ap (option_map (in_epoch L.epoch)) (get-each (value s L.objects L.epoch) L.objects a)
 
-  from_all : (a : Oref) (q : Obj) (o : Option Obj) → get L.objects a ≡ o → option_map (in_epoch L.epoch) (option_map (value s L.objects L.epoch) o) ≡ Some q → From s L a q
+  from_all : (a : Oref) (q : Obj) (o : Option Obj) → get L.objects a ≡ o
+      → option_map (in_epoch L.epoch) (option_map (value s L.objects L.epoch) o) ≡ Some q → From s L a q
   from_all a q None is h = cc
   from_all a q (Some o) is h = record { object = o; stored = is; is = inr (sym (some h)) }
 

@@ -89,7 +89,8 @@ module _ (k c : ℕ) (u : ClassUpgrade) (f0 : FieldUpgrade) (one : u.fields ≡ 
   }
 
 -- class A { int s = old.s + old.o.z.v; M p = old.o; }
-a_paths : (u : ClassUpgrade) → next_of twice 0 0 ≡ Some u → (i : ℕ) (f : FieldUpgrade) → slice_get u.fields i ≡ Some f → reads_owned (classes_of twice 0) 0 f.value ≡ true
+a_paths : (u : ClassUpgrade) → next_of twice 0 0 ≡ Some u → (i : ℕ) (f : FieldUpgrade) → slice_get u.fields i ≡ Some f
+    → reads_owned (classes_of twice 0) 0 f.value ≡ true
 a_paths u e zero f h =
     subst (λ g. reads_owned (classes_of twice 0) 0 g.value ≡ true) (some (subst (λ w. slice_get w.fields 0 ≡ Some f) (sym (some e)) h)) (simp tf_forms refl)
 a_paths u e (suc zero) f h =
@@ -160,7 +161,8 @@ second_names (suc (suc (suc zero))) u e =
 second_names (suc (suc (suc (suc zero)))) u e = cc
 second_names (suc (suc (suc (suc (suc c))))) u e = cc
 
-names_of : (k : ℕ) → k < 2 → (c : ℕ) (u : ClassUpgrade) → next_of twice k c ≡ Some u → KeepsOwnership twice (classes_of twice k) (classes_of twice (suc k)) c u
+names_of : (k : ℕ) → k < 2 → (c : ℕ) (u : ClassUpgrade) → next_of twice k c ≡ Some u
+    → KeepsOwnership twice (classes_of twice k) (classes_of twice (suc k)) c u
 names_of zero h = first_names
 names_of (suc zero) h = second_names
 names_of (suc (suc k)) h = absurd (omega (arith, h))

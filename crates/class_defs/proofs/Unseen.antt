@@ -65,11 +65,13 @@ module _ (s : Schemas) (L : Stored) (x : Oref) (o : Obj) (keeps : AllKeepClasses
       let lag = sym (due_is s L.epoch p) ∙ d in
       value_stays s behind L.epoch p lag ∙ sym (value_stays s L.objects L.epoch p lag)
 
-  other_at : (y : Oref) (p : Option Obj) → get L.objects y ≡ p → same_oref y x ≡ false → option_map (value s behind L.epoch) p ≡ option_map (value s L.objects L.epoch) p
+  other_at : (y : Oref) (p : Option Obj) → get L.objects y ≡ p → same_oref y x ≡ false
+      → option_map (value s behind L.epoch) p ≡ option_map (value s L.objects L.epoch) p
   other_at y None t h = refl
   other_at y (Some p) t h = ap Some (other y p t h (is_due s L.epoch p) refl)
 
-  alike : (y : Oref) (b : Bool) → same_oref y x ≡ b → option_map (value s behind L.epoch) (get behind y) ≡ option_map (value s L.objects L.epoch) (get L.objects y)
+  alike : (y : Oref) (b : Bool) → same_oref y x ≡ b
+      → option_map (value s behind L.epoch) (get behind y) ≡ option_map (value s L.objects L.epoch) (get L.objects y)
   alike y true h =
       ap (option_map (value s behind L.epoch)) (behind_at y true h)
       ∙ ap Some (value_early s behind L.epoch (brought s L o) (omega arith))

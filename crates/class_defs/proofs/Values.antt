@@ -58,7 +58,8 @@ stays_at s k objects v true u h = refl
 stays_at s k objects v false None h = refl
 stays_at s k objects v false (Some u) h = cc
 
-pub next_stays : (s : Schemas) (k : ℕ) (objects : Oref → Option Object) (o : Obj) (v : Object) → changes s k o ≡ false → next_value s k objects o v ≡ v
+pub next_stays : (s : Schemas) (k : ℕ) (objects : Oref → Option Object) (o : Obj) (v : Object) → changes s k o ≡ false
+    → next_value s k objects o v ≡ v
 next_stays s k objects o v h = stays_at s k objects v (nat_lt k o.ver) (next_of s k o.class) h
 
 -- ---- values up to the level
@@ -135,7 +136,8 @@ undue_level s e o h =
 
 -- ---- classes
 
-class_stays : (old new : List Class) (objects : Oref → Option Object) (v : Object) (u : Option ClassUpgrade) → (transformed old new objects v u).class ≡ v.class
+class_stays : (old new : List Class) (objects : Oref → Option Object) (v : Object) (u : Option ClassUpgrade)
+    → (transformed old new objects v u).class ≡ v.class
 class_stays old new objects v None = refl
 class_stays old new objects v (Some u) = refl
 
