@@ -1,8 +1,14 @@
 pub mod Calls
+pub mod Eager
+pub mod Epochs
 pub mod ExpressionRules
 pub mod Expressions
 pub mod Grammar
+pub mod KeptOwnership
+pub mod LazyExamples
+pub mod Levels
 pub mod Objects
+pub mod Ownership
 pub mod RuleRows
 pub mod Rules
 pub mod Run
@@ -12,7 +18,9 @@ pub mod Spelling
 pub mod StatementRules
 pub mod Statements
 pub mod Steps
+pub mod Stored
 pub mod Touched
 pub mod Types
 pub mod Upgrades
+pub mod WellOwned
 pub mod Words

@@ -5,9 +5,12 @@ mod checked;
 mod classes;
 mod declarations;
 mod expressions;
+mod lazy_examples;
+mod lazy_laws;
 mod limits;
 mod look;
 mod machine;
+mod ownership_laws;
 mod places;
 mod rule_rows;
 mod rules;
@@ -23,9 +26,18 @@ pub use classes::{
 };
 pub use declarations::{Declarations, WrittenRoot, WrittenRoots};
 pub use expressions::{At, Expr, Exprs, Name, Operator, TypeName};
+pub use lazy_examples::{eager_examples, level_examples, order_examples, premise_examples};
+pub use lazy_laws::{
+    eager_objects, transforms_are_unseen, undue_objects_stay, upgrade_moves_up, values_are_local,
+    written_stores_stand,
+};
 pub use limits::{CREATE_LIMIT, DEPTH_LIMIT, READ_LIMIT, STEP_LIMIT};
 pub use look::{class_named, field_named, field_of, method_of};
 pub use machine::{Flow, Local, Locals, Machine, NameSupply, Receiver, Stop};
+pub use ownership_laws::{
+    eager_stays_owned, owners_are_alone, references_shrink, transforms_stay_owned,
+    upgrades_stay_owned,
+};
 pub use places::Place;
 pub use rules::{NamedType, NamedTypes, Position, Rule, TypeFault};
 pub use run_laws::{
