@@ -3,6 +3,17 @@ pub mod AlikeCalls
 pub mod AlikeObjects
 pub mod AlikeRun
 pub mod AlikeSteps
+pub mod FitActions
+pub mod FitArguments
+pub mod FitCalls
+pub mod FitKinds
+pub mod FitNames
+pub mod FitObjects
+pub mod FitRules
+pub mod FitRun
+pub mod FitStatements
+pub mod FitSteps
+pub mod FitValues
 pub mod RuleForms
 pub mod RunOutcomes
 pub mod TouchedStores

@@ -1,6 +1,7 @@
 pub mod Calls
 pub mod ExpressionRules
 pub mod Expressions
+pub mod Fits
 pub mod Grammar
 pub mod Objects
 pub mod RuleRows
