@@ -16,12 +16,14 @@ use Rattle.class_defs.proofs.FitKinds.{scope_is}
 use Rattle.class_defs.proofs.FitNames.{Taken, each_so, taken, never_short, stands_there}
 use Rattle.class_defs.proofs.FitObjects.{fitted_is, value_suits, find_field, find_object, class_there, field_told, fields_told, begin_fields}
 use Rattle.class_defs.proofs.FitRules.{ClassSound, there}
+use Rattle.class_defs.proofs.FitStrict.{is_of_so}
 use Rattle.class_defs.proofs.FitSteps.{Went, keeps_no, gives, value, faults, Fits}
 use Rattle.class_defs.proofs.FitValues.{Keeps, put, insert_put, keeps_put, none_put, objects_put, this_keeps, locals_keep, fields_keep, fields_set}
-use Rattle.class_defs.specs.Fits.{class_of, IsNew, ValueFits, ObjectFits, ObjectsFit, NamesFit, StandInsFit, LocalsFit, ThisFits, MachineFits}
+use Rattle.class_defs.specs.Fits.{IsDeclared, class_of, IsNew, ValueFits, ObjectFits, ObjectsFit, NamesFit, StandInsFit, LocalsFit, ThisFits, MachineFits}
 use Rattle.class_defs.specs.Objects.{seen, touch, class_found, field_value, field_of_receiver, field_at, scope_at, assign_field, assign_receiver, create, create_in, make, take_name, new_object, repo_for, stand_in_name}
 use Rattle.class_defs.specs.Rules.{Sight, fits, scope_of}
 use Rattle.class_defs.specs.Steps.{World, ◌>>=◌}
+use Rattle.class_defs.specs.Strict.{has_value, reads_field, value_of_field, writes_field}
 use Rattle.class_defs.specs.Types.{class_named, field_named, field_of, field_type, fields_of, type_named, typed}
 use Rattle.class_defs.specs.declared.classes.Class.{Class}
 use Rattle.class_defs.specs.declared.classes.Field.{Field}
@@ -114,7 +116,7 @@ module _ (schema : Schema) (repos : ℕ) (sound : (c : ℕ) (d : Class) → slic
     touched b few o owners x m = cond b (class_found o x owners m) (cond few ((class_found o x owners >>= (λ c. λ n. (Ok c, read n x))) m) (Err (stop.Fault fault.Large), m))
 
     touched_goes : (b few : Bool) (o : Option Object) (p : Object) (owners : List Oref) (x : Oref) (c : ℕ) (m : Machine) → o ≡ Some p → p.class ≡ c → MachineFits w s m
-        → Went w ℕ (Entered c) m (touched b few o owners x m).0 (touched b few o owners x m).1
+        → Went w ℕ (Entered c) m (touched b few o owners x m).0 (touched b few o owners x m).1 (Some (touched b few o owners x m))
     unfolding seen
     touched_goes b few None p owners x c m is class h = cc
     touched_goes true few (Some q) p owners x c m is class h = let e : q.class ≡ c = cc in value w (Entered c) m q.class (e, h)
@@ -125,7 +127,7 @@ module _ (schema : Schema) (repos : ℕ) (sound : (c : ℕ) (d : Class) → slic
 
     -- a reference of a class is to an object of just this class
     pub touch_goes : (owners : List Oref) (x : Oref) (c : ℕ) (m : Machine) → class_of (seen w m) x ≡ Some c → MachineFits w s m
-        → Went w ℕ (Entered c) m (touch w owners x m).0 (touch w owners x m).1
+        → Went w ℕ (Entered c) m (touch w owners x m).0 (touch w owners x m).1 (Some (touch w owners x m))
     unfolding touch
     touch_goes owners x c m is h =
         let of = find_object schema (seen w m) x c h.objects is in
@@ -139,9 +141,14 @@ module _ (schema : Schema) (repos : ℕ) (sound : (c : ℕ) (d : Class) → slic
     typed_as : (o : Option Field) (d : Field) → o ≡ Some d → typed schema.classes (option_map (λ (g : Field). g.type_name) o) ≡ type_named schema.classes d.type_name
     typed_as o d is = rw is refl
 
+    -- a field that was read: its value is of its type, and was there
+    record FieldRead (m : Machine) (kind : ExprType) (stored : Option Value) (given : Value) : Type 0 where
+      pub fits : ValueFits (seen w m) kind given
+      pub there : has_value (seen w m) kind stored ≡ true
+
     read_of : (m : Machine) (c : Option ℕ) (q : Option Receiver) (name : List ℕ) → ObjectsFit schema (seen w m) → ThisFits (seen w m) c q → is_some (field_of_this c name) ≡ true
         → field_type (scope_at schema m) name ≡ typed schema.classes (option_map (λ (g : Field). g.type_name) (field_of_this c name))
-        → ValueFits (seen w m) (typed schema.classes (option_map (λ (g : Field). g.type_name) (field_of_this c name))) (field_of_receiver w m q name)
+        → FieldRead m (typed schema.classes (option_map (λ (g : Field). g.type_name) (field_of_this c name))) (value_of_field w m q name) (field_of_receiver w m q name)
     read_of m None None name objects this is kind = cc
     read_of m None (Some q) name objects this is kind = absurd this
     read_of m (Some c) None name objects this is kind = absurd this
@@ -150,12 +157,35 @@ module _ (schema : Schema) (repos : ℕ) (sound : (c : ℕ) (d : Class) → slic
         let at = find_field schema (seen w m) q.oref c name d.0 objects this.1 d.1 in
         let stands : field_at (seen w m q.oref) (field_named schema.classes q.class name) ≡ Some at.value = rw (this.0, at.of.at, at.named) at.stands in
         let e = typed_as (field_of schema.classes c name) d.0 d.1 in
-        rw (kind, stands, e, fitted_is (seen w m) (type_named schema.classes d.0.type_name) at.value at.fits) at.fits
+        record {
+          fits = rw (kind, stands, e, fitted_is (seen w m) (type_named schema.classes d.0.type_name) at.value at.fits) at.fits;
+          there = rw (stands, e) (is_of_so (seen w m) (type_named schema.classes d.0.type_name) at.value at.fits);
+        }
 
     -- a field that the check found has a value of its type
-    pub field_goes : (m : Machine) (name : List ℕ) → MachineFits w s m → is_some (field_of_this t name) ≡ true → ValueFits (seen w m) (field_type (scope_of s) name) (field_value w m name)
+    pub field_goes : (m : Machine) (name : List ℕ) → MachineFits w s m → is_some (field_of_this t name) ≡ true → ValueFits (seen w m) (field_type (scope_of s) name) (field_value w m name) × (reads_field w m name ≡ true)
     unfolding field_value
-    field_goes m name h is = read_of m t m.this name h.objects h.this is (ap (λ k. field_type k name) (scope_is (seen w m) s m h.this h.locals))
+    field_goes m name h is =
+        let kind = ap (λ k. field_type k name) (scope_is (seen w m) s m h.this h.locals) in
+        let read = read_of m t m.this name h.objects h.this is kind in
+        (read.fits, rw kind read.there)
+
+    told_of : (m : Machine) (c : Option ℕ) (q : Option Receiver) (name : List ℕ) → ObjectsFit schema (seen w m) → ThisFits (seen w m) c q → is_some (field_of_this c name) ≡ true
+        → IsDeclared (typed schema.classes (option_map (λ (g : Field). g.type_name) (field_of_this c name)))
+    told_of m None q name objects this is = cc
+    told_of m (Some c) None name objects this is = absurd this
+    told_of m (Some c) (Some q) name objects this is =
+        let d = there (field_of schema.classes c name) is in
+        let class = class_there schema (seen w m) q.oref c (find_object schema (seen w m) q.oref c objects this.1) in
+        rw (typed_as (field_of schema.classes c name) d.0 d.1) (field_told schema repos sound c class.0 name d.0 class.1 d.1)
+
+    -- a field that the check found may be given a value of its type
+    pub writes_so : (m : Machine) (name : List ℕ) (v : Value) (given : ExprType) → MachineFits w s m → is_some (field_of_this t name) ≡ true
+        → fits (field_type (scope_of s) name) given ≡ true → ValueFits (seen w m) given v → writes_field w m name v ≡ true
+    writes_so m name v given h is suits fit =
+        let kind = ap (λ k. field_type k name) (scope_is (seen w m) s m h.this h.locals) in
+        let good = value_suits (seen w m) (field_type (scope_of s) name) given v (told_of m t m.this name h.objects h.this is) suits fit in
+        rw ((field_goes m name h is).1, kind) (is_of_so (seen w m) (field_type (scope_of s) name) v good)
 
     class_stays : (a : Option Object) (o : Object) (c : ℕ) → a ≡ Some o → option_map (λ (p : Object). p.class) a ≡ Some c → o.class ≡ c
     class_stays (Some p) o c is h = cc
@@ -163,7 +193,7 @@ module _ (schema : Schema) (repos : ℕ) (sound : (c : ℕ) (d : Class) → slic
 
     assign_of : (m : Machine) (c : Option ℕ) (q : Option Receiver) (name : List ℕ) (v : Value) (given : ExprType) → ThisFits (seen w m) c q → MachineFits w s m → is_some (field_of_this c name) ≡ true
         → fits (typed schema.classes (option_map (λ (g : Field). g.type_name) (field_of_this c name))) given ≡ true → ValueFits (seen w m) given v
-        → Went w (Unit {0}) (Fits w s) m (Ok tt) (assign_receiver w q name v m)
+        → Went w (Unit {0}) (Fits w s) m (Ok tt) (assign_receiver w q name v m) (Some (Ok tt, assign_receiver w q name v m))
     assign_of m None None name v given this h is suits fit = cc
     assign_of m None (Some q) name v given this h is suits fit = absurd this
     assign_of m (Some c) None name v given this h is suits fit = absurd this
@@ -185,7 +215,7 @@ module _ (schema : Schema) (repos : ℕ) (sound : (c : ℕ) (d : Class) → slic
 
     -- a field is given a value of its type
     pub assign_goes : (m : Machine) (name : List ℕ) (v : Value) (given : ExprType) → MachineFits w s m → is_some (field_of_this t name) ≡ true
-        → fits (field_type (scope_of s) name) given ≡ true → ValueFits (seen w m) given v → Went w (Unit {0}) (Fits w s) m (Ok tt) (assign_field w name v m)
+        → fits (field_type (scope_of s) name) given ≡ true → ValueFits (seen w m) given v → Went w (Unit {0}) (Fits w s) m (Ok tt) (assign_field w name v m) (Some (Ok tt, assign_field w name v m))
     unfolding assign_field
     assign_goes m name v given h is suits fit = assign_of m t m.this name v given h.this h is suits fit
 
@@ -197,7 +227,7 @@ module _ (schema : Schema) (repos : ℕ) (sound : (c : ℕ) (d : Class) → slic
 
     made_goes : (c : ℕ) (d : Class) (m : Machine) (n : Oref × NameSupply) → slice_get schema.classes c ≡ Some d → Taken (seen w m) (length m.created) m.names (new_object w c) n → MachineFits w s m
         → let o = record m { writes = insert m.writes n.0 (new_object w c); created = m.created ++ n.0 ∷ []; names = n.1 } in
-        Went w Value (Valued (type.Class c)) m (Ok (value.Ref n.0)) o
+        Went w Value (Valued (type.Class c)) m (Ok (value.Ref n.0)) o (Some (Ok (value.Ref n.0), o))
     unfolding new_object seen
     made_goes c d m n is took h =
         let f = seen w m in
@@ -217,7 +247,7 @@ module _ (schema : Schema) (repos : ℕ) (sound : (c : ℕ) (d : Class) → slic
         at_itself f x o = rw (same_itself x) refl
 
     make_goes : (c repo : ℕ) (d : Class) (m : Machine) (n : Option (Oref × NameSupply)) → slice_get schema.classes c ≡ Some d → take_name repo m.names ≡ n → nat_lt (length m.created) CREATE_LIMIT ≡ true
-        → MachineFits w s m → Went w Value (Valued (type.Class c)) m (make w c repo n m).0 (make w c repo n m).1
+        → MachineFits w s m → Went w Value (Valued (type.Class c)) m (make w c repo n m).0 (make w c repo n m).1 (Some (make w c repo n m))
     make_goes c repo d m (Some n) is took few h = made_goes c d m n is (taken (seen w m) (length m.created) (new_object w c) repo m.names n h.names took) h
     make_goes c repo d m None is took few h = record {
       keeps = keeps_no w m;
@@ -225,28 +255,29 @@ module _ (schema : Schema) (repos : ℕ) (sound : (c : ℕ) (d : Class) → slic
       stays = (λ k. k, λ k. k);
       supply = λ stocked. absurd (none_there (take_name repo m.names) took (never_short (seen w m) (length m.created) (new_object w c) repo m.names stocked h.names few));
       good = λ a e. cc;
+      same = refl;
     }
       where
         none_there : (o : Option (Oref × NameSupply)) → o ≡ None → is_some o ≡ true → ⊥
         none_there o e k = true≢false (sym k ∙ ap is_some e)
 
     few_goes : (b : Bool) (c repo : ℕ) (d : Class) (m : Machine) → slice_get schema.classes c ≡ Some d → (b ≡ true → nat_lt (length m.created) CREATE_LIMIT ≡ true) → MachineFits w s m
-        → let made = cond b (make w c repo (take_name repo m.names) m) (Err (stop.Fault fault.Large), m) in Went w Value (Valued (type.Class c)) m made.0 made.1
+        → let made = cond b (make w c repo (take_name repo m.names) m) (Err (stop.Fault fault.Large), m) in Went w Value (Valued (type.Class c)) m made.0 made.1 (Some made)
     few_goes true c repo d m is few h = make_goes c repo d m _ is refl (few refl) h
     few_goes false c repo d m is few h = faults w (Valued (type.Class c)) m fault.Large
 
     create_in_goes : (repo : ℕ) (o : Option ℕ) (c : ℕ) (m : Machine) → o ≡ Some c → is_some (slice_get schema.classes c) ≡ true → MachineFits w s m
-        → Went w Value (Valued (type.Class c)) m (create_in w repo o m).0 (create_in w repo o m).1
+        → Went w Value (Valued (type.Class c)) m (create_in w repo o m).0 (create_in w repo o m).1 (Some (create_in w repo o m))
     create_in_goes repo None c m is known h = cc
     create_in_goes repo (Some k) c m is known h =
         let e : c ≡ k = cc in
         let d = there (slice_get schema.classes c) known in
-        subst (λ (i : ℕ). Went w Value (Valued (type.Class c)) m (create_in w repo (Some i) m).0 (create_in w repo (Some i) m).1) e
+        subst (λ (i : ℕ). Went w Value (Valued (type.Class c)) m (create_in w repo (Some i) m).0 (create_in w repo (Some i) m).1 (Some (create_in w repo (Some i) m))) e
         (few_goes (nat_lt (length m.created) CREATE_LIMIT) c repo d.0 m d.1 (λ k. k) h)
 
     -- a new object is of its class
     pub create_goes : (class : List ℕ) (at : Option At) (c : ℕ) (m : Machine) → class_named schema.classes class ≡ Some c → MachineFits w s m
-        → Went w Value (Valued (type.Class c)) m (create w class at m).0 (create w class at m).1
+        → Went w Value (Valued (type.Class c)) m (create w class at m).0 (create w class at m).1 (Some (create w class at m))
     unfolding create
     create_goes class at c m is h =
         create_in_goes (repo_for m.this at) (class_named schema.classes class) c m is (stands_there (λ (d : Class). bytes_eq d.name.text class) schema.classes c is) h

@@ -14,6 +14,7 @@ use Rattle.class_defs.specs.Objects.{first_of, scope_at, named_value}
 use Rattle.class_defs.specs.Objects as run
 use Rattle.class_defs.specs.Rules.{Sight, scope_of}
 use Rattle.class_defs.specs.Rules as rules
+use Rattle.class_defs.specs.Strict.{value_named}
 use Rattle.class_defs.specs.Types.{class_named, class_or_untold, type_of, type_step}
 use Rattle.class_defs.specs.declared.classes.Class.{Class}
 use Rattle.class_defs.specs.declared.expressions.Expr.{Expr, out-Expr, map-Expr, roll-Expr}
@@ -84,7 +85,7 @@ module _ {A B C : Type 0} (f : A → C) (g : B → C) where
   alike false false x y o p e h k = k
 
 module _ (objects : Oref → Option Object) where
-  kinds_alike : (name : List ℕ) (ns : List NamedType) (ls : List Local) → LocalsFit objects ns ls
+  pub kinds_alike : (name : List ℕ) (ns : List NamedType) (ls : List Local) → LocalsFit objects ns ls
       → option_map kind_of (find (λ l. bytes_eq l.name name) ls) ≡ option_map kind_seen (find (λ n. bytes_eq n.name name) ns)
   kinds_alike name [] [] h = refl
   kinds_alike name [] (l ∷ ls) h = absurd h
@@ -160,10 +161,6 @@ module _ (objects : Oref → Option Object) where
       → AllByRecursion (RootFits objects schema.classes) (run.roots_in_sight schema r)
   sight_roots schema t None h all = all
   sight_roots schema t (Some r) h all = tt
-
-  -- the value of a local, a parameter or a root that is in sight
-  abbrev pub value_named : Schema → Machine → List ℕ → Option Value
-  value_named schema m name = first_of (option_map (λ (q : Local). q.value) (run.local_named m name)) (option_map root_value (run.root_named schema m name))
 
   pub name_fits : (s : Sight) (m : Machine) (name : List ℕ) → ThisFits objects s.this m.this → LocalsFit objects s.locals m.locals → AllByRecursion (RootFits objects s.schema.classes) s.schema.roots
       → NamedFits (rules.type_in_sight s name) (value_named s.schema m name)

@@ -41,7 +41,7 @@ fitted_is f (type.Class c) (value.Ref x) h = refl
 fitted_is f (type.Class c) value.Null h = refl
 fitted_is f type.Untold v h = absurd h
 
-null_suits : (f : Oref → Option Object) (c : ℕ) (v : Value) → ValueFits f type.Null v → ValueFits f (type.Class c) v
+pub null_suits : (f : Oref → Option Object) (c : ℕ) (v : Value) → ValueFits f type.Null v → ValueFits f (type.Class c) v
 null_suits f c (value.Int n) h = absurd h
 null_suits f c (value.Ref x) h = absurd h
 null_suits f c value.Null h = tt

@@ -29,6 +29,7 @@ use Rattle.class_defs.specs.Run.{Ran, begun, changed, execute_all, meaning, ran_
 use Rattle.class_defs.specs.SchemaRules.{in_item, item_names, item_rules, schema_rules}
 use Rattle.class_defs.specs.StatementRules.{block_rules}
 use Rattle.class_defs.specs.Statements.{block_of}
+use Rattle.class_defs.specs.Strict.{strict_block, strict_execute_all, strict_meaning}
 use Rattle.class_defs.specs.Types.{type_of}
 use Rattle.class_defs.specs.declared.classes.Class.{Class}
 use Rattle.class_defs.specs.declared.expressions.Expr.{Expr}
@@ -46,27 +47,27 @@ use Rattle.class_defs.specs.declared.types.ExprType.{ExprType}
 module _ (schema : Schema) (repos : ℕ) (sound : (c : ℕ) (d : Class) → slice_get schema.classes c ≡ Some d → ClassSound schema repos c d) (at_hand : Oref → Option Object) where
   -- expressions and statements go as they are owed, as deep as n
   pub record Both (n : ℕ) : Type 0 where
-    pub values : ValuesGo schema repos at_hand (meaning (over schema at_hand) n).value_of
-    pub statements : StatementsGo schema repos at_hand (meaning (over schema at_hand) n).execute
+    pub values : ValuesGo schema repos at_hand (meaning (over schema at_hand) n).value_of (strict_meaning (over schema at_hand) n).value_of
+    pub statements : StatementsGo schema repos at_hand (meaning (over schema at_hand) n).execute (strict_meaning (over schema at_hand) n).execute
 
   pub both : (n : ℕ) → Both n
-  unfolding meaning
+  unfolding meaning strict_meaning
   both zero = record {
     values = λ t r l e place ok m h. faults (over schema at_hand) _ m fault.Steps;
     statements = λ t r l st ok m h. faults (over schema at_hand) _ m fault.Steps;
   }
   both (suc n) =
       let inner = both n in
-      let blocks = block_goes schema repos at_hand (meaning (over schema at_hand) n).execute inner.statements in
+      let blocks = block_goes schema repos at_hand (meaning (over schema at_hand) n).execute (strict_meaning (over schema at_hand) n).execute inner.statements in
       record {
-        values = expression_goes schema repos sound at_hand _ _ inner.values blocks;
-        statements = statement_goes schema repos sound at_hand _ _ inner.values blocks;
+        values = expression_goes schema repos sound at_hand _ _ _ _ inner.values blocks;
+        statements = statement_goes schema repos sound at_hand _ _ _ _ inner.values blocks;
       }
 
   pub transaction_goes : (tx : List Stmt) → block_rules (in_item schema repos) tx ≡ [] → (m : Machine) → MachineFits (over schema at_hand) (in_item schema repos) m
-      → Went (over schema at_hand) Flow (FlowGood schema repos at_hand (in_item schema repos)) m (execute_all (over schema at_hand) tx m).0 (execute_all (over schema at_hand) tx m).1
-  unfolding execute_all
-  transaction_goes tx ok m h = block_goes schema repos at_hand _ (both 100001).statements None (in_item schema repos).result [] tx ok m h
+      → Went (over schema at_hand) Flow (FlowGood schema repos at_hand (in_item schema repos)) m (execute_all (over schema at_hand) tx m).0 (execute_all (over schema at_hand) tx m).1 (strict_execute_all (over schema at_hand) tx m)
+  unfolding execute_all strict_execute_all
+  transaction_goes tx ok m h = block_goes schema repos at_hand _ _ (both 100001).statements None (in_item schema repos).result [] tx ok m h
 
 -- ---- the store behind a run
 
@@ -118,7 +119,7 @@ module _ (schema : Schema) (repos : ℕ) (tx : List Stmt) (store : Plain) (names
   ended = execute_all (world_of schema store) tx (begun names (Some 0))
 
   run_goes : schema_rules schema repos ≡ [] → item_rules schema repos tx ≡ [] → StoreFits schema store → Fresh store names
-      → Went (world_of schema store) Flow (FlowGood schema repos (get store.objects) (in_item schema repos)) (begun names (Some 0)) ended.0 ended.1
+      → Went (world_of schema store) Flow (FlowGood schema repos (get store.objects) (in_item schema repos)) (begun names (Some 0)) ended.0 ended.1 (strict_execute_all (world_of schema store) tx (begun names (Some 0)))
   run_goes sound ok fit fresh =
       transaction_goes schema repos (schema_sound schema repos sound) (get store.objects) tx (block_unbroken ok) (begun names (Some 0)) (begun_fits schema repos store names fit fresh)
 
@@ -130,6 +131,9 @@ module _ (schema : Schema) (repos : ℕ) (tx : List Stmt) (store : Plain) (names
 
   pub run_answered : schema_rules schema repos ≡ [] → item_rules schema repos tx ≡ [] → StoreFits schema store → Fresh store names → IsAnswered ended.0
   run_answered sound ok fit fresh = let went = run_goes sound ok fit fresh in answered ended.0 went.had (went.supply refl)
+
+  pub run_strictly : schema_rules schema repos ≡ [] → item_rules schema repos tx ≡ [] → StoreFits schema store → Fresh store names → strict_execute_all (world_of schema store) tx (begun names (Some 0)) ≡ Some ended
+  run_strictly sound ok fit fresh = (run_goes sound ok fit fresh).same
 
   taken_over : (b : Bool) (whole r : Ran) → cond b (Some whole) None ≡ Some r → StoreFits schema whole.store → StoreFits schema r.store
   taken_over true whole r is h = let e : whole ≡ r = cc in subst (λ (q : Ran). StoreFits schema q.store) e h
@@ -161,10 +165,20 @@ module _ (s : Sight) (objects : Oref → Option Object) (n : ℕ) (m : Machine) 
       let P : ExprType → Machine → Type 0 = λ k q. MachineFits (over s.schema objects) s q × ValueFits (seen (over s.schema objects) q) k v in
       subst₂ P (kind_is s e) (ap (λ (p : Result Value Stop × Machine). p.1) is) good
 
+  pub values_strict : (e : Expr) (place : Position) → (judged s e).broken place ≡ [] → (strict_meaning (over s.schema objects) n).value_of e m ≡ Some ((meaning (over s.schema objects) n).value_of e m)
+  values_strict e place ok = ((both s.schema s.repos (schema_sound s.schema s.repos rules) objects n).values s.this s.result s.locals e place ok m fit).same
+
+  abbrev goes : (ss : List Stmt) → block_rules s ss ≡ [] → Went (over s.schema objects) Flow (FlowGood s.schema s.repos objects s) m (block_of (meaning (over s.schema objects) n).execute ss m).0
+      (block_of (meaning (over s.schema objects) n).execute ss m).1 (strict_block (strict_meaning (over s.schema objects) n).execute ss m)
+  goes ss ok =
+      block_goes s.schema s.repos objects (meaning (over s.schema objects) n).execute (strict_meaning (over s.schema objects) n).execute
+      (both s.schema s.repos (schema_sound s.schema s.repos rules) objects n).statements s.this s.result s.locals ss ok m fit
+
   pub blocks_fit : (ss : List Stmt) (flow : Flow) (o : Machine) → block_rules s ss ≡ [] → block_of (meaning (over s.schema objects) n).execute ss m ≡ (Ok flow, o)
       → MachineFits (over s.schema objects) s o × FlowFits (seen (over s.schema objects) o) s.result flow
   blocks_fit ss flow o ok is =
-      let statements = (both s.schema s.repos (schema_sound s.schema s.repos rules) objects n).statements in
-      let went = block_goes s.schema s.repos objects (meaning (over s.schema objects) n).execute statements s.this s.result s.locals ss ok m fit in
       subst (λ q. MachineFits (over s.schema objects) s q × FlowFits (seen (over s.schema objects) q) s.result flow) (ap (λ (p : Result Flow Stop × Machine). p.1) is)
-      (went.good flow (ap (λ (p : Result Flow Stop × Machine). p.0) is))
+      ((goes ss ok).good flow (ap (λ (p : Result Flow Stop × Machine). p.0) is))
+
+  pub blocks_strict : (ss : List Stmt) → block_rules s ss ≡ [] → strict_block (strict_meaning (over s.schema objects) n).execute ss m ≡ Some (block_of (meaning (over s.schema objects) n).execute ss m)
+  blocks_strict ss ok = (goes ss ok).same

@@ -13,6 +13,7 @@ pub mod FitRules
 pub mod FitRun
 pub mod FitStatements
 pub mod FitSteps
+pub mod FitStrict
 pub mod FitValues
 pub mod RuleForms
 pub mod RunOutcomes

@@ -13,6 +13,7 @@ pub mod Spelling
 pub mod StatementRules
 pub mod Statements
 pub mod Steps
+pub mod Strict
 pub mod Touched
 pub mod Types
 pub mod Upgrades

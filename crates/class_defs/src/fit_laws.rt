@@ -13,6 +13,7 @@ ghost use Rattle.class_defs.specs.SchemaRules.{item_rules, schema_rules};
 ghost use Rattle.class_defs.specs.StatementRules.{block_rules};
 ghost use Rattle.class_defs.specs.Statements.{block_of};
 ghost use Rattle.class_defs.specs.Steps.{World};
+ghost use Rattle.class_defs.specs.Strict.{strict_block, strict_execute_all, strict_meaning};
 ghost use Rattle.class_defs.specs.Types.{type_of};
 ghost use Rattle.class_defs.specs.declared.expressions.Expr.{Expr};
 ghost use Rattle.class_defs.specs.declared.machine.Flow.{Flow};
@@ -24,7 +25,8 @@ ghost use Rattle.class_defs.specs.declared.store.Plain.{Plain};
 ghost use Rattle.class_defs.specs.declared.store.Schema.{Schema};
 
 /// The run of a checked transaction on a store that fits its schema ends by itself or in a fault, and the store
-/// that it leaves fits again.
+/// that it leaves fits again. It never meets a value of a wrong kind, a name that isn't declared, a method that isn't
+/// there or a wrong number of arguments: the strict meaning, which gets stuck at these, does the same.
 pub fn checked_runs_fit()
     ensures store { (schema : Schema) → (repos : ℕ) → (tx : List Stmt) → (store : Plain) → (names : List Oref)
         → (r : Ran)
@@ -35,10 +37,15 @@ pub fn checked_runs_fit()
         → schema_rules schema repos ≡ [] → item_rules schema repos tx ≡ []
         → StoreFits schema store → Fresh store names
         → IsAnswered (execute_all (world_of schema store) tx (begun names (Some 0))).0 }
+    ensures strictly { (schema : Schema) → (repos : ℕ) → (tx : List Stmt) → (store : Plain) → (names : List Oref)
+        → schema_rules schema repos ≡ [] → item_rules schema repos tx ≡ []
+        → StoreFits schema store → Fresh store names
+        → strict_execute_all (world_of schema store) tx (begun names (Some 0))
+            ≡ Some (execute_all (world_of schema store) tx (begun names (Some 0))) }
 {}
 
 /// In any state that fits what is in sight, an expression that breaks no rule gives a value of its type, and a
-/// block that breaks none a result of the declared type; and the state behind it fits.
+/// block that breaks none a result of the declared type; the state behind it fits, and neither gets stuck.
 pub fn checked_code_keeps_states_fitting()
     ensures values { (s : Sight) → (objects : Oref → Option Object) → (n : ℕ) → (m : Machine)
         → (e : Expr) → (place : Position) → (v : Value) → (o : Machine)
@@ -52,4 +59,14 @@ pub fn checked_code_keeps_states_fitting()
         schema_rules s.schema s.repos ≡ [] → MachineFits w s m → block_rules s block ≡ []
         → block_of (meaning w n).execute block m ≡ (Ok flow, o)
         → MachineFits w s o × FlowFits (seen w o) s.result flow }
+    ensures values_strictly { (s : Sight) → (objects : Oref → Option Object) → (n : ℕ) → (m : Machine)
+        → (e : Expr) → (place : Position)
+        → let w : World = record { schema = s.schema; at_hand = objects } in
+        schema_rules s.schema s.repos ≡ [] → MachineFits w s m → (judged s e).broken place ≡ []
+        → (strict_meaning w n).value_of e m ≡ Some ((meaning w n).value_of e m) }
+    ensures blocks_strictly { (s : Sight) → (objects : Oref → Option Object) → (n : ℕ) → (m : Machine)
+        → (block : List Stmt)
+        → let w : World = record { schema = s.schema; at_hand = objects } in
+        schema_rules s.schema s.repos ≡ [] → MachineFits w s m → block_rules s block ≡ []
+        → strict_block (strict_meaning w n).execute block m ≡ Some (block_of (meaning w n).execute block m) }
 {}
