@@ -22,7 +22,7 @@ use Rattle.class_defs.proofs.FitStatements.{StatementsGo, block_goes, statement_
 use Rattle.class_defs.proofs.FitSteps.{Named, Went, faults}
 use Rattle.class_defs.proofs.FitValues.{one_name}
 use Rattle.class_defs.specs.ExpressionRules.{judged}
-use Rattle.class_defs.specs.Fits.{Fresh, IsAnswered, FlowFits, ObjectsFit, StoreFits, MachineFits, ValueFits}
+use Rattle.class_defs.specs.Fits.{StandInsFit, Fresh, IsAnswered, FlowFits, ObjectsFit, StoreFits, MachineFits, ValueFits}
 use Rattle.class_defs.specs.Objects.{first_of, seen}
 use Rattle.class_defs.specs.Rules.{Sight, scope_of}
 use Rattle.class_defs.specs.Run.{Ran, begun, changed, execute_all, meaning, ran_by, run, takes, world_of}
@@ -30,6 +30,7 @@ use Rattle.class_defs.specs.SchemaRules.{in_item, item_names, item_rules, schema
 use Rattle.class_defs.specs.StatementRules.{block_rules}
 use Rattle.class_defs.specs.Statements.{block_of}
 use Rattle.class_defs.specs.Strict.{strict_block, strict_execute_all, strict_meaning}
+use Rattle.class_defs.specs.Touched.{HadObjects}
 use Rattle.class_defs.specs.Types.{type_of}
 use Rattle.class_defs.specs.declared.classes.Class.{Class}
 use Rattle.class_defs.specs.declared.expressions.Expr.{Expr}
@@ -97,13 +98,14 @@ store_seen schema store m h = fun_ext (λ x. get_overwritten store.objects m.wri
 
 -- ---- runs
 
-begun_fits : (schema : Schema) (repos : ℕ) (store : Plain) (names : List Oref) → StoreFits schema store → Fresh store names → MachineFits (world_of schema store) (in_item schema repos) (begun names (Some 0))
+begun_fits : (schema : Schema) (repos : ℕ) (store : Plain) (names : List Oref) (stand_in : Option ℕ) → StandInsFit (get store.objects) 0 stand_in → StoreFits schema store → Fresh store names
+    → MachineFits (world_of schema store) (in_item schema repos) (begun names stand_in)
 unfolding seen
-begun_fits schema repos store names fit fresh = record {
+begun_fits schema repos store names stand_in next fit fresh = record {
   objects = fit;
   this = tt;
   locals = tt;
-  names = record { waiting = fresh.waiting; distinct = fresh.distinct; stand_ins = (omega arith, λ j le. fresh.stand_ins j) };
+  names = record { waiting = fresh.waiting; distinct = fresh.distinct; stand_ins = next };
 }
 
 begun_sorted : (names : List Oref) → IsSorted (begun names (Some 0)).writes
@@ -115,13 +117,28 @@ module _ (schema : Schema) (repos : ℕ) (tx : List Stmt) (store : Plain) (names
   unfolding item_rules
   block_unbroken h = (nothing (item_names schema tx) (block_rules (in_item schema repos) tx) h).1
 
+  abbrev ended_with : Option ℕ → Result Flow Stop × Machine
+  ended_with stand_in = execute_all (world_of schema store) tx (begun names stand_in)
+
   abbrev ended : Result Flow Stop × Machine
-  ended = execute_all (world_of schema store) tx (begun names (Some 0))
+  ended = ended_with (Some 0)
+
+  goes_with : (stand_in : Option ℕ) → StandInsFit (get store.objects) 0 stand_in → schema_rules schema repos ≡ [] → item_rules schema repos tx ≡ [] → StoreFits schema store → Fresh store names
+      → Went (world_of schema store) Flow (FlowGood schema repos (get store.objects) (in_item schema repos)) (begun names stand_in) (ended_with stand_in).0 (ended_with stand_in).1
+          (strict_execute_all (world_of schema store) tx (begun names stand_in))
+  goes_with stand_in next sound ok fit fresh =
+      transaction_goes schema repos (schema_sound schema repos sound) (get store.objects) tx (block_unbroken ok) (begun names stand_in) (begun_fits schema repos store names stand_in next fit fresh)
 
   run_goes : schema_rules schema repos ≡ [] → item_rules schema repos tx ≡ [] → StoreFits schema store → Fresh store names
       → Went (world_of schema store) Flow (FlowGood schema repos (get store.objects) (in_item schema repos)) (begun names (Some 0)) ended.0 ended.1 (strict_execute_all (world_of schema store) tx (begun names (Some 0)))
-  run_goes sound ok fit fresh =
-      transaction_goes schema repos (schema_sound schema repos sound) (get store.objects) tx (block_unbroken ok) (begun names (Some 0)) (begun_fits schema repos store names fit fresh)
+  run_goes sound ok fit fresh = goes_with (Some 0) (omega arith, λ j le. fresh.stand_ins j) sound ok fit fresh
+
+  objects_had : (o : Result Flow Stop) → Had o → HadObjects o
+  objects_had (Ok flow) h = h
+  objects_had (Err s) h = h
+
+  pub run_had : schema_rules schema repos ≡ [] → item_rules schema repos tx ≡ [] → StoreFits schema store → Fresh store names → HadObjects (ended_with None).0
+  run_had sound ok fit fresh = objects_had (ended_with None).0 (goes_with None tt sound ok fit fresh).had
 
   answered : (o : Result Flow Stop) → Had o → Named o → IsAnswered o
   answered (Ok flow) h k = tt

@@ -1,6 +1,7 @@
 pub mod Calls
 pub mod ExpressionRules
 pub mod Expressions
+pub mod FitRows
 pub mod Fits
 pub mod Grammar
 pub mod Objects

@@ -1,7 +1,7 @@
 //! What holds of checked code on a store that fits its schema. Each law is a function with an empty body, whose
 //! clauses are proved once for all callers.
 
-ghost use Rattle.std.specs.Prelude.{◌≡◌, List, [], Option, Some, Result, Ok, ℕ};
+ghost use Rattle.std.specs.Prelude.{◌≡◌, List, [], Option, Some, None, Result, Ok, ℕ};
 ghost use Rattle.thor_value.specs.declared.names.Oref.{Oref};
 ghost use Rattle.thor_value.specs.declared.values.Value.{Value};
 ghost use Rattle.class_defs.specs.ExpressionRules.{judged};
@@ -14,6 +14,7 @@ ghost use Rattle.class_defs.specs.StatementRules.{block_rules};
 ghost use Rattle.class_defs.specs.Statements.{block_of};
 ghost use Rattle.class_defs.specs.Steps.{World};
 ghost use Rattle.class_defs.specs.Strict.{strict_block, strict_execute_all, strict_meaning};
+ghost use Rattle.class_defs.specs.Touched.{HadObjects};
 ghost use Rattle.class_defs.specs.Types.{type_of};
 ghost use Rattle.class_defs.specs.declared.expressions.Expr.{Expr};
 ghost use Rattle.class_defs.specs.declared.machine.Flow.{Flow};
@@ -26,7 +27,8 @@ ghost use Rattle.class_defs.specs.declared.store.Schema.{Schema};
 
 /// The run of a checked transaction on a store that fits its schema ends by itself or in a fault, and the store
 /// that it leaves fits again. It never meets a value of a wrong kind, a name that isn't declared, a method that isn't
-/// there or a wrong number of arguments: the strict meaning, which gets stuck at these, does the same.
+/// there or a wrong number of arguments: the strict meaning, which gets stuck at these, does the same. Without
+/// stand-in names it may end for want of a name, but never of an object.
 pub fn checked_runs_fit()
     ensures store { (schema : Schema) → (repos : ℕ) → (tx : List Stmt) → (store : Plain) → (names : List Oref)
         → (r : Ran)
@@ -37,6 +39,10 @@ pub fn checked_runs_fit()
         → schema_rules schema repos ≡ [] → item_rules schema repos tx ≡ []
         → StoreFits schema store → Fresh store names
         → IsAnswered (execute_all (world_of schema store) tx (begun names (Some 0))).0 }
+    ensures objects { (schema : Schema) → (repos : ℕ) → (tx : List Stmt) → (store : Plain) → (names : List Oref)
+        → schema_rules schema repos ≡ [] → item_rules schema repos tx ≡ []
+        → StoreFits schema store → Fresh store names
+        → HadObjects (execute_all (world_of schema store) tx (begun names None)).0 }
     ensures strictly { (schema : Schema) → (repos : ℕ) → (tx : List Stmt) → (store : Plain) → (names : List Oref)
         → schema_rules schema repos ≡ [] → item_rules schema repos tx ≡ []
         → StoreFits schema store → Fresh store names

@@ -6,6 +6,7 @@ mod classes;
 mod declarations;
 mod expressions;
 mod fit_laws;
+mod fit_rows;
 mod limits;
 mod look;
 mod machine;
