@@ -42,14 +42,16 @@ use Rattle.class_defs.specs.declared.types.ExprType.{ExprType}
 use Rattle.class_defs.specs.declared.types.ExprType.TheVariants as type
 
 -- what fits among some objects, with as many objects made
-record Whole (schema : Schema) (g : Oref → Option Object) (s : Sight) (q : Option Receiver) (ls : List Local) (made : ℕ) (n : NameSupply) : Type 0 where
+record Whole (schema : Schema) (g : Oref → Option Object) (s : Sight) (q : Option Receiver) (ls : List Local) (made : ℕ)
+    (n : NameSupply) : Type 0 where
   objects : ObjectsFit schema g
   this : ThisFits g s.this q
   locals : LocalsFit g s.locals ls
   names : NamesFit g made n
 
 -- where an object is put anew, with its class, the names that wait are new still
-names_put : (f : Oref → Option Object) (x : Oref) (o p : Object) (made : ℕ) (names : NameSupply) → f x ≡ Some p → NamesFit f made names → NamesFit (put f x o) made names
+names_put : (f : Oref → Option Object) (x : Oref) (o p : Object) (made : ℕ) (names : NameSupply) → f x ≡ Some p → NamesFit f made names
+    → NamesFit (put f x o) made names
 names_put f x o p made names at h =
     let apart : (y : Oref) → f y ≡ None → y ≡ x → ⊥ = λ y n e. none_some (sym n ∙ subst (λ z. f z ≡ Some p) (sym e) at) in
     record {
@@ -73,7 +75,8 @@ one_longer : (xs : List Oref) (x : Oref) → length (xs ++ x ∷ []) ≡ length 
 one_longer [] x = refl
 one_longer (y ∷ ys) x = omega (arith, one_longer ys x)
 
-module _ (schema : Schema) (repos : ℕ) (sound : (c : ℕ) (d : Class) → slice_get schema.classes c ≡ Some d → ClassSound schema repos c d) (at_hand : Oref → Option Object) where
+module _ (schema : Schema) (repos : ℕ) (sound : (c : ℕ) (d : Class) → slice_get schema.classes c ≡ Some d → ClassSound schema repos c d)
+    (at_hand : Oref → Option Object) where
   abbrev w : World
   w = over schema at_hand
 
@@ -86,8 +89,10 @@ module _ (schema : Schema) (repos : ℕ) (sound : (c : ℕ) (d : Class) → slic
 
     -- a state with one object written
     written : (m : Machine) (x : Oref) (o : Object) (made : List Oref) (names : NameSupply)
-        → ((c : ℕ) → class_of (seen w m) x ≡ Some c → o.class ≡ c) → ObjectFits (put (seen w m) x o) schema.classes o → NamesFit (put (seen w m) x o) (length made) names
-        → MachineFits w s m → let n = record m { writes = insert m.writes x o; created = made; names = names } in Keeps (seen w m) (seen w n) × MachineFits w s n
+        → ((c : ℕ) → class_of (seen w m) x ≡ Some c → o.class ≡ c) → ObjectFits (put (seen w m) x o) schema.classes o
+        → NamesFit (put (seen w m) x o) (length made) names
+        → MachineFits w s m → let n =
+        record m { writes = insert m.writes x o; created = made; names = names } in Keeps (seen w m) (seen w n) × MachineFits w s n
     unfolding seen
     written m x o made names class fit new h =
         let e = insert_put m.writes at_hand x o in
@@ -113,16 +118,19 @@ module _ (schema : Schema) (repos : ℕ) (sound : (c : ℕ) (d : Class) → slic
     read m x = record m { reads = insert m.reads x tt }
 
     abbrev touched : Bool → Bool → Option Object → List Oref → Oref → Machine → Result ℕ Stop × Machine
-    touched b few o owners x m = cond b (class_found o x owners m) (cond few ((class_found o x owners >>= (λ c. λ n. (Ok c, read n x))) m) (Err (stop.Fault fault.Large), m))
+    touched b few o owners x m =
+        cond b (class_found o x owners m) (cond few ((class_found o x owners >>= (λ c. λ n. (Ok c, read n x))) m) (Err (stop.Fault fault.Large), m))
 
-    touched_goes : (b few : Bool) (o : Option Object) (p : Object) (owners : List Oref) (x : Oref) (c : ℕ) (m : Machine) → o ≡ Some p → p.class ≡ c → MachineFits w s m
+    touched_goes : (b few : Bool) (o : Option Object) (p : Object) (owners : List Oref) (x : Oref) (c : ℕ) (m : Machine) → o ≡ Some p
+        → p.class ≡ c → MachineFits w s m
         → Went w ℕ (Entered c) m (touched b few o owners x m).0 (touched b few o owners x m).1 (Some (touched b few o owners x m))
     unfolding seen
     touched_goes b few None p owners x c m is class h = cc
     touched_goes true few (Some q) p owners x c m is class h = let e : q.class ≡ c = cc in value w (Entered c) m q.class (e, h)
     touched_goes false true (Some q) p owners x c m is class h =
         let e : q.class ≡ c = cc in
-        gives w (Entered c) m (read m x) q.class (keeps_no w m) (λ k. k, λ k. k) (e, record { objects = h.objects; this = h.this; locals = h.locals; names = h.names })
+        gives w (Entered c) m (read m x) q.class (keeps_no w m) (λ k. k, λ k. k)
+        (e, record { objects = h.objects; this = h.this; locals = h.locals; names = h.names })
     touched_goes false false (Some q) p owners x c m is class h = faults w (Entered c) m fault.Large
 
     -- a reference of a class is to an object of just this class
@@ -131,14 +139,16 @@ module _ (schema : Schema) (repos : ℕ) (sound : (c : ℕ) (d : Class) → slic
     unfolding touch
     touch_goes owners x c m is h =
         let of = find_object schema (seen w m) x c h.objects is in
-        touched_goes (has m.reads x || is_some (find (same_oref x) m.created)) (nat_lt (len m.reads) READ_LIMIT) (seen w m x) of.object owners x c m of.at of.class h
+        touched_goes (has m.reads x || is_some (find (same_oref x) m.created)) (nat_lt (len m.reads) READ_LIMIT)
+        (seen w m x) of.object owners x c m of.at of.class h
 
     -- ---- the fields of `this`
 
     abbrev field_of_this : Option ℕ → List ℕ → Option Field
     field_of_this c name = option_and_then (λ k. field_of schema.classes k name) c
 
-    typed_as : (o : Option Field) (d : Field) → o ≡ Some d → typed schema.classes (option_map (λ (g : Field). g.type_name) o) ≡ type_named schema.classes d.type_name
+    typed_as : (o : Option Field) (d : Field) → o ≡ Some d
+        → typed schema.classes (option_map (λ (g : Field). g.type_name) o) ≡ type_named schema.classes d.type_name
     typed_as o d is = rw is refl
 
     -- a field that was read: its value is of its type, and was there
@@ -146,16 +156,19 @@ module _ (schema : Schema) (repos : ℕ) (sound : (c : ℕ) (d : Class) → slic
       pub fits : ValueFits (seen w m) kind given
       pub there : has_value (seen w m) kind stored ≡ true
 
-    read_of : (m : Machine) (c : Option ℕ) (q : Option Receiver) (name : List ℕ) → ObjectsFit schema (seen w m) → ThisFits (seen w m) c q → is_some (field_of_this c name) ≡ true
+    read_of : (m : Machine) (c : Option ℕ) (q : Option Receiver) (name : List ℕ) → ObjectsFit schema (seen w m) → ThisFits (seen w m) c q
+        → is_some (field_of_this c name) ≡ true
         → field_type (scope_at schema m) name ≡ typed schema.classes (option_map (λ (g : Field). g.type_name) (field_of_this c name))
-        → FieldRead m (typed schema.classes (option_map (λ (g : Field). g.type_name) (field_of_this c name))) (value_of_field w m q name) (field_of_receiver w m q name)
+        → FieldRead m (typed schema.classes (option_map (λ (g : Field). g.type_name) (field_of_this c name))) (value_of_field w m q name)
+        (field_of_receiver w m q name)
     read_of m None None name objects this is kind = cc
     read_of m None (Some q) name objects this is kind = absurd this
     read_of m (Some c) None name objects this is kind = absurd this
     read_of m (Some c) (Some q) name objects this is kind =
         let d = there (field_of schema.classes c name) is in
         let at = find_field schema (seen w m) q.oref c name d.0 objects this.1 d.1 in
-        let stands : field_at (seen w m q.oref) (field_named schema.classes q.class name) ≡ Some at.value = rw (this.0, at.of.at, at.named) at.stands in
+        let stands : field_at (seen w m q.oref) (field_named schema.classes q.class name) ≡ Some at.value =
+        rw (this.0, at.of.at, at.named) at.stands in
         let e = typed_as (field_of schema.classes c name) d.0 d.1 in
         record {
           fits = rw (kind, stands, e, fitted_is (seen w m) (type_named schema.classes d.0.type_name) at.value at.fits) at.fits;
@@ -163,14 +176,16 @@ module _ (schema : Schema) (repos : ℕ) (sound : (c : ℕ) (d : Class) → slic
         }
 
     -- a field that the check found has a value of its type
-    pub field_goes : (m : Machine) (name : List ℕ) → MachineFits w s m → is_some (field_of_this t name) ≡ true → ValueFits (seen w m) (field_type (scope_of s) name) (field_value w m name) × (reads_field w m name ≡ true)
+    pub field_goes : (m : Machine) (name : List ℕ) → MachineFits w s m → is_some (field_of_this t name) ≡ true
+        → ValueFits (seen w m) (field_type (scope_of s) name) (field_value w m name) × (reads_field w m name ≡ true)
     unfolding field_value
     field_goes m name h is =
         let kind = ap (λ k. field_type k name) (scope_is (seen w m) s m h.this h.locals) in
         let read = read_of m t m.this name h.objects h.this is kind in
         (read.fits, rw kind read.there)
 
-    told_of : (m : Machine) (c : Option ℕ) (q : Option Receiver) (name : List ℕ) → ObjectsFit schema (seen w m) → ThisFits (seen w m) c q → is_some (field_of_this c name) ≡ true
+    told_of : (m : Machine) (c : Option ℕ) (q : Option Receiver) (name : List ℕ) → ObjectsFit schema (seen w m) → ThisFits (seen w m) c q
+        → is_some (field_of_this c name) ≡ true
         → IsDeclared (typed schema.classes (option_map (λ (g : Field). g.type_name) (field_of_this c name)))
     told_of m None q name objects this is = cc
     told_of m (Some c) None name objects this is = absurd this
@@ -191,7 +206,8 @@ module _ (schema : Schema) (repos : ℕ) (sound : (c : ℕ) (d : Class) → slic
     class_stays (Some p) o c is h = cc
     class_stays None o c is h = cc
 
-    assign_of : (m : Machine) (c : Option ℕ) (q : Option Receiver) (name : List ℕ) (v : Value) (given : ExprType) → ThisFits (seen w m) c q → MachineFits w s m → is_some (field_of_this c name) ≡ true
+    assign_of : (m : Machine) (c : Option ℕ) (q : Option Receiver) (name : List ℕ) (v : Value) (given : ExprType) → ThisFits (seen w m) c q
+        → MachineFits w s m → is_some (field_of_this c name) ≡ true
         → fits (typed schema.classes (option_map (λ (g : Field). g.type_name) (field_of_this c name))) given ≡ true → ValueFits (seen w m) given v
         → Went w (Unit {0}) (Fits w s) m (Ok tt) (assign_receiver w q name v m) (Some (Ok tt, assign_receiver w q name v m))
     assign_of m None None name v given this h is suits fit = cc
@@ -203,7 +219,8 @@ module _ (schema : Schema) (repos : ℕ) (sound : (c : ℕ) (d : Class) → slic
         let at = find_field schema f q.oref c name d.0 h.objects this.1 d.1 in
         let class = class_there schema f q.oref c at.of in
         let told = field_told schema repos sound c class.0 name d.0 class.1 d.1 in
-        let good : ValueFits f (type_named schema.classes d.0.type_name) v = value_suits f _ given v told (subst (λ k. fits k given ≡ true) (typed_as (field_of schema.classes c name) d.0 d.1) suits) fit in
+        let good : ValueFits f (type_named schema.classes d.0.type_name) v =
+        value_suits f _ given v told (subst (λ k. fits k given ≡ true) (typed_as (field_of schema.classes c name) d.0 d.1) suits) fit in
         let o = record at.of.object { fields = slice_set at.of.object.fields at.place v } in
         let stays : (k : ℕ) → class_of f q.oref ≡ Some k → o.class ≡ k = λ k e. class_stays (f q.oref) at.of.object k at.of.at e in
         let there : slice_get (fields_of schema.classes at.of.object.class) at.place ≡ Some d.0 = rw at.of.class at.field in
@@ -215,7 +232,8 @@ module _ (schema : Schema) (repos : ℕ) (sound : (c : ℕ) (d : Class) → slic
 
     -- a field is given a value of its type
     pub assign_goes : (m : Machine) (name : List ℕ) (v : Value) (given : ExprType) → MachineFits w s m → is_some (field_of_this t name) ≡ true
-        → fits (field_type (scope_of s) name) given ≡ true → ValueFits (seen w m) given v → Went w (Unit {0}) (Fits w s) m (Ok tt) (assign_field w name v m) (Some (Ok tt, assign_field w name v m))
+        → fits (field_type (scope_of s) name) given ≡ true → ValueFits (seen w m) given v
+        → Went w (Unit {0}) (Fits w s) m (Ok tt) (assign_field w name v m) (Some (Ok tt, assign_field w name v m))
     unfolding assign_field
     assign_goes m name v given h is suits fit = assign_of m t m.this name v given h.this h is suits fit
 
@@ -225,7 +243,8 @@ module _ (schema : Schema) (repos : ℕ) (sound : (c : ℕ) (d : Class) → slic
     abbrev pub Valued : ExprType → Value → Machine → Type 0
     Valued k v n = MachineFits w s n × ValueFits (seen w n) k v
 
-    made_goes : (c : ℕ) (d : Class) (m : Machine) (n : Oref × NameSupply) → slice_get schema.classes c ≡ Some d → Taken (seen w m) (length m.created) m.names (new_object w c) n → MachineFits w s m
+    made_goes : (c : ℕ) (d : Class) (m : Machine) (n : Oref × NameSupply) → slice_get schema.classes c ≡ Some d
+        → Taken (seen w m) (length m.created) m.names (new_object w c) n → MachineFits w s m
         → let o = record m { writes = insert m.writes n.0 (new_object w c); created = m.created ++ n.0 ∷ []; names = n.1 } in
         Went w Value (Valued (type.Class c)) m (Ok (value.Ref n.0)) o (Some (Ok (value.Ref n.0), o))
     unfolding new_object seen
@@ -235,9 +254,14 @@ module _ (schema : Schema) (repos : ℕ) (sound : (c : ℕ) (d : Class) → slic
         let class : (k : ℕ) → class_of f n.0 ≡ Some k → o.class ≡ k = λ k e. class_of_none (f n.0) took.new k e in
         let names : NamesFit (put f n.0 o) (length (m.created ++ n.0 ∷ [])) n.1 = rw (one_longer m.created n.0) took.names in
         let p = written m n.0 o (m.created ++ n.0 ∷ []) n.1 class
-        (record { class = rw is refl; fields = begin_fields schema repos sound (put f n.0 o) (fields_of schema.classes c) (fields_told schema repos sound c d is) }) names h in
+        (record {
+          class = rw is refl;
+          fields =
+              begin_fields schema repos sound (put f n.0 o) (fields_of schema.classes c) (fields_told schema repos sound c d is);
+        }) names h in
         let e = ap (λ (g : Oref → Option Object). class_of g n.0) (insert_put m.writes at_hand n.0 o) in
-        gives w (Valued (type.Class c)) m _ (value.Ref n.0) p.0 (took.stands, λ k. IsSorted-insert oref_total m.writes n.0 o k) (p.1, e ∙ at_itself f n.0 o)
+        gives w (Valued (type.Class c)) m _ (value.Ref n.0) p.0 (took.stands, λ k. IsSorted-insert oref_total m.writes n.0 o k)
+        (p.1, e ∙ at_itself f n.0 o)
       where
         class_of_none : (a : Option Object) → a ≡ None → (k : ℕ) → option_map (λ (p : Object). p.class) a ≡ Some k → c ≡ k
         class_of_none None e k h = cc
@@ -246,14 +270,17 @@ module _ (schema : Schema) (repos : ℕ) (sound : (c : ℕ) (d : Class) → slic
         at_itself : (f : Oref → Option Object) (x : Oref) (o : Object) → class_of (put f x o) x ≡ Some o.class
         at_itself f x o = rw (same_itself x) refl
 
-    make_goes : (c repo : ℕ) (d : Class) (m : Machine) (n : Option (Oref × NameSupply)) → slice_get schema.classes c ≡ Some d → take_name repo m.names ≡ n → nat_lt (length m.created) CREATE_LIMIT ≡ true
+    make_goes : (c repo : ℕ) (d : Class) (m : Machine) (n : Option (Oref × NameSupply)) → slice_get schema.classes c ≡ Some d
+        → take_name repo m.names ≡ n → nat_lt (length m.created) CREATE_LIMIT ≡ true
         → MachineFits w s m → Went w Value (Valued (type.Class c)) m (make w c repo n m).0 (make w c repo n m).1 (Some (make w c repo n m))
-    make_goes c repo d m (Some n) is took few h = made_goes c d m n is (taken (seen w m) (length m.created) (new_object w c) repo m.names n h.names took) h
+    make_goes c repo d m (Some n) is took few h =
+        made_goes c d m n is (taken (seen w m) (length m.created) (new_object w c) repo m.names n h.names took) h
     make_goes c repo d m None is took few h = record {
       keeps = keeps_no w m;
       had = tt;
       stays = (λ k. k, λ k. k);
-      supply = λ stocked. absurd (none_there (take_name repo m.names) took (never_short (seen w m) (length m.created) (new_object w c) repo m.names stocked h.names few));
+      supply = λ stocked. absurd (none_there (take_name repo m.names) took
+          (never_short (seen w m) (length m.created) (new_object w c) repo m.names stocked h.names few));
       good = λ a e. cc;
       same = refl;
     }
@@ -261,8 +288,10 @@ module _ (schema : Schema) (repos : ℕ) (sound : (c : ℕ) (d : Class) → slic
         none_there : (o : Option (Oref × NameSupply)) → o ≡ None → is_some o ≡ true → ⊥
         none_there o e k = true≢false (sym k ∙ ap is_some e)
 
-    few_goes : (b : Bool) (c repo : ℕ) (d : Class) (m : Machine) → slice_get schema.classes c ≡ Some d → (b ≡ true → nat_lt (length m.created) CREATE_LIMIT ≡ true) → MachineFits w s m
-        → let made = cond b (make w c repo (take_name repo m.names) m) (Err (stop.Fault fault.Large), m) in Went w Value (Valued (type.Class c)) m made.0 made.1 (Some made)
+    few_goes : (b : Bool) (c repo : ℕ) (d : Class) (m : Machine) → slice_get schema.classes c ≡ Some d
+        → (b ≡ true → nat_lt (length m.created) CREATE_LIMIT ≡ true) → MachineFits w s m
+        → let made = cond b (make w c repo (take_name repo m.names) m) (Err (stop.Fault fault.Large), m) in Went w Value
+        (Valued (type.Class c)) m made.0 made.1 (Some made)
     few_goes true c repo d m is few h = make_goes c repo d m _ is refl (few refl) h
     few_goes false c repo d m is few h = faults w (Valued (type.Class c)) m fault.Large
 
@@ -272,7 +301,8 @@ module _ (schema : Schema) (repos : ℕ) (sound : (c : ℕ) (d : Class) → slic
     create_in_goes repo (Some k) c m is known h =
         let e : c ≡ k = cc in
         let d = there (slice_get schema.classes c) known in
-        subst (λ (i : ℕ). Went w Value (Valued (type.Class c)) m (create_in w repo (Some i) m).0 (create_in w repo (Some i) m).1 (Some (create_in w repo (Some i) m))) e
+        subst (λ (i : ℕ). Went w Value (Valued (type.Class c)) m (create_in w repo (Some i) m).0 (create_in w repo (Some i) m).1
+        (Some (create_in w repo (Some i) m))) e
         (few_goes (nat_lt (length m.created) CREATE_LIMIT) c repo d.0 m d.1 (λ k. k) h)
 
     -- a new object is of its class
@@ -280,4 +310,5 @@ module _ (schema : Schema) (repos : ℕ) (sound : (c : ℕ) (d : Class) → slic
         → Went w Value (Valued (type.Class c)) m (create w class at m).0 (create w class at m).1 (Some (create w class at m))
     unfolding create
     create_goes class at c m is h =
-        create_in_goes (repo_for m.this at) (class_named schema.classes class) c m is (stands_there (λ (d : Class). bytes_eq d.name.text class) schema.classes c is) h
+        create_in_goes (repo_for m.this at) (class_named schema.classes class) c m is
+        (stands_there (λ (d : Class). bytes_eq d.name.text class) schema.classes c is) h

@@ -33,7 +33,8 @@ values_keep f g k [] (v ∷ vs) h = absurd h
 values_keep f g k (t ∷ ts) [] h = absurd h
 values_keep f g k (t ∷ ts) (v ∷ vs) h = (value_keeps f g k t v h.0, values_keep f g k ts vs h.1)
 
-pub one_more_fits : (f : Oref → Option Object) (ks : List ExprType) (vs : List Value) (k : ExprType) (v : Value) → ValuesFit f ks vs → ValueFits f k v → ValuesFit f (ks ++ k ∷ []) (vs ++ v ∷ [])
+pub one_more_fits : (f : Oref → Option Object) (ks : List ExprType) (vs : List Value) (k : ExprType) (v : Value) → ValuesFit f ks vs
+    → ValueFits f k v → ValuesFit f (ks ++ k ∷ []) (vs ++ v ∷ [])
 one_more_fits f [] [] k v h fit = (fit, tt)
 one_more_fits f [] (u ∷ us) k v h fit = absurd h
 one_more_fits f (t ∷ ts) [] k v h fit = absurd h
@@ -46,7 +47,8 @@ ArgumentsFit f classes [] (v ∷ vs) = ⊥
 ArgumentsFit f classes (p ∷ ps) [] = ⊥
 ArgumentsFit f classes (p ∷ ps) (v ∷ vs) = ValueFits f (type_named classes p.type_name) v × ArgumentsFit f classes ps vs
 
-pub arguments_keep : (f g : Oref → Option Object) → Keeps f g → (classes : List Class) (ps : List Parameter) (vs : List Value) → ArgumentsFit f classes ps vs → ArgumentsFit g classes ps vs
+pub arguments_keep : (f g : Oref → Option Object) → Keeps f g → (classes : List Class) (ps : List Parameter) (vs : List Value)
+    → ArgumentsFit f classes ps vs → ArgumentsFit g classes ps vs
 arguments_keep f g k classes [] [] h = tt
 arguments_keep f g k classes [] (v ∷ vs) h = absurd h
 arguments_keep f g k classes (p ∷ ps) [] h = absurd h
@@ -75,7 +77,8 @@ module _ (s : Sight) (classes : List Class) where
       let p = nothing (argument_rules classes (Some q) (judged s e)) (arguments_rules classes qs (map (judged s) es)) h in
       ((nothing ((judged s e).broken AsValue) (argument_fits classes (Some q) (judged s e).kind (judged s e).line) p.0).0, unbroken qs es p.1)
 
-  pub arguments_fit : (f : Oref → Option Object) (ps : List Parameter) (es : List Expr) (vs : List Value) → arguments_rules classes ps (map (judged s) es) ≡ [] → length ps ≡ length (map (judged s) es)
+  pub arguments_fit : (f : Oref → Option Object) (ps : List Parameter) (es : List Expr) (vs : List Value)
+      → arguments_rules classes ps (map (judged s) es) ≡ [] → length ps ≡ length (map (judged s) es)
       → Told classes ps → ValuesFit f (kinds es) vs → ArgumentsFit f classes ps vs
   arguments_fit f [] [] [] h n told fit = tt
   arguments_fit f [] [] (v ∷ vs) h n told fit = absurd fit
@@ -90,7 +93,8 @@ module _ (s : Sight) (classes : List Class) where
       )
 
 -- the parameters with their arguments are the locals that the check of the body saw
-pub bound_fits : (f : Oref → Option Object) (classes : List Class) (ps : List Parameter) (us vs : List Value) (n : ℕ) → ((k : ℕ) → slice_get vs (n + k) ≡ slice_get us k)
+pub bound_fits : (f : Oref → Option Object) (classes : List Class) (ps : List Parameter) (us vs : List Value) (n : ℕ)
+    → ((k : ℕ) → slice_get vs (n + k) ≡ slice_get us k)
     → Told classes ps → ArgumentsFit f classes ps us → LocalsFit f (map (parameter_named classes) ps) (bound_from classes n ps vs)
 bound_fits f classes [] us vs n at told fit = tt
 bound_fits f classes (p ∷ ps) [] vs n at told fit = absurd fit

@@ -65,16 +65,21 @@ module _ (schema : Schema) (repos : ℕ) (at_hand : Oref → Option Object) wher
 
   -- expressions that break no rule give values of their types
   abbrev pub ValuesGo : (Expr → Action Value) → (Expr → Sure Value) → Type 0
-  ValuesGo v u = (t : Option ℕ) (r : ExprType) (l : List NamedType) (e : Expr) (place : Position) → (judged (sight_of schema repos t r l) e).broken place ≡ [] → (m : Machine) → MachineFits (over schema at_hand) (sight_of schema repos t r l) m
-      → Went (over schema at_hand) Value (ValueGood (sight_of schema repos t r l) (judged (sight_of schema repos t r l) e).kind) m (v e m).0 (v e m).1 (u e m)
+  ValuesGo v u = (t : Option ℕ) (r : ExprType) (l : List NamedType) (e : Expr) (place : Position)
+      → (judged (sight_of schema repos t r l) e).broken place ≡ [] → (m : Machine) → MachineFits (over schema at_hand) (sight_of schema repos t r l) m
+      → Went (over schema at_hand) Value (ValueGood (sight_of schema repos t r l) (judged (sight_of schema repos t r l) e).kind) m (v e m).0
+      (v e m).1 (u e m)
 
   -- and blocks that break no rule end well
   abbrev pub BlocksGo : (List Stmt → Action Flow) → (List Stmt → Sure Flow) → Type 0
-  BlocksGo b d = (t : Option ℕ) (r : ExprType) (l : List NamedType) (ss : List Stmt) → block_rules (sight_of schema repos t r l) ss ≡ [] → (m : Machine) → MachineFits (over schema at_hand) (sight_of schema repos t r l) m
+  BlocksGo b d = (t : Option ℕ) (r : ExprType) (l : List NamedType) (ss : List Stmt) → block_rules (sight_of schema repos t r l) ss ≡ []
+      → (m : Machine) → MachineFits (over schema at_hand) (sight_of schema repos t r l) m
       → Went (over schema at_hand) Flow (FlowGood (sight_of schema repos t r l)) m (b ss m).0 (b ss m).1 (d ss m)
 
-module _ (schema : Schema) (repos : ℕ) (sound : (c : ℕ) (d : Class) → slice_get schema.classes c ≡ Some d → ClassSound schema repos c d) (at_hand : Oref → Option Object)
-    (v : Expr → Action Value) (u : Expr → Sure Value) (b : List Stmt → Action Flow) (d : List Stmt → Sure Flow) (values : ValuesGo schema repos at_hand v u) (blocks : BlocksGo schema repos at_hand b d) where
+module _ (schema : Schema) (repos : ℕ) (sound : (c : ℕ) (d : Class) → slice_get schema.classes c ≡ Some d → ClassSound schema repos c d)
+    (at_hand : Oref → Option Object)
+    (v : Expr → Action Value) (u : Expr → Sure Value) (b : List Stmt → Action Flow) (d : List Stmt → Sure Flow)
+    (values : ValuesGo schema repos at_hand v u) (blocks : BlocksGo schema repos at_hand b d) where
   abbrev w : World
   w = over schema at_hand
 
@@ -90,14 +95,17 @@ module _ (schema : Schema) (repos : ℕ) (sound : (c : ℕ) (d : Class) → slic
 
     -- ---- the body of a method
 
-    result_fits : (f : Oref → Option Object) (method : Method) (flow : Flow) → IsDeclared (type_named schema.classes method.result) → FlowFits f (type_named schema.classes method.result) flow
+    result_fits : (f : Oref → Option Object) (method : Method) (flow : Flow) → IsDeclared (type_named schema.classes method.result)
+        → FlowFits f (type_named schema.classes method.result) flow
         → ValueFits f (type_named schema.classes method.result) (result_of schema.classes method flow)
     result_fits f method (Returned u) told h = h told
     result_fits f method Next told h = begins f (type_named schema.classes method.result) told
 
-    body_goes : (this : Receiver) (c : ℕ) (method : Method) (us : List Value) (m : Machine) → this.class ≡ c → class_of (seen w m) this.oref ≡ Some c → MethodSound schema repos c method
+    body_goes : (this : Receiver) (c : ℕ) (method : Method) (us : List Value) (m : Machine) → this.class ≡ c
+        → class_of (seen w m) this.oref ≡ Some c → MethodSound schema repos c method
         → ArgumentsFit (seen w m) schema.classes method.parameters us → MachineFits w s m
-        → Went w Value (Valued (type_named schema.classes method.result)) m (run_body w b this method us m).0 (run_body w b this method us m).1 (strict_body w d this method us m)
+        → Went w Value (Valued (type_named schema.classes method.result)) m (run_body w b this method us m).0 (run_body w b this method us m).1
+        (strict_body w d this method us m)
     unfolding run_body strict_body seen
     body_goes this c method us m class is ok fit h =
         let inside = record m { depth = m.depth + 1; this = Some this; locals = bound schema.classes method.parameters us } in
@@ -106,36 +114,43 @@ module _ (schema : Schema) (repos : ℕ) (sound : (c : ℕ) (d : Class) → slic
         let fits : MachineFits w callee inside = record {
           objects = h.objects;
           this = (class, is);
-          locals = bound_fits (seen w m) schema.classes method.parameters us us 0 (λ n. let z : 0 + n ≡ n = omega arith in rw z refl) ok.parameters fit;
+          locals = bound_fits (seen w m) schema.classes method.parameters us us 0
+              (λ n. let z : 0 + n ≡ n = omega arith in rw z refl) ok.parameters fit;
           names = h.names;
         } in
         let went = blocks (Some c) k (map (parameter_named schema.classes) method.parameters) method.body ok.body inside fits in
         on w (FlowGood schema repos at_hand callee) (Valued k) m (b method.body inside).1 (b method.body inside).0 _ (d method.body inside) _
         (record { keeps = went.keeps; had = went.had; stays = went.stays; supply = went.supply; good = went.good; same = went.same })
         (λ flow good keeps.
-            let n = (b method.body inside).1 in
-            let back = record n { depth = m.depth; this = m.this; locals = m.locals } in
-            let result = result_of schema.classes method flow in
-            let fit = result_fits (seen w n) method flow (type_told schema.classes method.result (free_is_type schema.classes method.result ok.result)) good.1 in
-            where_ends (seen w n) k result n back (is_of_so (seen w n) k result fit)
-            (gives w (Valued k) n back result (λ x e q. q) (λ e. e, λ e. e)
-            (record {
-              objects = good.0.objects;
-              this = this_keeps (seen w m) (seen w n) keeps t m.this h.this;
-              locals = locals_keep (seen w m) (seen w n) keeps l m.locals h.locals;
-              names = good.0.names;
-            }, fit)))
+        let n = (b method.body inside).1 in
+        let back = record n { depth = m.depth; this = m.this; locals = m.locals } in
+        let result = result_of schema.classes method flow in
+        let fit = result_fits (seen w n) method flow (type_told schema.classes method.result
+        (free_is_type schema.classes method.result ok.result)) good.1 in
+        where_ends (seen w n) k result n back (is_of_so (seen w n) k result fit)
+        (gives w (Valued k) n back result (λ x e q. q) (λ e. e, λ e. e) (
+          record {
+            objects = good.0.objects;
+            this = this_keeps (seen w m) (seen w n) keeps t m.this h.this;
+            locals = locals_keep (seen w m) (seen w n) keeps l m.locals h.locals;
+            names = good.0.names;
+          },
+          fit,
+        )))
       where
-        where_ends : (f : Oref → Option Object) (k : ExprType) (result : Value) (n back : Machine) → is_of f k result ≡ true → Went w Value (Valued k) n (Ok result) back (Some (Ok result, back))
+        where_ends : (f : Oref → Option Object) (k : ExprType) (result : Value) (n back : Machine) → is_of f k result ≡ true
+            → Went w Value (Valued k) n (Ok result) back (Some (Ok result, back))
             → Went w Value (Valued k) n (Ok result) back (only_if (is_of f k result) (λ q. Some (Ok result, q)) back)
         where_ends f k result n back is went = rw is went
 
     -- ---- calls
 
-    method_declared : (c : ℕ) (d : Class) (name : List ℕ) (method : Method) → slice_get schema.classes c ≡ Some d → method_of schema.classes c name ≡ Some method → MethodSound schema repos c method
+    method_declared : (c : ℕ) (d : Class) (name : List ℕ) (method : Method) → slice_get schema.classes c ≡ Some d
+        → method_of schema.classes c name ≡ Some method → MethodSound schema repos c method
     method_declared c d name method at is =
         let e : method_of schema.classes c name ≡ find (λ (q : Method). bytes_eq q.name.text name) d.methods = rw at refl in
-        method_sound schema repos c method (found (λ (q : Method). method_rules schema repos c q ≡ []) (λ (q : Method). bytes_eq q.name.text name) d.methods method (sound c d at).methods (sym e ∙ is))
+        method_sound schema repos c method (found (λ (q : Method). method_rules schema repos c q ≡ [])
+        (λ (q : Method). bytes_eq q.name.text name) d.methods method (sound c d at).methods (sym e ∙ is))
 
     abbrev judgements : List Expr → List Judged
     judgements es = map (judged s) es
@@ -152,59 +167,86 @@ module _ (schema : Schema) (repos : ℕ) (sound : (c : ℕ) (d : Class) → slic
       checked : MethodSound schema repos c method
       fit : ArgumentsFit (seen w m) schema.classes method.parameters us
 
-    class_behind : (o : Option Class) (name : List ℕ) (method : Method) → option_and_then (λ (k : Class). find (λ (q : Method). bytes_eq q.name.text name) k.methods) o ≡ Some method → is_some o ≡ true
+    class_behind : (o : Option Class) (name : List ℕ) (method : Method)
+        → option_and_then (λ (k : Class). find (λ (q : Method). bytes_eq q.name.text name) k.methods) o ≡ Some method → is_some o ≡ true
     class_behind (Some k) name method is = refl
     class_behind None name method is = cc
 
-    ready_at : (c : ℕ) (name : Name) (o : Option Method) (es : List Expr) (us : List Value) (m : Machine) → method_of schema.classes c name.text ≡ o → called_rules (type.Class c) o name (length (judgements es)) ≡ []
-        → arguments_rules schema.classes (parameters_of o) (judgements es) ≡ [] → ValuesFit (seen w m) (kinds s schema.classes es) us → Ready c name.text us m
+    ready_at : (c : ℕ) (name : Name) (o : Option Method) (es : List Expr) (us : List Value) (m : Machine)
+        → method_of schema.classes c name.text ≡ o → called_rules (type.Class c) o name (length (judgements es)) ≡ []
+        → arguments_rules schema.classes (parameters_of o) (judgements es) ≡ [] → ValuesFit (seen w m) (kinds s schema.classes es) us
+        → Ready c name.text us m
     ready_at c name None es us m at called given fit = cc
     ready_at c name (Some method) es us m at called given fit =
         let k = there (slice_get schema.classes c) (class_behind (slice_get schema.classes c) name.text method at) in
         let ok = method_declared c k.0 name.text method k.1 at in
-        let count : length method.parameters ≡ length (judgements es) = sym (one_number (length method.parameters) (length (judgements es)) (held _ _ _ called)) in
-        record { method = method; is = at; checked = ok; fit = arguments_fit s schema.classes (seen w m) method.parameters es us given count ok.parameters fit }
+        let count : length method.parameters ≡ length (judgements es) =
+        sym (one_number (length method.parameters) (length (judgements es)) (held _ _ _ called)) in
+        record {
+          method = method;
+          is = at;
+          checked = ok;
+          fit =
+              arguments_fit s schema.classes (seen w m) method.parameters es us given count ok.parameters fit;
+        }
 
-    ready : (c : ℕ) (name : Name) (es : List Expr) (us : List Value) (m : Machine) → CallUnbroken (type.Class c) name es → ValuesFit (seen w m) (kinds s schema.classes es) us → Ready c name.text us m
+    ready : (c : ℕ) (name : Name) (es : List Expr) (us : List Value) (m : Machine) → CallUnbroken (type.Class c) name es
+        → ValuesFit (seen w m) (kinds s schema.classes es) us → Ready c name.text us m
     ready c name es us m ok fit = ready_at c name (method_of schema.classes c name.text) es us m refl ok.called ok.given fit
 
-    takes_so : (c : ℕ) (name : List ℕ) (us : List Value) (m : Machine) → Ready c name us m → takes_arguments (seen w m) schema.classes (method_of schema.classes c name) us ≡ true
+    takes_so : (c : ℕ) (name : List ℕ) (us : List Value) (m : Machine) → Ready c name us m
+        → takes_arguments (seen w m) schema.classes (method_of schema.classes c name) us ≡ true
     takes_so c name us m r = rw r.is (arguments_so (seen w m) schema.classes r.method.parameters us r.fit)
 
-    enter_goes : (this : Receiver) (c : ℕ) (o : Option Method) (method : Method) (us : List Value) (m : Machine) → o ≡ Some method → MethodSound schema repos c method → this.class ≡ c → class_of (seen w m) this.oref ≡ Some c
+    enter_goes : (this : Receiver) (c : ℕ) (o : Option Method) (method : Method) (us : List Value) (m : Machine) → o ≡ Some method
+        → MethodSound schema repos c method → this.class ≡ c → class_of (seen w m) this.oref ≡ Some c
         → ArgumentsFit (seen w m) schema.classes method.parameters us → MachineFits w s m
-        → Went w Value (Valued (typed schema.classes (option_map (λ (q : Method). q.result) o))) m (enter w b this o us m).0 (enter w b this o us m).1 (strict_enter w d this o us m)
+        → Went w Value (Valued (typed schema.classes (option_map (λ (q : Method). q.result) o))) m (enter w b this o us m).0
+        (enter w b this o us m).1 (strict_enter w d this o us m)
     enter_goes this c None method us m e ok class is fit h = cc
     enter_goes this c (Some other) method us m e ok class is fit h =
         let p : method ≡ other = cc in
-        body_goes this c other us m class is (subst (MethodSound schema repos c) p ok) (subst (λ (q : Method). ArgumentsFit (seen w m) schema.classes q.parameters us) p fit) h
+        body_goes this c other us m class is (subst (MethodSound schema repos c) p ok)
+        (subst (λ (q : Method). ArgumentsFit (seen w m) schema.classes q.parameters us) p fit) h
 
-    object_goes : (few : Bool) (c : ℕ) (x : Oref) (owners : List Oref) (name : List ℕ) (us : List Value) (m : Machine) → Ready c name us m → class_of (seen w m) x ≡ Some c → MachineFits w s m
+    object_goes : (few : Bool) (c : ℕ) (x : Oref) (owners : List Oref) (name : List ℕ) (us : List Value) (m : Machine) → Ready c name us m
+        → class_of (seen w m) x ≡ Some c → MachineFits w s m
         → let this : Receiver = record { oref = x; class = c; owners = owners } in
-        let goes : Result Value Stop × Machine = cond few (after (touch w owners x m).0 (touch w owners x m).1 (λ found. enter_as w b this found (method_of schema.classes c name) us)) (Err (stop.Fault fault.Depth), m) in
-        let strict : Option (Result Value Stop × Machine) = cond few (onward (Some (touch w owners x m)) (λ found. only_if (found == c) (strict_enter w d this (method_of schema.classes c name) us))) (Some (Err (stop.Fault fault.Depth), m)) in
+        let goes : Result Value Stop × Machine =
+        cond few (after (touch w owners x m).0 (touch w owners x m).1 (λ found. enter_as w b this found (method_of schema.classes c name) us))
+        (Err (stop.Fault fault.Depth), m) in
+        let strict : Option (Result Value Stop × Machine) =
+        cond few (onward (Some (touch w owners x m))
+        (λ found. only_if (found == c) (strict_enter w d this (method_of schema.classes c name) us))) (Some (Err (stop.Fault fault.Depth), m)) in
         Went w Value (Valued (result_type schema.classes (type.Class c) name)) m goes.0 goes.1 strict
     object_goes false c x owners name us m r is h = faults w (Valued (result_type schema.classes (type.Class c) name)) m fault.Depth
     object_goes true c x owners name us m ready is h =
         let this : Receiver = record { oref = x; class = c; owners = owners } in
         let k = result_type schema.classes (type.Class c) name in
         let method = method_of schema.classes c name in
-        on w (Entered schema repos sound at_hand t r l c) (Valued k) m (touch w owners x m).1 (touch w owners x m).0 _ (Some (touch w owners x m)) _ (touch_goes schema repos sound at_hand t r l owners x c m is h)
+        on w (Entered schema repos sound at_hand t r l c) (Valued k) m (touch w owners x m).1 (touch w owners x m).0 _
+        (Some (touch w owners x m)) _ (touch_goes schema repos sound at_hand t r l owners x c m is h)
         (λ found good keeps.
-            let n = (touch w owners x m).1 in
-            choose w (Valued k) (found == c) (enter w b this method us) (λ q. (Err (stop.Fault fault.NullCall), q)) (strict_enter w d this method us) n (same_number found c good.0)
-            (enter_goes this c method ready.method us n ready.is ready.checked refl (keeps x c is) (arguments_keep (seen w m) (seen w n) keeps schema.classes ready.method.parameters us ready.fit) good.1))
+        let n = (touch w owners x m).1 in
+        choose w (Valued k) (found == c) (enter w b this method us) (λ q. (Err (stop.Fault fault.NullCall), q))
+        (strict_enter w d this method us) n (same_number found c good.0)
+        (enter_goes this c method ready.method us n ready.is ready.checked refl (keeps x c is)
+        (arguments_keep (seen w m) (seen w n) keeps schema.classes ready.method.parameters us ready.fit) good.1))
 
-    call_goes : (k : ExprType) (a : Value) (name : Name) (es : List Expr) (us : List Value) (m : Machine) → CallUnbroken k name es → ValueFits (seen w m) k a
+    call_goes : (k : ExprType) (a : Value) (name : Name) (es : List Expr) (us : List Value) (m : Machine) → CallUnbroken k name es
+        → ValueFits (seen w m) k a
         → ValuesFit (seen w m) (kinds s schema.classes es) us → MachineFits w s m
-        → Went w Value (Valued (result_type schema.classes k name.text)) m (call w b k a name.text us m).0 (call w b k a name.text us m).1 (strict_call w d k a name.text us m)
+        → Went w Value (Valued (result_type schema.classes k name.text)) m (call w b k a name.text us m).0 (call w b k a name.text us m).1
+        (strict_call w d k a name.text us m)
     unfolding call call_object strict_call strict_object
     call_goes (type.Class c) (value.Ref x) name es us m ok is fit h =
         let r = ready c name es us m ok fit in
-        where_so w (Valued (result_type schema.classes (type.Class c) name.text)) _ (strict_object w d c x name.text us) m _ _ (takes_so c name.text us m r)
+        where_so w (Valued (result_type schema.classes (type.Class c) name.text)) _ (strict_object w d c x name.text us) m _ _
+        (takes_so c name.text us m r)
         (object_goes (nat_lt m.depth DEPTH_LIMIT) c x (owners_at schema.classes c m) name.text us m r is h)
     call_goes (type.Class c) value.Null name es us m ok is fit h =
-        where_so w (Valued (result_type schema.classes (type.Class c) name.text)) _ (λ q. Some (Err (stop.Fault fault.NullCall), q)) m _ _ (takes_so c name.text us m (ready c name es us m ok fit))
+        where_so w (Valued (result_type schema.classes (type.Class c) name.text)) _ (λ q. Some (Err (stop.Fault fault.NullCall), q)) m _ _
+        (takes_so c name.text us m (ready c name es us m ok fit))
         (faults w (Valued (result_type schema.classes (type.Class c) name.text)) m fault.NullCall)
     call_goes (type.Class c) (value.Int n) name es us m ok is fit h = absurd is
     call_goes type.Int a name es us m ok is fit h = absurd (true≢false (sym (held false T2 name.line ok.called)))
@@ -216,26 +258,32 @@ module _ (schema : Schema) (repos : ℕ) (sound : (c : ℕ) (d : Class) → slic
     abbrev Listed : List ExprType → List Value → Machine → Type 0
     Listed ks us n = MachineFits w s n × ValuesFit (seen w n) ks us
 
-    values_from_go : (es : List Expr) (ks : List ExprType) (us : List Value) (m : Machine) → Unbroken s schema.classes es → MachineFits w s m → ValuesFit (seen w m) ks us
-        → Went w (List Value) (Listed (ks ++ kinds s schema.classes es)) m (values_from w v b us es m).0 (values_from w v b us es m).1 (strict_values_from w u d us es m)
+    values_from_go : (es : List Expr) (ks : List ExprType) (us : List Value) (m : Machine) → Unbroken s schema.classes es → MachineFits w s m
+        → ValuesFit (seen w m) ks us
+        → Went w (List Value) (Listed (ks ++ kinds s schema.classes es)) m (values_from w v b us es m).0 (values_from w v b us es m).1
+        (strict_values_from w u d us es m)
     values_from_go [] ks us m ok h fit = good_value w (Listed (ks ++ [])) m us (rw (append-nil ks) (h, fit))
     values_from_go (e ∷ es) ks us m ok h fit =
         let k = (judged s e).kind in
         on w (Valued k) (Listed (ks ++ k ∷ kinds s schema.classes es)) m (v e m).1 (v e m).0 _ (u e m) _ (values t r l e AsValue ok.0 m h)
         (λ x good keeps.
         let n = (v e m).1 in
-        let went = values_from_go es (ks ++ k ∷ []) (us ++ x ∷ []) n ok.1 good.0 (one_more_fits (seen w n) ks us k x (values_keep (seen w m) (seen w n) keeps ks us fit) good.1) in
-        subst (λ (qs : List ExprType). Went w (List Value) (Listed qs) n (values_from w v b (us ++ x ∷ []) es n).0 (values_from w v b (us ++ x ∷ []) es n).1 (strict_values_from w u d (us ++ x ∷ []) es n))
+        let went = values_from_go es (ks ++ k ∷ []) (us ++ x ∷ []) n ok.1 good.0
+        (one_more_fits (seen w n) ks us k x (values_keep (seen w m) (seen w n) keeps ks us fit) good.1) in
+        subst (λ (qs : List ExprType). Went w (List Value) (Listed qs) n (values_from w v b (us ++ x ∷ []) es n).0
+        (values_from w v b (us ++ x ∷ []) es n).1 (strict_values_from w u d (us ++ x ∷ []) es n))
         (append_assoc ks (k ∷ []) (kinds s schema.classes es)) went)
 
     values_of_go : (es : List Expr) (m : Machine) → Unbroken s schema.classes es → MachineFits w s m
-        → Went w (List Value) (Listed (kinds s schema.classes es)) m (values_of w v b es m).0 (values_of w v b es m).1 (strict_values_from w u d [] es m)
+        → Went w (List Value) (Listed (kinds s schema.classes es)) m (values_of w v b es m).0 (values_of w v b es m).1
+        (strict_values_from w u d [] es m)
     unfolding values_of
     values_of_go es m ok h = values_from_go es [] [] m ok h tt
 
     -- ---- one node
 
-    this_fits : (f : Oref → Option Object) (c : Option ℕ) (q : Option Receiver) → ThisFits f c q → is_some c ≡ true → ValueFits f (unwrap_or (option_map type.Class c) type.Untold) (this_value q)
+    this_fits : (f : Oref → Option Object) (c : Option ℕ) (q : Option Receiver) → ThisFits f c q → is_some c ≡ true
+        → ValueFits f (unwrap_or (option_map type.Class c) type.Untold) (this_value q)
     this_fits f None q h is = cc
     this_fits f (Some c) None h is = absurd h
     this_fits f (Some c) (Some q) h is = h.1
@@ -248,26 +296,34 @@ module _ (schema : Schema) (repos : ℕ) (sound : (c : ℕ) (d : Class) → slic
     combined_fits f Unequal a c = tt
     combined_fits f Less a c = tt
 
-    called_goes : (receiver : Expr) (name : Name) (es : List Expr) (m : Machine) → call_rules s (judged s receiver) name (judgements es) ≡ [] → MachineFits w s m
+    called_goes : (receiver : Expr) (name : Name) (es : List Expr) (m : Machine) → call_rules s (judged s receiver) name (judgements es) ≡ []
+        → MachineFits w s m
         → let went = value_at w v b (Expr-F.Call receiver name es) m in
-        Went w Value (Valued (result_type schema.classes (judged s receiver).kind name.text)) m went.0 went.1 (strict_value_at w u d (Expr-F.Call receiver name es) m)
+        Went w Value (Valued (result_type schema.classes (judged s receiver).kind name.text)) m went.0 went.1
+        (strict_value_at w u d (Expr-F.Call receiver name es) m)
     called_goes receiver name es m h fits =
         let k = (judged s receiver).kind in
         let method = method_called schema.classes k name in
-        let p = nothing ((judged s receiver).broken AsReceiver ++ called_rules k method name (length (judgements es))) (arguments_rules schema.classes (parameters_of method) (judgements es)) h in
+        let p = nothing ((judged s receiver).broken AsReceiver ++ called_rules k method name (length (judgements es)))
+        (arguments_rules schema.classes (parameters_of method) (judgements es)) h in
         let q = nothing ((judged s receiver).broken AsReceiver) (called_rules k method name (length (judgements es))) p.0 in
-        let kind : type_of (scope_at schema m) receiver ≡ k = ap (λ c. type_of c receiver) (scope_is (seen w m) s m fits.this fits.locals) ∙ sym (kind_is s receiver) in
+        let kind : type_of (scope_at schema m) receiver ≡ k = ap (λ c. type_of c receiver) (scope_is (seen w m) s m fits.this fits.locals)
+        ∙ sym (kind_is s receiver) in
         let known = result_type schema.classes k name.text in
         on w (Valued k) (Valued known) m (v receiver m).1 (v receiver m).0 _ (u receiver m) _ (values t r l receiver AsReceiver q.0 m fits)
         (λ a good keeps.
         let n = (v receiver m).1 in
-        on w (Listed (kinds s schema.classes es)) (Valued known) n (values_of w v b es n).1 (values_of w v b es n).0 _ (strict_values_from w u d [] es n) _ (values_of_go es n (unbroken s schema.classes (parameters_of method) es p.1) good.0)
+        on w (Listed (kinds s schema.classes es)) (Valued known) n (values_of w v b es n).1 (values_of w v b es n).0 _
+        (strict_values_from w u d [] es n) _ (values_of_go es n (unbroken s schema.classes (parameters_of method) es p.1) good.0)
         (λ us listed more.
         let o = (values_of w v b es n).1 in
-        let went = call_goes k a name es us o (record { called = q.1; given = p.1 }) (value_keeps (seen w n) (seen w o) more k a good.1) listed.1 listed.0 in
-        subst (λ (j : ExprType). Went w Value (Valued known) o (call w b j a name.text us o).0 (call w b j a name.text us o).1 (strict_call w d j a name.text us o)) (sym kind) went))
+        let went = call_goes k a name es us o (record { called = q.1; given = p.1 })
+        (value_keeps (seen w n) (seen w o) more k a good.1) listed.1 listed.0 in
+        subst (λ (j : ExprType). Went w Value (Valued known) o (call w b j a name.text us o).0 (call w b j a name.text us o).1
+        (strict_call w d j a name.text us o)) (sym kind) went))
 
-    this_goes : (line : ℕ) (m : Machine) → is_some t ≡ true → MachineFits w s m → Valued (unwrap_or (option_map type.Class t) type.Untold) (this_value m.this) m
+    this_goes : (line : ℕ) (m : Machine) → is_some t ≡ true → MachineFits w s m
+        → Valued (unwrap_or (option_map type.Class t) type.Untold) (this_value m.this) m
     this_goes line m is h = (h, this_fits (seen w m) t m.this h.this is)
 
     named_goes : (m : Machine) (name : List ℕ) → is_some (type_in_sight s name) ≡ true → MachineFits w s m
@@ -283,7 +339,8 @@ module _ (schema : Schema) (repos : ℕ) (sound : (c : ℕ) (d : Class) → slic
     this_there f (Some c) None h is = absurd h
     this_there f (Some c) (Some q) h is = refl
 
-    new_goes : (class : Name) (at : Option At) (o : Option ℕ) (m : Machine) → class_named schema.classes class.text ≡ o → is_some o ≡ true → MachineFits w s m
+    new_goes : (class : Name) (at : Option At) (o : Option ℕ) (m : Machine) → class_named schema.classes class.text ≡ o → is_some o ≡ true
+        → MachineFits w s m
         → Went w Value (Valued (class_or_untold o)) m (create w class.text at m).0 (create w class.text at m).1 (Some (create w class.text at m))
     new_goes class at (Some c) m is known h = create_goes schema repos sound at_hand t r l class.text at c m is h
     new_goes class at None m is known h = cc
@@ -299,20 +356,26 @@ module _ (schema : Schema) (repos : ℕ) (sound : (c : ℕ) (d : Class) → slic
     node_goes (Expr-F.This line) place m ok h =
         let is = held _ _ _ (nothing (must (is_some t) T2 line) _ ok).0 in
         let k = node_kind (Expr-F.This line) in
-        where_so w (Valued k) (is_some m.this) (λ q. Some (Ok (this_value m.this), q)) m _ _ (this_there (seen w m) t m.this h.this is) (good_value w (Valued k) m (this_value m.this) (this_goes line m is h))
+        where_so w (Valued k) (is_some m.this) (λ q. Some (Ok (this_value m.this), q)) m _ _ (this_there (seen w m) t m.this h.this is)
+        (good_value w (Valued k) m (this_value m.this) (this_goes line m is h))
     node_goes (Expr-F.Field name) place m ok h =
         let is = held _ _ _ (nothing (must (is_some (option_and_then (λ c. field_of schema.classes c name.text) t)) T2 name.line) _ ok).0 in
         let k = node_kind (Expr-F.Field name) in
         let read = field_goes schema repos sound at_hand t r l m name.text h is in
-        where_so w (Valued k) (reads_field w m name.text) (λ q. Some (Ok (field_value w m name.text), q)) m _ _ read.1 (good_value w (Valued k) m (field_value w m name.text) (h, read.0))
+        where_so w (Valued k) (reads_field w m name.text) (λ q. Some (Ok (field_value w m name.text), q)) m _ _ read.1
+        (good_value w (Valued k) m (field_value w m name.text) (h, read.0))
     node_goes (Expr-F.Variable name) place m ok h =
         let k = node_kind (Expr-F.Variable name) in
         let read = named_goes m name.text (held _ _ _ ok) h in
-        where_so w (Valued k) (reads_name w m name.text) (λ q. Some (Ok (named_value schema m name.text), q)) m _ _ read.1 (good_value w (Valued k) m (named_value schema m name.text) (h, read.0))
+        where_so w (Valued k) (reads_name w m name.text) (λ q. Some (Ok (named_value schema m name.text), q)) m _ _ read.1
+        (good_value w (Valued k) m (named_value schema m name.text) (h, read.0))
     node_goes (Expr-F.New class at) place m ok h =
-        let p = nothing (is_class schema.classes class ++ must (may_be_made place || not (is_part schema.classes (class_or_untold (class_named schema.classes class.text)))) T8 class.line) (at_rules s at) ok in
+        let p = nothing (is_class schema.classes class ++ must
+        (may_be_made place || not (is_part schema.classes (class_or_untold (class_named schema.classes class.text)))) T8 class.line)
+        (at_rules s at) ok in
         let is = held _ _ _ (nothing (is_class schema.classes class) _ p.0).0 in
-        where_so w (Valued (node_kind (Expr-F.New class at))) (is_some (class_named schema.classes class.text)) (λ q. Some (create w class.text at q)) m _ _ is
+        where_so w (Valued (node_kind (Expr-F.New class at))) (is_some (class_named schema.classes class.text))
+        (λ q. Some (create w class.text at q)) m _ _ is
         (new_goes class at (class_named schema.classes class.text) m refl is h)
     node_goes (Expr-F.Parens inner line) place m ok h = values t r l inner AsValue ok m h
     node_goes (Expr-F.Negate operand line) place m ok h =
@@ -320,8 +383,9 @@ module _ (schema : Schema) (repos : ℕ) (sound : (c : ℕ) (d : Class) → slic
         on w (Valued (judged s operand).kind) (Valued type.Int) m (v operand m).1 (v operand m).0 _ (u operand m) _
         (values t r l operand AsValue p.0 m h)
         (λ a good keeps.
-            let n = (v operand m).1 in
-            where_so w (Valued type.Int) (is_int a) _ n _ _ (number_so (seen w n) (judged s operand).kind a (held _ _ _ p.1) good.1) (good_value w (Valued type.Int) n _ (good.0, tt)))
+        let n = (v operand m).1 in
+        where_so w (Valued type.Int) (is_int a) _ n _ _ (number_so (seen w n) (judged s operand).kind a (held _ _ _ p.1) good.1)
+        (good_value w (Valued type.Int) n _ (good.0, tt)))
     node_goes (Expr-F.Binary operator left right line) place m ok h =
         let before = beside operator (judged s right).null in
         let behind = beside operator (judged s left).null in
@@ -331,13 +395,14 @@ module _ (schema : Schema) (repos : ℕ) (sound : (c : ℕ) (d : Class) → slic
         let q = nothing ((judged s left).broken before) ((judged s right).broken behind) p.0 in
         on w (Valued j) (Valued type.Int) m (v left m).1 (v left m).0 _ (u left m) _ (values t r l left before q.0 m h)
         (λ a good keeps.
-            let n = (v left m).1 in
-            on w (Valued k) (Valued type.Int) n (v right n).1 (v right n).0 _ (u right n) _ (values t r l right behind q.1 n good.0)
-            (λ c well more.
-                let o = (v right n).1 in
-                let fit = value_keeps (seen w n) (seen w o) more j a good.1 in
-                where_so w (Valued type.Int) (are_operands operator a c) _ o _ _ (operands_so (seen w o) schema.classes operator j k a c (held _ _ _ p.1) fit well.1)
-                (good_value w (Valued type.Int) o (combined operator a c) (well.0, combined_fits (seen w o) operator a c))))
+        let n = (v left m).1 in
+        on w (Valued k) (Valued type.Int) n (v right n).1 (v right n).0 _ (u right n) _ (values t r l right behind q.1 n good.0)
+        (λ c well more.
+        let o = (v right n).1 in
+        let fit = value_keeps (seen w n) (seen w o) more j a good.1 in
+        where_so w (Valued type.Int) (are_operands operator a c) _ o _ _
+        (operands_so (seen w o) schema.classes operator j k a c (held _ _ _ p.1) fit well.1)
+        (good_value w (Valued type.Int) o (combined operator a c) (well.0, combined_fits (seen w o) operator a c))))
     node_goes (Expr-F.Call receiver name es) place m ok h = called_goes receiver name es m ok h
 
   -- an expression that breaks no rule gives a value of its type
@@ -351,4 +416,5 @@ module _ (schema : Schema) (repos : ℕ) (sound : (c : ℕ) (d : Class) → slic
       (λ x fits keeps.
       let n = (step m).1 in
       let went = node_goes t r l (out-Expr e) place n (ap (λ (j : Judged). j.broken place) (sym k) ∙ ok) fits in
-      subst (λ (j : Judged). Went w Value (ValueGood schema repos at_hand s j.kind) n (value_at w v b (out-Expr e) n).0 (value_at w v b (out-Expr e) n).1 (strict_value_at w u d (out-Expr e) n)) (sym k) went)
+      subst (λ (j : Judged). Went w Value (ValueGood schema repos at_hand s j.kind) n (value_at w v b (out-Expr e) n).0
+      (value_at w v b (out-Expr e) n).1 (strict_value_at w u d (out-Expr e) n)) (sym k) went)

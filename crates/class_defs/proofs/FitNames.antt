@@ -82,15 +82,18 @@ module _ (f : Oref → Option Object) (made : ℕ) (o : Object) where
 
   stand_ins_still : (x : Oref) (s : Option ℕ) → (x.repo ≡ 255 → ⊥) → StandInsFit f made s → StandInsFit (put f x o) (made + 1) s
   stand_ins_still x None h k = tt
-  stand_ins_still x (Some n) h k = (omega (arith, k.0), λ j le. none_put f x (stand_in_name j) o (k.1 j le) (λ e. h (sym (ap (λ (y : Oref). y.repo) e))))
+  stand_ins_still x (Some n) h k =
+      (omega (arith, k.0), λ j le. none_put f x (stand_in_name j) o (k.1 j le) (λ e. h (sym (ap (λ (y : Oref). y.repo) e))))
 
-  from_waiting : (names : NameSupply) (i : ℕ) (x : Oref) → NamesFit f made names → slice_get names.waiting i ≡ Some x → Taken f made names o (x, record names { waiting = remove names.waiting i })
+  from_waiting : (names : NameSupply) (i : ℕ) (x : Oref) → NamesFit f made names → slice_get names.waiting i ≡ Some x
+      → Taken f made names o (x, record names { waiting = remove names.waiting i })
   from_waiting names i x h is =
       let new = one_of (IsNew f) names.waiting i x h.waiting is in
       record {
         new = new.0;
         names = record {
-          waiting = each_both (IsNew f) (λ y. y ≡ x → ⊥) (IsNew (put f x o)) (new_still x) (remove names.waiting i) (all_but (IsNew f) names.waiting i x h.waiting is) (apart names.waiting i x h.distinct is);
+          waiting = each_both (IsNew f) (λ y. y ≡ x → ⊥) (IsNew (put f x o)) (new_still x) (remove names.waiting i)
+              (all_but (IsNew f) names.waiting i x h.waiting is) (apart names.waiting i x h.distinct is);
           distinct = distinct_but names.waiting i x h.distinct is;
           stand_ins = stand_ins_still x names.stand_in new.1 h.stand_ins;
         };
@@ -103,7 +106,8 @@ module _ (f : Oref → Option Object) (made : ℕ) (o : Object) where
   next_apart : (k j : ℕ) → k + 1 ≤ j → stand_in_name j ≡ stand_in_name k → ⊥
   next_apart k j le e = let d : j ≡ k = ap (λ (y : Oref). y.slot) e in absurd (omega (arith, d, le))
 
-  from_stand_ins : (names : NameSupply) (k : ℕ) → NamesFit f made names → StandInsFit f made (Some k) → Taken f made names o (stand_in_name k, record names { stand_in = Some (k + 1) })
+  from_stand_ins : (names : NameSupply) (k : ℕ) → NamesFit f made names → StandInsFit f made (Some k)
+      → Taken f made names o (stand_in_name k, record names { stand_in = Some (k + 1) })
   from_stand_ins names k h s = record {
     new = s.1 k (omega arith);
     names = record {
@@ -126,7 +130,8 @@ module _ (f : Oref → Option Object) (made : ℕ) (o : Object) where
       let e : (stand_in_name k, record names { stand_in = Some (k + 1) }) ≡ n = cc in subst (Taken f made names o) e (from_stand_ins names k h s)
   took_next false names k n h s taken = cc
 
-  took_stand_in : (names : NameSupply) (s : Option ℕ) (n : Oref × NameSupply) → NamesFit f made names → StandInsFit f made s → stand_in_from names s ≡ Some n → Taken f made names o n
+  took_stand_in : (names : NameSupply) (s : Option ℕ) (n : Oref × NameSupply) → NamesFit f made names → StandInsFit f made s
+      → stand_in_from names s ≡ Some n → Taken f made names o n
   took_stand_in names None n h s taken = cc
   took_stand_in names (Some k) n h s taken = took_next (nat_lt k CREATE_LIMIT) names k n h s taken
 
@@ -145,16 +150,19 @@ module _ (f : Oref → Option Object) (made : ℕ) (o : Object) where
   mapped g (Some x) h = refl
   mapped g None h = cc
 
-  next_there : (names : NameSupply) (s : Option ℕ) → is_some s ≡ true → StandInsFit f made s → nat_lt made CREATE_LIMIT ≡ true → is_some (stand_in_from names s) ≡ true
+  next_there : (names : NameSupply) (s : Option ℕ) → is_some s ≡ true → StandInsFit f made s → nat_lt made CREATE_LIMIT ≡ true
+      → is_some (stand_in_from names s) ≡ true
   next_there names None h s few = cc
   next_there names (Some k) h s few = let e : nat_lt k CREATE_LIMIT ≡ true = grind (arith, s.0) in rw e refl
 
-  name_there : (names : NameSupply) (i : Option ℕ) → (((n : ℕ) → i ≡ Some n → is_some (slice_get names.waiting n) ≡ true)) → is_some names.stand_in ≡ true → NamesFit f made names → nat_lt made CREATE_LIMIT ≡ true
+  name_there : (names : NameSupply) (i : Option ℕ) → (((n : ℕ) → i ≡ Some n → is_some (slice_get names.waiting n) ≡ true))
+      → is_some names.stand_in ≡ true → NamesFit f made names → nat_lt made CREATE_LIMIT ≡ true
       → is_some (name_at names i) ≡ true
   name_there names (Some i) at s h few = mapped _ _ (at i refl)
   name_there names None at s h few = next_there names names.stand_in s h.stand_ins few
 
   -- where stand-in names stand behind the others, there is a name for each object that may be made
-  pub never_short : (repo : ℕ) (names : NameSupply) → is_some names.stand_in ≡ true → NamesFit f made names → nat_lt made CREATE_LIMIT ≡ true → is_some (take_name repo names) ≡ true
+  pub never_short : (repo : ℕ) (names : NameSupply) → is_some names.stand_in ≡ true → NamesFit f made names → nat_lt made CREATE_LIMIT ≡ true
+      → is_some (take_name repo names) ≡ true
   unfolding take_name
   never_short repo names s h few = name_there names _ (λ n e. stands_there (λ y. y.repo == repo) names.waiting n e) s h few

@@ -50,7 +50,8 @@ pub one_number : (c d : ℕ) → (c == d) ≡ true → d ≡ c
 one_number c d h = grind (arith, nat_tests)
 
 -- a value that may stand where a type is declared is of that type
-pub value_suits : (f : Oref → Option Object) (kind given : ExprType) (v : Value) → IsDeclared kind → fits kind given ≡ true → ValueFits f given v → ValueFits f kind v
+pub value_suits : (f : Oref → Option Object) (kind given : ExprType) (v : Value) → IsDeclared kind → fits kind given ≡ true → ValueFits f given v
+    → ValueFits f kind v
 value_suits f type.Int type.Int v d h fit = fit
 value_suits f type.Int type.Null v d h fit = cc
 value_suits f type.Int (type.Class e) v d h fit = cc
@@ -75,7 +76,8 @@ classed : (o : Option Object) (c : ℕ) → option_map (λ (p : Object). p.class
 classed (Some p) c h = (p, (refl, cc))
 classed None c h = cc
 
-pub find_object : (schema : Schema) (f : Oref → Option Object) (x : Oref) (c : ℕ) → ObjectsFit schema f → class_of f x ≡ Some c → Found f schema.classes x c
+pub find_object : (schema : Schema) (f : Oref → Option Object) (x : Oref) (c : ℕ) → ObjectsFit schema f → class_of f x ≡ Some c
+    → Found f schema.classes x c
 find_object schema f x c s h = let p = classed (f x) c h in record { object = p.0; at = p.1.0; class = p.1.1; fits = s.each x p.0 p.1.0 }
 
 -- ---- one field
@@ -90,29 +92,37 @@ pub record FieldFound (f : Oref → Option Object) (classes : List Class) (x : O
   pub stands : slice_get of.object.fields place ≡ Some value
   pub fits : ValueFits f (type_named classes d.type_name) value
 
-pub find_field : (schema : Schema) (f : Oref → Option Object) (x : Oref) (c : ℕ) (name : List ℕ) (d : Field) → ObjectsFit schema f → class_of f x ≡ Some c → field_of schema.classes c name ≡ Some d
+pub find_field : (schema : Schema) (f : Oref → Option Object) (x : Oref) (c : ℕ) (name : List ℕ) (d : Field) → ObjectsFit schema f
+    → class_of f x ≡ Some c → field_of schema.classes c name ≡ Some d
     → FieldFound f schema.classes x c name d
 find_field schema f x c name d s h is =
     let of = find_object schema f x c s h in
     let test = λ (g : Field). bytes_eq g.name.text name in
     let p = place_found test (fields_of schema.classes c) d is in
-    let all : FieldsFit f schema.classes (fields_of schema.classes c) of.object.fields = subst (λ k. FieldsFit f schema.classes (fields_of schema.classes k) of.object.fields) of.class of.fits.fields in
-    let v = field_there f schema.classes (fields_of schema.classes c) of.object.fields (position_or_len test (fields_of schema.classes c)) d all p.1 in
+    let all : FieldsFit f schema.classes (fields_of schema.classes c) of.object.fields =
+    subst (λ k. FieldsFit f schema.classes (fields_of schema.classes k) of.object.fields) of.class of.fits.fields in
+    let v = field_there f schema.classes (fields_of schema.classes c) of.object.fields
+    (position_or_len test (fields_of schema.classes c)) d all p.1 in
     record { of = of; place = position_or_len test (fields_of schema.classes c); named = p.0; field = p.1; value = v.0; stands = v.1.0; fits = v.1.1 }
 
 -- the class of an object that fits has its declaration
-pub class_there : (schema : Schema) (f : Oref → Option Object) (x : Oref) (c : ℕ) → Found f schema.classes x c → (d : Class) × (slice_get schema.classes c ≡ Some d)
+pub class_there : (schema : Schema) (f : Oref → Option Object) (x : Oref) (c : ℕ) → Found f schema.classes x c
+    → (d : Class) × (slice_get schema.classes c ≡ Some d)
 class_there schema f x c of = there (slice_get schema.classes c) (subst (λ k. is_some (slice_get schema.classes k) ≡ true) of.class of.fits.class)
 
 module _ (schema : Schema) (repos : ℕ) (sound : (c : ℕ) (d : Class) → slice_get schema.classes c ≡ Some d → ClassSound schema repos c d) where
   -- the types of a class's fields are declared
-  pub fields_told : (c : ℕ) (d : Class) → slice_get schema.classes c ≡ Some d → AllByRecursion (λ (g : Field). is_type schema.classes g.type_name ≡ []) (fields_of schema.classes c)
+  pub fields_told : (c : ℕ) (d : Class) → slice_get schema.classes c ≡ Some d
+      → AllByRecursion (λ (g : Field). is_type schema.classes g.type_name ≡ []) (fields_of schema.classes c)
   fields_told c d is = rw is (sound c d is).fields
 
-  pub field_told : (c : ℕ) (e : Class) (name : List ℕ) (d : Field) → slice_get schema.classes c ≡ Some e → field_of schema.classes c name ≡ Some d → IsDeclared (type_named schema.classes d.type_name)
+  pub field_told : (c : ℕ) (e : Class) (name : List ℕ) (d : Field) → slice_get schema.classes c ≡ Some e → field_of schema.classes c name ≡ Some d
+      → IsDeclared (type_named schema.classes d.type_name)
   field_told c e name d is of =
-      type_told schema.classes d.type_name (found (λ (g : Field). is_type schema.classes g.type_name ≡ []) (λ (g : Field). bytes_eq g.name.text name) (fields_of schema.classes c) d (fields_told c e is) of)
+      type_told schema.classes d.type_name (found (λ (g : Field). is_type schema.classes g.type_name ≡ [])
+      (λ (g : Field). bytes_eq g.name.text name) (fields_of schema.classes c) d (fields_told c e is) of)
 
-  pub begin_fields : (f : Oref → Option Object) (gs : List Field) → AllByRecursion (λ (g : Field). is_type schema.classes g.type_name ≡ []) gs → FieldsFit f schema.classes gs (map (λ g. beginning (type_named schema.classes g.type_name)) gs)
+  pub begin_fields : (f : Oref → Option Object) (gs : List Field) → AllByRecursion (λ (g : Field). is_type schema.classes g.type_name ≡ []) gs
+      → FieldsFit f schema.classes gs (map (λ g. beginning (type_named schema.classes g.type_name)) gs)
   begin_fields f [] h = tt
   begin_fields f (g ∷ gs) h = (begins f _ (type_told schema.classes g.type_name h.0), begin_fields f gs h.1)

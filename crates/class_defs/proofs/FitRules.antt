@@ -96,18 +96,21 @@ class_sound schema repos c d h =
     let q = nothing (member_names d) fields p.0 in
     record { fields = each_nothing _ d.fields q.1; methods = each_nothing _ d.methods p.1 }
 
-classes_sound : (schema : Schema) (repos : ℕ) (ds : List Class) (n i : ℕ) (d : Class) → classes_from schema repos n ds ≡ [] → slice_get ds i ≡ Some d → ClassSound schema repos (n + i) d
+classes_sound : (schema : Schema) (repos : ℕ) (ds : List Class) (n i : ℕ) (d : Class) → classes_from schema repos n ds ≡ []
+    → slice_get ds i ≡ Some d → ClassSound schema repos (n + i) d
 classes_sound schema repos [] n i d h is = cc
 classes_sound schema repos (e ∷ es) n zero d h is =
     let p : e ≡ d = cc in
     let q : n ≡ n + 0 = omega arith in
-    subst (λ k. ClassSound schema repos k d) q (class_sound schema repos n d (subst (λ k. class_rules schema repos n k ≡ []) p (nothing (class_rules schema repos n e) _ h).0))
+    subst (λ k. ClassSound schema repos k d) q (class_sound schema repos n d
+    (subst (λ k. class_rules schema repos n k ≡ []) p (nothing (class_rules schema repos n e) _ h).0))
 classes_sound schema repos (e ∷ es) n (suc i) d h is =
     let q : (n + 1) + i ≡ n + suc i = omega arith in
     subst (λ k. ClassSound schema repos k d) q (classes_sound schema repos es (n + 1) i d (nothing (class_rules schema repos n e) _ h).1 is)
 
 -- a class of a schema that breaks no rule
-pub schema_sound : (schema : Schema) (repos : ℕ) → schema_rules schema repos ≡ [] → (c : ℕ) (d : Class) → slice_get schema.classes c ≡ Some d → ClassSound schema repos c d
+pub schema_sound : (schema : Schema) (repos : ℕ) → schema_rules schema repos ≡ [] → (c : ℕ) (d : Class) → slice_get schema.classes c ≡ Some d
+    → ClassSound schema repos c d
 unfolding schema_rules
 schema_sound schema repos h c d is =
     let classes = classes_from schema repos 0 schema.classes in

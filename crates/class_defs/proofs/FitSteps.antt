@@ -36,7 +36,8 @@ Stays m n = (Stocked m → Stocked n) × (IsSorted m.writes → IsSorted n.write
 
 -- What an action did from m, ending in n: each object keeps its class, none was missing, nor a name where stand-in names
 -- stand behind; a value that it gave is good; and the action that would get stuck at a stand-in did the same.
-pub record Went (w : World) (A : Type 0) (Good : A → Machine → Type 0) (m : Machine) (r : Result A Stop) (n : Machine) (strict : Option (Result A Stop × Machine)) : Type 0 where
+pub record Went (w : World) (A : Type 0) (Good : A → Machine → Type 0) (m : Machine) (r : Result A Stop) (n : Machine)
+    (strict : Option (Result A Stop × Machine)) : Type 0 where
   pub keeps : Keeps (seen w m) (seen w n)
   pub had : Ended r
   pub stays : Stays m n
@@ -70,7 +71,8 @@ module _ (w : World) where
   }
 
   -- a good value, with a state that keeps the classes
-  pub gives : {A : Type 0} (Good : A → Machine → Type 0) (m n : Machine) (a : A) → Keeps (seen w m) (seen w n) → Stays m n → Good a n → Went w A Good m (Ok a) n (Some (Ok a, n))
+  pub gives : {A : Type 0} (Good : A → Machine → Type 0) (m n : Machine) (a : A) → Keeps (seen w m) (seen w n) → Stays m n → Good a n
+      → Went w A Good m (Ok a) n (Some (Ok a, n))
   gives {A} Good m n a keeps stays good = record {
     keeps = keeps;
     had = tt;
@@ -83,19 +85,24 @@ module _ (w : World) where
   pub value : {A : Type 0} (Good : A → Machine → Type 0) (m : Machine) (a : A) → Good a m → Went w A Good m (Ok a) m (Some (Ok a, m))
   value Good m a good = gives Good m m a (keeps_no m) (λ s. s, λ s. s) good
 
-  pub faults : {A : Type 0} (Good : A → Machine → Type 0) (m : Machine) (f : Fault) → Went w A Good m (Err (stop.Fault f)) m (Some (Err (stop.Fault f), m))
+  pub faults : {A : Type 0} (Good : A → Machine → Type 0) (m : Machine) (f : Fault)
+      → Went w A Good m (Err (stop.Fault f)) m (Some (Err (stop.Fault f), m))
   faults Good m f = record { keeps = keeps_no m; had = tt; stays = (λ s. s, λ s. s); supply = λ s. tt; good = λ a e. cc; same = refl }
 
-  pub weaker : {A : Type 0} (Good Well : A → Machine → Type 0) (m n : Machine) (r : Result A Stop) (o : Option (Result A Stop × Machine)) → Went w A Good m r n o → ((a : A) → Good a n → Well a n)
+  pub weaker : {A : Type 0} (Good Well : A → Machine → Type 0) (m n : Machine) (r : Result A Stop) (o : Option (Result A Stop × Machine))
+      → Went w A Good m r n o → ((a : A) → Good a n → Well a n)
       → Went w A Well m r n o
-  weaker Good Well m n r o h f = record { keeps = h.keeps; had = h.had; stays = h.stays; supply = h.supply; good = λ a e. f a (h.good a e); same = h.same }
+  weaker Good Well m n r o h f =
+      record { keeps = h.keeps; had = h.had; stays = h.stays; supply = h.supply; good = λ a e. f a (h.good a e); same = h.same }
 
   -- what gets stuck unless a condition holds doesn't where it holds
-  pub where_so : {A : Type 0} (Good : A → Machine → Type 0) (b : Bool) (u : Sure A) (m n : Machine) (r : Result A Stop) → b ≡ true → Went w A Good m r n (u m) → Went w A Good m r n (only_if b u m)
+  pub where_so : {A : Type 0} (Good : A → Machine → Type 0) (b : Bool) (u : Sure A) (m n : Machine) (r : Result A Stop) → b ≡ true
+      → Went w A Good m r n (u m) → Went w A Good m r n (only_if b u m)
   where_so Good true u m n r e h = h
   where_so Good false u m n r e h = cc
 
-  pub choose : {A : Type 0} (Good : A → Machine → Type 0) (b : Bool) (p q : Action A) (u : Sure A) (m : Machine) → b ≡ true → Went w A Good m (p m).0 (p m).1 (u m)
+  pub choose : {A : Type 0} (Good : A → Machine → Type 0) (b : Bool) (p q : Action A) (u : Sure A) (m : Machine) → b ≡ true
+      → Went w A Good m (p m).0 (p m).1 (u m)
       → Went w A Good m (cond b p q m).0 (cond b p q m).1 (only_if b u m)
   choose Good true p q u m e h = h
   choose Good false p q u m e h = cc
@@ -107,9 +114,11 @@ module _ (w : World) where
   abbrev stepped : Bool → Machine → Result (Unit {0}) Stop × Machine
   stepped b m = cond b (Ok tt, record m { steps = m.steps + 1 }) (Err (stop.Fault fault.Steps), m)
 
-  step_at : (s : Sight) (b : Bool) (m : Machine) → MachineFits w s m → Went w (Unit {0}) (Fits s) m (stepped b m).0 (stepped b m).1 (Some (stepped b m))
+  step_at : (s : Sight) (b : Bool) (m : Machine) → MachineFits w s m
+      → Went w (Unit {0}) (Fits s) m (stepped b m).0 (stepped b m).1 (Some (stepped b m))
   unfolding seen
-  step_at s true m h = gives (Fits s) m _ tt (keeps_no m) (λ e. e, λ e. e) (record { objects = h.objects; this = h.this; locals = h.locals; names = h.names })
+  step_at s true m h =
+      gives (Fits s) m _ tt (keeps_no m) (λ e. e, λ e. e) (record { objects = h.objects; this = h.this; locals = h.locals; names = h.names })
   step_at s false m h = faults (Fits s) m fault.Steps
 
   pub steps : (s : Sight) (m : Machine) → MachineFits w s m → Went w (Unit {0}) (Fits s) m (step m).0 (step m).1 (Some (step m))

@@ -46,7 +46,8 @@ int_so f value.Null h = absurd h
 pub number_so : (f : Oref → Option Object) (k : ExprType) (v : Value) → is_number k ≡ true → ValueFits f k v → is_int v ≡ true
 number_so f k v h fit = int_so f v (value_suits f type.Int k v tt h fit)
 
-reference_so : (f : Oref → Option Object) (c : ℕ) (v u : Value) → ValueFits f (type.Class c) v → are_comparable value.Null u ≡ true → are_comparable v u ≡ true
+reference_so : (f : Oref → Option Object) (c : ℕ) (v u : Value) → ValueFits f (type.Class c) v → are_comparable value.Null u ≡ true
+    → are_comparable v u ≡ true
 reference_so f c (value.Int n) u h k = absurd h
 reference_so f c (value.Ref x) (value.Int n) h k = k
 reference_so f c (value.Ref x) (value.Ref y) h k = refl
@@ -64,7 +65,8 @@ ints_so f (value.Ref x) b h k = absurd h
 ints_so f value.Null b h k = absurd h
 
 -- values of types that can be compared can be
-comparable_so : (f : Oref → Option Object) (classes : List Class) (j k : ExprType) (a b : Value) → comparable classes j k ≡ true → ValueFits f j a → ValueFits f k b → are_comparable a b ≡ true
+comparable_so : (f : Oref → Option Object) (classes : List Class) (j k : ExprType) (a b : Value) → comparable classes j k ≡ true → ValueFits f j a
+    → ValueFits f k b → are_comparable a b ≡ true
 comparable_so f classes type.Int k a b h fit good = ints_so f a b fit (number_so f k b h good)
 comparable_so f classes type.Null type.Int a b h fit good = cc
 comparable_so f classes type.Null type.Null a b h fit good = cc
@@ -80,11 +82,13 @@ two_so : (b c : Bool) → (b && c) ≡ true → (b ≡ true) × (c ≡ true)
 two_so true c h = (refl, h)
 two_so false c h = cc
 
-numbers_so : (f : Oref → Option Object) (j k : ExprType) (a b : Value) → (is_number j && is_number k) ≡ true → ValueFits f j a → ValueFits f k b → (is_int a && is_int b) ≡ true
+numbers_so : (f : Oref → Option Object) (j k : ExprType) (a b : Value) → (is_number j && is_number k) ≡ true → ValueFits f j a → ValueFits f k b
+    → (is_int a && is_int b) ≡ true
 numbers_so f j k a b h fit good = let p = two_so (is_number j) (is_number k) h in rw (number_so f j a p.0 fit, number_so f k b p.1 good) refl
 
 -- an operator takes values of types that it takes
-pub operands_so : (f : Oref → Option Object) (classes : List Class) (operator : Operator) (j k : ExprType) (a b : Value) → takes classes operator j k ≡ true → ValueFits f j a → ValueFits f k b → are_operands operator a b ≡ true
+pub operands_so : (f : Oref → Option Object) (classes : List Class) (operator : Operator) (j k : ExprType) (a b : Value)
+    → takes classes operator j k ≡ true → ValueFits f j a → ValueFits f k b → are_operands operator a b ≡ true
 operands_so f classes Add j k a b h fit good = numbers_so f j k a b h fit good
 operands_so f classes Subtract j k a b h fit good = numbers_so f j k a b h fit good
 operands_so f classes Multiply j k a b h fit good = numbers_so f j k a b h fit good
@@ -93,7 +97,8 @@ operands_so f classes Equal j k a b h fit good = comparable_so f classes j k a b
 operands_so f classes Unequal j k a b h fit good = comparable_so f classes j k a b h fit good
 
 -- and a method takes arguments that fit its parameters
-pub arguments_so : (f : Oref → Option Object) (classes : List Class) (ps : List Parameter) (vs : List Value) → ArgumentsFit f classes ps vs → are_arguments f classes ps vs ≡ true
+pub arguments_so : (f : Oref → Option Object) (classes : List Class) (ps : List Parameter) (vs : List Value) → ArgumentsFit f classes ps vs
+    → are_arguments f classes ps vs ≡ true
 arguments_so f classes [] [] h = refl
 arguments_so f classes [] (v ∷ vs) h = absurd h
 arguments_so f classes (p ∷ ps) [] h = absurd h

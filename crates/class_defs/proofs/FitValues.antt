@@ -53,7 +53,8 @@ module _ (f g : Oref → Option Object) (k : Keeps f g) where
   pub object_keeps : (classes : List Class) (o : Object) → ObjectFits f classes o → ObjectFits g classes o
   object_keeps classes o h = record { class = h.class; fields = fields_keep classes _ o.fields h.fields }
 
-  pub roots_keep : (classes : List Class) (rs : List RootDeclaration) → AllByRecursion (RootFits f classes) rs → AllByRecursion (RootFits g classes) rs
+  pub roots_keep : (classes : List Class) (rs : List RootDeclaration) → AllByRecursion (RootFits f classes) rs
+      → AllByRecursion (RootFits g classes) rs
   roots_keep classes [] h = tt
   roots_keep classes (r ∷ rs) h = (value_keeps _ (value.Ref r.oref) h.0, roots_keep classes rs h.1)
 
@@ -86,26 +87,30 @@ one_name x y b h e = oref_exact x y (equal _ (h ∙ e))
     equal Equal h = refl
     equal Greater h = cc
 
-class_put : (f : Oref → Option Object) (x y : Oref) (o : Object) (b : Bool) → same_oref y x ≡ b → ((c : ℕ) → class_of f x ≡ Some c → o.class ≡ c) → (c : ℕ) → class_of f y ≡ Some c → option_map (λ (p : Object). p.class) (cond b (Some o) (f y)) ≡ Some c
+class_put : (f : Oref → Option Object) (x y : Oref) (o : Object) (b : Bool) → same_oref y x ≡ b → ((c : ℕ) → class_of f x ≡ Some c → o.class ≡ c)
+    → (c : ℕ) → class_of f y ≡ Some c → option_map (λ (p : Object). p.class) (cond b (Some o) (f y)) ≡ Some c
 class_put f x y o true is h c at = ap Some (h c (subst (λ z. class_of f z ≡ Some c) (one_name y x true is refl) at))
 class_put f x y o false is h c at = at
 
 pub keeps_put : (f : Oref → Option Object) (x : Oref) (o : Object) → ((c : ℕ) → class_of f x ≡ Some c → o.class ≡ c) → Keeps f (put f x o)
 keeps_put f x o h y c at = class_put f x y o _ refl h c at
 
-put_each : (f : Oref → Option Object) (x y : Oref) (o p : Object) (b : Bool) (P : Object → Type 0) → P o → (f y ≡ Some p → P p) → cond b (Some o) (f y) ≡ Some p → P p
+put_each : (f : Oref → Option Object) (x y : Oref) (o p : Object) (b : Bool) (P : Object → Type 0) → P o → (f y ≡ Some p → P p)
+    → cond b (Some o) (f y) ≡ Some p → P p
 put_each f x y o p true P h k is = subst P (cc) h
 put_each f x y o p false P h k is = k is
 
 pub objects_put : (schema : Schema) (f : Oref → Option Object) (x : Oref) (o : Object) → ((c : ℕ) → class_of f x ≡ Some c → o.class ≡ c)
     → ObjectsFit schema f → ObjectFits (put f x o) schema.classes o → ObjectsFit schema (put f x o)
 objects_put schema f x o h s fit = record {
-  each = λ y p is. put_each f x y o p (same_oref y x) (ObjectFits (put f x o) schema.classes) fit (λ at. object_keeps f (put f x o) (keeps_put f x o h) schema.classes p (s.each y p at)) is;
+  each = λ y p is. put_each f x y o p (same_oref y x) (ObjectFits (put f x o) schema.classes) fit
+      (λ at. object_keeps f (put f x o) (keeps_put f x o h) schema.classes p (s.each y p at)) is;
   roots = roots_keep f (put f x o) (keeps_put f x o h) schema.classes schema.roots s.roots;
 }
 
 -- an object that is none in a state of which another was put
-none_at : (f : Oref → Option Object) (x y : Oref) (o : Object) (b : Bool) → same_oref y x ≡ b → (f y ≡ None) → (y ≡ x → ⊥) → cond b (Some o) (f y) ≡ None
+none_at : (f : Oref → Option Object) (x y : Oref) (o : Object) (b : Bool) → same_oref y x ≡ b → (f y ≡ None) → (y ≡ x → ⊥)
+    → cond b (Some o) (f y) ≡ None
 none_at f x y o true is h apart = absurd (apart (one_name y x true is refl))
 none_at f x y o false is h apart = h
 
@@ -119,7 +124,8 @@ first_put false v o p = refl
 
 pub insert_put : (writes : Map oref_cmp Object) (at_hand : Oref → Option Object) (x : Oref) (o : Object)
     → (λ y. first_of (get (insert writes x o) y) (at_hand y)) ≡ put (λ y. first_of (get writes y) (at_hand y)) x o
-insert_put writes at_hand x o = fun_ext (λ y. ap (λ p. first_of p (at_hand y)) (get-insert oref_total writes x o y) ∙ first_put (same_oref y x) o (get writes y) (at_hand y))
+insert_put writes at_hand x o =
+    fun_ext (λ y. ap (λ p. first_of p (at_hand y)) (get-insert oref_total writes x o y) ∙ first_put (same_oref y x) o (get writes y) (at_hand y))
 
 -- ---- one field of an object
 

@@ -68,6 +68,17 @@ abbrev pub only_if : {A : Type 0} → Bool → Sure A → Sure A
 only_if true p = p
 only_if false p = stuck
 
+-- one that gets stuck at once, unless the state passes a test
+abbrev pub only_where : {A : Type 0} → (Machine → Bool) → Sure A → Sure A
+only_where test p = λ m. only_if (test m) p m
+
+-- a value, and a change of the state
+abbrev pub give : {A : Type 0} → A → Sure A
+give a = surely (pure a)
+
+abbrev pub alter : (Machine → Machine) → Sure (Unit {0})
+alter f = surely (change f)
+
 -- ---- what must hold
 
 abbrev pub is_classed : Option Object → ℕ → Bool
@@ -135,7 +146,8 @@ takes_arguments objects classes (Some method) vs = are_arguments objects classes
 
 -- the value of a local, a parameter or a root, where it is there
 abbrev pub value_named : Schema → Machine → List ℕ → Option Value
-value_named schema m name = first_of (option_map (λ l. l.value) (local_named m name)) (option_map (λ r. value.Ref r.oref) (root_named schema m name))
+value_named schema m name =
+    first_of (option_map (λ l. l.value) (local_named m name)) (option_map (λ r. value.Ref r.oref) (root_named schema m name))
 
 abbrev pub reads_name : World → Machine → List ℕ → Bool
 reads_name w m name = has_value (seen w m) (name_type (scope_at w.schema m) name) (value_named w.schema m name)
@@ -159,28 +171,43 @@ writes_local w m name v = is_of_some (seen w m) (option_map (λ l. l.kind) (loca
 -- ---- calls
 
 module _ (w : World) (block : List Stmt → Sure Flow) where
-  -- the body of a method: its result is of the declared type
+  abbrev receiver : ℕ → Oref → List Oref → Receiver
+  receiver c x owners = record { oref = x; class = c; owners = owners }
+
+  abbrev pub is_result : Method → Flow → Machine → Bool
+  is_result method flow m = is_of (seen w m) (type_named w.schema.classes method.result) (result_of w.schema.classes method flow)
+
+  -- the body of a method gives a result of the declared type
   unfoldable pub strict_body : Receiver → Method → List Value → Sure Value
   strict_body this method arguments = λ m.
-      ((surely (change (λ n. record n { depth = n.depth + 1; this = Some this; locals = bound w.schema.classes method.parameters arguments })) >> block method.body)
-      >>= (λ flow. surely (change (λ n. record n { depth = m.depth; this = m.this; locals = m.locals }))
-      >> (λ n. only_if (is_of (seen w n) (type_named w.schema.classes method.result) (result_of w.schema.classes method flow)) (surely (pure (result_of w.schema.classes method flow))) n))) m
+      (alter (λ n. record n { depth = n.depth + 1; this = Some this; locals = bound w.schema.classes method.parameters arguments })
+      >> block method.body
+      >>= (λ flow. alter (λ n. record n { depth = m.depth; this = m.this; locals = m.locals })
+      >> only_where (is_result method flow) (give (result_of w.schema.classes method flow)))) m
 
   abbrev pub strict_enter : Receiver → Option Method → List Value → Sure Value
   strict_enter this None arguments = stuck
   strict_enter this (Some method) arguments = strict_body this method arguments
 
+  -- the object is of the class
+  abbrev pub strict_enter_as : Receiver → ℕ → Option Method → List Value → Sure Value
+  strict_enter_as this found method arguments = only_if (found == this.class) (strict_enter this method arguments)
+
   unfoldable pub strict_object : ℕ → Oref → List ℕ → List Value → Sure Value
   strict_object c x name arguments = λ m.
       let owners = owners_at w.schema.classes c m in
       if nat_lt m.depth DEPTH_LIMIT
-      then (surely (touch w owners x) >>= (λ found. only_if (found == c) (strict_enter (record { oref = x; class = c; owners = owners }) (method_of w.schema.classes c name) arguments))) m
+      then (surely (touch w owners x) >>= (λ found. strict_enter_as (receiver c x owners) found (method_of w.schema.classes c name) arguments)) m
       else Some (Err (stop.Fault Depth), m)
 
-  -- The receiver is of a class that has the method, for arguments of these types; null is the fault NullCall.
+  -- the class has the method, for these arguments
+  abbrev pub can_call : ℕ → List ℕ → List Value → Machine → Bool
+  can_call c name arguments m = takes_arguments (seen w m) w.schema.classes (method_of w.schema.classes c name) arguments
+
+  -- a call, behind the evaluation of its receiver and arguments; null is the fault NullCall
   unfoldable pub strict_call : ExprType → Value → List ℕ → List Value → Sure Value
-  strict_call (type.Class c) (value.Ref x) name arguments = λ m. only_if (takes_arguments (seen w m) w.schema.classes (method_of w.schema.classes c name) arguments) (strict_object c x name arguments) m
-  strict_call (type.Class c) value.Null name arguments = λ m. only_if (takes_arguments (seen w m) w.schema.classes (method_of w.schema.classes c name) arguments) (surely (fail NullCall)) m
+  strict_call (type.Class c) (value.Ref x) name arguments = only_where (can_call c name arguments) (strict_object c x name arguments)
+  strict_call (type.Class c) value.Null name arguments = only_where (can_call c name arguments) (surely (fail NullCall))
   strict_call (type.Class c) (value.Int n) name arguments = stuck
   strict_call type.Int v name arguments = stuck
   strict_call type.Null v name arguments = stuck
@@ -190,23 +217,30 @@ module _ (w : World) (block : List Stmt → Sure Flow) where
 
 module _ (w : World) (value_of : Expr → Sure Value) (block : List Stmt → Sure Flow) where
   abbrev pub strict_values_from : List Value → List Expr → Sure (List Value)
-  strict_values_from vs [] = surely (pure vs)
+  strict_values_from vs [] = give vs
   strict_values_from vs (e ∷ es) = value_of e >>= (λ v. strict_values_from (vs ++ v ∷ []) es)
 
   abbrev pub strict_called : Expr → List ℕ → List Expr → Sure Value
-  strict_called receiver method arguments = λ m. (value_of receiver >>= (λ r. strict_values_from [] arguments >>= (λ vs. strict_call w block (type_of (scope_at w.schema m) receiver) r method vs))) m
+  strict_called receiver method arguments = λ m. (do
+    r ← value_of receiver
+    vs ← strict_values_from [] arguments
+    strict_call w block (type_of (scope_at w.schema m) receiver) r method vs) m
 
   abbrev pub strict_value_at : Expr-F Expr → Sure Value
-  strict_value_at (Expr-F.Int n line) = surely (pure (value.Int n))
-  strict_value_at (Expr-F.Null line) = surely (pure value.Null)
-  strict_value_at (Expr-F.This line) = λ m. only_if (is_some m.this) (surely (pure (this_value m.this))) m
-  strict_value_at (Expr-F.Field name) = λ m. only_if (reads_field w m name.text) (surely (pure (field_value w m name.text))) m
-  strict_value_at (Expr-F.Variable name) = λ m. only_if (reads_name w m name.text) (surely (pure (named_value w.schema m name.text))) m
+  strict_value_at (Expr-F.Int n line) = give (value.Int n)
+  strict_value_at (Expr-F.Null line) = give value.Null
+  strict_value_at (Expr-F.This line) = λ m. only_if (is_some m.this) (give (this_value m.this)) m
+  strict_value_at (Expr-F.Field name) = λ m. only_if (reads_field w m name.text) (give (field_value w m name.text)) m
+  strict_value_at (Expr-F.Variable name) = λ m. only_if (reads_name w m name.text) (give (named_value w.schema m name.text)) m
   strict_value_at (Expr-F.New class at) = only_if (is_some (class_named w.schema.classes class.text)) (surely (create w class.text at))
   strict_value_at (Expr-F.Parens inner line) = value_of inner
-  strict_value_at (Expr-F.Negate operand line) = value_of operand >>= (λ v. only_if (is_int v) (surely (pure (value.Int (int_wrapping_sub w64 (pos 0) (number v))))))
-  strict_value_at (Expr-F.Binary operator left right line) =
-      value_of left >>= (λ a. value_of right >>= (λ b. only_if (are_operands operator a b) (surely (pure (combined operator a b)))))
+  strict_value_at (Expr-F.Negate operand line) = do
+    v ← value_of operand
+    only_if (is_int v) (give (value.Int (int_wrapping_sub w64 (pos 0) (number v))))
+  strict_value_at (Expr-F.Binary operator left right line) = do
+    a ← value_of left
+    b ← value_of right
+    only_if (are_operands operator a b) (give (combined operator a b))
   strict_value_at (Expr-F.Call receiver method arguments) = strict_called receiver method.text arguments
 
   unfoldable pub strict_expression : Expr → Sure Value
@@ -216,36 +250,50 @@ module _ (w : World) (value_of : Expr → Sure Value) (block : List Stmt → Sur
 
 abbrev pub strict_unless_returned : Flow → Sure Flow → Sure Flow
 strict_unless_returned Next p = p
-strict_unless_returned (Returned v) p = surely (pure (Returned v))
+strict_unless_returned (Returned v) p = give (Returned v)
 
 abbrev pub strict_in_order : (Stmt → Sure Flow) → List Stmt → Sure Flow
-strict_in_order run [] = surely (pure Next)
+strict_in_order run [] = give Next
 strict_in_order run (s ∷ ss) = run s >>= (λ flow. strict_unless_returned flow (strict_in_order run ss))
 
 unfoldable pub strict_block : (Stmt → Sure Flow) → List Stmt → Sure Flow
-strict_block run ss = λ m. (strict_in_order run ss >>= (λ flow. surely (change (λ n. record n { locals = take (length m.locals) n.locals })) >> surely (pure flow))) m
+strict_block run ss = λ m. (strict_in_order run ss >>= (λ flow. alter (λ n. record n { locals = take (length m.locals) n.locals }) >> give flow)) m
 
 module _ (w : World) (value_of : Expr → Sure Value) (block : List Stmt → Sure Flow) where
   -- a condition is a number
   abbrev pub strict_branch : Value → Sure Flow → Sure Flow → Sure Flow
   strict_branch v then_block else_block = only_if (is_int v) (if holds v then then_block else else_block)
 
+  abbrev pub strict_turn : Value → List Stmt → Sure Flow → Sure Flow
+  strict_turn v body again = strict_branch v (block body >>= (λ flow. strict_unless_returned flow again)) (give Next)
+
   unfoldable pub strict_repeat : ℕ → Expr → List Stmt → Sure Flow
   strict_repeat zero condition body = surely (fail Steps)
-  strict_repeat (suc n) condition body =
-      surely step >> value_of condition >>= (λ v. strict_branch v (block body >>= (λ flow. strict_unless_returned flow (strict_repeat n condition body))) (surely (pure Next)))
+  strict_repeat (suc n) condition body = surely step >> value_of condition >>= (λ v. strict_turn v body (strict_repeat n condition body))
+
+  abbrev pub strict_declare : ExprType → List ℕ → Value → Sure Flow
+  strict_declare kind name v = only_where (λ m. is_of (seen w m) kind v) (alter (declare kind name v) >> give Next)
+
+  abbrev pub strict_assign : List ℕ → Value → Sure Flow
+  strict_assign name v = only_where (λ m. writes_local w m name v) (alter (assign_local name v) >> give Next)
+
+  abbrev pub strict_assign_field : List ℕ → Value → Sure Flow
+  strict_assign_field name v = only_where (λ m. writes_field w m name v) (alter (assign_field w name v) >> give Next)
+
+  abbrev pub strict_print : Value → Sure Flow
+  strict_print v = only_if (is_int v) (alter (λ m. record m { printed = m.printed ++ number v ∷ [] }) >> give Next)
 
   abbrev pub strict_statement_at : Stmt-F Stmt → Sure Flow
-  strict_statement_at (Stmt-F.Var type_name name line e) = surely step >> value_of e >>= (λ v. (λ m. only_if (is_of (seen w m) (type_named w.schema.classes type_name) v)
-      (surely (change (declare (type_named w.schema.classes type_name) name.text v)) >> surely (pure Next)) m))
-  strict_statement_at (Stmt-F.Assign name line e) = surely step >> value_of e >>= (λ v. (λ m. only_if (writes_local w m name.text v) (surely (change (assign_local name.text v)) >> surely (pure Next)) m))
-  strict_statement_at (Stmt-F.FieldAssign field line e) = surely step >> value_of e >>= (λ v. (λ m. only_if (writes_field w m field.text v) (surely (change (assign_field w field.text v)) >> surely (pure Next)) m))
-  strict_statement_at (Stmt-F.Return e) = surely step >> value_of e >>= (λ v. surely (pure (Returned v)))
-  strict_statement_at (Stmt-F.If condition then_block) = surely step >> value_of condition >>= (λ v. strict_branch v (block then_block) (surely (pure Next)))
-  strict_statement_at (Stmt-F.IfElse condition then_block otherwise) = surely step >> value_of condition >>= (λ v. strict_branch v (block then_block) (block otherwise))
+  strict_statement_at (Stmt-F.Var type_name name line e) = surely step >> value_of e >>= strict_declare (type_named w.schema.classes type_name) name.text
+  strict_statement_at (Stmt-F.Assign name line e) = surely step >> value_of e >>= strict_assign name.text
+  strict_statement_at (Stmt-F.FieldAssign field line e) = surely step >> value_of e >>= strict_assign_field field.text
+  strict_statement_at (Stmt-F.Return e) = surely step >> value_of e >>= (λ v. give (Returned v))
+  strict_statement_at (Stmt-F.If condition then_block) = surely step >> value_of condition >>= (λ v. strict_branch v (block then_block) (give Next))
+  strict_statement_at (Stmt-F.IfElse condition then_block otherwise) =
+      surely step >> value_of condition >>= (λ v. strict_branch v (block then_block) (block otherwise))
   strict_statement_at (Stmt-F.While condition body) = strict_repeat 100001 condition body
-  strict_statement_at (Stmt-F.Print e) = surely step >> value_of e >>= (λ v. only_if (is_int v) (surely (change (λ m. record m { printed = m.printed ++ number v ∷ [] })) >> surely (pure Next)))
-  strict_statement_at (Stmt-F.Evaluate e) = surely step >> value_of e >>= (λ v. surely (pure Next))
+  strict_statement_at (Stmt-F.Print e) = surely step >> value_of e >>= strict_print
+  strict_statement_at (Stmt-F.Evaluate e) = surely step >> value_of e >>= (λ v. give Next)
 
   unfoldable pub strict_statement : Stmt → Sure Flow
   strict_statement s = strict_statement_at (out-Stmt s)

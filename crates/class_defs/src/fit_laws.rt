@@ -47,7 +47,7 @@ pub fn checked_runs_fit()
         → schema_rules schema repos ≡ [] → item_rules schema repos tx ≡ []
         → StoreFits schema store → Fresh store names
         → strict_execute_all (world_of schema store) tx (begun names (Some 0))
-            ≡ Some (execute_all (world_of schema store) tx (begun names (Some 0))) }
+        ≡ Some (execute_all (world_of schema store) tx (begun names (Some 0))) }
 {}
 
 /// In any state that fits what is in sight, an expression that breaks no rule gives a value of its type, and a

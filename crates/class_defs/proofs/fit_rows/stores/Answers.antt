@@ -20,16 +20,19 @@ other_class : (a b : Option ℕ) → a ≡ Some 0 → b ≡ Some 1 → a ≡ b �
 other_class a b h k e = true≢false (ap (λ (o : Option ℕ). unwrap_or o 0 == 0) (sym h ∙ e ∙ k))
 
 -- where the box's fields fit, the store does
-sample_fits : (fields : List Value) → FieldsFit (get (store_of fields).objects) sample.classes (fields_of sample.classes 0) fields → StoreFits sample (store_of fields)
+sample_fits : (fields : List Value) → FieldsFit (get (store_of fields).objects) sample.classes (fields_of sample.classes 0) fields
+    → StoreFits sample (store_of fields)
 sample_fits fields h =
     let P : Object → Type 0 = ObjectFits (get (store_of fields).objects) sample.classes in
     record {
-      each = λ x o is. either P _ _ (record { class = 0; fields = fields }) (record { class = 1; fields = value.Int (pos 7) ∷ [] }) o (record { class = refl; fields = h }) (record { class = refl; fields = (tt, tt) }) is;
+      each = λ x o is. either P _ _ (record { class = 0; fields = fields }) (record { class = 1; fields = value.Int (pos 7) ∷ [] }) o
+          (record { class = refl; fields = h }) (record { class = refl; fields = (tt, tt) }) is;
       roots = (refl, tt);
     }
 
 -- the fields of the box
-box_of : (fields : List Value) → StoreFits sample (store_of fields) → FieldsFit (get (store_of fields).objects) sample.classes (fields_of sample.classes 0) fields
+box_of : (fields : List Value) → StoreFits sample (store_of fields)
+    → FieldsFit (get (store_of fields).objects) sample.classes (fields_of sample.classes 0) fields
 box_of fields h = (h.each (in_slot 0) (record { class = 0; fields = fields }) refl).fields
 
 pub returns : goal.returns
