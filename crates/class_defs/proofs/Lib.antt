@@ -17,4 +17,5 @@ pub mod FitStrict
 pub mod FitValues
 pub mod RuleForms
 pub mod RunOutcomes
+pub mod StrictTells
 pub mod TouchedStores

@@ -284,7 +284,8 @@ module _ (w : World) (value_of : Expr → Sure Value) (block : List Stmt → Sur
   strict_print v = only_if (is_int v) (alter (λ m. record m { printed = m.printed ++ number v ∷ [] }) >> give Next)
 
   abbrev pub strict_statement_at : Stmt-F Stmt → Sure Flow
-  strict_statement_at (Stmt-F.Var type_name name line e) = surely step >> value_of e >>= strict_declare (type_named w.schema.classes type_name) name.text
+  strict_statement_at (Stmt-F.Var type_name name line e) =
+      surely step >> value_of e >>= strict_declare (type_named w.schema.classes type_name) name.text
   strict_statement_at (Stmt-F.Assign name line e) = surely step >> value_of e >>= strict_assign name.text
   strict_statement_at (Stmt-F.FieldAssign field line e) = surely step >> value_of e >>= strict_assign_field field.text
   strict_statement_at (Stmt-F.Return e) = surely step >> value_of e >>= (λ v. give (Returned v))

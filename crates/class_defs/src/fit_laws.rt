@@ -19,6 +19,7 @@ ghost use Rattle.class_defs.specs.Types.{type_of};
 ghost use Rattle.class_defs.specs.declared.expressions.Expr.{Expr};
 ghost use Rattle.class_defs.specs.declared.machine.Flow.{Flow};
 ghost use Rattle.class_defs.specs.declared.machine.Machine.{Machine};
+ghost use Rattle.class_defs.specs.declared.machine.Stop.{Stop};
 ghost use Rattle.class_defs.specs.declared.rules.Position.{Position};
 ghost use Rattle.class_defs.specs.declared.statements.Stmt.{Stmt};
 ghost use Rattle.class_defs.specs.declared.store.Object.{Object};
@@ -75,4 +76,12 @@ pub fn checked_code_keeps_states_fitting()
         → let w : World = record { schema = s.schema; at_hand = objects } in
         schema_rules s.schema s.repos ≡ [] → MachineFits w s m → block_rules s block ≡ []
         → strict_block (strict_meaning w n).execute block m ≡ Some (block_of (meaning w n).execute block m) }
+{}
+
+/// Where the strict meaning doesn't get stuck, it is the meaning: whatever the code, the world and the state.
+pub fn strict_meaning_tells_what_runs_do()
+    ensures values { (w : World) → (n : ℕ) → (e : Expr) → (m : Machine) → (r : Result Value Stop × Machine)
+        → (strict_meaning w n).value_of e m ≡ Some r → (meaning w n).value_of e m ≡ r }
+    ensures transactions { (w : World) → (tx : List Stmt) → (m : Machine) → (r : Result Flow Stop × Machine)
+        → strict_execute_all w tx m ≡ Some r → execute_all w tx m ≡ r }
 {}

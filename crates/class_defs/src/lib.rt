@@ -25,7 +25,9 @@ pub use classes::{
 };
 pub use declarations::{Declarations, WrittenRoot, WrittenRoots};
 pub use expressions::{At, Expr, Exprs, Name, Operator, TypeName};
-pub use fit_laws::{checked_code_keeps_states_fitting, checked_runs_fit};
+pub use fit_laws::{
+    checked_code_keeps_states_fitting, checked_runs_fit, strict_meaning_tells_what_runs_do,
+};
 pub use limits::{CREATE_LIMIT, DEPTH_LIMIT, READ_LIMIT, STEP_LIMIT};
 pub use look::{class_named, field_named, field_of, method_of};
 pub use machine::{Flow, Local, Locals, Machine, NameSupply, Receiver, Stop};
