@@ -3,6 +3,8 @@ pub mod Eager
 pub mod Epochs
 pub mod ExpressionRules
 pub mod Expressions
+pub mod FitRows
+pub mod Fits
 pub mod Grammar
 pub mod KeptOwnership
 pub mod LazyExamples
@@ -19,6 +21,7 @@ pub mod StatementRules
 pub mod Statements
 pub mod Steps
 pub mod Stored
+pub mod Strict
 pub mod Touched
 pub mod Types
 pub mod Upgrades
