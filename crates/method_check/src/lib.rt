@@ -10,6 +10,7 @@ mod declared;
 mod error;
 mod judge;
 mod kinds;
+mod laws;
 mod least;
 mod methods;
 mod names;
@@ -17,6 +18,7 @@ mod nodes;
 
 pub use checking::{check, check_item, check_script};
 pub use error::CheckError;
+pub use laws::the_least_fault_is_told;
 
 #[cfg(test)]
 mod tests;
