@@ -14,18 +14,18 @@ use Rattle.class_defs.specs.declared.store.Schema.{Schema}
 use Rattle.method_eval.specs.Answers.{ran_at, evaluation}
 use Rattle.method_eval.specs.Viewed.{current}
 use Rattle.method_eval.specs.declared.view.View.{View}
-use Rattle.serial_model.specs.Taking.{created_by, created_in, names_taken}
+use Rattle.serial_model.specs.Taking.{taken_by, taken_in, names_taken}
 use Rattle.serial_model.specs.Whole.{plain, IsFirst}
 use Rattle.serial_model.proofs.WholeStore.{same_world}
 
-created_same : (epoch : ℕ) (r : Result Flow Stop) (m : Machine) → created_in (ran_at epoch r m) ≡ created_by r m
-created_same epoch (Ok flow) m = refl
-created_same epoch (Err (stop.Fault f)) m = refl
-created_same epoch (Err (stop.Need x owners)) m = refl
-created_same epoch (Err (stop.NeedName repo)) m = refl
+taken_same : (epoch : ℕ) (r : Result Flow Stop) (m : Machine) → taken_in (ran_at epoch r m) ≡ taken_by r m
+taken_same epoch (Ok flow) m = refl
+taken_same epoch (Err (stop.Fault f)) m = refl
+taken_same epoch (Err (stop.Need x owners)) m = refl
+taken_same epoch (Err (stop.NeedName repo)) m = refl
 
-pub evaluation_takes : (schema : Schema) → IsFirst schema → (tx : List Stmt) (names : List Oref) (roots : List Root) (view : View) → view.names ≡ record { waiting = names; stand_in = None } → created_in (evaluation tx schema view) ≡ names_taken schema tx (plain roots view) names
+pub evaluation_takes : (schema : Schema) → IsFirst schema → (tx : List Stmt) (names : List Oref) (roots : List Root) (view : View) → view.names ≡ record { waiting = names; stand_in = None } → taken_in (evaluation tx schema view) ≡ names_taken schema tx (plain roots view) names
 unfolding evaluation names_taken
 evaluation_takes schema first tx names roots view given =
-    let P : World → Type 0 = λ w. created_in (let r = execute_all (record { schema = schema; at_hand = λ x. current schema (get view.objects x) }) tx (begun names None) in ran_at view.epoch r.0 r.1) ≡ (let r = execute_all w tx (begun names None) in created_by r.0 r.1) in
-    rw given (subst P (same_world schema first view.objects) (created_same view.epoch _ _))
+    let P : World → Type 0 = λ w. taken_in (let r = execute_all (record { schema = schema; at_hand = λ x. current schema (get view.objects x) }) tx (begun names None) in ran_at view.epoch r.0 r.1) ≡ (let r = execute_all w tx (begun names None) in taken_by r.0 r.1) in
+    rw given (subst P (same_world schema first view.objects) (taken_same view.epoch _ _))

@@ -11,4 +11,4 @@ pub use entries::{Did, Dids, What};
 pub use fresh::are_fresh;
 pub use outcomes::{Cause, Ended, Ends, ItemOutcome};
 pub use running::run_on;
-pub use taking::names_taken;
+pub use taking::{Taken, names_taken};

@@ -1,6 +1,6 @@
 ghost use Rattle.std.specs.Prelude.{◌≡◌, ◌≤◌, List, length, IfOk, OnOk};
 ghost use Rattle.class_defs.specs.declared.store.Root.{Root};
-ghost use Rattle.serial_model.specs.Taking.{created_in, names_taken};
+ghost use Rattle.serial_model.specs.Taking.{names_taken, taken_in};
 ghost use Rattle.serial_model.specs.Whole.{IsFirst, plain};
 
 use class_defs::{Block, NameSupply, Schema};
@@ -8,9 +8,20 @@ use method_eval::{Ran, View, eval};
 use std::alloc::Global;
 use thor_value::{Answer, NoMemory, Orefs};
 
-/// The names of the objects that an evaluation created, where it came to its end.
-fn created_in(ran: Ran) -> Option<Orefs>
-    ensures { result ≡ created_in ran }
+/// The names that a transaction's new objects take.
+#[derive(Debug, Drop)]
+pub enum Taken {
+    /// These, in the order in which the objects were made.
+    Names(Orefs),
+    /// It wants one more name than there is.
+    Wanting,
+    /// It stopped before its end for another reason, as a fault.
+    Stopped,
+}
+
+/// The names that the new objects of an evaluation took.
+fn taken_in(ran: Ran) -> Taken
+    ensures { result ≡ taken_in ran }
 {
     match ran {
         Ran::Done {
@@ -19,26 +30,23 @@ fn created_in(ran: Ran) -> Option<Orefs>
             writes: _writes,
             fresh,
         } => match answer {
-            Answer::Ints(_ints) => Some(fresh),
-            Answer::Fault(_fault) => None,
+            Answer::Ints(_ints) => Taken::Names(fresh),
+            Answer::Fault(_fault) => Taken::Stopped,
         },
-        Ran::Need { .. } => None,
-        Ran::NeedName { .. } => None,
+        Ran::Need { .. } => Taken::Stopped,
+        Ran::NeedName { .. } => Taken::Wanting,
     }
 }
 
 /// The names that a transaction's new objects take on the whole store that a view has, where these names are
-/// at hand.
-///
-/// Gives nothing where the transaction stops before its end, by a fault or for want of a name. The store
-/// stays as it is.
+/// at hand. The store stays as it is.
 pub fn names_taken(
     alloc: Global,
     tx: &Block,
     schema: &Schema,
     view: &mut View,
     names: Orefs,
-) -> Result<Option<Orefs>, NoMemory>
+) -> Result<Taken, NoMemory>
     requires few { length schema.now.classes ≤ 65536 }
     requires first { IsFirst schema.now }
     ensures taken { IfOk result (λ taken. (roots : List Root) → taken ≡ names_taken schema.now tx.now (plain roots view.old) names) }
@@ -49,5 +57,5 @@ pub fn names_taken(
         stand_in: None,
     };
     let ran = eval(alloc, tx, schema, view)?;
-    Ok(created_in(ran))
+    Ok(taken_in(ran))
 }

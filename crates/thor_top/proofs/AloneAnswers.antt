@@ -1,5 +1,5 @@
 -- What a client that is alone does answers its items, each once and in its order.
-use Rattle.std.proofs.Common.{◌≡◌, ℕ, ◌+◌, ◌<◌, ◌≤◌, Bool, true, false, cond, List, [], ◌∷◌, ◌++◌, map, Some, refl, ap, sym, ◌∙◌, subst, arith, append_assoc, ◌==◌, ◌&&◌, ◌||◌, not, length}
+use Rattle.std.proofs.Common.{◌≡◌, inl, inr, ℕ, ◌+◌, ◌<◌, ◌≤◌, Bool, true, false, cond, List, [], ◌∷◌, ◌++◌, map, Some, refl, ap, sym, ◌∙◌, subst, arith, append_assoc, ◌==◌, ◌&&◌, ◌||◌, not, length}
 use Rattle.std.proofs.lemmas.Bool.Decides.{nat_tests}
 use Rattle.std.proofs.lemmas.List.Elements.{filter-append, Contains-append_right}
 use Rattle.std.specs.List.{AllByRecursion, list_any}
@@ -14,8 +14,9 @@ use Rattle.serial_model.specs.Outcomes.{Answers, Item, all_items, client_items_f
 use Rattle.serial_model.specs.declared.entries.Did.{Did}
 use Rattle.serial_model.specs.declared.entries.What.{What}
 use Rattle.serial_model.specs.declared.entries.What.TheVariants.{Tx}
-use Rattle.thor_top.specs.Alone.{performance, did, ended}
+use Rattle.thor_top.specs.Alone.{Commit, performance, did, ended}
 use Rattle.thor_top.specs.Playing.{first_items, is_alone, is_busy}
+use Rattle.thor_top.specs.declared.performed.Performed.{Performed}
 use Rattle.thor_top.proofs.AloneIsLegal.{Parts, parts, some_is}
 
 -- the n-th item of client 1
@@ -32,12 +33,18 @@ Below n d = (d.who.client ≡ 1) × (d.who.index < n)
 abbrev From : ℕ → Did → Type 0
 From n d = (d.who.client ≡ 1) × (n ≤ d.who.index)
 
-pub numbered : (schema : Schema) (n given m : ℕ) (store : Plain) (txs : List (List Stmt)) (ds : List Did) → m ≤ n → performance schema n given store txs ≡ Some ds → AllByRecursion (From m) ds
-numbered schema n given m store [] ds low h = let P : List Did → Type 0 = λ es. AllByRecursion (From m) es in subst P (some_is h) tt
-numbered schema n given m store (tx ∷ txs) ds low h =
-    let p : Parts schema n given store tx txs ds = parts schema n given store tx txs ds h in
-    let P : List Did → Type 0 = λ es. AllByRecursion (From m) es in
-    subst P (sym p.are) ((refl, low), numbered schema (n + 1) (given + length p.commit.fresh) m p.commit.after txs p.rest (omega arith) p.others)
+numbered_turn : (schema : Schema) (tries n time given m : ℕ) (store : Plain) (tx : List Stmt) (txs : List (List Stmt)) (done : Performed) → m ≤ n
+    → ((time2 given2 : ℕ) (store2 : Plain) (rest : Performed) → performance schema tries (n + 1) time2 given2 store2 txs ≡ Some rest → AllByRecursion (From m) rest.history)
+    → Parts schema tries n time given store tx txs done → AllByRecursion (From m) done.history
+numbered_turn schema tries n time given m store tx txs done low next (inl p) =
+    let P : Performed → Type 0 = λ q. AllByRecursion (From m) q.history in
+    subst P (sym p.are) ((refl, low), next (time + 1) (given + length p.commit.fresh) p.commit.after p.rest p.others)
+numbered_turn schema tries n time given m store tx txs done low next (inr p) = let P : Performed → Type 0 = λ q. AllByRecursion (From m) q.history in subst P (sym p.are) (next time given store p.rest p.others)
+
+pub numbered : (schema : Schema) (tries n time given m : ℕ) (store : Plain) (txs : List (List Stmt)) (done : Performed) → m ≤ n → performance schema tries n time given store txs ≡ Some done → AllByRecursion (From m) done.history
+numbered schema tries n time given m store [] done low h = let P : Performed → Type 0 = λ q. AllByRecursion (From m) q.history in subst P (some_is h) tt
+numbered schema tries n time given m store (tx ∷ txs) done low h =
+    numbered_turn schema tries n time given m store tx txs done low (λ time2 given2 store2 rest h2. numbered schema tries (n + 1) time2 given2 m store2 txs rest (omega (arith, low)) h2) (parts schema tries n time given store tx txs done h)
 
 no_and : (b : Bool) → (b && false) ≡ false
 no_and true = refl
@@ -61,16 +68,16 @@ same : (n : ℕ) → (n == n) ≡ true
 same n = grind (arith, nat_tests)
 
 -- of the n-th item there is one entry
-one_entry : (n : ℕ) (tx : List Stmt) (fresh : List Oref) (a : Answer) (before rest : List Did) → AllByRecursion (Below n) before → AllByRecursion (From (n + 1)) rest → entries_of (before ++ did n tx fresh a ∷ rest) (who n) ≡ did n tx fresh a ∷ []
-one_entry n tx fresh a before rest low high =
-    filter-append (λ d. same_who d.who (who n)) before (did n tx fresh a ∷ rest)
-    ∙ ap (λ xs. xs ++ entries_of (did n tx fresh a ∷ rest) (who n)) (none_below n before low)
-    ∙ ap (λ b. cond b (did n tx fresh a ∷ entries_of rest (who n)) (entries_of rest (who n))) (ap (λ b. true && b) (same n))
-    ∙ ap (λ xs. did n tx fresh a ∷ xs) (none_above n rest high)
+one_entry : (n time : ℕ) (tx : List Stmt) (fresh : List Oref) (a : Answer) (before rest : List Did) → AllByRecursion (Below n) before → AllByRecursion (From (n + 1)) rest → entries_of (before ++ did n time tx fresh a ∷ rest) (who n) ≡ did n time tx fresh a ∷ []
+one_entry n time tx fresh a before rest low high =
+    filter-append (λ d. same_who d.who (who n)) before (did n time tx fresh a ∷ rest)
+    ∙ ap (λ xs. xs ++ entries_of (did n time tx fresh a ∷ rest) (who n)) (none_below n before low)
+    ∙ ap (λ b. cond b (did n time tx fresh a ∷ entries_of rest (who n)) (entries_of rest (who n))) (ap (λ b. true && b) (same n))
+    ∙ ap (λ xs. did n time tx fresh a ∷ xs) (none_above n rest high)
 
-answered_one : (history : List Did) (n : ℕ) (tx : List Stmt) (fresh : List Oref) (a : Answer) → entries_of history (who n) ≡ did n tx fresh a ∷ [] → IsAnswered history (item n tx) (ended (did n tx fresh a)).outcome
-answered_one history n tx fresh (answer.Ints ints) h = (fresh, h)
-answered_one history n tx fresh (answer.Fault f) h = (fresh, h)
+answered_one : (history : List Did) (n time : ℕ) (tx : List Stmt) (fresh : List Oref) (a : Answer) → entries_of history (who n) ≡ did n time tx fresh a ∷ [] → IsAnswered history (item n tx) (ended (did n time tx fresh a)).outcome
+answered_one history n time tx fresh (answer.Ints ints) h = (fresh, h)
+answered_one history n time tx fresh (answer.Fault f) h = (fresh, h)
 
 below_more : (n : ℕ) (ds : List Did) → AllByRecursion (Below n) ds → AllByRecursion (Below (n + 1)) ds
 below_more n [] all = tt
@@ -80,42 +87,88 @@ all_end : (P : Did → Type 0) (ds : List Did) (d : Did) → AllByRecursion P ds
 all_end P [] d all here = (here, tt)
 all_end P (e ∷ ds) d all here = (all.0, all_end P ds d all.1 here)
 
-pub answered : (schema : Schema) (n given : ℕ) (store : Plain) (txs : List (List Stmt)) (ds before : List Did) → AllByRecursion (Below n) before → performance schema n given store txs ≡ Some ds → AreAnswered (before ++ ds) (items_from 1 n (map Tx txs)) (map ended ds)
-answered schema n given store [] ds before low h = let P : List Did → Type 0 = λ es. AreAnswered (before ++ es) [] (map ended es) in subst P (some_is h) tt
-answered schema n given store (tx ∷ txs) ds before low h =
-    let p : Parts schema n given store tx txs ds = parts schema n given store tx txs ds h in
-    let d : Did = did n tx p.commit.fresh p.commit.answer in
-    let P : List Did → Type 0 = λ es. AreAnswered (before ++ es) (items_from 1 n (map Tx (tx ∷ txs))) (map ended es) in
-    let Q : List Did → Type 0 = λ es. AreAnswered es (items_from 1 (n + 1) (map Tx txs)) (map ended p.rest) in
-    subst P (sym p.are) (
+-- of the n-th item there is none
+no_entry : (n : ℕ) (before rest : List Did) → AllByRecursion (Below n) before → AllByRecursion (From (n + 1)) rest → entries_of (before ++ rest) (who n) ≡ []
+no_entry n before rest low high =
+    filter-append (λ d. same_who d.who (who n)) before rest
+    ∙ ap (λ xs. xs ++ entries_of rest (who n)) (none_below n before low)
+    ∙ none_above n rest high
+
+abbrev Answered : ℕ → List (List Stmt) → List Did → Performed → Type 0
+Answered n txs before done = AreAnswered (before ++ done.history) (items_from 1 n (map Tx txs)) done.ends
+
+answered_turn : (schema : Schema) (tries n time given : ℕ) (store : Plain) (tx : List Stmt) (txs : List (List Stmt)) (done : Performed) (before : List Did) → AllByRecursion (Below n) before
+    → ((time2 given2 : ℕ) (store2 : Plain) (rest : Performed) (before2 : List Did) → AllByRecursion (Below (n + 1)) before2 → performance schema tries (n + 1) time2 given2 store2 txs ≡ Some rest → Answered (n + 1) txs before2 rest)
+    → Parts schema tries n time given store tx txs done → Answered n (tx ∷ txs) before done
+answered_turn schema tries n time given store tx txs done before low next (inl p) =
+    let c : Commit = p.commit in
+    let d : Did = did n time tx c.fresh c.answer in
+    let Q : List Did → Type 0 = λ es. AreAnswered es (items_from 1 (n + 1) (map Tx txs)) p.rest.ends in
+    subst (Answered n (tx ∷ txs) before) (sym p.are) (
       refl,
-      answered_one (before ++ d ∷ p.rest) n tx p.commit.fresh p.commit.answer (one_entry n tx p.commit.fresh p.commit.answer before p.rest low (numbered schema (n + 1) (given + length p.commit.fresh) (n + 1) p.commit.after txs p.rest (omega arith) p.others)),
-      subst Q (append_assoc before (d ∷ []) p.rest) (answered schema (n + 1) (given + length p.commit.fresh) p.commit.after txs p.rest (before ++ d ∷ []) (all_end (Below (n + 1)) before d (below_more n before low) (refl, omega arith)) p.others),
+      answered_one (before ++ d ∷ p.rest.history) n time tx c.fresh c.answer
+          (one_entry n time tx c.fresh c.answer before p.rest.history low (numbered schema tries (n + 1) (time + 1) (given + length c.fresh) (n + 1) c.after txs p.rest (omega arith) p.others)),
+      subst Q (append_assoc before (d ∷ []) p.rest.history)
+          (next (time + 1) (given + length c.fresh) c.after p.rest (before ++ d ∷ []) (all_end (Below (n + 1)) before d (below_more n before low) (refl, omega arith)) p.others),
+    )
+answered_turn schema tries n time given store tx txs done before low next (inr p) =
+    subst (Answered n (tx ∷ txs) before) (sym p.are) (
+      refl,
+      no_entry n before p.rest.history low (numbered schema tries (n + 1) time given (n + 1) store txs p.rest (omega arith) p.others),
+      next time given store p.rest before (below_more n before low) p.others,
     )
 
+pub answered : (schema : Schema) (tries n time given : ℕ) (store : Plain) (txs : List (List Stmt)) (done : Performed) (before : List Did) → AllByRecursion (Below n) before → performance schema tries n time given store txs ≡ Some done → Answered n txs before done
+answered schema tries n time given store [] done before low h = subst (Answered n [] before) (some_is h) tt
+answered schema tries n time given store (tx ∷ txs) done before low h =
+    answered_turn schema tries n time given store tx txs done before low (λ time2 given2 store2 rest before2 low2 h2. answered schema tries (n + 1) time2 given2 store2 txs rest before2 low2 h2) (parts schema tries n time given store tx txs done h)
+
 -- every entry is of an item
-pub of_items : (schema : Schema) (n given : ℕ) (store : Plain) (txs : List (List Stmt)) (ds : List Did) (before : List Item) → performance schema n given store txs ≡ Some ds → AreOfItems (before ++ items_from 1 n (map Tx txs)) ds
-of_items schema n given store [] ds before h = let P : List Did → Type 0 = λ es. AreOfItems (before ++ []) es in subst P (some_is h) tt
-of_items schema n given store (tx ∷ txs) ds before h =
-    let p : Parts schema n given store tx txs ds = parts schema n given store tx txs ds h in
+abbrev OfItems : ℕ → List (List Stmt) → List Item → Performed → Type 0
+OfItems n txs before done = AreOfItems (before ++ items_from 1 n (map Tx txs)) done.history
+
+of_items_turn : (schema : Schema) (tries n time given : ℕ) (store : Plain) (tx : List Stmt) (txs : List (List Stmt)) (done : Performed) (before : List Item)
+    → ((time2 given2 : ℕ) (store2 : Plain) (rest : Performed) (before2 : List Item) → performance schema tries (n + 1) time2 given2 store2 txs ≡ Some rest → OfItems (n + 1) txs before2 rest)
+    → Parts schema tries n time given store tx txs done → OfItems n (tx ∷ txs) before done
+of_items_turn schema tries n time given store tx txs done before next (inl p) =
     let items : List Item = items_from 1 (n + 1) (map Tx txs) in
-    let P : List Did → Type 0 = λ es. AreOfItems (before ++ item n tx ∷ items) es in
-    let Q : List Item → Type 0 = λ is. AreOfItems is p.rest in
-    subst P (sym p.are) (
+    let Q : List Item → Type 0 = λ is. AreOfItems is p.rest.history in
+    subst (OfItems n (tx ∷ txs) before) (sym p.are) (
       Contains-append_right before (item n tx ∷ items) (item n tx) (0, omega arith, refl),
-      subst Q (append_assoc before (item n tx ∷ []) items) (of_items schema (n + 1) (given + length p.commit.fresh) p.commit.after txs p.rest (before ++ item n tx ∷ []) p.others),
+      subst Q (append_assoc before (item n tx ∷ []) items) (next (time + 1) (given + length p.commit.fresh) p.commit.after p.rest (before ++ item n tx ∷ []) p.others),
     )
+of_items_turn schema tries n time given store tx txs done before next (inr p) =
+    let items : List Item = items_from 1 (n + 1) (map Tx txs) in
+    let Q : List Item → Type 0 = λ is. AreOfItems is p.rest.history in
+    subst (OfItems n (tx ∷ txs) before) (sym p.are) (subst Q (append_assoc before (item n tx ∷ []) items) (next time given store p.rest (before ++ item n tx ∷ []) p.others))
+
+pub of_items : (schema : Schema) (tries n time given : ℕ) (store : Plain) (txs : List (List Stmt)) (done : Performed) (before : List Item) → performance schema tries n time given store txs ≡ Some done → OfItems n txs before done
+of_items schema tries n time given store [] done before h = subst (OfItems n [] before) (some_is h) tt
+of_items schema tries n time given store (tx ∷ txs) done before h =
+    of_items_turn schema tries n time given store tx txs done before (λ time2 given2 store2 rest before2 h2. of_items schema tries (n + 1) time2 given2 store2 txs rest before2 h2) (parts schema tries n time given store tx txs done h)
 
 later : (n : ℕ) (ds : List Did) → AllByRecursion (From (n + 1)) ds → AllByRecursion (λ e. 1 ≡ e.who.client → n < e.who.index) ds
 later n [] all = tt
 later n (d ∷ ds) all = (λ _. omega (arith, all.0.1), later n ds all.1)
 
-pub in_order : (schema : Schema) (n given : ℕ) (store : Plain) (txs : List (List Stmt)) (ds : List Did) → performance schema n given store txs ≡ Some ds → AreInClientOrder ds
-in_order schema n given store [] ds h = let P : List Did → Type 0 = λ es. AreInClientOrder es in subst P (some_is h) tt
-in_order schema n given store (tx ∷ txs) ds h =
-    let p : Parts schema n given store tx txs ds = parts schema n given store tx txs ds h in
-    let P : List Did → Type 0 = λ es. AreInClientOrder es in
-    subst P (sym p.are) (later n p.rest (numbered schema (n + 1) (given + length p.commit.fresh) (n + 1) p.commit.after txs p.rest (omega arith) p.others), in_order schema (n + 1) (given + length p.commit.fresh) p.commit.after txs p.rest p.others)
+abbrev InOrder : Performed → Type 0
+InOrder done = AreInClientOrder done.history
+
+in_order_turn : (schema : Schema) (tries n time given : ℕ) (store : Plain) (tx : List Stmt) (txs : List (List Stmt)) (done : Performed)
+    → ((time2 given2 : ℕ) (store2 : Plain) (rest : Performed) → performance schema tries (n + 1) time2 given2 store2 txs ≡ Some rest → InOrder rest)
+    → Parts schema tries n time given store tx txs done → InOrder done
+in_order_turn schema tries n time given store tx txs done next (inl p) =
+    let c : Commit = p.commit in
+    subst InOrder (sym p.are) (
+      later n p.rest.history (numbered schema tries (n + 1) (time + 1) (given + length c.fresh) (n + 1) c.after txs p.rest (omega arith) p.others),
+      next (time + 1) (given + length c.fresh) c.after p.rest p.others,
+    )
+in_order_turn schema tries n time given store tx txs done next (inr p) = subst InOrder (sym p.are) (next time given store p.rest p.others)
+
+pub in_order : (schema : Schema) (tries n time given : ℕ) (store : Plain) (txs : List (List Stmt)) (done : Performed) → performance schema tries n time given store txs ≡ Some done → InOrder done
+in_order schema tries n time given store [] done h = subst InOrder (some_is h) tt
+in_order schema tries n time given store (tx ∷ txs) done h =
+    in_order_turn schema tries n time given store tx txs done (λ time2 given2 store2 rest h2. in_order schema tries (n + 1) time2 given2 store2 txs rest h2) (parts schema tries n time given store tx txs done h)
 
 append_none : (xs : List Item) → xs ++ [] ≡ xs
 append_none [] = refl
@@ -146,12 +199,12 @@ items_of_alone [] idle = refl
 items_of_alone (first ∷ others) idle = sym (ap (λ (is : List Item). items_from 1 1 (map Tx first) ++ is) (none_of_idle 2 others idle) ∙ append_none (items_from 1 1 (map Tx first)))
 
 -- the items of client 1 alone
-pub alone_answers : (schema : Schema) (store : Plain) (clients : List (List (List Stmt))) (ds : List Did) → is_alone clients ≡ true → performance schema 1 0 store (first_items clients) ≡ Some ds → Answers ds (all_items (whats clients)) (map ended ds)
-alone_answers schema store clients ds idle h =
+pub alone_answers : (schema : Schema) (store : Plain) (tries : ℕ) (clients : List (List (List Stmt))) (done : Performed) → is_alone clients ≡ true → performance schema tries 1 1 0 store (first_items clients) ≡ Some done → Answers done.history (all_items (whats clients)) done.ends
+alone_answers schema store tries clients done idle h =
     let txs : List (List Stmt) = first_items clients in
-    let P : List Item → Type 0 = λ is. Answers ds is (map ended ds) in
+    let P : List Item → Type 0 = λ is. Answers done.history is done.ends in
     subst P (items_of_alone clients idle) (record {
-      once = answered schema 1 0 store txs ds [] tt h;
-      of_items = of_items schema 1 0 store txs ds [] h;
-      in_order = in_order schema 1 0 store txs ds h;
+      once = answered schema tries 1 1 0 store txs done [] tt h;
+      of_items = of_items schema tries 1 1 0 store txs done [] h;
+      in_order = in_order schema tries 1 1 0 store txs done h;
     })

@@ -1,5 +1,5 @@
 -- What a client that is alone does is a legal history.
-use Rattle.std.proofs.Common.{◌≡◌, ℕ, ◌+◌, Bool, true, false, cond, List, [], ◌∷◌, Option, Some, None, option_map, option_and_then, unwrap_or, IsSomeAnd, Result, Ok, Err, refl, ap, sym, ◌∙◌, subst, arith, length, ◌==◌}
+use Rattle.std.proofs.Common.{◌≡◌, ℕ, ◌+◌, Bool, true, false, cond, List, [], ◌∷◌, Option, Some, None, option_map, unwrap_or, IsSomeAnd, Result, Ok, Err, refl, ap, sym, ◌∙◌, subst, arith, length, ◌==◌, ◌⊎◌, inl, inr}
 use Rattle.std.specs.Cmp.{nat_cmp_is}
 use Rattle.std.specs.Ordering.{nat_cmp, ordering_then}
 use Rattle.std.specs.declared.cmp.Ordering.{Ordering}
@@ -20,7 +20,10 @@ use Rattle.serial_model.specs.History.{are_fresh, schema_of, run_on, after_entry
 use Rattle.serial_model.specs.Replaying.{effect, effect_of}
 use Rattle.serial_model.specs.declared.entries.Did.{Did}
 use Rattle.serial_model.specs.Taking.{names_taken}
-use Rattle.thor_top.specs.Alone.{Commit, commit_of, did, first_page, if_fresh, names_at_hand, or_else, performance, schemas_of, with_names, with_some_of}
+use Rattle.serial_model.specs.declared.taking.Taken.{Taken}
+use Rattle.serial_model.specs.declared.taking.Taken.TheVariants.{Names, Wanting, Stopped}
+use Rattle.thor_top.specs.Alone.{Commit, Turn, Commits, LacksNames, IsUndefined, by_turn, commits_or, commits_or_not, did, first_page, names_at_hand, performance, schemas_of, turn_by, turn_of, with_entry, with_names, with_refused}
+use Rattle.thor_top.specs.declared.performed.Performed.{Performed}
 
 pub some_is : {X : Type 0} {x y : X} → Some x ≡ Some y → x ≡ y
 some_is {x = x} {y = y} e = cc
@@ -51,44 +54,65 @@ is_commit_with schema tx store fresh c ok h =
     let Q : List Oref → Type 0 = λ ns. effect_of schema tx store ns ≡ Some (c.answer, c.after) in
     record { fresh = subst P (sym w.names) ok; ran = subst Q (sym w.names) w.is }
 
-is_commit_if : (schema : Schema) (tx : List Stmt) (store : Plain) (names : List Oref) (b : Bool) (c : Commit) → are_fresh store names ≡ b → option_and_then (with_names schema tx store) (cond b (Some names) None) ≡ Some c → IsCommit schema tx store c
-is_commit_if schema tx store names true c ok h = is_commit_with schema tx store names c ok h
-is_commit_if schema tx store names false c ok h = absurd (let bad : None ≡ Some c = h in cc)
+is_commit_of : (schema : Schema) (tx : List Stmt) (store : Plain) (fresh : List Oref) (o : Option Commit) (c : Commit) → are_fresh store fresh ≡ true → with_names schema tx store fresh ≡ o → commits_or_not o ≡ Commits c → IsCommit schema tx store c
+is_commit_of schema tx store fresh (Some d) c ok is h = is_commit_with schema tx store fresh c ok (is ∙ ap Some (let e : Commits d ≡ Commits c = h in cc))
+is_commit_of schema tx store fresh None c ok is h = absurd (let bad : IsUndefined ≡ Commits c = h in cc)
 
-is_commit_of : (schema : Schema) (tx : List Stmt) (store : Plain) (o : Option (List Oref)) (c : Commit) → option_and_then (with_names schema tx store) (option_and_then (if_fresh store) o) ≡ Some c → IsCommit schema tx store c
-is_commit_of schema tx store None c h = absurd (let bad : None ≡ Some c = h in cc)
-is_commit_of schema tx store (Some names) c h = is_commit_if schema tx store names (are_fresh store names) c refl h
+is_commit_if : (schema : Schema) (tx : List Stmt) (store : Plain) (fresh : List Oref) (b : Bool) (c : Commit) → are_fresh store fresh ≡ b → cond b (commits_or_not (with_names schema tx store fresh)) IsUndefined ≡ Commits c → IsCommit schema tx store c
+is_commit_if schema tx store fresh true c ok h = is_commit_of schema tx store fresh (with_names schema tx store fresh) c ok refl h
+is_commit_if schema tx store fresh false c ok h = absurd (let bad : IsUndefined ≡ Commits c = h in cc)
 
-is_commit_by : (schema : Schema) (tx : List Stmt) (store : Plain) (at_hand : List Oref) (o : Option Commit) (c : Commit) → with_names schema tx store [] ≡ o → or_else o (with_some_of schema tx store at_hand) ≡ Some c → IsCommit schema tx store c
-is_commit_by schema tx store at_hand (Some d) c is h = is_commit_with schema tx store [] c refl (is ∙ h)
-is_commit_by schema tx store at_hand None c is h = is_commit_of schema tx store (names_taken schema tx store at_hand) c h
+is_commit_taken : (schema : Schema) (tx : List Stmt) (store : Plain) (taken : Taken) (c : Commit) → turn_by schema tx store taken ≡ Commits c → IsCommit schema tx store c
+is_commit_taken schema tx store (Names fresh) c h = is_commit_if schema tx store fresh (are_fresh store fresh) c refl h
+is_commit_taken schema tx store Wanting c h = absurd (let bad : LacksNames ≡ Commits c = h in cc)
+is_commit_taken schema tx store Stopped c h = absurd (let bad : IsUndefined ≡ Commits c = h in cc)
 
-pub is_commit : (schema : Schema) (tx : List Stmt) (store : Plain) (at_hand : List Oref) (c : Commit) → commit_of schema tx store at_hand ≡ Some c → IsCommit schema tx store c
+is_commit_by : (schema : Schema) (tx : List Stmt) (store : Plain) (at_hand : List Oref) (o : Option Commit) (c : Commit) → with_names schema tx store [] ≡ o → commits_or o (turn_by schema tx store (names_taken schema tx store at_hand)) ≡ Commits c → IsCommit schema tx store c
+is_commit_by schema tx store at_hand (Some d) c is h = is_commit_with schema tx store [] c refl (is ∙ ap Some (let e : Commits d ≡ Commits c = h in cc))
+is_commit_by schema tx store at_hand None c is h = is_commit_taken schema tx store (names_taken schema tx store at_hand) c h
+
+pub is_commit : (schema : Schema) (tx : List Stmt) (store : Plain) (at_hand : List Oref) (c : Commit) → turn_of schema tx store at_hand ≡ Commits c → IsCommit schema tx store c
 is_commit schema tx store at_hand c h = is_commit_by schema tx store at_hand (with_names schema tx store []) c refl h
 
 -- ---- a performance of one transaction and more
 
-pub record Parts (schema : Schema) (n given : ℕ) (store : Plain) (tx : List Stmt) (txs : List (List Stmt)) (ds : List Did) : Type 0 where
+-- the first one commits
+pub record Committing (schema : Schema) (tries n time given : ℕ) (store : Plain) (tx : List Stmt) (txs : List (List Stmt)) (done : Performed) : Type 0 where
   pub commit : Commit
-  pub rest : List Did
+  pub rest : Performed
   pub is : IsCommit schema tx store commit
-  pub others : performance schema (n + 1) (given + length commit.fresh) commit.after txs ≡ Some rest
-  pub are : ds ≡ did n tx commit.fresh commit.answer ∷ rest
+  pub others : performance schema tries (n + 1) (time + 1) (given + length commit.fresh) commit.after txs ≡ Some rest
+  pub are : done ≡ with_entry (did n time tx commit.fresh commit.answer) rest
 
-parts_more : (schema : Schema) (n given : ℕ) (store : Plain) (tx : List Stmt) (txs : List (List Stmt)) (ds : List Did) (c : Commit) (o : Option (List Did))
-    → IsCommit schema tx store c → performance schema (n + 1) (given + length c.fresh) c.after txs ≡ o → option_map (λ rest. did n tx c.fresh c.answer ∷ rest) o ≡ Some ds → Parts schema n given store tx txs ds
-parts_more schema n given store tx txs ds c None is others h = absurd (let bad : None ≡ Some ds = h in cc)
-parts_more schema n given store tx txs ds c (Some rest) is others h = record { commit = c; rest = rest; is = is; others = others; are = sym (some_is h) }
+-- the first one is refused
+pub record Lacking (schema : Schema) (tries n time given : ℕ) (store : Plain) (txs : List (List Stmt)) (done : Performed) : Type 0 where
+  pub rest : Performed
+  pub others : performance schema tries (n + 1) time given store txs ≡ Some rest
+  pub are : done ≡ with_refused n tries rest
 
-parts_by : (schema : Schema) (n given : ℕ) (store : Plain) (tx : List Stmt) (txs : List (List Stmt)) (ds : List Did) (o : Option Commit)
-    → commit_of schema tx store (names_at_hand (first_page schema) given) ≡ o
-    → option_and_then (λ c. option_map (λ rest. did n tx c.fresh c.answer ∷ rest) (performance schema (n + 1) (given + length c.fresh) c.after txs)) o ≡ Some ds → Parts schema n given store tx txs ds
-parts_by schema n given store tx txs ds None committed h = absurd (let bad : None ≡ Some ds = h in cc)
-parts_by schema n given store tx txs ds (Some c) committed h =
-    parts_more schema n given store tx txs ds c (performance schema (n + 1) (given + length c.fresh) c.after txs) (is_commit schema tx store (names_at_hand (first_page schema) given) c committed) refl h
+abbrev pub Parts : Schema → ℕ → ℕ → ℕ → ℕ → Plain → List Stmt → List (List Stmt) → Performed → Type 0
+Parts schema tries n time given store tx txs done = Committing schema tries n time given store tx txs done ⊎ Lacking schema tries n time given store txs done
 
-pub parts : (schema : Schema) (n given : ℕ) (store : Plain) (tx : List Stmt) (txs : List (List Stmt)) (ds : List Did) → performance schema n given store (tx ∷ txs) ≡ Some ds → Parts schema n given store tx txs ds
-parts schema n given store tx txs ds h = parts_by schema n given store tx txs ds (commit_of schema tx store (names_at_hand (first_page schema) given)) refl h
+committing : (schema : Schema) (tries n time given : ℕ) (store : Plain) (tx : List Stmt) (txs : List (List Stmt)) (done : Performed) (c : Commit) (o : Option Performed)
+    → IsCommit schema tx store c → performance schema tries (n + 1) (time + 1) (given + length c.fresh) c.after txs ≡ o → option_map (with_entry (did n time tx c.fresh c.answer)) o ≡ Some done → Committing schema tries n time given store tx txs done
+committing schema tries n time given store tx txs done c None is others h = absurd (let bad : None ≡ Some done = h in cc)
+committing schema tries n time given store tx txs done c (Some rest) is others h = record { commit = c; rest = rest; is = is; others = others; are = sym (some_is h) }
+
+lacking : (schema : Schema) (tries n time given : ℕ) (store : Plain) (txs : List (List Stmt)) (done : Performed) (o : Option Performed)
+    → performance schema tries (n + 1) time given store txs ≡ o → option_map (with_refused n tries) o ≡ Some done → Lacking schema tries n time given store txs done
+lacking schema tries n time given store txs done None others h = absurd (let bad : None ≡ Some done = h in cc)
+lacking schema tries n time given store txs done (Some rest) others h = record { rest = rest; others = others; are = sym (some_is h) }
+
+parts_by : (schema : Schema) (tries n time given : ℕ) (store : Plain) (tx : List Stmt) (txs : List (List Stmt)) (done : Performed) (t : Turn)
+    → turn_of schema tx store (names_at_hand (first_page schema) given) ≡ t
+    → by_turn t (λ c. option_map (with_entry (did n time tx c.fresh c.answer)) (performance schema tries (n + 1) (time + 1) (given + length c.fresh) c.after txs)) (option_map (with_refused n tries) (performance schema tries (n + 1) time given store txs)) ≡ Some done
+    → Parts schema tries n time given store tx txs done
+parts_by schema tries n time given store tx txs done (Commits c) is h = inl (committing schema tries n time given store tx txs done c _ (is_commit schema tx store (names_at_hand (first_page schema) given) c is) refl h)
+parts_by schema tries n time given store tx txs done LacksNames is h = inr (lacking schema tries n time given store txs done _ refl h)
+parts_by schema tries n time given store tx txs done IsUndefined is h = absurd (let bad : None ≡ Some done = h in cc)
+
+pub parts : (schema : Schema) (tries n time given : ℕ) (store : Plain) (tx : List Stmt) (txs : List (List Stmt)) (done : Performed) → performance schema tries n time given store (tx ∷ txs) ≡ Some done → Parts schema tries n time given store tx txs done
+parts schema tries n time given store tx txs done h = parts_by schema tries n time given store tx txs done (turn_of schema tx store (names_at_hand (first_page schema) given)) refl h
 
 -- a run leaves the epoch
 epoch_of_chosen : (b : Bool) (store : Plain) (r s : Ran) → r.store.epoch ≡ store.epoch → cond b (Some r) None ≡ Some s → s.store.epoch ≡ store.epoch
@@ -124,29 +148,36 @@ has_run schema tx store fresh answer after h = has_run_by schema tx store fresh 
 on_first : (schema : Schema) (store : Plain) (tx : List Stmt) (fresh : List Oref) (ran : Option Ran) → store.epoch ≡ 0 → run schema tx store fresh ≡ ran → run_on (schemas_of schema) store tx fresh ≡ ran
 on_first schema store tx fresh ran first is = ap (λ (k : ℕ). run (schema_of (schemas_of schema) k) tx store fresh) first ∙ is
 
-legal_one : (schema : Schema) (n : ℕ) (store : Plain) (tx : List Stmt) (fresh : List Oref) (answer : Answer) (after : Plain) → store.epoch ≡ 0 → are_fresh store fresh ≡ true → HasRun schema tx store fresh answer after → IsLegalTx (schemas_of schema) store (did n tx fresh answer) tx
-legal_one schema n store tx fresh answer after first new h = record {
+legal_one : (schema : Schema) (n time : ℕ) (store : Plain) (tx : List Stmt) (fresh : List Oref) (answer : Answer) (after : Plain) → store.epoch ≡ 0 → are_fresh store fresh ≡ true → HasRun schema tx store fresh answer after → IsLegalTx (schemas_of schema) store (did n time tx fresh answer) tx
+legal_one schema n time store tx fresh answer after first new h = record {
   number = refl;
   fresh = new;
   answer = let P : Option Ran → Type 0 = λ o. IsSomeAnd o (λ r. r.answer ≡ answer) in subst P (sym (on_first schema store tx fresh (Some h.ran) first h.is)) h.answered;
 }
 
-after_one : (schema : Schema) (n : ℕ) (store : Plain) (tx : List Stmt) (fresh : List Oref) (answer : Answer) (after : Plain) → store.epoch ≡ 0 → HasRun schema tx store fresh answer after → after_entry (schemas_of schema) store (did n tx fresh answer) ≡ after
-after_one schema n store tx fresh answer after first h = ap (λ (o : Option Ran). unwrap_or (option_map (λ r. r.store) o) store) (on_first schema store tx fresh (Some h.ran) first h.is) ∙ h.left
+after_one : (schema : Schema) (n time : ℕ) (store : Plain) (tx : List Stmt) (fresh : List Oref) (answer : Answer) (after : Plain) → store.epoch ≡ 0 → HasRun schema tx store fresh answer after → after_entry (schemas_of schema) store (did n time tx fresh answer) ≡ after
+after_one schema n time store tx fresh answer after first h = ap (λ (o : Option Ran). unwrap_or (option_map (λ r. r.store) o) store) (on_first schema store tx fresh (Some h.ran) first h.is) ∙ h.left
 
-pub are_legal : (schema : Schema) (n given : ℕ) (store : Plain) (txs : List (List Stmt)) (ds : List Did) → store.epoch ≡ 0 → performance schema n given store txs ≡ Some ds → AreLegal (schemas_of schema) ds store
-are_legal schema n given store [] ds first h = let P : List Did → Type 0 = λ es. AreLegal (schemas_of schema) es store in subst P (some_is h) tt
-are_legal schema n given store (tx ∷ txs) ds first h =
-    let p : Parts schema n given store tx txs ds = parts schema n given store tx txs ds h in
+-- what is legal behind one turn
+legal_turn : (schema : Schema) (tries n time given : ℕ) (store : Plain) (tx : List Stmt) (txs : List (List Stmt)) (done : Performed) → store.epoch ≡ 0
+    → ((time2 given2 : ℕ) (store2 : Plain) (rest : Performed) → store2.epoch ≡ 0 → performance schema tries (n + 1) time2 given2 store2 txs ≡ Some rest → AreLegal (schemas_of schema) rest.history store2)
+    → Parts schema tries n time given store tx txs done → AreLegal (schemas_of schema) done.history store
+legal_turn schema tries n time given store tx txs done first next (inl p) =
     let c : Commit = p.commit in
     let r : HasRun schema tx store c.fresh c.answer c.after = has_run schema tx store c.fresh c.answer c.after p.is.ran in
-    let P : List Did → Type 0 = λ es. AreLegal (schemas_of schema) es store in
-    let Q : Plain → Type 0 = λ s. AreLegal (schemas_of schema) p.rest s in
+    let P : Performed → Type 0 = λ q. AreLegal (schemas_of schema) q.history store in
+    let Q : Plain → Type 0 = λ s. AreLegal (schemas_of schema) p.rest.history s in
     let kept : c.after.epoch ≡ 0 = ap (λ (s : Plain). s.epoch) (sym r.left) ∙ run_epoch schema tx store c.fresh r.ran r.is ∙ first in
     subst P (sym p.are) (
-      legal_one schema n store tx c.fresh c.answer c.after first p.is.fresh r,
-      subst Q (sym (after_one schema n store tx c.fresh c.answer c.after first r)) (are_legal schema (n + 1) (given + length c.fresh) c.after txs p.rest kept p.others),
+      legal_one schema n time store tx c.fresh c.answer c.after first p.is.fresh r,
+      subst Q (sym (after_one schema n time store tx c.fresh c.answer c.after first r)) (next (time + 1) (given + length c.fresh) c.after p.rest kept p.others),
     )
+legal_turn schema tries n time given store tx txs done first next (inr p) = let P : Performed → Type 0 = λ q. AreLegal (schemas_of schema) q.history store in subst P (sym p.are) (next time given store p.rest first p.others)
+
+pub are_legal : (schema : Schema) (tries n time given : ℕ) (store : Plain) (txs : List (List Stmt)) (done : Performed) → store.epoch ≡ 0 → performance schema tries n time given store txs ≡ Some done → AreLegal (schemas_of schema) done.history store
+are_legal schema tries n time given store [] done first h = let P : Performed → Type 0 = λ q. AreLegal (schemas_of schema) q.history store in subst P (some_is h) tt
+are_legal schema tries n time given store (tx ∷ txs) done first h =
+    legal_turn schema tries n time given store tx txs done first (λ time2 given2 store2 rest first2 h2. are_legal schema tries (n + 1) time2 given2 store2 txs rest first2 h2) (parts schema tries n time given store tx txs done h)
 
 -- ---- timestamps rise
 
@@ -158,17 +189,25 @@ abbrev BeginAt : ℕ → List Did → Type 0
 BeginAt n [] = Unit {0}
 BeginAt n (d ∷ ds) = d.ts ≡ record { time = n; repo = 0; life = 1 }
 
-rise_more : (n : ℕ) (tx : List Stmt) (fresh : List Oref) (a : Answer) (rest : List Did) → BeginAt (n + 1) rest → Rise rest → Rise (did n tx fresh a ∷ rest)
-rise_more n tx fresh a [] begin rise = tt
-rise_more n tx fresh a (d ∷ rest) begin rise = let P : Ts → Type 0 = λ t. Before (record { time = n; repo = 0; life = 1 }) t in (subst P (sym begin) (next_above n), rise)
+rise_more : (n time : ℕ) (tx : List Stmt) (fresh : List Oref) (a : Answer) (rest : List Did) → BeginAt (time + 1) rest → Rise rest → Rise (did n time tx fresh a ∷ rest)
+rise_more n time tx fresh a [] begin rise = tt
+rise_more n time tx fresh a (d ∷ rest) begin rise = let P : Ts → Type 0 = λ t. Before (record { time = time; repo = 0; life = 1 }) t in (subst P (sym begin) (next_above time), rise)
 
-pub rises : (schema : Schema) (n given : ℕ) (store : Plain) (txs : List (List Stmt)) (ds : List Did) → performance schema n given store txs ≡ Some ds → BeginAt n ds × Rise ds
-rises schema n given store [] ds h = let P : List Did → Type 0 = λ es. BeginAt n es × Rise es in subst P (some_is h) (tt, tt)
-rises schema n given store (tx ∷ txs) ds h =
-    let p : Parts schema n given store tx txs ds = parts schema n given store tx txs ds h in
-    let P : List Did → Type 0 = λ es. BeginAt n es × Rise es in
-    let r : BeginAt (n + 1) p.rest × Rise p.rest = rises schema (n + 1) (given + length p.commit.fresh) p.commit.after txs p.rest p.others in
-    subst P (sym p.are) (refl, rise_more n tx p.commit.fresh p.commit.answer p.rest r.0 r.1)
+abbrev Rises : ℕ → Performed → Type 0
+Rises time done = BeginAt time done.history × Rise done.history
 
-pub is_legal : (schema : Schema) (store : Plain) (txs : List (List Stmt)) (ds : List Did) → store.epoch ≡ 0 → performance schema 1 0 store txs ≡ Some ds → IsLegal (schemas_of schema) ds store
-is_legal schema store txs ds first h = record { rising = (rises schema 1 0 store txs ds h).1; each = are_legal schema 1 0 store txs ds first h }
+rises_turn : (schema : Schema) (tries n time given : ℕ) (store : Plain) (tx : List Stmt) (txs : List (List Stmt)) (done : Performed)
+    → ((time2 given2 : ℕ) (store2 : Plain) (rest : Performed) → performance schema tries (n + 1) time2 given2 store2 txs ≡ Some rest → Rises time2 rest)
+    → Parts schema tries n time given store tx txs done → Rises time done
+rises_turn schema tries n time given store tx txs done next (inl p) =
+    let r : Rises (time + 1) p.rest = next (time + 1) (given + length p.commit.fresh) p.commit.after p.rest p.others in
+    subst (Rises time) (sym p.are) (refl, rise_more n time tx p.commit.fresh p.commit.answer p.rest.history r.0 r.1)
+rises_turn schema tries n time given store tx txs done next (inr p) = subst (Rises time) (sym p.are) (next time given store p.rest p.others)
+
+pub rises : (schema : Schema) (tries n time given : ℕ) (store : Plain) (txs : List (List Stmt)) (done : Performed) → performance schema tries n time given store txs ≡ Some done → Rises time done
+rises schema tries n time given store [] done h = subst (Rises time) (some_is h) (tt, tt)
+rises schema tries n time given store (tx ∷ txs) done h =
+    rises_turn schema tries n time given store tx txs done (λ time2 given2 store2 rest h2. rises schema tries (n + 1) time2 given2 store2 txs rest h2) (parts schema tries n time given store tx txs done h)
+
+pub is_legal : (schema : Schema) (store : Plain) (tries : ℕ) (txs : List (List Stmt)) (done : Performed) → store.epoch ≡ 0 → performance schema tries 1 1 0 store txs ≡ Some done → IsLegal (schemas_of schema) done.history store
+is_legal schema store tries txs done first h = record { rising = (rises schema tries 1 1 0 store txs done h).1; each = are_legal schema tries 1 1 0 store txs done first h }

@@ -1,5 +1,5 @@
 -- What is committed, from what the code's runs say.
-use Rattle.std.proofs.Common.{◌≡◌, Bool, true, false, cond, List, [], Option, Some, None, option_map, option_and_then, Result, Ok, Err, IfOk, ap, sym, ◌∙◌, subst}
+use Rattle.std.proofs.Common.{◌≡◌, Bool, true, false, cond, List, [], Option, Some, None, option_map, Result, Ok, Err, IfOk, ap, sym, ◌∙◌, subst, refl}
 use Rattle.thor_value.specs.declared.memory.NoMemory.{NoMemory}
 use Rattle.thor_value.specs.declared.names.Oref.{Oref}
 use Rattle.thor_value.specs.declared.values.Answer.{Answer}
@@ -11,10 +11,14 @@ use Rattle.method_eval.specs.declared.view.View.{View}
 use Rattle.serial_model.specs.History.{are_fresh}
 use Rattle.serial_model.specs.Replaying.{RanOn}
 use Rattle.serial_model.specs.Taking.{names_taken}
+use Rattle.serial_model.specs.declared.taking.Taken.{Taken}
 use Rattle.serial_model.specs.Whole.{plain}
-use Rattle.thor_top.specs.Alone.{Commit, commit_of, if_fresh, or_else, with_names, with_some_of}
-use Rattle.thor_top.specs.Committing.{CommitsOn}
-use Rattle.thor_top.specs.declared.alone.Committed.{Committed}
+use Rattle.thor_top.specs.Alone as alone
+use Rattle.thor_top.specs.Alone.{Commit, commits_or, commits_or_not, turn_by, turn_of, turn_with, with_names}
+use Rattle.thor_top.specs.Committing.{CommitsOn, TurnsTo}
+use Rattle.thor_top.specs.declared.turns.Committed.{Committed}
+use Rattle.thor_top.specs.declared.turns.Turn.{Turn}
+use Rattle.thor_top.specs.declared.turns.Turn.TheVariants.{Commits, LacksNames, Undefined}
 
 abbrev committing : List Oref → Option (Answer × Plain) → Option Commit
 committing fresh o = option_map (λ e. record { fresh = fresh; answer = e.0; after = e.1 }) o
@@ -34,60 +38,44 @@ not_committed schema tx fresh roots old new r none ran =
     let h : RanOn schema tx fresh roots old None new = subst P none ran in
     (ap (committing fresh) h.0, h.1)
 
--- the same said of another commit, and from the view before
-pub commits_as : (roots : List Root) (old mid new : View) (o p : Option Commit) (c : Option Committed) → p ≡ o → plain roots mid ≡ plain roots old → CommitsOn roots mid o c new → CommitsOn roots old p c new
-commits_as roots old mid new o p (Some c) same kept h = same ∙ h
-commits_as roots old mid new o p None same kept h = (same ∙ h.0, h.1 ∙ kept)
+-- ---- turns
 
--- the names that are taken decide
-chosen : (schema : Schema) (tx : List Stmt) (store : Plain) (names fresh : List Oref) (b : Bool) → names_taken schema tx store names ≡ Some fresh → are_fresh store fresh ≡ b → with_some_of schema tx store names ≡ option_and_then (with_names schema tx store) (cond b (Some fresh) None)
-chosen schema tx store names fresh b taken ok =
-    ap (λ (o : Option (List Oref)). option_and_then (with_names schema tx store) (option_and_then (if_fresh store) o)) taken
-    ∙ ap (λ (t : Bool). option_and_then (with_names schema tx store) (cond t (Some fresh) None)) ok
+-- the same said of another turn, and from the view before
+pub turns_as : (roots : List Root) (old mid new : View) (o p : alone.Turn) (t : Turn) → p ≡ o → plain roots mid ≡ plain roots old → TurnsTo roots mid o t new → TurnsTo roots old p t new
+turns_as roots old mid new o p (Commits c) same kept h = same ∙ h
+turns_as roots old mid new o p LacksNames same kept h = (same ∙ h.0, h.1 ∙ kept)
+turns_as roots old mid new o p Undefined same kept h = (same ∙ h.0, h.1 ∙ kept)
 
--- with fresh names
-pub some_of : (schema : Schema) (tx : List Stmt) (names fresh : List Oref) (old mid new : View) (taken : Option (List Oref)) (r : Result (Option Committed) NoMemory)
-    → taken ≡ Some fresh → ((roots : List Root) → taken ≡ names_taken schema tx (plain roots old) names) → ((roots : List Root) → plain roots mid ≡ plain roots old) → ((roots : List Root) → are_fresh (plain roots mid) fresh ≡ true)
-    → IfOk r (λ c. (roots : List Root) → CommitsOn roots mid (with_names schema tx (plain roots mid) fresh) c new)
-    → IfOk r (λ c. (roots : List Root) → CommitsOn roots old (with_some_of schema tx (plain roots old) names) c new)
-some_of schema tx names fresh old mid new taken (Ok c) some are kept ok h = λ roots.
-    let P : Plain → Type 0 = λ s. are_fresh s fresh ≡ true in
-    commits_as roots old mid new _ _ c
-    (chosen schema tx (plain roots old) names fresh true (sym (are roots) ∙ some) (subst P (kept roots) (ok roots)) ∙ ap (λ (s : Plain). with_names schema tx s fresh) (sym (kept roots)))
-    (kept roots) (h roots)
-some_of schema tx names fresh old mid new taken (Err e) some are kept ok h = tt
+-- a turn on another view, said of all roots
+pub turns_result : (old mid new : View) (o p : List Root → alone.Turn) (r : Result Turn NoMemory) → ((roots : List Root) → p roots ≡ o roots) → ((roots : List Root) → plain roots mid ≡ plain roots old)
+    → IfOk r (λ t. (roots : List Root) → TurnsTo roots mid (o roots) t new) → IfOk r (λ t. (roots : List Root) → TurnsTo roots old (p roots) t new)
+turns_result old mid new o p (Ok t) same kept h = λ roots. turns_as roots old mid new (o roots) (p roots) t (same roots) (kept roots) (h roots)
+turns_result old mid new o p (Err e) same kept h = tt
+
+abbrev if_fresh : Schema → List Stmt → Plain → List Oref → Bool → alone.Turn
+if_fresh schema tx store fresh b = cond b (commits_or_not (with_names schema tx store fresh)) alone.IsUndefined
 
 -- with names of which one is taken
-pub not_fresh : (schema : Schema) (tx : List Stmt) (names fresh : List Oref) (roots : List Root) (old mid : View) (taken : Option (List Oref))
-    → taken ≡ Some fresh → taken ≡ names_taken schema tx (plain roots old) names → plain roots mid ≡ plain roots old → are_fresh (plain roots mid) fresh ≡ false
-    → (with_some_of schema tx (plain roots old) names ≡ None) × (plain roots mid ≡ plain roots old)
-not_fresh schema tx names fresh roots old mid taken some are kept ok =
-    let P : Plain → Type 0 = λ s. are_fresh s fresh ≡ false in
-    (chosen schema tx (plain roots old) names fresh false (sym are ∙ some) (subst P kept ok), kept)
+pub not_fresh : (schema : Schema) (tx : List Stmt) (fresh : List Oref) (roots : List Root) (view : View) (b : Bool) → ((rs : List Root) → b ≡ are_fresh (plain rs view) fresh) → b ≡ false
+    → (turn_with schema tx (plain roots view) fresh ≡ alone.IsUndefined) × (plain roots view ≡ plain roots view)
+not_fresh schema tx fresh roots view b is no_one = (ap (if_fresh schema tx (plain roots view) fresh) (sym (is roots) ∙ no_one), refl)
 
--- with none
-pub none_taken : (schema : Schema) (tx : List Stmt) (names : List Oref) (roots : List Root) (old mid : View) (taken : Option (List Oref))
-    → taken ≡ None → taken ≡ names_taken schema tx (plain roots old) names → plain roots mid ≡ plain roots old
-    → (with_some_of schema tx (plain roots old) names ≡ None) × (plain roots mid ≡ plain roots old)
-none_taken schema tx names roots old mid taken none are kept =
-    (ap (λ (o : Option (List Oref)). option_and_then (with_names schema tx (plain roots old)) (option_and_then (if_fresh (plain roots old)) o)) (sym are ∙ none), kept)
+-- with fresh names, by what is committed with them
+pub fresh_turn : (schema : Schema) (tx : List Stmt) (fresh : List Oref) (roots : List Root) (view : View) (b : Bool) (o : Option Commit) → ((rs : List Root) → b ≡ are_fresh (plain rs view) fresh) → b ≡ true → with_names schema tx (plain roots view) fresh ≡ o
+    → turn_with schema tx (plain roots view) fresh ≡ commits_or_not o
+fresh_turn schema tx fresh roots view b o is all with = ap (if_fresh schema tx (plain roots view) fresh) (sym (is roots) ∙ all) ∙ ap commits_or_not with
 
--- a transaction that needs no names
-pub without_names : (schema : Schema) (tx : List Stmt) (roots : List Root) (old new : View) (at_hand : List Oref) (none : List Oref) (c : Committed) (r : Option Committed) → none ≡ [] → r ≡ Some c → CommitsOn roots old (with_names schema tx (plain roots old) none) r new
-    → commit_of schema tx (plain roots old) at_hand ≡ Some (record { fresh = c.fresh; answer = c.answer; after = plain roots new })
-without_names schema tx roots old new at_hand none c r is some h =
-    let P : Option Committed → Type 0 = λ o. CommitsOn roots old (with_names schema tx (plain roots old) none) o new in
-    ap (λ (o : Option Commit). or_else o (with_some_of schema tx (plain roots old) at_hand)) (ap (with_names schema tx (plain roots old)) (sym is) ∙ subst P some h)
+-- what was committed, or not
+pub when_committed : (roots : List Root) (old new : View) (o : Option Commit) (c : Committed) (r : Option Committed) → r ≡ Some c → CommitsOn roots old o r new → o ≡ Some (record { fresh = c.fresh; answer = c.answer; after = plain roots new })
+when_committed roots old new o c r some h = let P : Option Committed → Type 0 = λ q. CommitsOn roots old o q new in subst P some h
 
--- one that does
-pub after_none : (schema : Schema) (tx : List Stmt) (old mid new : View) (at_hand names none : List Oref) (r : Option Committed) (q : Result (Option Committed) NoMemory) → names ≡ at_hand → none ≡ [] → r ≡ None
-    → ((roots : List Root) → CommitsOn roots old (with_names schema tx (plain roots old) none) r mid)
-    → IfOk q (λ c. (roots : List Root) → CommitsOn roots mid (with_some_of schema tx (plain roots mid) names) c new)
-    → IfOk q (λ c. (roots : List Root) → CommitsOn roots old (commit_of schema tx (plain roots old) at_hand) c new)
-after_none schema tx old mid new at_hand names none r (Ok c) same is nothing first h = λ roots.
-    let P : Option Committed → Type 0 = λ o. CommitsOn roots old (with_names schema tx (plain roots old) none) o mid in
-    let f : CommitsOn roots old (with_names schema tx (plain roots old) none) None mid = subst P nothing (first roots) in
-    commits_as roots old mid new _ _ c
-    (ap (λ (o : Option Commit). or_else o (with_some_of schema tx (plain roots old) at_hand)) (ap (with_names schema tx (plain roots old)) (sym is) ∙ f.0) ∙ ap (λ (s : Plain). with_some_of schema tx s at_hand) (sym f.1) ∙ ap (with_some_of schema tx (plain roots mid)) (sym same))
-    f.1 (h roots)
-after_none schema tx old mid new at_hand names none r (Err e) same is nothing first h = tt
+pub when_not : (roots : List Root) (old new : View) (o : Option Commit) (r : Option Committed) → r ≡ None → CommitsOn roots old o r new → (o ≡ None) × (plain roots new ≡ plain roots old)
+when_not roots old new o r none h = let P : Option Committed → Type 0 = λ q. CommitsOn roots old o q new in subst P none h
+
+-- by what names were taken
+pub by_taken : (schema : Schema) (tx : List Stmt) (store : Plain) (found taken other : Taken) → taken ≡ found → taken ≡ other → turn_by schema tx store found ≡ turn_by schema tx store other
+by_taken schema tx store found taken other are is = ap (turn_by schema tx store) (sym are ∙ is)
+
+-- first without names, by what that commits
+pub by_none : (schema : Schema) (tx : List Stmt) (store : Plain) (at_hand none : List Oref) (o : Option Commit) → none ≡ [] → with_names schema tx store none ≡ o → turn_of schema tx store at_hand ≡ commits_or o (turn_by schema tx store (names_taken schema tx store at_hand))
+by_none schema tx store at_hand none o is with = ap (λ (q : Option Commit). commits_or q (turn_by schema tx store (names_taken schema tx store at_hand))) (ap (with_names schema tx store) (sym is) ∙ with)

@@ -1,5 +1,5 @@
 -- What the top call says, from what its parts do.
-use Rattle.std.proofs.Common.{◌≡◌, ◌&&◌, inl, inr, ℕ, suc, ◌+◌, arith, ◌<◌, ◌≤◌, Bool, true, false, List, [], ◌∷◌, length, map, Option, Some, Result, Ok, Err, IfOk, refl, ap, subst, sym, ◌∙◌}
+use Rattle.std.proofs.Common.{◌≡◌, ◌&&◌, inl, inr, ℕ, suc, ◌+◌, arith, ◌<◌, ◌≤◌, Bool, true, false, List, [], ◌∷◌, length, Option, Some, Result, Ok, Err, IfOk, refl, ap, subst, sym, ◌∙◌}
 use Rattle.thor_value.specs.declared.memory.NoMemory.{NoMemory}
 use Rattle.class_defs.specs.declared.declarations.Declarations.{Declarations}
 use Rattle.class_defs.specs.declared.declarations.WrittenRoot.{WrittenRoot}
@@ -8,18 +8,18 @@ use Rattle.class_defs.specs.declared.store.Schema.{Schema}
 use Rattle.schedule.specs.Written.{AreEventsOf}
 use Rattle.script_text.specs.declared.sections.Split.{Split}
 use Rattle.script_text.specs.declared.syntax.Syntax.{Syntax}
-use Rattle.thor_top.specs.Alone.{ended}
 use Rattle.thor_top.specs.Opened.{opened, placed_from, schema_of}
 use Rattle.thor_top.specs.Playing.{Does, Plays, first_items, is_alone}
 use Rattle.thor_top.specs.Reads.{Each, Reads}
 use Rattle.thor_top.specs.Script.{AreItems, HasFew, IsRefusedEnd, IsRefusedSchedule, IsRefusedSplit, IsSetupPart}
-use Rattle.thor_top.specs.Top.{IsAccepted, IsReport, IsResult, Says, Tells, WasRead, repos_of}
+use Rattle.thor_top.specs.Top.{IsAccepted, IsReport, IsResult, IsUnfinished, IsWithinLimits, TellsOf, Says, Tells, WasRead, repos_of}
 use Rattle.thor_top.specs.Words.{command_of}
 use Rattle.thor_top.specs.declared.command.Command.{Command}
 use Rattle.thor_top.specs.declared.command.Command.TheVariants.{Play}
 use Rattle.thor_top.specs.declared.error.ReadError.{ReadError}
 use Rattle.thor_top.specs.declared.error.ReadError.TheVariants as errors
 use Rattle.thor_top.specs.declared.refusal.Refusal.TheVariants as refusal
+use Rattle.thor_top.specs.declared.playing.Played.{Played}
 use Rattle.thor_top.specs.declared.script.Script.{Script}
 use Rattle.thor_top.specs.declared.status.Status.{Status}
 use Rattle.thor_top.specs.declared.status.Status.TheVariants as status
@@ -48,29 +48,48 @@ both true b h = refl
 both false b h = absurd (let bad : false ≡ true = h in cc)
 
 -- the report of a script that runs is that of one serial history
-pub reported : (script : Script) (schema : Schema) (played : Option (List ℕ)) (text : List ℕ) → IsAccepted 1 script schema → played ≡ Some text → Plays schema script played → IsReport script text
-reported script schema played text accepted some plays =
-    let P : Option (List ℕ) → Type 0 = λ o. Plays schema script o in
-    let p : Plays schema script (Some text) = subst P some plays in
-    let d : Does schema script p.0 = p.1.0 in
+reported : (tries : ℕ) (script : Script) (schema : Schema) (played : Option Played) (p : Played) → IsAccepted 1 script schema → played ≡ Some p → Plays schema tries script played → IsReport tries script p.finished p.text
+reported tries script schema played p accepted some plays =
+    let P : Option Played → Type 0 = λ o. Plays schema tries script o in
+    let q : Plays schema tries script (Some p) = subst P some plays in
+    let d : Does schema tries script q.0 = q.1.0 in
     record {
       schema = schema;
-      history = p.0;
-      ended = map ended p.0;
+      done = q.0;
       accepted = accepted;
       does = d;
       serial = record {
-        legal = is_legal schema (opened schema) (first_items script.clients) p.0 (first_epoch schema) d.is;
-        answers = alone_answers schema (opened schema) script.clients p.0 (both (is_alone script.clients) _ d.can) d.is;
+        legal = is_legal schema (opened schema) tries (first_items script.clients) q.0 (first_epoch schema) d.is;
+        answers = alone_answers schema (opened schema) tries script.clients q.0 (both (is_alone script.clients) _ d.can) d.is;
       };
-      written_out = p.1.1;
+      finished_is = q.1.1.finished;
+      written_out = q.1.1.text;
     }
 
--- what is said of a script that `play` ran
-pub result_of_play : (script : Script) (schema : Schema) (command : Command) (tries : ℕ) (played : Option (List ℕ)) (text : List ℕ) → command ≡ Play tries → IsAccepted (repos_of command) script schema → played ≡ Some text → Plays schema script played → IsResult command script text
-result_of_play script schema command tries played text is =
-    let P : Command → Type 0 = λ d. IsAccepted (repos_of d) script schema → played ≡ Some text → Plays schema script played → IsResult d script text in
-    subst P (sym is) (reported script schema played text)
+-- what is said of a script that `play` ran, all items being finished
+result_of_play : (script : Script) (schema : Schema) (command : Command) (tries : ℕ) (played : Option Played) (p : Played) → command ≡ Play tries → IsAccepted (repos_of command) script schema → played ≡ Some p → p.finished ≡ true → Plays schema tries script played → IsResult command script p.text
+result_of_play script schema command tries played p is accepted some finished plays =
+    let P : Command → Type 0 = λ d. IsAccepted (repos_of d) script schema → IsResult d script p.text in
+    let Q : Bool → Type 0 = λ b. IsReport tries script b p.text in
+    subst P (sym is) (λ a. subst Q finished (reported tries script schema played p a some plays)) accepted
+
+-- and not all
+unfinished_play : (script : Script) (schema : Schema) (command : Command) (tries : ℕ) (played : Option Played) (p : Played) → command ≡ Play tries → IsAccepted (repos_of command) script schema → played ≡ Some p → p.finished ≡ false → Plays schema tries script played → IsUnfinished command script p.text
+unfinished_play script schema command tries played p is accepted some finished plays =
+    let P : Command → Type 0 = λ d. IsAccepted (repos_of d) script schema → IsUnfinished d script p.text in
+    let Q : Bool → Type 0 = λ b. IsReport tries script b p.text in
+    subst P (sym is) (λ a. subst Q finished (reported tries script schema played p a some plays)) accepted
+
+-- what is told of it
+pub done_told : (script : Script) (schema : Schema) (command : Command) (tries : ℕ) (played : Option Played) (p : Played) (s : Status) → IsWithinLimits script → s ≡ status.Done → p.finished ≡ true → command ≡ Play tries → IsAccepted (repos_of command) script schema → played ≡ Some p → Plays schema tries script played → TellsOf command script s p.text
+done_told script schema command tries played p s within is finished play accepted some plays =
+    let P : Status → Type 0 = λ t. TellsOf command script t p.text in
+    subst P (sym is) (within, result_of_play script schema command tries played p play accepted some finished plays)
+
+pub unfinished_told : (script : Script) (schema : Schema) (command : Command) (tries : ℕ) (played : Option Played) (p : Played) (s : Status) → IsWithinLimits script → s ≡ status.Unfinished → p.finished ≡ false → command ≡ Play tries → IsAccepted (repos_of command) script schema → played ≡ Some p → Plays schema tries script played → TellsOf command script s p.text
+unfinished_told script schema command tries played p s within is unfinished play accepted some plays =
+    let P : Status → Type 0 = λ t. TellsOf command script t p.text in
+    subst P (sym is) (within, unfinished_play script schema command tries played p play accepted some unfinished plays)
 
 length_placed : (n : ℕ) (roots : List WrittenRoot) → length (placed_from n roots) ≡ length roots
 length_placed n [] = refl
@@ -95,6 +114,7 @@ events_refused split setup clients errors.NoMemory Any s c h = tt
 
 says_of : (words : List (List ℕ)) (before after : Option (List ℕ)) (command : Command) (bytes : List ℕ) (s : Status) (text : List ℕ) → command_of words ≡ Some command → WasRead before after bytes → Tells command bytes s text → Says words before after s text
 says_of words before after command bytes status.Done text is read t = (command, (is, (bytes, (read, t))))
+says_of words before after command bytes status.Unfinished text is read t = (command, (is, (bytes, (read, t))))
 says_of words before after command bytes status.Script text is read t = (command, (is, (bytes, (read, t))))
 says_of words before after command bytes status.Limit text is read t = inl (command, (is, (bytes, (read, t))))
 says_of words before after command bytes status.Words text is read (inl t) = absurd t

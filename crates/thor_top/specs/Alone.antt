@@ -1,5 +1,6 @@
 -- What a client that is alone does: its transactions commit one after the other, each at its first try (this project's).
-use Rattle.std.specs.Prelude.{ℕ, zero, suc, ◌+◌, ◌*◌, ◌-◌, ◌/◌, ◌%◌, min, if◌then◌else◌, List, [], ◌∷◌, ◌++◌, length, Option, Some, None, option_map, option_and_then}
+-- Only where the repository has no page left for new objects is one refused.
+use Rattle.std.specs.Prelude.{Bool, true, false, ℕ, zero, suc, ◌+◌, ◌*◌, ◌-◌, ◌/◌, ◌%◌, min, if◌then◌else◌, List, [], ◌∷◌, ◌++◌, length, Option, Some, None, option_map}
 use Rattle.thor_value.specs.declared.names.Oref.{Oref}
 use Rattle.thor_value.specs.declared.names.Ts.{Ts}
 use Rattle.thor_value.specs.declared.values.Answer.{Answer}
@@ -11,11 +12,15 @@ use Rattle.class_defs.specs.declared.store.Schemas.{Schemas}
 use Rattle.serial_model.specs.History.{are_fresh}
 use Rattle.serial_model.specs.Replaying.{effect_of}
 use Rattle.serial_model.specs.Taking.{names_taken}
+use Rattle.serial_model.specs.declared.taking.Taken.{Taken}
+use Rattle.serial_model.specs.declared.taking.Taken.TheVariants.{Names, Wanting, Stopped}
+use Rattle.serial_model.specs.declared.outcomes.Cause.TheVariants.{Full}
 use Rattle.serial_model.specs.declared.entries.Did.{Did}
 use Rattle.serial_model.specs.declared.entries.What.TheVariants.{Tx}
 use Rattle.serial_model.specs.declared.outcomes.Ended.{Ended}
 use Rattle.serial_model.specs.declared.outcomes.ItemOutcome.{ItemOutcome}
-use Rattle.serial_model.specs.declared.outcomes.ItemOutcome.TheVariants.{Done, Faulted}
+use Rattle.serial_model.specs.declared.outcomes.ItemOutcome.TheVariants.{Done, Upgraded, Faulted, Refused, Unknown}
+use Rattle.thor_top.specs.declared.performed.Performed.{Performed}
 
 -- ---- the names of new objects
 
@@ -52,35 +57,39 @@ pub record Commit : Type 0 where
 abbrev pub with_names : Schema → List Stmt → Plain → List Oref → Option Commit
 with_names schema tx store fresh = option_map (λ e. record { fresh = fresh; answer = e.0; after = e.1 }) (effect_of schema tx store fresh)
 
--- names of which none is in the store
-abbrev pub if_fresh : Plain → List Oref → Option (List Oref)
-if_fresh store names = if are_fresh store names then Some names else None
+-- What becomes of a transaction: it commits; or it wants more names than there are; or its run is undefined.
+pub data Turn : Type 0 where
+  Commits : Commit → Turn
+  LacksNames : Turn
+  IsUndefined : Turn
 
--- the transaction, its new objects taking those that it needs of these names
-abbrev pub with_some_of : Schema → List Stmt → Plain → List Oref → Option Commit
-with_some_of schema tx store at_hand = option_and_then (with_names schema tx store) (option_and_then (if_fresh store) (names_taken schema tx store at_hand))
+abbrev pub commits_or_not : Option Commit → Turn
+commits_or_not (Some c) = Commits c
+commits_or_not None = IsUndefined
 
-abbrev pub or_else : {X : Type 0} → Option X → Option X → Option X
-or_else (Some x) other = Some x
-or_else None other = other
+-- the transaction, its new objects taking just these names, where none of them is in the store
+abbrev pub turn_with : Schema → List Stmt → Plain → List Oref → Turn
+turn_with schema tx store fresh = if are_fresh store fresh then commits_or_not (with_names schema tx store fresh) else IsUndefined
 
--- What a transaction commits with these names at hand. One that leaves no new objects takes none; so does one that ends
--- in a fault.
-abbrev pub commit_of : Schema → List Stmt → Plain → List Oref → Option Commit
-commit_of schema tx store at_hand = or_else (with_names schema tx store []) (with_some_of schema tx store at_hand)
+abbrev pub turn_by : Schema → List Stmt → Plain → Taken → Turn
+turn_by schema tx store (Names fresh) = turn_with schema tx store fresh
+turn_by schema tx store Wanting = LacksNames
+turn_by schema tx store Stopped = IsUndefined
+
+abbrev pub commits_or : Option Commit → Turn → Turn
+commits_or (Some c) other = Commits c
+commits_or None other = other
+
+-- What becomes of a transaction with these names at hand, of which its new objects take those that they need. One that
+-- leaves no new objects takes none; so does one that ends in a fault.
+abbrev pub turn_of : Schema → List Stmt → Plain → List Oref → Turn
+turn_of schema tx store at_hand = commits_or (with_names schema tx store []) (turn_by schema tx store (names_taken schema tx store at_hand))
 
 -- ---- all transactions
 
--- the entry of the n-th transaction of client 1
-abbrev pub did : ℕ → List Stmt → List Oref → Answer → Did
-did n tx fresh a = record { ts = record { time = n; repo = 0; life = 1 }; who = record { client = 1; index = n }; what = Tx tx; number = 0; fresh = fresh; answer = a }
-
--- The entries of transactions, the first of which is the n-th, each on the store behind those before it, where so many
--- names were given; nothing where a run is undefined.
-abbrev pub performance : Schema → ℕ → ℕ → Plain → List (List Stmt) → Option (List Did)
-performance schema n given store [] = Some []
-performance schema n given store (tx ∷ txs) =
-    option_and_then (λ c. option_map (λ ds. did n tx c.fresh c.answer ∷ ds) (performance schema (n + 1) (given + length c.fresh) c.after txs)) (commit_of schema tx store (names_at_hand (first_page schema) given))
+-- the entry of the n-th transaction of client 1, at a time
+abbrev pub did : ℕ → ℕ → List Stmt → List Oref → Answer → Did
+did n time tx fresh a = record { ts = record { time = time; repo = 0; life = 1 }; who = record { client = 1; index = n }; what = Tx tx; number = 0; fresh = fresh; answer = a }
 
 abbrev pub outcome_of : Ts → Answer → ItemOutcome
 outcome_of ts (answer.Ints ints) = Done ts ints
@@ -90,9 +99,49 @@ outcome_of ts (answer.Fault f) = Faulted ts f
 abbrev pub ended : Did → Ended
 ended d = record { who = d.who; tries = 1; outcome = outcome_of d.ts d.answer }
 
--- entries, and behind them those of the rest
-abbrev pub behind : List Did → Option (List Did) → Option (List Did)
-behind done rest = option_map (λ ds. done ++ ds) rest
+-- how the n-th item ended where all its tries wanted more pages than there are
+abbrev pub refused : ℕ → ℕ → Ended
+refused n tries = record { who = record { client = 1; index = n }; tries = tries; outcome = Refused (Full 65536) }
+
+-- an entry and how its item ended, before those of the rest
+abbrev pub with_entry : Did → Performed → Performed
+with_entry d rest = record { ends = ended d ∷ rest.ends; history = d ∷ rest.history }
+
+abbrev pub with_refused : ℕ → ℕ → Performed → Performed
+with_refused n tries rest = record { ends = refused n tries ∷ rest.ends; history = rest.history }
+
+abbrev pub by_turn : Turn → (Commit → Option Performed) → Option Performed → Option Performed
+by_turn (Commits c) committed lacking = committed c
+by_turn LacksNames committed lacking = lacking
+by_turn IsUndefined committed lacking = None
+
+-- What a client does of its transactions, the first of which is the n-th, each on the store behind those before it, from a
+-- time on and where so many names were given. A transaction that lacks names is refused, draws no time and takes no name.
+-- There is nothing where a run is undefined.
+abbrev pub performance : Schema → ℕ → ℕ → ℕ → ℕ → Plain → List (List Stmt) → Option Performed
+performance schema tries n time given store [] = Some (record { ends = []; history = [] })
+performance schema tries n time given store (tx ∷ txs) =
+    by_turn (turn_of schema tx store (names_at_hand (first_page schema) given))
+    (λ c. option_map (with_entry (did n time tx c.fresh c.answer)) (performance schema tries (n + 1) (time + 1) (given + length c.fresh) c.after txs))
+    (option_map (with_refused n tries) (performance schema tries (n + 1) time given store txs))
+
+-- what was done, and behind it the rest
+abbrev pub before_rest : Performed → Performed → Performed
+before_rest done rest = record { ends = done.ends ++ rest.ends; history = done.history ++ rest.history }
+
+abbrev pub behind : Performed → Option Performed → Option Performed
+behind done rest = option_map (before_rest done) rest
+
+-- whether an item was done or ended in a fault
+abbrev pub is_finished_as : ItemOutcome → Bool
+is_finished_as (Done ts ints) = true
+is_finished_as (Upgraded ts number) = true
+is_finished_as (Faulted ts f) = true
+is_finished_as (Refused cause) = false
+is_finished_as (Unknown tx) = false
+
+abbrev pub is_finished : Ended → Bool
+is_finished e = is_finished_as e.outcome
 
 -- the schemas of a store without upgrades
 abbrev pub schemas_of : Schema → Schemas

@@ -1,12 +1,13 @@
 -- What a script's run writes (this project's). For now client 1 alone has transactions, and the schedule no event.
-use Rattle.std.specs.Prelude.{◌≡◌, ◌⊎◌, ◌==◌, ◌&&◌, ℕ, Bool, true, false, not, List, [], ◌∷◌, length, map, Option, Some, None}
-use Rattle.std.specs.List.{list_any}
+use Rattle.std.specs.Prelude.{◌≡◌, ◌⊎◌, ◌==◌, ◌&&◌, ℕ, Bool, true, false, not, List, [], ◌∷◌, length, Option, Some, None}
+use Rattle.std.specs.List.{list_all, list_any}
 use Rattle.class_defs.specs.declared.statements.Stmt.{Stmt}
 use Rattle.class_defs.specs.declared.store.Schema.{Schema}
 use Rattle.report_text.specs.Report.{report_text}
-use Rattle.serial_model.specs.declared.entries.Did.{Did}
-use Rattle.thor_top.specs.Alone.{ended, performance}
+use Rattle.thor_top.specs.Alone.{is_finished, performance}
 use Rattle.thor_top.specs.Opened.{opened}
+use Rattle.thor_top.specs.declared.performed.Performed.{Performed}
+use Rattle.thor_top.specs.declared.playing.Played.{Played}
 use Rattle.thor_top.specs.declared.script.Script.{Script}
 
 -- the transactions of client 1
@@ -27,20 +28,25 @@ is_alone (first ∷ others) = not (list_any is_busy others)
 abbrev pub can_run : Script → Bool
 can_run script = is_alone script.clients && length script.events == 0
 
--- the entries of a script's transactions, from the opened store, where each run is defined
-abbrev pub performed : Schema → Script → Option (List Did)
-performed schema script = performance schema 1 0 (opened schema) (first_items script.clients)
+-- what client 1 does of its transactions, from the opened store, where each run is defined
+abbrev pub performed : Schema → ℕ → Script → Option Performed
+performed schema tries script = performance schema tries 1 1 0 (opened schema) (first_items script.clients)
 
 -- the script can't run yet, or a run is undefined
-abbrev pub CantRun : Schema → Script → Type 0
-CantRun schema script = (can_run script ≡ false) ⊎ (performed schema script ≡ None)
+abbrev pub CantRun : Schema → ℕ → Script → Type 0
+CantRun schema tries script = (can_run script ≡ false) ⊎ (performed schema tries script ≡ None)
 
 -- this is what the script does
-pub record Does (schema : Schema) (script : Script) (history : List Did) : Type 0 where
+pub record Does (schema : Schema) (tries : ℕ) (script : Script) (done : Performed) : Type 0 where
   pub can : can_run script ≡ true
-  pub is : performed schema script ≡ Some history
+  pub is : performed schema tries script ≡ Some done
 
--- The text is the report of what the script does; there is none where it can't run.
-abbrev pub Plays : Schema → Script → Option (List ℕ) → Type 0
-Plays schema script (Some text) = (history : List Did) × (Does schema script history × (text ≡ report_text (map ended history) history))
-Plays schema script None = CantRun schema script
+-- the text is the report of what was done, and it tells whether all items were finished
+pub record IsPlayed (done : Performed) (played : Played) : Type 0 where
+  pub text : played.text ≡ report_text done.ends done.history
+  pub finished : played.finished ≡ list_all is_finished done.ends
+
+-- the script does something, and this is its report; there is none where it can't run
+abbrev pub Plays : Schema → ℕ → Script → Option Played → Type 0
+Plays schema tries script (Some played) = (done : Performed) × (Does schema tries script done × IsPlayed done played)
+Plays schema tries script None = CantRun schema tries script

@@ -1,6 +1,7 @@
 -- What the program says (this project's): for each status the text that the sink takes, and when it comes.
-use Rattle.std.specs.Prelude.{◌≡◌, ◌⊎◌, ℕ, List, [], ◌∷◌, Option, Some, None, codes, map, ◌++◌, ◌≤◌, ◌<◌, length}
+use Rattle.std.specs.Prelude.{◌≡◌, ◌⊎◌, ℕ, List, [], ◌∷◌, Option, Some, None, codes, map, ◌++◌, ◌≤◌, ◌<◌, length, Bool, true, false}
 use Rattle.std.specs.Fmt.{decimal}
+use Rattle.std.specs.List.{list_all}
 use Rattle.outside.specs.Streams.{IsAtEnd, IsMoreThan, Put, PutFront, Took}
 use Rattle.class_defs.specs.declared.declarations.Declarations.{Declarations}
 use Rattle.class_defs.specs.declared.store.Schema.{Schema}
@@ -10,7 +11,7 @@ use Rattle.serial_model.specs.Outcomes.{Answers, all_items}
 use Rattle.serial_model.specs.declared.entries.Did.{Did}
 use Rattle.serial_model.specs.declared.entries.What.TheVariants.{Tx}
 use Rattle.serial_model.specs.declared.outcomes.Ended.{Ended}
-use Rattle.thor_top.specs.Alone.{schemas_of}
+use Rattle.thor_top.specs.Alone.{is_finished, schemas_of}
 use Rattle.thor_top.specs.Judging.{BreaksRule, KeepsRules}
 use Rattle.thor_top.specs.Opened.{opened, schema_of}
 use Rattle.thor_top.specs.Playing.{CantRun, Does}
@@ -19,6 +20,7 @@ use Rattle.thor_top.specs.Script.{IsRefusedText, IsWritten}
 use Rattle.thor_top.specs.Words.{command_of}
 use Rattle.thor_top.specs.declared.command.Command.{Command}
 use Rattle.thor_top.specs.declared.command.Command.TheVariants.{Check, Play}
+use Rattle.thor_top.specs.declared.performed.Performed.{Performed}
 use Rattle.thor_top.specs.declared.refusal.Refusal.{Refusal}
 use Rattle.thor_top.specs.declared.refusal.Refusal.TheVariants as refusal
 use Rattle.thor_top.specs.declared.script.Script.{Script}
@@ -40,20 +42,25 @@ pub record IsSerial (schema : Schema) (script : Script) (history : List Did) (en
   pub legal : IsLegal (schemas_of schema) history (opened schema)
   pub answers : Answers history (all_items (map (λ items. map Tx items) script.clients)) ended
 
--- the text is the report of an accepted script's outcomes and history
-pub record IsReport (script : Script) (text : List ℕ) : Type 0 where
+-- The text is the report of an accepted script's outcomes and history, and all items were finished or not.
+pub record IsReport (tries : ℕ) (script : Script) (finished : Bool) (text : List ℕ) : Type 0 where
   pub schema : Schema
-  pub history : List Did
-  pub ended : List Ended
+  pub done : Performed
   pub accepted : IsAccepted 1 script schema
-  pub does : Does schema script history
-  pub serial : IsSerial schema script history ended
-  pub written_out : text ≡ report_text ended history
+  pub does : Does schema tries script done
+  pub serial : IsSerial schema script done.history done.ends
+  pub finished_is : finished ≡ list_all is_finished done.ends
+  pub written_out : text ≡ report_text done.ends done.history
 
--- what a command writes of a script
+-- what a command writes of a script, where all items are finished
 abbrev pub IsResult : Command → Script → List ℕ → Type 0
 IsResult (Check repos) script text = ((schema : Schema) × IsAccepted repos script schema) × (text ≡ codes "ok" ++ 10 ∷ [])
-IsResult (Play tries) script text = IsReport script text
+IsResult (Play tries) script text = IsReport tries script true text
+
+-- and where one was refused
+abbrev pub IsUnfinished : Command → Script → List ℕ → Type 0
+IsUnfinished (Check repos) script text = ⊥
+IsUnfinished (Play tries) script text = IsReport tries script false text
 
 -- ---- refused scripts
 
@@ -64,7 +71,7 @@ repos_of (Play tries) = 1
 -- the script breaks no rule and can't run yet
 abbrev pub IsUnbuilt : Command → Script → Refusal → Type 0
 IsUnbuilt (Check repos) script r = ⊥
-IsUnbuilt (Play tries) script r = (r ≡ refusal.Unbuilt) × ((schema : Schema) × (IsAccepted 1 script schema × CantRun schema script))
+IsUnbuilt (Play tries) script r = (r ≡ refusal.Unbuilt) × ((schema : Schema) × (IsAccepted 1 script schema × CantRun schema tries script))
 
 -- a script with a setup is refused for a rule that it breaks, and else where it can't run yet
 abbrev pub IsRefusedOn : Command → Script → Option Declarations → Refusal → Type 0
@@ -90,6 +97,7 @@ limit_text limit = codes "limit " ++ (decimal limit ++ 10 ∷ [])
 -- what the status and its text tell of a script that was read
 abbrev pub TellsOf : Command → Script → Status → List ℕ → Type 0
 TellsOf command script status.Done text = IsWithinLimits script × IsResult command script text
+TellsOf command script status.Unfinished text = IsWithinLimits script × IsUnfinished command script text
 TellsOf command script status.Script text = IsWithinLimits script × ((r : Refusal) × (IsRefused command script r × (text ≡ refusal_text r)))
 TellsOf command script status.Limit text = (limit : ℕ) × (IsOverLimit script limit × (text ≡ limit_text limit))
 TellsOf command script status.Words text = ⊥
@@ -101,6 +109,7 @@ TellsOf command script status.NoMemory text = ⊥
 abbrev pub TellsRefused : List ℕ → Status → List ℕ → Type 0
 TellsRefused bytes status.Script text = (r : Refusal) × (IsRefusedText bytes r × (text ≡ refusal_text r))
 TellsRefused bytes status.Done text = ⊥
+TellsRefused bytes status.Unfinished text = ⊥
 TellsRefused bytes status.Limit text = ⊥
 TellsRefused bytes status.Words text = ⊥
 TellsRefused bytes status.SourceFault text = ⊥
@@ -128,6 +137,7 @@ HasCommand words = (command : Command) × (command_of words ≡ Some command)
 -- What is true where the program ends with a status and has this text to write.
 abbrev pub Says : List (List ℕ) → Option (List ℕ) → Option (List ℕ) → Status → List ℕ → Type 0
 Says words before after status.Done text = SaysOf words before after status.Done text
+Says words before after status.Unfinished text = SaysOf words before after status.Unfinished text
 Says words before after status.Script text = SaysOf words before after status.Script text
 Says words before after status.Limit text = SaysOf words before after status.Limit text ⊎ (HasCommand words × IsMoreThan 8388608 before × (text ≡ limit_text 8388608))
 Says words before after status.Words text = (command_of words ≡ None) × (text ≡ codes "words" ++ 10 ∷ [])
@@ -141,6 +151,7 @@ abbrev pub Wrote : List (List ℕ) → Option (List ℕ) → Option (List ℕ) �
 Wrote words left rest had taken status.SinkFault = (s : Status) × ((text : List ℕ) × (Says words left rest s text × PutFront had text taken))
 Wrote words left rest had taken status.NoMemory = taken ≡ had
 Wrote words left rest had taken status.Done = (text : List ℕ) × (Says words left rest status.Done text × Put had text taken)
+Wrote words left rest had taken status.Unfinished = (text : List ℕ) × (Says words left rest status.Unfinished text × Put had text taken)
 Wrote words left rest had taken status.Words = (text : List ℕ) × (Says words left rest status.Words text × Put had text taken)
 Wrote words left rest had taken status.Script = (text : List ℕ) × (Says words left rest status.Script text × Put had text taken)
 Wrote words left rest had taken status.SourceFault = (text : List ℕ) × (Says words left rest status.SourceFault text × Put had text taken)

@@ -1,22 +1,22 @@
-ghost use Rattle.std.specs.Prelude.{◌≡◌, List, map, true, Some};
+ghost use Rattle.std.specs.Prelude.{◌≡◌, ℕ, List, map, true, Some};
 ghost use Rattle.class_defs.specs.declared.statements.Stmt.{Stmt};
 ghost use Rattle.class_defs.specs.declared.store.Plain.{Plain};
 ghost use Rattle.class_defs.specs.declared.store.Schema.{Schema};
 ghost use Rattle.serial_model.specs.History.{IsLegal};
 ghost use Rattle.serial_model.specs.Outcomes.{Answers, all_items};
-ghost use Rattle.serial_model.specs.declared.entries.Did.{Did};
 ghost use Rattle.serial_model.specs.declared.entries.What.TheVariants.{Tx};
-ghost use Rattle.thor_top.specs.Alone.{ended, performance, schemas_of};
+ghost use Rattle.thor_top.specs.Alone.{performance, schemas_of};
 ghost use Rattle.thor_top.specs.Playing.{first_items, is_alone};
+ghost use Rattle.thor_top.specs.declared.performed.Performed.{Performed};
 
 /// What a client that is alone does is one serial history from the store: its timestamps rise, and each
 /// entry is legal on the store after those before it.
 pub fn alone_histories_are_legal()
-    ensures { (schema : Schema) (store : Plain) (txs : List (List Stmt)) (history : List Did) → store.epoch ≡ 0 → performance schema 1 0 store txs ≡ Some history → IsLegal (schemas_of schema) history store }
+    ensures { (schema : Schema) (store : Plain) (tries : ℕ) (txs : List (List Stmt)) (done : Performed) → store.epoch ≡ 0 → performance schema tries 1 1 0 store txs ≡ Some done → IsLegal (schemas_of schema) done.history store }
 {}
 
 /// Where no client but the first has items, each item is answered once by that history, every entry is of an
 /// item, and the entries stand in the order of the items.
 pub fn alone_histories_answer()
-    ensures { (schema : Schema) (store : Plain) (clients : List (List (List Stmt))) (history : List Did) → is_alone clients ≡ true → performance schema 1 0 store (first_items clients) ≡ Some history → Answers history (all_items (map (λ items. map Tx items) clients)) (map ended history) }
+    ensures { (schema : Schema) (store : Plain) (tries : ℕ) (clients : List (List (List Stmt))) (done : Performed) → is_alone clients ≡ true → performance schema tries 1 1 0 store (first_items clients) ≡ Some done → Answers done.history (all_items (map (λ items. map Tx items) clients)) done.ends }
 {}

@@ -8,6 +8,7 @@ mod judging;
 mod laws;
 mod names;
 mod opening;
+mod performed;
 mod playing;
 mod reading;
 mod refusal;
@@ -16,12 +17,14 @@ mod status;
 #[cfg(test)]
 mod tests;
 mod top;
+mod turns;
 
-pub use alone::{ends_of, perform};
+pub use alone::perform;
 pub use command::{Command, command_of};
 pub use error::ReadError;
 pub use judging::judge;
 pub use laws::{alone_histories_answer, alone_histories_are_legal};
+pub use performed::Performed;
 pub use reading::read_script;
 pub use refusal::Refusal;
 pub use script::{ClientBlocks, Script};

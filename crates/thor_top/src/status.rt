@@ -1,8 +1,10 @@
 /// How the program ended.
 #[derive(Clone, Copy, Debug, PartialEq, Eq)]
 pub enum Status {
-    /// The report was written.
+    /// What the command asks for was written, and all items are finished.
     Done,
+    /// The report was written, and an item was refused.
+    Unfinished,
     /// The words are not those of a command.
     Words,
     /// The script is refused.
@@ -22,6 +24,7 @@ impl Status {
     pub fn code(self) -> u8 {
         match self {
             Status::Done => 0,
+            Status::Unfinished => 1,
             Status::Words => 2,
             Status::Script => 3,
             Status::SourceFault => 4,

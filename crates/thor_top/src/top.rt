@@ -9,7 +9,7 @@ use crate::command::{Command, command_of};
 use crate::error::ReadError;
 use crate::judging::judge;
 use crate::opening::schema_of;
-use crate::playing::play;
+use crate::playing::{Played, play};
 use crate::reading::read_script;
 use crate::refusal::{Refusal, refusal_text};
 use crate::script::Script;
@@ -97,9 +97,13 @@ fn reply_accepted(
 {
     match command {
         Command::Check { repos: _ } => says(alloc, Status::Done, b"ok\n"),
-        Command::Play { tries: _ } => match play(alloc, schema, script)? {
-            Some(text) => Ok(Reply {
-                status: Status::Done,
+        Command::Play { tries } => match play(alloc, schema, script, tries)? {
+            Some(Played { text, finished }) => Ok(Reply {
+                status: if finished {
+                    Status::Done
+                } else {
+                    Status::Unfinished
+                },
                 text,
             }),
             None => refused(alloc, Refusal::Unbuilt),

@@ -1,8 +1,9 @@
-use Rattle.thor_top.proofs.TopLaws.{result_of_play}
+use Rattle.thor_top.proofs.TopLaws.{done_told, unfinished_told}
 use Rattle.thor_top.proofs.top.reply_accepted.Goals as goal
+use Rattle.thor_top.proofs.top.reply_accepted.Goals.{then-finished, else-finished}
 
-pub returns-in-Some : goal.returns-in-Some
-returns-in-Some c = (
-  c.requires.within,
-  result_of_play c.args.script.now c.args.schema.now c.args.command c.in-Play.tries c.in_ok-text-in-Play.field-0 c.in-Some.text c.in-Play.is c.requires.accepted c.in-Some.is c.in_ok-text-in-Play.ensures.played,
-)
+pub returns-after-finished : goal.returns-after-finished
+returns-after-finished c = elim c.if-finished.branch [
+  | then-finished w ↦ done_told c.args.script.now c.args.schema.now c.args.command c.in-Play.tries c.in_ok-text-in-Play.field-0 c.in-Some.field-0 c.if-finished.result c.requires.within w.result-is w.if-finished.true c.in-Play.is c.requires.accepted c.in-Some.is c.in_ok-text-in-Play.ensures.played
+  | else-finished w ↦ unfinished_told c.args.script.now c.args.schema.now c.args.command c.in-Play.tries c.in_ok-text-in-Play.field-0 c.in-Some.field-0 c.if-finished.result c.requires.within w.result-is w.if-finished.false c.in-Play.is c.requires.accepted c.in-Some.is c.in_ok-text-in-Play.ensures.played
+]
