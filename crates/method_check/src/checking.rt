@@ -4,7 +4,6 @@ ghost use Rattle.class_defs.specs.Rules as rules;
 ghost use Rattle.class_defs.specs.Rules.{least, least_with};
 ghost use Rattle.class_defs.specs.SchemaRules as spec;
 ghost use Rattle.class_defs.specs.SchemaRules.{schema_rules, item_rules};
-ghost use Rattle.method_check.specs.Scripts.{items_rules, script_rules};
 ghost use Rattle.method_check.specs.Told.{Tells};
 
 use crate::assignments::is_free_class;
@@ -16,7 +15,7 @@ use crate::error::CheckError;
 use crate::least::must;
 use crate::names::{names_in, stand_once};
 use class_defs::{
-    Block, Blocks, Checked, Classes, ExprType, NamedTypes, Names, RootDeclaration, Rule, Schema,
+    Block, Checked, Classes, ExprType, NamedTypes, Names, RootDeclaration, Rule, Schema,
     TypeFault,
 };
 use std::alloc::Global;
@@ -73,14 +72,14 @@ fn roots(classes: &Classes, repos: u8, roots: &[RootDeclaration], found: &mut Op
 ///
 /// `found` is then the fault that is told of these and of the one found before.
 #[tactic(auto, using(crate::proofs::Pieces::least_append), unfolding(class_defs::specs::SchemaRules::schema_rules))]
-fn note_schema(
+pub fn note_schema(
     alloc: Global,
     schema: &Schema,
     repos: u8,
     found: &mut Option<TypeFault>,
 ) -> Result<(), NoMemory>
-    requires { length schema.now.classes ≤ 65536 }
-    ensures { OnOk result (found.new ≡ least_with found.old (schema_rules schema.now repos)) }
+    requires few_classes { length schema.now.classes ≤ 65536 }
+    ensures found { OnOk result (found.new ≡ least_with found.old (schema_rules schema.now repos)) }
 {
     class_names(alloc, schema, found)?;
     root_names(alloc, schema, found)?;
@@ -137,15 +136,15 @@ fn item_names(
 ///
 /// `found` is then the fault that is told of these and of the one found before.
 #[tactic(auto, using(crate::proofs::Pieces::least_append), unfolding(class_defs::specs::SchemaRules::item_rules))]
-fn note_item(
+pub fn note_item(
     alloc: Global,
     schema: &Schema,
     item: &Block,
     repos: u8,
     found: &mut Option<TypeFault>,
 ) -> Result<(), NoMemory>
-    requires { length schema.now.classes ≤ 65536 }
-    ensures { OnOk result (found.new ≡ least_with found.old (item_rules schema.now repos item.now)) }
+    requires few_classes { length schema.now.classes ≤ 65536 }
+    ensures found { OnOk result (found.new ≡ least_with found.old (item_rules schema.now repos item.now)) }
 {
     item_names(alloc, schema, item, found)?;
     let body = Body {
@@ -187,76 +186,6 @@ pub fn check_item(
     ensures broken { IfErr result (λ error. Tells error (least (item_rules schema.now.schema repos item.now))) }
 {
     match item_fault(alloc, &schema.schema, item, repos)? {
-        Some(fault) => Err(CheckError::Broken(fault)),
-        None => Ok(()),
-    }
-}
-
-/// Notes what the transactions of a client break.
-fn note_items(
-    alloc: Global,
-    schema: &Schema,
-    items: &[Block],
-    repos: u8,
-    found: &mut Option<TypeFault>,
-) -> Result<(), NoMemory>
-    requires { length schema.now.classes ≤ 65536 }
-    ensures { OnOk result (found.new ≡ least_with found.old (flat_map (item_rules schema.now repos) items.now)) }
-{
-    for item in items {
-        note_item(alloc, schema, item, repos, found)?;
-    }
-    Ok(())
-}
-
-/// Notes what the transactions of the clients break.
-fn note_clients(
-    alloc: Global,
-    schema: &Schema,
-    clients: &[Blocks],
-    repos: u8,
-    found: &mut Option<TypeFault>,
-) -> Result<(), NoMemory>
-    requires { length schema.now.classes ≤ 65536 }
-    ensures { OnOk result (found.new ≡ least_with found.old (flat_map (items_rules schema.now repos) clients.now)) }
-{
-    for client in clients {
-        note_items(alloc, schema, client.as_slice(), repos, found)?;
-    }
-    Ok(())
-}
-
-/// The fault of a script that is told.
-#[tactic(auto, using(crate::proofs::Pieces::least_append))]
-fn script_fault(
-    alloc: Global,
-    schema: &Schema,
-    clients: &[Blocks],
-    repos: u8,
-) -> Result<Option<TypeFault>, NoMemory>
-    requires { length schema.now.classes ≤ 65536 }
-    ensures { IfOk result (λ fault. fault ≡ least (script_rules schema.now repos clients.now)) }
-{
-    let mut found = None;
-    note_schema(alloc, schema, repos, &mut found)?;
-    note_clients(alloc, schema, clients, repos, &mut found)?;
-    Ok(found)
-}
-
-/// Checks the rules T1 to T8 of a schema and of the transactions of all clients, over so many repositories.
-///
-/// `Broken` has the least line that breaks a rule, and of those on it the least rule.
-pub fn check_script(
-    alloc: Global,
-    schema: &Schema,
-    clients: &[Blocks],
-    repos: u8,
-) -> Result<(), CheckError>
-    requires few_classes { length schema.now.classes ≤ 65536 }
-    ensures sound { OnOk result (script_rules schema.now repos clients.now ≡ []) }
-    ensures broken { IfErr result (λ error. Tells error (least (script_rules schema.now repos clients.now))) }
-{
-    match script_fault(alloc, schema, clients, repos)? {
         Some(fault) => Err(CheckError::Broken(fault)),
         None => Ok(()),
     }

@@ -16,7 +16,7 @@ mod methods;
 mod names;
 mod nodes;
 
-pub use checking::{check, check_item, check_script};
+pub use checking::{check, check_item, note_item, note_schema};
 pub use error::CheckError;
 pub use laws::the_least_fault_is_told;
 

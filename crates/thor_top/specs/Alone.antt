@@ -16,7 +16,8 @@ use Rattle.serial_model.specs.declared.taking.Taken.{Taken}
 use Rattle.serial_model.specs.declared.taking.Taken.TheVariants.{Names, Wanting, Stopped}
 use Rattle.serial_model.specs.declared.outcomes.Cause.TheVariants.{Full}
 use Rattle.serial_model.specs.declared.entries.Did.{Did}
-use Rattle.serial_model.specs.declared.entries.What.TheVariants.{Tx}
+use Rattle.serial_model.specs.declared.entries.What.{What}
+use Rattle.serial_model.specs.declared.entries.What.TheVariants.{Tx, Upgrade as UpgradeItem}
 use Rattle.serial_model.specs.declared.outcomes.Ended.{Ended}
 use Rattle.serial_model.specs.declared.outcomes.ItemOutcome.{ItemOutcome}
 use Rattle.serial_model.specs.declared.outcomes.ItemOutcome.TheVariants.{Done, Upgraded, Faulted, Refused, Unknown}
@@ -115,15 +116,16 @@ by_turn (Commits c) committed lacking = committed c
 by_turn LacksNames committed lacking = lacking
 by_turn IsUndefined committed lacking = None
 
--- What a client does of its transactions, the first of which is the n-th, each on the store behind those before it, from a
--- time on and where so many names were given. A transaction that lacks names is refused, draws no time and takes no name.
--- There is nothing where a run is undefined.
-abbrev pub performance : Schema → ℕ → ℕ → ℕ → ℕ → Plain → List (List Stmt) → Option Performed
+-- What a client does of its items, the first of which is the n-th, each on the store behind those before it, from a time on
+-- and where so many names were given. A transaction that lacks names is refused, draws no time and takes no name. There is
+-- nothing where a run is undefined, and, for now, where an item is an upgrade.
+abbrev pub performance : Schema → ℕ → ℕ → ℕ → ℕ → Plain → List What → Option Performed
 performance schema tries n time given store [] = Some (record { ends = []; history = [] })
-performance schema tries n time given store (tx ∷ txs) =
+performance schema tries n time given store (Tx tx ∷ items) =
     by_turn (turn_of schema tx store (names_at_hand (first_page schema) given))
-    (λ c. option_map (with_entry (did n time tx c.fresh c.answer)) (performance schema tries (n + 1) (time + 1) (given + length c.fresh) c.after txs))
-    (option_map (with_refused n tries) (performance schema tries (n + 1) time given store txs))
+    (λ c. option_map (with_entry (did n time tx c.fresh c.answer)) (performance schema tries (n + 1) (time + 1) (given + length c.fresh) c.after items))
+    (option_map (with_refused n tries) (performance schema tries (n + 1) time given store items))
+performance schema tries n time given store (UpgradeItem upgrade ∷ items) = None
 
 -- what was done, and behind it the rest
 abbrev pub before_rest : Performed → Performed → Performed

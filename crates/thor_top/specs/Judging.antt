@@ -1,12 +1,15 @@
 -- Which rule a script breaks (this project's): T1 to T8 in its classes, roots and transactions, T9 in its schedule. The
 -- refusal that is told has the least line of all, and on that line the least rule.
-use Rattle.std.specs.Prelude.{◌≡◌, ℕ, nat_lt, if◌then◌else◌, List, [], length, Option, Some, None}
+use Rattle.std.specs.Prelude.{◌≡◌, ℕ, nat_lt, if◌then◌else◌, List, [], ◌++◌, length, Option, Some, None}
+use Rattle.std.specs.List.{flat_map}
 use Rattle.class_defs.specs.Rules.{least}
 use Rattle.class_defs.specs.declared.rules.TypeFault.{TypeFault}
 use Rattle.class_defs.specs.declared.store.Schema.{Schema}
-use Rattle.method_check.specs.Scripts.{script_rules}
+use Rattle.class_defs.specs.SchemaRules.{item_rules, schema_rules}
 use Rattle.schedule.specs.Breaks.{AllKeep, IsLeastBreach}
 use Rattle.schedule.specs.declared.events.Event.{Event}
+use Rattle.serial_model.specs.declared.entries.What.{What}
+use Rattle.serial_model.specs.declared.entries.What.TheVariants.{Tx, Upgrade as UpgradeItem}
 use Rattle.thor_top.specs.declared.refusal.Refusal.{Refusal}
 use Rattle.thor_top.specs.declared.refusal.Refusal.TheVariants as refusal
 use Rattle.thor_top.specs.declared.script.Script.{Script}
@@ -22,6 +25,18 @@ told None None = None
 told (Some fault) None = Some (refusal.Rule fault)
 told None (Some line) = Some (refusal.Event line)
 told (Some fault) (Some line) = Some (if nat_lt line fault.line then refusal.Event line else refusal.Rule fault)
+
+-- the rules T1 to T8 that an item breaks; an upgrade has rules of its own
+abbrev pub what_rules : Schema → ℕ → What → List TypeFault
+what_rules schema repos (Tx block) = item_rules schema repos block
+what_rules schema repos (UpgradeItem upgrade) = []
+
+abbrev pub items_rules : Schema → ℕ → List What → List TypeFault
+items_rules schema repos items = flat_map (what_rules schema repos) items
+
+-- a schema, and under it the items of all clients
+abbrev pub script_rules : Schema → ℕ → List (List What) → List TypeFault
+script_rules schema repos clients = schema_rules schema repos ++ flat_map (items_rules schema repos) clients
 
 -- the script breaks no rule
 pub record KeepsRules (schema : Schema) (repos : ℕ) (script : Script) : Type 0 where

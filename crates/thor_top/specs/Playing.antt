@@ -1,34 +1,44 @@
--- What a script's run writes (this project's). For now client 1 alone has transactions, and the schedule no event.
+-- What a script's run writes (this project's). For now client 1 alone has items, none of them an
+-- upgrade, and the schedule has no event.
 use Rattle.std.specs.Prelude.{◌≡◌, ◌⊎◌, ◌==◌, ◌&&◌, ℕ, Bool, true, false, not, List, [], ◌∷◌, length, Option, Some, None}
 use Rattle.std.specs.List.{list_all, list_any}
-use Rattle.class_defs.specs.declared.statements.Stmt.{Stmt}
 use Rattle.class_defs.specs.declared.store.Schema.{Schema}
 use Rattle.report_text.specs.Report.{report_text}
+use Rattle.serial_model.specs.declared.entries.What.{What}
+use Rattle.serial_model.specs.declared.entries.What.TheVariants.{Tx, Upgrade as UpgradeItem}
 use Rattle.thor_top.specs.Alone.{is_finished, performance}
 use Rattle.thor_top.specs.Opened.{opened}
 use Rattle.thor_top.specs.declared.performed.Performed.{Performed}
 use Rattle.thor_top.specs.declared.playing.Played.{Played}
 use Rattle.thor_top.specs.declared.script.Script.{Script}
 
--- the transactions of client 1
-abbrev pub first_items : List (List (List Stmt)) → List (List Stmt)
+-- the items of client 1
+abbrev pub first_items : List (List What) → List What
 first_items [] = []
 first_items (first ∷ others) = first
 
-abbrev pub is_busy : List (List Stmt) → Bool
+abbrev pub is_busy : List What → Bool
 is_busy [] = false
-is_busy (tx ∷ txs) = true
+is_busy (item ∷ items) = true
 
--- no client but the first has a transaction
-abbrev pub is_alone : List (List (List Stmt)) → Bool
+-- no client but the first has an item
+abbrev pub is_alone : List (List What) → Bool
 is_alone [] = true
 is_alone (first ∷ others) = not (list_any is_busy others)
+
+abbrev pub is_upgrade : What → Bool
+is_upgrade (Tx block) = false
+is_upgrade (UpgradeItem upgrade) = true
+
+-- whether one of the clients has an upgrade
+abbrev pub have_upgrade : List (List What) → Bool
+have_upgrade clients = list_any (λ items. list_any is_upgrade items) clients
 
 -- whether the script is of the form that runs
 abbrev pub can_run : Script → Bool
 can_run script = is_alone script.clients && length script.events == 0
 
--- what client 1 does of its transactions, from the opened store, where each run is defined
+-- what client 1 does of its items, from the opened store, where each run is defined
 abbrev pub performed : Schema → ℕ → Script → Option Performed
 performed schema tries script = performance schema tries 1 1 0 (opened schema) (first_items script.clients)
 

@@ -1,6 +1,5 @@
--- Which bytes are a script, and why others are refused before any rule is looked at (this project's). A script with an
--- upgrade isn't read yet.
-use Rattle.std.specs.Prelude.{◌≡◌, ◌⊎◌, ℕ, Bool, true, false, List, [], ◌∷◌, length, ◌≤◌, Option, Some, None, codes}
+-- Which bytes are a script, and why others are refused before any rule is looked at (this project's).
+use Rattle.std.specs.Prelude.{◌≡◌, ◌⊎◌, ℕ, Bool, true, false, List, [], ◌∷◌, length, drop, ◌≤◌, Option, Some, None, codes}
 use Rattle.class_defs.specs.declared.declarations.Declarations.{Declarations}
 use Rattle.class_defs.specs.declared.statements.Stmt.{Stmt}
 use Rattle.method_parse.specs.Matching.{is}
@@ -14,6 +13,9 @@ use Rattle.script_text.specs.declared.sections.Sections.{Sections}
 use Rattle.script_text.specs.declared.sections.Split.{Split}
 use Rattle.script_text.specs.declared.syntax.Syntax.{Syntax}
 use Rattle.script_text.specs.declared.token.Token.{Token}
+use Rattle.serial_model.specs.declared.entries.What.{What}
+use Rattle.serial_model.specs.declared.entries.What.TheVariants.{Tx, Upgrade as UpgradeItem}
+use Rattle.upgrade_defs.specs.Texts.{SpellsUpgrade}
 use Rattle.thor_top.specs.Reads.{Each, FirstRefused}
 use Rattle.thor_top.specs.declared.refusal.Refusal.{Refusal}
 use Rattle.thor_top.specs.declared.refusal.Refusal.TheVariants as refusal
@@ -26,9 +28,14 @@ abbrev pub IsTransaction : List Token → List Stmt → Type 0
 IsTransaction [] block = ⊥
 IsTransaction (token ∷ tokens) block = (is (codes "tx") token ≡ true) × SpellsBlock tokens block
 
+-- the tokens are an item: a transaction, or an upgrade with its word
+abbrev pub IsItem : List Token → What → Type 0
+IsItem tokens (Tx block) = IsTransaction tokens block
+IsItem tokens (UpgradeItem upgrade) = SpellsUpgrade tokens upgrade
+
 -- the items of a client
-abbrev pub AreItems : List (List Token) → List (List Stmt) → Type 0
-AreItems items blocks = Each IsTransaction items blocks
+abbrev pub AreItems : List (List Token) → List What → Type 0
+AreItems items whats = Each IsItem items whats
 
 -- the setup, where the script has it
 abbrev pub IsSetupPart : Option (List Token) → Option Declarations → Type 0
@@ -62,17 +69,20 @@ HasFew (Some setup) = (length setup.classes ≤ 256) × (length setup.roots ≤ 
 abbrev pub IsSyntaxOf : {X : Type 0} → (List Token → X → Type 0) → List Token → Refusal → Type 0
 IsSyntaxOf Spells tokens r = (line : ℕ) × ((r ≡ refusal.Syntax line) × IsFaultAt Spells tokens line)
 
--- an item that isn't a transaction is an upgrade, which isn't built yet
-abbrev pub IsRefusedBehind : Bool → List Token → Refusal → Type 0
-IsRefusedBehind true tokens r = IsSyntaxOf SpellsBlock tokens r
-IsRefusedBehind false tokens r = r ≡ refusal.Unbuilt
+-- an item that doesn't begin with `tx` is an upgrade
+abbrev pub IsRefusedAs : Bool → List Token → List Token → Refusal → Type 0
+IsRefusedAs true tokens behind r = IsSyntaxOf SpellsBlock behind r
+IsRefusedAs false tokens behind r = IsSyntaxOf SpellsUpgrade tokens r
+
+abbrev pub begins_with_tx : List Token → Bool
+begins_with_tx [] = false
+begins_with_tx (token ∷ tokens) = is (codes "tx") token
 
 abbrev pub IsRefusedItem : List Token → Refusal → Type 0
-IsRefusedItem [] r = r ≡ refusal.Unbuilt
-IsRefusedItem (token ∷ tokens) r = IsRefusedBehind (is (codes "tx") token) tokens r
+IsRefusedItem tokens r = IsRefusedAs (begins_with_tx tokens) tokens (drop 1 tokens) r
 
 abbrev pub AreRefusedItems : List (List Token) → Refusal → Type 0
-AreRefusedItems items r = FirstRefused IsTransaction IsRefusedItem items r
+AreRefusedItems items r = FirstRefused IsItem IsRefusedItem items r
 
 abbrev pub IsRefusedSetup : Option (List Token) → Refusal → Type 0
 IsRefusedSetup None r = ⊥
@@ -92,12 +102,12 @@ IsRefusedSplit split r =
     IsRefusedSetup split.sections.setup r
     ⊎ ((setup : Option Declarations) × (IsSetupPart split.sections.setup setup
     × (FirstRefused AreItems AreRefusedItems split.sections.clients r
-    ⊎ ((clients : List (List (List Stmt))) × (Each AreItems split.sections.clients clients
+    ⊎ ((clients : List (List What)) × (Each AreItems split.sections.clients clients
     × (IsRefusedSchedule split.sections.schedule r
     ⊎ ((events : List Event) × (AreEventsOf split.sections.schedule events
     × IsRefusedEnd split.fault r))))))))
 
--- the bytes are no script, or one that isn't read yet
+-- the bytes are no script
 abbrev pub IsRefusedText : List ℕ → Refusal → Type 0
 IsRefusedText bytes r =
     ((fault : Syntax) × (StopsAt bytes fault × (r ≡ refusal.Syntax fault.line)))

@@ -9,12 +9,11 @@ use Rattle.report_text.specs.Report.{report_text}
 use Rattle.serial_model.specs.History.{IsLegal}
 use Rattle.serial_model.specs.Outcomes.{Answers, all_items}
 use Rattle.serial_model.specs.declared.entries.Did.{Did}
-use Rattle.serial_model.specs.declared.entries.What.TheVariants.{Tx}
 use Rattle.serial_model.specs.declared.outcomes.Ended.{Ended}
 use Rattle.thor_top.specs.Alone.{is_finished, schemas_of}
 use Rattle.thor_top.specs.Judging.{BreaksRule, KeepsRules}
 use Rattle.thor_top.specs.Opened.{opened, schema_of}
-use Rattle.thor_top.specs.Playing.{CantRun, Does}
+use Rattle.thor_top.specs.Playing.{CantRun, Does, have_upgrade}
 use Rattle.thor_top.specs.Refusals.{refusal_text}
 use Rattle.thor_top.specs.Script.{IsRefusedText, IsWritten}
 use Rattle.thor_top.specs.Words.{command_of}
@@ -40,7 +39,7 @@ pub record IsAccepted (repos : ℕ) (script : Script) (schema : Schema) : Type 0
 -- answer that its run gives; and the outcomes are answered by it, each item's once and each client's in its order.
 pub record IsSerial (schema : Schema) (script : Script) (history : List Did) (ended : List Ended) : Type 0 where
   pub legal : IsLegal (schemas_of schema) history (opened schema)
-  pub answers : Answers history (all_items (map (λ items. map Tx items) script.clients)) ended
+  pub answers : Answers history (all_items script.clients) ended
 
 -- The text is the report of an accepted script's outcomes and history, and all items were finished or not.
 pub record IsReport (tries : ℕ) (script : Script) (finished : Bool) (text : List ℕ) : Type 0 where
@@ -54,7 +53,7 @@ pub record IsReport (tries : ℕ) (script : Script) (finished : Bool) (text : Li
 
 -- what a command writes of a script, where all items are finished
 abbrev pub IsResult : Command → Script → List ℕ → Type 0
-IsResult (Check repos) script text = ((schema : Schema) × IsAccepted repos script schema) × (text ≡ codes "ok" ++ 10 ∷ [])
+IsResult (Check repos) script text = ((schema : Schema) × IsAccepted repos script schema) × (have_upgrade script.clients ≡ false) × (text ≡ codes "ok" ++ 10 ∷ [])
 IsResult (Play tries) script text = IsReport tries script true text
 
 -- and where one was refused
@@ -68,9 +67,9 @@ abbrev pub repos_of : Command → ℕ
 repos_of (Check repos) = repos
 repos_of (Play tries) = 1
 
--- the script breaks no rule and can't run yet
+-- The script breaks no rule T, and its upgrades' rules aren't checked yet; or it can't run yet.
 abbrev pub IsUnbuilt : Command → Script → Refusal → Type 0
-IsUnbuilt (Check repos) script r = ⊥
+IsUnbuilt (Check repos) script r = (r ≡ refusal.Unbuilt) × ((schema : Schema) × (IsAccepted repos script schema × (have_upgrade script.clients ≡ true)))
 IsUnbuilt (Play tries) script r = (r ≡ refusal.Unbuilt) × ((schema : Schema) × (IsAccepted 1 script schema × CantRun schema tries script))
 
 -- a script with a setup is refused for a rule that it breaks, and else where it can't run yet
@@ -105,7 +104,7 @@ TellsOf command script status.SourceFault text = ⊥
 TellsOf command script status.SinkFault text = ⊥
 TellsOf command script status.NoMemory text = ⊥
 
--- what the status and its text tell of bytes that are no script, or one that isn't read yet
+-- what the status and its text tell of bytes that are no script
 abbrev pub TellsRefused : List ℕ → Status → List ℕ → Type 0
 TellsRefused bytes status.Script text = (r : Refusal) × (IsRefusedText bytes r × (text ≡ refusal_text r))
 TellsRefused bytes status.Done text = ⊥

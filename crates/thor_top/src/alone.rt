@@ -93,30 +93,34 @@ fn more(given: usize, fresh: usize) -> Result<usize, NoMemory>
     }
 }
 
-/// Performs the transactions of client 1 in order, on the whole store that a view has, each with so many tries.
+/// Performs the items of client 1 in order, on the whole store that a view has, each with so many tries.
 ///
-/// Gives how they ended and their entries where each run is defined, and nothing elsewhere.
+/// Gives how they ended and their entries where each run is defined and none is an upgrade, and nothing elsewhere.
 pub fn perform(
     alloc: Global,
     schema: &Schema,
     view: &mut View,
-    blocks: &[Block],
+    items: &[What],
     tries: u8,
 ) -> Result<Option<Performed>, NoMemory>
     requires few { length schema.now.classes ≤ 65536 }
     requires roots { length schema.now.roots < 2 ^ 32 }
     requires first { IsFirst schema.now }
-    ensures performed { IfOk result (λ done. (roots : List Root) → done ≡ spec.performance schema.now tries 1 1 0 (plain roots view.old) blocks.now) }
+    ensures performed { IfOk result (λ done. (roots : List Root) → done ≡ spec.performance schema.now tries 1 1 0 (plain roots view.old) items.now) }
 {
     let first = first_page(schema);
     let mut given = 0;
     let mut ends = Ends::new(alloc);
     let mut history = Dids::new(alloc);
-    for (place, block) in blocks.iter().enumerate() {
-        match take_turn(alloc, schema, view, block, first, given)? {
+    for (place, item) in items.iter().enumerate() {
+        let tx = match item {
+            What::Tx(tx) => tx,
+            What::Upgrade(_) => return Ok(None),
+        };
+        match take_turn(alloc, schema, view, tx, first, given)? {
             Turn::Commits(committed) => {
                 given = more(given, committed.fresh.len())?;
-                let did = did(place, history.len(), block, committed)?;
+                let did = did(place, history.len(), tx, committed)?;
                 ends.push(ended(&did)?)?;
                 history.push(did)?;
             }

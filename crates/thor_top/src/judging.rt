@@ -1,32 +1,83 @@
 ghost use Rattle.std.specs.Prelude.{◌≡◌, ◌≤◌, [], None, List, length, IfOk, OnOk, IfErr};
-ghost use Rattle.class_defs.specs.Rules.{least};
-ghost use Rattle.method_check.specs.Scripts.{script_rules};
-ghost use Rattle.thor_top.specs.Judging.{IsToldEvent, Judges, told};
+ghost use Rattle.std.specs.List.{flat_map};
+ghost use Rattle.class_defs.specs.Rules.{least, least_with};
+ghost use Rattle.thor_top.specs.Judging.{IsToldEvent, Judges, items_rules, script_rules, told, what_rules};
 
 use crate::refusal::Refusal;
-use crate::script::{ClientBlocks, Script};
+use crate::script::{ClientItems, Items, Script};
 use class_defs::{Schema, TypeFault};
-use method_check::{CheckError, check_script};
+use method_check::{note_item, note_schema};
 use schedule::{Events, check_events};
+use serial_model::What;
 use std::alloc::Global;
 use thor_value::NoMemory;
 
+/// Notes what an item breaks; an upgrade has rules of its own.
+fn note_what(
+    alloc: Global,
+    schema: &Schema,
+    what: &What,
+    repos: u8,
+    found: &mut Option<TypeFault>,
+) -> Result<(), NoMemory>
+    requires { length schema.now.classes ≤ 65536 }
+    ensures { OnOk result (found.new ≡ least_with found.old (what_rules schema.now repos what.now)) }
+{
+    match what {
+        What::Tx(block) => note_item(alloc, schema, block, repos, found),
+        What::Upgrade(_) => Ok(()),
+    }
+}
+
+/// Notes what the items of a client break.
+fn note_items(
+    alloc: Global,
+    schema: &Schema,
+    items: &[What],
+    repos: u8,
+    found: &mut Option<TypeFault>,
+) -> Result<(), NoMemory>
+    requires { length schema.now.classes ≤ 65536 }
+    ensures { OnOk result (found.new ≡ least_with found.old (items_rules schema.now repos items.now)) }
+{
+    for item in items {
+        note_what(alloc, schema, item, repos, found)?;
+    }
+    Ok(())
+}
+
+/// Notes what the items of the clients break.
+fn note_clients(
+    alloc: Global,
+    schema: &Schema,
+    clients: &[Items],
+    repos: u8,
+    found: &mut Option<TypeFault>,
+) -> Result<(), NoMemory>
+    requires { length schema.now.classes ≤ 65536 }
+    ensures { OnOk result (found.new ≡ least_with found.old (flat_map (items_rules schema.now repos) clients.now)) }
+{
+    for client in clients {
+        note_items(alloc, schema, client.as_slice(), repos, found)?;
+    }
+    Ok(())
+}
+
 /// The fault of the schema and the transactions that is told.
+#[tactic(auto, using(method_check::proofs::Pieces::least_append))]
 fn rule_fault(
     alloc: Global,
     schema: &Schema,
-    clients: &ClientBlocks,
+    clients: &ClientItems,
     repos: u8,
 ) -> Result<Option<TypeFault>, NoMemory>
     requires { length schema.now.classes ≤ 65536 }
-    ensures told { IfOk result (λ fault. fault ≡ least (script_rules schema.now repos clients.now)) }
-    ensures sound { IfOk result (λ fault. fault ≡ None → script_rules schema.now repos clients.now ≡ []) }
+    ensures { IfOk result (λ fault. fault ≡ least (script_rules schema.now repos clients.now)) }
 {
-    match check_script(alloc, schema, clients.as_slice(), repos) {
-        Ok(()) => Ok(None),
-        Err(CheckError::Broken(fault)) => Ok(Some(fault)),
-        Err(CheckError::NoMemory) => Err(NoMemory),
-    }
+    let mut found = None;
+    note_schema(alloc, schema, repos, &mut found)?;
+    note_clients(alloc, schema, clients.as_slice(), repos, &mut found)?;
+    Ok(found)
 }
 
 /// The line of the event that is told.

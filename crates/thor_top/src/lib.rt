@@ -27,6 +27,6 @@ pub use laws::{alone_histories_answer, alone_histories_are_legal};
 pub use performed::Performed;
 pub use reading::read_script;
 pub use refusal::Refusal;
-pub use script::{ClientBlocks, Script};
+pub use script::{ClientItems, Items, Script};
 pub use status::Status;
 pub use top::{SCRIPT_LIMIT, thor};

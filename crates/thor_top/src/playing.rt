@@ -8,15 +8,15 @@ ghost use Rattle.thor_top.specs.Playing.{Plays};
 use crate::alone::perform;
 use crate::opening::open;
 use crate::performed::Performed;
-use crate::script::Script;
-use class_defs::{Block, Blocks, Schema};
+use crate::script::{Items, Script};
+use class_defs::Schema;
 use report_text::print_report;
-use serial_model::{Ended, ItemOutcome};
+use serial_model::{Ended, ItemOutcome, What};
 use std::alloc::Global;
 use thor_value::{NoMemory, Text};
 
-/// The transactions of client 1.
-fn first_items(clients: &[Blocks]) -> &[Block]
+/// The items of client 1.
+fn first_items(clients: &[Items]) -> &[What]
     ensures { result.now ≡ spec.first_items clients.now }
 {
     match clients {
@@ -25,8 +25,8 @@ fn first_items(clients: &[Blocks]) -> &[Block]
     }
 }
 
-/// Whether one of the clients has a transaction.
-fn are_busy(clients: &[Blocks]) -> bool
+/// Whether one of the clients has an item.
+fn are_busy(clients: &[Items]) -> bool
     ensures { result ≡ list_any spec.is_busy clients.now }
 {
     for client in clients {
@@ -37,7 +37,37 @@ fn are_busy(clients: &[Blocks]) -> bool
     false
 }
 
-/// Whether client 1 alone has transactions, and the schedule no event.
+fn is_upgrade(what: &What) -> bool
+    ensures { result ≡ spec.is_upgrade what.now }
+{
+    matches!(what, What::Upgrade(_))
+}
+
+/// Whether one of the items is an upgrade.
+fn has_upgrade(items: &[What]) -> bool
+    ensures { result ≡ list_any spec.is_upgrade items.now }
+{
+    for item in items {
+        if is_upgrade(item) {
+            return true;
+        }
+    }
+    false
+}
+
+/// Whether one of the clients has an upgrade.
+pub fn have_upgrade(clients: &[Items]) -> bool
+    ensures { result ≡ spec.have_upgrade clients.now }
+{
+    for client in clients {
+        if has_upgrade(client.as_slice()) {
+            return true;
+        }
+    }
+    false
+}
+
+/// Whether client 1 alone has items, and the schedule no event.
 fn can_run(script: &Script) -> bool
     ensures { result ≡ spec.can_run script.now }
 {
@@ -94,8 +124,8 @@ pub fn play(
         return Ok(None);
     }
     let mut view = open(alloc, schema)?;
-    let blocks = first_items(script.clients.as_slice());
-    match perform(alloc, schema, &mut view, blocks, tries)? {
+    let items = first_items(script.clients.as_slice());
+    match perform(alloc, schema, &mut view, items, tries)? {
         Some(Performed { ends, history }) => Ok(Some(Played {
             text: print_report(alloc, &ends, &history)?,
             finished: are_finished(ends.as_slice()),

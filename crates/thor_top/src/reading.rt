@@ -6,20 +6,23 @@ ghost use Rattle.schedule.specs.Written.{AreEventsOf};
 ghost use Rattle.std.specs.Prelude.{None};
 ghost use Rattle.script_text.specs.Sections.{split_of};
 ghost use Rattle.script_text.specs.declared.sections.Split.{Split};
+ghost use Rattle.upgrade_defs.specs.Texts.{SpellsUpgrade};
 ghost use Rattle.thor_top.specs.Reads.{Each, FirstRefused, Reads};
-ghost use Rattle.thor_top.specs.Script.{AreItems, AreRefusedItems, IsRefusedItem, IsRefusedSchedule, IsRefusedSetup, IsRefusedSplit, IsRefusedText, IsSetupPart, IsSyntaxOf, IsTransaction, HasFew, HasParts, HasTokens, IsWritten};
+ghost use Rattle.thor_top.specs.Script.{AreItems, AreRefusedItems, IsRefusedItem, IsRefusedSchedule, IsRefusedSetup, IsRefusedSplit, IsRefusedText, IsSetupPart, IsSyntaxOf, IsItem, begins_with_tx, HasFew, HasParts, HasTokens, IsWritten};
 
 use crate::error::ReadError;
 use crate::refusal::Refusal;
-use crate::script::{ClientBlocks, Script};
-use class_defs::{Block, Blocks, Declarations};
+use crate::script::{ClientItems, Items, Script};
+use class_defs::{Block, Declarations, Upgrade};
 use method_parse::{parse_block, parse_setup};
 use schedule::{Events, parse_schedule};
 use script_text::{
     ClientParts, ItemParts, Sections, Split, Token, TokenKind, Tokens, scan, split_sections,
 };
+use serial_model::What;
 use std::alloc::Global;
 use thor_value::Sequence;
+use upgrade_defs::parse_upgrade;
 
 /// Whether a token is the word `tx`.
 fn is_tx(token: &Token) -> bool
@@ -29,10 +32,26 @@ fn is_tx(token: &Token) -> bool
         && token.text.as_slice() == b"tx".as_slice()
 }
 
+/// Whether an item begins with the word `tx`.
+fn begins_with_tx(item: &Tokens) -> bool
+    ensures { result ≡ begins_with_tx item.now }
+{
+    match item.as_slice() {
+        [] => false,
+        [first, ..] => is_tx(first),
+    }
+}
+
 fn read_block(alloc: Global, tokens: &Tokens) -> Result<Block, ReadError>
     ensures { Reads (SpellsBlock tokens.now) (IsSyntaxOf SpellsBlock tokens.now) result }
 {
     Ok(parse_block(alloc, tokens)?)
+}
+
+fn read_upgrade(alloc: Global, tokens: &Tokens) -> Result<Upgrade, ReadError>
+    ensures { Reads (SpellsUpgrade tokens.now) (IsSyntaxOf SpellsUpgrade tokens.now) result }
+{
+    Ok(parse_upgrade(alloc, tokens)?)
 }
 
 fn read_declarations(alloc: Global, tokens: &Tokens) -> Result<Declarations, ReadError>
@@ -47,43 +66,46 @@ fn read_schedule(alloc: Global, tokens: &Tokens) -> Result<Events, ReadError>
     Ok(parse_schedule(alloc, tokens)?)
 }
 
-/// An item's transaction: the word `tx` and a block.
-fn read_item(alloc: Global, item: Tokens) -> Result<Block, ReadError>
-    ensures { Reads (IsTransaction item) (IsRefusedItem item) result }
+/// An item: the word `tx` and a block, or an upgrade.
+fn read_item(alloc: Global, item: Tokens) -> Result<What, ReadError>
+    ensures { Reads (IsItem item) (IsRefusedItem item) result }
 {
     let mut tokens = item;
-    if tokens.is_empty() {
-        return Err(ReadError::Refused(Refusal::Unbuilt));
+    if !begins_with_tx(&tokens) {
+        return match read_upgrade(alloc, &tokens) {
+            Ok(upgrade) => Ok(What::Upgrade(upgrade)),
+            Err(error) => Err(error),
+        };
     }
-    let first = tokens.remove(0);
-    if !is_tx(&first) {
-        return Err(ReadError::Refused(Refusal::Unbuilt));
+    tokens.remove(0);
+    match read_block(alloc, &tokens) {
+        Ok(block) => Ok(What::Tx(block)),
+        Err(error) => Err(error),
     }
-    read_block(alloc, &tokens)
 }
 
-/// The transactions of a client.
-fn read_items(alloc: Global, items: ItemParts) -> Result<Blocks, ReadError>
+/// The items of a client.
+fn read_items(alloc: Global, items: ItemParts) -> Result<Items, ReadError>
     ensures { Reads (AreItems items) (AreRefusedItems items) result }
 {
-    let mut blocks = Blocks::new(alloc);
+    let mut whats = Items::new(alloc);
     for item in items.into_vec() {
         match read_item(alloc, item) {
-            Ok(block) => blocks.push(block)?,
+            Ok(what) => whats.push(what)?,
             Err(error) => return Err(error),
         }
     }
-    Ok(blocks)
+    Ok(whats)
 }
 
-/// The transactions of the clients.
-fn read_clients(alloc: Global, clients: ClientParts) -> Result<ClientBlocks, ReadError>
+/// The items of the clients.
+fn read_clients(alloc: Global, clients: ClientParts) -> Result<ClientItems, ReadError>
     ensures { Reads (Each AreItems clients) (FirstRefused AreItems AreRefusedItems clients) result }
 {
-    let mut read = ClientBlocks::new(alloc);
+    let mut read = ClientItems::new(alloc);
     for client in clients.into_vec() {
         match read_items(alloc, client) {
-            Ok(blocks) => read.push(blocks)?,
+            Ok(items) => read.push(items)?,
             Err(error) => return Err(error),
         }
     }
@@ -135,8 +157,7 @@ fn read_tokens(alloc: Global, tokens: &Tokens) -> Result<Script, ReadError>
 
 /// The script that the bytes of a text are, by the grammar.
 ///
-/// It is refused at the line of the first token that no script goes on with, or where an upgrade stands
-/// before any such token.
+/// It is refused at the line of the first token that its first faulty part doesn't go on with.
 pub fn read_script(alloc: Global, text: &[u8]) -> Result<Script, ReadError>
     requires { length text.now < 2 ^ 32 }
     ensures read { Reads (IsWritten text.now) (IsRefusedText text.now) result }

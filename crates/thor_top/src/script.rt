@@ -1,16 +1,20 @@
-use class_defs::{Blocks, Declarations};
+use class_defs::Declarations;
 use schedule::Events;
+use serial_model::What;
 use thor_value::Sequence;
 
-/// The transactions of each client, in order.
-pub type ClientBlocks = Sequence<Blocks>;
+/// The items of a client, in order.
+pub type Items = Sequence<What>;
+
+/// The items of each client, in order.
+pub type ClientItems = Sequence<Items>;
 
 /// A script, read.
 #[derive(Debug, Drop)]
 pub struct Script {
     /// What the section `setup` declares, where the script has it.
     pub setup: Option<Declarations>,
-    pub clients: ClientBlocks,
+    pub clients: ClientItems,
     /// The events of the schedule; none without it.
     pub events: Events,
 }

@@ -9,7 +9,7 @@ use crate::command::{Command, command_of};
 use crate::error::ReadError;
 use crate::judging::judge;
 use crate::opening::schema_of;
-use crate::playing::{Played, play};
+use crate::playing::{Played, have_upgrade, play};
 use crate::reading::read_script;
 use crate::refusal::{Refusal, refusal_text};
 use crate::script::Script;
@@ -96,7 +96,13 @@ fn reply_accepted(
     ensures { IfOk result (λ reply. TellsOf command script.now reply.status reply.text) }
 {
     match command {
-        Command::Check { repos: _ } => says(alloc, Status::Done, b"ok\n"),
+        Command::Check { repos: _ } => {
+            if have_upgrade(script.clients.as_slice()) {
+                refused(alloc, Refusal::Unbuilt)
+            } else {
+                says(alloc, Status::Done, b"ok\n")
+            }
+        }
         Command::Play { tries } => match play(alloc, schema, script, tries)? {
             Some(Played { text, finished }) => Ok(Reply {
                 status: if finished {
