@@ -11,7 +11,14 @@ mod statements;
 mod take;
 mod whole;
 
+pub use deep::Level;
+pub use error::ParseError;
+pub use expressions::operator;
 pub use parse::{parse_block, parse_setup, spellings_are_unique};
+pub use setups::{methods, next_begins_type};
+pub use starts::{operator_in, tighter};
+pub use take::{name, next_is, number, type_word, word};
+pub use whole::error_of;
 
 #[cfg(test)]
 mod tests;

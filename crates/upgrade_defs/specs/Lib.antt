@@ -1,0 +1,6 @@
+pub mod Expressions
+pub mod Grammar
+pub mod Rows
+pub mod Spelling
+pub mod Texts
+pub mod Upgrades
