@@ -10,3 +10,6 @@ mod upgrades;
 mod whole;
 
 pub use parse::{parse_upgrade, upgrade_spellings_are_unique};
+
+#[cfg(test)]
+mod tests;
