@@ -17,6 +17,7 @@ SaysUpgrade u tokens = SpellsUpgrade tokens u
 pub lawful_text : Lawful SaysUpgrade upgrade
 lawful_text = lawful_as (λ u ts s. (s.spelled, s.is)) lawful_upgrade
 
-pub upgrade_found : (tokens : List Token) (result : Result Upgrade SyntaxError) → Answers tokens result (upgrade_of tokens) → IfOk result (SpellsUpgrade tokens)
+pub upgrade_found : (tokens : List Token) (result : Result Upgrade SyntaxError) → Answers tokens result (upgrade_of tokens)
+    → IfOk result (SpellsUpgrade tokens)
 unfolding upgrade_of
 upgrade_found tokens result answers = answered_found SaysUpgrade tokens (upgrade tokens) result (lawful_text.reads tokens) answers

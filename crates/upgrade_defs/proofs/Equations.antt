@@ -47,4 +47,17 @@ words-Binary o x y l = ap tf_words (sym (tf.rolls-Binary o x y l)) ∙ fold-roll
 pub shape-Binary : (o : Operator) (x y : Tf) (l : ℕ) → tf_shape (tf.Binary o x y l) ≡ tf_shape_step (Tf-F.Binary o (tf_shape x) (tf_shape y) l)
 shape-Binary o x y l = ap tf_shape (sym (tf.rolls-Binary o x y l)) ∙ fold-roll-Tf Shape tf_shape_step (Tf-F.Binary o x y l)
 
-pub ruleset the_forms = (words-Null, words-Int, words-Path, words-Parens, words-Negate, words-Binary, shape-Null, shape-Int, shape-Path, shape-Parens, shape-Negate, shape-Binary)
+pub ruleset the_forms = (
+  words-Null,
+  words-Int,
+  words-Path,
+  words-Parens,
+  words-Negate,
+  words-Binary,
+  shape-Null,
+  shape-Int,
+  shape-Path,
+  shape-Parens,
+  shape-Negate,
+  shape-Binary,
+)

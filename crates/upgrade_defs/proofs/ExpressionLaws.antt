@@ -67,10 +67,12 @@ lawful_dotted =
       is = tt;
     }))
 
-lawful_more : (names : List Name) (front : List Token) → AreWords front (in_turn (map dot_name names)) → Lawful (behind front AreNames) (more_names names)
+lawful_more : (names : List Name) (front : List Token) → AreWords front (in_turn (map dot_name names))
+    → Lawful (behind front AreNames) (more_names names)
 unfolding more_names
 lawful_more names front spelled = lawful_last (λ n. names ++ n ∷ []) lawful_dotted (λ n f s. record {
-  spelled = subst (λ (w : List Word). AreWords (front ++ f) w) (sym (turn-push dot_name names n)) (join front f (in_turn (map dot_name names)) (dot_name n) spelled s.spelled);
+  spelled = subst (λ (w : List Word). AreWords (front ++ f) w) (sym (turn-push dot_name names n))
+      (join front f (in_turn (map dot_name names)) (dot_name n) spelled s.spelled);
   some = names-push names n;
 })
 
@@ -80,13 +82,15 @@ lawful_names names front said = lawful_repeat_all AreNames is_dot more_names (λ
 
 -- ---- expressions in a room
 
-module _ (room below : ℕ) (deeper : room ≡ below + 1) (parts : Parts) (parts_law : 0 < below → (level : Level) → Lawful (IsRead below (grade level)) (parts level)) where
+module _ (room below : ℕ) (deeper : room ≡ below + 1) (parts : Parts)
+    (parts_law : 0 < below → (level : Level) → Lawful (IsRead below (grade level)) (parts level)) where
   -- an expression of this room, at a level
   abbrev Here : ℕ → Says Deep
   Here level = IsRead room level
 
   -- a leaf
-  leaf_read : (x : Tf) (b : Bool) (ts : List Token) (ws : List Word) → tf_words x ≡ ws → tf_shape x ≡ record { level = 5; depth = 1; nesting = 0; proper = b } → b ≡ true
+  leaf_read : (x : Tf) (b : Bool) (ts : List Token) (ws : List Word) → tf_words x ≡ ws
+      → tf_shape x ≡ record { level = 5; depth = 1; nesting = 0; proper = b } → b ≡ true
       → AreWords ts ws → Here 3 (leaf x) ts
   leaf_read x b ts ws words shaped proper spelled = record {
     spelled = subst (λ (w : List Word). AreWords ts w) (sym words) spelled;
@@ -97,8 +101,11 @@ module _ (room below : ℕ) (deeper : room ≡ below + 1) (parts : Parts) (parts
   lawful_path : Lawful (Here 3) path
   unfolding path
   lawful_path =
-      lawful_bind (lawful_word (codes "old")) (λ l f1 s1. lawful_bind (lawful_more [] [] tt) (λ first f2 s2. lawful_last (λ names. leaf (tf.Path names l)) (lawful_names first f2 s2) (λ names f3 s3.
-      leaf_read (tf.Path names l) (has_names names) (f1 ++ (f2 ++ f3)) (FixedAt (codes "old") l ∷ in_turn (map dot_name names)) (eq.words-Path names l) (eq.shape-Path names l) s3.some
+      lawful_bind (lawful_word (codes "old"))
+      (λ l f1 s1. lawful_bind (lawful_more [] [] tt)
+      (λ first f2 s2. lawful_last (λ names. leaf (tf.Path names l)) (lawful_names first f2 s2) (λ names f3 s3.
+      leaf_read (tf.Path names l) (has_names names) (f1 ++ (f2 ++ f3)) (FixedAt (codes "old") l ∷ in_turn (map dot_name names))
+      (eq.words-Path names l) (eq.shape-Path names l) s3.some
       (join f1 (f2 ++ f3) (FixedAt (codes "old") l ∷ []) (in_turn (map dot_name names)) s1 s3.spelled))))
 
   lawful_integer : Lawful (Here 3) integer
@@ -109,7 +116,9 @@ module _ (room below : ℕ) (deeper : room ≡ below + 1) (parts : Parts) (parts
   lawful_parens : 0 < below → Lawful (Here 3) (parens (parts levels.Sum))
   unfolding parens
   lawful_parens more =
-      lawful_bind (lawful_word (codes "(")) (λ l f1 s1. lawful_bind (parts_law more levels.Sum) (λ d f2 s2. lawful_last (λ c. in_parens d l) (lawful_word (codes ")")) (λ c f3 s3. record {
+      lawful_bind (lawful_word (codes "("))
+      (λ l f1 s1. lawful_bind (parts_law more levels.Sum)
+      (λ d f2 s2. lawful_last (λ c. in_parens d l) (lawful_word (codes ")")) (λ c f3 s3. record {
         spelled = subst (λ (w : List Word). AreWords (f1 ++ (f2 ++ f3)) w) (sym (eq.words-Parens d.value l))
             (join f1 (f2 ++ f3) (FixedAt (codes "(") l ∷ []) (tf_words d.value ++ Fixed (codes ")") ∷ []) s1
             (join f2 f3 (tf_words d.value) (Fixed (codes ")") ∷ []) s2.spelled (plain f3 (codes ")") c s3)));
@@ -119,7 +128,8 @@ module _ (room below : ℕ) (deeper : room ≡ below + 1) (parts : Parts) (parts
           within = omega (arith, s2.fits.within);
           nested = omega (arith, s2.fits.nested);
           tight = omega arith;
-          proper = and-both (tf_shape d.value).proper (nat_le 1 (tf_shape d.value).level) s2.fits.proper (le-leb 1 (tf_shape d.value).level s2.fits.tight);
+          proper = and-both (tf_shape d.value).proper (nat_le 1 (tf_shape d.value).level) s2.fits.proper
+              (le-leb 1 (tf_shape d.value).level s2.fits.tight);
         });
       })))
 
@@ -142,7 +152,8 @@ module _ (room below : ℕ) (deeper : room ≡ below + 1) (parts : Parts) (parts
   unfolding unary
   lawful_unary =
       lawful_if (is_minus room)
-      (λ t p. lawful_bind (lawful_word (codes "-")) (λ l f1 s1. lawful_last (λ d. negated d l) (parts_law (room_below (codes "-") t p) levels.Unary) (λ d f2 s2. record {
+      (λ t p. lawful_bind (lawful_word (codes "-"))
+      (λ l f1 s1. lawful_last (λ d. negated d l) (parts_law (room_below (codes "-") t p) levels.Unary) (λ d f2 s2. record {
         spelled = subst (λ (w : List Word). AreWords (f1 ++ f2) w) (sym (eq.words-Negate d.value l))
             (join f1 f2 (FixedAt (codes "-") l ∷ []) (tf_words d.value) s1 s2.spelled);
         fits = subst (λ (s : Shape). FitsIn room room 3 (d.depth + 1) s) (sym (eq.shape-Negate d.value l)) (record {
@@ -151,33 +162,43 @@ module _ (room below : ℕ) (deeper : room ≡ below + 1) (parts : Parts) (parts
           within = omega (arith, s2.fits.within);
           nested = omega (arith, s2.fits.nested);
           tight = omega arith;
-          proper = and-both (tf_shape d.value).proper (nat_le 3 (tf_shape d.value).level) s2.fits.proper (le-leb 3 (tf_shape d.value).level s2.fits.tight);
+          proper = and-both (tf_shape d.value).proper (nat_le 3 (tf_shape d.value).level) s2.fits.proper
+              (le-leb 3 (tf_shape d.value).level s2.fits.tight);
         });
       })))
       lawful_primary
 
   -- one more operator and operand
-  lawful_joined : (level : Level) → HasOperators level → 1 ≤ tightness level → grade (tighter level) ≡ tightness (tighter level) → (l : Deep) (front : List Token) → Here (left_tight level) l front → l.depth < room
+  lawful_joined : (level : Level) → HasOperators level → 1 ≤ tightness level → grade (tighter level) ≡ tightness (tighter level)
+      → (l : Deep) (front : List Token) → Here (left_tight level) l front → l.depth < room
       → Lawful (behind front (Here (tightness level))) (joined level parts l)
   unfolding joined
   lawful_joined level has low same l front left lt =
       let more : 0 < below = omega (arith, left.fits.positive) in
-      lawful_bind (lawful_operator level has.some) (λ o f1 s1. lawful_last (λ r. record { value = tf.Binary o.0 l.value r.value o.1; depth = max l.depth r.depth + 1 }) (parts_law more (tighter level)) (λ r f2 s2. record {
+      lawful_bind (lawful_operator level has.some)
+      (λ o f1 s1. lawful_last (λ r. record { value = tf.Binary o.0 l.value r.value o.1; depth = max l.depth r.depth + 1 })
+      (parts_law more (tighter level)) (λ r f2 s2. record {
         spelled = subst (λ (w : List Word). AreWords (front ++ (f1 ++ f2)) w) (sym (eq.words-Binary o.0 l.value r.value o.1))
             (join front (f1 ++ f2) (tf_words l.value) (FixedAt (symbol_of o.0) o.1 ∷ tf_words r.value) left.spelled
             (join f1 f2 (FixedAt (symbol_of o.0) o.1 ∷ []) (tf_words r.value) s1.spelled s2.spelled));
-        fits = subst (λ (s : Shape). FitsIn room room (tightness level) (max l.depth r.depth + 1) s) (sym (eq.shape-Binary o.0 l.value r.value o.1)) (record {
-          deep = rw (left.fits.deep, s2.fits.deep) refl;
-          positive = omega arith;
-          within = omega (arith, s2.fits.within);
-          nested = omega (arith, left.fits.nested, s2.fits.nested);
-          tight = omega (arith, s1.of.at);
-          proper = and-both (nat_le 1 (level_of o.0)) (((tf_shape l.value).proper && nat_le (left_level o.0) (tf_shape l.value).level) && ((tf_shape r.value).proper && nat_le (right_level o.0) (tf_shape r.value).level))
-              (le-leb 1 (level_of o.0) (omega (arith, s1.of.at)))
-              (and-both ((tf_shape l.value).proper && nat_le (left_level o.0) (tf_shape l.value).level) ((tf_shape r.value).proper && nat_le (right_level o.0) (tf_shape r.value).level)
-              (and-both (tf_shape l.value).proper (nat_le (left_level o.0) (tf_shape l.value).level) left.fits.proper (le-leb (left_level o.0) (tf_shape l.value).level (omega (arith, s1.of.left, left.fits.tight))))
-              (and-both (tf_shape r.value).proper (nat_le (right_level o.0) (tf_shape r.value).level) s2.fits.proper (le-leb (right_level o.0) (tf_shape r.value).level (omega (arith, s1.of.at, has.next, s2.fits.tight)))));
-        });
+        fits = subst (λ (s : Shape). FitsIn room room (tightness level) (max l.depth r.depth + 1) s)
+            (sym (eq.shape-Binary o.0 l.value r.value o.1)) (record {
+              deep = rw (left.fits.deep, s2.fits.deep) refl;
+              positive = omega arith;
+              within = omega (arith, s2.fits.within);
+              nested = omega (arith, left.fits.nested, s2.fits.nested);
+              tight = omega (arith, s1.of.at);
+              proper = and-both (nat_le 1 (level_of o.0))
+                  (((tf_shape l.value).proper && nat_le (left_level o.0) (tf_shape l.value).level) &&
+                  ((tf_shape r.value).proper && nat_le (right_level o.0) (tf_shape r.value).level))
+                  (le-leb 1 (level_of o.0) (omega (arith, s1.of.at)))
+                  (and-both ((tf_shape l.value).proper && nat_le (left_level o.0) (tf_shape l.value).level)
+                  ((tf_shape r.value).proper && nat_le (right_level o.0) (tf_shape r.value).level)
+                  (and-both (tf_shape l.value).proper (nat_le (left_level o.0) (tf_shape l.value).level) left.fits.proper
+                  (le-leb (left_level o.0) (tf_shape l.value).level (omega (arith, s1.of.left, left.fits.tight))))
+                  (and-both (tf_shape r.value).proper (nat_le (right_level o.0) (tf_shape r.value).level) s2.fits.proper
+                  (le-leb (right_level o.0) (tf_shape r.value).level (omega (arith, s1.of.at, has.next, s2.fits.tight)))));
+            });
       }))
 
   join_deep : (level : Level) (x : Deep) (t : Token) → is_join level room x t ≡ true → x.depth < room

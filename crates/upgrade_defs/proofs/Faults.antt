@@ -12,6 +12,8 @@ use Rattle.upgrade_defs.proofs.Ends.{SaysUpgrade, lawful_text}
 use Rattle.upgrade_defs.proofs.LocalReaders.{local_upgrade}
 use Rattle.upgrade_defs.proofs.Only.{upgrade_is_read}
 
-pub upgrade_fault : (tokens : List Token) (result : Result Upgrade SyntaxError) → Answers tokens result (upgrade_of tokens) → IfErr result (IsFaultOf SpellsUpgrade tokens)
+pub upgrade_fault : (tokens : List Token) (result : Result Upgrade SyntaxError) → Answers tokens result (upgrade_of tokens)
+    → IfErr result (IsFaultOf SpellsUpgrade tokens)
 unfolding upgrade_of
-upgrade_fault tokens result answers = answered_fault SaysUpgrade upgrade local_upgrade lawful_text.reads (λ ts x said. upgrade_is_read ts x said) tokens result answers
+upgrade_fault tokens result answers = answered_fault SaysUpgrade upgrade local_upgrade lawful_text.reads
+    (λ ts x said. upgrade_is_read ts x said) tokens result answers

@@ -96,7 +96,8 @@ local_value = local_if _ (local_bind (local_word _) (λ l. local_give _)) (local
 
 local_field : Local field
 unfolding field
-local_field = local_bind local_type (λ t. local_bind local_name (λ n. local_bind (local_word _) (λ q. local_bind local_value (λ v. local_bind (local_word _) (λ e. local_give _)))))
+local_field = local_bind local_type
+    (λ t. local_bind local_name (λ n. local_bind (local_word _) (λ q. local_bind local_value (λ v. local_bind (local_word _) (λ e. local_give _)))))
 
 local_fields : Local fields
 unfolding fields more_fields
@@ -105,12 +106,16 @@ local_fields = local_repeat _ _ (λ xs. local_bind local_field (λ x. local_give
 local_class : Local class
 unfolding class
 local_class =
-    local_bind (local_word _) (λ l. local_bind local_name (λ n. local_bind (local_word _) (λ o. local_bind local_fields (λ fs. local_bind local_methods (λ ms. local_bind (local_word _) (λ c. local_give _))))))
+    local_bind (local_word _) (λ l. local_bind local_name
+    (λ n. local_bind (local_word _)
+    (λ o. local_bind local_fields (λ fs. local_bind local_methods (λ ms. local_bind (local_word _) (λ c. local_give _))))))
 
 strict_class : Strict class
 unfolding class
 strict_class =
-    strict_bind (word (codes "class")) _ (strict_word _) (λ l. local_bind local_name (λ n. local_bind (local_word _) (λ o. local_bind local_fields (λ fs. local_bind local_methods (λ ms. local_bind (local_word _) (λ c. local_give _))))))
+    strict_bind (word (codes "class")) _ (strict_word _)
+    (λ l. local_bind local_name (λ n. local_bind (local_word _)
+    (λ o. local_bind local_fields (λ fs. local_bind local_methods (λ ms. local_bind (local_word _) (λ c. local_give _))))))
 
 local_more_classes : (cs : List ClassUpgrade) → Local (more_classes cs)
 unfolding more_classes
@@ -127,4 +132,5 @@ local_classes cs = local_repeat_all is_class more_classes strict_more_classes lo
 pub local_upgrade : Local upgrade
 unfolding upgrade
 local_upgrade =
-    local_bind (local_word _) (λ l. local_bind (local_word _) (λ o. local_bind (local_more_classes []) (λ one. local_bind (local_classes one) (λ all. local_bind (local_word _) (λ c. local_give _)))))
+    local_bind (local_word _) (λ l. local_bind (local_word _)
+    (λ o. local_bind (local_more_classes []) (λ one. local_bind (local_classes one) (λ all. local_bind (local_word _) (λ c. local_give _)))))

@@ -19,7 +19,8 @@ upgrade_of_is : (tokens : List Token) (x : Upgrade) → SpellsUpgrade tokens x �
 unfolding upgrade_of
 upgrade_of_is tokens x spells = ap whole (upgrade_is_read tokens x spells)
 
-pub upgrade_only : (tokens : List Token) (result : Result Upgrade SyntaxError) → Answers tokens result (upgrade_of tokens) → (x : Upgrade) → SpellsUpgrade tokens x → Gives result (Ok x)
+pub upgrade_only : (tokens : List Token) (result : Result Upgrade SyntaxError) → Answers tokens result (upgrade_of tokens) → (x : Upgrade)
+    → SpellsUpgrade tokens x → Gives result (Ok x)
 upgrade_only tokens result answers x spells = only tokens (upgrade_of tokens) result x answers (upgrade_of_is tokens x spells)
 
 -- no tokens spell two upgrades

@@ -23,9 +23,11 @@ use Rattle.upgrade_defs.proofs.ExpressionLaws.{lawful_value}
 lawful_field : Lawful (IsOne field_upgrade_words IsFieldUpgrade) field
 unfolding field
 lawful_field =
-    lawful_bind lawful_type (λ t f1 s1. lawful_bind lawful_name (λ n f2 s2. lawful_bind (lawful_word (codes "=")) (λ q f3 s3. lawful_bind lawful_value (λ v f4 s4.
+    lawful_bind lawful_type (λ t f1 s1. lawful_bind lawful_name
+    (λ n f2 s2. lawful_bind (lawful_word (codes "=")) (λ q f3 s3. lawful_bind lawful_value (λ v f4 s4.
     lawful_last (λ e. record { type_name = t; name = n; value = v }) (lawful_word (codes ";")) (λ e f5 s5. record {
-      spelled = join f1 (f2 ++ (f3 ++ (f4 ++ f5))) (spelling.type_word t ∷ []) (name_word n ∷ Fixed (codes "=") ∷ (tf_words v ++ Fixed (codes ";") ∷ [])) s1
+      spelled = join f1 (f2 ++ (f3 ++ (f4 ++ f5))) (spelling.type_word t ∷ [])
+          (name_word n ∷ Fixed (codes "=") ∷ (tf_words v ++ Fixed (codes ";") ∷ [])) s1
           (join f2 (f3 ++ (f4 ++ f5)) (name_word n ∷ []) (Fixed (codes "=") ∷ (tf_words v ++ Fixed (codes ";") ∷ [])) s2
           (join f3 (f4 ++ f5) (Fixed (codes "=") ∷ []) (tf_words v ++ Fixed (codes ";") ∷ []) (plain f3 (codes "=") q s3)
           (join f4 f5 (tf_words v) (Fixed (codes ";") ∷ []) s4.spelled (plain f5 (codes ";") e s5))));
@@ -40,10 +42,15 @@ lawful_class : Lawful (IsOne class_upgrade_words IsClassUpgrade) class
 unfolding class
 lawful_class =
     lawful_bind (lawful_word (codes "class")) (λ l f1 s1. lawful_bind lawful_name (λ n f2 s2. lawful_bind (lawful_word (codes "{")) (λ o f3 s3.
-    lawful_bind lawful_fields (λ fs f4 s4. lawful_bind lawful_methods (λ ms f5 s5. lawful_last (λ c. record { name = n; fields = fs; methods = ms }) (lawful_word (codes "}")) (λ c f6 s6. record {
-      spelled = join f1 (f2 ++ (f3 ++ (f4 ++ (f5 ++ f6)))) (Fixed (codes "class") ∷ []) (name_word n ∷ Fixed (codes "{") ∷ (in_turn (map field_upgrade_words fs) ++ (in_turn (map method_words ms) ++ Fixed (codes "}") ∷ []))) (plain f1 (codes "class") l s1)
-          (join f2 (f3 ++ (f4 ++ (f5 ++ f6))) (name_word n ∷ []) (Fixed (codes "{") ∷ (in_turn (map field_upgrade_words fs) ++ (in_turn (map method_words ms) ++ Fixed (codes "}") ∷ []))) s2
-          (join f3 (f4 ++ (f5 ++ f6)) (Fixed (codes "{") ∷ []) (in_turn (map field_upgrade_words fs) ++ (in_turn (map method_words ms) ++ Fixed (codes "}") ∷ [])) (plain f3 (codes "{") o s3)
+    lawful_bind lawful_fields (λ fs f4 s4. lawful_bind lawful_methods
+    (λ ms f5 s5. lawful_last (λ c. record { name = n; fields = fs; methods = ms }) (lawful_word (codes "}")) (λ c f6 s6. record {
+      spelled = join f1 (f2 ++ (f3 ++ (f4 ++ (f5 ++ f6)))) (Fixed (codes "class") ∷ [])
+          (name_word n ∷ Fixed (codes "{") ∷ (in_turn (map field_upgrade_words fs) ++ (in_turn (map method_words ms) ++ Fixed (codes "}") ∷ [])))
+          (plain f1 (codes "class") l s1)
+          (join f2 (f3 ++ (f4 ++ (f5 ++ f6))) (name_word n ∷ [])
+          (Fixed (codes "{") ∷ (in_turn (map field_upgrade_words fs) ++ (in_turn (map method_words ms) ++ Fixed (codes "}") ∷ []))) s2
+          (join f3 (f4 ++ (f5 ++ f6)) (Fixed (codes "{") ∷ [])
+          (in_turn (map field_upgrade_words fs) ++ (in_turn (map method_words ms) ++ Fixed (codes "}") ∷ [])) (plain f3 (codes "{") o s3)
           (join f4 (f5 ++ f6) (in_turn (map field_upgrade_words fs)) (in_turn (map method_words ms) ++ Fixed (codes "}") ∷ []) s4.spelled
           (join f5 f6 (in_turn (map method_words ms)) (Fixed (codes "}") ∷ []) s5.spelled (plain f6 (codes "}") c s6)))));
       is = record { fields = omega (arith, s4.few); each_field = s4.each; methods = omega (arith, s5.few); each_method = s5.each };
@@ -55,7 +62,8 @@ record AreClasses (least : ℕ) (cs : List ClassUpgrade) (ts : List Token) : Typ
   some : least ≤ length cs
   each : AllByRecursion IsClassUpgrade cs
 
-lawful_more : (least : ℕ) (cs : List ClassUpgrade) (front : List Token) → AreClasses least cs front → Lawful (behind front (AreClasses 1)) (more_classes cs)
+lawful_more : (least : ℕ) (cs : List ClassUpgrade) (front : List Token) → AreClasses least cs front
+    → Lawful (behind front (AreClasses 1)) (more_classes cs)
 unfolding more_classes
 lawful_more least cs front before = lawful_last (λ c. cs ++ c ∷ []) lawful_class (λ c f s. record {
   spelled = subst (λ (w : List Word). AreWords (front ++ f) w) (sym (turn-push class_upgrade_words cs c))
@@ -75,10 +83,15 @@ pub record IsUpgradeText (u : Upgrade) (ts : List Token) : Type 0 where
 pub lawful_upgrade : Lawful IsUpgradeText upgrade
 unfolding upgrade
 lawful_upgrade =
-    lawful_bind (lawful_word (codes "upgrade")) (λ l f1 s1. lawful_bind (lawful_word (codes "{")) (λ o f2 s2. lawful_bind (lawful_more 0 [] [] (record { spelled = tt; some = omega arith; each = tt })) (λ first f3 s3.
-    lawful_bind (lawful_classes first f3 s3) (λ cs f4 s4. lawful_last (λ c. record { line = l; classes = cs }) (lawful_word (codes "}")) (λ c f5 s5. record {
-      spelled = join f1 (f2 ++ (f3 ++ (f4 ++ f5))) (FixedAt (codes "upgrade") l ∷ []) (Fixed (codes "{") ∷ (in_turn (map class_upgrade_words cs) ++ Fixed (codes "}") ∷ [])) s1
-          (join f2 (f3 ++ (f4 ++ f5)) (Fixed (codes "{") ∷ []) (in_turn (map class_upgrade_words cs) ++ Fixed (codes "}") ∷ []) (plain f2 (codes "{") o s2)
+    lawful_bind (lawful_word (codes "upgrade"))
+    (λ l f1 s1. lawful_bind (lawful_word (codes "{"))
+    (λ o f2 s2. lawful_bind (lawful_more 0 [] [] (record { spelled = tt; some = omega arith; each = tt })) (λ first f3 s3.
+    lawful_bind (lawful_classes first f3 s3)
+    (λ cs f4 s4. lawful_last (λ c. record { line = l; classes = cs }) (lawful_word (codes "}")) (λ c f5 s5. record {
+      spelled = join f1 (f2 ++ (f3 ++ (f4 ++ f5))) (FixedAt (codes "upgrade") l ∷ [])
+          (Fixed (codes "{") ∷ (in_turn (map class_upgrade_words cs) ++ Fixed (codes "}") ∷ [])) s1
+          (join f2 (f3 ++ (f4 ++ f5)) (Fixed (codes "{") ∷ []) (in_turn (map class_upgrade_words cs) ++ Fixed (codes "}") ∷ [])
+          (plain f2 (codes "{") o s2)
           (subst (λ (u : List Token). AreWords u (in_turn (map class_upgrade_words cs) ++ Fixed (codes "}") ∷ [])) (append_assoc f3 f4 f5)
           (join (f3 ++ f4) f5 (in_turn (map class_upgrade_words cs)) (Fixed (codes "}") ∷ []) s4.spelled (plain f5 (codes "}") c s5))));
       is = record { some = s4.some; each = s4.each };

@@ -27,7 +27,8 @@ fn expressions()
     ensures a_path { tf_shape (tf.Path (named (codes "part") ∷ named (codes "n") ∷ []) 1) ≡ good 5 1 0 }
     ensures a_sum_to_the_left { tf_shape to_the_left ≡ good 1 3 0 }
     ensures minus_twice { tf_shape (tf.Negate (tf.Negate (old (codes "a")) 1) 1) ≡ good 3 3 0 }
-    ensures parentheses { tf_shape (tf.Binary Multiply (tf.Parens (tf.Binary Add (old (codes "a")) (tf.Int (pos 1) 1) 1) 1) (old (codes "b")) 1) ≡ good 2 4 1 }
+    ensures parentheses { tf_shape (tf.Binary Multiply (tf.Parens (tf.Binary Add (old (codes "a")) (tf.Int (pos 1) 1) 1) 1) (old (codes "b")) 1)
+        ≡ good 2 4 1 }
 {}
 
 /// Expressions that it hasn't.

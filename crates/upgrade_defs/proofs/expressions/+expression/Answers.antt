@@ -13,23 +13,32 @@ joins-loop-turn-init t c =
 
 pub joins-returns-then-not-is_join-clause-read : goal.joins-returns-then-not-is_join-clause-read
 joins-returns-then-not-is_join-clause-read t c =
-    stops (is_join c.args.level c.args.room) (joined c.args.level (parts_of c.args.room)) c.args.room c.loop-turn._turn c.loop-turn.read c.loop-turn.rest.now _ (sym c.is_join.ensures.value ∙ c.if-not-is_join.true) c.loop-turn.invariant.read
+    stops (is_join c.args.level c.args.room)
+    (joined c.args.level (parts_of c.args.room)) c.args.room c.loop-turn._turn c.loop-turn.read c.loop-turn.rest.now _
+    (sym c.is_join.ensures.value ∙ c.if-not-is_join.true) c.loop-turn.invariant.read
 
 pub joins-returns-in_err-more-clause-read : goal.joins-returns-in_err-more-clause-read
 joins-returns-in_err-more-clause-read t c =
-    let b = breaks (is_join c.args.level c.args.room) (joined c.args.level (parts_of c.args.room)) c.in_err-more.field-0.0 c.args.room c.loop-turn._turn c.loop-turn.read c.loop-turn.rest.now _ c.loop-turn-test.true (sym c.is_join.ensures.value ∙ c.if-not-is_join.false) c.in_err-more.ensures.read c.loop-turn.invariant.read in
+    let b = breaks (is_join c.args.level c.args.room)
+    (joined c.args.level (parts_of c.args.room)) c.in_err-more.field-0.0 c.args.room c.loop-turn._turn c.loop-turn.read c.loop-turn.rest.now _
+    c.loop-turn-test.true (sym c.is_join.ensures.value ∙ c.if-not-is_join.false) c.in_err-more.ensures.read c.loop-turn.invariant.read in
     let p = err_from_is_err_and c.from_residual.result c.from_residual.ensures.1 in
     rw (p.1, p.2) b
 
 pub joins-loop-turn-preserved : goal.joins-loop-turn-preserved
 joins-loop-turn-preserved t c = record {
-  read = goes_on (is_join c.args.level c.args.room) (joined c.args.level (parts_of c.args.room)) c.args.room c.loop-turn._turn c.loop-turn.read c.in_ok-more.more c.loop-turn.rest.now c.in_ok-more.after.now _ c.loop-turn-test.true (sym c.is_join.ensures.value ∙ c.if-not-is_join.false) c.in_ok-more.ensures.read c.loop-turn.invariant.read;
+  read = goes_on (is_join c.args.level c.args.room)
+      (joined c.args.level (parts_of c.args.room)) c.args.room c.loop-turn._turn c.loop-turn.read c.in_ok-more.more c.loop-turn.rest.now
+      c.in_ok-more.after.now _ c.loop-turn-test.true (sym c.is_join.ensures.value ∙ c.if-not-is_join.false) c.in_ok-more.ensures.read
+      c.loop-turn.invariant.read;
   within = c.in_ok-more.ensures.within;
 }
 
 pub joins-returns-clause-read : goal.joins-returns-clause-read
 joins-returns-clause-read t c =
-    ends (is_join c.args.level c.args.room) (joined c.args.level (parts_of c.args.room)) c.args.room c.loop-turn._turn c.loop-turn.read c.loop-turn.rest.now _ c.loop-turn-test.false c.loop-turn.invariant.read
+    ends (is_join c.args.level c.args.room)
+    (joined c.args.level (parts_of c.args.room)) c.args.room c.loop-turn._turn c.loop-turn.read c.loop-turn.rest.now _ c.loop-turn-test.false
+    c.loop-turn.invariant.read
 
 pub expression_in-returns-then-room-eq0-clause-read : goal.expression_in-returns-then-room-eq0-clause-read
 unfolding expression_in

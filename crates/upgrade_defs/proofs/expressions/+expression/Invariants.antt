@@ -36,6 +36,7 @@ decreases-operand l = 16 * l.room + 2
 -- what was read before, and what is still read; and how deep it is
 abbrev pub invariant-joins-loop-turn : goal.invariant-joins-loop-turn
 invariant-joins-loop-turn l = record {
-  read : joins l.level l.room (parts_of l.room) l.fn.left l.fn.tokens ≡ repeat (l.room - l._turn) (is_join l.level l.room) (joined l.level (parts_of l.room)) l.read l.rest;
+  read : joins l.level l.room (parts_of l.room) l.fn.left l.fn.tokens
+      ≡ repeat (l.room - l._turn) (is_join l.level l.room) (joined l.level (parts_of l.room)) l.read l.rest;
   within : l.read.depth ≤ l.room;
 }
