@@ -5,6 +5,8 @@ mod deep;
 mod error;
 mod expressions;
 mod parse;
+mod print_statements;
+mod printing;
 mod setups;
 mod starts;
 mod statements;
@@ -12,6 +14,7 @@ mod take;
 mod whole;
 
 pub use parse::{parse_block, parse_setup, spellings_are_unique};
+pub use print_statements::{print_block, print_class};
 
 #[cfg(test)]
 mod tests;
