@@ -3,6 +3,18 @@ pub mod AlikeCalls
 pub mod AlikeObjects
 pub mod AlikeRun
 pub mod AlikeSteps
+pub mod FitActions
+pub mod FitArguments
+pub mod FitCalls
+pub mod FitKinds
+pub mod FitNames
+pub mod FitObjects
+pub mod FitRules
+pub mod FitRun
+pub mod FitStatements
+pub mod FitSteps
+pub mod FitStrict
+pub mod FitValues
 pub mod Handing
 pub mod Locality
 pub mod MixedOwned
@@ -13,6 +25,7 @@ pub mod OwnedMaps
 pub mod RuleForms
 pub mod RunOutcomes
 pub mod Shrinking
+pub mod StrictTells
 pub mod TfForms
 pub mod TouchedStores
 pub mod TwiceKeeps

@@ -3,12 +3,15 @@ pub mod Eager
 pub mod Epochs
 pub mod ExpressionRules
 pub mod Expressions
+pub mod FitRows
+pub mod Fits
 pub mod Grammar
 pub mod KeptOwnership
 pub mod LazyExamples
 pub mod Levels
 pub mod Objects
 pub mod Ownership
+pub mod Printed
 pub mod RuleRows
 pub mod Rules
 pub mod Run
@@ -19,6 +22,7 @@ pub mod StatementRules
 pub mod Statements
 pub mod Steps
 pub mod Stored
+pub mod Strict
 pub mod Touched
 pub mod Types
 pub mod Upgrades

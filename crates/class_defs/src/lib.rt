@@ -5,6 +5,8 @@ mod checked;
 mod classes;
 mod declarations;
 mod expressions;
+mod fit_laws;
+mod fit_rows;
 mod lazy_examples;
 mod lazy_laws;
 mod limits;
@@ -26,6 +28,9 @@ pub use classes::{
 };
 pub use declarations::{Declarations, WrittenRoot, WrittenRoots};
 pub use expressions::{At, Expr, Exprs, Name, Operator, TypeName};
+pub use fit_laws::{
+    checked_code_keeps_states_fitting, checked_runs_fit, strict_meaning_tells_what_runs_do,
+};
 pub use lazy_examples::{eager_examples, level_examples, order_examples, premise_examples};
 pub use lazy_laws::{
     eager_objects, transforms_are_unseen, undue_objects_stay, upgrade_moves_up, values_are_local,
