@@ -182,7 +182,7 @@ fn print_method(out: &mut Text, method: &Method) -> Result<(), NoMemory>
 
 /// Prints methods, one behind the other.
 #[tactic(auto, using(std::proofs::Common::append_assoc))]
-fn print_methods(out: &mut Text, methods: &[Method]) -> Result<(), NoMemory>
+pub fn print_methods(out: &mut Text, methods: &[Method]) -> Result<(), NoMemory>
     ensures { OnOk result
         (out.new ≡ out.old ++ spaced_words (in_turn (map method_words methods.now))) }
 {

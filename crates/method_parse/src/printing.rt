@@ -20,7 +20,7 @@ pub fn print_word(out: &mut Text, word: &[u8]) -> Result<(), NoMemory>
 
 /// Prints a number behind a space.
 #[tactic(auto, using(std::proofs::Common::append_assoc))]
-fn print_value(out: &mut Text, value: i64) -> Result<(), NoMemory>
+pub fn print_value(out: &mut Text, value: i64) -> Result<(), NoMemory>
     ensures { OnOk result (out.new ≡ out.old ++ 32 ∷ signed_decimal value) }
 {
     let digits = value.to_string(out.allocator())?;
@@ -59,7 +59,7 @@ pub fn print_type(out: &mut Text, type_name: &TypeName) -> Result<(), NoMemory>
 }
 
 /// The symbol of an operator.
-fn symbol(operator: Operator) -> &'static [u8]
+pub fn symbol(operator: Operator) -> &'static [u8]
     ensures { result.now ≡ symbol_of operator }
 {
     match operator {

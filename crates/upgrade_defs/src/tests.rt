@@ -283,3 +283,43 @@ fn upgrades_by_the_grammar(rt: HostRuntime) {
         assert!(rt; upgrade_line(&rt, text) == *line);
     }
 }
+
+/// Whether an upgrade is printed as it is expected.
+fn prints(rt: &HostRuntime, text: &[u8], expected: &[u8]) -> bool {
+    if 1_000_000 < text.len() {
+        return false;
+    }
+    let tokens = match scan(rt.alloc(), text) {
+        Ok(tokens) => tokens,
+        Err(_) => return false,
+    };
+    let upgrade = match parse_upgrade(rt.alloc(), &tokens) {
+        Ok(upgrade) => upgrade,
+        Err(_) => return false,
+    };
+    match print_upgrade(rt.alloc(), &upgrade) {
+        Ok(printed) => printed.as_slice() == expected,
+        Err(_) => false,
+    }
+}
+
+/// What a store keeps of upgrades.
+const PRINTED: &[(&[u8], &[u8])] = &[
+    (b"upgrade{class A{}}", b"upgrade { class A { } }"),
+    (
+        b"upgrade { // one\n class A { int n = -(old.n + 007)*2; A a=null; B b = old.b.c;\n method int f(int k) { return k; } } class B { } }",
+        b"upgrade { class A { int n = - ( old . n + 7 ) * 2 ; A a = null ; B b = old . b . c ; method int f ( int k ) { return k ; } } class B { } }",
+    ),
+    (
+        b"upgrade { class A { int n = old.a.b.c - 1 - - 9223372036854775807; int m = 0; } }",
+        b"upgrade { class A { int n = old . a . b . c - 1 - - 9223372036854775807 ; int m = 0 ; } }",
+    ),
+];
+
+#[test]
+fn printed_upgrades(rt: HostRuntime) {
+    for (text, expected) in PRINTED {
+        assert!(rt; prints(&rt, text, expected));
+        assert!(rt; prints(&rt, expected, expected));
+    }
+}
