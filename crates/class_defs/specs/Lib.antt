@@ -11,6 +11,7 @@ pub mod LazyExamples
 pub mod Levels
 pub mod Objects
 pub mod Ownership
+pub mod Printed
 pub mod RuleRows
 pub mod Rules
 pub mod Run

@@ -123,20 +123,20 @@ which false x y z h = inr (refl, h)
 -- ---- operators
 
 -- the least level of what stands to the left of an operator of a level
-abbrev left_tight : Level → ℕ
+abbrev pub left_tight : Level → ℕ
 left_tight levels.Comparison = 1
 left_tight levels.Sum = 1
 left_tight levels.Term = 2
 left_tight levels.Unary = 0
 
 -- an operator of a level
-record OfLevel (level : Level) (o : Operator) : Type 0 where
-  at : level_of o ≡ tightness level
-  left : left_level o ≡ left_tight level
+pub record OfLevel (level : Level) (o : Operator) : Type 0 where
+  pub at : level_of o ≡ tightness level
+  pub left : left_level o ≡ left_tight level
 
-record SaysOperator (level : Level) (o : Operator × ℕ) (ts : List Token) : Type 0 where
-  spelled : AreWords ts (FixedAt (symbol_of o.0) o.1 ∷ [])
-  of : OfLevel level o.0
+pub record SaysOperator (level : Level) (o : Operator × ℕ) (ts : List Token) : Type 0 where
+  pub spelled : AreWords ts (FixedAt (symbol_of o.0) o.1 ∷ [])
+  pub of : OfLevel level o.0
 
 record IsSymbol (level : Level) (text : List ℕ) (o : Operator) : Type 0 where
   same : text ≡ symbol_of o
@@ -194,23 +194,23 @@ operator_said level t (Some o) x e h =
     subst (λ (y : Operator × ℕ). SaysOperator level y (t ∷ [])) same (record { spelled = ((k.0, is.same, refl), tt); of = is.of })
 operator_said level t None x e h = absurd cc
 
-lawful_operator : (level : Level) → Some_text (SaysOperator level) → Lawful (SaysOperator level) (operator level)
+pub lawful_operator : (level : Level) → Some_text (SaysOperator level) → Lawful (SaysOperator level) (operator level)
 unfolding operator
 lawful_operator level some = lawful_one (SaysOperator level) (λ t. with_operator_line (operator_in level t) t.line) (λ t x e. operator_said level t (operator_in level t) x refl e) some
 
 -- a level that has operators
-record HasOperators (level : Level) : Type 0 where
-  some : Some_text (SaysOperator level)
-  next : tightness (tighter level) ≡ tightness level + 1
+pub record HasOperators (level : Level) : Type 0 where
+  pub some : Some_text (SaysOperator level)
+  pub next : tightness (tighter level) ≡ tightness level + 1
 
 sign : (o : Operator) → List Token
 sign o = record { kind = kinds.Symbol; text = symbol_of o; line = 1; from = 0; to = 0 } ∷ []
 
-terms : HasOperators levels.Term
+pub terms : HasOperators levels.Term
 unfolding sign
 terms = record { some = record { value = (operators.Multiply, 1); text = sign operators.Multiply; said = record { spelled = ((refl, refl, refl), tt); of = record { at = refl; left = refl } } }; next = refl }
 
-sums : HasOperators levels.Sum
+pub sums : HasOperators levels.Sum
 unfolding sign
 sums = record { some = record { value = (operators.Add, 1); text = sign operators.Add; said = record { spelled = ((refl, refl, refl), tt); of = record { at = refl; left = refl } } }; next = refl }
 

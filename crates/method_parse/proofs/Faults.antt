@@ -93,7 +93,7 @@ module _ {X : Type 0} (S : Says X) (reader : Reader X) (local : Local reader) (r
   error_at tokens (Fault f) error = subst (λ (n : ℕ). IsFaultAt Spelt tokens n) (sym error.2) (fault_at tokens error.0 error.1)
   error_at tokens NoMemory error = tt
 
-  answered_fault : (tokens : List Token) (result : Result X SyntaxError) → Answers tokens result (whole (reader tokens)) → IfErr result (IsFaultOf Spelt tokens)
+  pub answered_fault : (tokens : List Token) (result : Result X SyntaxError) → Answers tokens result (whole (reader tokens)) → IfErr result (IsFaultOf Spelt tokens)
   answered_fault tokens (Ok x) answers = tt
   answered_fault tokens (Err e) answers = error_at tokens e answers
 

@@ -21,3 +21,4 @@ pub mod Local
 pub mod LocalReaders
 pub mod Faults
 pub mod Rows
+pub mod Spaced

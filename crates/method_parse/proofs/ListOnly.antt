@@ -87,7 +87,7 @@ pub turn : {X : Type 0} (test : X → Token → Bool) (step : X → Reader X) (n
 unfolding repeat
 turn test step n x ts passes = rw passes refl
 
-same_length : (ts : List Token) (ws : List Word) → AreWords ts ws → length ts ≡ length ws
+pub same_length : (ts : List Token) (ws : List Word) → AreWords ts ws → length ts ≡ length ws
 same_length [] [] h = refl
 same_length [] (w ∷ ws) h = absurd h
 same_length (t ∷ ts) [] h = absurd h

@@ -309,7 +309,7 @@ local_method : Local method
 unfolding method
 local_method = local_bind (local_word _) (λ l. local_bind local_type (λ t. local_bind local_name (λ n. local_bind local_parameters (λ ps. local_bind (local_block places.Method max_nesting) (λ b. local_give _)))))
 
-local_methods : Local methods
+pub local_methods : Local methods
 unfolding methods more_methods
 local_methods = local_repeat _ _ (λ xs. local_bind local_method (λ x. local_give _)) 64 []
 

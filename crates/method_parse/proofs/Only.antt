@@ -34,13 +34,13 @@ setup_of_is tokens x spells = ap whole (setup_is_read tokens x spells)
 abbrev read : {X : Type 0} → X → Result X ℕ
 read x = Ok x
 
-same_read : {X : Type 0} (r : Result X ℕ) (x y : X) → r ≡ Ok x → r ≡ Ok y → x ≡ y
+pub same_read : {X : Type 0} (r : Result X ℕ) (x y : X) → r ≡ Ok x → r ≡ Ok y → x ≡ y
 same_read r x y p q = let same : read x ≡ read y = sym p ∙ q in cc
 
 apart : {X : Type 0} (r : Result X ℕ) (x : X) (n : ℕ) → r ≡ Ok x → r ≡ Err n → ⊥
 apart r x n p q = cc
 
-only : {X : Type 0} (tokens : List Token) (r : Result X ℕ) (result : Result X SyntaxError) (x : X) → Answers tokens result r → r ≡ Ok x → Gives result (Ok x)
+pub only : {X : Type 0} (tokens : List Token) (r : Result X ℕ) (result : Result X SyntaxError) (x : X) → Answers tokens result r → r ≡ Ok x → Gives result (Ok x)
 only tokens r (Ok y) x answers is = let same : x ≡ y = same_read r x y is answers in ap (λ z. Ok z) same
 only tokens r (Err (Fault f)) x answers is = absurd (apart r x answers.0 is answers.1)
 only tokens r (Err NoMemory) x answers is = tt

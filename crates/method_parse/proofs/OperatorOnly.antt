@@ -59,14 +59,14 @@ by_symbol levels.Comparison operators.Unequal of = refl
 by_symbol levels.Comparison operators.Less of = refl
 
 -- the operator that a token is
-operator_found : (level : Level) (o : Operator) (k : TokenKind) (text : List ℕ) → is_fixed_kind k ≡ true → text ≡ symbol_of o → tightness level ≡ level_of o → operator_by level k text ≡ Some o
+pub operator_found : (level : Level) (o : Operator) (k : TokenKind) (text : List ℕ) → is_fixed_kind k ≡ true → text ≡ symbol_of o → tightness level ≡ level_of o → operator_by level k text ≡ Some o
 operator_found level o kinds.Name text f same of = absurd cc
 operator_found level o kinds.Number text f same of = absurd cc
 operator_found level o kinds.Keyword text f same of = ap (operator_of level) same ∙ by_symbol level o of
 operator_found level o kinds.Symbol text f same of = ap (operator_of level) same ∙ by_symbol level o of
 
 -- an expression of a tighter level stops at an operator
-operator_stops : (o : Operator) → StopWord (level_of o + 1) (symbol_of o)
+pub operator_stops : (o : Operator) → StopWord (level_of o + 1) (symbol_of o)
 operator_stops operators.Add = record { dot = refl; open_next = refl; place = refl; term = λ le. refl; sum = λ le. absurd (omega arith); comparison = λ le. absurd (omega arith) }
 operator_stops operators.Subtract = record { dot = refl; open_next = refl; place = refl; term = λ le. refl; sum = λ le. absurd (omega arith); comparison = λ le. absurd (omega arith) }
 operator_stops operators.Multiply = record { dot = refl; open_next = refl; place = refl; term = λ le. absurd (omega arith); sum = λ le. absurd (omega arith); comparison = λ le. absurd (omega arith) }
@@ -74,7 +74,7 @@ operator_stops operators.Equal = record { dot = refl; open_next = refl; place = 
 operator_stops operators.Unequal = record { dot = refl; open_next = refl; place = refl; term = λ le. refl; sum = λ le. refl; comparison = λ le. absurd (omega arith) }
 operator_stops operators.Less = record { dot = refl; open_next = refl; place = refl; term = λ le. refl; sum = λ le. refl; comparison = λ le. absurd (omega arith) }
 
-left_above : (o : Operator) → level_of o ≤ left_level o
+pub left_above : (o : Operator) → level_of o ≤ left_level o
 left_above operators.Add = omega arith
 left_above operators.Subtract = omega arith
 left_above operators.Multiply = omega arith
@@ -82,7 +82,7 @@ left_above operators.Equal = omega arith
 left_above operators.Unequal = omega arith
 left_above operators.Less = omega arith
 
-left_some : (o : Operator) → 1 ≤ left_level o
+pub left_some : (o : Operator) → 1 ≤ left_level o
 left_some operators.Add = omega arith
 left_some operators.Subtract = omega arith
 left_some operators.Multiply = omega arith
@@ -90,7 +90,7 @@ left_some operators.Equal = omega arith
 left_some operators.Unequal = omega arith
 left_some operators.Less = omega arith
 
-loosen : (level higher : ℕ) (rest : List Token) → level ≤ higher → Stops level rest → Stops higher rest
+pub loosen : (level higher : ℕ) (rest : List Token) → level ≤ higher → Stops level rest → Stops higher rest
 loosen level higher rest le stops = record {
   dot = stops.dot;
   open_next = stops.open_next;
@@ -100,7 +100,7 @@ loosen level higher rest le stops = record {
   comparison = λ h. stops.comparison (omega arith);
 }
 
-weak : (ts : List Token) (text : List ℕ) (line : ℕ) (ws : List Word) → AreWords ts (FixedAt text line ∷ ws) → AreWords ts (Fixed text ∷ ws)
+pub weak : (ts : List Token) (text : List ℕ) (line : ℕ) (ws : List Word) → AreWords ts (FixedAt text line ∷ ws) → AreWords ts (Fixed text ∷ ws)
 weak [] text line ws h = absurd h
 weak (t ∷ ts) text line ws h = ((h.0.0, h.0.1), h.1)
 
@@ -110,13 +110,13 @@ name_plain kinds.Number e = absurd cc
 name_plain kinds.Keyword e = absurd cc
 name_plain kinds.Symbol e = absurd cc
 
-number_plain : (k : TokenKind) (text : List ℕ) (v : ℤ) → option_map pos (number_in k text) ≡ Some v → is_fixed_kind k ≡ false
+pub number_plain : (k : TokenKind) (text : List ℕ) (v : ℤ) → option_map pos (number_in k text) ≡ Some v → is_fixed_kind k ≡ false
 number_plain kinds.Name text v e = refl
 number_plain kinds.Number text v e = refl
 number_plain kinds.Keyword text v e = absurd cc
 number_plain kinds.Symbol text v e = absurd cc
 
-operator_takes : {B : Type 0} (level : Level) (o : Operator) (line : ℕ) (ws : List Word) (ts rest : List Token) (result : Result (B × List Token) ℕ) (next : Operator × ℕ → Reader B)
+pub operator_takes : {B : Type 0} (level : Level) (o : Operator) (line : ℕ) (ws : List Word) (ts rest : List Token) (result : Result (B × List Token) ℕ) (next : Operator × ℕ → Reader B)
     → tightness level ≡ level_of o → AreWords ts (FixedAt (symbol_of o) line ∷ ws) → ((us : List Token) → AreWords us ws → next (o, line) (us ++ rest) ≡ result) → (operator level >>= next) (ts ++ rest) ≡ result
 unfolding operator
 operator_takes level o line ws [] rest result next of h goes = absurd h

@@ -39,20 +39,20 @@ module _ {X : Type 0} (f : X → List Word) where
   commas-push (y ∷ ys) x filled =
       ap (λ (w : List Word). f y ++ w) (behind-push ys x) ∙ sym (append_assoc (f y) (behind_commas (map f ys)) (Fixed (codes ",") ∷ f x))
 
-all-push : {X : Type 0} (P : X → Type 0) (xs : List X) (x : X) → AllByRecursion P xs → P x → AllByRecursion P (xs ++ x ∷ [])
+pub all-push : {X : Type 0} (P : X → Type 0) (xs : List X) (x : X) → AllByRecursion P xs → P x → AllByRecursion P (xs ++ x ∷ [])
 all-push P [] x all one = (one, tt)
 all-push P (y ∷ ys) x all one = (all.0, all-push P ys x all.1 one)
 
 -- things in turn, all of a kind, and how many more of them there may be
-record AreInTurn {X : Type 0} (f : X → List Word) (P : X → Type 0) (bound more : ℕ) (xs : List X) (ts : List Token) : Type 0 where
-  spelled : AreWords ts (in_turn (map f xs))
-  few : length xs + more ≤ bound
-  each : AllByRecursion P xs
+pub record AreInTurn {X : Type 0} (f : X → List Word) (P : X → Type 0) (bound more : ℕ) (xs : List X) (ts : List Token) : Type 0 where
+  pub spelled : AreWords ts (in_turn (map f xs))
+  pub few : length xs + more ≤ bound
+  pub each : AllByRecursion P xs
 
 -- one thing of a kind
-record IsOne {X : Type 0} (f : X → List Word) (P : X → Type 0) (x : X) (ts : List Token) : Type 0 where
-  spelled : AreWords ts (f x)
-  is : P x
+pub record IsOne {X : Type 0} (f : X → List Word) (P : X → Type 0) (x : X) (ts : List Token) : Type 0 where
+  pub spelled : AreWords ts (f x)
+  pub is : P x
 
 one_more : {X : Type 0} (f : X → List Word) (P : X → Type 0) (bound k : ℕ) (xs : List X) (front : List Token) → AreInTurn f P bound (suc k) xs front
     → (x : X) (text : List Token) → IsOne f P x text → AreInTurn f P bound k (xs ++ x ∷ []) (front ++ text)
@@ -69,14 +69,14 @@ none_yet : {X : Type 0} (f : X → List Word) (P : X → Type 0) (bound : ℕ) �
 none_yet f P bound = record { spelled = tt; few = omega arith; each = tt }
 
 -- things read in turn, by a reader of one
-lawful_turns : {X : Type 0} (f : X → List Word) (P : X → Type 0) (one : Reader X) → Lawful (IsOne f P) one → (test : List X → Token → Bool) (bound : ℕ)
+pub lawful_turns : {X : Type 0} (f : X → List Word) (P : X → Type 0) (one : Reader X) → Lawful (IsOne f P) one → (test : List X → Token → Bool) (bound : ℕ)
     → Lawful (AreInTurn f P bound 0) (repeat bound test (λ xs. one >>= λ x. give (xs ++ x ∷ [])) [])
 lawful_turns f P one law test bound =
     lawful_repeat_up_to (AreInTurn f P bound) (AreInTurn f P bound 0) test (λ xs. one >>= λ x. give (xs ++ x ∷ []))
     (λ k xs front before t p. lawful_last (λ x. xs ++ x ∷ []) law (λ x text s. one_more f P bound k xs front before x text s))
     (fewer f P bound) bound [] [] (none_yet f P bound)
 
-abbrev Any : {X : Type 0} → X → Type 0
+abbrev pub Any : {X : Type 0} → X → Type 0
 Any x = Unit {0}
 
 -- ---- fields and parameters
@@ -161,7 +161,7 @@ lawful_method =
       is = record { parameters = s4.few; body = record { depth = s5.fits.deep; nesting = s5.fits.nested; proper = s5.fits.proper } };
     })))))
 
-lawful_methods : Lawful (AreInTurn method_words IsMethod 64 0) methods
+pub lawful_methods : Lawful (AreInTurn method_words IsMethod 64 0) methods
 unfolding methods more_methods
 lawful_methods = lawful_turns method_words IsMethod method lawful_method (λ methods. is (codes "method")) 64
 

@@ -39,7 +39,7 @@ use Rattle.method_parse.proofs.StatementOnly.{gives, block_reads}
 module _ {X : Type 0} (f : X → List Word) (P : X → Type 0) (one : Reader X) (test : Token → Bool)
     (one_reads : (x : X) (ts rest : List Token) → AreWords ts (f x) → P x → one (ts ++ rest) ≡ gives x rest)
     (begins : (x : X) (ts rest : List Token) → AreWords ts (f x) → next test (ts ++ rest) ≡ true) where
-  turns_read : (xs before : List X) (n : ℕ) (ts rest : List Token) → AreWords ts (in_turn (map f xs)) → AllByRecursion P xs → length xs ≤ n → next test rest ≡ false
+  pub turns_read : (xs before : List X) (n : ℕ) (ts rest : List Token) → AreWords ts (in_turn (map f xs)) → AllByRecursion P xs → length xs ≤ n → next test rest ≡ false
       → repeat n (λ ys. test) (λ ys. one >>= λ x. give (ys ++ x ∷ [])) before (ts ++ rest) ≡ gives (before ++ xs) rest
   turns_read [] before n ts rest h all le ends =
       ap (λ (u : List Token). repeat n (λ ys. test) (λ ys. one >>= λ x. give (ys ++ x ∷ [])) before (u ++ rest)) (nothing ts h)
@@ -53,10 +53,10 @@ module _ {X : Type 0} (f : X → List Word) (P : X → Type 0) (one : Reader X) 
       ∙ (ap (λ r. onward (onward r (λ (y : X). give (before ++ y ∷ []))) (repeat n (λ ys. test) (λ ys. one >>= λ x. give (ys ++ x ∷ [])))) (one_reads x t.front (t.rest ++ rest) t.first all.0)
       ∙ (turns_read xs (before ++ x ∷ []) n t.rest rest t.second all.1 (omega arith) ends ∙ ap (λ (b : List X). gives b rest) (append_assoc before (x ∷ []) xs))))
 
-abbrev Any : {X : Type 0} → X → Type 0
+abbrev pub Any : {X : Type 0} → X → Type 0
 Any x = Unit {0}
 
-all_any : {X : Type 0} (xs : List X) → AllByRecursion {X = X} Any xs
+pub all_any : {X : Type 0} (xs : List X) → AllByRecursion {X = X} Any xs
 all_any [] = tt
 all_any (x ∷ xs) = (tt, all_any xs)
 
@@ -70,7 +70,7 @@ or_left : (a b : Bool) → a ≡ true → (a || b) ≡ true
 or_left true b e = refl
 or_left false b e = absurd cc
 
-type_begins : (ty : TypeName) (ws : List Word) (ts rest : List Token) → AreWords ts (spelling.type_word ty ∷ ws) → next begins_type (ts ++ rest) ≡ true
+pub type_begins : (ty : TypeName) (ws : List Word) (ts rest : List Token) → AreWords ts (spelling.type_word ty ∷ ws) → next begins_type (ts ++ rest) ≡ true
 type_begins ty ws [] rest h = absurd h
 type_begins (types.Int l) ws (t ∷ ts) rest h = or_left (is (codes "int") t) (is_name_kind t.kind) (fixed_is (codes "int") t h.0.0 h.0.1)
 type_begins (types.Class n) ws (t ∷ ts) rest h = or_right (is (codes "int") t) (is_name_kind t.kind) h.0.0
@@ -86,7 +86,7 @@ type_fails ty ws [] rest h = absurd h
 type_fails (types.Int l) ws (t ∷ ts) rest h = is_not (codes "int") (codes ")") t h.0.1 refl
 type_fails (types.Class n) ws (t ∷ ts) rest h = name_is t.kind (bytes_eq t.text (codes ")")) h.0.0
 
-fixed_no_type : (text : List ℕ) (ts rest : List Token) (ws : List Word) → AreWords ts (Fixed text ∷ ws) → bytes_eq text (codes "int") ≡ false → next begins_type (ts ++ rest) ≡ false
+pub fixed_no_type : (text : List ℕ) (ts rest : List Token) (ws : List Word) → AreWords ts (Fixed text ∷ ws) → bytes_eq text (codes "int") ≡ false → next begins_type (ts ++ rest) ≡ false
 fixed_no_type text [] rest ws h e = absurd h
 fixed_no_type text (t ∷ ts) rest ws h e = rw (is_not text (codes "int") t h.0.1 e) (fixed_no_name t.kind h.0.0)
   where
@@ -156,7 +156,7 @@ method_reads x ts rest h fits =
     ap (λ r. onward r (λ (b : List Stmt). give (record { result = x.result; name = x.name; parameters = x.parameters; body = b })))
     (block_reads places.Method max_nesting (omega arith) x.body zs rest n (record { deep = fits.body.depth; nested = fits.body.nesting; proper = fits.body.proper }))))))))
 
-methods_read : (xs : List Method) (ts rest : List Token) → AreWords ts (in_turn (map method_words xs)) → AllByRecursion IsMethod xs → length xs ≤ 64 → next (is (codes "method")) rest ≡ false → methods (ts ++ rest) ≡ gives xs rest
+pub methods_read : (xs : List Method) (ts rest : List Token) → AreWords ts (in_turn (map method_words xs)) → AllByRecursion IsMethod xs → length xs ≤ 64 → next (is (codes "method")) rest ≡ false → methods (ts ++ rest) ≡ gives xs rest
 unfolding methods more_methods
 methods_read xs ts rest h all le ends = turns_read method_words IsMethod method (is (codes "method")) method_reads (λ x us vs k. head_passes (codes "method") us vs _ k) xs [] 64 ts rest h all le ends
 
@@ -169,7 +169,7 @@ kind_then Part ws ts rest result g h goes =
     rw (head_fails (codes "part") (codes "free") ts rest ws h refl) (bind_assoc (word (codes "part") (ts ++ rest)) (λ l. give Part) g ∙ word_then rest result (codes "part") ws ts (λ l. g Part) h (λ l us k. goes us k))
 
 -- behind the fields comes no type
-methods_no_type : (xs : List Method) (ts rest : List Token) → AreWords ts (in_turn (map method_words xs) ++ Fixed (codes "}") ∷ []) → next begins_type (ts ++ rest) ≡ false
+pub methods_no_type : (xs : List Method) (ts rest : List Token) → AreWords ts (in_turn (map method_words xs) ++ Fixed (codes "}") ∷ []) → next begins_type (ts ++ rest) ≡ false
 methods_no_type [] ts rest h = fixed_no_type (codes "}") ts rest [] h refl
 methods_no_type (x ∷ xs) ts rest h = fixed_no_type (codes "method") ts rest _ h refl
 

@@ -38,7 +38,7 @@ pub fn at(tokens: &[Token]) -> Result<(Option<At>, &[Token]), ParseError>
 
 /// Takes an operator of a level, and gives its line too.
 #[tactic(auto, unfolding(crate::specs::Expressions::operator))]
-fn operator(level: Level, tokens: &[Token]) -> Result<((Operator, u32), &[Token]), ParseError>
+pub fn operator(level: Level, tokens: &[Token]) -> Result<((Operator, u32), &[Token]), ParseError>
     ensures { Gives (λ x. (x.0, x.1.now)) result (operator level tokens.now) }
 {
     match tokens.split_first() {

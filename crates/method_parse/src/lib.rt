@@ -5,13 +5,24 @@ mod deep;
 mod error;
 mod expressions;
 mod parse;
+mod print_statements;
+mod printing;
 mod setups;
 mod starts;
 mod statements;
 mod take;
 mod whole;
 
+pub use deep::Level;
+pub use error::ParseError;
+pub use expressions::operator;
 pub use parse::{parse_block, parse_setup, spellings_are_unique};
+pub use print_statements::{print_block, print_class, print_methods};
+pub use printing::{print_name, print_type, print_value, print_word, symbol};
+pub use setups::{methods, next_begins_type};
+pub use starts::{operator_in, tighter};
+pub use take::{name, next_is, number, type_word, word};
+pub use whole::error_of;
 
 #[cfg(test)]
 mod tests;

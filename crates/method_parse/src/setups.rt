@@ -31,7 +31,7 @@ const MAX_CLASSES: usize = 256;
 const MAX_ROOTS: usize = 256;
 
 /// Whether the next token may be a type.
-fn next_begins_type(tokens: &[Token]) -> bool
+pub fn next_begins_type(tokens: &[Token]) -> bool
     ensures { result ≡ next begins_type tokens.now }
 {
     match tokens.split_first() {
@@ -196,7 +196,8 @@ fn more_methods(
     Ok((methods, rest))
 }
 
-fn methods(alloc: Global, tokens: &[Token]) -> Result<(Methods, &[Token]), ParseError>
+/// The methods of a class, up to the first token that begins none; at most 64.
+pub fn methods(alloc: Global, tokens: &[Token]) -> Result<(Methods, &[Token]), ParseError>
     ensures { Gives (λ x. (x.0, x.1.now)) result (methods tokens.now) }
 {
     let mut read = Methods::new(alloc);

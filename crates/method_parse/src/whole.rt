@@ -34,7 +34,7 @@ fn fault_line(tokens: &[Token], left: usize) -> u32
 }
 
 /// The error of a whole text.
-fn error(tokens: &[Token], error: ParseError) -> SyntaxError
+pub fn error_of(tokens: &[Token], error: ParseError) -> SyntaxError
     ensures { IsErrorFor tokens.now error result }
 {
     match error {
@@ -75,7 +75,7 @@ pub fn block(alloc: Global, tokens: &[Token]) -> Result<Block, SyntaxError>
 {
     match whole_block(alloc, tokens) {
         Ok(block) => Ok(block),
-        Err(stopped) => Err(error(tokens, stopped)),
+        Err(stopped) => Err(error_of(tokens, stopped)),
     }
 }
 
@@ -85,6 +85,6 @@ pub fn declarations(alloc: Global, tokens: &[Token]) -> Result<Declarations, Syn
 {
     match whole_setup(alloc, tokens) {
         Ok(setup) => Ok(setup),
-        Err(stopped) => Err(error(tokens, stopped)),
+        Err(stopped) => Err(error_of(tokens, stopped)),
     }
 }

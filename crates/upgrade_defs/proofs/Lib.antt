@@ -1,0 +1,11 @@
+pub mod Rooms
+pub mod Equations
+pub mod ExpressionLaws
+pub mod UpgradeLaws
+pub mod Ends
+pub mod Turns
+pub mod ExpressionOnly
+pub mod UpgradeOnly
+pub mod Only
+pub mod LocalReaders
+pub mod Faults

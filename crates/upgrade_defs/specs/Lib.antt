@@ -1,0 +1,7 @@
+pub mod Expressions
+pub mod Grammar
+pub mod Printed
+pub mod Rows
+pub mod Spelling
+pub mod Texts
+pub mod Upgrades
