@@ -13,7 +13,7 @@ use Rattle.class_defs.specs.declared.store.Schema.{Schema}
 use Rattle.serial_model.specs.Outcomes.{Answers, Item, all_items, client_items_from, items_from, same_who, entries_of, IsAnswered, AreAnswered, AreOfItems, AreInClientOrder}
 use Rattle.serial_model.specs.declared.entries.Did.{Did}
 use Rattle.serial_model.specs.declared.entries.What.{What}
-use Rattle.serial_model.specs.declared.entries.What.TheVariants.{Tx}
+use Rattle.serial_model.specs.declared.entries.What.TheVariants.{Tx, Upgrade as UpgradeItem}
 use Rattle.thor_top.specs.Alone.{Commit, performance, did, ended}
 use Rattle.thor_top.specs.Playing.{first_items, is_alone, is_busy}
 use Rattle.thor_top.specs.declared.performed.Performed.{Performed}
@@ -33,7 +33,7 @@ Below n d = (d.who.client ≡ 1) × (d.who.index < n)
 abbrev From : ℕ → Did → Type 0
 From n d = (d.who.client ≡ 1) × (n ≤ d.who.index)
 
-numbered_turn : (schema : Schema) (tries n time given m : ℕ) (store : Plain) (tx : List Stmt) (txs : List (List Stmt)) (done : Performed) → m ≤ n
+numbered_turn : (schema : Schema) (tries n time given m : ℕ) (store : Plain) (tx : List Stmt) (txs : List What) (done : Performed) → m ≤ n
     → ((time2 given2 : ℕ) (store2 : Plain) (rest : Performed) → performance schema tries (n + 1) time2 given2 store2 txs ≡ Some rest → AllByRecursion (From m) rest.history)
     → Parts schema tries n time given store tx txs done → AllByRecursion (From m) done.history
 numbered_turn schema tries n time given m store tx txs done low next (inl p) =
@@ -41,9 +41,10 @@ numbered_turn schema tries n time given m store tx txs done low next (inl p) =
     subst P (sym p.are) ((refl, low), next (time + 1) (given + length p.commit.fresh) p.commit.after p.rest p.others)
 numbered_turn schema tries n time given m store tx txs done low next (inr p) = let P : Performed → Type 0 = λ q. AllByRecursion (From m) q.history in subst P (sym p.are) (next time given store p.rest p.others)
 
-pub numbered : (schema : Schema) (tries n time given m : ℕ) (store : Plain) (txs : List (List Stmt)) (done : Performed) → m ≤ n → performance schema tries n time given store txs ≡ Some done → AllByRecursion (From m) done.history
+pub numbered : (schema : Schema) (tries n time given m : ℕ) (store : Plain) (txs : List What) (done : Performed) → m ≤ n → performance schema tries n time given store txs ≡ Some done → AllByRecursion (From m) done.history
 numbered schema tries n time given m store [] done low h = let P : Performed → Type 0 = λ q. AllByRecursion (From m) q.history in subst P (some_is h) tt
-numbered schema tries n time given m store (tx ∷ txs) done low h =
+numbered schema tries n time given m store (UpgradeItem u ∷ txs) done low h = absurd (let bad : None ≡ Some done = h in cc)
+numbered schema tries n time given m store (Tx tx ∷ txs) done low h =
     numbered_turn schema tries n time given m store tx txs done low (λ time2 given2 store2 rest h2. numbered schema tries (n + 1) time2 given2 m store2 txs rest (omega (arith, low)) h2) (parts schema tries n time given store tx txs done h)
 
 no_and : (b : Bool) → (b && false) ≡ false
@@ -94,17 +95,17 @@ no_entry n before rest low high =
     ∙ ap (λ xs. xs ++ entries_of rest (who n)) (none_below n before low)
     ∙ none_above n rest high
 
-abbrev Answered : ℕ → List (List Stmt) → List Did → Performed → Type 0
-Answered n txs before done = AreAnswered (before ++ done.history) (items_from 1 n (map Tx txs)) done.ends
+abbrev Answered : ℕ → List What → List Did → Performed → Type 0
+Answered n txs before done = AreAnswered (before ++ done.history) (items_from 1 n txs) done.ends
 
-answered_turn : (schema : Schema) (tries n time given : ℕ) (store : Plain) (tx : List Stmt) (txs : List (List Stmt)) (done : Performed) (before : List Did) → AllByRecursion (Below n) before
+answered_turn : (schema : Schema) (tries n time given : ℕ) (store : Plain) (tx : List Stmt) (txs : List What) (done : Performed) (before : List Did) → AllByRecursion (Below n) before
     → ((time2 given2 : ℕ) (store2 : Plain) (rest : Performed) (before2 : List Did) → AllByRecursion (Below (n + 1)) before2 → performance schema tries (n + 1) time2 given2 store2 txs ≡ Some rest → Answered (n + 1) txs before2 rest)
-    → Parts schema tries n time given store tx txs done → Answered n (tx ∷ txs) before done
+    → Parts schema tries n time given store tx txs done → Answered n (Tx tx ∷ txs) before done
 answered_turn schema tries n time given store tx txs done before low next (inl p) =
     let c : Commit = p.commit in
     let d : Did = did n time tx c.fresh c.answer in
-    let Q : List Did → Type 0 = λ es. AreAnswered es (items_from 1 (n + 1) (map Tx txs)) p.rest.ends in
-    subst (Answered n (tx ∷ txs) before) (sym p.are) (
+    let Q : List Did → Type 0 = λ es. AreAnswered es (items_from 1 (n + 1) txs) p.rest.ends in
+    subst (Answered n (Tx tx ∷ txs) before) (sym p.are) (
       refl,
       answered_one (before ++ d ∷ p.rest.history) n time tx c.fresh c.answer
           (one_entry n time tx c.fresh c.answer before p.rest.history low (numbered schema tries (n + 1) (time + 1) (given + length c.fresh) (n + 1) c.after txs p.rest (omega arith) p.others)),
@@ -112,39 +113,41 @@ answered_turn schema tries n time given store tx txs done before low next (inl p
           (next (time + 1) (given + length c.fresh) c.after p.rest (before ++ d ∷ []) (all_end (Below (n + 1)) before d (below_more n before low) (refl, omega arith)) p.others),
     )
 answered_turn schema tries n time given store tx txs done before low next (inr p) =
-    subst (Answered n (tx ∷ txs) before) (sym p.are) (
+    subst (Answered n (Tx tx ∷ txs) before) (sym p.are) (
       refl,
       no_entry n before p.rest.history low (numbered schema tries (n + 1) time given (n + 1) store txs p.rest (omega arith) p.others),
       next time given store p.rest before (below_more n before low) p.others,
     )
 
-pub answered : (schema : Schema) (tries n time given : ℕ) (store : Plain) (txs : List (List Stmt)) (done : Performed) (before : List Did) → AllByRecursion (Below n) before → performance schema tries n time given store txs ≡ Some done → Answered n txs before done
+pub answered : (schema : Schema) (tries n time given : ℕ) (store : Plain) (txs : List What) (done : Performed) (before : List Did) → AllByRecursion (Below n) before → performance schema tries n time given store txs ≡ Some done → Answered n txs before done
 answered schema tries n time given store [] done before low h = subst (Answered n [] before) (some_is h) tt
-answered schema tries n time given store (tx ∷ txs) done before low h =
+answered schema tries n time given store (UpgradeItem u ∷ txs) done before low h = absurd (let bad : None ≡ Some done = h in cc)
+answered schema tries n time given store (Tx tx ∷ txs) done before low h =
     answered_turn schema tries n time given store tx txs done before low (λ time2 given2 store2 rest before2 low2 h2. answered schema tries (n + 1) time2 given2 store2 txs rest before2 low2 h2) (parts schema tries n time given store tx txs done h)
 
 -- every entry is of an item
-abbrev OfItems : ℕ → List (List Stmt) → List Item → Performed → Type 0
-OfItems n txs before done = AreOfItems (before ++ items_from 1 n (map Tx txs)) done.history
+abbrev OfItems : ℕ → List What → List Item → Performed → Type 0
+OfItems n txs before done = AreOfItems (before ++ items_from 1 n txs) done.history
 
-of_items_turn : (schema : Schema) (tries n time given : ℕ) (store : Plain) (tx : List Stmt) (txs : List (List Stmt)) (done : Performed) (before : List Item)
+of_items_turn : (schema : Schema) (tries n time given : ℕ) (store : Plain) (tx : List Stmt) (txs : List What) (done : Performed) (before : List Item)
     → ((time2 given2 : ℕ) (store2 : Plain) (rest : Performed) (before2 : List Item) → performance schema tries (n + 1) time2 given2 store2 txs ≡ Some rest → OfItems (n + 1) txs before2 rest)
-    → Parts schema tries n time given store tx txs done → OfItems n (tx ∷ txs) before done
+    → Parts schema tries n time given store tx txs done → OfItems n (Tx tx ∷ txs) before done
 of_items_turn schema tries n time given store tx txs done before next (inl p) =
-    let items : List Item = items_from 1 (n + 1) (map Tx txs) in
+    let items : List Item = items_from 1 (n + 1) txs in
     let Q : List Item → Type 0 = λ is. AreOfItems is p.rest.history in
-    subst (OfItems n (tx ∷ txs) before) (sym p.are) (
+    subst (OfItems n (Tx tx ∷ txs) before) (sym p.are) (
       Contains-append_right before (item n tx ∷ items) (item n tx) (0, omega arith, refl),
       subst Q (append_assoc before (item n tx ∷ []) items) (next (time + 1) (given + length p.commit.fresh) p.commit.after p.rest (before ++ item n tx ∷ []) p.others),
     )
 of_items_turn schema tries n time given store tx txs done before next (inr p) =
-    let items : List Item = items_from 1 (n + 1) (map Tx txs) in
+    let items : List Item = items_from 1 (n + 1) txs in
     let Q : List Item → Type 0 = λ is. AreOfItems is p.rest.history in
-    subst (OfItems n (tx ∷ txs) before) (sym p.are) (subst Q (append_assoc before (item n tx ∷ []) items) (next time given store p.rest (before ++ item n tx ∷ []) p.others))
+    subst (OfItems n (Tx tx ∷ txs) before) (sym p.are) (subst Q (append_assoc before (item n tx ∷ []) items) (next time given store p.rest (before ++ item n tx ∷ []) p.others))
 
-pub of_items : (schema : Schema) (tries n time given : ℕ) (store : Plain) (txs : List (List Stmt)) (done : Performed) (before : List Item) → performance schema tries n time given store txs ≡ Some done → OfItems n txs before done
+pub of_items : (schema : Schema) (tries n time given : ℕ) (store : Plain) (txs : List What) (done : Performed) (before : List Item) → performance schema tries n time given store txs ≡ Some done → OfItems n txs before done
 of_items schema tries n time given store [] done before h = subst (OfItems n [] before) (some_is h) tt
-of_items schema tries n time given store (tx ∷ txs) done before h =
+of_items schema tries n time given store (UpgradeItem u ∷ txs) done before h = absurd (let bad : None ≡ Some done = h in cc)
+of_items schema tries n time given store (Tx tx ∷ txs) done before h =
     of_items_turn schema tries n time given store tx txs done before (λ time2 given2 store2 rest before2 h2. of_items schema tries (n + 1) time2 given2 store2 txs rest before2 h2) (parts schema tries n time given store tx txs done h)
 
 later : (n : ℕ) (ds : List Did) → AllByRecursion (From (n + 1)) ds → AllByRecursion (λ e. 1 ≡ e.who.client → n < e.who.index) ds
@@ -154,7 +157,7 @@ later n (d ∷ ds) all = (λ _. omega (arith, all.0.1), later n ds all.1)
 abbrev InOrder : Performed → Type 0
 InOrder done = AreInClientOrder done.history
 
-in_order_turn : (schema : Schema) (tries n time given : ℕ) (store : Plain) (tx : List Stmt) (txs : List (List Stmt)) (done : Performed)
+in_order_turn : (schema : Schema) (tries n time given : ℕ) (store : Plain) (tx : List Stmt) (txs : List What) (done : Performed)
     → ((time2 given2 : ℕ) (store2 : Plain) (rest : Performed) → performance schema tries (n + 1) time2 given2 store2 txs ≡ Some rest → InOrder rest)
     → Parts schema tries n time given store tx txs done → InOrder done
 in_order_turn schema tries n time given store tx txs done next (inl p) =
@@ -165,9 +168,10 @@ in_order_turn schema tries n time given store tx txs done next (inl p) =
     )
 in_order_turn schema tries n time given store tx txs done next (inr p) = subst InOrder (sym p.are) (next time given store p.rest p.others)
 
-pub in_order : (schema : Schema) (tries n time given : ℕ) (store : Plain) (txs : List (List Stmt)) (done : Performed) → performance schema tries n time given store txs ≡ Some done → InOrder done
+pub in_order : (schema : Schema) (tries n time given : ℕ) (store : Plain) (txs : List What) (done : Performed) → performance schema tries n time given store txs ≡ Some done → InOrder done
 in_order schema tries n time given store [] done h = subst InOrder (some_is h) tt
-in_order schema tries n time given store (tx ∷ txs) done h =
+in_order schema tries n time given store (UpgradeItem u ∷ txs) done h = absurd (let bad : None ≡ Some done = h in cc)
+in_order schema tries n time given store (Tx tx ∷ txs) done h =
     in_order_turn schema tries n time given store tx txs done (λ time2 given2 store2 rest h2. in_order schema tries (n + 1) time2 given2 store2 txs rest h2) (parts schema tries n time given store tx txs done h)
 
 append_none : (xs : List Item) → xs ++ [] ≡ xs
@@ -176,10 +180,7 @@ append_none (x ∷ xs) = ap (λ ys. x ∷ ys) (append_none xs)
 
 -- ---- clients without items
 
-abbrev whats : List (List (List Stmt)) → List (List What)
-whats clients = map (λ items. map Tx items) clients
-
-idle_first : (items : List (List Stmt)) (b : Bool) → not (is_busy items || b) ≡ true → items ≡ []
+idle_first : (items : List What) (b : Bool) → not (is_busy items || b) ≡ true → items ≡ []
 idle_first [] b h = refl
 idle_first (x ∷ xs) b h = absurd (let bad : false ≡ true = h in cc)
 
@@ -187,21 +188,21 @@ idle_others : (a b : Bool) → not (a || b) ≡ true → not b ≡ true
 idle_others true b h = absurd (let bad : false ≡ true = h in cc)
 idle_others false b h = h
 
-none_of_idle : (n : ℕ) (clients : List (List (List Stmt))) → not (list_any is_busy clients) ≡ true → client_items_from n (whats clients) ≡ []
+none_of_idle : (n : ℕ) (clients : List (List What)) → not (list_any is_busy clients) ≡ true → client_items_from n clients ≡ []
 none_of_idle n [] idle = refl
 none_of_idle n (items ∷ clients) idle =
     let e : items ≡ [] = idle_first items (list_any is_busy clients) idle in
-    ap (λ (is : List (List Stmt)). items_from n 1 (map Tx is) ++ client_items_from (n + 1) (whats clients)) e
+    ap (λ (is : List What). items_from n 1 is ++ client_items_from (n + 1) clients) e
     ∙ none_of_idle (n + 1) clients (idle_others (is_busy items) (list_any is_busy clients) idle)
 
-items_of_alone : (clients : List (List (List Stmt))) → is_alone clients ≡ true → items_from 1 1 (map Tx (first_items clients)) ≡ all_items (whats clients)
+items_of_alone : (clients : List (List What)) → is_alone clients ≡ true → items_from 1 1 (first_items clients) ≡ all_items clients
 items_of_alone [] idle = refl
-items_of_alone (first ∷ others) idle = sym (ap (λ (is : List Item). items_from 1 1 (map Tx first) ++ is) (none_of_idle 2 others idle) ∙ append_none (items_from 1 1 (map Tx first)))
+items_of_alone (first ∷ others) idle = sym (ap (λ (is : List Item). items_from 1 1 first ++ is) (none_of_idle 2 others idle) ∙ append_none (items_from 1 1 first))
 
 -- the items of client 1 alone
-pub alone_answers : (schema : Schema) (store : Plain) (tries : ℕ) (clients : List (List (List Stmt))) (done : Performed) → is_alone clients ≡ true → performance schema tries 1 1 0 store (first_items clients) ≡ Some done → Answers done.history (all_items (whats clients)) done.ends
+pub alone_answers : (schema : Schema) (store : Plain) (tries : ℕ) (clients : List (List What)) (done : Performed) → is_alone clients ≡ true → performance schema tries 1 1 0 store (first_items clients) ≡ Some done → Answers done.history (all_items clients) done.ends
 alone_answers schema store tries clients done idle h =
-    let txs : List (List Stmt) = first_items clients in
+    let txs : List What = first_items clients in
     let P : List Item → Type 0 = λ is. Answers done.history is done.ends in
     subst P (items_of_alone clients idle) (record {
       once = answered schema tries 1 1 0 store txs done [] tt h;

@@ -19,6 +19,8 @@ use Rattle.class_defs.specs.declared.store.Schema.{Schema}
 use Rattle.serial_model.specs.History.{are_fresh, schema_of, run_on, after_entry, AreLegal, IsLegal, IsLegalTx, Rise}
 use Rattle.serial_model.specs.Replaying.{effect, effect_of}
 use Rattle.serial_model.specs.declared.entries.Did.{Did}
+use Rattle.serial_model.specs.declared.entries.What.{What}
+use Rattle.serial_model.specs.declared.entries.What.TheVariants.{Tx, Upgrade as UpgradeItem}
 use Rattle.serial_model.specs.Taking.{names_taken}
 use Rattle.serial_model.specs.declared.taking.Taken.{Taken}
 use Rattle.serial_model.specs.declared.taking.Taken.TheVariants.{Names, Wanting, Stopped}
@@ -77,7 +79,7 @@ is_commit schema tx store at_hand c h = is_commit_by schema tx store at_hand (wi
 -- ---- a performance of one transaction and more
 
 -- the first one commits
-pub record Committing (schema : Schema) (tries n time given : ℕ) (store : Plain) (tx : List Stmt) (txs : List (List Stmt)) (done : Performed) : Type 0 where
+pub record Committing (schema : Schema) (tries n time given : ℕ) (store : Plain) (tx : List Stmt) (txs : List What) (done : Performed) : Type 0 where
   pub commit : Commit
   pub rest : Performed
   pub is : IsCommit schema tx store commit
@@ -85,25 +87,25 @@ pub record Committing (schema : Schema) (tries n time given : ℕ) (store : Plai
   pub are : done ≡ with_entry (did n time tx commit.fresh commit.answer) rest
 
 -- the first one is refused
-pub record Lacking (schema : Schema) (tries n time given : ℕ) (store : Plain) (txs : List (List Stmt)) (done : Performed) : Type 0 where
+pub record Lacking (schema : Schema) (tries n time given : ℕ) (store : Plain) (txs : List What) (done : Performed) : Type 0 where
   pub rest : Performed
   pub others : performance schema tries (n + 1) time given store txs ≡ Some rest
   pub are : done ≡ with_refused n tries rest
 
-abbrev pub Parts : Schema → ℕ → ℕ → ℕ → ℕ → Plain → List Stmt → List (List Stmt) → Performed → Type 0
+abbrev pub Parts : Schema → ℕ → ℕ → ℕ → ℕ → Plain → List Stmt → List What → Performed → Type 0
 Parts schema tries n time given store tx txs done = Committing schema tries n time given store tx txs done ⊎ Lacking schema tries n time given store txs done
 
-committing : (schema : Schema) (tries n time given : ℕ) (store : Plain) (tx : List Stmt) (txs : List (List Stmt)) (done : Performed) (c : Commit) (o : Option Performed)
+committing : (schema : Schema) (tries n time given : ℕ) (store : Plain) (tx : List Stmt) (txs : List What) (done : Performed) (c : Commit) (o : Option Performed)
     → IsCommit schema tx store c → performance schema tries (n + 1) (time + 1) (given + length c.fresh) c.after txs ≡ o → option_map (with_entry (did n time tx c.fresh c.answer)) o ≡ Some done → Committing schema tries n time given store tx txs done
 committing schema tries n time given store tx txs done c None is others h = absurd (let bad : None ≡ Some done = h in cc)
 committing schema tries n time given store tx txs done c (Some rest) is others h = record { commit = c; rest = rest; is = is; others = others; are = sym (some_is h) }
 
-lacking : (schema : Schema) (tries n time given : ℕ) (store : Plain) (txs : List (List Stmt)) (done : Performed) (o : Option Performed)
+lacking : (schema : Schema) (tries n time given : ℕ) (store : Plain) (txs : List What) (done : Performed) (o : Option Performed)
     → performance schema tries (n + 1) time given store txs ≡ o → option_map (with_refused n tries) o ≡ Some done → Lacking schema tries n time given store txs done
 lacking schema tries n time given store txs done None others h = absurd (let bad : None ≡ Some done = h in cc)
 lacking schema tries n time given store txs done (Some rest) others h = record { rest = rest; others = others; are = sym (some_is h) }
 
-parts_by : (schema : Schema) (tries n time given : ℕ) (store : Plain) (tx : List Stmt) (txs : List (List Stmt)) (done : Performed) (t : Turn)
+parts_by : (schema : Schema) (tries n time given : ℕ) (store : Plain) (tx : List Stmt) (txs : List What) (done : Performed) (t : Turn)
     → turn_of schema tx store (names_at_hand (first_page schema) given) ≡ t
     → by_turn t (λ c. option_map (with_entry (did n time tx c.fresh c.answer)) (performance schema tries (n + 1) (time + 1) (given + length c.fresh) c.after txs)) (option_map (with_refused n tries) (performance schema tries (n + 1) time given store txs)) ≡ Some done
     → Parts schema tries n time given store tx txs done
@@ -111,7 +113,7 @@ parts_by schema tries n time given store tx txs done (Commits c) is h = inl (com
 parts_by schema tries n time given store tx txs done LacksNames is h = inr (lacking schema tries n time given store txs done _ refl h)
 parts_by schema tries n time given store tx txs done IsUndefined is h = absurd (let bad : None ≡ Some done = h in cc)
 
-pub parts : (schema : Schema) (tries n time given : ℕ) (store : Plain) (tx : List Stmt) (txs : List (List Stmt)) (done : Performed) → performance schema tries n time given store (tx ∷ txs) ≡ Some done → Parts schema tries n time given store tx txs done
+pub parts : (schema : Schema) (tries n time given : ℕ) (store : Plain) (tx : List Stmt) (txs : List What) (done : Performed) → performance schema tries n time given store (Tx tx ∷ txs) ≡ Some done → Parts schema tries n time given store tx txs done
 parts schema tries n time given store tx txs done h = parts_by schema tries n time given store tx txs done (turn_of schema tx store (names_at_hand (first_page schema) given)) refl h
 
 -- a run leaves the epoch
@@ -159,7 +161,7 @@ after_one : (schema : Schema) (n time : ℕ) (store : Plain) (tx : List Stmt) (f
 after_one schema n time store tx fresh answer after first h = ap (λ (o : Option Ran). unwrap_or (option_map (λ r. r.store) o) store) (on_first schema store tx fresh (Some h.ran) first h.is) ∙ h.left
 
 -- what is legal behind one turn
-legal_turn : (schema : Schema) (tries n time given : ℕ) (store : Plain) (tx : List Stmt) (txs : List (List Stmt)) (done : Performed) → store.epoch ≡ 0
+legal_turn : (schema : Schema) (tries n time given : ℕ) (store : Plain) (tx : List Stmt) (txs : List What) (done : Performed) → store.epoch ≡ 0
     → ((time2 given2 : ℕ) (store2 : Plain) (rest : Performed) → store2.epoch ≡ 0 → performance schema tries (n + 1) time2 given2 store2 txs ≡ Some rest → AreLegal (schemas_of schema) rest.history store2)
     → Parts schema tries n time given store tx txs done → AreLegal (schemas_of schema) done.history store
 legal_turn schema tries n time given store tx txs done first next (inl p) =
@@ -174,9 +176,10 @@ legal_turn schema tries n time given store tx txs done first next (inl p) =
     )
 legal_turn schema tries n time given store tx txs done first next (inr p) = let P : Performed → Type 0 = λ q. AreLegal (schemas_of schema) q.history store in subst P (sym p.are) (next time given store p.rest first p.others)
 
-pub are_legal : (schema : Schema) (tries n time given : ℕ) (store : Plain) (txs : List (List Stmt)) (done : Performed) → store.epoch ≡ 0 → performance schema tries n time given store txs ≡ Some done → AreLegal (schemas_of schema) done.history store
+pub are_legal : (schema : Schema) (tries n time given : ℕ) (store : Plain) (txs : List What) (done : Performed) → store.epoch ≡ 0 → performance schema tries n time given store txs ≡ Some done → AreLegal (schemas_of schema) done.history store
 are_legal schema tries n time given store [] done first h = let P : Performed → Type 0 = λ q. AreLegal (schemas_of schema) q.history store in subst P (some_is h) tt
-are_legal schema tries n time given store (tx ∷ txs) done first h =
+are_legal schema tries n time given store (UpgradeItem u ∷ txs) done first h = absurd (let bad : None ≡ Some done = h in cc)
+are_legal schema tries n time given store (Tx tx ∷ txs) done first h =
     legal_turn schema tries n time given store tx txs done first (λ time2 given2 store2 rest first2 h2. are_legal schema tries (n + 1) time2 given2 store2 txs rest first2 h2) (parts schema tries n time given store tx txs done h)
 
 -- ---- timestamps rise
@@ -196,7 +199,7 @@ rise_more n time tx fresh a (d ∷ rest) begin rise = let P : Ts → Type 0 = λ
 abbrev Rises : ℕ → Performed → Type 0
 Rises time done = BeginAt time done.history × Rise done.history
 
-rises_turn : (schema : Schema) (tries n time given : ℕ) (store : Plain) (tx : List Stmt) (txs : List (List Stmt)) (done : Performed)
+rises_turn : (schema : Schema) (tries n time given : ℕ) (store : Plain) (tx : List Stmt) (txs : List What) (done : Performed)
     → ((time2 given2 : ℕ) (store2 : Plain) (rest : Performed) → performance schema tries (n + 1) time2 given2 store2 txs ≡ Some rest → Rises time2 rest)
     → Parts schema tries n time given store tx txs done → Rises time done
 rises_turn schema tries n time given store tx txs done next (inl p) =
@@ -204,10 +207,11 @@ rises_turn schema tries n time given store tx txs done next (inl p) =
     subst (Rises time) (sym p.are) (refl, rise_more n time tx p.commit.fresh p.commit.answer p.rest.history r.0 r.1)
 rises_turn schema tries n time given store tx txs done next (inr p) = subst (Rises time) (sym p.are) (next time given store p.rest p.others)
 
-pub rises : (schema : Schema) (tries n time given : ℕ) (store : Plain) (txs : List (List Stmt)) (done : Performed) → performance schema tries n time given store txs ≡ Some done → Rises time done
+pub rises : (schema : Schema) (tries n time given : ℕ) (store : Plain) (txs : List What) (done : Performed) → performance schema tries n time given store txs ≡ Some done → Rises time done
 rises schema tries n time given store [] done h = subst (Rises time) (some_is h) (tt, tt)
-rises schema tries n time given store (tx ∷ txs) done h =
+rises schema tries n time given store (UpgradeItem u ∷ txs) done h = absurd (let bad : None ≡ Some done = h in cc)
+rises schema tries n time given store (Tx tx ∷ txs) done h =
     rises_turn schema tries n time given store tx txs done (λ time2 given2 store2 rest h2. rises schema tries (n + 1) time2 given2 store2 txs rest h2) (parts schema tries n time given store tx txs done h)
 
-pub is_legal : (schema : Schema) (store : Plain) (tries : ℕ) (txs : List (List Stmt)) (done : Performed) → store.epoch ≡ 0 → performance schema tries 1 1 0 store txs ≡ Some done → IsLegal (schemas_of schema) done.history store
+pub is_legal : (schema : Schema) (store : Plain) (tries : ℕ) (txs : List What) (done : Performed) → store.epoch ≡ 0 → performance schema tries 1 1 0 store txs ≡ Some done → IsLegal (schemas_of schema) done.history store
 is_legal schema store tries txs done first h = record { rising = (rises schema tries 1 1 0 store txs done h).1; each = are_legal schema tries 1 1 0 store txs done first h }

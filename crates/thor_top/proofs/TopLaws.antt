@@ -3,7 +3,7 @@ use Rattle.std.proofs.Common.{◌≡◌, ◌&&◌, inl, inr, ℕ, suc, ◌+◌, 
 use Rattle.thor_value.specs.declared.memory.NoMemory.{NoMemory}
 use Rattle.class_defs.specs.declared.declarations.Declarations.{Declarations}
 use Rattle.class_defs.specs.declared.declarations.WrittenRoot.{WrittenRoot}
-use Rattle.class_defs.specs.declared.statements.Stmt.{Stmt}
+use Rattle.serial_model.specs.declared.entries.What.{What}
 use Rattle.class_defs.specs.declared.store.Schema.{Schema}
 use Rattle.schedule.specs.Written.{AreEventsOf}
 use Rattle.script_text.specs.declared.sections.Split.{Split}
@@ -107,7 +107,7 @@ roots_are_few o setup schema is made few =
     subst Q (sym (ap (λ (s : Schema). length s.roots) made ∙ length_placed 0 setup.roots)) (few_roots (length setup.roots) f.1)
 
 -- the schedule is refused, behind parts that were read
-pub events_refused : (split : Split) (setup : Option Declarations) (clients : List (List (List Stmt))) (error : ReadError) (Any : Script → Type 0) → IsSetupPart split.sections.setup setup → Each AreItems split.sections.clients clients
+pub events_refused : (split : Split) (setup : Option Declarations) (clients : List (List What)) (error : ReadError) (Any : Script → Type 0) → IsSetupPart split.sections.setup setup → Each AreItems split.sections.clients clients
     → Reads (AreEventsOf split.sections.schedule) (IsRefusedSchedule split.sections.schedule) (Err error) → Reads Any (IsRefusedSplit split) (Err error)
 events_refused split setup clients (errors.Refused r) Any s c h = inr (setup, (s, inr (clients, (c, inl h))))
 events_refused split setup clients errors.NoMemory Any s c h = tt
