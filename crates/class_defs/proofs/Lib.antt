@@ -3,6 +3,14 @@ pub mod AlikeCalls
 pub mod AlikeObjects
 pub mod AlikeRun
 pub mod AlikeSteps
+pub mod Renamed
+pub mod RenamedCalls
+pub mod RenamedEnds
+pub mod RenamedMachines
+pub mod RenamedObjects
+pub mod RenamedRun
+pub mod RenamedStores
+pub mod RenamedSupply
 pub mod RuleForms
 pub mod RunOutcomes
 pub mod TouchedStores

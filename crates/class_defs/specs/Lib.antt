@@ -3,6 +3,7 @@ pub mod ExpressionRules
 pub mod Expressions
 pub mod Grammar
 pub mod Objects
+pub mod Renaming
 pub mod RuleRows
 pub mod Rules
 pub mod Run

@@ -9,6 +9,7 @@ mod limits;
 mod look;
 mod machine;
 mod places;
+mod renaming_laws;
 mod rule_rows;
 mod rules;
 mod run_laws;
@@ -27,6 +28,10 @@ pub use limits::{CREATE_LIMIT, DEPTH_LIMIT, READ_LIMIT, STEP_LIMIT};
 pub use look::{class_named, field_named, field_of, method_of};
 pub use machine::{Flow, Local, Locals, Machine, NameSupply, Receiver, Stop};
 pub use places::Place;
+pub use renaming_laws::{
+    answers_hang_on_no_names, runs_are_defined_for_names_at_hand, runs_differ_in_names_alone,
+    runs_take_the_names_that_they_need,
+};
 pub use rules::{NamedType, NamedTypes, Position, Rule, TypeFault};
 pub use run_laws::{
     fault_leaves_the_store, run_changes_what_it_wrote, runs_depend_on_what_they_touch,
