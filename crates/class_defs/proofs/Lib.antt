@@ -4,6 +4,8 @@ pub mod AlikeObjects
 pub mod AlikeRun
 pub mod AlikeSteps
 pub mod Renamed
+pub mod RenamedAfter
+pub mod RenamedAtHand
 pub mod RenamedCalls
 pub mod RenamedEnds
 pub mod RenamedMachines

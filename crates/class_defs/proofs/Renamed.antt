@@ -66,7 +66,8 @@ module _ {X : Type 0} (R : X → X → Type 0) where
   each_found f g e (x ∷ xs) (y ∷ ys) h = one_found (f x) (g y) x y _ _ (e x y h.0) h.0 (each_found f g e xs ys h.1)
 
   -- and at the same place
-  pub each_placed : (f g : X → Bool) → ((a b : X) → R a b → f a ≡ g b) → (xs ys : List X) → AllZip R xs ys → position_or_len g ys ≡ position_or_len f xs
+  pub each_placed : (f g : X → Bool) → ((a b : X) → R a b → f a ≡ g b) → (xs ys : List X) → AllZip R xs ys
+      → position_or_len g ys ≡ position_or_len f xs
   each_placed f g e [] [] h = refl
   each_placed f g e [] (y ∷ ys) h = absurd h
   each_placed f g e (x ∷ xs) [] h = absurd h
@@ -201,10 +202,12 @@ module _ (fresh : Oref → Bool) where
   object_later t u f None (Some p) h = absurd h
 
   pub locals_later : (t u : Time) → Later t u → (ls ks : List Local) → AllZip (Locals t) ls ks → AllZip (Locals u) ls ks
-  locals_later t u f ls ks h = each_later (Locals t) (Locals u) (λ l k r. record { name = r.name; kind = r.kind; value = value_later t u f l.value k.value r.value }) ls ks h
+  locals_later t u f ls ks h = each_later (Locals t) (Locals u)
+      (λ l k r. record { name = r.name; kind = r.kind; value = value_later t u f l.value k.value r.value }) ls ks h
 
   pub this_later : (t u : Time) → Later t u → (r q : Option Receiver) → Both (Receivers t) r q → Both (Receivers u) r q
-  this_later t u f (Some r) (Some q) h = record { oref = f r.oref q.oref h.oref; class = h.class; owners = names_later t u f r.owners q.owners h.owners }
+  this_later t u f (Some r) (Some q) h = record { oref = f r.oref q.oref h.oref; class = h.class;
+      owners = names_later t u f r.owners q.owners h.owners }
   this_later t u f None None h = tt
   this_later t u f (Some r) None h = absurd h
   this_later t u f None (Some q) h = absurd h

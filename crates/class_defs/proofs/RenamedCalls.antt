@@ -81,7 +81,8 @@ module _ (s : Setting) where
     equal value.Null value.Null c d h i = null_equal c d i
     equal a b c d h i = absurd h
 
-    pub combined_same : (o : Operator) (a b c d : Value) → Values s.fresh t a b → Values s.fresh t c d → Values s.fresh t (combined o a c) (combined o b d)
+    pub combined_same : (o : Operator) (a b c d : Value) → Values s.fresh t a b → Values s.fresh t c d
+        → Values s.fresh t (combined o a c) (combined o b d)
     combined_same Add a b c d h i = rw (same_number t a b h, same_number t c d i) refl
     combined_same Subtract a b c d h i = rw (same_number t a b h, same_number t c d i) refl
     combined_same Multiply a b c d h i = rw (same_number t a b h, same_number t c d i) refl
@@ -96,7 +97,8 @@ module _ (s : Setting) where
 
   -- ---- calls
 
-  owners_same : (t : Time) (k : Option ClassKind) (r q : Option Receiver) → Both (Receivers s.fresh t) r q → AllZip (Names s.fresh t) (owners_by_kind k r) (owners_by_kind k q)
+  owners_same : (t : Time) (k : Option ClassKind) (r q : Option Receiver) → Both (Receivers s.fresh t) r q
+      → AllZip (Names s.fresh t) (owners_by_kind k r) (owners_by_kind k q)
   owners_same t (Some Part) (Some r) (Some q) h = (h.oref, h.owners)
   owners_same t (Some Part) None None h = tt
   owners_same t (Some Part) (Some r) None h = absurd h
@@ -104,7 +106,8 @@ module _ (s : Setting) where
   owners_same t (Some Free) r q h = tt
   owners_same t None r q h = tt
 
-  argument : (t : Time) (v u : Option Value) (d : Value) → Both (Values s.fresh t) v u → Values s.fresh t d d → Values s.fresh t (unwrap_or v d) (unwrap_or u d)
+  argument : (t : Time) (v u : Option Value) (d : Value) → Both (Values s.fresh t) v u → Values s.fresh t d d
+      → Values s.fresh t (unwrap_or v d) (unwrap_or u d)
   argument t (Some v) (Some u) d h e = h
   argument t None None d h e = e
   argument t v u d h e = absurd h
@@ -113,10 +116,12 @@ module _ (s : Setting) where
       → AllZip (Locals s.fresh t) (bound_from classes n ps vs) (bound_from classes n ps us)
   bound_same t classes n [] vs us h = tt
   bound_same t classes n (p ∷ ps) vs us h =
-      (record { name = refl; kind = refl; value = argument t (slice_get vs n) (slice_get us n) (beginning (type_named classes p.type_name)) (each_at (Values s.fresh t) vs us n h) (begins_same s t (type_named classes p.type_name)) },
+      (record { name = refl; kind = refl; value = argument t (slice_get vs n) (slice_get us n) (beginning (type_named classes p.type_name))
+          (each_at (Values s.fresh t) vs us n h) (begins_same s t (type_named classes p.type_name)) },
       bound_same t classes (n + 1) ps vs us h)
 
-  result_same : (t : Time) (classes : List Class) (method : Method) (f g : Flow) → Flows t f g → Values s.fresh t (result_of classes method f) (result_of classes method g)
+  result_same : (t : Time) (classes : List Class) (method : Method) (f g : Flow) → Flows t f g
+      → Values s.fresh t (result_of classes method f) (result_of classes method g)
   result_same t classes method (Returned v) (Returned u) h = h
   result_same t classes method Next Next h = begins_same s t (type_named classes method.result)
   result_same t classes method f g h = absurd h
@@ -129,7 +134,8 @@ module _ (s : Setting) where
     abbrev back : Machine → Machine → Machine
     back m n = record n { depth = m.depth; this = m.this; locals = m.locals }
 
-    inside_twins : (r q : Receiver) (method : Method) (vs us : List Value) (m n : Machine) → Twins s m n → Receivers s.fresh (now s m n) r q → Lists (now s m n) vs us
+    inside_twins : (r q : Receiver) (method : Method) (vs us : List Value) (m n : Machine) → Twins s m n → Receivers s.fresh (now s m n) r q
+        → Lists (now s m n) vs us
         → Twins s (inside r method vs m) (inside q method us n)
     inside_twins r q method vs us m n tw h vals = record {
       steps = tw.steps;
@@ -152,57 +158,73 @@ module _ (s : Setting) where
       made = end.made;
     }
 
-    body_same : (r q : Receiver) (method : Method) (vs us : List Value) (m n : Machine) → Twins s m n → Receivers s.fresh (now s m n) r q → Lists (now s m n) vs us
+    body_same : (r q : Receiver) (method : Method) (vs us : List Value) (m n : Machine) → Twins s m n → Receivers s.fresh (now s m n) r q
+        → Lists (now s m n) vs us
         → Went s (Values s.fresh) (now s m n) (run_body s.world b r method vs m) (run_body s.world b q method us n)
     unfolding run_body
     body_same r q method vs us m n tw h vals =
         let e = b method.body (inside r method vs m) in
         let f = b method.body (inside q method us n) in
         on s Flows (Values s.fresh) (now s m n) e.0 f.0 e.1 f.1
-        (λ flow. λ o. (Ok (result_of s.world.schema.classes method flow), back m o)) (λ flow. λ o. (Ok (result_of s.world.schema.classes method flow), back n o))
+        (λ flow. λ o. (Ok (result_of s.world.schema.classes method flow), back m o))
+            (λ flow. λ o. (Ok (result_of s.world.schema.classes method flow), back n o))
         (blocks (now s m n) method.body (inside r method vs m) (inside q method us n) (λ x y i. i) (inside_twins r q method vs us m n tw h vals))
-        (λ c d k later end. gives s (Values s.fresh) e.1 f.1 (back m e.1) (back n f.1) _ _ (λ x y i. i) (back_twins m n e.1 f.1 tw later end) (result_same (now s e.1 f.1) s.world.schema.classes method c d k))
+        (λ c d k later end. gives s (Values s.fresh) e.1 f.1 (back m e.1) (back n f.1) _ _ (λ x y i. i) (back_twins m n e.1 f.1 tw later end)
+            (result_same (now s e.1 f.1) s.world.schema.classes method c d k))
 
-    enter_same : (r q : Receiver) (method : Option Method) (vs us : List Value) (m n : Machine) → Twins s m n → Receivers s.fresh (now s m n) r q → Lists (now s m n) vs us
+    enter_same : (r q : Receiver) (method : Option Method) (vs us : List Value) (m n : Machine) → Twins s m n → Receivers s.fresh (now s m n) r q
+        → Lists (now s m n) vs us
         → Went s (Values s.fresh) (now s m n) (enter s.world b r method vs m) (enter s.world b q method us n)
-    enter_same r q None vs us m n tw h vals = fails s (Values s.fresh) (now s m n) (stop.Fault fault.NullCall) (stop.Fault fault.NullCall) m n tw (λ g f. refl)
+    enter_same r q None vs us m n tw h vals = fails s (Values s.fresh) (now s m n) (stop.Fault fault.NullCall) (stop.Fault fault.NullCall) m n tw
+        (λ g f. refl)
     enter_same r q (Some method) vs us m n tw h vals = body_same r q method vs us m n tw h vals
 
-    chosen : (t : Bool) (r q : Receiver) (method : Option Method) (vs us : List Value) (m n : Machine) → Twins s m n → Receivers s.fresh (now s m n) r q → Lists (now s m n) vs us
+    chosen : (t : Bool) (r q : Receiver) (method : Option Method) (vs us : List Value) (m n : Machine) → Twins s m n
+        → Receivers s.fresh (now s m n) r q → Lists (now s m n) vs us
         → Went s (Values s.fresh) (now s m n) (cond {A = Action Value} t (enter s.world b r method vs) (λ o. (Err (stop.Fault fault.NullCall), o)) m)
         (cond {A = Action Value} t (enter s.world b q method us) (λ o. (Err (stop.Fault fault.NullCall), o)) n)
     chosen true r q method vs us m n tw h vals = enter_same r q method vs us m n tw h vals
-    chosen false r q method vs us m n tw h vals = fails s (Values s.fresh) (now s m n) (stop.Fault fault.NullCall) (stop.Fault fault.NullCall) m n tw (λ g f. refl)
+    chosen false r q method vs us m n tw h vals = fails s (Values s.fresh) (now s m n) (stop.Fault fault.NullCall) (stop.Fault fault.NullCall) m n tw
+        (λ g f. refl)
 
     abbrev goes : Bool → ℕ → Oref → List Oref → List ℕ → List Value → Machine → Result Value Stop × Machine
     goes l c x owners name vs m =
-        cond l ((touch s.world owners x >>= (λ found. enter_as s.world b (record { oref = x; class = c; owners = owners }) found (method_of s.world.schema.classes c name) vs)) m) (Err (stop.Fault fault.Depth), m)
+        cond l ((touch s.world owners x >>= (λ found. enter_as s.world b (record { oref = x; class = c; owners = owners }) found
+            (method_of s.world.schema.classes c name) vs)) m) (Err (stop.Fault fault.Depth), m)
 
-    object_same : (l k : Bool) (c : ℕ) (x y : Oref) (owners others : List Oref) (name : List ℕ) (vs us : List Value) (m n : Machine) → k ≡ l → Twins s m n
+    object_same : (l k : Bool) (c : ℕ) (x y : Oref) (owners others : List Oref) (name : List ℕ) (vs us : List Value) (m n : Machine) → k ≡ l
+        → Twins s m n
         → Names s.fresh (now s m n) x y → AllZip (Names s.fresh (now s m n)) owners others → Lists (now s m n) vs us
         → Went s (Values s.fresh) (now s m n) (goes l c x owners name vs m) (goes k c y others name us n)
     object_same true true c x y owners others name vs us m n e tw i os vals =
         let p = touch s.world owners x m in
         let q = touch s.world others y n in
         on s Numbers (Values s.fresh) (now s m n) p.0 q.0 p.1 q.1 _ _ (touch_same s x y owners others m n tw i os) (λ a d same later end.
-        rw same (chosen (d == c) (record { oref = x; class = c; owners = owners }) (record { oref = y; class = c; owners = others }) (method_of s.world.schema.classes c name) vs us p.1 q.1 end
+        rw same (chosen (d == c) (record { oref = x; class = c; owners = owners }) (record { oref = y; class = c; owners = others })
+            (method_of s.world.schema.classes c name) vs us p.1 q.1 end
         (record { oref = later x y i; class = refl; owners = names_later s.fresh (now s m n) (now s p.1 q.1) later owners others os })
         (values_later s.fresh (now s m n) (now s p.1 q.1) later vs us vals)))
-    object_same false false c x y owners others name vs us m n e tw i os vals = fails s (Values s.fresh) (now s m n) (stop.Fault fault.Depth) (stop.Fault fault.Depth) m n tw (λ g f. refl)
+    object_same false false c x y owners others name vs us m n e tw i os vals =
+        fails s (Values s.fresh) (now s m n) (stop.Fault fault.Depth) (stop.Fault fault.Depth) m n tw (λ g f. refl)
     object_same true false c x y owners others name vs us m n e tw i os vals = cc
     object_same false true c x y owners others name vs us m n e tw i os vals = cc
 
-    call_object_same : (c : ℕ) (x y : Oref) (name : List ℕ) (vs us : List Value) (m n : Machine) → Twins s m n → Names s.fresh (now s m n) x y → Lists (now s m n) vs us
+    call_object_same : (c : ℕ) (x y : Oref) (name : List ℕ) (vs us : List Value) (m n : Machine) → Twins s m n → Names s.fresh (now s m n) x y
+        → Lists (now s m n) vs us
         → Went s (Values s.fresh) (now s m n) (call_object s.world b c x name vs m) (call_object s.world b c y name us n)
     unfolding call_object owners_at
     call_object_same c x y name vs us m n tw i vals =
-        object_same (nat_lt m.depth DEPTH_LIMIT) (nat_lt n.depth DEPTH_LIMIT) c x y (owners_at s.world.schema.classes c m) (owners_at s.world.schema.classes c n) name vs us m n
-        (ap (λ k. nat_lt k DEPTH_LIMIT) tw.depth) tw i (owners_same (now s m n) (option_map (λ (d : Class). d.kind) (slice_get s.world.schema.classes c)) m.this n.this tw.this) vals
+        object_same (nat_lt m.depth DEPTH_LIMIT) (nat_lt n.depth DEPTH_LIMIT) c x y (owners_at s.world.schema.classes c m)
+            (owners_at s.world.schema.classes c n) name vs us m n
+        (ap (λ k. nat_lt k DEPTH_LIMIT) tw.depth) tw i (owners_same (now s m n)
+            (option_map (λ (d : Class). d.kind) (slice_get s.world.schema.classes c)) m.this n.this tw.this) vals
 
-    no_object : (m n : Machine) → Twins s m n → Went s (Values s.fresh) (now s m n) (Err (stop.Fault fault.NullCall), m) (Err (stop.Fault fault.NullCall), n)
+    no_object : (m n : Machine) → Twins s m n → Went s (Values s.fresh) (now s m n) (Err (stop.Fault fault.NullCall), m)
+        (Err (stop.Fault fault.NullCall), n)
     no_object m n tw = fails s (Values s.fresh) (now s m n) (stop.Fault fault.NullCall) (stop.Fault fault.NullCall) m n tw (λ g f. refl)
 
-    call_same : (k : ExprType) (r q : Value) (name : List ℕ) (vs us : List Value) (m n : Machine) → Twins s m n → Values s.fresh (now s m n) r q → Lists (now s m n) vs us
+    call_same : (k : ExprType) (r q : Value) (name : List ℕ) (vs us : List Value) (m n : Machine) → Twins s m n → Values s.fresh (now s m n) r q
+        → Lists (now s m n) vs us
         → Went s (Values s.fresh) (now s m n) (call s.world b k r name vs m) (call s.world b k q name us n)
     unfolding call
     call_same (type.Class c) (value.Ref x) (value.Ref y) name vs us m n tw h vals = call_object_same c x y name vs us m n tw h vals
@@ -215,7 +237,8 @@ module _ (s : Setting) where
 
     -- ---- expressions
 
-    values_same : (t : Time) (vs us : List Value) → Lists t vs us → (es : List Expr) → Alike s Lists t (values_from s.world v b vs es) (values_from s.world v b us es)
+    values_same : (t : Time) (vs us : List Value) → Lists t vs us → (es : List Expr)
+        → Alike s Lists t (values_from s.world v b vs es) (values_from s.world v b us es)
     values_same t vs us h [] = settled s Lists t vs us (λ u lt. values_later s.fresh t u lt vs us h)
     values_same t vs us h (e ∷ es) =
         bind s (Values s.fresh) Lists t (v e) (v e) _ _ (values t e) (λ u lt a c i.
@@ -228,32 +251,41 @@ module _ (s : Setting) where
     abbrev calls : ExprType → Expr → List ℕ → List Expr → Action Value
     calls k receiver method arguments = v receiver >>= (λ r. values_of s.world v b arguments >>= (λ vs. call s.world b k r method vs))
 
-    calls_same : (k : ExprType) (t : Time) (receiver : Expr) (method : List ℕ) (arguments : List Expr) → Alike s (Values s.fresh) t (calls k receiver method arguments) (calls k receiver method arguments)
+    calls_same : (k : ExprType) (t : Time) (receiver : Expr) (method : List ℕ) (arguments : List Expr)
+        → Alike s (Values s.fresh) t (calls k receiver method arguments) (calls k receiver method arguments)
     calls_same k t receiver method arguments =
         bind s (Values s.fresh) (Values s.fresh) t (v receiver) (v receiver) _ _ (values t receiver) (λ u lt r q h.
-        bind s Lists (Values s.fresh) u (values_of s.world v b arguments) (values_of s.world v b arguments) _ _ (values_of_same u arguments) (λ w lw vs us vals.
-        λ m n later tw. call_same k r q method vs us m n tw (value_later s.fresh u (now s m n) (λ x y i. later x y (lw x y i)) r q h) (values_later s.fresh w (now s m n) later vs us vals)))
+        bind s Lists (Values s.fresh) u (values_of s.world v b arguments) (values_of s.world v b arguments) _ _ (values_of_same u arguments)
+            (λ w lw vs us vals.
+        λ m n later tw. call_same k r q method vs us m n tw (value_later s.fresh u (now s m n) (λ x y i. later x y (lw x y i)) r q h)
+            (values_later s.fresh w (now s m n) later vs us vals)))
 
-    called_same : (t : Time) (receiver : Expr) (method : List ℕ) (arguments : List Expr) → Alike s (Values s.fresh) t (called s.world v b receiver method arguments) (called s.world v b receiver method arguments)
+    called_same : (t : Time) (receiver : Expr) (method : List ℕ) (arguments : List Expr)
+        → Alike s (Values s.fresh) t (called s.world v b receiver method arguments) (called s.world v b receiver method arguments)
     called_same t receiver method arguments m n lt tw =
-        let e : type_of (scope_at s.world.schema n) receiver ≡ type_of (scope_at s.world.schema m) receiver = ap (λ c. type_of c receiver) (same_scope s m n tw) in
+        let e : type_of (scope_at s.world.schema n) receiver ≡ type_of (scope_at s.world.schema m) receiver =
+            ap (λ c. type_of c receiver) (same_scope s m n tw) in
         rw e (calls_same (type_of (scope_at s.world.schema m) receiver) t receiver method arguments m n lt tw)
 
     node_same : (t : Time) (e : Expr-F Expr) → Alike s (Values s.fresh) t (value_at s.world v b e) (value_at s.world v b e)
     node_same t (Expr-F.Int n line) = settled s (Values s.fresh) t (value.Int n) (value.Int n) (λ u lt. refl)
     node_same t (Expr-F.Null line) = settled s (Values s.fresh) t value.Null value.Null (λ u lt. tt)
     node_same t (Expr-F.This line) = tells s (Values s.fresh) t (λ m. this_value m.this) (λ m n tw. this_value_same (now s m n) m.this n.this tw.this)
-    node_same t (Expr-F.Field name) = tells s (Values s.fresh) t (λ m. field_value s.world m name.text) (λ m n tw. field_value_same s m n name.text tw)
-    node_same t (Expr-F.Variable name) = tells s (Values s.fresh) t (λ m. named_value s.world.schema m name.text) (λ m n tw. same_named s m n tw name.text)
+    node_same t (Expr-F.Field name) = tells s (Values s.fresh) t (λ m. field_value s.world m name.text)
+        (λ m n tw. field_value_same s m n name.text tw)
+    node_same t (Expr-F.Variable name) = tells s (Values s.fresh) t (λ m. named_value s.world.schema m name.text)
+        (λ m n tw. same_named s m n tw name.text)
     node_same t (Expr-F.New class at) = create_same s t class.text at
     node_same t (Expr-F.Parens inner line) = values t inner
     node_same t (Expr-F.Negate operand line) =
-        bind s (Values s.fresh) (Values s.fresh) t (v operand) (v operand) _ _ (values t operand) (λ u lt a c h. settled s (Values s.fresh) u _ _ (λ w lw. ap (int_wrapping_sub w64 (pos 0)) (same_number u a c h)))
+        bind s (Values s.fresh) (Values s.fresh) t (v operand) (v operand) _ _ (values t operand)
+            (λ u lt a c h. settled s (Values s.fresh) u _ _ (λ w lw. ap (int_wrapping_sub w64 (pos 0)) (same_number u a c h)))
     node_same t (Expr-F.Binary operator left right line) =
         bind s (Values s.fresh) (Values s.fresh) t (v left) (v left) _ _ (values t left) (λ u lt a c h.
         bind s (Values s.fresh) (Values s.fresh) u (v right) (v right) _ _ (values u right) (λ w lw d f i.
         λ m n later tw. gives s (Values s.fresh) m n m n _ _ (λ x y j. j) tw
-        (combined_same (now s m n) tw.made.one_one operator a c d f (value_later s.fresh u (now s m n) (λ x y j. later x y (lw x y j)) a c h) (value_later s.fresh w (now s m n) later d f i))))
+        (combined_same (now s m n) tw.made.one_one operator a c d f (value_later s.fresh u (now s m n) (λ x y j. later x y (lw x y j)) a c h)
+            (value_later s.fresh w (now s m n) later d f i))))
     node_same t (Expr-F.Call receiver method arguments) = called_same t receiver method.text arguments
 
     pub expression_same : (t : Time) (e : Expr) → Alike s (Values s.fresh) t (expression s.world v b e) (expression s.world v b e)

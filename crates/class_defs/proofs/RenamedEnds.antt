@@ -1,7 +1,7 @@
 -- How two runs of one transaction end whose new objects take other names, and that the names which a run took are
 -- just those that it needs.
 use Rattle.std.proofs.Common.{◌≡◌, arith, Bool, true, false, List, [], Option, Some, None, Result, Ok, Err, refl, sym, subst, ℕ, inl, inr}
-use Rattle.std.proofs.lemmas.List.Elements.{length_all_zip}
+use Rattle.std.proofs.lemmas.List.Elements.{All-nil, length_all_zip}
 use Rattle.std.specs.List.{IsDistinct}
 use Rattle.thor_value.specs.FiniteMap.{empty}
 use Rattle.thor_value.specs.declared.names.Oref.{Oref}
@@ -9,7 +9,7 @@ use Rattle.thor_value.specs.declared.values.Value.{Value}
 use Rattle.thor_value.specs.declared.values.Value.TheVariants as value
 use Rattle.class_defs.proofs.Renamed.{Names, Objects, Time, Values, each_itself}
 use Rattle.class_defs.proofs.RenamedCalls.{Flows}
-use Rattle.class_defs.proofs.RenamedMachines.{Setting, Made, Twins, Ends, HasNames, Same}
+use Rattle.class_defs.proofs.RenamedMachines.{Setting, Known, Made, Twins, Ends, HasNames, Same}
 use Rattle.class_defs.proofs.RenamedRun.{transaction_same}
 use Rattle.class_defs.proofs.RenamedSupply.{Endless, Left, all_in}
 use Rattle.class_defs.specs.Renaming.{HadNames, IsOld, SameEnd, SameRun, Takeable, Unused}
@@ -58,12 +58,14 @@ module _ (w : World) (fresh : Oref → Bool) (unused : Unused fresh w) where
   at_hand_itself x None e = tt
   at_hand_itself x (Some o) e = (refl, each_itself (IsOld fresh) (Values fresh none) old_itself o.fields (unused.objects x o e))
 
-  supply_new : (names : List Oref) (stand_in : Option ℕ) → Takeable fresh names → (x : Oref) → Left (record { waiting = names; stand_in = stand_in }) x → fresh x ≡ true
+  supply_new : (names : List Oref) (stand_in : Option ℕ) → Takeable fresh names → (x : Oref)
+      → Left (record { waiting = names; stand_in = stand_in }) x → fresh x ≡ true
   supply_new names stand_in t x (inl i) = all_in (λ y. fresh y ≡ true) names x t.new i
   supply_new names (Some k) t x (inr h) = rw h.0 (unused.stand_ins x.slot)
   supply_new names None t x (inr h) = absurd h
 
-  old_apart : (names : List Oref) (stand_in : Option ℕ) → Takeable fresh names → (x : Oref) → fresh x ≡ false → ¬ (Left (record { waiting = names; stand_in = stand_in }) x)
+  old_apart : (names : List Oref) (stand_in : Option ℕ) → Takeable fresh names → (x : Oref) → fresh x ≡ false
+      → ¬ (Left (record { waiting = names; stand_in = stand_in }) x)
   old_apart names stand_in t x f l = let e = supply_new names stand_in t x l in cc
 
   -- names that mean one object at the beginning are one
@@ -88,7 +90,8 @@ module _ (w : World) (fresh : Oref → Bool) (unused : Unused fresh w) where
     repo = repo;
   }
 
-  module _ (names : List Oref) (stand_in : Option ℕ) (others : List Oref) (other_stand_in : Option ℕ) (takeable : Takeable fresh names) (other_takeable : Takeable fresh others)
+  module _ (names : List Oref) (stand_in : Option ℕ) (others : List Oref) (other_stand_in : Option ℕ) (takeable : Takeable fresh names)
+      (other_takeable : Takeable fresh others)
       (endless other_endless : Bool) (stays : Endless endless stand_in 0) (other_stays : Endless other_endless other_stand_in 0) (repo : ℕ) where
     abbrev here : Setting
     here = setting names stand_in others other_stand_in endless other_endless repo
@@ -100,6 +103,9 @@ module _ (w : World) (fresh : Oref → Bool) (unused : Unused fresh w) where
       one_one = λ x y a b i j. rw ((one x y i).same, (one a b j).same) refl;
       written = λ x y i. tt;
       seen = λ x y i. rw (one x y i).same (at_hand_itself x (w.at_hand x) refl);
+      there = λ x y p. absurd p;
+      kept = All-nil (Known here none);
+      only = λ x h. cc;
       stock = record { once = takeable.once; placed = takeable.placed; stays = stays };
       other_stock = record { once = other_takeable.once; placed = other_takeable.placed; stays = other_stays };
       apart = λ x y i. old_apart names stand_in takeable x (one x y i).old;
@@ -143,8 +149,10 @@ module _ (w : World) (fresh : Oref → Bool) (unused : Unused fresh w) where
     }
 
   -- two runs that had names enough
-  pub runs_same : (tx : List Stmt) (names : List Oref) (stand_in : Option ℕ) (others : List Oref) (other_stand_in : Option ℕ) (r q : Result Flow Stop) (m n : Machine)
-      → Takeable fresh names → Takeable fresh others → execute_all w tx (begun names stand_in) ≡ (r, m) → execute_all w tx (begun others other_stand_in) ≡ (q, n)
+  pub runs_same : (tx : List Stmt) (names : List Oref) (stand_in : Option ℕ) (others : List Oref) (other_stand_in : Option ℕ) (r q : Result Flow Stop)
+      (m n : Machine)
+      → Takeable fresh names → Takeable fresh others → execute_all w tx (begun names stand_in) ≡ (r, m)
+          → execute_all w tx (begun others other_stand_in) ≡ (q, n)
       → HadNames r → HadNames q → SameRun fresh r q m n
   runs_same tx names stand_in others other_stand_in r q m n t u is others_are g f =
       let p = execute_all w tx (begun names stand_in) in
@@ -152,7 +160,8 @@ module _ (w : World) (fresh : Oref → Bool) (unused : Unused fresh w) where
       let s = setting names stand_in others other_stand_in false false 0 in
       let gp : HadNames p.0 = rw is g in
       let fo : HadNames o.0 = rw others_are f in
-      let e = same_run names stand_in others other_stand_in t u false false tt tt 0 p.0 o.0 p.1 o.1 (ends names stand_in others other_stand_in t u false false tt tt 0 tx (had s false p.0 gp) (had s false o.0 fo)) in
+      let e = same_run names stand_in others other_stand_in t u false false tt tt 0 p.0 o.0 p.1 o.1
+          (ends names stand_in others other_stand_in t u false false tt tt 0 tx (had s false p.0 gp) (had s false o.0 fo)) in
       let e2 : SameRun fresh r o.0 m o.1 = subst (λ (z : Result Flow Stop × Machine). SameRun fresh z.0 o.0 z.1 o.1) is e in
       subst (λ (z : Result Flow Stop × Machine). SameRun fresh r z.0 m z.1) others_are e2
 
@@ -164,5 +173,6 @@ module _ (w : World) (fresh : Oref → Bool) (unused : Unused fresh w) where
       let e = ends names (Some 0) names (Some 0) t t true true (omega arith) (omega arith) 0 tx (endless_had s p.0) (endless_had s p.0) in
       named_by s (p.1.created, p.1.created) p.0 p.0 e.same
 
-  pub stand_ins_named : (tx : List Stmt) (names : List Oref) (r : Result Flow Stop) (m : Machine) → Takeable fresh names → execute_all w tx (begun names (Some 0)) ≡ (r, m) → HadNames r
+  pub stand_ins_named : (tx : List Stmt) (names : List Oref) (r : Result Flow Stop) (m : Machine) → Takeable fresh names
+      → execute_all w tx (begun names (Some 0)) ≡ (r, m) → HadNames r
   stand_ins_named tx names r m t is = subst (λ (z : Result Flow Stop × Machine). HadNames z.0) is (stand_ins_enough tx names t)

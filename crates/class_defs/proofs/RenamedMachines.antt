@@ -2,9 +2,9 @@
 use Rattle.std.proofs.Common.{◌≡◌, Bool, true, false, cond, T, List, ◌++◌, Option, Some, None, Result, Ok, Err, refl, ap, ℕ, inl, length}
 use Rattle.std.proofs.Math.Path.{fun_ext}
 use Rattle.std.specs.List.{AllByRecursion, AllZip, IsDistinct}
-use Rattle.std.specs.Prelude.{IfSome, find, nat_lt, option_map, unwrap_or, ◌+◌, ◌==◌}
+use Rattle.std.specs.Prelude.{All, IfSome, find, is_some, nat_lt, option_map, unwrap_or, ◌+◌, ◌==◌}
 use Rattle.std.specs.Str.{bytes_eq}
-use Rattle.thor_value.specs.FiniteMap.{Map, get}
+use Rattle.thor_value.specs.FiniteMap.{Map, get, has, values}
 use Rattle.thor_value.specs.Names.{oref_cmp, same_oref}
 use Rattle.thor_value.specs.declared.names.Oref.{Oref}
 use Rattle.thor_value.specs.declared.values.Fault.{Fault}
@@ -14,7 +14,7 @@ use Rattle.thor_value.specs.declared.values.Value.TheVariants as value
 use Rattle.class_defs.proofs.Renamed.{Both, Locals, Names, Objects, Receivers, Time, Later, Values, each_found, found_all}
 use Rattle.class_defs.proofs.RenamedSupply.{Left, Stock}
 use Rattle.class_defs.specs.Objects.{first_of, local_named, named_value, root_named, roots_in_sight, scope_at, type_in_sight}
-use Rattle.class_defs.specs.Renaming.{SameStop, Unused}
+use Rattle.class_defs.specs.Renaming.{Paired, SameStop, Unused}
 use Rattle.class_defs.specs.Steps.{World, Action, after, step, ◌>>=◌}
 use Rattle.class_defs.specs.declared.limits.TheConstants.{STEP_LIMIT}
 use Rattle.class_defs.specs.declared.machine.Local.{Local}
@@ -51,6 +51,10 @@ module _ (s : Setting) where
   abbrev pub InOrder : Time → NameSupply → Type 0
   InOrder t names = names.stand_in ≡ None → AllByRecursion (λ (x : Oref). x.repo ≡ s.repo) s.begun → t.0 ++ names.waiting ≡ s.begun
 
+  -- the object is the same as another but for names, so it refers to old names and to created ones alone
+  abbrev pub Known : Time → Object → Type 0
+  Known t o = (p : Object) × Objects s.fresh t (Some o) (Some p)
+
   -- the names that were taken are fresh, each was taken once, and without stand-in names none is one
   pub record Taken (taken : List Oref) (names : NameSupply) : Type 0 where
     pub new : AllByRecursion (λ x. s.fresh x ≡ true) taken
@@ -63,6 +67,9 @@ module _ (s : Setting) where
     pub one_one : (x y a b : Oref) → Names s.fresh t x y → Names s.fresh t a b → same_oref x a ≡ same_oref y b
     pub written : (x y : Oref) → Names s.fresh t x y → Objects s.fresh t (get writes x) (get others y)
     pub seen : (x y : Oref) → Names s.fresh t x y → Objects s.fresh t (seen_by writes x) (seen_by others y)
+    pub there : (x y : Oref) → Paired t.0 t.1 x y → is_some (seen_by writes x) ≡ true
+    pub kept : All (Known t) (values writes)
+    pub only : (x : Oref) → has writes x ≡ true → (y : Oref) × Names s.fresh t x y
     pub stock : Stock s.endless (length t.0) names
     pub other_stock : Stock s.other_endless (length t.1) left
     pub apart : (x y : Oref) → Names s.fresh t x y → ¬ (Left names x)
@@ -144,7 +151,8 @@ module _ (s : Setting) where
     pub gives : (m n o p : Machine) (a b : A) → Later s.fresh (now m n) (now o p) → Twins o p → V (now o p) a b → Went V (now m n) (Ok a, o) (Ok b, p)
     gives m n o p a b later tw v g f = record { later = later; twins = tw; same = v }
 
-    pub fails : (t : Time) (p q : Stop) (m n : Machine) → Twins m n → (HasNamesAt s.endless p → HasNamesAt s.other_endless q → SameStop s.fresh m.created n.created p q)
+    pub fails : (t : Time) (p q : Stop) (m n : Machine) → Twins m n
+        → (HasNamesAt s.endless p → HasNamesAt s.other_endless q → SameStop s.fresh m.created n.created p q)
         → Went V (now m n) (Err p, m) (Err q, n)
     fails t p q m n tw h g f = record { later = λ x y i. i; twins = tw; same = h g f }
 
@@ -155,7 +163,8 @@ module _ (s : Setting) where
     failing t f m n lt tw = fails t (stop.Fault f) (stop.Fault f) m n tw (λ g h. refl)
 
     -- values that the states give
-    pub tells : (t : Time) (h : Machine → A) → ((m n : Machine) → Twins m n → V (now m n) (h m) (h n)) → Alike V t (λ m. (Ok (h m), m)) (λ n. (Ok (h n), n))
+    pub tells : (t : Time) (h : Machine → A) → ((m n : Machine) → Twins m n → V (now m n) (h m) (h n))
+        → Alike V t (λ m. (Ok (h m), m)) (λ n. (Ok (h n), n))
     tells t h e m n lt tw = gives m n m n (h m) (h n) (λ x y i. i) tw (e m n tw)
 
   -- ---- a step
@@ -199,7 +208,8 @@ module _ (s : Setting) where
   same_sight t (Some r) None h = absurd h
   same_sight t None (Some q) h = absurd h
 
-  classes_of_this : (t : Time) (o p : Option Receiver) → Both (Receivers s.fresh t) o p → option_map (λ (r : Receiver). r.class) p ≡ option_map (λ (r : Receiver). r.class) o
+  classes_of_this : (t : Time) (o p : Option Receiver) → Both (Receivers s.fresh t) o p
+      → option_map (λ (r : Receiver). r.class) p ≡ option_map (λ (r : Receiver). r.class) o
   classes_of_this t (Some r) (Some q) h = ap Some h.class
   classes_of_this t None None h = refl
   classes_of_this t (Some r) None h = absurd h
@@ -215,12 +225,15 @@ module _ (s : Setting) where
 
   -- the value of a root is an old name
   root_value : (t : Time) (o : Option RootDeclaration) → IfSome o (λ (r : RootDeclaration). s.fresh r.oref ≡ false)
-      → Values s.fresh t (unwrap_or (option_map (λ (r : RootDeclaration). value.Ref r.oref) o) value.Null) (unwrap_or (option_map (λ (r : RootDeclaration). value.Ref r.oref) o) value.Null)
+      → Values s.fresh t (unwrap_or (option_map (λ (r : RootDeclaration). value.Ref r.oref) o) value.Null)
+          (unwrap_or (option_map (λ (r : RootDeclaration). value.Ref r.oref) o) value.Null)
   root_value t None h = tt
   root_value t (Some r) h = inl (h, refl)
 
-  local_or_root : (t : Time) (o p : Option Local) (r q : Option Value) → Both (Locals s.fresh t) o p → Values s.fresh t (unwrap_or r value.Null) (unwrap_or q value.Null)
-      → Values s.fresh t (unwrap_or (first_of (option_map (λ (l : Local). l.value) o) r) value.Null) (unwrap_or (first_of (option_map (λ (l : Local). l.value) p) q) value.Null)
+  local_or_root : (t : Time) (o p : Option Local) (r q : Option Value) → Both (Locals s.fresh t) o p
+      → Values s.fresh t (unwrap_or r value.Null) (unwrap_or q value.Null)
+      → Values s.fresh t (unwrap_or (first_of (option_map (λ (l : Local). l.value) o) r) value.Null)
+          (unwrap_or (first_of (option_map (λ (l : Local). l.value) p) q) value.Null)
   local_or_root t (Some l) (Some k) r q h e = h.value
   local_or_root t None None r q h e = e
   local_or_root t (Some l) None r q h e = absurd h
@@ -230,9 +243,11 @@ module _ (s : Setting) where
   sight_old None = s.unused.roots
   sight_old (Some r) = tt
 
-  pub same_named : (m n : Machine) → Twins m n → (name : List ℕ) → Values s.fresh (now m n) (named_value s.world.schema m name) (named_value s.world.schema n name)
+  pub same_named : (m n : Machine) → Twins m n → (name : List ℕ)
+      → Values s.fresh (now m n) (named_value s.world.schema m name) (named_value s.world.schema n name)
   unfolding named_value
   same_named m n tw name =
-      let same : root_named s.world.schema n name ≡ root_named s.world.schema m name = ap (find (λ (r : RootDeclaration). bytes_eq r.name.text name)) (same_sight (now m n) m.this n.this tw.this) in
+      let same : root_named s.world.schema n name ≡ root_named s.world.schema m name =
+          ap (find (λ (r : RootDeclaration). bytes_eq r.name.text name)) (same_sight (now m n) m.this n.this tw.this) in
       local_or_root (now m n) (local_named m name) (local_named n name) _ _ (locals_found (now m n) name m.locals n.locals tw.locals)
       (rw same (root_value (now m n) (root_named s.world.schema m name) (found_all _ _ (roots_in_sight s.world.schema m.this) (sight_old m.this))))

@@ -26,29 +26,36 @@ use Rattle.class_defs.specs.declared.statements.Stmt.TheOpen.{Stmt-F}
 module _ (s : Setting) where
   -- ---- locals
 
-  with_value_same : (t : Time) (ls ks : List Local) (i : ℕ) (o p : Option Local) (v u : Value) → AllZip (Locals s.fresh t) ls ks → Both (Locals s.fresh t) o p → Values s.fresh t v u
+  with_value_same : (t : Time) (ls ks : List Local) (i : ℕ) (o p : Option Local) (v u : Value) → AllZip (Locals s.fresh t) ls ks
+      → Both (Locals s.fresh t) o p → Values s.fresh t v u
       → AllZip (Locals s.fresh t) (with_value ls i o v) (with_value ks i p u)
-  with_value_same t ls ks i (Some l) (Some k) v u h b e = each_set (Locals s.fresh t) ls ks i _ _ (record { name = b.name; kind = b.kind; value = e }) h
+  with_value_same t ls ks i (Some l) (Some k) v u h b e = each_set (Locals s.fresh t) ls ks i _ _
+      (record { name = b.name; kind = b.kind; value = e }) h
   with_value_same t ls ks i None None v u h b e = h
   with_value_same t ls ks i o p v u h b e = absurd b
 
   assigned_at_same : (t : Time) (ls ks : List Local) (i : Option ℕ) (v u : Value) → AllZip (Locals s.fresh t) ls ks → Values s.fresh t v u
       → AllZip (Locals s.fresh t) (assigned_at ls i v) (assigned_at ks i u)
   assigned_at_same t ls ks None v u h e = h
-  assigned_at_same t ls ks (Some i) v u h e = with_value_same t ls ks i (slice_get ls i) (slice_get ks i) v u h (each_at (Locals s.fresh t) ls ks i h) e
+  assigned_at_same t ls ks (Some i) v u h e = with_value_same t ls ks i (slice_get ls i) (slice_get ks i) v u h
+      (each_at (Locals s.fresh t) ls ks i h) e
 
-  same_place : (t : Time) (name : List ℕ) (ls ks : List Local) → AllZip (Locals s.fresh t) ls ks → position (λ (l : Local). bytes_eq l.name name) ks ≡ position (λ (l : Local). bytes_eq l.name name) ls
+  same_place : (t : Time) (name : List ℕ) (ls ks : List Local) → AllZip (Locals s.fresh t) ls ks
+      → position (λ (l : Local). bytes_eq l.name name) ks ≡ position (λ (l : Local). bytes_eq l.name name) ls
   same_place t name ls ks h =
-      let e = each_placed (Locals s.fresh t) (λ (l : Local). bytes_eq l.name name) (λ (l : Local). bytes_eq l.name name) (λ a b r. rw r.name refl) ls ks h in
+      let e = each_placed (Locals s.fresh t) (λ (l : Local). bytes_eq l.name name) (λ (l : Local). bytes_eq l.name name)
+          (λ a b r. rw r.name refl) ls ks h in
       let f = length_all_zip (Locals s.fresh t) ls ks h in
       rw (e, sym f) refl
 
   assigned_same : (t : Time) (ls ks : List Local) (name : List ℕ) (v u : Value) → AllZip (Locals s.fresh t) ls ks → Values s.fresh t v u
       → AllZip (Locals s.fresh t) (assigned ls name v) (assigned ks name u)
   unfolding assigned
-  assigned_same t ls ks name v u h e = rw (same_place t name ls ks h) (assigned_at_same t ls ks (position (λ (l : Local). bytes_eq l.name name) ls) v u h e)
+  assigned_same t ls ks name v u h e = rw (same_place t name ls ks h)
+      (assigned_at_same t ls ks (position (λ (l : Local). bytes_eq l.name name) ls) v u h e)
 
-  with_locals : (m n : Machine) (ls ks : List Local) → Twins s m n → AllZip (Locals s.fresh (now s m n)) ls ks → Twins s (record m { locals = ls }) (record n { locals = ks })
+  with_locals : (m n : Machine) (ls ks : List Local) → Twins s m n → AllZip (Locals s.fresh (now s m n)) ls ks
+      → Twins s (record m { locals = ls }) (record n { locals = ks })
   with_locals m n ls ks tw h = record {
     steps = tw.steps;
     depth = tw.depth;
@@ -61,7 +68,8 @@ module _ (s : Setting) where
 
   -- ---- statements one after the other
 
-  unless_same : (t : Time) (f g : Flow) (p q : Action Flow) → ((u : Time) → Later s.fresh t u → Flows s u f g) → ((u : Time) → Later s.fresh t u → Alike s (Flows s) u p q)
+  unless_same : (t : Time) (f g : Flow) (p q : Action Flow) → ((u : Time) → Later s.fresh t u → Flows s u f g)
+      → ((u : Time) → Later s.fresh t u → Alike s (Flows s) u p q)
       → Flows s t f g → Alike s (Flows s) t (unless_returned f p) (unless_returned g q)
   unless_same t Next Next p q h k e = k t (λ x y i. i)
   unless_same t (Returned v) (Returned u) p q h k e = settled s (Flows s) t (Returned v) (Returned u) h
@@ -72,20 +80,25 @@ module _ (s : Setting) where
   flow_later t u lt (Returned v) (Returned w) h = value_later s.fresh t u lt v w h
   flow_later t u lt f g h = absurd h
 
-  order_same : (r : Stmt → Action Flow) → ((t : Time) (q : Stmt) → Alike s (Flows s) t (r q) (r q)) → (ss : List Stmt) → (t : Time) → Alike s (Flows s) t (in_order r ss) (in_order r ss)
+  order_same : (r : Stmt → Action Flow) → ((t : Time) (q : Stmt) → Alike s (Flows s) t (r q) (r q)) → (ss : List Stmt) → (t : Time)
+      → Alike s (Flows s) t (in_order r ss) (in_order r ss)
   order_same r h [] t = settled s (Flows s) t Next Next (λ u lt. tt)
   order_same r h (q ∷ ss) t =
-      bind s (Flows s) (Flows s) t (r q) (r q) _ _ (h t q) (λ u lt f g e. unless_same u f g (in_order r ss) (in_order r ss) (λ w lw. flow_later u w lw f g e) (λ w lw. order_same r h ss w) e)
+      bind s (Flows s) (Flows s) t (r q) (r q) _ _ (h t q) (λ u lt f g e. unless_same u f g (in_order r ss) (in_order r ss)
+          (λ w lw. flow_later u w lw f g e) (λ w lw. order_same r h ss w) e)
 
-  pub block_same : (r : Stmt → Action Flow) → ((t : Time) (q : Stmt) → Alike s (Flows s) t (r q) (r q)) → (t : Time) → (ss : List Stmt) → Alike s (Flows s) t (block_of r ss) (block_of r ss)
+  pub block_same : (r : Stmt → Action Flow) → ((t : Time) (q : Stmt) → Alike s (Flows s) t (r q) (r q)) → (t : Time) → (ss : List Stmt)
+      → Alike s (Flows s) t (block_of r ss) (block_of r ss)
   unfolding block_of
   block_same r h t ss m n lt tw =
       let p = in_order r ss m in
       let q = in_order r ss n in
       let long : length m.locals ≡ length n.locals = length_all_zip (Locals s.fresh (now s m n)) m.locals n.locals tw.locals in
-      on s (Flows s) (Flows s) (now s m n) p.0 q.0 p.1 q.1 (λ f. λ o. (Ok f, record o { locals = take (length m.locals) o.locals })) (λ f. λ o. (Ok f, record o { locals = take (length n.locals) o.locals }))
+      on s (Flows s) (Flows s) (now s m n) p.0 q.0 p.1 q.1 (λ f. λ o. (Ok f, record o { locals = take (length m.locals) o.locals }))
+          (λ f. λ o. (Ok f, record o { locals = take (length n.locals) o.locals }))
       (order_same r h ss t m n lt tw) (λ f g e later end.
-      rw (sym long) (gives s (Flows s) p.1 q.1 (record p.1 { locals = take (length m.locals) p.1.locals }) (record q.1 { locals = take (length m.locals) q.1.locals }) f g (λ x y i. i)
+      rw (sym long) (gives s (Flows s) p.1 q.1 (record p.1 { locals = take (length m.locals) p.1.locals })
+          (record q.1 { locals = take (length m.locals) q.1.locals }) f g (λ x y i. i)
       (with_locals p.1 q.1 _ _ end (each_front (Locals s.fresh (now s p.1 q.1)) p.1.locals q.1.locals (length m.locals) end.locals)) e))
 
   module _ (v : Expr → Action Value) (b : List Stmt → Action Flow) (values : (t : Time) (e : Expr) → Alike s (Values s.fresh) t (v e) (v e))
@@ -93,7 +106,8 @@ module _ (s : Setting) where
     holds_same : (t : Time) (a c : Value) → Values s.fresh t a c → holds c ≡ holds a
     holds_same t a c h = ap (λ n. not (int_eq n (pos 0))) (sym (same_number s t a c h))
 
-    either_same : {A : Type 0} (V : Time → A → A → Type 0) (t : Time) (c d : Bool) (p q o r : Action A) → d ≡ c → Alike s V t p o → Alike s V t q r → Alike s V t (cond c p q) (cond d o r)
+    either_same : {A : Type 0} (V : Time → A → A → Type 0) (t : Time) (c d : Bool) (p q o r : Action A) → d ≡ c → Alike s V t p o → Alike s V t q r
+        → Alike s V t (cond c p q) (cond d o r)
     either_same V t true true p q o r e h k = h
     either_same V t false false p q o r e h k = k
     either_same V t true false p q o r e h k = cc
@@ -103,7 +117,8 @@ module _ (s : Setting) where
         → Alike s (Flows s) t (turn s.world v b a body p) (turn s.world v b c body p)
     turn_same t a c body p h again =
         either_same (Flows s) t (holds a) (holds c) _ _ _ _ (holds_same t a c h)
-        (bind s (Flows s) (Flows s) t (b body) (b body) _ _ (blocks t body) (λ u lt f g e. unless_same u f g p p (λ w lw. flow_later u w lw f g e) (λ w lw. again w) e))
+        (bind s (Flows s) (Flows s) t (b body) (b body) _ _ (blocks t body)
+            (λ u lt f g e. unless_same u f g p p (λ w lw. flow_later u w lw f g e) (λ w lw. again w) e))
         (settled s (Flows s) t Next Next (λ u lt. tt))
 
     first_value : (t : Time) (e : Expr) → Alike s (Values s.fresh) t (step >> v e) (step >> v e)
@@ -112,7 +127,8 @@ module _ (s : Setting) where
     repeat_same : (n : ℕ) (c : Expr) (body : List Stmt) (t : Time) → Alike s (Flows s) t (repeat s.world v b n c body) (repeat s.world v b n c body)
     unfolding repeat
     repeat_same zero c body t = failing s (Flows s) t fault.Steps
-    repeat_same (suc n) c body t = bind s (Values s.fresh) (Flows s) t (step >> v c) (step >> v c) _ _ (first_value t c) (λ u lt a d h. turn_same u a d body (repeat s.world v b n c body) h (repeat_same n c body))
+    repeat_same (suc n) c body t = bind s (Values s.fresh) (Flows s) t (step >> v c) (step >> v c) _ _ (first_value t c)
+        (λ u lt a d h. turn_same u a d body (repeat s.world v b n c body) h (repeat_same n c body))
 
     branch_same : (t : Time) (a c : Value) (p q : Action Flow) → Values s.fresh t a c → Alike s (Flows s) t p p → Alike s (Flows s) t q q
         → Alike s (Flows s) t (branch s.world v b a p q) (branch s.world v b c p q)
@@ -120,10 +136,12 @@ module _ (s : Setting) where
 
     -- a value, and then a change of the state by it
     changed_by : (t : Time) (e : Expr) (c : Value → Machine → Machine)
-        → ((m n : Machine) (a d : Value) → Twins s m n → Values s.fresh (now s m n) a d → Went s (Flows s) (now s m n) (Ok Next, c a m) (Ok Next, c d n))
+        → ((m n : Machine) (a d : Value) → Twins s m n → Values s.fresh (now s m n) a d
+            → Went s (Flows s) (now s m n) (Ok Next, c a m) (Ok Next, c d n))
         → Alike s (Flows s) t (step >> v e >>= (λ a. change (c a) >> pure Next)) (step >> v e >>= (λ a. change (c a) >> pure Next))
     changed_by t e c h =
-        bind s (Values s.fresh) (Flows s) t (step >> v e) (step >> v e) _ _ (first_value t e) (λ u lt a d i. λ m n later tw. h m n a d tw (value_later s.fresh u (now s m n) later a d i))
+        bind s (Values s.fresh) (Flows s) t (step >> v e) (step >> v e) _ _ (first_value t e)
+            (λ u lt a d i. λ m n later tw. h m n a d tw (value_later s.fresh u (now s m n) later a d i))
 
     printed_twins : (m n : Machine) (a d : Value) → Twins s m n → Values s.fresh (now s m n) a d
         → Twins s (record m { printed = m.printed ++ number a ∷ [] }) (record n { printed = n.printed ++ number d ∷ [] })
@@ -141,15 +159,19 @@ module _ (s : Setting) where
     statement_at_same t (Stmt-F.Var type_name name line e) =
         changed_by t e (λ a. declare (type_named s.world.schema.classes type_name) name.text a) (λ m n a d tw h.
         gives s (Flows s) m n _ _ Next Next (λ x y i. i)
-        (with_locals m n _ _ tw (AllZip-push (Locals s.fresh (now s m n)) m.locals n.locals _ _ tw.locals (record { name = refl; kind = refl; value = h }))) tt)
+        (with_locals m n _ _ tw (AllZip-push (Locals s.fresh (now s m n)) m.locals n.locals _ _ tw.locals
+            (record { name = refl; kind = refl; value = h }))) tt)
     statement_at_same t (Stmt-F.Assign name line e) =
         changed_by t e (λ a. assign_local name.text a) (λ m n a d tw h.
-        gives s (Flows s) m n _ _ Next Next (λ x y i. i) (with_locals m n _ _ tw (assigned_same (now s m n) m.locals n.locals name.text a d tw.locals h)) tt)
+        gives s (Flows s) m n _ _ Next Next (λ x y i. i) (with_locals m n _ _ tw
+            (assigned_same (now s m n) m.locals n.locals name.text a d tw.locals h)) tt)
     statement_at_same t (Stmt-F.FieldAssign field line e) =
         bind s (Values s.fresh) (Flows s) t (step >> v e) (step >> v e) _ _ (first_value t e) (λ u lt a d h.
-        bind s (Nothing s) (Flows s) u _ _ _ _ (assign_field_same s u field.text a d (λ w lw. value_later s.fresh u w lw a d h)) (λ w lw i j k. settled s (Flows s) w Next Next (λ x lx. tt)))
+        bind s (Nothing s) (Flows s) u _ _ _ _ (assign_field_same s u field.text a d (λ w lw. value_later s.fresh u w lw a d h))
+            (λ w lw i j k. settled s (Flows s) w Next Next (λ x lx. tt)))
     statement_at_same t (Stmt-F.Return e) =
-        bind s (Values s.fresh) (Flows s) t (step >> v e) (step >> v e) _ _ (first_value t e) (λ u lt a d h. settled s (Flows s) u (Returned a) (Returned d) (λ w lw. value_later s.fresh u w lw a d h))
+        bind s (Values s.fresh) (Flows s) t (step >> v e) (step >> v e) _ _ (first_value t e)
+            (λ u lt a d h. settled s (Flows s) u (Returned a) (Returned d) (λ w lw. value_later s.fresh u w lw a d h))
     statement_at_same t (Stmt-F.If condition then_block) =
         bind s (Values s.fresh) (Flows s) t (step >> v condition) (step >> v condition) _ _ (first_value t condition) (λ u lt a d h.
         branch_same u a d _ _ h (blocks u then_block) (settled s (Flows s) u Next Next (λ w lw. tt)))
@@ -161,7 +183,8 @@ module _ (s : Setting) where
         changed_by t e (λ a. λ m. record m { printed = m.printed ++ number a ∷ [] }) (λ m n a d tw h.
         gives s (Flows s) m n _ _ Next Next (λ x y i. i) (printed_twins m n a d tw h) tt)
     statement_at_same t (Stmt-F.Evaluate e) =
-        bind s (Values s.fresh) (Flows s) t (step >> v e) (step >> v e) _ _ (first_value t e) (λ u lt a d h. settled s (Flows s) u Next Next (λ w lw. tt))
+        bind s (Values s.fresh) (Flows s) t (step >> v e) (step >> v e) _ _ (first_value t e)
+            (λ u lt a d h. settled s (Flows s) u Next Next (λ w lw. tt))
 
     pub statement_same : (t : Time) (q : Stmt) → Alike s (Flows s) t (statement s.world v b q) (statement s.world v b q)
     unfolding statement

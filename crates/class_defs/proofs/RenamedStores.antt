@@ -85,10 +85,10 @@ pub record Into (store : Plain) (names : List Oref) (f : Fault) (m : Machine) (r
   pub empty : names ≡ []
   pub whole : record { answer = answer.Fault f; touched = keys m.reads; written = []; store = store } ≡ r
 
-through : (store : Plain) (names : List Oref) (m : Machine) (r : Ran) → ran_through store names m ≡ Some r → Through store names m r
+pub through : (store : Plain) (names : List Oref) (m : Machine) (r : Ran) → ran_through store names m ≡ Some r → Through store names m r
 through store names m r is = let p = picked (takes m.created names) _ r is in record { created = taken_all m.created names p.0; whole = p.1 }
 
-into : (store : Plain) (names : List Oref) (f : Fault) (m : Machine) (r : Ran) → ran_into store names f m ≡ Some r → Into store names f m r
+pub into : (store : Plain) (names : List Oref) (f : Fault) (m : Machine) (r : Ran) → ran_into store names f m ≡ Some r → Into store names f m r
 into store names f m r is = let p = picked (length names == 0) _ r is in record { empty = no_names names p.0; whole = p.1 }
 
 defined_had : (store : Plain) (names : List Oref) (o : Result Flow Stop) (m : Machine) (r : Ran) → ran_by store names o m ≡ Some r → HadNames o
@@ -103,11 +103,14 @@ module _ (schema : Schema) (tx : List Stmt) (store : Plain) (fresh : Oref → Bo
 
   -- ---- two runs that are defined
 
-  through_same : (names others : List Oref) (m n : Machine) (flow other : Flow) (r q : Ran) → SameRun fresh (Ok flow) (Ok other) m n → Through store names m r → Through store others n q
+  through_same : (names others : List Oref) (m n : Machine) (flow other : Flow) (r q : Ran) → SameRun fresh (Ok flow) (Ok other) m n
+      → Through store names m r → Through store others n q
       → SameRan fresh names others r q
   through_same names others m n flow other r q same t u =
-      let whole : SameRan fresh m.created n.created (record { answer = answer.Ints m.printed; touched = keys m.reads; written = m.writes.pairs; store = changed store m.writes.pairs })
-          (record { answer = answer.Ints n.printed; touched = keys n.reads; written = n.writes.pairs; store = changed store n.writes.pairs }) = record {
+      let whole : SameRan fresh m.created n.created (record { answer = answer.Ints m.printed; touched = keys m.reads; written = m.writes.pairs;
+          store = changed store m.writes.pairs })
+          (record { answer = answer.Ints n.printed; touched = keys n.reads; written = n.writes.pairs; store = changed store n.writes.pairs }) =
+              record {
         answer = ap answer.Ints same.printed;
         touched = ap keys same.reads;
         as_many = same.created;
@@ -115,10 +118,12 @@ module _ (schema : Schema) (tx : List Stmt) (store : Plain) (fresh : Oref → Bo
       } in
       rw (sym t.created, sym u.created, sym t.whole, sym u.whole) whole
 
-  into_same : (names others : List Oref) (m n : Machine) (f g : Fault) (r q : Ran) → SameRun fresh (Err (stop.Fault f)) (Err (stop.Fault g)) m n → Into store names f m r → Into store others g n q
+  into_same : (names others : List Oref) (m n : Machine) (f g : Fault) (r q : Ran) → SameRun fresh (Err (stop.Fault f)) (Err (stop.Fault g)) m n
+      → Into store names f m r → Into store others g n q
       → SameRan fresh names others r q
   into_same names others m n f g r q same t u =
-      let whole : SameRan fresh [] [] (record { answer = answer.Fault f; touched = keys m.reads; written = []; store = store }) (record { answer = answer.Fault g; touched = keys n.reads; written = []; store = store }) = record {
+      let whole : SameRan fresh [] [] (record { answer = answer.Fault f; touched = keys m.reads; written = []; store = store })
+          (record { answer = answer.Fault g; touched = keys n.reads; written = []; store = store }) = record {
         answer = ap answer.Fault (sym same.ended);
         touched = ap keys same.reads;
         as_many = refl;
@@ -126,10 +131,13 @@ module _ (schema : Schema) (tx : List Stmt) (store : Plain) (fresh : Oref → Bo
       } in
       rw (t.empty, u.empty, sym t.whole, sym u.whole) whole
 
-  ran_same : (names others : List Oref) (o p : Result Flow Stop) (m n : Machine) (r q : Ran) → SameRun fresh o p m n → ran_by store names o m ≡ Some r → ran_by store others p n ≡ Some q
+  ran_same : (names others : List Oref) (o p : Result Flow Stop) (m n : Machine) (r q : Ran) → SameRun fresh o p m n → ran_by store names o m ≡ Some r
+      → ran_by store others p n ≡ Some q
       → SameRan fresh names others r q
-  ran_same names others (Ok flow) (Ok other) m n r q same is other_is = through_same names others m n flow other r q same (through store names m r is) (through store others n q other_is)
-  ran_same names others (Err (stop.Fault f)) (Err (stop.Fault g)) m n r q same is other_is = into_same names others m n f g r q same (into store names f m r is) (into store others g n q other_is)
+  ran_same names others (Ok flow) (Ok other) m n r q same is other_is =
+      through_same names others m n flow other r q same (through store names m r is) (through store others n q other_is)
+  ran_same names others (Err (stop.Fault f)) (Err (stop.Fault g)) m n r q same is other_is =
+      into_same names others m n f g r q same (into store names f m r is) (into store others g n q other_is)
   ran_same names others (Ok flow) (Err p) m n r q same is other_is = absurd same.ended
   ran_same names others (Err o) (Ok other) m n r q same is other_is = absurd same.ended
   ran_same names others (Err (stop.Need x owners)) (Err p) m n r q same is other_is = cc
@@ -137,20 +145,23 @@ module _ (schema : Schema) (tx : List Stmt) (store : Plain) (fresh : Oref → Bo
   ran_same names others (Err (stop.Fault f)) (Err (stop.Need x owners)) m n r q same is other_is = cc
   ran_same names others (Err (stop.Fault f)) (Err (stop.NeedName repo)) m n r q same is other_is = cc
 
-  pub defined_same : (names others : List Oref) (r q : Ran) → Takeable fresh names → Takeable fresh others → run schema tx store names ≡ Some r → run schema tx store others ≡ Some q
+  pub defined_same : (names others : List Oref) (r q : Ran) → Takeable fresh names → Takeable fresh others → run schema tx store names ≡ Some r
+      → run schema tx store others ≡ Some q
       → SameRan fresh names others r q
   unfolding run
   defined_same names others r q t u is other_is =
       let p = execute_all w tx (begun names (Some 0)) in
       let o = execute_all w tx (begun others (Some 0)) in
       ran_same names others p.0 o.0 p.1 o.1 r q
-      (runs_same w fresh unused tx names (Some 0) others (Some 0) p.0 o.0 p.1 o.1 t u refl refl (defined_had store names p.0 p.1 r is) (defined_had store others o.0 o.1 q other_is))
+      (runs_same w fresh unused tx names (Some 0) others (Some 0) p.0 o.0 p.1 o.1 t u refl refl (defined_had store names p.0 p.1 r is)
+          (defined_had store others o.0 o.1 q other_is))
       is other_is
 
   -- ---- names at hand
 
   -- a run without stand-in names beside itself
-  module _ (at_hand : List Oref) (takeable : Takeable fresh at_hand) (o : Result Flow Stop) (m : Machine) (is : execute_all w tx (begun at_hand None) ≡ (o, m)) (named : HadNames o) where
+  module _ (at_hand : List Oref) (takeable : Takeable fresh at_hand) (o : Result Flow Stop) (m : Machine)
+      (is : execute_all w tx (begun at_hand None) ≡ (o, m)) (named : HadNames o) where
     abbrev ended : Result Flow Stop × Machine
     ended = execute_all w tx (begun at_hand None)
 
@@ -161,7 +172,8 @@ module _ (schema : Schema) (tx : List Stmt) (store : Plain) (fresh : Oref → Bo
     had_names = rw is named
 
     itself : (repo : ℕ) → Ends (alone repo) (Flows (alone repo)) ([], []) ended.0 ended.0 ended.1 ended.1
-    itself repo = ends w fresh unused at_hand None at_hand None takeable takeable false false tt tt repo tx (had (alone repo) false ended.0 had_names) (had (alone repo) false ended.0 had_names)
+    itself repo = ends w fresh unused at_hand None at_hand None takeable takeable false false tt tt repo tx (had (alone repo) false ended.0 had_names)
+        (had (alone repo) false ended.0 had_names)
 
     pub taken_in_order : (repo : ℕ) → AllByRecursion (λ (x : Oref). x.repo ≡ repo) at_hand → m.created ++ m.names.waiting ≡ at_hand
     taken_in_order repo all =
@@ -171,7 +183,8 @@ module _ (schema : Schema) (tx : List Stmt) (store : Plain) (fresh : Oref → Bo
     pub created_takeable : Takeable fresh m.created
     created_takeable =
         let made = (itself 0).twins.made in
-        subst (λ (z : Result Flow Stop × Machine). Takeable fresh z.1.created) is (record { new = made.taken.new; placed = made.taken.placed (made.without refl); once = made.taken.once })
+        subst (λ (z : Result Flow Stop × Machine). Takeable fresh z.1.created) is
+            (record { new = made.taken.new; placed = made.taken.placed (made.without refl); once = made.taken.once })
 
     -- the same once more, with just the names that were created
     abbrev again : Result Flow Stop × Machine
@@ -182,7 +195,8 @@ module _ (schema : Schema) (tx : List Stmt) (store : Plain) (fresh : Oref → Bo
 
     both_ran : Ends twice (Flows twice) ([], []) ended.0 again.0 ended.1 again.1
     both_ran =
-        ends w fresh unused at_hand None m.created (Some 0) takeable created_takeable false true tt (omega arith) 0 tx (had twice false ended.0 had_names) (endless_had twice again.0)
+        ends w fresh unused at_hand None m.created (Some 0) takeable created_takeable false true tt (omega arith) 0 tx
+            (had twice false ended.0 had_names) (endless_had twice again.0)
 
     same_created : again.1.created ≡ m.created
     same_created =
@@ -216,19 +230,22 @@ module _ (schema : Schema) (tx : List Stmt) (store : Plain) (fresh : Oref → Bo
 
   -- ---- names at hand where the run isn't defined without names, or is for others
 
-  no_names_takeable : Takeable fresh []
+  pub no_names_takeable : Takeable fresh []
   unfolding IsDistinct
   no_names_takeable = record { new = tt; placed = tt; once = tt }
 
   abbrev without : Result Flow Stop × Machine
   without = execute_all w tx (begun [] (Some 0))
 
-  with_names_same : (at_hand : List Oref) → Takeable fresh at_hand → (o : Result Flow Stop) (m : Machine) → execute_all w tx (begun at_hand None) ≡ (o, m) → HadNames o
+  with_names_same : (at_hand : List Oref) → Takeable fresh at_hand → (o : Result Flow Stop) (m : Machine)
+      → execute_all w tx (begun at_hand None) ≡ (o, m) → HadNames o
       → SameRun fresh without.0 o without.1 m
   with_names_same at_hand t o m is named =
-      runs_same w fresh unused tx [] (Some 0) at_hand None without.0 o without.1 m no_names_takeable t refl is (stand_ins_enough w fresh unused tx [] no_names_takeable) named
+      runs_same w fresh unused tx [] (Some 0) at_hand None without.0 o without.1 m no_names_takeable t refl is
+          (stand_ins_enough w fresh unused tx [] no_names_takeable) named
 
-  created_by : (cs ds : List Oref) (p o : Result Flow Stop) (n : Machine) → ran_by store [] p n ≡ None → HadObjects p → SameEnd fresh cs ds p o → (flow : Flow) × (o ≡ Ok flow)
+  created_by : (cs ds : List Oref) (p o : Result Flow Stop) (n : Machine) → ran_by store [] p n ≡ None → HadObjects p → SameEnd fresh cs ds p o
+      → (flow : Flow) × (o ≡ Ok flow)
   created_by cs ds (Ok f) (Ok g) n is objects same = (g, refl)
   created_by cs ds (Ok f) (Err q) n is objects same = absurd same
   created_by cs ds (Err (stop.Fault f)) o n is objects same = cc
@@ -237,8 +254,10 @@ module _ (schema : Schema) (tx : List Stmt) (store : Plain) (fresh : Oref → Bo
   created_by cs ds (Err (stop.NeedName repo)) (Err q) n is objects same = absurd same
 
   -- where new objects stay, the run with names at hand ends without a fault, and is defined for the names that it took
-  pub defined_with : (at_hand : List Oref) → Takeable fresh at_hand → (o : Result Flow Stop) (m : Machine) → run schema tx store [] ≡ None → HadObjects without.0
-      → execute_all w tx (begun at_hand None) ≡ (o, m) → HadNames o → IsSomeAnd (run schema tx store m.created) (λ r. (r.answer ≡ answer.Ints m.printed) × (r.touched ≡ keys m.reads))
+  pub defined_with : (at_hand : List Oref) → Takeable fresh at_hand → (o : Result Flow Stop) (m : Machine) → run schema tx store [] ≡ None
+      → HadObjects without.0
+      → execute_all w tx (begun at_hand None) ≡ (o, m) → HadNames o
+          → IsSomeAnd (run schema tx store m.created) (λ r. (r.answer ≡ answer.Ints m.printed) × (r.touched ≡ keys m.reads))
   unfolding run
   defined_with at_hand t o m undefined objects is named =
       let same = with_names_same at_hand t o m is named in
@@ -249,20 +268,23 @@ module _ (schema : Schema) (tx : List Stmt) (store : Plain) (fresh : Oref → Bo
   some_too P Q (Some q) h f = f q refl
   some_too P Q None h f = h
 
-  fault_by : (cs ds : List Oref) (f : Fault) (p : Result Flow Stop) (n : Machine) → SameEnd fresh cs ds p (Err (stop.Fault f)) → IsSomeAnd (ran_by store [] p n) (λ r. Unit {0})
+  fault_by : (cs ds : List Oref) (f : Fault) (p : Result Flow Stop) (n : Machine) → SameEnd fresh cs ds p (Err (stop.Fault f))
+      → IsSomeAnd (ran_by store [] p n) (λ r. Unit {0})
   fault_by cs ds f (Ok g) n same = absurd same
   fault_by cs ds f (Err (stop.Fault g)) n same = tt
   fault_by cs ds f (Err (stop.Need x owners)) n same = absurd same
   fault_by cs ds f (Err (stop.NeedName repo)) n same = absurd same
 
-  no_need : (cs ds : List Oref) (names : List Oref) (x : Oref) (owners : List Oref) (p : Result Flow Stop) (n : Machine) (r : Ran) → SameEnd fresh cs ds p (Err (stop.Need x owners)) → ran_by store names p n ≡ Some r → ⊥
+  no_need : (cs ds : List Oref) (names : List Oref) (x : Oref) (owners : List Oref) (p : Result Flow Stop) (n : Machine) (r : Ran)
+      → SameEnd fresh cs ds p (Err (stop.Need x owners)) → ran_by store names p n ≡ Some r → ⊥
   no_need cs ds names x owners (Ok g) n r same is = same
   no_need cs ds names x owners (Err (stop.Fault g)) n r same is = same
   no_need cs ds names x owners (Err (stop.Need y others)) n r same is = cc
   no_need cs ds names x owners (Err (stop.NeedName repo)) n r same is = same
 
   -- where the run is defined for some names, it is so for those that a run with names at hand keeps, and gives the same
-  pub defined_too : (names : List Oref) (r : Ran) → Takeable fresh names → run schema tx store names ≡ Some r → (at_hand : List Oref) → Takeable fresh at_hand
+  pub defined_too : (names : List Oref) (r : Ran) → Takeable fresh names → run schema tx store names ≡ Some r → (at_hand : List Oref)
+      → Takeable fresh at_hand
       → (o : Result Flow Stop) (m : Machine) → execute_all w tx (begun at_hand None) ≡ (o, m) → HadNames o
       → IsSomeAnd (run schema tx store (kept_names o m)) (SameRan fresh names (kept_names o m) r)
   unfolding run
@@ -271,9 +293,11 @@ module _ (schema : Schema) (tx : List Stmt) (store : Plain) (fresh : Oref → Bo
       (λ q other. defined_same names m.created r q t (created_takeable at_hand u (Ok flow) m is named) defined other)
   defined_too names r t defined at_hand u (Err (stop.Fault f)) m is named =
       let same = with_names_same at_hand u (Err (stop.Fault f)) m is named in
-      some_too _ _ (run schema tx store []) (fault_by without.1.created m.created f without.0 without.1 same.ended) (λ q other. defined_same names [] r q t no_names_takeable defined other)
+      some_too _ _ (run schema tx store []) (fault_by without.1.created m.created f without.0 without.1 same.ended)
+          (λ q other. defined_same names [] r q t no_names_takeable defined other)
   defined_too names r t defined at_hand u (Err (stop.Need x owners)) m is named =
       let p = execute_all w tx (begun names (Some 0)) in
-      let same = runs_same w fresh unused tx names (Some 0) at_hand None p.0 (Err (stop.Need x owners)) p.1 m t u refl is (stand_ins_enough w fresh unused tx names t) named in
+      let same = runs_same w fresh unused tx names (Some 0) at_hand None p.0 (Err (stop.Need x owners)) p.1 m t u refl is
+          (stand_ins_enough w fresh unused tx names t) named in
       absurd (no_need p.1.created m.created names x owners p.0 p.1 r same.ended defined)
   defined_too names r t defined at_hand u (Err (stop.NeedName repo)) m is named = absurd named

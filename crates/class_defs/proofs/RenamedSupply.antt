@@ -168,7 +168,8 @@ module _ (endless : Bool) (count repo : ℕ) where
   next_stays false k h = tt
   next_stays true k h = omega arith
 
-  by_stand_in : (n : NameSupply) (k : ℕ) → Stock endless count n → n.stand_in ≡ Some k → Given endless count repo n (stand_in_name k, record n { stand_in = Some (k + 1) })
+  by_stand_in : (n : NameSupply) (k : ℕ) → Stock endless count n → n.stand_in ≡ Some k
+      → Given endless count repo n (stand_in_name k, record n { stand_in = Some (k + 1) })
   by_stand_in n k s is = record {
     left = inr (rw is (refl, omega arith));
     still = still;
@@ -187,20 +188,24 @@ module _ (endless : Bool) (count repo : ℕ) where
       gone y (inr h) e = let f : y.slot ≡ k = ap (λ (z : Oref). z.slot) e in absurd (omega arith)
 
   waiting_given : (n : NameSupply) (t : Oref × NameSupply) (i : ℕ) → Stock endless count n → position here n.waiting ≡ Some i
-      → (v : Option Oref) → slice_get n.waiting i ≡ v → option_map {U = Oref × NameSupply} (λ x. (x, record n { waiting = remove n.waiting i })) v ≡ Some t → Given endless count repo n t
+      → (v : Option Oref) → slice_get n.waiting i ≡ v → option_map {U = Oref × NameSupply}
+          (λ x. (x, record n { waiting = remove n.waiting i })) v ≡ Some t → Given endless count repo n t
   waiting_given n t i s p None is e = cc
   waiting_given n t i s p (Some x) is e = subst (Given endless count repo n) (same_Some _ t e) (by_place n i x s p is)
 
   below_given : (n : NameSupply) (t : Oref × NameSupply) (k : ℕ) (b : Bool) → Stock endless count n → n.stand_in ≡ Some k
-      → cond {A = Option (Oref × NameSupply)} b (Some (stand_in_name k, record n { stand_in = Some (k + 1) })) None ≡ Some t → Given endless count repo n t
+      → cond {A = Option (Oref × NameSupply)} b (Some (stand_in_name k, record n { stand_in = Some (k + 1) })) None ≡ Some t
+          → Given endless count repo n t
   below_given n t k true s is e = subst (Given endless count repo n) (same_Some _ t e) (by_stand_in n k s is)
   below_given n t k false s is e = cc
 
-  stand_in_given : (n : NameSupply) (t : Oref × NameSupply) → Stock endless count n → (o : Option ℕ) → n.stand_in ≡ o → stand_in_from n o ≡ Some t → Given endless count repo n t
+  stand_in_given : (n : NameSupply) (t : Oref × NameSupply) → Stock endless count n → (o : Option ℕ) → n.stand_in ≡ o → stand_in_from n o ≡ Some t
+      → Given endless count repo n t
   stand_in_given n t s None is e = cc
   stand_in_given n t s (Some k) is e = below_given n t k (nat_lt k CREATE_LIMIT) s is e
 
-  at_given : (n : NameSupply) (t : Oref × NameSupply) → Stock endless count n → (o : Option ℕ) → position here n.waiting ≡ o → name_at n o ≡ Some t → Given endless count repo n t
+  at_given : (n : NameSupply) (t : Oref × NameSupply) → Stock endless count n → (o : Option ℕ) → position here n.waiting ≡ o → name_at n o ≡ Some t
+      → Given endless count repo n t
   at_given n t s (Some i) p e = waiting_given n t i s p (slice_get n.waiting i) refl e
   at_given n t s None p e = stand_in_given n t s n.stand_in refl e
 
@@ -214,7 +219,8 @@ module _ (endless : Bool) (count repo : ℕ) where
   slot_left true t n None h l e = h
   slot_left true t n (Some k) h l e = by (nat_lt k CREATE_LIMIT) refl e
     where
-      by : (b : Bool) → nat_lt k CREATE_LIMIT ≡ b → cond {A = Option (Oref × NameSupply)} b (Some (stand_in_name k, record n { stand_in = Some (k + 1) })) None ≡ None → ⊥
+      by : (b : Bool) → nat_lt k CREATE_LIMIT ≡ b → cond {A = Option (Oref × NameSupply)} b
+          (Some (stand_in_name k, record n { stand_in = Some (k + 1) })) None ≡ None → ⊥
       by true f g = cc
       by false f g = absurd (grind (arith, nat_tests))
   slot_left false t n o h l e = t
@@ -224,7 +230,8 @@ module _ (endless : Bool) (count repo : ℕ) where
   none_at n i p (Some x) is e = cc
   none_at n i p None is e = within n.waiting i (first_is here n.waiting i p).below is
 
-  never_at : T endless → (n : NameSupply) → Stock endless count n → nat_lt count CREATE_LIMIT ≡ true → (o : Option ℕ) → position here n.waiting ≡ o → name_at n o ≡ None → ⊥
+  never_at : T endless → (n : NameSupply) → Stock endless count n → nat_lt count CREATE_LIMIT ≡ true → (o : Option ℕ) → position here n.waiting ≡ o
+      → name_at n o ≡ None → ⊥
   never_at t n s l (Some i) p e = none_at n i p (slice_get n.waiting i) refl e
   never_at t n s l None p e = slot_left endless t n n.stand_in s.stays l e
 
@@ -239,13 +246,16 @@ pub takes_first : (repo : ℕ) (n : NameSupply) (t : Oref × NameSupply) (x : Or
     → take_name repo n ≡ Some t → (t.0 ≡ x) × (t.1.waiting ≡ rest)
 unfolding take_name
 takes_first repo n t x rest w r e =
-    let p : position (λ (y : Oref). y.repo == repo) n.waiting ≡ Some 0 = ap (position (λ (y : Oref). y.repo == repo)) w ∙ at_front (λ (y : Oref). y.repo == repo) x rest r in
+    let p : position (λ (y : Oref). y.repo == repo) n.waiting ≡ Some 0 =
+        ap (position (λ (y : Oref). y.repo == repo)) w ∙ at_front (λ (y : Oref). y.repo == repo) x rest r in
     let g : slice_get n.waiting 0 ≡ Some x = ap (λ xs. slice_get xs 0) w in
-    let f : name_at n (Some 0) ≡ Some (x, record n { waiting = remove n.waiting 0 }) = ap (option_map (λ z. (z, record n { waiting = remove n.waiting 0 }))) g in
+    let f : name_at n (Some 0) ≡ Some (x, record n { waiting = remove n.waiting 0 }) =
+        ap (option_map (λ z. (z, record n { waiting = remove n.waiting 0 }))) g in
     let h : (x, record n { waiting = remove n.waiting 0 }) ≡ t = same_Some _ t (sym f ∙ ap (name_at n) (sym p) ∙ e) in
     (sym (ap (λ (q : Oref × NameSupply). q.0) h), sym (ap (λ (q : Oref × NameSupply). q.1.waiting) h) ∙ ap (λ xs. remove xs 0) w)
 
-front_by : (repo : ℕ) (r : ℕ) (n : NameSupply) (t : Oref × NameSupply) (ws : List Oref) → n.waiting ≡ ws → AllByRecursion (λ (x : Oref). x.repo ≡ r) ws
+front_by : (repo : ℕ) (r : ℕ) (n : NameSupply) (t : Oref × NameSupply) (ws : List Oref) → n.waiting ≡ ws
+    → AllByRecursion (λ (x : Oref). x.repo ≡ r) ws
     → In ws t.0 → (t.0.repo == repo) ≡ true → take_name repo n ≡ Some t → n.waiting ≡ t.0 ∷ t.1.waiting
 front_by repo r n t [] w a i p e = absurd i
 front_by repo r n t (x ∷ rest) w a i p e =
@@ -254,7 +264,8 @@ front_by repo r n t (x ∷ rest) w a i p e =
     w ∙ sym (rw (g.0, g.1) refl)
 
 -- where all lie in one repository, so is the first taken
-pub takes_in_order : (repo : ℕ) (r : ℕ) (n : NameSupply) (t : Oref × NameSupply) → n.stand_in ≡ None → AllByRecursion (λ (x : Oref). x.repo ≡ r) n.waiting
+pub takes_in_order : (repo : ℕ) (r : ℕ) (n : NameSupply) (t : Oref × NameSupply) → n.stand_in ≡ None
+    → AllByRecursion (λ (x : Oref). x.repo ≡ r) n.waiting
     → Left n t.0 → (t.0.repo == repo) ≡ true → take_name repo n ≡ Some t → n.waiting ≡ t.0 ∷ t.1.waiting
 takes_in_order repo r n t none a (inl i) p e = front_by repo r n t n.waiting refl a i p e
 takes_in_order repo r n t none a (inr s) p e = absurd (subst (λ o. ByStandIn o t.0) none s)

@@ -1,5 +1,5 @@
 -- Runs of one transaction that differ in the names of their new objects alone (this project's).
-use Rattle.std.specs.Prelude.{◌≡◌, ◌⊎◌, ◌==◌, ℕ, Bool, true, false, List, [], ◌∷◌, length, Option, Some, None, Result, Ok, Err}
+use Rattle.std.specs.Prelude.{◌≡◌, ◌⊎◌, ◌==◌, ◌||◌, find, is_some, ℕ, Bool, true, false, List, [], ◌∷◌, length, Option, Some, None, Result, Ok, Err}
 use Rattle.std.specs.List.{AllByRecursion, AllZip, IsDistinct}
 use Rattle.std.specs.BTreeMap.{is_at}
 use Rattle.std.specs.Map.{lookup}
@@ -38,6 +38,19 @@ pub record Takeable (fresh : Oref → Bool) (names : List Oref) : Type 0 where
   pub new : AllByRecursion (λ x. fresh x ≡ true) names
   pub placed : AllByRecursion (λ (x : Oref). (x.repo == 255) ≡ false) names
   pub once : IsDistinct same_oref names
+
+-- the names of this list, and those of the repository where the stand-in names lie
+abbrev pub among : List Oref → Oref → Bool
+among names x = x.repo == 255 || is_some (find (same_oref x) names)
+
+-- Names that a client has at hand: they lie in this repository, each is there once, none has an object, and nothing
+-- refers to one.
+pub record AtHand (repo : ℕ) (names : List Oref) (w : World) : Type 0 where
+  pub real : (repo == 255) ≡ false
+  pub placed : AllByRecursion (λ (x : Oref). x.repo ≡ repo) names
+  pub once : IsDistinct same_oref names
+  pub free : AllByRecursion (λ x. w.at_hand x ≡ None) names
+  pub unused : Unused (among names) w
 
 -- ---- two runs side by side
 
@@ -78,10 +91,10 @@ module _ (fresh : Oref → Bool) (created others : List Oref) where
   SameFlow Next (Returned b) = ⊥
   SameFlow (Returned a) Next = ⊥
 
-  -- both stop for one reason, and not for want of a name
+  -- both stop for one reason, and not for want of a name; where an object isn't at hand, neither created it
   abbrev pub SameStop : Stop → Stop → Type 0
   SameStop (stop.Fault f) (stop.Fault g) = f ≡ g
-  SameStop (stop.Need x owners) (stop.Need y possessors) = SameName x y × AllZip SameName owners possessors
+  SameStop (stop.Need x owners) (stop.Need y possessors) = (fresh x ≡ false) × (x ≡ y) × AllZip SameName owners possessors
   SameStop (stop.Fault f) (stop.Need y possessors) = ⊥
   SameStop (stop.Need x owners) (stop.Fault g) = ⊥
   SameStop (stop.NeedName repo) t = ⊥
@@ -126,4 +139,5 @@ pub record SameRan (fresh : Oref → Bool) (names others : List Oref) (r q : Ran
   pub answer : q.answer ≡ r.answer
   pub touched : q.touched ≡ r.touched
   pub as_many : length others ≡ length names
-  pub written : (x y : Oref) → SameName fresh names others x y → SameObject fresh names others (lookup (is_at (oref_cmp x)) r.written) (lookup (is_at (oref_cmp y)) q.written)
+  pub written : (x y : Oref) → SameName fresh names others x y
+      → SameObject fresh names others (lookup (is_at (oref_cmp x)) r.written) (lookup (is_at (oref_cmp y)) q.written)

@@ -29,8 +29,8 @@ pub use look::{class_named, field_named, field_of, method_of};
 pub use machine::{Flow, Local, Locals, Machine, NameSupply, Receiver, Stop};
 pub use places::Place;
 pub use renaming_laws::{
-    answers_hang_on_no_names, runs_are_defined_for_names_at_hand, runs_differ_in_names_alone,
-    runs_take_the_names_that_they_need,
+    answers_hang_on_no_names, names_at_hand_last, runs_are_defined_for_names_at_hand,
+    runs_differ_in_names_alone, runs_leave_names_unused, runs_take_the_names_that_they_need,
 };
 pub use rules::{NamedType, NamedTypes, Position, Rule, TypeFault};
 pub use run_laws::{

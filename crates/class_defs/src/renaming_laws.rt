@@ -4,12 +4,13 @@
 //! In each law a test tells which names are fresh: no root and no object of the store refers to one, and new
 //! objects take no other.
 
-ghost use Rattle.std.specs.Prelude.{◌≡◌, ◌++◌, Bool, List, [], Option, Some, None, Result, Ok, IsSomeAnd, ℕ};
+ghost use Rattle.std.specs.Prelude.{◌≡◌, ◌++◌, Bool, true, false, List, [], Option, Some, None, Result, Ok, IsSomeAnd, ℕ};
 ghost use Rattle.std.specs.List.{AllByRecursion};
-ghost use Rattle.thor_value.specs.FiniteMap.{keys};
+ghost use Rattle.thor_value.specs.FiniteMap.{get, keys};
 ghost use Rattle.thor_value.specs.declared.names.Oref.{Oref};
 ghost use Rattle.thor_value.specs.declared.values.Answer.TheVariants as answer;
-ghost use Rattle.class_defs.specs.Renaming.{HadNames, SameRan, SameRun, Takeable, Unused, kept_names};
+ghost use Rattle.class_defs.specs.Renaming.{AtHand, HadNames, SameRan, SameRun, Takeable, Unused, kept_names};
+ghost use Rattle.class_defs.specs.Objects.{stand_in_name};
 ghost use Rattle.class_defs.specs.Run.{Ran, begun, execute_all, run, world_of};
 ghost use Rattle.class_defs.specs.Steps.{World};
 ghost use Rattle.class_defs.specs.Touched.{HadObjects};
@@ -88,4 +89,45 @@ pub fn answers_hang_on_no_names()
         → Unused fresh (world_of schema store) → Takeable fresh names → Takeable fresh others
         → run schema tx store names ≡ Some r → run schema tx store others ≡ Some q
         → SameRan fresh names others r q }
+{}
+
+/// The store behind a run refers to no name that was fresh before it and that it didn't take, and the run has
+/// written no object under such a name.
+pub fn runs_leave_names_unused()
+    ensures unused { (schema : Schema) → (tx : List Stmt) → (store : Plain) → (fresh : Oref → Bool)
+        → (still_fresh : Oref → Bool) → (names : List Oref) → (r : Ran)
+        → Unused fresh (world_of schema store) → Takeable fresh names
+        → run schema tx store names ≡ Some r
+        → ((x : Oref) → still_fresh x ≡ true → fresh x ≡ true)
+        → ((k : ℕ) → still_fresh (stand_in_name k) ≡ true)
+        → AllByRecursion (λ x. still_fresh x ≡ false) names
+        → Unused still_fresh (world_of schema r.store) }
+    ensures unwritten { (schema : Schema) → (tx : List Stmt) → (store : Plain) → (fresh : Oref → Bool)
+        → (still_fresh : Oref → Bool) → (names : List Oref) → (r : Ran) → (x : Oref)
+        → Unused fresh (world_of schema store) → Takeable fresh names
+        → run schema tx store names ≡ Some r
+        → ((y : Oref) → still_fresh y ≡ true → fresh y ≡ true)
+        → ((k : ℕ) → still_fresh (stand_in_name k) ≡ true)
+        → AllByRecursion (λ y. still_fresh y ≡ false) names
+        → still_fresh x ≡ true → get r.store.objects x ≡ get store.objects x }
+{}
+
+/// A client has names at hand that lie in one repository, with no objects and nothing that refers to them. Where a run is defined
+/// without names, they are such names behind it. Where it isn't, and not for want of an object, the client
+/// evaluates the transaction with them: it wants more names, or it has found names for which the run is
+/// defined, with the printed values as its answer, and the names that still wait are such names behind it.
+pub fn names_at_hand_last()
+    ensures without { (schema : Schema) → (tx : List Stmt) → (store : Plain) → (repo : ℕ)
+        → (at_hand : List Oref) → (r : Ran)
+        → AtHand repo at_hand (world_of schema store)
+        → run schema tx store [] ≡ Some r
+        → AtHand repo at_hand (world_of schema r.store) }
+    ensures created { (schema : Schema) → (tx : List Stmt) → (store : Plain) → (repo : ℕ)
+        → (at_hand : List Oref) → (outcome : Result Flow Stop) → (m : Machine)
+        → AtHand repo at_hand (world_of schema store)
+        → run schema tx store [] ≡ None
+        → HadObjects (execute_all (world_of schema store) tx (begun [] (Some 0))).0
+        → execute_all (world_of schema store) tx (begun at_hand None) ≡ (outcome, m) → HadNames outcome
+        → IsSomeAnd (run schema tx store m.created)
+            (λ r. (r.answer ≡ answer.Ints m.printed) × AtHand repo m.names.waiting (world_of schema r.store)) }
 {}

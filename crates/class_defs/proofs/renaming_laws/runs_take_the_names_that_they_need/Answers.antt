@@ -6,5 +6,6 @@ pub returns : goal.returns
 returns c = record {
   defined = λ schema tx store fresh at_hand flow m unused t is. defined_again schema tx store fresh unused at_hand t (Ok flow) m is tt flow refl;
   takeable = λ schema tx store fresh at_hand outcome m unused t is named. created_takeable schema tx store fresh unused at_hand t outcome m is named;
-  in_order = λ schema tx store fresh at_hand outcome m repo unused t is named all. taken_in_order schema tx store fresh unused at_hand t outcome m is named repo all;
+  in_order = λ schema tx store fresh at_hand outcome m repo unused t is named all. taken_in_order schema tx store fresh unused at_hand t outcome m is
+      named repo all;
 }
