@@ -4,6 +4,7 @@ pub mod Expressions
 pub mod Grammar
 pub mod Objects
 pub mod Renaming
+pub mod RenamingRows
 pub mod RuleRows
 pub mod Rules
 pub mod Run

@@ -10,6 +10,7 @@ mod look;
 mod machine;
 mod places;
 mod renaming_laws;
+mod renaming_rows;
 mod rule_rows;
 mod rules;
 mod run_laws;
