@@ -141,7 +141,8 @@ module _ (schema : Schema) (tx : List Stmt) (store : Plain) (fresh : Oref → Bo
       behind names taken 0 p.0 p.1 r e.twins.made.kept is
 
   -- no such name was written
-  not_written : (t : Time) → AllByRecursion (λ x. others x ≡ false) t.0 → (ws : Map oref_cmp Object) → ((x : Oref) → has ws x ≡ true → (y : Oref) × Names fresh t x y)
+  not_written : (t : Time) → AllByRecursion (λ x. others x ≡ false) t.0 → (ws : Map oref_cmp Object)
+      → ((x : Oref) → has ws x ≡ true → (y : Oref) × Names fresh t x y)
       → (x : Oref) → others x ≡ true → get ws x ≡ None
   not_written t created ws only x h = by (get ws x) refl
     where
@@ -164,11 +165,13 @@ module _ (schema : Schema) (tx : List Stmt) (store : Plain) (fresh : Oref → Bo
   written_by names taken (Err (stop.Need y owners)) m r only is x h = cc
   written_by names taken (Err (stop.NeedName k)) m r only is x h = cc
 
-  pub unwritten_behind : (names : List Oref) (r : Ran) → Takeable fresh names → AllByRecursion (λ x. others x ≡ false) names → run schema tx store names ≡ Some r
+  pub unwritten_behind : (names : List Oref) (r : Ran) → Takeable fresh names → AllByRecursion (λ x. others x ≡ false) names
+      → run schema tx store names ≡ Some r
       → (x : Oref) → others x ≡ true → get r.store.objects x ≡ get store.objects x
   unfolding run
   unwritten_behind names r t taken is x h =
       let p = execute_all w tx (begun names (Some 0)) in
       let s = both names taken 0 in
-      let e = ends w fresh unused names (Some 0) names (Some 0) t t true true (omega arith) (omega arith) 0 tx (endless_had s p.0) (endless_had s p.0) in
+      let e = ends w fresh unused names (Some 0) names (Some 0) t t true true (omega arith) (omega arith) 0 tx (endless_had s p.0)
+          (endless_had s p.0) in
       (run_behind schema tx store names r is).objects x (written_by names taken p.0 p.1 r e.twins.made.only is x h)

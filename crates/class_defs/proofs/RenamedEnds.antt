@@ -112,6 +112,7 @@ module _ (w : World) (fresh : Oref → Bool) (unused : Unused fresh w) where
       other_apart = λ x y i. rw (one x y i).same (old_apart others other_stand_in other_takeable x (one x y i).old);
       left_new = supply_new names stand_in takeable;
       taken = record { new = tt; once = tt; placed = λ e. tt };
+      still = λ x l. l;
       without = λ e. e;
       exact = λ e rest is. (refl, is);
       in_order = λ e all. refl;

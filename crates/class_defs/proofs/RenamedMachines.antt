@@ -76,6 +76,7 @@ module _ (s : Setting) where
     pub other_apart : (x y : Oref) → Names s.fresh t x y → ¬ (Left left y)
     pub left_new : (x : Oref) → Left names x → s.fresh x ≡ true
     pub taken : Taken t.0 names
+    pub still : (x : Oref) → Left names x → Left (record { waiting = s.begun; stand_in = s.stand_in }) x
     pub without : s.stand_in ≡ None → names.stand_in ≡ None
     pub exact : Exact t names left
     pub in_order : InOrder t names

@@ -229,6 +229,7 @@ module _ (s : Setting) where
     other_apart = made.other_apart;
     left_new = made.left_new;
     taken = made.taken;
+    still = made.still;
     without = made.without;
     exact = made.exact;
     in_order = made.in_order;
@@ -427,6 +428,7 @@ module _ (s : Setting) where
       apart = λ a b i. apart_by a b (split a b i);
       other_apart = λ a b i. other_apart_by a b (split a b i);
       left_new = λ a l. made.left_new a (given.still a l);
+      still = λ a l. made.still a (given.still a l);
       taken = record {
         new = all_push _ t.0 x.0 made.taken.new (made.left_new x.0 given.left);
         once = once_push t.0 x.0 made.taken.once (all_first (Names s.fresh t) _ other_name t.0 t.1 made.created);

@@ -1,11 +1,11 @@
 -- That whether a run is defined doesn't hang on the names of its new objects, and that names which a run took at
 -- hand are names for which it is defined.
-use Rattle.std.proofs.Common.{◌≡◌, Bool, true, false, cond, List, [], ◌∷◌, ◌++◌, Option, Some, None, Result, Ok, Err, refl, ap, sym, ◌∙◌, subst, ℕ, length, append-nil, arith, IsSomeAnd}
+use Rattle.std.proofs.Common.{◌≡◌, Bool, true, false, cond, List, [], ◌∷◌, ◌++◌, Option, Some, None, Result, Ok, Err, refl, inl, inr, ap, sym, ◌∙◌, subst, ℕ, length, append-nil, arith, IsSomeAnd}
 use Rattle.std.proofs.lemmas.Bool.Decides.{nat_tests}
 use Rattle.std.proofs.lemmas.Map.Views.{tells_apart}
 use Rattle.std.proofs.lemmas.Option.{same_Some}
 use Rattle.std.specs.Cmp.Lexicographic.{pointwise}
-use Rattle.std.specs.List.{AllByRecursion, IsDistinct, list_any}
+use Rattle.std.specs.List.{AllZip, AllByRecursion, IsDistinct, list_any}
 use Rattle.std.specs.Prelude.{◌&&◌, ◌==◌, not}
 use Rattle.thor_value.proofs.NameOrders.{oref_exact}
 use Rattle.thor_value.specs.FiniteMap.{keys}
@@ -18,12 +18,14 @@ use Rattle.class_defs.proofs.Renamed.{Time}
 use Rattle.class_defs.proofs.RenamedCalls.{Flows}
 use Rattle.class_defs.proofs.RenamedEnds.{setting, ends, had, endless_had, runs_same, stand_ins_enough}
 use Rattle.class_defs.proofs.RenamedMachines.{Setting, Ends, Same}
+use Rattle.class_defs.proofs.RenamedSupply.{In, Left}
 use Rattle.class_defs.specs.Renaming.{HadNames, SameEnd, SameRan, SameRun, Takeable, Unused, kept_names}
 use Rattle.class_defs.specs.Run.{Ran, begun, changed, execute_all, ran_by, ran_into, ran_through, run, takes, world_of}
 use Rattle.class_defs.specs.Steps.{World}
 use Rattle.class_defs.specs.Touched.{HadObjects}
 use Rattle.class_defs.specs.declared.machine.Flow.{Flow}
 use Rattle.class_defs.specs.declared.machine.Machine.{Machine}
+use Rattle.class_defs.specs.declared.machine.NameSupply.{NameSupply}
 use Rattle.class_defs.specs.declared.machine.Stop.{Stop}
 use Rattle.class_defs.specs.declared.machine.Stop.TheVariants as stop
 use Rattle.class_defs.specs.declared.statements.Stmt.{Stmt}
@@ -185,6 +187,37 @@ module _ (schema : Schema) (tx : List Stmt) (store : Plain) (fresh : Oref → Bo
         let made = (itself 0).twins.made in
         subst (λ (z : Result Flow Stop × Machine). Takeable fresh z.1.created) is
             (record { new = made.taken.new; placed = made.taken.placed (made.without refl); once = made.taken.once })
+
+    -- what is left of the names: each was at hand, is left once, and wasn't taken
+    pub record Leaves : Type 0 where
+      pub placed : AllByRecursion (λ (x : Oref). (x.repo == 255) ≡ false) m.names.waiting
+      pub once : IsDistinct same_oref m.names.waiting
+      pub still : (x : Oref) → In m.names.waiting x → In at_hand x
+      pub untaken : (x : Oref) → In m.created x → ¬ (In m.names.waiting x)
+
+    in_list : (x : Oref) → Left (record { waiting = at_hand; stand_in = None }) x → In at_hand x
+    in_list x (inl i) = i
+    in_list x (inr h) = absurd h
+
+    partner : (R : Oref → Oref → Type 0) (xs ys : List Oref) (x : Oref) → AllZip R xs ys → In xs x → (y : Oref) × R x y
+    partner R [] ys x h i = absurd i
+    partner R (a ∷ xs) [] x h i = absurd h
+    partner R (a ∷ xs) (b ∷ ys) x h (inl e) = (b, subst (λ z. R z b) (sym e) h.0)
+    partner R (a ∷ xs) (b ∷ ys) x h (inr i) = partner R xs ys x h.1 i
+
+    pub leaves : Leaves
+    leaves =
+        let made = (itself 0).twins.made in
+        let names : ended.1.names ≡ m.names = ap (λ (z : Result Flow Stop × Machine). z.1.names) is in
+        let created : ended.1.created ≡ m.created = ap (λ (z : Result Flow Stop × Machine). z.1.created) is in
+        record {
+          placed = subst (λ (n : NameSupply). AllByRecursion (λ (x : Oref). (x.repo == 255) ≡ false) n.waiting) names made.stock.placed;
+          once = subst (λ (n : NameSupply). IsDistinct same_oref n.waiting) names made.stock.once;
+          still = λ x i. in_list x (made.still x (inl (subst (λ (n : NameSupply). In n.waiting x) (sym names) i)));
+          untaken = λ x i j.
+              let y = partner _ ended.1.created ended.1.created x made.created (subst (λ xs. In xs x) (sym created) i) in
+              made.apart x y.0 y.1 (inl (subst (λ (n : NameSupply). In n.waiting x) (sym names) j));
+        }
 
     -- the same once more, with just the names that were created
     abbrev again : Result Flow Stop × Machine

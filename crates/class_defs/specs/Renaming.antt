@@ -43,11 +43,10 @@ pub record Takeable (fresh : Oref → Bool) (names : List Oref) : Type 0 where
 abbrev pub among : List Oref → Oref → Bool
 among names x = x.repo == 255 || is_some (find (same_oref x) names)
 
--- Names that a client has at hand: they lie in this repository, each is there once, none has an object, and nothing
--- refers to one.
-pub record AtHand (repo : ℕ) (names : List Oref) (w : World) : Type 0 where
-  pub real : (repo == 255) ≡ false
-  pub placed : AllByRecursion (λ (x : Oref). x.repo ≡ repo) names
+-- Names that a client has at hand: each is there once, none lies where the stand-in names lie, none has an object, and
+-- nothing refers to one.
+pub record AtHand (names : List Oref) (w : World) : Type 0 where
+  pub placed : AllByRecursion (λ (x : Oref). (x.repo == 255) ≡ false) names
   pub once : IsDistinct same_oref names
   pub free : AllByRecursion (λ x. w.at_hand x ≡ None) names
   pub unused : Unused (among names) w

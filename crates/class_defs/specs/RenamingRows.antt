@@ -13,5 +13,8 @@ oref_at repo page slot = record { repo = repo; page = page; slot = slot }
 
 -- the root, a box whose number is 5 and whose part is this one
 abbrev pub one_box : Value → World
-one_box part =
-    world_of sample (record { objects = insert empty (oref_at 0 0 0) (record { class = 0; fields = value.Int (pos 5) ∷ part ∷ [] }); epoch = 0; roots = [] })
+one_box part = world_of sample (record {
+  objects = insert empty (oref_at 0 0 0) (record { class = 0; fields = value.Int (pos 5) ∷ part ∷ [] });
+  epoch = 0;
+  roots = [];
+})

@@ -112,22 +112,22 @@ pub fn runs_leave_names_unused()
         → still_fresh x ≡ true → get r.store.objects x ≡ get store.objects x }
 {}
 
-/// A client has names at hand that lie in one repository, with no objects and nothing that refers to them. Where a run is defined
-/// without names, they are such names behind it. Where it isn't, and not for want of an object, the client
-/// evaluates the transaction with them: it wants more names, or it has found names for which the run is
-/// defined, with the printed values as its answer, and the names that still wait are such names behind it.
+/// A client has names at hand without objects, to which nothing refers. Where a run is defined without names,
+/// they are such names behind it. Where it isn't, and not for want of an object, the client evaluates the
+/// transaction with them: it wants more names, or it has found names for which the run is defined, with the
+/// printed values as its answer, and the names that still wait are such names behind it.
 pub fn names_at_hand_last()
-    ensures without { (schema : Schema) → (tx : List Stmt) → (store : Plain) → (repo : ℕ)
+    ensures without { (schema : Schema) → (tx : List Stmt) → (store : Plain)
         → (at_hand : List Oref) → (r : Ran)
-        → AtHand repo at_hand (world_of schema store)
+        → AtHand at_hand (world_of schema store)
         → run schema tx store [] ≡ Some r
-        → AtHand repo at_hand (world_of schema r.store) }
-    ensures created { (schema : Schema) → (tx : List Stmt) → (store : Plain) → (repo : ℕ)
+        → AtHand at_hand (world_of schema r.store) }
+    ensures created { (schema : Schema) → (tx : List Stmt) → (store : Plain)
         → (at_hand : List Oref) → (outcome : Result Flow Stop) → (m : Machine)
-        → AtHand repo at_hand (world_of schema store)
+        → AtHand at_hand (world_of schema store)
         → run schema tx store [] ≡ None
         → HadObjects (execute_all (world_of schema store) tx (begun [] (Some 0))).0
         → execute_all (world_of schema store) tx (begun at_hand None) ≡ (outcome, m) → HadNames outcome
         → IsSomeAnd (run schema tx store m.created)
-            (λ r. (r.answer ≡ answer.Ints m.printed) × AtHand repo m.names.waiting (world_of schema r.store)) }
+            (λ r. (r.answer ≡ answer.Ints m.printed) × AtHand m.names.waiting (world_of schema r.store)) }
 {}

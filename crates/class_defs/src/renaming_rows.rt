@@ -7,14 +7,14 @@ ghost use Rattle.thor_value.specs.declared.values.Value.TheVariants as value;
 
 /// The root of the store is 0.0.0.
 fn names_at_hand()
-    ensures two_new_names { AtHand 0 (oref_at 0 1 0 ∷ oref_at 0 1 1 ∷ []) (one_box value.Null) }
-    ensures beside_a_part { AtHand 0 (oref_at 0 1 1 ∷ []) (one_box (value.Ref (oref_at 0 1 0))) }
-    ensures no_names { AtHand 0 [] (one_box value.Null) }
-    ensures a_name_twice { ¬ AtHand 0 (oref_at 0 1 0 ∷ oref_at 0 1 0 ∷ []) (one_box value.Null) }
-    ensures another_repository { ¬ AtHand 0 (oref_at 1 1 0 ∷ []) (one_box value.Null) }
-    ensures the_root { ¬ AtHand 0 (oref_at 0 0 0 ∷ []) (one_box value.Null) }
-    ensures its_part { ¬ AtHand 0 (oref_at 0 1 0 ∷ []) (one_box (value.Ref (oref_at 0 1 0))) }
-    ensures where_the_stand_in_names_lie { ¬ AtHand 255 [] (one_box value.Null) }
+    ensures two_new_names { AtHand (oref_at 0 1 0 ∷ oref_at 0 1 1 ∷ []) (one_box value.Null) }
+    ensures beside_a_part { AtHand (oref_at 0 1 1 ∷ []) (one_box (value.Ref (oref_at 0 1 0))) }
+    ensures no_names { AtHand [] (one_box value.Null) }
+    ensures a_name_twice { ¬ AtHand (oref_at 0 1 0 ∷ oref_at 0 1 0 ∷ []) (one_box value.Null) }
+    ensures the_root { ¬ AtHand (oref_at 0 0 0 ∷ []) (one_box value.Null) }
+    ensures its_part { ¬ AtHand (oref_at 0 1 0 ∷ []) (one_box (value.Ref (oref_at 0 1 0))) }
+    ensures in_two_repositories { AtHand (oref_at 0 1 0 ∷ oref_at 1 1 0 ∷ []) (one_box value.Null) }
+    ensures a_stand_in_name { ¬ AtHand (oref_at 255 0 0 ∷ []) (one_box value.Null) }
 {}
 
 /// The one run created 0.1.0 and 0.1.1, the other 0.7.7 and 0.1.0.

@@ -21,26 +21,34 @@ unused : (part : Value) (names : List Oref) → among names (oref_at 0 0 0) ≡ 
 unused part names root old = record {
   stand_ins = λ k. refl;
   roots = (root, tt);
-  objects = λ x o e. subst (λ (p : Object). AllByRecursion (IsOld (among names)) p.fields) (one_object (same_oref x (oref_at 0 0 0)) part o e) (tt, (old, tt));
+  objects = λ x o e. subst (λ (p : Object). AllByRecursion (IsOld (among names)) p.fields) (one_object (same_oref x (oref_at 0 0 0)) part o e)
+      (tt, (old, tt));
 }
 
-two : AtHand 0 (oref_at 0 1 0 ∷ oref_at 0 1 1 ∷ []) (one_box value.Null)
+two : AtHand (oref_at 0 1 0 ∷ oref_at 0 1 1 ∷ []) (one_box value.Null)
 unfolding IsDistinct
-two = record { real = refl; placed = (refl, (refl, tt)); once = ((refl, tt), (tt, tt)); free = (refl, (refl, tt)); unused = unused value.Null (oref_at 0 1 0 ∷ oref_at 0 1 1 ∷ []) refl tt }
+two = record { placed = (refl, (refl, tt)); once = ((refl, tt), (tt, tt)); free = (refl, (refl, tt));
+    unused = unused value.Null (oref_at 0 1 0 ∷ oref_at 0 1 1 ∷ []) refl tt }
 
-beside : AtHand 0 (oref_at 0 1 1 ∷ []) (one_box (value.Ref (oref_at 0 1 0)))
+spread : AtHand (oref_at 0 1 0 ∷ oref_at 1 1 0 ∷ []) (one_box value.Null)
 unfolding IsDistinct
-beside = record { real = refl; placed = (refl, tt); once = (tt, tt); free = (refl, tt); unused = unused (value.Ref (oref_at 0 1 0)) (oref_at 0 1 1 ∷ []) refl refl }
+spread = record { placed = (refl, (refl, tt)); once = ((refl, tt), (tt, tt)); free = (refl, (refl, tt));
+    unused = unused value.Null (oref_at 0 1 0 ∷ oref_at 1 1 0 ∷ []) refl tt }
 
-without : AtHand 0 [] (one_box value.Null)
+beside : AtHand (oref_at 0 1 1 ∷ []) (one_box (value.Ref (oref_at 0 1 0)))
 unfolding IsDistinct
-without = record { real = refl; placed = tt; once = tt; free = tt; unused = unused value.Null [] refl tt }
+beside = record { placed = (refl, tt); once = (tt, tt); free = (refl, tt);
+    unused = unused (value.Ref (oref_at 0 1 0)) (oref_at 0 1 1 ∷ []) refl refl }
 
-twice : ¬ (AtHand 0 (oref_at 0 1 0 ∷ oref_at 0 1 0 ∷ []) (one_box value.Null))
+without : AtHand [] (one_box value.Null)
+unfolding IsDistinct
+without = record { placed = tt; once = tt; free = tt; unused = unused value.Null [] refl tt }
+
+twice : ¬ (AtHand (oref_at 0 1 0 ∷ oref_at 0 1 0 ∷ []) (one_box value.Null))
 unfolding IsDistinct
 twice h = let e = h.once.0.0 in cc
 
-part_there : ¬ (AtHand 0 (oref_at 0 1 0 ∷ []) (one_box (value.Ref (oref_at 0 1 0))))
+part_there : ¬ (AtHand (oref_at 0 1 0 ∷ []) (one_box (value.Ref (oref_at 0 1 0))))
 part_there h = let e = (h.unused.objects (oref_at 0 0 0) (box (value.Ref (oref_at 0 1 0))) refl).1.0 in cc
 
 pub returns : goal.returns
@@ -49,8 +57,8 @@ returns c = record {
   beside_a_part = beside;
   no_names = without;
   a_name_twice = twice;
-  another_repository = λ h. let e = h.placed.0 in cc;
   the_root = λ h. let e = h.unused.roots.0 in cc;
   its_part = part_there;
-  where_the_stand_in_names_lie = λ h. let e = h.real in cc;
+  in_two_repositories = spread;
+  a_stand_in_name = λ h. let e = h.placed.0 in cc;
 }
