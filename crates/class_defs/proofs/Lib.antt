@@ -22,6 +22,16 @@ pub mod Moving
 pub mod OfItsClass
 pub mod Owned
 pub mod OwnedMaps
+pub mod Renamed
+pub mod RenamedAfter
+pub mod RenamedAtHand
+pub mod RenamedCalls
+pub mod RenamedEnds
+pub mod RenamedMachines
+pub mod RenamedObjects
+pub mod RenamedRun
+pub mod RenamedStores
+pub mod RenamedSupply
 pub mod RuleForms
 pub mod RunOutcomes
 pub mod Shrinking

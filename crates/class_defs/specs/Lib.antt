@@ -12,6 +12,8 @@ pub mod Levels
 pub mod Objects
 pub mod Ownership
 pub mod Printed
+pub mod Renaming
+pub mod RenamingRows
 pub mod RuleRows
 pub mod Rules
 pub mod Run

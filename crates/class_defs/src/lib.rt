@@ -14,6 +14,8 @@ mod look;
 mod machine;
 mod ownership_laws;
 mod places;
+mod renaming_laws;
+mod renaming_rows;
 mod rule_rows;
 mod rules;
 mod run_laws;
@@ -44,6 +46,10 @@ pub use ownership_laws::{
     upgrades_stay_owned,
 };
 pub use places::Place;
+pub use renaming_laws::{
+    answers_hang_on_no_names, names_at_hand_last, runs_are_defined_for_names_at_hand,
+    runs_differ_in_names_alone, runs_leave_names_unused, runs_take_the_names_that_they_need,
+};
 pub use rules::{NamedType, NamedTypes, Position, Rule, TypeFault};
 pub use run_laws::{
     fault_leaves_the_store, run_changes_what_it_wrote, runs_depend_on_what_they_touch,
