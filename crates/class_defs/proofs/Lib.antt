@@ -30,4 +30,5 @@ pub mod TfForms
 pub mod TouchedStores
 pub mod TwiceKeeps
 pub mod Unseen
+pub mod UpgradeForms
 pub mod Values

@@ -1,3 +1,4 @@
+pub mod Applied
 pub mod Calls
 pub mod Eager
 pub mod Epochs
@@ -24,6 +25,9 @@ pub mod Stored
 pub mod Strict
 pub mod Touched
 pub mod Types
+pub mod UpgradeOrder
+pub mod UpgradeRows
+pub mod UpgradeRules
 pub mod Upgrades
 pub mod WellOwned
 pub mod Words

@@ -12,6 +12,7 @@ mod lazy_laws;
 mod limits;
 mod look;
 mod machine;
+mod own_rules;
 mod ownership_laws;
 mod places;
 mod rule_rows;
@@ -20,6 +21,7 @@ mod run_laws;
 mod statements;
 mod store;
 mod types;
+mod upgrade_rows;
 mod upgrades;
 
 pub use checked::Checked;
@@ -39,6 +41,7 @@ pub use lazy_laws::{
 pub use limits::{CREATE_LIMIT, DEPTH_LIMIT, READ_LIMIT, STEP_LIMIT};
 pub use look::{class_named, field_named, field_of, method_of};
 pub use machine::{Flow, Local, Locals, Machine, NameSupply, Receiver, Stop};
+pub use own_rules::{BrokenRule, OwnFault, OwnRule};
 pub use ownership_laws::{
     eager_stays_owned, owners_are_alone, references_shrink, transforms_stay_owned,
     upgrades_stay_owned,
