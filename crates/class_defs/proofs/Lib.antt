@@ -23,6 +23,7 @@ pub mod OfItsClass
 pub mod Owned
 pub mod OwnedMaps
 pub mod RuleForms
+pub mod RunForms
 pub mod RunOutcomes
 pub mod Shrinking
 pub mod StrictTells

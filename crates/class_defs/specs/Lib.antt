@@ -15,6 +15,7 @@ pub mod Ownership
 pub mod RuleRows
 pub mod Rules
 pub mod Run
+pub mod RunRows
 pub mod SchemaRules
 pub mod Shape
 pub mod Spelling

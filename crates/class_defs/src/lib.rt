@@ -18,6 +18,7 @@ mod places;
 mod rule_rows;
 mod rules;
 mod run_laws;
+mod run_rows;
 mod statements;
 mod store;
 mod types;
