@@ -22,6 +22,7 @@ mod run_rows;
 mod statements;
 mod store;
 mod types;
+mod upgrade_laws;
 mod upgrade_rows;
 mod upgrades;
 
@@ -58,4 +59,5 @@ pub use store::{
     Schemas, Setup, UpgradedSchema, UpgradedSchemas,
 };
 pub use types::ExprType;
+pub use upgrade_laws::{nothing_due, upgrades_leave_other_classes};
 pub use upgrades::{ClassUpgrade, ClassUpgrades, FieldUpgrade, FieldUpgrades, Names, Tf, Upgrade};
