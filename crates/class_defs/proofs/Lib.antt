@@ -33,6 +33,7 @@ pub mod RenamedRun
 pub mod RenamedStores
 pub mod RenamedSupply
 pub mod RuleForms
+pub mod RunForms
 pub mod RunOutcomes
 pub mod Shrinking
 pub mod StrictTells
@@ -40,4 +41,5 @@ pub mod TfForms
 pub mod TouchedStores
 pub mod TwiceKeeps
 pub mod Unseen
+pub mod UpgradeForms
 pub mod Values

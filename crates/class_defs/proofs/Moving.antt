@@ -21,7 +21,7 @@ use Rattle.class_defs.specs.declared.store.Plain.{Plain}
 use Rattle.class_defs.specs.declared.store.Schemas.{Schemas}
 use Rattle.class_defs.specs.declared.upgrades.Upgrade.{Upgrade}
 
-keys-each : {X Y : Type 0} (f : X → Y) (es : List (Oref × X)) → keys_of (map (λ p. (p.0, f p.1)) es) ≡ keys_of es
+pub keys-each : {X Y : Type 0} (f : X → Y) (es : List (Oref × X)) → keys_of (map (λ p. (p.0, f p.1)) es) ≡ keys_of es
 keys-each f [] = refl
 keys-each f (e ∷ es) = ap (λ ks. e.0 ∷ ks) (keys-each f es)
 

@@ -1,3 +1,4 @@
+pub mod Applied
 pub mod Calls
 pub mod Eager
 pub mod Epochs
@@ -17,6 +18,7 @@ pub mod RenamingRows
 pub mod RuleRows
 pub mod Rules
 pub mod Run
+pub mod RunRows
 pub mod SchemaRules
 pub mod Shape
 pub mod Spelling
@@ -27,6 +29,9 @@ pub mod Stored
 pub mod Strict
 pub mod Touched
 pub mod Types
+pub mod UpgradeOrder
+pub mod UpgradeRows
+pub mod UpgradeRules
 pub mod Upgrades
 pub mod WellOwned
 pub mod Words

@@ -12,6 +12,7 @@ mod lazy_laws;
 mod limits;
 mod look;
 mod machine;
+mod own_rules;
 mod ownership_laws;
 mod places;
 mod renaming_laws;
@@ -19,9 +20,12 @@ mod renaming_rows;
 mod rule_rows;
 mod rules;
 mod run_laws;
+mod run_rows;
 mod statements;
 mod store;
 mod types;
+mod upgrade_laws;
+mod upgrade_rows;
 mod upgrades;
 
 pub use checked::Checked;
@@ -41,6 +45,7 @@ pub use lazy_laws::{
 pub use limits::{CREATE_LIMIT, DEPTH_LIMIT, READ_LIMIT, STEP_LIMIT};
 pub use look::{class_named, field_named, field_of, method_of};
 pub use machine::{Flow, Local, Locals, Machine, NameSupply, Receiver, Stop};
+pub use own_rules::{BrokenRule, OwnFault, OwnRule};
 pub use ownership_laws::{
     eager_stays_owned, owners_are_alone, references_shrink, transforms_stay_owned,
     upgrades_stay_owned,
@@ -60,4 +65,5 @@ pub use store::{
     Schemas, Setup, UpgradedSchema, UpgradedSchemas,
 };
 pub use types::ExprType;
+pub use upgrade_laws::{nothing_due, upgrades_leave_other_classes};
 pub use upgrades::{ClassUpgrade, ClassUpgrades, FieldUpgrade, FieldUpgrades, Names, Tf, Upgrade};
