@@ -1,1 +1,2 @@
+pub mod TakenNames
 pub mod WholeStore

@@ -1,4 +1,5 @@
 pub mod History
 pub mod Outcomes
 pub mod Replaying
+pub mod Taking
 pub mod Whole

@@ -2,11 +2,15 @@
 #![tactic(auto)]
 
 mod entries;
+mod equality;
 mod fresh;
 mod outcomes;
 mod running;
+mod same_trees;
+mod taking;
 
 pub use entries::{Did, Dids, What};
 pub use fresh::are_fresh;
 pub use outcomes::{Cause, Ended, Ends, ItemOutcome};
 pub use running::run_on;
+pub use taking::names_taken;

@@ -1,0 +1,31 @@
+-- An evaluation over a view of a whole store takes the names that the run on the store takes.
+use Rattle.std.proofs.Common.{◌≡◌, ℕ, List, Option, None, Result, Ok, Err, subst, refl}
+use Rattle.thor_value.specs.FiniteMap.{get}
+use Rattle.thor_value.specs.declared.names.Oref.{Oref}
+use Rattle.class_defs.specs.Run.{begun, execute_all}
+use Rattle.class_defs.specs.Steps.{World}
+use Rattle.class_defs.specs.declared.machine.Flow.{Flow}
+use Rattle.class_defs.specs.declared.machine.Machine.{Machine}
+use Rattle.class_defs.specs.declared.machine.Stop.{Stop}
+use Rattle.class_defs.specs.declared.machine.Stop.TheVariants as stop
+use Rattle.class_defs.specs.declared.statements.Stmt.{Stmt}
+use Rattle.class_defs.specs.declared.store.Root.{Root}
+use Rattle.class_defs.specs.declared.store.Schema.{Schema}
+use Rattle.method_eval.specs.Answers.{ran_at, evaluation}
+use Rattle.method_eval.specs.Viewed.{current}
+use Rattle.method_eval.specs.declared.view.View.{View}
+use Rattle.serial_model.specs.Taking.{created_by, created_in, names_taken}
+use Rattle.serial_model.specs.Whole.{plain, IsFirst}
+use Rattle.serial_model.proofs.WholeStore.{same_world}
+
+created_same : (epoch : ℕ) (r : Result Flow Stop) (m : Machine) → created_in (ran_at epoch r m) ≡ created_by r m
+created_same epoch (Ok flow) m = refl
+created_same epoch (Err (stop.Fault f)) m = refl
+created_same epoch (Err (stop.Need x owners)) m = refl
+created_same epoch (Err (stop.NeedName repo)) m = refl
+
+pub evaluation_takes : (schema : Schema) → IsFirst schema → (tx : List Stmt) (names : List Oref) (roots : List Root) (view : View) → view.names ≡ record { waiting = names; stand_in = None } → created_in (evaluation tx schema view) ≡ names_taken schema tx (plain roots view) names
+unfolding evaluation names_taken
+evaluation_takes schema first tx names roots view given =
+    let P : World → Type 0 = λ w. created_in (let r = execute_all (record { schema = schema; at_hand = λ x. current schema (get view.objects x) }) tx (begun names None) in ran_at view.epoch r.0 r.1) ≡ (let r = execute_all w tx (begun names None) in created_by r.0 r.1) in
+    rw given (subst P (same_world schema first view.objects) (created_same view.epoch _ _))
