@@ -1,2 +1,3 @@
+pub mod SortedMaps
 pub mod TakenNames
 pub mod WholeStore

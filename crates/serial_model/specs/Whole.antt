@@ -1,5 +1,5 @@
 -- A whole store as a view has it: its objects, each with the epoch at which it was written.
-use Rattle.std.specs.Prelude.{◌≡◌, ℕ, List, map}
+use Rattle.std.specs.Prelude.{◌≡◌, ℕ, List, [], ◌∷◌, map, Option, Some, None}
 use Rattle.thor_value.specs.FiniteMap.{Map}
 use Rattle.thor_value.specs.Names.{oref_cmp}
 use Rattle.thor_value.specs.declared.values.Obj.{Obj}
@@ -24,3 +24,8 @@ plain roots view = record { objects = bare_objects view.objects; epoch = view.ep
 -- no upgrade names a class, so that no object is due
 abbrev pub IsFirst : Schema → Type 0
 IsFirst schema = (c : ℕ) → last_upgrade schema c ≡ 0
+
+-- a key with the value that was found at it
+abbrev pub found : {K X : Type 0} → K → Option X → List (K × X)
+found k (Some x) = (k, x) ∷ []
+found k None = []

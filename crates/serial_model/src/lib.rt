@@ -3,11 +3,13 @@
 
 mod entries;
 mod equality;
+mod field_values;
 mod fresh;
 mod outcomes;
 mod running;
 mod same_trees;
 mod taking;
+mod whole_maps;
 
 pub use entries::{Did, Dids, What};
 pub use fresh::are_fresh;
