@@ -1,5 +1,5 @@
 -- Maps from keys in order, made of their pairs and looked up key by key.
-use Rattle.std.proofs.Common.{◌≡◌, ℕ, ◌+◌, ◌<◌, ◌≤◌, length, take, get_or, Bool, true, false, cond, List, [], ◌∷◌, ◌++◌, refl, ap, sym, ◌∙◌, subst, Option, Some, None, append_assoc}
+use Rattle.std.proofs.Common.{◌≡◌, ℕ, ◌+◌, ◌<◌, ◌≤◌, length, map, take, get_or, Bool, true, false, cond, List, [], ◌∷◌, ◌++◌, refl, ap, sym, ◌∙◌, subst, Option, Some, None, append_assoc}
 use Rattle.std.proofs.lemmas.Cmp.{tied_itself}
 use Rattle.std.proofs.lemmas.List.{take_all, take_more, flat_map_more}
 use Rattle.std.specs.BTreeMap.{insert_entry, is_at}
@@ -16,6 +16,15 @@ use Rattle.serial_model.specs.Whole.{found}
 module _ {K : Type 0} {R : K → K → Ordering} (o : IsTotalOrder R) where
   turned : (x y : K) → R x y ≡ Less → R y x ≡ Greater
   turned x y h = o.antisymm y x ∙ ap ordering_reverse h
+
+-- the keys stay where values change
+pub keys_kept : {K X Y : Type 0} (f : K × X → Y) (es : List (K × X)) → keys_of (map (λ p. (p.0, f p)) es) ≡ keys_of es
+keys_kept f [] = refl
+keys_kept {K = K} f (e ∷ es) = ap (λ (ks : List K). e.0 ∷ ks) (keys_kept f es)
+
+-- and so does their order
+pub order_kept : {K X Y : Type 0} (R : K → K → Ordering) (f : K × X → Y) (es : List (K × X)) (fs : List (K × Y)) → fs ≡ map (λ p. (p.0, f p)) es → IsStrictlySortedBy R (keys_of es) → IsStrictlySortedBy R (keys_of fs)
+order_kept R f es fs is sorted = subst (IsStrictlySortedBy R) (sym (ap keys_of is ∙ keys_kept f es)) sorted
 
 nothing_below : {K : Type 0} (ks : List K) → AllByRecursion (λ k. Unit {0}) ks
 nothing_below [] = tt

@@ -1,5 +1,6 @@
 -- A whole store as a view has it: its objects, each with the epoch at which it was written.
-use Rattle.std.specs.Prelude.{◌≡◌, ℕ, List, [], ◌∷◌, map, Option, Some, None}
+use Rattle.std.specs.Prelude.{◌≡◌, ◌≤◌, ℕ, List, [], ◌∷◌, map, Option, Some, None}
+use Rattle.std.specs.List.{AllByRecursion}
 use Rattle.thor_value.specs.FiniteMap.{Map}
 use Rattle.thor_value.specs.Names.{oref_cmp}
 use Rattle.thor_value.specs.declared.values.Obj.{Obj}
@@ -20,6 +21,14 @@ bare_objects m = record { pairs = map (λ p. (p.0, bare p.1)) m.pairs }
 -- the store whose objects a view has at hand, all of them
 abbrev pub plain : List Root → View → Plain
 plain roots view = record { objects = bare_objects view.objects; epoch = view.epoch; roots = roots }
+
+-- no object that a view has at hand is due
+abbrev pub NoneDue : Schema → View → Type 0
+NoneDue schema view = AllByRecursion (λ p. last_upgrade schema p.1.class ≤ p.1.ver) view.objects.pairs
+
+-- each object of a view was written at the view's epoch
+abbrev pub IsOfItsEpoch : View → Type 0
+IsOfItsEpoch view = AllByRecursion (λ p. p.1.ver ≡ view.epoch) view.objects.pairs
 
 -- no upgrade names a class, so that no object is due
 abbrev pub IsFirst : Schema → Type 0

@@ -9,10 +9,12 @@ mod outcomes;
 mod running;
 mod same_trees;
 mod taking;
+mod upgrading;
 mod whole_maps;
 
 pub use entries::{Did, Dids, What};
 pub use fresh::are_fresh;
 pub use outcomes::{Cause, Ended, Ends, ItemOutcome};
-pub use running::run_on;
+pub use running::{run_on, run_on_current};
 pub use taking::names_taken;
+pub use upgrading::upgrade_store;

@@ -5,7 +5,7 @@ ghost use Rattle.thor_value.specs.Names.{same_oref};
 ghost use Rattle.class_defs.specs.Run.{takes};
 ghost use Rattle.class_defs.specs.declared.store.Root.{Root};
 ghost use Rattle.serial_model.specs.Replaying.{RanOn, Settles};
-ghost use Rattle.serial_model.specs.Whole.{IsFirst};
+ghost use Rattle.serial_model.specs.Whole.{IsFirst, IsOfItsEpoch, NoneDue};
 
 use crate::whole_maps::overwrite;
 use class_defs::{Block, NameSupply, Schema};
@@ -80,6 +80,23 @@ pub fn run_on(
     requires first { IsFirst schema.now }
     ensures ran { IfOk result (λ answer. (roots : List Root) → RanOn schema.now tx.now names.now roots view.old answer view.new) }
     ensures epoch { OnOk result (view.new.epoch ≡ view.old.epoch) }
+{
+    run_on_current(alloc, tx, schema, view, names)
+}
+
+/// The same on a store of which no object is due.
+pub fn run_on_current(
+    alloc: Global,
+    tx: &Block,
+    schema: &Schema,
+    view: &mut View,
+    names: &Orefs,
+) -> Result<Option<Answer>, NoMemory>
+    requires few { length schema.now.classes ≤ 65536 }
+    requires current { NoneDue schema.now view.old }
+    ensures ran { IfOk result (λ answer. (roots : List Root) → RanOn schema.now tx.now names.now roots view.old answer view.new) }
+    ensures epoch { OnOk result (view.new.epoch ≡ view.old.epoch) }
+    ensures versions { IsOfItsEpoch view.old → OnOk result (IsOfItsEpoch view.new) }
 {
     view.names = NameSupply {
         waiting: names.copy()?,
