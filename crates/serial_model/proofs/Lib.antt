@@ -1,3 +1,5 @@
+pub mod Applied
 pub mod SortedMaps
 pub mod TakenNames
+pub mod Viewed
 pub mod WholeStore

@@ -1,6 +1,7 @@
 pub mod History
 pub mod Outcomes
 pub mod Replaying
+pub mod Replays
 pub mod Taking
 pub mod Upgrading
 pub mod Whole

@@ -3,6 +3,7 @@ use Rattle.std.specs.Prelude.{◌≡◌, ◌≤◌, ℕ, List, [], ◌∷◌, ma
 use Rattle.std.specs.List.{AllByRecursion}
 use Rattle.thor_value.specs.FiniteMap.{Map}
 use Rattle.thor_value.specs.Names.{oref_cmp}
+use Rattle.thor_value.specs.declared.names.Oref.{Oref}
 use Rattle.thor_value.specs.declared.values.Obj.{Obj}
 use Rattle.class_defs.specs.declared.store.Object.{Object}
 use Rattle.class_defs.specs.declared.store.Plain.{Plain}
@@ -15,8 +16,11 @@ use Rattle.method_eval.specs.declared.view.View.{View}
 abbrev pub bare : Obj → Object
 bare o = record { class = o.class; fields = o.fields }
 
+abbrev pub bare_pair : Oref × Obj → Oref × Object
+bare_pair p = (p.0, bare p.1)
+
 abbrev pub bare_objects : Map oref_cmp Obj → Map oref_cmp Object
-bare_objects m = record { pairs = map (λ p. (p.0, bare p.1)) m.pairs }
+bare_objects m = record { pairs = map bare_pair m.pairs }
 
 -- the store whose objects a view has at hand, all of them
 abbrev pub plain : List Root → View → Plain
