@@ -1,4 +1,5 @@
 pub mod Applied
+pub mod Replayed
 pub mod SortedMaps
 pub mod TakenNames
 pub mod Viewed
