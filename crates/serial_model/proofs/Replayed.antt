@@ -18,23 +18,19 @@ use Rattle.class_defs.specs.declared.machine.Stop.TheVariants as stop
 use Rattle.class_defs.specs.declared.store.Object.{Object}
 use Rattle.class_defs.specs.declared.store.Plain.{Plain}
 use Rattle.class_defs.specs.declared.store.Root.{Root}
+use Rattle.class_defs.specs.declared.store.Schema.{Schema}
 use Rattle.class_defs.specs.declared.store.Schemas.{Schemas}
+use Rattle.method_eval.specs.Viewed.{last_upgrade}
 use Rattle.method_eval.specs.declared.view.View.{View}
 use Rattle.serial_model.specs.History.{schema_of, after, after_doing, after_entry, AreLegal, IsLegal, IsLegalEntry, Rise}
-use Rattle.serial_model.specs.Replays.{AppliesDoing, IsAbove, IsFirstNotLegal}
-use Rattle.serial_model.specs.Whole.{bare_objects, plain, IsOfItsEpoch}
+use Rattle.serial_model.specs.Replays.{AppliesDoing, AreMade, IsAbove, IsFirstNotLegal, last_ts}
+use Rattle.serial_model.specs.Whole.{bare_objects, plain, IsFirst, IsOfItsEpoch}
 use Rattle.serial_model.specs.declared.entries.Did.{Did}
 use Rattle.serial_model.specs.declared.entries.What.{What}
 use Rattle.serial_model.specs.declared.entries.What.TheVariants.{Tx, Upgrade as UpgradeItem}
 use Rattle.serial_model.proofs.SortedMaps.{order_kept}
 
 -- ---- one entry more
-
--- the timestamp of the last entry
-abbrev pub last_ts : List Did → Option Ts
-last_ts [] = None
-last_ts (d ∷ []) = Some d.ts
-last_ts (d ∷ e ∷ ds) = last_ts (e ∷ ds)
 
 last_more : (ds : List Did) (d : Did) → last_ts (ds ++ d ∷ []) ≡ Some d.ts
 last_more [] d = refl
@@ -46,7 +42,7 @@ rise_more [] d h above = tt
 rise_more (x ∷ []) d h above = (above, tt)
 rise_more (x ∷ y ∷ ds) d h above = (h.0, rise_more (y ∷ ds) d h.1 above)
 
-rise_back : (ds : List Did) (d : Did) → Rise (ds ++ d ∷ []) → IsAbove (last_ts ds) d.ts
+pub rise_back : (ds : List Did) (d : Did) → Rise (ds ++ d ∷ []) → IsAbove (last_ts ds) d.ts
 rise_back [] d h = tt
 rise_back (x ∷ []) d h = h.0
 rise_back (x ∷ y ∷ ds) d h = rise_back (y ∷ ds) d h.1
@@ -59,7 +55,7 @@ rise_front (suc (suc n)) (x ∷ []) h = tt
 rise_front (suc (suc n)) (x ∷ y ∷ ds) h = (h.0, rise_front (suc n) (y ∷ ds) h.1)
 
 module _ (s : Schemas) where
-  after_more : (ds : List Did) (d : Did) (store : Plain) → after s (ds ++ d ∷ []) store ≡ after_entry s (after s ds store) d
+  pub after_more : (ds : List Did) (d : Did) (store : Plain) → after s (ds ++ d ∷ []) store ≡ after_entry s (after s ds store) d
   after_more [] d store = refl
   after_more (x ∷ ds) d store = after_more ds d (after_entry s store x)
 
@@ -67,7 +63,7 @@ module _ (s : Schemas) where
   legal_more [] d store h is = (is, tt)
   legal_more (x ∷ ds) d store h is = (h.0, legal_more ds d (after_entry s store x) h.1 is)
 
-  legal_back : (ds : List Did) (d : Did) (store : Plain) → AreLegal s (ds ++ d ∷ []) store → IsLegalEntry s (after s ds store) d
+  pub legal_back : (ds : List Did) (d : Did) (store : Plain) → AreLegal s (ds ++ d ∷ []) store → IsLegalEntry s (after s ds store) d
   legal_back [] d store h = h.0
   legal_back (x ∷ ds) d store h = legal_back ds d (after_entry s store x) h.1
 
@@ -76,8 +72,23 @@ module _ (s : Schemas) where
   legal_front (suc n) [] store h = tt
   legal_front (suc n) (x ∷ ds) store h = (h.0, legal_front n ds (after_entry s store x) h.1)
 
-  front_legal : (n : ℕ) (ds : List Did) (store : Plain) → IsLegal s ds store → IsLegal s (take n ds) store
+  pub front_legal : (n : ℕ) (ds : List Did) (store : Plain) → IsLegal s ds store → IsLegal s (take n ds) store
   front_legal n ds store h = record { rising = rise_front n ds h.rising; each = legal_front n ds store h.each }
+
+  -- a legal history goes on
+  pub goes_on : (ds : List Did) (d : Did) (store : Plain) → IsLegal s ds store → IsAbove (last_ts ds) d.ts → IsLegalEntry s (after s ds store) d → IsLegal s (ds ++ d ∷ []) store
+  goes_on ds d store h above is = record { rising = rise_more ds d h.rising above; each = legal_more ds d store h.each is }
+
+  first_always : s.upgraded ≡ [] → (n : ℕ) → schema_of s n ≡ s.first
+  first_always none zero = refl
+  first_always none (suc n) = rw none refl
+
+  -- schemas without upgrades
+  pub first_made : length s.first.classes ≤ 65536 → IsFirst s.first → s.upgraded ≡ [] → AreMade s
+  first_made few first none = record {
+    few = λ n. subst (λ (k : Schema). length k.classes ≤ 65536) (sym (first_always none n)) few;
+    past = λ n c. subst (λ (k : Schema). last_upgrade k c ≤ n) (sym (first_always none n)) (let h = first c in omega arith);
+  }
 
 -- ---- the names stay in order
 
@@ -124,10 +135,7 @@ so_far_first s store view is versions = record { legal = record { rising = tt; e
 applied_next : (s : Schemas) (ds : List Did) (d : Did) (store : Plain) (old new : View) (last : Option Ts)
     → IsSoFar s ds store old last → IsAbove last d.ts → AppliesDoing s d d.what store.roots old true new → IsSoFar s (ds ++ d ∷ []) store new (Some d.ts)
 applied_next s ds d store old new last h above applied = record {
-  legal = record {
-    rising = rise_more ds d h.legal.rising (subst (λ (o : Option Ts). IsAbove o d.ts) h.newest above);
-    each = legal_more s ds d store h.legal.each (subst (λ (p : Plain). IsLegalEntry s p d) h.behind applied.0);
-  };
+  legal = goes_on s ds d store h.legal (subst (λ (o : Option Ts). IsAbove o d.ts) h.newest above) (subst (λ (p : Plain). IsLegalEntry s p d) h.behind applied.0);
   behind = applied.1 ∙ ap (λ (p : Plain). after_entry s p d) h.behind ∙ sym (after_more s ds d store);
   versions = applied.2;
   newest = sym (last_more ds d);

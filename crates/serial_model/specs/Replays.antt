@@ -27,6 +27,12 @@ abbrev pub IsAbove : Option Ts → Ts → Type 0
 IsAbove None ts = Unit {0}
 IsAbove (Some before) ts = Before before ts
 
+-- the timestamp of the last entry
+abbrev pub last_ts : List Did → Option Ts
+last_ts [] = None
+last_ts (d ∷ []) = Some d.ts
+last_ts (d ∷ e ∷ ds) = last_ts (e ∷ ds)
+
 -- An item was applied as an entry's: it is legal on the store of the old view, and the new view has the store behind
 -- it. Where it wasn't applied it isn't legal there.
 abbrev pub AppliesDoing : Schemas → Did → What → List Root → View → Bool → View → Type 0

@@ -7,6 +7,7 @@ mod equality;
 mod field_values;
 mod fresh;
 mod outcomes;
+mod replay_laws;
 mod replaying;
 mod running;
 mod same_trees;
@@ -18,6 +19,9 @@ mod whole_maps;
 pub use entries::{Did, Dids, What};
 pub use fresh::are_fresh;
 pub use outcomes::{Cause, Ended, Ends, ItemOutcome};
+pub use replay_laws::{
+    beginnings_are_legal, first_schemas_are_made, histories_go_on, histories_keep_names_in_order,
+};
 pub use replaying::{ReplayError, replay};
 pub use running::{run_on, run_on_current};
 pub use taking::names_taken;
