@@ -2,5 +2,6 @@ pub mod Applied
 pub mod Replayed
 pub mod SortedMaps
 pub mod TakenNames
+pub mod TfForms
 pub mod Viewed
 pub mod WholeStore

@@ -8,6 +8,7 @@ mod field_values;
 mod fresh;
 mod outcomes;
 mod replay_laws;
+mod replay_rows;
 mod replaying;
 mod running;
 mod same_trees;
