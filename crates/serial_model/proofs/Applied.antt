@@ -1,5 +1,5 @@
 -- What the application of one entry to the store of a view tells of the entry.
-use Rattle.std.proofs.Common.{◌≡◌, ◌↔◌, ◌≤◌, ℕ, ◌+◌, Bool, true, false, List, [], ◌∷◌, Option, Some, None, option_map, unwrap_or, IsSomeAnd, IsTrue, refl, ap, sym, subst, ◌∙◌, arith, Result, Ok, Err, IfOk, OnOk}
+use Rattle.std.proofs.Common.{◌≡◌, ◌↔◌, ◌≤◌, ℕ, Bool, true, false, List, [], ◌∷◌, Option, Some, None, option_map, unwrap_or, IsSomeAnd, IsTrue, refl, ap, sym, subst, ◌∙◌}
 use Rattle.std.specs.List.{AllByRecursion}
 use Rattle.thor_value.specs.declared.names.Oref.{Oref}
 use Rattle.thor_value.specs.declared.values.Answer.{Answer}
@@ -15,12 +15,12 @@ use Rattle.class_defs.specs.declared.store.Schemas.{Schemas}
 use Rattle.class_defs.specs.declared.upgrades.Upgrade.{Upgrade}
 use Rattle.method_eval.specs.Viewed.{last_upgrade}
 use Rattle.method_eval.specs.declared.view.View.{View}
-use Rattle.serial_model.specs.History.{schema_of, are_fresh, IsLegalTx, IsLegalUpgrade}
-use Rattle.serial_model.specs.Replaying.{effect, effect_of, RanOn}
+use Rattle.serial_model.specs.History.{schema_of, are_fresh, IsLegalTx}
+use Rattle.serial_model.specs.Replaying.{effect, effect_of}
 use Rattle.serial_model.specs.Replays.{AppliesDoing, AreMade}
 use Rattle.serial_model.specs.Whole.{plain, IsOfItsEpoch, NoneDue}
 use Rattle.serial_model.specs.declared.entries.Did.{Did}
-use Rattle.serial_model.specs.declared.entries.What.TheVariants.{Tx, Upgrade as UpgradeItem}
+use Rattle.serial_model.specs.declared.entries.What.TheVariants.{Tx}
 
 -- ---- no object of the epoch is due
 

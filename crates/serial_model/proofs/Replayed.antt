@@ -1,8 +1,6 @@
 -- Histories taken entry by entry.
-use Rattle.std.proofs.Common.{◌≡◌, ◌≤◌, ◌<◌, ℕ, zero, suc, ◌+◌, Bool, true, false, cond, List, [], ◌∷◌, ◌++◌, length, take, get_or, map, Option, Some, None, option_map, unwrap_or, refl, ap, sym, subst, ◌∙◌, Result, Ok, Err, ◌==◌, arith}
+use Rattle.std.proofs.Common.{◌≡◌, ◌≤◌, ◌<◌, ℕ, zero, suc, ◌+◌, Bool, true, false, cond, List, [], ◌∷◌, ◌++◌, length, take, get_or, Option, Some, None, option_map, unwrap_or, refl, ap, sym, subst, ◌∙◌, Result, Ok, Err, ◌==◌, arith}
 use Rattle.std.proofs.lemmas.List.{take_more, take_all}
-use Rattle.std.specs.List.Sorted.{IsStrictlySortedBy}
-use Rattle.std.specs.Map.{keys_of}
 use Rattle.thor_value.specs.FiniteMap.{Map, IsSorted, insert, overwrite, get}
 use Rattle.thor_value.specs.Names.{oref_cmp}
 use Rattle.thor_value.specs.declared.names.Oref.{Oref}
@@ -17,7 +15,6 @@ use Rattle.class_defs.specs.declared.machine.Stop.{Stop}
 use Rattle.class_defs.specs.declared.machine.Stop.TheVariants as stop
 use Rattle.class_defs.specs.declared.store.Object.{Object}
 use Rattle.class_defs.specs.declared.store.Plain.{Plain}
-use Rattle.class_defs.specs.declared.store.Root.{Root}
 use Rattle.class_defs.specs.declared.store.Schema.{Schema}
 use Rattle.class_defs.specs.declared.store.Schemas.{Schemas}
 use Rattle.method_eval.specs.Viewed.{last_upgrade}

@@ -1,5 +1,5 @@
 -- Maps from keys in order, made of their pairs and looked up key by key.
-use Rattle.std.proofs.Common.{◌≡◌, ℕ, ◌+◌, ◌<◌, ◌≤◌, length, map, take, get_or, Bool, true, false, cond, List, [], ◌∷◌, ◌++◌, refl, ap, sym, ◌∙◌, subst, Option, Some, None, append_assoc}
+use Rattle.std.proofs.Common.{◌≡◌, ℕ, ◌+◌, ◌<◌, ◌≤◌, length, map, take, get_or, cond, List, [], ◌∷◌, ◌++◌, refl, ap, sym, ◌∙◌, subst, Option, Some, append_assoc}
 use Rattle.std.proofs.lemmas.Cmp.{tied_itself}
 use Rattle.std.proofs.lemmas.List.{take_all, take_more, flat_map_more}
 use Rattle.std.specs.BTreeMap.{insert_entry, is_at}
@@ -9,7 +9,7 @@ use Rattle.std.specs.List.Sorted.{IsStrictlySortedBy}
 use Rattle.std.specs.Map.{keys_of, lookup}
 use Rattle.std.specs.Ordering.{match_ordering, ordering_reverse, is_eq}
 use Rattle.std.specs.declared.cmp.Ordering.{Ordering}
-use Rattle.std.specs.declared.cmp.Ordering.TheVariants.{Less, Equal, Greater}
+use Rattle.std.specs.declared.cmp.Ordering.TheVariants.{Less, Greater}
 use Rattle.thor_value.specs.FiniteMap.{Map, IsSorted, get, insert, overwrite, empty}
 use Rattle.serial_model.specs.Whole.{found}
 
@@ -36,7 +36,7 @@ module _ {K X : Type 0} {R : K → K → Ordering} (o : IsTotalOrder R) where
   put_last [] k v h = refl
   put_last (e ∷ es) k v h =
       subst (λ (c : Ordering). match_ordering c ((k, v) ∷ e ∷ es) ((e.0, v) ∷ es) (e ∷ insert_entry R es k v) ≡ e ∷ (es ++ (k, v) ∷ [])) (sym (turned o e.0 k h.0))
-        (ap (λ (fs : List (K × X)). e ∷ fs) (put_last es k v h.1))
+      (ap (λ (fs : List (K × X)). e ∷ fs) (put_last es k v h.1))
 
   abbrev Below : List (K × X) → List K → Type 0
   Below front ks = AllByRecursion (λ k. AllByRecursion (λ y. R y k ≡ Less) (keys_of front)) ks

@@ -1,5 +1,5 @@
 -- An evaluation over a view of a whole store takes the names that the run on the store takes.
-use Rattle.std.proofs.Common.{◌≡◌, ℕ, List, Option, None, Result, Ok, Err, subst, refl}
+use Rattle.std.proofs.Common.{◌≡◌, ℕ, List, None, Result, Ok, Err, subst, refl}
 use Rattle.thor_value.specs.FiniteMap.{get}
 use Rattle.thor_value.specs.declared.names.Oref.{Oref}
 use Rattle.class_defs.specs.Run.{begun, execute_all}

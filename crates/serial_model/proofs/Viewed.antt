@@ -1,9 +1,8 @@
 -- The view of a whole store at its epoch.
-use Rattle.std.proofs.Common.{◌≡◌, ℕ, List, [], ◌∷◌, map, refl, ap, sym, subst, ◌∙◌, IfOk, Result, Ok, Err}
+use Rattle.std.proofs.Common.{◌≡◌, ℕ, List, [], ◌∷◌, map, refl, ap, sym, subst, ◌∙◌}
 use Rattle.std.specs.List.{AllByRecursion}
 use Rattle.std.specs.List.Sorted.{IsStrictlySortedBy}
 use Rattle.std.specs.Map.{keys_of}
-use Rattle.thor_value.specs.FiniteMap.{Map, IsSorted}
 use Rattle.thor_value.specs.Names.{oref_cmp}
 use Rattle.thor_value.specs.declared.names.Oref.{Oref}
 use Rattle.thor_value.specs.declared.values.Obj.{Obj}
@@ -11,7 +10,7 @@ use Rattle.class_defs.specs.declared.store.Object.{Object}
 use Rattle.class_defs.specs.declared.store.Plain.{Plain}
 use Rattle.method_eval.specs.Answers.{stored_at}
 use Rattle.method_eval.specs.declared.view.View.{View}
-use Rattle.serial_model.specs.Whole.{bare_pair, bare_objects, plain, IsOfItsEpoch}
+use Rattle.serial_model.specs.Whole.{bare_pair, plain, IsOfItsEpoch}
 use Rattle.serial_model.proofs.SortedMaps.{order_kept}
 
 bare_stored : (epoch : ℕ) (es : List (Oref × Object)) → map bare_pair (stored_at epoch es) ≡ es

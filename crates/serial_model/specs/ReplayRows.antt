@@ -1,5 +1,5 @@
 -- A small store with one upgrade, and how the worked rows of histories write entries. This project's.
-use Rattle.std.specs.Prelude.{◌≡◌, ℕ, List, [], ◌∷◌, pos, codes}
+use Rattle.std.specs.Prelude.{ℕ, List, [], ◌∷◌, pos, codes}
 use Rattle.thor_value.specs.declared.names.Oref.{Oref}
 use Rattle.thor_value.specs.declared.names.Ts.{Ts}
 use Rattle.thor_value.specs.declared.values.Answer.TheVariants as answer
@@ -60,11 +60,14 @@ new_field t text v = record { type_name = t; name = named text; value = v }
 
 -- The upgrade, with the line of its word: `n` becomes that of `next`, and `twice` is the double of the old one.
 abbrev pub shift : ℕ → Upgrade
-shift line = record { line = line; classes = record {
-  name = named (codes "Box");
-  fields = new_field int (codes "n") old_of_next ∷ new_field box_type (codes "next") (old (codes "next")) ∷ new_field int (codes "twice") (tf.Binary Add (old (codes "n")) (old (codes "n")) 1) ∷ [];
-  methods = [];
-} ∷ [] }
+shift line = record {
+  line = line;
+  classes = record {
+    name = named (codes "Box");
+    fields = new_field int (codes "n") old_of_next ∷ new_field box_type (codes "next") (old (codes "next")) ∷ new_field int (codes "twice") (tf.Binary Add (old (codes "n")) (old (codes "n")) 1) ∷ [];
+    methods = [];
+  } ∷ [];
+}
 
 abbrev pub schemas : Schemas
 schemas = record {

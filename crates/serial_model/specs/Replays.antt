@@ -7,7 +7,7 @@ use Rattle.class_defs.specs.declared.store.Root.{Root}
 use Rattle.class_defs.specs.declared.store.Schemas.{Schemas}
 use Rattle.method_eval.specs.Viewed.{last_upgrade}
 use Rattle.method_eval.specs.declared.view.View.{View}
-use Rattle.serial_model.specs.History.{schema_of, after, after_doing, after_entry, IsLegal, IsLegalDoing, IsLegalEntry}
+use Rattle.serial_model.specs.History.{schema_of, after, after_doing, IsLegal, IsLegalDoing}
 use Rattle.serial_model.specs.Whole.{IsOfItsEpoch, plain}
 use Rattle.serial_model.specs.declared.entries.Did.{Did}
 use Rattle.serial_model.specs.declared.entries.What.{What}

@@ -148,7 +148,12 @@ fn path_value(
 /// The value of an expression of an upgrade at an object, which reads objects as they were. Nothing where a
 /// path meets null.
 #[tactic(auto, unfolding(class_defs::specs::Upgrades::tf_value))]
-pub fn tf_value(classes: &Classes, objects: &PlainObjects, object: &Object, tf: &Tf) -> Option<Value>
+pub fn tf_value(
+    classes: &Classes,
+    objects: &PlainObjects,
+    object: &Object,
+    tf: &Tf,
+) -> Option<Value>
     ensures { result ≡ tf_value classes.now (get objects.now) object.now tf.now }
 {
     match tf {

@@ -143,10 +143,7 @@ fn same_stmt(some: &Stmt, other: &Stmt) -> bool
                 line: at,
                 value: second,
             } => {
-                *line == *at
-                    && type_name.same(kind)
-                    && name.same(other)
-                    && same_expr(value, second)
+                *line == *at && type_name.same(kind) && name.same(other) && same_expr(value, second)
             }
             _ => false,
         },

@@ -22,10 +22,7 @@ pub fn overwrite<T: Drop>(
 }
 
 /// The map with pairs whose names rise.
-pub fn map_of<T: Drop>(
-    alloc: Global,
-    pairs: Sequence<(Oref, T)>,
-) -> Result<OrefMap<T>, NoMemory>
+pub fn map_of<T: Drop>(alloc: Global, pairs: Sequence<(Oref, T)>) -> Result<OrefMap<T>, NoMemory>
     requires { IsStrictlySortedBy oref_cmp (keys_of pairs) }
     ensures { IfOk result (λ objects. objects.pairs ≡ pairs) }
 {

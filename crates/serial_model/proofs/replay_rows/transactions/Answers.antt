@@ -1,4 +1,4 @@
-use Rattle.std.proofs.Common.{◌≡◌, ℕ, ap, arith, refl}
+use Rattle.std.proofs.Common.{arith, refl}
 use Rattle.class_defs.specs.Run.{execute_all, run}
 use Rattle.class_defs.specs.Statements.{block_of}
 use Rattle.class_defs.specs.Upgrades.{up}

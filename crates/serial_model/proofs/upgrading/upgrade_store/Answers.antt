@@ -1,5 +1,4 @@
 use Rattle.std.proofs.Common.{◌∙◌, ap, map}
-use Rattle.std.specs.Prelude.{List}
 use Rattle.thor_value.specs.FiniteMap.{get}
 use Rattle.thor_value.specs.Names.{oref_cmp}
 use Rattle.thor_value.specs.declared.names.Oref.{Oref}
@@ -13,5 +12,5 @@ pub map_of-requires : goal.map_of-requires
 map_of-requires c =
     let objects = get c.args.store.now.objects in
     order_kept oref_cmp (λ (p : Oref × Object). transformed c.args.old.now c.args.new.now objects p.1 (upgrade_of c.args.old.now c.args.upgrade.now p.1.class)) c.args.store.now.objects.pairs c.in_ok-made.made
-      (c.in_ok-made.ensures ∙ ap (map (transformed_pair c.args.old.now c.args.new.now c.args.upgrade.now objects)) c.in_ok-pairs.ensures)
-      c.requires.sorted
+    (c.in_ok-made.ensures ∙ ap (map (transformed_pair c.args.old.now c.args.new.now c.args.upgrade.now objects)) c.in_ok-pairs.ensures)
+    c.requires.sorted
