@@ -1,2 +1,7 @@
+pub mod Applied
+pub mod Replayed
+pub mod SortedMaps
 pub mod TakenNames
+pub mod TfForms
+pub mod Viewed
 pub mod WholeStore

@@ -1,5 +1,8 @@
 pub mod History
 pub mod Outcomes
+pub mod ReplayRows
 pub mod Replaying
+pub mod Replays
 pub mod Taking
+pub mod Upgrading
 pub mod Whole

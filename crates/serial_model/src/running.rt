@@ -1,17 +1,17 @@
 ghost use Rattle.std.specs.Prelude.{◌≡◌, ◌≤◌, List, length, IfOk, OnOk, ◌==◌};
 ghost use Rattle.std.specs.Cmp.Lexicographic.{pointwise};
 ghost use Rattle.std.specs.List.{list_any};
-ghost use Rattle.thor_value.specs.FiniteMap.{overwrite};
 ghost use Rattle.thor_value.specs.Names.{same_oref};
 ghost use Rattle.class_defs.specs.Run.{takes};
 ghost use Rattle.class_defs.specs.declared.store.Root.{Root};
 ghost use Rattle.serial_model.specs.Replaying.{RanOn, Settles};
-ghost use Rattle.serial_model.specs.Whole.{IsFirst};
+ghost use Rattle.serial_model.specs.Whole.{IsFirst, IsOfItsEpoch, NoneDue};
 
+use crate::whole_maps::overwrite;
 use class_defs::{Block, NameSupply, Schema};
 use method_eval::{Ran, View, eval};
 use std::alloc::Global;
-use thor_value::{Answer, NoMemory, Obj, OrefMap, Orefs, TryCopy, Writes};
+use thor_value::{Answer, NoMemory, Orefs, TryCopy, Writes};
 
 fn same_names(left: &Orefs, right: &Orefs) -> bool
     ensures { result ≡ pointwise same_oref left.now right.now }
@@ -35,16 +35,6 @@ fn takes(created: &Orefs, names: &Orefs) -> bool
     ensures { result ≡ takes created.now names.now }
 {
     same_names(created, names) && !has_stand_in(names)
-}
-
-/// Puts written objects in the places of those before.
-fn overwrite(objects: &mut OrefMap<Obj>, writes: Writes) -> Result<(), NoMemory>
-    ensures { OnOk result (objects.new ≡ overwrite objects.old writes) }
-{
-    for (oref, obj) in writes.into_vec() {
-        objects.insert(oref, obj)?;
-    }
-    Ok(())
 }
 
 /// Takes over what an evaluation on a whole store gave, where its new objects took just these names.
@@ -90,6 +80,23 @@ pub fn run_on(
     requires first { IsFirst schema.now }
     ensures ran { IfOk result (λ answer. (roots : List Root) → RanOn schema.now tx.now names.now roots view.old answer view.new) }
     ensures epoch { OnOk result (view.new.epoch ≡ view.old.epoch) }
+{
+    run_on_current(alloc, tx, schema, view, names)
+}
+
+/// The same on a store of which no object is due.
+pub fn run_on_current(
+    alloc: Global,
+    tx: &Block,
+    schema: &Schema,
+    view: &mut View,
+    names: &Orefs,
+) -> Result<Option<Answer>, NoMemory>
+    requires few { length schema.now.classes ≤ 65536 }
+    requires current { NoneDue schema.now view.old }
+    ensures ran { IfOk result (λ answer. (roots : List Root) → RanOn schema.now tx.now names.now roots view.old answer view.new) }
+    ensures epoch { OnOk result (view.new.epoch ≡ view.old.epoch) }
+    ensures versions { IsOfItsEpoch view.old → OnOk result (IsOfItsEpoch view.new) }
 {
     view.names = NameSupply {
         waiting: names.copy()?,

@@ -1,0 +1,56 @@
+-- What replaying a history tells (this project's).
+use Rattle.std.specs.Prelude.{◌≡◌, ℕ, ◌+◌, ◌<◌, ◌≤◌, Bool, true, false, List, [], ◌∷◌, length, take, Option, Some, None, Result, Ok, Err}
+use Rattle.thor_value.specs.Names.{Before}
+use Rattle.thor_value.specs.declared.names.Ts.{Ts}
+use Rattle.class_defs.specs.declared.store.Plain.{Plain}
+use Rattle.class_defs.specs.declared.store.Root.{Root}
+use Rattle.class_defs.specs.declared.store.Schemas.{Schemas}
+use Rattle.method_eval.specs.Viewed.{last_upgrade}
+use Rattle.method_eval.specs.declared.view.View.{View}
+use Rattle.serial_model.specs.History.{schema_of, after, after_doing, IsLegal, IsLegalDoing}
+use Rattle.serial_model.specs.Whole.{IsOfItsEpoch, plain}
+use Rattle.serial_model.specs.declared.entries.Did.{Did}
+use Rattle.serial_model.specs.declared.entries.What.{What}
+use Rattle.serial_model.specs.declared.replaying.ReplayError.{ReplayError}
+use Rattle.serial_model.specs.declared.replaying.ReplayError.TheVariants.{NotLegal, NoMemory}
+
+-- The schemas of epochs as upgrades make them: a class has a number of 16 bits, and no class was named by an upgrade
+-- behind the epoch.
+pub record AreMade (s : Schemas) : Type 0 where
+  pub few : (n : ℕ) → length (schema_of s n).classes ≤ 65536
+  pub past : (n c : ℕ) → last_upgrade (schema_of s n) c ≤ n
+
+-- ---- one entry
+
+-- a timestamp is above the one before it, where there is one
+abbrev pub IsAbove : Option Ts → Ts → Type 0
+IsAbove None ts = Unit {0}
+IsAbove (Some before) ts = Before before ts
+
+-- the timestamp of the last entry
+abbrev pub last_ts : List Did → Option Ts
+last_ts [] = None
+last_ts (d ∷ []) = Some d.ts
+last_ts (d ∷ e ∷ ds) = last_ts (e ∷ ds)
+
+-- An item was applied as an entry's: it is legal on the store of the old view, and the new view has the store behind
+-- it. Where it wasn't applied it isn't legal there.
+abbrev pub AppliesDoing : Schemas → Did → What → List Root → View → Bool → View → Type 0
+AppliesDoing s d what roots old true new =
+    IsLegalDoing s (plain roots old) d what × (plain roots new ≡ after_doing s (plain roots old) d what) × IsOfItsEpoch new
+AppliesDoing s d what roots old false new = ¬ IsLegalDoing s (plain roots old) d what
+
+-- ---- a history
+
+-- The entry at a place is the first that isn't legal: those before it are a legal history, and with it they aren't.
+pub record IsFirstNotLegal (s : Schemas) (history : List Did) (store : Plain) (index : ℕ) : Type 0 where
+  pub within : index < length history
+  pub before : IsLegal s (take index history) store
+  pub with_it : ¬ IsLegal s (take (index + 1) history) store
+  pub whole : ¬ IsLegal s history store
+
+-- Replaying gives the store behind the history where it is legal, and else the first entry that isn't.
+abbrev pub Replays : Schemas → List Did → Plain → Result Plain ReplayError → Type 0
+Replays s history store (Ok end) = IsLegal s history store × (end ≡ after s history store)
+Replays s history store (Err (NotLegal index)) = IsFirstNotLegal s history store index
+Replays s history store (Err NoMemory) = Unit {0}
