@@ -1,6 +1,7 @@
 pub mod AloneAnswers
 pub mod AloneIsLegal
 pub mod CommitLaws
+pub mod JudgingLaws
 pub mod NamesLaws
 pub mod Performing
 pub mod ReadingParts

@@ -1,11 +1,16 @@
-use Rattle.std.proofs.Common.{ℕ, ◌+◌, ◌∙◌, ap}
+use Rattle.std.proofs.Common.{ℕ, ◌+◌, ◌∙◌, ap, length}
+use Rattle.serial_model.specs.Whole.{plain}
 use Rattle.thor_top.specs.Alone.{did}
-use Rattle.thor_top.proofs.Performing.{commits_on, item_at, lacks_with, stopped_on, upgrade_on}
+use Rattle.thor_top.proofs.Performing.{commits_on, item_at, lacks_with, so_far, stopped_on, upgrade_on}
 use Rattle.thor_top.proofs.alone.perform.Goals as goal
 use Rattle.thor_top.proofs.alone.perform.Goals.{in-Commits+in_ok-given-in-Commits+in_ok-did-in-Commits+in_ok-ended-in-Commits+in_ok-push-in-Commits+in_ok-push-in-Commits-2, in-LacksNames+in_ok-refused-in-LacksNames+in_ok-push-in-LacksNames}
 
 pub returns-in-Upgrade : goal.returns-in-Upgrade
-returns-in-Upgrade c = record { performed = λ roots. ? }
+returns-in-Upgrade c = record {
+  performed = λ roots.
+      upgrade_on c.args.schema.now c.args.tries (plain roots c.loop-place.view) c.args.items.now c.loop-place.place (length c.loop-place.history + 1) c.loop-place.given c.in-Upgrade.field-0 (so_far c.loop-place.ends c.loop-place.history) _
+      c.loop-place-test.true (item_at c.args.items.now c.loop-place.place _ _ c.in-Upgrade.is c.index-items-place.is) (c.loop-place.invariant roots);
+}
 
 pub returns-in-Undefined : goal.returns-in-Undefined
 returns-in-Undefined c = record {
