@@ -16,7 +16,7 @@ use Rattle.method_eval.specs.Viewed.{current}
 use Rattle.method_eval.specs.declared.view.View.{View}
 use Rattle.serial_model.specs.Taking.{taken_by, taken_in, names_taken}
 use Rattle.serial_model.specs.Whole.{plain, IsFirst}
-use Rattle.serial_model.proofs.WholeStore.{same_world}
+use Rattle.serial_model.proofs.WholeStore.{same_world, is_none_due}
 
 taken_same : (epoch : ℕ) (r : Result Flow Stop) (m : Machine) → taken_in (ran_at epoch r m) ≡ taken_by r m
 taken_same epoch (Ok flow) m = refl
@@ -28,4 +28,4 @@ pub evaluation_takes : (schema : Schema) → IsFirst schema → (tx : List Stmt)
 unfolding evaluation names_taken
 evaluation_takes schema first tx names roots view given =
     let P : World → Type 0 = λ w. taken_in (let r = execute_all (record { schema = schema; at_hand = λ x. current schema (get view.objects x) }) tx (begun names None) in ran_at view.epoch r.0 r.1) ≡ (let r = execute_all w tx (begun names None) in taken_by r.0 r.1) in
-    rw given (subst P (same_world schema first view.objects) (taken_same view.epoch _ _))
+    rw given (subst P (same_world schema view (is_none_due schema view first)) (taken_same view.epoch _ _))

@@ -84,7 +84,9 @@ pub fn run_on(
     run_on_current(alloc, tx, schema, view, names)
 }
 
-/// The same on a store of which no object is due.
+/// The same at any epoch, where no object of the store is due, as after eager upgrades.
+///
+/// Objects that were written at the view's epoch stay so: what the run writes is of that epoch.
 pub fn run_on_current(
     alloc: Global,
     tx: &Block,
