@@ -7,6 +7,7 @@ mod expressions;
 mod parse;
 mod print_statements;
 mod printing;
+mod printing_laws;
 mod setups;
 mod starts;
 mod statements;
@@ -15,6 +16,7 @@ mod whole;
 
 pub use parse::{parse_block, parse_setup, spellings_are_unique};
 pub use print_statements::{print_block, print_class};
+pub use printing_laws::printed_texts_are_read;
 
 #[cfg(test)]
 mod tests;
