@@ -175,7 +175,7 @@ field_aside x = ap (λ (t : Word). t ∷ name_word (name_on_line_1 x.name) ∷ F
 parameter_aside : (x : Parameter) → parameter_words (parameter_on_line_1 x) ≡ lined (parameter_words x)
 parameter_aside x = ap (λ (t : Word). t ∷ name_word (name_on_line_1 x.name) ∷ []) (type_lined x.type_name)
 
-method_aside : (x : Method) → method_words (method_on_line_1 x) ≡ lined (method_words x)
+pub method_aside : (x : Method) → method_words (method_on_line_1 x) ≡ lined (method_words x)
 method_aside x =
     let listed : List Word = with_commas (map parameter_words x.parameters) in
     let front : Word → List Word → List Word = λ t w. Fixed (codes "method") ∷ t ∷ name_word (name_on_line_1 x.name) ∷ Fixed (codes "(") ∷ w in
@@ -203,7 +203,7 @@ method_stays x h = record {
   body = block_stays places.Method x.body h.body;
 }
 
-methods_stay : (xs : List Method) → AllByRecursion IsMethod xs → AllByRecursion IsMethod (map method_on_line_1 xs)
+pub methods_stay : (xs : List Method) → AllByRecursion IsMethod xs → AllByRecursion IsMethod (map method_on_line_1 xs)
 methods_stay [] h = tt
 methods_stay (x ∷ xs) h = (method_stays x h.0, methods_stay xs h.1)
 
