@@ -22,3 +22,9 @@ pub mod LocalReaders
 pub mod Faults
 pub mod Rows
 pub mod Spaced
+pub mod PrintedNumbers
+pub mod PrintedWords
+pub mod PrintedTokens
+pub mod ExpressionsAside
+pub mod StatementsAside
+pub mod PrintedTrees

@@ -9,3 +9,4 @@ pub mod UpgradeOnly
 pub mod Only
 pub mod LocalReaders
 pub mod Faults
+pub mod UpgradesAside

@@ -1,5 +1,6 @@
 pub mod Expressions
 pub mod Grammar
+pub mod LinesAside
 pub mod Printed
 pub mod Rows
 pub mod Spelling

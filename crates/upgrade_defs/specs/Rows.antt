@@ -32,6 +32,10 @@ counted = record { type_name = type_name.Int 1; name = named (codes "n"); value 
 abbrev pub box_upgrade : Upgrade
 box_upgrade = record { line = 1; classes = record { name = named (codes "Box"); fields = counted ∷ []; methods = [] } ∷ [] }
 
+-- upgrade { class Box { int n = old.n; } }
+abbrev pub copied : Upgrade
+copied = record { line = 1; classes = record { name = named (codes "Box"); fields = record counted { value = old (codes "n") } ∷ []; methods = [] } ∷ [] }
+
 -- what the shape of an expression that the grammar has is, and of one that it hasn't
 abbrev pub good : ℕ → ℕ → ℕ → Shape
 good level depth nesting = record { level = level; depth = depth; nesting = nesting; proper = true }

@@ -3,6 +3,7 @@
 
 mod deep;
 mod expressions;
+mod laws;
 mod parse;
 mod printing;
 mod rows;
@@ -10,7 +11,8 @@ mod starts;
 mod upgrades;
 mod whole;
 
-pub use parse::{parse_upgrade, upgrade_spellings_are_unique};
+pub use laws::{printed_upgrades_are_read, upgrade_spellings_are_unique};
+pub use parse::parse_upgrade;
 pub use printing::print_upgrade;
 
 #[cfg(test)]

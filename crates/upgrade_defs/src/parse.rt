@@ -1,9 +1,8 @@
 //! Upgrades read from tokens.
 
-ghost use Rattle.std.specs.Prelude.{◌≡◌, List, IfOk, IfErr, Ok};
+ghost use Rattle.std.specs.Prelude.{IfErr, IfOk, Ok};
 ghost use Rattle.class_defs.specs.declared.upgrades.Upgrade.{Upgrade};
 ghost use Rattle.script_text.specs.Reading.{Gives};
-ghost use Rattle.script_text.specs.declared.token.Token.{Token};
 ghost use Rattle.method_parse.specs.Texts.{IsFaultOf};
 ghost use Rattle.upgrade_defs.specs.Texts.{SpellsUpgrade};
 
@@ -24,9 +23,3 @@ pub fn parse_upgrade(alloc: Global, tokens: &Tokens) -> Result<Upgrade, SyntaxEr
 {
     answer(alloc, tokens.as_slice())
 }
-
-/// No tokens spell two upgrades.
-#[tactic(auto, using(crate::proofs::Only::one_upgrade))]
-pub fn upgrade_spellings_are_unique()
-    ensures { (tokens : List Token) (a b : Upgrade) → SpellsUpgrade tokens a → SpellsUpgrade tokens b → a ≡ b }
-{}

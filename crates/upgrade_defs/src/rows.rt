@@ -5,7 +5,8 @@ ghost use Rattle.class_defs.specs.Words.{Fixed, FixedAt, Named, Numbered};
 ghost use Rattle.class_defs.specs.declared.expressions.Operator.TheVariants.{Add, Less, Multiply};
 ghost use Rattle.class_defs.specs.declared.upgrades.Tf.TheVariants as tf;
 ghost use Rattle.upgrade_defs.specs.Grammar.{tf_shape};
-ghost use Rattle.upgrade_defs.specs.Rows.{bad, box_upgrade, good, named, old, to_the_left, to_the_right};
+ghost use Rattle.upgrade_defs.specs.Printed.{printed_upgrade};
+ghost use Rattle.upgrade_defs.specs.Rows.{bad, box_upgrade, copied, good, named, old, to_the_left, to_the_right};
 ghost use Rattle.upgrade_defs.specs.Spelling.{tf_words, upgrade_words};
 
 /// The words of upgrades.
@@ -18,6 +19,7 @@ fn words()
         ∷ FixedAt (codes "int") 1 ∷ Named (codes "n") 1 ∷ Fixed (codes "=")
         ∷ FixedAt (codes "old") 1 ∷ Fixed (codes ".") ∷ Named (codes "n") 1 ∷ FixedAt (codes "+") 1 ∷ Numbered (pos 1) 1
         ∷ Fixed (codes ";") ∷ Fixed (codes "}") ∷ Fixed (codes "}") ∷ [] }
+    ensures the_text_of_an_upgrade { printed_upgrade copied ≡ codes "upgrade { class Box { int n = old . n ; } }" }
 {}
 
 /// Expressions that the grammar has.

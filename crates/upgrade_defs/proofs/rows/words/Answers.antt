@@ -7,4 +7,5 @@ returns c = record {
   path = simp the_forms refl;
   two_trees_with_one_spelling = simp the_forms refl;
   an_upgrade = simp the_forms refl;
+  the_text_of_an_upgrade = simp the_forms refl;
 }
