@@ -19,4 +19,6 @@ pub use print_statements::{print_block, print_class};
 pub use printing_laws::printed_texts_are_read;
 
 #[cfg(test)]
+mod print_tests;
+#[cfg(test)]
 mod tests;
