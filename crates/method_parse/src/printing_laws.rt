@@ -13,9 +13,10 @@ ghost use Rattle.method_parse.specs.LinesAside.{SpellsClass, block_on_line_1, cl
 
 /// What was printed, read again, gives the tree back, lines aside.
 ///
-/// The tree is one that tokens of a text spell. The printed text has tokens, and they spell that tree as it
-/// stands on one line. So `scan` finds them, and `parse_block` gives that tree, unless memory runs out. A
-/// text tells nothing of the lines: what was read so prints as the same text.
+/// The tree is one that tokens spell, each token spelled as its kind is; those that `scan` finds are. The
+/// printed text has tokens, and they spell that tree as it stands on one line. So `scan` finds them in a text
+/// of less than 2^32 bytes, and `parse_block` gives that tree, unless memory runs out. A text tells nothing of
+/// the lines: what was read so prints as the same text.
 pub fn printed_texts_are_read()
     ensures blocks { (tokens : List Token) → (block : List Stmt) → AreSpelled tokens → SpellsBlock tokens block
         → (printed : List Token) × AreTokensOf (printed_block block) printed × SpellsBlock printed (block_on_line_1 block) }
