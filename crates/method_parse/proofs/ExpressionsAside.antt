@@ -14,7 +14,9 @@ use Rattle.class_defs.specs.Spelling.{type_word, at_words, expr_step, expr_words
 use Rattle.class_defs.specs.Shape.{Shape, shape_step, shape}
 use Rattle.method_parse.specs.LinesAside.{name_on_line_1, type_on_line_1, at_on_line_1, expr_step_on_line_1, expr_on_line_1}
 use Rattle.method_parse.proofs.PrintedTokens.{first_line}
-use Rattle.method_parse.proofs.Equations.{words-Int, words-Null, words-This, words-Field, words-Variable, words-New, words-Parens, words-Negate, words-Binary, words-Call, shape-Int, shape-Null, shape-This, shape-Field, shape-Variable, shape-New, shape-Parens, shape-Negate, shape-Binary, shape-Call}
+use Rattle.method_parse.proofs.Equations.{words-Int, words-Null, words-This, words-Field, words-Variable, words-New, words-Parens, words-Negate}
+use Rattle.method_parse.proofs.Equations.{words-Binary, words-Call, shape-Int, shape-Null, shape-This, shape-Field, shape-Variable, shape-New}
+use Rattle.method_parse.proofs.Equations.{shape-Parens, shape-Negate, shape-Binary, shape-Call}
 
 -- words on line 1
 abbrev pub lined : List Word → List Word
@@ -68,7 +70,8 @@ args_shape : (place : Place) (ps : List Held) → map (shape place) (map expr_on
 args_shape place [] = refl
 args_shape place (p ∷ ps) = ap₂ (λ (w : Shape) (ws : List Shape). w ∷ ws) (p.1.1 place) (args_shape place ps)
 
-step_words : (y : Expr-F Held) → expr_words (expr_step_on_line_1 (on_line_1 (bare y))) ≡ lined (expr_step (map-Expr Expr (List Word) expr_words (bare y)))
+step_words : (y : Expr-F Held) → expr_words (expr_step_on_line_1 (on_line_1 (bare y)))
+    ≡ lined (expr_step (map-Expr Expr (List Word) expr_words (bare y)))
 step_words (Expr-F.Int value line) = words-Int value 1
 step_words (Expr-F.Null line) = words-Null 1
 step_words (Expr-F.This line) = words-This 1
@@ -93,11 +96,13 @@ step_words (Expr-F.Call receiver method arguments) =
     let front : List Word → List Word = λ w. Fixed (codes ".") ∷ name_word (name_on_line_1 method) ∷ Fixed (codes "(") ∷ w in
     words-Call (expr_on_line_1 receiver.0) (name_on_line_1 method) (map expr_on_line_1 (exprs_in arguments))
     ∙ ap₂ (λ (v : List Word) (ws : List (List Word)). v ++ front (with_commas ws ++ Fixed (codes ")") ∷ [])) receiver.1.0 (args_words arguments)
-    ∙ ap (λ (w : List Word). lined (expr_words receiver.0) ++ front (w ++ Fixed (codes ")") ∷ [])) (sym (lined_commas (map expr_words (exprs_in arguments))))
+    ∙ ap (λ (w : List Word). lined (expr_words receiver.0) ++ front (w ++ Fixed (codes ")") ∷ []))
+    (sym (lined_commas (map expr_words (exprs_in arguments))))
     ∙ ap (λ (w : List Word). lined (expr_words receiver.0) ++ front w) (sym (lined_both listed (Fixed (codes ")") ∷ [])))
     ∙ sym (lined_both (expr_words receiver.0) behind)
 
-step_shape : (place : Place) (y : Expr-F Held) → shape place (expr_step_on_line_1 (on_line_1 (bare y))) ≡ shape_step place (map-Expr Expr Shape (shape place) (bare y))
+step_shape : (place : Place) (y : Expr-F Held) → shape place (expr_step_on_line_1 (on_line_1 (bare y)))
+    ≡ shape_step place (map-Expr Expr Shape (shape place) (bare y))
 step_shape place (Expr-F.Int value line) = shape-Int place value 1
 step_shape place (Expr-F.Null line) = shape-Null place 1
 step_shape place (Expr-F.This line) = shape-This place 1

@@ -1,5 +1,5 @@
 -- Words with one space between two are tokens: just those words, on one line.
-use Rattle.std.proofs.Common.{◌≡◌, ℕ, ℤ, pos, suc, ◌+◌, List, [], ◌∷◌, ◌++◌, length, map, Option, Some, None, refl, sym, ap, subst, arith}
+use Rattle.std.proofs.Common.{◌≡◌, ℕ, ℤ, pos, suc, ◌+◌, List, [], ◌∷◌, ◌++◌, length, map, Option, Some, None, refl, sym, ap, ap₂, subst, arith}
 use Rattle.std.specs.Prelude.{option_map}
 use Rattle.std.specs.List.{flat_map, AllByRecursion}
 use Rattle.script_text.specs.declared.token.Token.{Token}
@@ -31,7 +31,8 @@ pub record IsPrinted (kind : TokenKind) (word : Word) : Type 0 where
   pub again : Again kind word
 
 -- a number that a token is
-number_printed : (kind : TokenKind) (text : List ℕ) (o : Option ℕ) (value : ℤ) (line : ℕ) → number_in kind text ≡ o → option_map pos o ≡ Some value
+number_printed : (kind : TokenKind) (text : List ℕ) (o : Option ℕ) (value : ℤ) (line : ℕ)
+    → number_in kind text ≡ o → option_map pos o ≡ Some value
     → IsPrinted kind (Numbered value line)
 number_printed kind text None value line e h = absurd cc
 number_printed kinds.Name text (Some n) value line e h = absurd cc
@@ -105,7 +106,8 @@ all_hold (k ∷ ks) h = ((h.0.token, ends_here k.0 (word_text k.1) ks), parts_ho
 line_behind : (ks : Kinds) → ArePrinted ks → OnOneLine (spaced_words (words_of ks))
 line_behind [] h = refl
 line_behind (k ∷ ks) h =
-    line_cons 32 (word_text k.1 ++ spaced_words (words_of ks)) refl (line_both (word_text k.1) (spaced_words (words_of ks)) (token_line k.0 (word_text k.1) h.0.token) (line_behind ks h.1))
+    line_cons 32 (word_text k.1 ++ spaced_words (words_of ks)) refl
+    (line_both (word_text k.1) (spaced_words (words_of ks)) (token_line k.0 (word_text k.1) h.0.token) (line_behind ks h.1))
 
 line_all : (ks : Kinds) → ArePrinted ks → OnOneLine (with_spaces (words_of ks))
 line_all [] h = refl
@@ -124,13 +126,15 @@ words_behind : (text : List ℕ) (place : ℕ) (ks : Kinds) → OnOneLine text �
     → AreWords (tokens_in text place (parts_behind ks)) (map first_line (words_of ks))
 words_behind text place [] one h = tt
 words_behind text place (k ∷ ks) one h =
-    (again_on k.0 k.1 (line_at text (place + 1)) (place + 1) (place + 1 + length (word_text k.1)) (on_first_line text (place + 1) one) h.0, words_behind text (place + 1 + length (word_text k.1)) ks one h.1)
+    let end : ℕ = place + 1 + length (word_text k.1) in
+    (again_on k.0 k.1 (line_at text (place + 1)) (place + 1) end (on_first_line text (place + 1) one) h.0, words_behind text end ks one h.1)
 
 words_all : (text : List ℕ) (ks : Kinds) → OnOneLine text → ArePrinted ks
     → AreWords (tokens_in text 0 (parts_of ks)) (map first_line (words_of ks))
 words_all text [] one h = tt
 words_all text (k ∷ ks) one h =
-    (again_on k.0 k.1 (line_at text 0) 0 (0 + length (word_text k.1)) (on_first_line text 0 one) h.0, words_behind text (0 + length (word_text k.1)) ks one h.1)
+    let end : ℕ = 0 + length (word_text k.1) in
+    (again_on k.0 k.1 (line_at text 0) 0 end (on_first_line text 0 one) h.0, words_behind text end ks one h.1)
 
 -- tokens of a text, and the words that they are on line 1
 pub record Printed (words : List Word) : Type 0 where
@@ -168,3 +172,18 @@ pub words_printed : (tokens : List Token) (words : List Word) → AreSpelled tok
 words_printed tokens words spelled are =
     let k = kinded tokens words (each_token tokens spelled) are in
     subst Printed k.are (kinds_printed k.kinds k.printed)
+
+-- a text tells nothing of lines
+text_lined : (w : Word) → word_text (first_line w) ≡ word_text w
+text_lined (Fixed text) = refl
+text_lined (FixedAt text line) = refl
+text_lined (Named text line) = refl
+text_lined (Numbered value line) = refl
+
+spaced_lined : (ws : List Word) → spaced_words (map first_line ws) ≡ spaced_words ws
+spaced_lined [] = refl
+spaced_lined (w ∷ ws) = ap₂ (λ (s t : List ℕ). 32 ∷ (s ++ t)) (text_lined w) (spaced_lined ws)
+
+pub printed_lined : (ws : List Word) → with_spaces (map first_line ws) ≡ with_spaces ws
+printed_lined [] = refl
+printed_lined (w ∷ ws) = ap₂ (λ (s t : List ℕ). s ++ t) (text_lined w) (spaced_lined ws)

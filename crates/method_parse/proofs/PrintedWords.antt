@@ -1,5 +1,6 @@
 -- The text of a token: no line ends in it, and a space can stand behind it.
-use Rattle.std.proofs.Common.{◌≡◌, ℕ, ◌+◌, Bool, true, false, cond, List, [], ◌∷◌, ◌++◌, take, drop, map, refl, sym, ap, subst, ◌∙◌, arith, ⊎_elim, take-append-drop}
+use Rattle.std.proofs.Common.{◌≡◌, ℕ, ◌+◌, Bool, true, false, cond, List, [], ◌∷◌, ◌++◌, take, drop, map, refl, sym, ap, subst, ◌∙◌, arith, ⊎_elim}
+use Rattle.std.proofs.Common.{take-append-drop}
 use Rattle.std.specs.Prelude.{◌||◌, ◌==◌}
 use Rattle.std.specs.List.{list_any, list_all, count_by, AllByRecursion}
 use Rattle.std.specs.Str.{bytes_eq}
@@ -45,7 +46,8 @@ passing test fails (b ∷ s) all =
     (passing test fails s parts.1)
 
 -- what holds of each text of a list holds of one that is among them
-each_among : (P : List ℕ → Type 0) (texts : List (List ℕ)) (text : List ℕ) → AllByRecursion P texts → list_any (λ t. bytes_eq t text) texts ≡ true → P text
+each_among : (P : List ℕ → Type 0) (texts : List (List ℕ)) (text : List ℕ) → AllByRecursion P texts
+    → list_any (λ t. bytes_eq t text) texts ≡ true → P text
 each_among P [] text all is = cc
 each_among P (t ∷ ts) text all is =
     ⊎_elim (λ here. subst P ((bytes_eq-Decides t text).0 here) all.0) (λ later. each_among P ts text all.1 later)

@@ -14,12 +14,16 @@ use Rattle.class_defs.specs.declared.statements.Stmt.TheOpen.{Stmt-F}
 use Rattle.class_defs.specs.declared.places.Place.{Place}
 use Rattle.class_defs.specs.declared.places.Place.TheVariants as places
 use Rattle.class_defs.specs.Words.{Word, Fixed, FixedAt, name_word, with_commas, in_turn}
-use Rattle.class_defs.specs.Spelling.{expr_words, ended, condition_words, braces, stmt_step, stmt_words, block_words, field_words, parameter_words, method_words, kind_text, class_words}
+use Rattle.class_defs.specs.Spelling.{expr_words, ended, condition_words, braces, stmt_step, stmt_words, block_words, field_words, parameter_words}
+use Rattle.class_defs.specs.Spelling.{method_words, kind_text, class_words}
 use Rattle.class_defs.specs.Shape.{Shape, Form, form_step, form, in_braces, with_value, with_condition, both, in_method, in_item, block_form}
 use Rattle.class_defs.specs.Grammar.{IsBlock, IsMethod, IsClass, max_depth, max_nesting}
-use Rattle.method_parse.specs.LinesAside.{name_on_line_1, type_on_line_1, expr_on_line_1, stmt_step_on_line_1, stmt_on_line_1, block_on_line_1, field_on_line_1, parameter_on_line_1, method_on_line_1, class_on_line_1}
+use Rattle.method_parse.specs.LinesAside.{name_on_line_1, type_on_line_1, expr_on_line_1, stmt_step_on_line_1, stmt_on_line_1, block_on_line_1}
+use Rattle.method_parse.specs.LinesAside.{field_on_line_1, parameter_on_line_1, method_on_line_1, class_on_line_1}
 use Rattle.method_parse.proofs.ExpressionsAside.{lined, lined_both, lined_commas, lined_turns, type_lined, expr_aside}
-use Rattle.method_parse.proofs.Equations.{words-Var, words-Assign, words-FieldAssign, words-Return, words-If, words-IfElse, words-While, words-Print, words-Evaluate, form-Var, form-Assign, form-FieldAssign, form-Return, form-If, form-IfElse, form-While, form-Print, form-Evaluate}
+use Rattle.method_parse.proofs.Equations.{words-Var, words-Assign, words-FieldAssign, words-Return, words-If, words-IfElse, words-While, words-Print}
+use Rattle.method_parse.proofs.Equations.{words-Evaluate, form-Var, form-Assign, form-FieldAssign, form-Return, form-If, form-IfElse, form-While}
+use Rattle.method_parse.proofs.Equations.{form-Print, form-Evaluate}
 
 ended_lined : (x : Expr) → ended (expr_on_line_1 x) ≡ lined (ended x)
 ended_lined x = ap (λ (w : List Word). w ++ Fixed (codes ";") ∷ []) (expr_aside x).0 ∙ sym (lined_both (expr_words x) (Fixed (codes ";") ∷ []))
@@ -80,16 +84,19 @@ behind_condition word x v w e =
     ap₂ (λ (c d : List Word). Fixed word ∷ (c ++ d)) (condition_lined x) e
     ∙ ap (λ (c : List Word). Fixed word ∷ c) (sym (lined_both (condition_words x) w))
 
-step_words : (y : Stmt-F Held) → stmt_words (stmt_step_on_line_1 (on_line_1 (bare y))) ≡ lined (stmt_step (map-Stmt Stmt (List Word) stmt_words (bare y)))
+step_words : (y : Stmt-F Held) → stmt_words (stmt_step_on_line_1 (on_line_1 (bare y)))
+    ≡ lined (stmt_step (map-Stmt Stmt (List Word) stmt_words (bare y)))
 step_words (Stmt-F.Var type name line value) =
     words-Var (type_on_line_1 type) (name_on_line_1 name) 1 (expr_on_line_1 value)
-    ∙ ap₂ (λ (t : Word) (w : List Word). Fixed (codes "var") ∷ t ∷ name_word (name_on_line_1 name) ∷ FixedAt (codes "=") 1 ∷ w) (type_lined type) (ended_lined value)
+    ∙ ap₂ (λ (t : Word) (w : List Word). Fixed (codes "var") ∷ t ∷ name_word (name_on_line_1 name) ∷ FixedAt (codes "=") 1 ∷ w)
+    (type_lined type) (ended_lined value)
 step_words (Stmt-F.Assign name line value) =
     words-Assign (name_on_line_1 name) 1 (expr_on_line_1 value)
     ∙ ap (λ (w : List Word). name_word (name_on_line_1 name) ∷ FixedAt (codes "=") 1 ∷ w) (ended_lined value)
 step_words (Stmt-F.FieldAssign field line value) =
     words-FieldAssign (name_on_line_1 field) 1 (expr_on_line_1 value)
-    ∙ ap (λ (w : List Word). Fixed (codes "this") ∷ Fixed (codes ".") ∷ name_word (name_on_line_1 field) ∷ FixedAt (codes "=") 1 ∷ w) (ended_lined value)
+    ∙ ap (λ (w : List Word). Fixed (codes "this") ∷ Fixed (codes ".") ∷ name_word (name_on_line_1 field) ∷ FixedAt (codes "=") 1 ∷ w)
+    (ended_lined value)
 step_words (Stmt-F.Return value) =
     words-Return (expr_on_line_1 value) ∙ ap (λ (w : List Word). Fixed (codes "return") ∷ w) (ended_lined value)
 step_words (Stmt-F.If condition then_block) =
@@ -109,10 +116,12 @@ step_words (Stmt-F.Print value) =
     words-Print (expr_on_line_1 value) ∙ ap (λ (w : List Word). Fixed (codes "print") ∷ w) (ended_lined value)
 step_words (Stmt-F.Evaluate value) = words-Evaluate (expr_on_line_1 value) ∙ ended_lined value
 
-braces_form : (place : Place) (ps : List Held) → in_braces (map (form place) (map stmt_on_line_1 (stmts_in ps))) ≡ in_braces (map (form place) (stmts_in ps))
+braces_form : (place : Place) (ps : List Held) → in_braces (map (form place) (map stmt_on_line_1 (stmts_in ps)))
+    ≡ in_braces (map (form place) (stmts_in ps))
 braces_form place ps = ap in_braces (block_formed place ps)
 
-step_form : (place : Place) (y : Stmt-F Held) → form place (stmt_step_on_line_1 (on_line_1 (bare y))) ≡ form_step place (map-Stmt Stmt Form (form place) (bare y))
+step_form : (place : Place) (y : Stmt-F Held) → form place (stmt_step_on_line_1 (on_line_1 (bare y)))
+    ≡ form_step place (map-Stmt Stmt Form (form place) (bare y))
 step_form place (Stmt-F.Var type name line value) =
     form-Var place (type_on_line_1 type) (name_on_line_1 name) 1 (expr_on_line_1 value) ∙ value_form place value _
 step_form place (Stmt-F.Assign name line value) = form-Assign place (name_on_line_1 name) 1 (expr_on_line_1 value) ∙ value_form place value _
@@ -193,7 +202,8 @@ class_aside x =
     ap front
     (ap₂ (λ (fs ms : List (List Word)). in_turn fs ++ (in_turn ms ++ Fixed (codes "}") ∷ []))
     (each_aside field_on_line_1 field_words lined field_aside x.fields) (each_aside method_on_line_1 method_words lined method_aside x.methods)
-    ∙ ap₂ (λ (f m : List Word). f ++ (m ++ Fixed (codes "}") ∷ [])) (sym (lined_turns (map field_words x.fields))) (sym (lined_turns (map method_words x.methods)))
+    ∙ ap₂ (λ (f m : List Word). f ++ (m ++ Fixed (codes "}") ∷ []))
+    (sym (lined_turns (map field_words x.fields))) (sym (lined_turns (map method_words x.methods)))
     ∙ ap (λ (w : List Word). lined fields ++ w) (sym (lined_both methods (Fixed (codes "}") ∷ [])))
     ∙ sym (lined_both fields (methods ++ Fixed (codes "}") ∷ [])))
 

@@ -27,4 +27,6 @@ pub use take::{name, next_is, number, type_word, word};
 pub use whole::error_of;
 
 #[cfg(test)]
+mod print_tests;
+#[cfg(test)]
 mod tests;

@@ -2,7 +2,8 @@
 
 ghost use Rattle.std.specs.Prelude.{◌≡◌, ◌∷◌, ◌++◌, map, IfOk, OnOk};
 ghost use Rattle.class_defs.specs.Words.{in_turn, with_commas};
-ghost use Rattle.class_defs.specs.Spelling.{ended, condition_words, braces, stmt_words, field_words, parameter_words, block_words, method_words, kind_text};
+ghost use Rattle.class_defs.specs.Spelling.{ended, condition_words, braces, stmt_words, kind_text};
+ghost use Rattle.class_defs.specs.Spelling.{field_words, parameter_words, method_words};
 ghost use Rattle.class_defs.specs.Printed.{spaced_words, printed_block, printed_class};
 
 use crate::printing::{print_expr, print_name, print_type, print_word};
