@@ -2,6 +2,8 @@
 //! (`specs/UpgradeRows.antt`).
 
 ghost use Rattle.std.specs.Prelude.{◌≡◌, [], ◌∷◌, codes, None};
+ghost use Rattle.class_defs.specs.Accepted.{AllAccepted};
+ghost use Rattle.class_defs.specs.LazyExamples.{twice};
 ghost use Rattle.class_defs.specs.RuleRows.{int};
 ghost use Rattle.class_defs.specs.UpgradeRows.{a_bag, a_box, a_part, a_seal, becomes, behind, number, old, own, says, told, told_of, told_of_box, typing, gives};
 ghost use Rattle.class_defs.specs.declared.expressions.Operator.TheVariants.{Add, Multiply, Subtract};
@@ -87,4 +89,9 @@ fn order()
 /// The numbers of upgrades behind the third one, which names Box and Part.
 fn numbers()
     ensures named { (behind (says (codes "Box") 10 [] [] ∷ says (codes "Part") 10 [] [] ∷ [])).upgraded ≡ 3 ∷ 3 ∷ 2 ∷ 0 ∷ [] }
+{}
+
+/// A store with two upgrades that a check accepts one after the other: that of the worked rows on lazy upgrades.
+fn accepted()
+    ensures upgrades { AllAccepted twice 1 [] 2 }
 {}
