@@ -3,6 +3,8 @@ pub mod AlikeCalls
 pub mod AlikeObjects
 pub mod AlikeRun
 pub mod AlikeSteps
+pub mod AppliedClasses
+pub mod AppliedRules
 pub mod FitActions
 pub mod FitArguments
 pub mod FitCalls
@@ -16,6 +18,8 @@ pub mod FitSteps
 pub mod FitStrict
 pub mod FitValues
 pub mod Handing
+pub mod KeptByRules
+pub mod KeptFields
 pub mod Locality
 pub mod MixedOwned
 pub mod Moving

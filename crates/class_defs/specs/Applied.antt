@@ -35,10 +35,11 @@ highest (n ∷ ns) = max n (highest ns)
 abbrev pub next_number : List ℕ → ℕ
 next_number upgraded = suc (highest upgraded)
 
--- for each class the number of the last upgrade that names it, where upgrade n comes behind these numbers
+-- For each class the number of the last upgrade that names it, where upgrade n comes behind these numbers. Where there
+-- are fewer numbers than classes, no upgrade has named the others.
 abbrev pub numbers_behind : Upgrade → ℕ → List Class → List ℕ → List ℕ
 numbers_behind u n [] upgraded = []
-numbers_behind u n (d ∷ ds) [] = []
+numbers_behind u n (d ∷ ds) [] = (if is_some (said_of u d) then n else zero) ∷ numbers_behind u n ds []
 numbers_behind u n (d ∷ ds) (k ∷ ks) = (if is_some (said_of u d) then n else k) ∷ numbers_behind u n ds ks
 
 -- The schema behind an upgrade: the classes that it names have its fields and methods. The roots stay.

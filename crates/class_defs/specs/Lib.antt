@@ -1,3 +1,4 @@
+pub mod Accepted
 pub mod Applied
 pub mod Calls
 pub mod Eager

@@ -65,5 +65,8 @@ pub use store::{
     Schemas, Setup, UpgradedSchema, UpgradedSchemas,
 };
 pub use types::ExprType;
-pub use upgrade_laws::{nothing_due, upgrades_leave_other_classes};
+pub use upgrade_laws::{
+    accepted_upgrades_break_no_rule, accepted_upgrades_keep_ownership, nothing_due,
+    upgrades_leave_other_classes,
+};
 pub use upgrades::{ClassUpgrade, ClassUpgrades, FieldUpgrade, FieldUpgrades, Names, Tf, Upgrade};

@@ -1,17 +1,24 @@
-//! What upgrades leave as it is. Each law is a function with an empty body, whose clauses are proved once for all callers.
+//! What upgrades leave as it is, and what those keep that a check accepts. Each law is a function with an empty body, whose clauses are proved once for all callers.
 
-ghost use Rattle.std.specs.Prelude.{◌≡◌, ◌<◌, ◌+◌, ℕ, List, Option, Some, None, false, option_map};
+ghost use Rattle.std.specs.Prelude.{◌≡◌, ◌<◌, ◌+◌, ℕ, List, [], Option, Some, None, false, option_map, slice_get};
 ghost use Rattle.thor_value.specs.FiniteMap.{IsSorted, get, keys};
 ghost use Rattle.thor_value.specs.declared.names.Oref.{Oref};
 ghost use Rattle.thor_value.specs.declared.values.Obj.{Obj};
+ghost use Rattle.class_defs.specs.Accepted.{AllAccepted};
+ghost use Rattle.class_defs.specs.Applied.{applied};
 ghost use Rattle.class_defs.specs.Eager.{eager};
 ghost use Rattle.class_defs.specs.Epochs.{next_of};
+ghost use Rattle.class_defs.specs.KeptOwnership.{AllKeepClasses};
 ghost use Rattle.class_defs.specs.Levels.{is_due, level};
+ghost use Rattle.class_defs.specs.SchemaRules.{item_rules, schema_rules};
 ghost use Rattle.class_defs.specs.Stored.{Stored, bare, each_value};
+ghost use Rattle.class_defs.specs.UpgradeOrder.{own_fault};
 ghost use Rattle.class_defs.specs.Upgrades.{transformed, up, upgrade_of};
 ghost use Rattle.class_defs.specs.declared.classes.Class.{Class};
+ghost use Rattle.class_defs.specs.declared.statements.Stmt.{Stmt};
 ghost use Rattle.class_defs.specs.declared.store.Object.{Object};
 ghost use Rattle.class_defs.specs.declared.store.Plain.{Plain};
+ghost use Rattle.class_defs.specs.declared.store.Schema.{Schema};
 ghost use Rattle.class_defs.specs.declared.store.Schemas.{Schemas};
 ghost use Rattle.class_defs.specs.declared.upgrades.Upgrade.{Upgrade};
 
@@ -39,4 +46,19 @@ pub fn nothing_due()
     ensures eager { (s : Schemas) → (L : Stored)
         → IsSorted L.objects → ((x : Oref) → (o : Obj) → get L.objects x ≡ Some o → is_due s L.epoch o ≡ false)
         → eager s L ≡ record { objects = each_value bare L.objects; epoch = L.epoch; roots = L.roots } }
+{}
+
+/// Behind an upgrade that a check accepts, the schema breaks no rule T, and no item of the script does under it.
+pub fn accepted_upgrades_break_no_rule()
+    ensures schema { (schema : Schema) → (repos : ℕ) → (u : Upgrade) → (items : List (List Stmt))
+        → schema_rules schema repos ≡ [] → own_fault schema repos u items ≡ None → schema_rules (applied schema u) repos ≡ [] }
+    ensures items { (schema : Schema) → (repos : ℕ) → (u : Upgrade) → (items : List (List Stmt)) → (i : ℕ) → (block : List Stmt)
+        → own_fault schema repos u items ≡ None → slice_get items i ≡ Some block → item_rules (applied schema u) repos block ≡ [] }
+{}
+
+/// Where a check accepts the upgrades of a store, one after the other, they keep its classes and who owns what: what the
+/// laws on lazy upgrades ask for.
+pub fn accepted_upgrades_keep_ownership()
+    ensures { (s : Schemas) → (repos : ℕ) → (items : List (List Stmt)) → (e : ℕ)
+        → schema_rules s.first repos ≡ [] → AllAccepted s repos items e → AllKeepClasses s e }
 {}

@@ -2,8 +2,11 @@
 //! (`specs/UpgradeRows.antt`).
 
 ghost use Rattle.std.specs.Prelude.{◌≡◌, [], ◌∷◌, codes, None};
+ghost use Rattle.class_defs.specs.Accepted.{AllAccepted};
+ghost use Rattle.class_defs.specs.Applied.{applied};
+ghost use Rattle.class_defs.specs.LazyExamples.{twice};
 ghost use Rattle.class_defs.specs.RuleRows.{int};
-ghost use Rattle.class_defs.specs.UpgradeRows.{a_bag, a_box, a_part, a_seal, becomes, behind, number, old, own, says, told, told_of, told_of_box, typing, gives};
+ghost use Rattle.class_defs.specs.UpgradeRows.{a_bag, a_box, a_part, a_seal, becomes, behind, found, number, old, own, says, told, told_of, told_of_box, typing, gives, upgrade};
 ghost use Rattle.class_defs.specs.declared.expressions.Operator.TheVariants.{Add, Multiply, Subtract};
 ghost use Rattle.class_defs.specs.declared.own_rules.OwnRule.TheVariants.{O1, O2, O3, O4, O5, O6, O7};
 ghost use Rattle.class_defs.specs.declared.rules.Rule.TheVariants.{T1, T2};
@@ -84,7 +87,13 @@ fn order()
     ensures least_line { told_of (becomes a_part (codes "k") 12 (number 1 13) ∷ becomes a_box (codes "l") 14 (number 1 14) ∷ []) ≡ own 13 O6 }
 {}
 
-/// The numbers of upgrades behind the third one, which names Box and Part.
+/// The numbers of upgrades behind the third one, which names Box and Part; and behind a first one that names Seal.
 fn numbers()
     ensures named { (behind (says (codes "Box") 10 [] [] ∷ says (codes "Part") 10 [] [] ∷ [])).upgraded ≡ 3 ∷ 3 ∷ 2 ∷ 0 ∷ [] }
+    ensures first { (applied (record found { upgraded = [] }) (upgrade (says (codes "Seal") 10 [] [] ∷ []))).upgraded ≡ 0 ∷ 0 ∷ 1 ∷ 0 ∷ [] }
+{}
+
+/// A store with two upgrades that a check accepts one after the other: that of the worked rows on lazy upgrades.
+fn accepted()
+    ensures upgrades { AllAccepted twice 1 [] 2 }
 {}

@@ -4,4 +4,4 @@ use Rattle.class_defs.proofs.upgrade_rows.numbers.Goals as goal
 
 pub returns : goal.returns
 unfolding applied
-returns c = record { named = refl }
+returns c = record { named = refl; first = refl }
