@@ -41,7 +41,7 @@ module _ (u : Upgrade) where
   pub same_class : (n : List ℕ) (ds : List Class) → class_named (classes_behind u ds) n ≡ class_named ds n
   same_class n ds =
       ap (λ l. cond (nat_lt (position_or_len (λ (c : Class). bytes_eq c.name.text n) (classes_behind u ds)) l)
-        (Some (position_or_len (λ (c : Class). bytes_eq c.name.text n) (classes_behind u ds))) None) (length-map ds step)
+      (Some (position_or_len (λ (c : Class). bytes_eq c.name.text n) (classes_behind u ds))) None) (length-map ds step)
       ∙ ap (λ i. cond (nat_lt i (length ds)) (Some i) None) (same_place n ds)
 
   pub same_type : (t : TypeName) (ds : List Class) → type_named (classes_behind u ds) t ≡ type_named ds t

@@ -71,12 +71,12 @@ module _ (schema : Schema) (repos : ℕ) (u : Upgrade) where
       let p = nothing (member_names d ++ fields) _ h in
       let q = nothing (member_names d) fields p.0 in
       let methods : flat_map (method_rules after repos n) (step u d).methods ≡ [] =
-          subst (λ o. cond (is_some o) [] (flat_map (method_rules after repos n) (step u d).methods) ≡ []) (still_named d None is) g in
+      subst (λ o. cond (is_some o) [] (flat_map (method_rules after repos n) (step u d).methods) ≡ []) (still_named d None is) g in
       subst (λ y. class_rules after repos n y ≡ []) (sym same)
       (none (member_names d ++ flat_map (λ (f : Field). is_type new f.type_name) d.fields) _
-        (none (member_names d) _ q.0
-          (same_all (λ (f : Field). is_type new f.type_name) (λ (f : Field). is_type old f.type_name) d.fields (λ f. same_is_type f.type_name) ∙ q.1))
-        (ap (λ (y : Class). flat_map (method_rules after repos n) y.methods) (sym same) ∙ methods))
+      (none (member_names d) _ q.0
+      (same_all (λ (f : Field). is_type new f.type_name) (λ (f : Field). is_type old f.type_name) d.fields (λ f. same_is_type f.type_name) ∙ q.1))
+      (ap (λ (y : Class). flat_map (method_rules after repos n) y.methods) (sym same) ∙ methods))
 
   after_class : (n : ℕ) (d : Class) (o : Option ClassUpgrade) → said_of u d ≡ o → class_rules schema repos n d ≡ []
       → inside_class u after repos n (step u d) ≡ [] → outside_class u after repos n (step u d) ≡ []
@@ -104,8 +104,8 @@ module _ (schema : Schema) (repos : ℕ) (u : Upgrade) where
       let outside = nothing (over_classes (outside_class u after repos) 0 new) _ fine.outside in
       none (class_names after ++ root_names after ++ classes_from after repos 0 new) _
       (none (class_names after ++ root_names after) _
-        (none (class_names after) (root_names after) (ap (stand_once []) (same_names u old) ∙ r.0) r.1)
-        (after_classes 0 old q.1 fine.inside outside.0))
+      (none (class_names after) (root_names after) (ap (stand_once []) (same_names u old) ∙ r.0) r.1)
+      (after_classes 0 old q.1 fine.inside outside.0))
       (same_all (root_rules new repos) (root_rules old repos) schema.roots same_root ∙ p.1)
 
   pub items_behind : (items : List (List Stmt)) → Sound schema repos u items → (i : ℕ) (block : List Stmt) → slice_get items i ≡ Some block

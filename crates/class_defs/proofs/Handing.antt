@@ -99,6 +99,7 @@ types_of new fs gs i h =
     through : (f : Option Field) → option_map (λ f. type_named new f.type_name) f ≡ option_map (type_named new) (option_map (λ f. f.type_name) f)
     through (Some f) = refl
     through None = refl
+
     through_upgrade : (f : Option FieldUpgrade)
         → option_map (λ f. type_named new f.type_name) f ≡ option_map (type_named new) (option_map (λ f. f.type_name) f)
     through_upgrade (Some f) = refl

@@ -136,7 +136,7 @@ apart earlier (x ∷ ds) zero d h is =
 apart earlier (x ∷ ds) (suc c) d h is =
     first_false (list_any (λ m. bytes_eq m.text d.name.text) earlier) _
     (sym (list_any-append (λ m. bytes_eq m.text d.name.text) earlier (x.name ∷ []))
-      ∙ apart (earlier ++ x.name ∷ []) ds c d (nothing _ (stand_once (earlier ++ x.name ∷ []) (map (λ x. x.name) ds)) h).1 is)
+    ∙ apart (earlier ++ x.name ∷ []) ds c d (nothing _ (stand_once (earlier ++ x.name ∷ []) (map (λ x. x.name) ds)) h).1 is)
 
 place_of : (earlier : List Name) (ds : List Class) (c : ℕ) (d : Class) → stand_once earlier (map (λ x. x.name) ds) ≡ [] → slice_get ds c ≡ Some d
     → position_or_len (λ x. bytes_eq x.name.text d.name.text) ds ≡ c
@@ -148,8 +148,8 @@ place_of earlier (x ∷ ds) zero d h is =
 place_of earlier (x ∷ ds) (suc c) d h is =
     let rest = (nothing _ (stand_once (earlier ++ x.name ∷ []) (map (λ x. x.name) ds)) h).1 in
     let away : (bytes_eq x.name.text d.name.text || false) ≡ false =
-        second_false (list_any (λ m. bytes_eq m.text d.name.text) earlier) _
-        (sym (list_any-append (λ m. bytes_eq m.text d.name.text) earlier (x.name ∷ [])) ∙ apart (earlier ++ x.name ∷ []) ds c d rest is) in
+    second_false (list_any (λ m. bytes_eq m.text d.name.text) earlier) _
+    (sym (list_any-append (λ m. bytes_eq m.text d.name.text) earlier (x.name ∷ [])) ∙ apart (earlier ++ x.name ∷ []) ds c d rest is) in
     let other : bytes_eq x.name.text d.name.text ≡ false = first_false _ false away in
     ap (λ b. cond (not b) (1 + position_or_len (λ (y : Class). bytes_eq y.name.text d.name.text) ds) 0) other
     ∙ ap (λ i. 1 + i) (place_of (earlier ++ x.name ∷ []) ds c d rest is) ∙ one_more c
@@ -254,9 +254,9 @@ module _ (s : Schemas) (schema : Schema) (repos : ℕ) (u : Upgrade) (items : Li
   said_keeps c d k is said =
       let all = said_sound old u c d k fine.own once is said in
       let rule : (i : ℕ) (f : FieldUpgrade) → slice_get k.fields i ≡ Some f → field_rules old c f ≡ [] =
-          λ i f at. at_place (λ f. field_rules old c f ≡ []) k.fields i f all.each at in
+      λ i f at. at_place (λ f. field_rules old c f ≡ []) k.fields i f all.each at in
       let before : (f : FieldUpgrade) (e : ℕ) → type_named new f.type_name ≡ type.Class e → type_named old f.type_name ≡ type.Class e =
-          λ f e t. sym (same_type u f.type_name old) ∙ t in
+      λ f e t. sym (same_type u f.type_name old) ∙ t in
       let part : (e : ℕ) → IsPart s e → is_part old (type.Class e) ≡ true = λ e p. kinds (type.Class e) ∙ p in
       record {
         fields = ap (map (λ f. f.type_name)) (fields_new u c old d k is said) ∙ same_types k.fields;

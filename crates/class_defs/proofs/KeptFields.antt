@@ -47,7 +47,7 @@ module _ (classes : List Class) where
 
   goes_on : (t : Option ExprType) (next : Name) (names : List Name)
       → ((d : ℕ) → is_int (path_type classes (Some (type.Class d)) (next ∷ names)) ≡ true
-        → goes_through_parts classes (Some (type.Class d)) (next ∷ names) ≡ true → is_owned_path classes (Some d) (next ∷ names) ≡ true)
+      → goes_through_parts classes (Some (type.Class d)) (next ∷ names) ≡ true → is_owned_path classes (Some d) (next ∷ names) ≡ true)
       → is_int (path_type classes t (next ∷ names)) ≡ true
       → (may_go_on classes t && goes_through_parts classes t (next ∷ names)) ≡ true
       → is_owned_path classes (part_class classes t) (next ∷ names) ≡ true
@@ -93,9 +93,9 @@ module _ (classes : List Class) where
     int_reads_owned = ind-Tf IsRead (λ x y is h g.
         fold-roll-Tf Bool (owned_step classes c) x
         ∙ subst (λ z. owned_step classes c (map-Tf Tf Bool (reads_owned classes c) z) ≡ true) is
-          (by_layer y
-            (subst (λ z. part_step classes c (map-Tf Tf Bool (reads_parts classes c) z) ≡ true) (sym is) (sym (fold-roll-Tf Bool (part_step classes c) x) ∙ h))
-            (subst (λ z. int_step classes c (map-Tf Tf Bool (gives_int classes c) z) ≡ true) (sym is) (sym (fold-roll-Tf Bool (int_step classes c) x) ∙ g))))
+        (by_layer y
+        (subst (λ z. part_step classes c (map-Tf Tf Bool (reads_parts classes c) z) ≡ true) (sym is) (sym (fold-roll-Tf Bool (part_step classes c) x) ∙ h))
+        (subst (λ z. int_step classes c (map-Tf Tf Bool (gives_int classes c) z) ≡ true) (sym is) (sym (fold-roll-Tf Bool (int_step classes c) x) ∙ g))))
 
     -- ---- references
 

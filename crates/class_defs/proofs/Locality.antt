@@ -74,8 +74,8 @@ module _ (classes : List Class) (f g : Oref → Option Object) (v : Object)
   expression_alike = ind-Tf IsAlike (λ x y is h.
       fold-roll-Tf (Option Value) (tf_step classes f v) x
       ∙ subst (λ z. tf_step classes f v (map-Tf Tf (Option Value) (tf_value classes f v) z) ≡ tf_step classes g v (map-Tf Tf (Option Value) (tf_value classes g v) z)) is
-        (by_layer y (subst (λ z. owned_step classes v.class (map-Tf Tf Bool (reads_owned classes v.class) z) ≡ true) (sym is)
-          (sym (fold-roll-Tf Bool (owned_step classes v.class) x) ∙ h)))
+      (by_layer y (subst (λ z. owned_step classes v.class (map-Tf Tf Bool (reads_owned classes v.class) z) ≡ true) (sym is)
+      (sym (fold-roll-Tf Bool (owned_step classes v.class) x) ∙ h)))
       ∙ sym (fold-roll-Tf (Option Value) (tf_step classes g v) x))
 
 -- ---- owned fields
@@ -247,7 +247,7 @@ module _ (s : Schemas) (e : ℕ) (keeps : AllKeepClasses s e) (m n : Objects) (P
 
   by_fields : (k : ℕ) (v : Object) (u : ClassUpgrade)
       → ((i : ℕ) (f : FieldUpgrade) → slice_get u.fields i ≡ Some f
-        → tf_value (classes_of s k) (get (values s m k)) v f.value ≡ tf_value (classes_of s k) (get (values s n k)) v f.value)
+      → tf_value (classes_of s k) (get (values s m k)) v f.value ≡ tf_value (classes_of s k) (get (values s n k)) v f.value)
       → step k (get (values s m k)) v (Some u) ≡ step k (get (values s n k)) v (Some u)
   by_fields k v u h =
       ap (λ fs. record v { fields = fs })
@@ -265,11 +265,11 @@ module _ (s : Schemas) (e : ℕ) (keeps : AllKeepClasses s e) (m n : Objects) (P
       let c = value_class s m k o in
       let below = low k y o is (changed (nat_lt k o.ver) (next_of s k o.class) u t r) early in
       by_fields k (value_of s m k o) u (λ i f place.
-        expression_alike (classes_of s k) (get (values s m k)) (get (values s n k)) (value_of s m k o)
-        (λ names owned. path_alike s e keeps m n P same down declared k within y below before names zero y o q refl is
-          (subst (λ d. is_owned_path (classes_of s k) (Some d) names ≡ true) c owned))
-        f.value
-        (subst (λ d. reads_owned (classes_of s k) d f.value ≡ true) (sym c) (((keeps k h).named o.class u r).paths i f place)))
+      expression_alike (classes_of s k) (get (values s m k)) (get (values s n k)) (value_of s m k o)
+      (λ names owned. path_alike s e keeps m n P same down declared k within y below before names zero y o q refl is
+      (subst (λ d. is_owned_path (classes_of s k) (Some d) names ≡ true) c owned))
+      f.value
+      (subst (λ d. reads_owned (classes_of s k) d f.value ≡ true) (sym c) (((keeps k h).named o.class u r).paths i f place)))
 
   -- the value of an object is the same over maps that agree on it and on what is below it
   pub value_local : (k : ℕ) → k ≤ e → AreSame s e keeps m n P same down declared k

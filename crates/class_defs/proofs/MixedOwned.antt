@@ -97,11 +97,29 @@ edge_of : (x : Oref) (o : Obj) (i d : ℕ) (w : Oref) → type_at (classes_of tw
     → ((x ≡ a) × ((i ≡ 1) × ((w ≡ m) × (o ≡ written 0 0 (value.Int (pos 0) ∷ value.Ref m ∷ []))))) ⊎ ((x ≡ m) × ((i ≡ 0) × ((w ≡ z) × (o ≡ written 1 0 (value.Ref z ∷ [])))))
     → Edge x i d w
 edge_of x o i d w t (inl h) =
-    inl (h.0, (h.1.0, (h.1.1.0, class_is (subst (λ j. type_at (classes_of twice 0) 0 j ≡ Some (type.Class d)) h.1.0
-      (subst (λ q. type_at (classes_of twice q.ver) q.class i ≡ Some (type.Class d)) h.1.1.1 t)))))
+    inl (
+      h.0,
+      (
+        h.1.0,
+        (
+          h.1.1.0,
+          class_is (subst (λ j. type_at (classes_of twice 0) 0 j ≡ Some (type.Class d)) h.1.0
+              (subst (λ q. type_at (classes_of twice q.ver) q.class i ≡ Some (type.Class d)) h.1.1.1 t)),
+        ),
+      ),
+    )
 edge_of x o i d w t (inr h) =
-    inr (h.0, (h.1.0, (h.1.1.0, class_is (subst (λ j. type_at (classes_of twice 0) 1 j ≡ Some (type.Class d)) h.1.0
-      (subst (λ q. type_at (classes_of twice q.ver) q.class i ≡ Some (type.Class d)) h.1.1.1 t)))))
+    inr (
+      h.0,
+      (
+        h.1.0,
+        (
+          h.1.1.0,
+          class_is (subst (λ j. type_at (classes_of twice 0) 1 j ≡ Some (type.Class d)) h.1.0
+              (subst (λ q. type_at (classes_of twice q.ver) q.class i ≡ Some (type.Class d)) h.1.1.1 t)),
+        ),
+      ),
+    )
 
 edge : (x : Oref) (i d : ℕ) (w : Oref) → Names twice mixed.objects x i d w → Edge x i d w
 edge x i d w n = edge_of x n.object i d w n.refers.declared (known x n.object n.stored i w n.refers.names)
@@ -129,12 +147,16 @@ near_by x i d w (inr h) = ap (λ v. v.repo) h.0 ∙ sym (ap (λ v. v.repo) h.1.1
 only_by : (x : Oref) (o : Obj) (i : ℕ) (w : Oref)
     → ((x ≡ a) × ((i ≡ 1) × ((w ≡ m) × (o ≡ written 0 0 (value.Int (pos 0) ∷ value.Ref m ∷ []))))) ⊎ ((x ≡ m) × ((i ≡ 0) × ((w ≡ z) × (o ≡ written 1 0 (value.Ref z ∷ [])))))
     → (d : ℕ) × (type_at (classes_of twice o.ver) o.class i ≡ Some (type.Class d))
-only_by x o i w (inl h) =
-    (1, subst (λ q. type_at (classes_of twice q.ver) q.class i ≡ Some (type.Class 1)) (sym h.1.1.1)
-      (subst (λ j. type_at (classes_of twice 0) 0 j ≡ Some (type.Class 1)) (sym h.1.0) refl))
-only_by x o i w (inr h) =
-    (2, subst (λ q. type_at (classes_of twice q.ver) q.class i ≡ Some (type.Class 2)) (sym h.1.1.1)
-      (subst (λ j. type_at (classes_of twice 0) 1 j ≡ Some (type.Class 2)) (sym h.1.0) refl))
+only_by x o i w (inl h) = (
+  1,
+  subst (λ q. type_at (classes_of twice q.ver) q.class i ≡ Some (type.Class 1)) (sym h.1.1.1)
+      (subst (λ j. type_at (classes_of twice 0) 0 j ≡ Some (type.Class 1)) (sym h.1.0) refl),
+)
+only_by x o i w (inr h) = (
+  2,
+  subst (λ q. type_at (classes_of twice q.ver) q.class i ≡ Some (type.Class 2)) (sym h.1.1.1)
+      (subst (λ j. type_at (classes_of twice 0) 1 j ≡ Some (type.Class 2)) (sym h.1.0) refl),
+)
 
 -- slots rise from owner to part, up to 2
 rises : (x : Oref) (i d : ℕ) (w : Oref) → Edge x i d w → (x.slot + 1 ≡ w.slot) × (w.slot ≤ 2)
@@ -188,9 +210,9 @@ mixed_owned = record {
   roots = λ i r h. no_root i r h;
   ends = λ y. (3, λ x h. let p = slots 2 x y h in absurd (omega (arith, p.0, p.1)));
   levels = λ n x y o p h is t.
-    let s = slots n x y h in
-    let v = found (λ x o. x.slot ≤ 2 → o.ver ≡ 0) y p mixed.objects.pairs first_at t s.1 in
-    omega (arith, v);
+      let s = slots n x y h in
+      let v = found (λ x o. x.slot ≤ 2 → o.ver ≡ 0) y p mixed.objects.pairs first_at t s.1 in
+      omega (arith, v);
 }
   where
     no_root : (i : ℕ) (r : Root) → slice_get mixed.roots i ≡ Some r

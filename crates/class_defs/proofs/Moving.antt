@@ -96,4 +96,4 @@ pub stands_for_itself : (s : Schemas) (store : Plain) → eager s (all_written s
 stands_for_itself s store =
     ap (λ (es : List (Oref × Object)). record { objects = record { pairs = es }; epoch = store.epoch; roots = store.roots })
     (as_before (value s (all_written store).objects store.epoch) store.epoch
-      (λ v. value_early s (all_written store).objects store.epoch (in_epoch store.epoch v) (omega arith)) store.objects.pairs)
+    (λ v. value_early s (all_written store).objects store.epoch (in_epoch store.epoch v) (omega arith)) store.objects.pairs)

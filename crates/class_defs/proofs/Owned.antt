@@ -59,8 +59,8 @@ module _ (s : Schemas) (L : Stored) (keeps : AllKeepClasses s L.epoch) (owned : 
   apart_stored : (a : Oref) (o : Obj) → get L.objects a ≡ Some o → AreApart s (classes_of s o.ver) (bare o)
   apart_stored a o is i j c d z p q r t =
       (owned.once a a i j z
-        (record { class = c; part = p; reference = record { object = o; stored = is; refers = r } })
-        (record { class = d; part = q; reference = record { object = o; stored = is; refers = t } })).1
+      (record { class = c; part = p; reference = record { object = o; stored = is; refers = r } })
+      (record { class = d; part = q; reference = record { object = o; stored = is; refers = t } })).1
 
   apart_by : (a : Oref) (q o : Obj) → get L.objects a ≡ Some o → (q ≡ o) ⊎ (q ≡ brought s L o) → AreApart s (classes_of s q.ver) (bare q)
   apart_by a q o is (inl e) = subst (λ w. AreApart s (classes_of s w.ver) (bare w)) (sym e) (apart_stored a o is)
@@ -102,8 +102,8 @@ module _ (s : Schemas) (L : Stored) (keeps : AllKeepClasses s L.epoch) (owned : 
   only_by a q o is (inr e) =
       subst (λ w. AreDeclared (classes_of s w.ver) (bare w)) (sym e)
       (along s L.epoch keeps L.objects o AreDeclared (λ i z r. owned.only a o i z is r)
-        (λ k b w before. next_declared s k (keeps k b) (get (values s L.objects k)) (value s L.objects k o) (next_of s k (value s L.objects k o).class) refl before)
-        L.epoch (owned.versions a o is) (omega arith))
+      (λ k b w before. next_declared s k (keeps k b) (get (values s L.objects k)) (value s L.objects k o) (next_of s k (value s L.objects k o).class) refl before)
+      L.epoch (owned.versions a o is) (omega arith))
 
   pub version_at : (a : Oref) (q : Obj) → get n a ≡ Some q → q.ver ≤ L.epoch
   version_at a q is = let f = back a q is in version a q f.object f.stored f.is
@@ -129,8 +129,8 @@ module _ (s : Schemas) (L : Stored) (keeps : AllKeepClasses s L.epoch) (owned : 
   kinds_by a q o is (inr e) h =
       subst (λ w. IsOfItsClass (classes_of s w.ver) (bare w)) (sym e)
       (along s L.epoch keeps L.objects o IsOfItsClass h
-        (λ k b w before. next_kinds s k (keeps k b) (get (values s L.objects k)) (value s L.objects k o) (next_of s k (value s L.objects k o).class) refl before)
-        L.epoch (owned.versions a o is) (omega arith))
+      (λ k b w before. next_kinds s k (keeps k b) (get (values s L.objects k)) (value s L.objects k o) (next_of s k (value s L.objects k o).class) refl before)
+      L.epoch (owned.versions a o is) (omega arith))
 
   pub still_kinds : AreOfTheirClasses s L → AreOfTheirClasses s (record L { objects = n })
   still_kinds h a q is = let f = back a q is in kinds_by a q f.object f.stored f.is (h a f.object f.stored)

@@ -206,8 +206,11 @@ module _ (fresh : Oref → Bool) where
       (λ l k r. record { name = r.name; kind = r.kind; value = value_later t u f l.value k.value r.value }) ls ks h
 
   pub this_later : (t u : Time) → Later t u → (r q : Option Receiver) → Both (Receivers t) r q → Both (Receivers u) r q
-  this_later t u f (Some r) (Some q) h = record { oref = f r.oref q.oref h.oref; class = h.class;
-      owners = names_later t u f r.owners q.owners h.owners }
+  this_later t u f (Some r) (Some q) h = record {
+    oref = f r.oref q.oref h.oref;
+    class = h.class;
+    owners = names_later t u f r.owners q.owners h.owners;
+  }
   this_later t u f None None h = tt
   this_later t u f (Some r) None h = absurd h
   this_later t u f None (Some q) h = absurd h

@@ -46,7 +46,7 @@ all_after P [] a m h x o e = h x o e
 all_after P (kv ∷ kvs) a m h x o e =
     all_after P kvs (All-tail P kv.1 (values_of kvs) a) (insert m kv.0 kv.1)
     (λ y p is. inserted P (same_oref y kv.0) kv.1 p (get m y) (All-head P kv.1 (values_of kvs) a) (h y p)
-        (sym (get-insert oref_total m kv.0 kv.1 y) ∙ is)) x o e
+    (sym (get-insert oref_total m kv.0 kv.1 y) ∙ is)) x o e
 
 -- ---- which names stay fresh
 
@@ -116,9 +116,9 @@ module _ (schema : Schema) (tx : List Stmt) (store : Plain) (fresh : Oref → Bo
         let t = through store names m r is in
         let created : AllByRecursion (λ x. others x ≡ false) m.created = rw t.created taken in
         let written : All Old (values m.writes) = λ k d l. let h =
-            kept k d l in known_values fresh others fewer (m.created, m.created) created _ h.0.fields h.1.1 in
+        kept k d l in known_values fresh others fewer (m.created, m.created) created _ h.0.fields h.1.1 in
         let objects : (x : Oref) (o : Object) → get (overwrite store.objects m.writes.pairs) x ≡ Some o
-            → Old o = all_after Old m.writes.pairs written store.objects still_unused in
+        → Old o = all_after Old m.writes.pairs written store.objects still_unused in
         subst (λ (q : Ran). Unused others (world_of schema q.store)) t.whole
         (record { stand_ins = stand_ins; roots = old_roots fresh others fewer schema.roots unused.roots; objects = objects })
     behind (Err (stop.Fault f)) m r kept is =
@@ -137,7 +137,7 @@ module _ (schema : Schema) (tx : List Stmt) (store : Plain) (fresh : Oref → Bo
       let p = execute_all w tx (begun names (Some 0)) in
       let s = both names taken 0 in
       let e = ends w fresh unused names (Some 0) names (Some 0) t t true true (omega arith) (omega arith) 0 tx (endless_had s p.0)
-          (endless_had s p.0) in
+      (endless_had s p.0) in
       behind names taken 0 p.0 p.1 r e.twins.made.kept is
 
   -- no such name was written
@@ -173,5 +173,5 @@ module _ (schema : Schema) (tx : List Stmt) (store : Plain) (fresh : Oref → Bo
       let p = execute_all w tx (begun names (Some 0)) in
       let s = both names taken 0 in
       let e = ends w fresh unused names (Some 0) names (Some 0) t t true true (omega arith) (omega arith) 0 tx (endless_had s p.0)
-          (endless_had s p.0) in
+      (endless_had s p.0) in
       (run_behind schema tx store names r is).objects x (written_by names taken p.0 p.1 r e.twins.made.only is x h)

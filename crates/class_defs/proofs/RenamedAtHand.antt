@@ -91,7 +91,7 @@ module _ (schema : Schema) (tx : List Stmt) (store : Plain) (names : List Oref) 
     taken =
         all_of (λ x. among waiting x ≡ false) m.created
         (λ x i. neither_true (x.repo == 255) _ (all_in (λ (z : Oref). (z.repo == 255) ≡ false) m.created x created.placed i)
-            (not_found x waiting (rest.untaken x i)))
+        (not_found x waiting (rest.untaken x i)))
 
     still_free : (x : Oref) → In waiting x → {o : Option Object} → o ≡ get store.objects x → o ≡ None
     still_free x i e = e ∙ all_in (λ y. get store.objects y ≡ None) names x at_hand.free (rest.still x i)

@@ -115,10 +115,15 @@ module _ (s : Setting) where
   bound_same : (t : Time) (classes : List Class) (n : ℕ) (ps : List Parameter) (vs us : List Value) → Lists t vs us
       → AllZip (Locals s.fresh t) (bound_from classes n ps vs) (bound_from classes n ps us)
   bound_same t classes n [] vs us h = tt
-  bound_same t classes n (p ∷ ps) vs us h =
-      (record { name = refl; kind = refl; value = argument t (slice_get vs n) (slice_get us n) (beginning (type_named classes p.type_name))
-          (each_at (Values s.fresh t) vs us n h) (begins_same s t (type_named classes p.type_name)) },
-      bound_same t classes (n + 1) ps vs us h)
+  bound_same t classes n (p ∷ ps) vs us h = (
+    record {
+      name = refl;
+      kind = refl;
+      value = argument t (slice_get vs n) (slice_get us n) (beginning (type_named classes p.type_name))
+          (each_at (Values s.fresh t) vs us n h) (begins_same s t (type_named classes p.type_name));
+    },
+    bound_same t classes (n + 1) ps vs us h,
+  )
 
   result_same : (t : Time) (classes : List Class) (method : Method) (f g : Flow) → Flows t f g
       → Values s.fresh t (result_of classes method f) (result_of classes method g)
@@ -167,10 +172,10 @@ module _ (s : Setting) where
         let f = b method.body (inside q method us n) in
         on s Flows (Values s.fresh) (now s m n) e.0 f.0 e.1 f.1
         (λ flow. λ o. (Ok (result_of s.world.schema.classes method flow), back m o))
-            (λ flow. λ o. (Ok (result_of s.world.schema.classes method flow), back n o))
+        (λ flow. λ o. (Ok (result_of s.world.schema.classes method flow), back n o))
         (blocks (now s m n) method.body (inside r method vs m) (inside q method us n) (λ x y i. i) (inside_twins r q method vs us m n tw h vals))
         (λ c d k later end. gives s (Values s.fresh) e.1 f.1 (back m e.1) (back n f.1) _ _ (λ x y i. i) (back_twins m n e.1 f.1 tw later end)
-            (result_same (now s e.1 f.1) s.world.schema.classes method c d k))
+        (result_same (now s e.1 f.1) s.world.schema.classes method c d k))
 
     enter_same : (r q : Receiver) (method : Option Method) (vs us : List Value) (m n : Machine) → Twins s m n → Receivers s.fresh (now s m n) r q
         → Lists (now s m n) vs us
@@ -190,7 +195,7 @@ module _ (s : Setting) where
     abbrev goes : Bool → ℕ → Oref → List Oref → List ℕ → List Value → Machine → Result Value Stop × Machine
     goes l c x owners name vs m =
         cond l ((touch s.world owners x >>= (λ found. enter_as s.world b (record { oref = x; class = c; owners = owners }) found
-            (method_of s.world.schema.classes c name) vs)) m) (Err (stop.Fault fault.Depth), m)
+        (method_of s.world.schema.classes c name) vs)) m) (Err (stop.Fault fault.Depth), m)
 
     object_same : (l k : Bool) (c : ℕ) (x y : Oref) (owners others : List Oref) (name : List ℕ) (vs us : List Value) (m n : Machine) → k ≡ l
         → Twins s m n
@@ -201,7 +206,7 @@ module _ (s : Setting) where
         let q = touch s.world others y n in
         on s Numbers (Values s.fresh) (now s m n) p.0 q.0 p.1 q.1 _ _ (touch_same s x y owners others m n tw i os) (λ a d same later end.
         rw same (chosen (d == c) (record { oref = x; class = c; owners = owners }) (record { oref = y; class = c; owners = others })
-            (method_of s.world.schema.classes c name) vs us p.1 q.1 end
+        (method_of s.world.schema.classes c name) vs us p.1 q.1 end
         (record { oref = later x y i; class = refl; owners = names_later s.fresh (now s m n) (now s p.1 q.1) later owners others os })
         (values_later s.fresh (now s m n) (now s p.1 q.1) later vs us vals)))
     object_same false false c x y owners others name vs us m n e tw i os vals =
@@ -215,9 +220,9 @@ module _ (s : Setting) where
     unfolding call_object owners_at
     call_object_same c x y name vs us m n tw i vals =
         object_same (nat_lt m.depth DEPTH_LIMIT) (nat_lt n.depth DEPTH_LIMIT) c x y (owners_at s.world.schema.classes c m)
-            (owners_at s.world.schema.classes c n) name vs us m n
+        (owners_at s.world.schema.classes c n) name vs us m n
         (ap (λ k. nat_lt k DEPTH_LIMIT) tw.depth) tw i (owners_same (now s m n)
-            (option_map (λ (d : Class). d.kind) (slice_get s.world.schema.classes c)) m.this n.this tw.this) vals
+        (option_map (λ (d : Class). d.kind) (slice_get s.world.schema.classes c)) m.this n.this tw.this) vals
 
     no_object : (m n : Machine) → Twins s m n → Went s (Values s.fresh) (now s m n) (Err (stop.Fault fault.NullCall), m)
         (Err (stop.Fault fault.NullCall), n)
@@ -256,15 +261,15 @@ module _ (s : Setting) where
     calls_same k t receiver method arguments =
         bind s (Values s.fresh) (Values s.fresh) t (v receiver) (v receiver) _ _ (values t receiver) (λ u lt r q h.
         bind s Lists (Values s.fresh) u (values_of s.world v b arguments) (values_of s.world v b arguments) _ _ (values_of_same u arguments)
-            (λ w lw vs us vals.
+        (λ w lw vs us vals.
         λ m n later tw. call_same k r q method vs us m n tw (value_later s.fresh u (now s m n) (λ x y i. later x y (lw x y i)) r q h)
-            (values_later s.fresh w (now s m n) later vs us vals)))
+        (values_later s.fresh w (now s m n) later vs us vals)))
 
     called_same : (t : Time) (receiver : Expr) (method : List ℕ) (arguments : List Expr)
         → Alike s (Values s.fresh) t (called s.world v b receiver method arguments) (called s.world v b receiver method arguments)
     called_same t receiver method arguments m n lt tw =
         let e : type_of (scope_at s.world.schema n) receiver ≡ type_of (scope_at s.world.schema m) receiver =
-            ap (λ c. type_of c receiver) (same_scope s m n tw) in
+        ap (λ c. type_of c receiver) (same_scope s m n tw) in
         rw e (calls_same (type_of (scope_at s.world.schema m) receiver) t receiver method arguments m n lt tw)
 
     node_same : (t : Time) (e : Expr-F Expr) → Alike s (Values s.fresh) t (value_at s.world v b e) (value_at s.world v b e)
@@ -279,13 +284,13 @@ module _ (s : Setting) where
     node_same t (Expr-F.Parens inner line) = values t inner
     node_same t (Expr-F.Negate operand line) =
         bind s (Values s.fresh) (Values s.fresh) t (v operand) (v operand) _ _ (values t operand)
-            (λ u lt a c h. settled s (Values s.fresh) u _ _ (λ w lw. ap (int_wrapping_sub w64 (pos 0)) (same_number u a c h)))
+        (λ u lt a c h. settled s (Values s.fresh) u _ _ (λ w lw. ap (int_wrapping_sub w64 (pos 0)) (same_number u a c h)))
     node_same t (Expr-F.Binary operator left right line) =
         bind s (Values s.fresh) (Values s.fresh) t (v left) (v left) _ _ (values t left) (λ u lt a c h.
         bind s (Values s.fresh) (Values s.fresh) u (v right) (v right) _ _ (values u right) (λ w lw d f i.
         λ m n later tw. gives s (Values s.fresh) m n m n _ _ (λ x y j. j) tw
         (combined_same (now s m n) tw.made.one_one operator a c d f (value_later s.fresh u (now s m n) (λ x y j. later x y (lw x y j)) a c h)
-            (value_later s.fresh w (now s m n) later d f i))))
+        (value_later s.fresh w (now s m n) later d f i))))
     node_same t (Expr-F.Call receiver method arguments) = called_same t receiver method.text arguments
 
     pub expression_same : (t : Time) (e : Expr) → Alike s (Values s.fresh) t (expression s.world v b e) (expression s.world v b e)

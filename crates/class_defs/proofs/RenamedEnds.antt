@@ -153,7 +153,7 @@ module _ (w : World) (fresh : Oref → Bool) (unused : Unused fresh w) where
   pub runs_same : (tx : List Stmt) (names : List Oref) (stand_in : Option ℕ) (others : List Oref) (other_stand_in : Option ℕ) (r q : Result Flow Stop)
       (m n : Machine)
       → Takeable fresh names → Takeable fresh others → execute_all w tx (begun names stand_in) ≡ (r, m)
-          → execute_all w tx (begun others other_stand_in) ≡ (q, n)
+      → execute_all w tx (begun others other_stand_in) ≡ (q, n)
       → HadNames r → HadNames q → SameRun fresh r q m n
   runs_same tx names stand_in others other_stand_in r q m n t u is others_are g f =
       let p = execute_all w tx (begun names stand_in) in
@@ -162,7 +162,7 @@ module _ (w : World) (fresh : Oref → Bool) (unused : Unused fresh w) where
       let gp : HadNames p.0 = rw is g in
       let fo : HadNames o.0 = rw others_are f in
       let e = same_run names stand_in others other_stand_in t u false false tt tt 0 p.0 o.0 p.1 o.1
-          (ends names stand_in others other_stand_in t u false false tt tt 0 tx (had s false p.0 gp) (had s false o.0 fo)) in
+      (ends names stand_in others other_stand_in t u false false tt tt 0 tx (had s false p.0 gp) (had s false o.0 fo)) in
       let e2 : SameRun fresh r o.0 m o.1 = subst (λ (z : Result Flow Stop × Machine). SameRun fresh z.0 o.0 z.1 o.1) is e in
       subst (λ (z : Result Flow Stop × Machine). SameRun fresh r z.0 m z.1) others_are e2
 

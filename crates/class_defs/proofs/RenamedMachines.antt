@@ -227,14 +227,14 @@ module _ (s : Setting) where
   -- the value of a root is an old name
   root_value : (t : Time) (o : Option RootDeclaration) → IfSome o (λ (r : RootDeclaration). s.fresh r.oref ≡ false)
       → Values s.fresh t (unwrap_or (option_map (λ (r : RootDeclaration). value.Ref r.oref) o) value.Null)
-          (unwrap_or (option_map (λ (r : RootDeclaration). value.Ref r.oref) o) value.Null)
+      (unwrap_or (option_map (λ (r : RootDeclaration). value.Ref r.oref) o) value.Null)
   root_value t None h = tt
   root_value t (Some r) h = inl (h, refl)
 
   local_or_root : (t : Time) (o p : Option Local) (r q : Option Value) → Both (Locals s.fresh t) o p
       → Values s.fresh t (unwrap_or r value.Null) (unwrap_or q value.Null)
       → Values s.fresh t (unwrap_or (first_of (option_map (λ (l : Local). l.value) o) r) value.Null)
-          (unwrap_or (first_of (option_map (λ (l : Local). l.value) p) q) value.Null)
+      (unwrap_or (first_of (option_map (λ (l : Local). l.value) p) q) value.Null)
   local_or_root t (Some l) (Some k) r q h e = h.value
   local_or_root t None None r q h e = e
   local_or_root t (Some l) None r q h e = absurd h
@@ -249,6 +249,6 @@ module _ (s : Setting) where
   unfolding named_value
   same_named m n tw name =
       let same : root_named s.world.schema n name ≡ root_named s.world.schema m name =
-          ap (find (λ (r : RootDeclaration). bytes_eq r.name.text name)) (same_sight (now m n) m.this n.this tw.this) in
+      ap (find (λ (r : RootDeclaration). bytes_eq r.name.text name)) (same_sight (now m n) m.this n.this tw.this) in
       local_or_root (now m n) (local_named m name) (local_named n name) _ _ (locals_found (now m n) name m.locals n.locals tw.locals)
       (rw same (root_value (now m n) (root_named s.world.schema m name) (found_all _ _ (roots_in_sight s.world.schema m.this) (sight_old m.this))))

@@ -67,7 +67,8 @@ module _ (s : Setting) where
       same_created : is_some (find (same_oref x) m.created) ≡ is_some (find (same_oref y) n.created)
       same_created =
           both_there _ _ _ (each_found (Names s.fresh (now s m n)) (same_oref x) (same_oref y)
-              (λ a b j. tw.made.one_one x y a b i j) m.created n.created tw.made.created)
+          (λ a b j. tw.made.one_one x y a b i j) m.created n.created tw.made.created)
+
       by : Names s.fresh (now s m n) x y → Tested m n x y
       by (inl e) = record { same = rw (sym same_created, tw.reads, sym e.1) refl; old = λ f. e.1 }
       by (inr p) =
@@ -93,7 +94,7 @@ module _ (s : Setting) where
   abbrev touched : Bool → Bool → Option Object → List Oref → Oref → Machine → Result ℕ Stop × Machine
   touched b l o owners x m =
       cond b (class_found o x owners m) (cond l (after (class_found o x owners m).0 (class_found o x owners m).1 (λ c. λ n. (Ok c, read n x)))
-          (Err (stop.Fault fault.Large), m))
+      (Err (stop.Fault fault.Large), m))
 
   touched_same : (b c l k : Bool) (o p : Option Object) (x y : Oref) (owners others : List Oref) (m n : Machine) → c ≡ b → k ≡ l → (b ≡ false → x ≡ y)
       → Twins s m n
@@ -105,7 +106,7 @@ module _ (s : Setting) where
       let a = (class_found o x owners m).1 in
       let b = (class_found p y others n).1 in
       on s Numbers Numbers (now s m n) (class_found o x owners m).0 (class_found p y others n).0 a b (λ c. λ o. (Ok c, read o x))
-          (λ c. λ o. (Ok c, read o y))
+      (λ c. λ o. (Ok c, read o y))
       (class_found_same o p x y owners others m n tw i os h there)
       (λ c d v later now_twins. gives s Numbers a b (read a x) (read b y) c d (λ k l j. j) (read_same a b x y (old refl) now_twins) v)
   touched_same false false false false o p x y owners others m n e f old tw i os h there = fails s Numbers (now s m n) _ _ m n tw (λ g j. refl)
@@ -121,7 +122,7 @@ module _ (s : Setting) where
   touch_same x y owners others m n tw i os =
       let t = tested m n x y tw i in
       touched_same (known m x) (known n y) (nat_lt (len m.reads) READ_LIMIT) (nat_lt (len n.reads) READ_LIMIT) (seen s.world m x)
-          (seen s.world n y) x y owners others m n
+      (seen s.world n y) x y owners others m n
       t.same (ap (λ (r : Map oref_cmp (Unit {0})). nat_lt (len r) READ_LIMIT) tw.reads) t.old tw i os (tw.made.seen x y i) (tw.made.there x y)
 
   -- ---- the fields of `this`
@@ -163,11 +164,11 @@ module _ (s : Setting) where
   field_same m n None None name tw h = tt
   field_same m n (Some r) (Some q) name tw h =
       let e : field_type (scope_at s.world.schema n) name ≡ field_type (scope_at s.world.schema m) name =
-          ap (λ c. field_type c name) (same_scope s m n tw) in
+      ap (λ c. field_type c name) (same_scope s m n tw) in
       let f : field_named s.world.schema.classes q.class name ≡ field_named s.world.schema.classes r.class name =
-          ap (λ c. field_named s.world.schema.classes c name) h.class in
+      ap (λ c. field_named s.world.schema.classes c name) h.class in
       rw (e, f) (fitted_or_same (now s m n) _ _ _ (field_at_same (now s m n) (seen s.world m r.oref) (seen s.world n q.oref)
-          (field_named s.world.schema.classes r.class name) (tw.made.seen r.oref q.oref h.oref)))
+      (field_named s.world.schema.classes r.class name) (tw.made.seen r.oref q.oref h.oref)))
   field_same m n (Some r) None name tw h = absurd h
   field_same m n None (Some q) name tw h = absurd h
 
@@ -260,9 +261,9 @@ module _ (s : Setting) where
   assigned_same m n None None name v u tw h e = gives s (Nothing s) m n m n tt tt (λ a b k. k) tw tt
   assigned_same m n (Some r) (Some q) name v u tw h e =
       let f : field_named s.world.schema.classes q.class name ≡ field_named s.world.schema.classes r.class name =
-          ap (λ c. field_named s.world.schema.classes c name) h.class in
+      ap (λ c. field_named s.world.schema.classes c name) h.class in
       rw f (written_same m n (seen s.world m r.oref) (seen s.world n q.oref)
-          (field_named s.world.schema.classes r.class name) v u r.oref q.oref tw h.oref (tw.made.seen r.oref q.oref h.oref) e)
+      (field_named s.world.schema.classes r.class name) v u r.oref q.oref tw h.oref (tw.made.seen r.oref q.oref h.oref) e)
   assigned_same m n (Some r) None name v u tw h e = absurd h
   assigned_same m n None (Some q) name v u tw h e = absurd h
 
@@ -318,7 +319,7 @@ module _ (s : Setting) where
   module _ (t : Time) (ws os : Map oref_cmp Object) (names left : NameSupply) (made : Made s t ws os names left) (repo other : ℕ)
       (one_repo : t.1 ≡ t.0 → repo ≡ other)
       (x y : Oref × NameSupply) (taken : take_name repo names ≡ Some x) (other_taken : take_name other left ≡ Some y) (o : Object)
-          (itself : (u : Time) → Objects s.fresh u (Some o) (Some o)) where
+      (itself : (u : Time) → Objects s.fresh u (Some o) (Some o)) where
     abbrev u : Time
     u = more s.fresh t x.0 y.0
 
@@ -359,16 +360,16 @@ module _ (s : Setting) where
         (cond (same_oref b y.0) (Some o) (get os b))
     written_by a b (inl i) =
         picked u _ _ o o _ _ (other_name a b i ∙ sym (other_name_there a b i)) (itself u)
-            (object_later s.fresh t u (more_later s.fresh t x.0 y.0) _ _ (made.written a b i))
+        (object_later s.fresh t u (more_later s.fresh t x.0 y.0) _ _ (made.written a b i))
     written_by a b (inr e) = hit u _ _ o o _ _ (ap (λ z. same_oref z x.0) e.0 ∙ same_itself x.0) (ap (λ z. same_oref z y.0) e.1 ∙ same_itself y.0)
         (itself u)
 
     seen_by_split : (a b : Oref) → Split a b
         → Objects s.fresh u (first_of (cond (same_oref a x.0) (Some o) (get ws a)) (s.world.at_hand a))
-            (first_of (cond (same_oref b y.0) (Some o) (get os b)) (s.world.at_hand b))
+        (first_of (cond (same_oref b y.0) (Some o) (get os b)) (s.world.at_hand b))
     seen_by_split a b (inl i) =
         picked_seen u _ _ o o _ _ _ _ (other_name a b i ∙ sym (other_name_there a b i)) (itself u)
-            (object_later s.fresh t u (more_later s.fresh t x.0 y.0) _ _ (made.seen a b i))
+        (object_later s.fresh t u (more_later s.fresh t x.0 y.0) _ _ (made.seen a b i))
     seen_by_split a b (inr e) = hit_seen u _ _ o o _ _ _ _ (ap (λ z. same_oref z x.0) e.0 ∙ same_itself x.0)
         (ap (λ z. same_oref z y.0) e.1 ∙ same_itself y.0) (itself u)
 
@@ -411,7 +412,7 @@ module _ (s : Setting) where
         let here = given.without none in
         let e = made.in_order here all in
         let f = takes_in_order repo s.repo names x here (all_behind _ t.0 names.waiting
-            (subst (AllByRecursion (λ (z : Oref). z.repo ≡ s.repo)) (sym e) all)) given.left (given.placed here) taken in
+        (subst (AllByRecursion (λ (z : Oref). z.repo ≡ s.repo)) (sym e) all)) given.left (given.placed here) taken in
         append_assoc t.0 (x.0 ∷ []) x.1.waiting ∙ ap (λ zs. t.0 ++ zs) (sym f) ∙ e
 
     pub new_made : Made s u (insert ws x.0 o) (insert os y.0 o) x.1 y.1
@@ -460,11 +461,11 @@ module _ (s : Setting) where
 
   make_same : (c repo other : ℕ) (m n : Machine) (p q : Option (Oref × NameSupply)) → Twins s m n → (m.created ≡ n.created → repo ≡ other)
       → nat_lt (length m.created) CREATE_LIMIT ≡ true → nat_lt (length n.created) CREATE_LIMIT ≡ true → take_name repo m.names ≡ p
-          → take_name other n.names ≡ q
+      → take_name other n.names ≡ q
       → Went s (Values s.fresh) (now s m n) (make s.world c repo p m) (make s.world c other q n)
   make_same c repo other m n (Some x) (Some y) tw one below other_below e f =
       let made = new_made (now s m n) m.writes n.writes m.names n.names tw.made repo other (λ h. one (sym h)) x y e f (new_object s.world c)
-          (λ u. new_same u c) in
+      (λ u. new_same u c) in
       gives s (Values s.fresh) m n (new m x (new_object s.world c)) (new n y (new_object s.world c)) (value.Ref x.0) (value.Ref y.0)
       (more_later s.fresh (now s m n) x.0 y.0) (new_twins m n x y (new_object s.world c) tw made)
       (inr (paired_last (Names s.fresh (now s m n)) m.created n.created x.0 y.0 tw.made.created))
@@ -490,7 +491,7 @@ module _ (s : Setting) where
   create_in_same repo other (Some c) m n tw one =
       let long : length n.created ≡ length m.created = sym (length_all_zip (Names s.fresh (now s m n)) m.created n.created tw.made.created) in
       below_same (nat_lt (length m.created) CREATE_LIMIT) (nat_lt (length n.created) CREATE_LIMIT) c repo other m n tw one refl refl
-          (ap (λ k. nat_lt k CREATE_LIMIT) long)
+      (ap (λ k. nat_lt k CREATE_LIMIT) long)
 
   one_repo : (t : Time) (r q : Option Receiver) (at : Option At) → Both (Receivers s.fresh t) r q → t.0 ≡ t.1 → repo_for r at ≡ repo_for q at
   one_repo t None None at h e = refl
@@ -502,4 +503,4 @@ module _ (s : Setting) where
   unfolding create
   create_same t class at m n lt tw =
       create_in_same (repo_for m.this at) (repo_for n.this at) (class_named s.world.schema.classes class) m n tw
-          (one_repo (now s m n) m.this n.this at tw.this)
+      (one_repo (now s m n) m.this n.this at tw.this)

@@ -44,7 +44,7 @@ module _ (s : Setting) where
       → position (λ (l : Local). bytes_eq l.name name) ks ≡ position (λ (l : Local). bytes_eq l.name name) ls
   same_place t name ls ks h =
       let e = each_placed (Locals s.fresh t) (λ (l : Local). bytes_eq l.name name) (λ (l : Local). bytes_eq l.name name)
-          (λ a b r. rw r.name refl) ls ks h in
+      (λ a b r. rw r.name refl) ls ks h in
       let f = length_all_zip (Locals s.fresh t) ls ks h in
       rw (e, sym f) refl
 
@@ -85,7 +85,7 @@ module _ (s : Setting) where
   order_same r h [] t = settled s (Flows s) t Next Next (λ u lt. tt)
   order_same r h (q ∷ ss) t =
       bind s (Flows s) (Flows s) t (r q) (r q) _ _ (h t q) (λ u lt f g e. unless_same u f g (in_order r ss) (in_order r ss)
-          (λ w lw. flow_later u w lw f g e) (λ w lw. order_same r h ss w) e)
+      (λ w lw. flow_later u w lw f g e) (λ w lw. order_same r h ss w) e)
 
   pub block_same : (r : Stmt → Action Flow) → ((t : Time) (q : Stmt) → Alike s (Flows s) t (r q) (r q)) → (t : Time) → (ss : List Stmt)
       → Alike s (Flows s) t (block_of r ss) (block_of r ss)
@@ -95,10 +95,10 @@ module _ (s : Setting) where
       let q = in_order r ss n in
       let long : length m.locals ≡ length n.locals = length_all_zip (Locals s.fresh (now s m n)) m.locals n.locals tw.locals in
       on s (Flows s) (Flows s) (now s m n) p.0 q.0 p.1 q.1 (λ f. λ o. (Ok f, record o { locals = take (length m.locals) o.locals }))
-          (λ f. λ o. (Ok f, record o { locals = take (length n.locals) o.locals }))
+      (λ f. λ o. (Ok f, record o { locals = take (length n.locals) o.locals }))
       (order_same r h ss t m n lt tw) (λ f g e later end.
       rw (sym long) (gives s (Flows s) p.1 q.1 (record p.1 { locals = take (length m.locals) p.1.locals })
-          (record q.1 { locals = take (length m.locals) q.1.locals }) f g (λ x y i. i)
+      (record q.1 { locals = take (length m.locals) q.1.locals }) f g (λ x y i. i)
       (with_locals p.1 q.1 _ _ end (each_front (Locals s.fresh (now s p.1 q.1)) p.1.locals q.1.locals (length m.locals) end.locals)) e))
 
   module _ (v : Expr → Action Value) (b : List Stmt → Action Flow) (values : (t : Time) (e : Expr) → Alike s (Values s.fresh) t (v e) (v e))
@@ -118,7 +118,7 @@ module _ (s : Setting) where
     turn_same t a c body p h again =
         either_same (Flows s) t (holds a) (holds c) _ _ _ _ (holds_same t a c h)
         (bind s (Flows s) (Flows s) t (b body) (b body) _ _ (blocks t body)
-            (λ u lt f g e. unless_same u f g p p (λ w lw. flow_later u w lw f g e) (λ w lw. again w) e))
+        (λ u lt f g e. unless_same u f g p p (λ w lw. flow_later u w lw f g e) (λ w lw. again w) e))
         (settled s (Flows s) t Next Next (λ u lt. tt))
 
     first_value : (t : Time) (e : Expr) → Alike s (Values s.fresh) t (step >> v e) (step >> v e)
@@ -137,11 +137,11 @@ module _ (s : Setting) where
     -- a value, and then a change of the state by it
     changed_by : (t : Time) (e : Expr) (c : Value → Machine → Machine)
         → ((m n : Machine) (a d : Value) → Twins s m n → Values s.fresh (now s m n) a d
-            → Went s (Flows s) (now s m n) (Ok Next, c a m) (Ok Next, c d n))
+        → Went s (Flows s) (now s m n) (Ok Next, c a m) (Ok Next, c d n))
         → Alike s (Flows s) t (step >> v e >>= (λ a. change (c a) >> pure Next)) (step >> v e >>= (λ a. change (c a) >> pure Next))
     changed_by t e c h =
         bind s (Values s.fresh) (Flows s) t (step >> v e) (step >> v e) _ _ (first_value t e)
-            (λ u lt a d i. λ m n later tw. h m n a d tw (value_later s.fresh u (now s m n) later a d i))
+        (λ u lt a d i. λ m n later tw. h m n a d tw (value_later s.fresh u (now s m n) later a d i))
 
     printed_twins : (m n : Machine) (a d : Value) → Twins s m n → Values s.fresh (now s m n) a d
         → Twins s (record m { printed = m.printed ++ number a ∷ [] }) (record n { printed = n.printed ++ number d ∷ [] })
@@ -160,18 +160,18 @@ module _ (s : Setting) where
         changed_by t e (λ a. declare (type_named s.world.schema.classes type_name) name.text a) (λ m n a d tw h.
         gives s (Flows s) m n _ _ Next Next (λ x y i. i)
         (with_locals m n _ _ tw (AllZip-push (Locals s.fresh (now s m n)) m.locals n.locals _ _ tw.locals
-            (record { name = refl; kind = refl; value = h }))) tt)
+        (record { name = refl; kind = refl; value = h }))) tt)
     statement_at_same t (Stmt-F.Assign name line e) =
         changed_by t e (λ a. assign_local name.text a) (λ m n a d tw h.
         gives s (Flows s) m n _ _ Next Next (λ x y i. i) (with_locals m n _ _ tw
-            (assigned_same (now s m n) m.locals n.locals name.text a d tw.locals h)) tt)
+        (assigned_same (now s m n) m.locals n.locals name.text a d tw.locals h)) tt)
     statement_at_same t (Stmt-F.FieldAssign field line e) =
         bind s (Values s.fresh) (Flows s) t (step >> v e) (step >> v e) _ _ (first_value t e) (λ u lt a d h.
         bind s (Nothing s) (Flows s) u _ _ _ _ (assign_field_same s u field.text a d (λ w lw. value_later s.fresh u w lw a d h))
-            (λ w lw i j k. settled s (Flows s) w Next Next (λ x lx. tt)))
+        (λ w lw i j k. settled s (Flows s) w Next Next (λ x lx. tt)))
     statement_at_same t (Stmt-F.Return e) =
         bind s (Values s.fresh) (Flows s) t (step >> v e) (step >> v e) _ _ (first_value t e)
-            (λ u lt a d h. settled s (Flows s) u (Returned a) (Returned d) (λ w lw. value_later s.fresh u w lw a d h))
+        (λ u lt a d h. settled s (Flows s) u (Returned a) (Returned d) (λ w lw. value_later s.fresh u w lw a d h))
     statement_at_same t (Stmt-F.If condition then_block) =
         bind s (Values s.fresh) (Flows s) t (step >> v condition) (step >> v condition) _ _ (first_value t condition) (λ u lt a d h.
         branch_same u a d _ _ h (blocks u then_block) (settled s (Flows s) u Next Next (λ w lw. tt)))
@@ -184,7 +184,7 @@ module _ (s : Setting) where
         gives s (Flows s) m n _ _ Next Next (λ x y i. i) (printed_twins m n a d tw h) tt)
     statement_at_same t (Stmt-F.Evaluate e) =
         bind s (Values s.fresh) (Flows s) t (step >> v e) (step >> v e) _ _ (first_value t e)
-            (λ u lt a d h. settled s (Flows s) u Next Next (λ w lw. tt))
+        (λ u lt a d h. settled s (Flows s) u Next Next (λ w lw. tt))
 
     pub statement_same : (t : Time) (q : Stmt) → Alike s (Flows s) t (statement s.world v b q) (statement s.world v b q)
     unfolding statement

@@ -109,10 +109,14 @@ module _ (schema : Schema) (tx : List Stmt) (store : Plain) (fresh : Oref → Bo
       → Through store names m r → Through store others n q
       → SameRan fresh names others r q
   through_same names others m n flow other r q same t u =
-      let whole : SameRan fresh m.created n.created (record { answer = answer.Ints m.printed; touched = keys m.reads; written = m.writes.pairs;
-          store = changed store m.writes.pairs })
-          (record { answer = answer.Ints n.printed; touched = keys n.reads; written = n.writes.pairs; store = changed store n.writes.pairs }) =
-              record {
+      let whole : SameRan fresh m.created n.created (record {
+        answer = answer.Ints m.printed;
+        touched = keys m.reads;
+        written = m.writes.pairs;
+        store = changed store m.writes.pairs;
+      })
+      (record { answer = answer.Ints n.printed; touched = keys n.reads; written = n.writes.pairs; store = changed store n.writes.pairs }) =
+      record {
         answer = ap answer.Ints same.printed;
         touched = ap keys same.reads;
         as_many = same.created;
@@ -125,7 +129,7 @@ module _ (schema : Schema) (tx : List Stmt) (store : Plain) (fresh : Oref → Bo
       → SameRan fresh names others r q
   into_same names others m n f g r q same t u =
       let whole : SameRan fresh [] [] (record { answer = answer.Fault f; touched = keys m.reads; written = []; store = store })
-          (record { answer = answer.Fault g; touched = keys n.reads; written = []; store = store }) = record {
+      (record { answer = answer.Fault g; touched = keys n.reads; written = []; store = store }) = record {
         answer = ap answer.Fault (sym same.ended);
         touched = ap keys same.reads;
         as_many = refl;
@@ -156,7 +160,7 @@ module _ (schema : Schema) (tx : List Stmt) (store : Plain) (fresh : Oref → Bo
       let o = execute_all w tx (begun others (Some 0)) in
       ran_same names others p.0 o.0 p.1 o.1 r q
       (runs_same w fresh unused tx names (Some 0) others (Some 0) p.0 o.0 p.1 o.1 t u refl refl (defined_had store names p.0 p.1 r is)
-          (defined_had store others o.0 o.1 q other_is))
+      (defined_had store others o.0 o.1 q other_is))
       is other_is
 
   -- ---- names at hand
@@ -186,7 +190,7 @@ module _ (schema : Schema) (tx : List Stmt) (store : Plain) (fresh : Oref → Bo
     created_takeable =
         let made = (itself 0).twins.made in
         subst (λ (z : Result Flow Stop × Machine). Takeable fresh z.1.created) is
-            (record { new = made.taken.new; placed = made.taken.placed (made.without refl); once = made.taken.once })
+        (record { new = made.taken.new; placed = made.taken.placed (made.without refl); once = made.taken.once })
 
     -- what is left of the names: each was at hand, is left once, and wasn't taken
     pub record Leaves : Type 0 where
@@ -229,7 +233,7 @@ module _ (schema : Schema) (tx : List Stmt) (store : Plain) (fresh : Oref → Bo
     both_ran : Ends twice (Flows twice) ([], []) ended.0 again.0 ended.1 again.1
     both_ran =
         ends w fresh unused at_hand None m.created (Some 0) takeable created_takeable false true tt (omega arith) 0 tx
-            (had twice false ended.0 had_names) (endless_had twice again.0)
+        (had twice false ended.0 had_names) (endless_had twice again.0)
 
     same_created : again.1.created ≡ m.created
     same_created =
@@ -275,7 +279,7 @@ module _ (schema : Schema) (tx : List Stmt) (store : Plain) (fresh : Oref → Bo
       → SameRun fresh without.0 o without.1 m
   with_names_same at_hand t o m is named =
       runs_same w fresh unused tx [] (Some 0) at_hand None without.0 o without.1 m no_names_takeable t refl is
-          (stand_ins_enough w fresh unused tx [] no_names_takeable) named
+      (stand_ins_enough w fresh unused tx [] no_names_takeable) named
 
   created_by : (cs ds : List Oref) (p o : Result Flow Stop) (n : Machine) → ran_by store [] p n ≡ None → HadObjects p → SameEnd fresh cs ds p o
       → (flow : Flow) × (o ≡ Ok flow)
@@ -290,7 +294,7 @@ module _ (schema : Schema) (tx : List Stmt) (store : Plain) (fresh : Oref → Bo
   pub defined_with : (at_hand : List Oref) → Takeable fresh at_hand → (o : Result Flow Stop) (m : Machine) → run schema tx store [] ≡ None
       → HadObjects without.0
       → execute_all w tx (begun at_hand None) ≡ (o, m) → HadNames o
-          → IsSomeAnd (run schema tx store m.created) (λ r. (r.answer ≡ answer.Ints m.printed) × (r.touched ≡ keys m.reads))
+      → IsSomeAnd (run schema tx store m.created) (λ r. (r.answer ≡ answer.Ints m.printed) × (r.touched ≡ keys m.reads))
   unfolding run
   defined_with at_hand t o m undefined objects is named =
       let same = with_names_same at_hand t o m is named in
@@ -327,10 +331,10 @@ module _ (schema : Schema) (tx : List Stmt) (store : Plain) (fresh : Oref → Bo
   defined_too names r t defined at_hand u (Err (stop.Fault f)) m is named =
       let same = with_names_same at_hand u (Err (stop.Fault f)) m is named in
       some_too _ _ (run schema tx store []) (fault_by without.1.created m.created f without.0 without.1 same.ended)
-          (λ q other. defined_same names [] r q t no_names_takeable defined other)
+      (λ q other. defined_same names [] r q t no_names_takeable defined other)
   defined_too names r t defined at_hand u (Err (stop.Need x owners)) m is named =
       let p = execute_all w tx (begun names (Some 0)) in
       let same = runs_same w fresh unused tx names (Some 0) at_hand None p.0 (Err (stop.Need x owners)) p.1 m t u refl is
-          (stand_ins_enough w fresh unused tx names t) named in
+      (stand_ins_enough w fresh unused tx names t) named in
       absurd (no_need p.1.created m.created names x owners p.0 p.1 r same.ended defined)
   defined_too names r t defined at_hand u (Err (stop.NeedName repo)) m is named = absurd named

@@ -160,6 +160,7 @@ module _ (endless : Bool) (count repo : ℕ) where
       still : (y : Oref) → In (remove n.waiting i) y ⊎ ByStandIn n.stand_in y → Left n y
       still y (inl h) = inl (still_in n.waiting i y h)
       still y (inr h) = inr h
+
       gone : (y : Oref) → In (remove n.waiting i) y ⊎ ByStandIn n.stand_in y → ¬ (y ≡ x)
       gone y (inl h) = gone_in n.waiting i x y s.once is h
       gone y (inr h) = off n x y s (at_in n.waiting i x is) n.stand_in h
@@ -183,19 +184,20 @@ module _ (endless : Bool) (count repo : ℕ) where
       still : (y : Oref) → In n.waiting y ⊎ ByStandIn (Some (k + 1)) y → Left n y
       still y (inl h) = inl h
       still y (inr h) = inr (rw is (h.0, omega arith))
+
       gone : (y : Oref) → In n.waiting y ⊎ ByStandIn (Some (k + 1)) y → ¬ (y ≡ stand_in_name k)
       gone y (inl h) e = off n y y s h (Some 0) (e ∙ ap stand_in_name (sym (ap (λ (z : Oref). z.slot) e)), omega arith) refl
       gone y (inr h) e = let f : y.slot ≡ k = ap (λ (z : Oref). z.slot) e in absurd (omega arith)
 
   waiting_given : (n : NameSupply) (t : Oref × NameSupply) (i : ℕ) → Stock endless count n → position here n.waiting ≡ Some i
       → (v : Option Oref) → slice_get n.waiting i ≡ v → option_map {U = Oref × NameSupply}
-          (λ x. (x, record n { waiting = remove n.waiting i })) v ≡ Some t → Given endless count repo n t
+      (λ x. (x, record n { waiting = remove n.waiting i })) v ≡ Some t → Given endless count repo n t
   waiting_given n t i s p None is e = cc
   waiting_given n t i s p (Some x) is e = subst (Given endless count repo n) (same_Some _ t e) (by_place n i x s p is)
 
   below_given : (n : NameSupply) (t : Oref × NameSupply) (k : ℕ) (b : Bool) → Stock endless count n → n.stand_in ≡ Some k
       → cond {A = Option (Oref × NameSupply)} b (Some (stand_in_name k, record n { stand_in = Some (k + 1) })) None ≡ Some t
-          → Given endless count repo n t
+      → Given endless count repo n t
   below_given n t k true s is e = subst (Given endless count repo n) (same_Some _ t e) (by_stand_in n k s is)
   below_given n t k false s is e = cc
 
@@ -247,10 +249,10 @@ pub takes_first : (repo : ℕ) (n : NameSupply) (t : Oref × NameSupply) (x : Or
 unfolding take_name
 takes_first repo n t x rest w r e =
     let p : position (λ (y : Oref). y.repo == repo) n.waiting ≡ Some 0 =
-        ap (position (λ (y : Oref). y.repo == repo)) w ∙ at_front (λ (y : Oref). y.repo == repo) x rest r in
+    ap (position (λ (y : Oref). y.repo == repo)) w ∙ at_front (λ (y : Oref). y.repo == repo) x rest r in
     let g : slice_get n.waiting 0 ≡ Some x = ap (λ xs. slice_get xs 0) w in
     let f : name_at n (Some 0) ≡ Some (x, record n { waiting = remove n.waiting 0 }) =
-        ap (option_map (λ z. (z, record n { waiting = remove n.waiting 0 }))) g in
+    ap (option_map (λ z. (z, record n { waiting = remove n.waiting 0 }))) g in
     let h : (x, record n { waiting = remove n.waiting 0 }) ≡ t = same_Some _ t (sym f ∙ ap (name_at n) (sym p) ∙ e) in
     (sym (ap (λ (q : Oref × NameSupply). q.0) h), sym (ap (λ (q : Oref × NameSupply). q.1.waiting) h) ∙ ap (λ xs. remove xs 0) w)
 

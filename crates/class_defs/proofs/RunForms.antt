@@ -93,9 +93,9 @@ deep_is : (w : World) (k : List ℕ) (n : ℕ) → meaning w (raised k n) ≡ de
 unfolding deep meaning
 deep_is w [] n = refl
 deep_is w (x ∷ k) n = ap (λ (d : Meaning). record {
-    value_of = expression w d.value_of (block_of d.execute);
-    execute = statement w d.value_of (block_of d.execute);
-  }) (deep_is w k n)
+  value_of = expression w d.value_of (block_of d.execute);
+  execute = statement w d.value_of (block_of d.execute);
+}) (deep_is w k n)
 
 abbrev six : List ℕ
 six = 0 ∷ 0 ∷ 0 ∷ 0 ∷ 0 ∷ 0 ∷ []

@@ -44,7 +44,7 @@ module _ (s : Schemas) (e : ℕ) (keeps : AllKeepClasses s e) where
     -- what holds of the stored object by the classes of its epoch, and goes through upgrades, holds of its values
     pub along : (Q : List Class → Object → Type 0) → Q (classes_of s o.ver) (bare o)
         → ((k : ℕ) → k < e → o.ver ≤ k → Q (classes_of s k) (value s m k o)
-          → Q (classes_of s (suc k)) (transformed (classes_of s k) (classes_of s (suc k)) (get (values s m k)) (value s m k o) (next_of s k (value s m k o).class)))
+        → Q (classes_of s (suc k)) (transformed (classes_of s k) (classes_of s (suc k)) (get (values s m k)) (value s m k o) (next_of s k (value s m k o).class)))
         → (k : ℕ) → o.ver ≤ k → k ≤ e → Q (classes_of s k) (value s m k o)
     along Q first step zero h w =
         let v : zero ≡ o.ver = omega (arith, h) in

@@ -60,7 +60,7 @@ module _ (s : Schemas) (L : Stored) (x : Oref) (o : Obj) (keeps : AllKeepClasses
       → value s behind L.epoch p ≡ value s L.objects L.epoch p
   other y p t h true d =
       sym (value_local s L.epoch keeps L.objects behind NotAbove (λ z q. apart z (same_oref z x) refl q)
-        (λ z i w q owns n a. q (suc n) (w, (i, (owns, a)))) owned.declared owned.levels L.epoch (omega arith) y p (due_is_not_above y p t h d) t)
+      (λ z i w q owns n a. q (suc n) (w, (i, (owns, a)))) owned.declared owned.levels L.epoch (omega arith) y p (due_is_not_above y p t h d) t)
   other y p t h false d =
       let lag = sym (due_is s L.epoch p) ∙ d in
       value_stays s behind L.epoch p lag ∙ sym (value_stays s L.objects L.epoch p lag)
@@ -83,4 +83,4 @@ module _ (s : Schemas) (L : Stored) (x : Oref) (o : Obj) (keeps : AllKeepClasses
   unseen sorted =
       ap (λ (m : Map oref_cmp Object). record { objects = m; epoch = L.epoch; roots = L.roots })
       (same_each (value s behind L.epoch) (value s L.objects L.epoch) behind L.objects (IsSorted-insert oref_total L.objects x (brought s L o) sorted) sorted
-        (λ y. alike y (same_oref y x) refl))
+      (λ y. alike y (same_oref y x) refl))

@@ -68,23 +68,23 @@ abbrev pub twice : Schemas
 twice = record {
   first = first_schema;
   upgraded = record {
-      upgrade = record {
-        line = 1;
-        classes = names (codes "Z") (becomes int (codes "v") (tf.Binary Multiply (old (codes "v" ∷ [])) (tf.Int (pos 10) 1) 1) ∷ [])
-            ∷ names (codes "A")
-              (becomes int (codes "s") (tf.Binary Add (old (codes "s" ∷ [])) (old (codes "o" ∷ codes "z" ∷ codes "v" ∷ [])) 1)
-            ∷ becomes (class_type (codes "M") 1) (codes "p") (old (codes "o" ∷ [])) ∷ [])
-            ∷ names (codes "Count") (becomes int (codes "n") (tf.Binary Add (old (codes "n" ∷ [])) (tf.Int (pos 1) 1) 1) ∷ []) ∷ [];
-      };
-      schema = next_schema;
-    }
-    ∷ record {
-      upgrade = record {
-        line = 2;
-        classes = names (codes "Count") (becomes int (codes "n") (tf.Binary Multiply (old (codes "n" ∷ [])) (tf.Int (pos 10) 2) 2) ∷ []) ∷ [];
-      };
-      schema = record next_schema { upgraded = 1 ∷ 0 ∷ 1 ∷ 2 ∷ 0 ∷ [] };
-    } ∷ [];
+    upgrade = record {
+      line = 1;
+      classes = names (codes "Z") (becomes int (codes "v") (tf.Binary Multiply (old (codes "v" ∷ [])) (tf.Int (pos 10) 1) 1) ∷ [])
+          ∷ names (codes "A")
+          (becomes int (codes "s") (tf.Binary Add (old (codes "s" ∷ [])) (old (codes "o" ∷ codes "z" ∷ codes "v" ∷ [])) 1)
+          ∷ becomes (class_type (codes "M") 1) (codes "p") (old (codes "o" ∷ [])) ∷ [])
+          ∷ names (codes "Count") (becomes int (codes "n") (tf.Binary Add (old (codes "n" ∷ [])) (tf.Int (pos 1) 1) 1) ∷ []) ∷ [];
+    };
+    schema = next_schema;
+  }
+      ∷ record {
+        upgrade = record {
+          line = 2;
+          classes = names (codes "Count") (becomes int (codes "n") (tf.Binary Multiply (old (codes "n" ∷ [])) (tf.Int (pos 10) 2) 2) ∷ []) ∷ [];
+        };
+        schema = record next_schema { upgraded = 1 ∷ 0 ∷ 1 ∷ 2 ∷ 0 ∷ [] };
+      } ∷ [];
 }
 
 abbrev at : ℕ → Oref

@@ -87,7 +87,7 @@ box = record {
   fields = field int (codes "n") 1 ∷ [];
   methods = method (codes "get") [] (stmt.Return (this_field (codes "n")) ∷ [])
       ∷ method (codes "add") (parameter int (codes "k") 1 ∷ [])
-        (set_field (codes "n") (plus (this_field (codes "n")) (local (codes "k"))) ∷ stmt.Return (this_field (codes "n")) ∷ []) ∷ [];
+      (set_field (codes "n") (plus (this_field (codes "n")) (local (codes "k"))) ∷ stmt.Return (this_field (codes "n")) ∷ []) ∷ [];
 }
 
 -- free class Cell { Cell next; method int hop(int k) { return this.next.hop(k); } }
@@ -110,7 +110,7 @@ owner = record {
   methods = method (codes "make") [] (set_field (codes "p") (new (codes "Part")) ∷ stmt.Return (call (this_field (codes "p")) (codes "get") []) ∷ [])
       ∷ method (codes "ask") [] (stmt.Return (call (this_field (codes "p")) (codes "get") []) ∷ [])
       ∷ method (codes "tell") (parameter int (codes "v") 1 ∷ [])
-        (stmt.Return (call (this_field (codes "p")) (codes "put") (local (codes "v") ∷ [])) ∷ []) ∷ [];
+      (stmt.Return (call (this_field (codes "p")) (codes "put") (local (codes "v") ∷ [])) ∷ []) ∷ [];
 }
 
 -- part class Part { int m; method int put(int v) { this.m = v; return v; } method int get() { return this.m; } }
@@ -120,7 +120,7 @@ part = record {
   name = named (codes "Part") 1;
   fields = field int (codes "m") 1 ∷ [];
   methods = method (codes "put") (parameter int (codes "v") 1 ∷ [])
-        (set_field (codes "m") (local (codes "v")) ∷ stmt.Return (local (codes "v")) ∷ [])
+      (set_field (codes "m") (local (codes "v")) ∷ stmt.Return (local (codes "v")) ∷ [])
       ∷ method (codes "get") [] (stmt.Return (this_field (codes "m")) ∷ []) ∷ [];
 }
 

@@ -89,5 +89,5 @@ unfoldable pub own_fault : Schema → ℕ → Upgrade → List (List Stmt) → O
 own_fault schema repos u items =
     let behind = applied schema u in
     first_of (least_own (upgrade_rules schema.classes u))
-      (first_of (option_map as_own (least (inside_rules u behind repos)))
-        (breaks_outside u.line (outside_rules u behind repos items)))
+    (first_of (option_map as_own (least (inside_rules u behind repos)))
+    (breaks_outside u.line (outside_rules u behind repos items)))

@@ -23,8 +23,7 @@ pub fn eager_examples()
 /// the part as it has become.
 pub fn order_examples()
     ensures owner_first { seen (bring a (written 0 0 (Int (pos 0) ∷ Ref m ∷ [])) mixed) a ≡ Some (Int (pos 7) ∷ Ref m ∷ []) }
-    ensures then_the_part {
-        seen (bring z part (bring a (written 0 0 (Int (pos 0) ∷ Ref m ∷ [])) mixed)) a ≡ Some (Int (pos 7) ∷ Ref m ∷ []) }
+    ensures then_the_part { seen (bring z part (bring a (written 0 0 (Int (pos 0) ∷ Ref m ∷ [])) mixed)) a ≡ Some (Int (pos 7) ∷ Ref m ∷ []) }
     ensures part_first { seen (bring z part mixed) a ≡ Some (Int (pos 70) ∷ Ref m ∷ []) }
 {}
 

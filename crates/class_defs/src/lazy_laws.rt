@@ -70,6 +70,6 @@ pub fn transforms_are_unseen()
         → AllKeepClasses s L.epoch → IsWellOwned s L → IsSorted L.objects
         → get L.objects x ≡ Some o
         → ((n : ℕ) → (a : Oref) → (p : Obj) → IsAbove s L.objects (suc n) a x → get L.objects a ≡ Some p
-            → is_due s L.epoch p ≡ false)
+        → is_due s L.epoch p ≡ false)
         → eager s (record L { objects = insert L.objects x (brought s L o) }) ≡ eager s L }
 {}

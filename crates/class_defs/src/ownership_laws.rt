@@ -49,7 +49,7 @@ pub fn transforms_stay_owned()
     ensures owned { (s : Schemas) → (L : Stored) → (x : Oref) → (o : Obj)
         → AllKeepClasses s L.epoch → IsWellOwned s L → get L.objects x ≡ Some o
         → ((n : ℕ) → (a : Oref) → (p : Obj) → IsAbove s L.objects (suc n) a x → get L.objects a ≡ Some p
-            → is_due s L.epoch p ≡ false)
+        → is_due s L.epoch p ≡ false)
         → IsWellOwned s (record L { objects = insert L.objects x (brought s L o) }) }
     ensures kinds { (s : Schemas) → (L : Stored) → (x : Oref) → (o : Obj)
         → AllKeepClasses s L.epoch → IsWellOwned s L → get L.objects x ≡ Some o

@@ -49,7 +49,7 @@ pub fn runs_take_the_names_that_they_need()
         → Unused fresh (world_of schema store) → Takeable fresh at_hand
         → execute_all (world_of schema store) tx (begun at_hand None) ≡ (Ok flow, m)
         → IsSomeAnd (run schema tx store m.created)
-            (λ r. (r.answer ≡ answer.Ints m.printed) × (r.touched ≡ keys m.reads)) }
+        (λ r. (r.answer ≡ answer.Ints m.printed) × (r.touched ≡ keys m.reads)) }
     ensures takeable { (schema : Schema) → (tx : List Stmt) → (store : Plain) → (fresh : Oref → Bool)
         → (at_hand : List Oref) → (outcome : Result Flow Stop) → (m : Machine)
         → Unused fresh (world_of schema store) → Takeable fresh at_hand
@@ -73,7 +73,7 @@ pub fn runs_are_defined_for_names_at_hand()
         → HadObjects (execute_all (world_of schema store) tx (begun [] (Some 0))).0
         → execute_all (world_of schema store) tx (begun at_hand None) ≡ (outcome, m) → HadNames outcome
         → IsSomeAnd (run schema tx store m.created)
-            (λ r. (r.answer ≡ answer.Ints m.printed) × (r.touched ≡ keys m.reads)) }
+        (λ r. (r.answer ≡ answer.Ints m.printed) × (r.touched ≡ keys m.reads)) }
     ensures defined { (schema : Schema) → (tx : List Stmt) → (store : Plain) → (fresh : Oref → Bool)
         → (names : List Oref) → (r : Ran) → (at_hand : List Oref) → (outcome : Result Flow Stop) → (m : Machine)
         → Unused fresh (world_of schema store) → Takeable fresh names → Takeable fresh at_hand
@@ -129,5 +129,5 @@ pub fn names_at_hand_last()
         → HadObjects (execute_all (world_of schema store) tx (begun [] (Some 0))).0
         → execute_all (world_of schema store) tx (begun at_hand None) ≡ (outcome, m) → HadNames outcome
         → IsSomeAnd (run schema tx store m.created)
-            (λ r. (r.answer ≡ answer.Ints m.printed) × AtHand m.names.waiting (world_of schema r.store)) }
+        (λ r. (r.answer ≡ answer.Ints m.printed) × AtHand m.names.waiting (world_of schema r.store)) }
 {}

@@ -15,8 +15,7 @@ use crate::error::CheckError;
 use crate::least::must;
 use crate::names::{names_in, stand_once};
 use class_defs::{
-    Block, Checked, Classes, ExprType, NamedTypes, Names, RootDeclaration, Rule, Schema,
-    TypeFault,
+    Block, Checked, Classes, ExprType, NamedTypes, Names, RootDeclaration, Rule, Schema, TypeFault,
 };
 use std::alloc::Global;
 use thor_value::{NoMemory, TryCopy};

@@ -27,18 +27,30 @@ unused part names root old = record {
 
 two : AtHand (oref_at 0 1 0 ∷ oref_at 0 1 1 ∷ []) (one_box value.Null)
 unfolding IsDistinct
-two = record { placed = (refl, (refl, tt)); once = ((refl, tt), (tt, tt)); free = (refl, (refl, tt));
-    unused = unused value.Null (oref_at 0 1 0 ∷ oref_at 0 1 1 ∷ []) refl tt }
+two = record {
+  placed = (refl, (refl, tt));
+  once = ((refl, tt), (tt, tt));
+  free = (refl, (refl, tt));
+  unused = unused value.Null (oref_at 0 1 0 ∷ oref_at 0 1 1 ∷ []) refl tt;
+}
 
 spread : AtHand (oref_at 0 1 0 ∷ oref_at 1 1 0 ∷ []) (one_box value.Null)
 unfolding IsDistinct
-spread = record { placed = (refl, (refl, tt)); once = ((refl, tt), (tt, tt)); free = (refl, (refl, tt));
-    unused = unused value.Null (oref_at 0 1 0 ∷ oref_at 1 1 0 ∷ []) refl tt }
+spread = record {
+  placed = (refl, (refl, tt));
+  once = ((refl, tt), (tt, tt));
+  free = (refl, (refl, tt));
+  unused = unused value.Null (oref_at 0 1 0 ∷ oref_at 1 1 0 ∷ []) refl tt;
+}
 
 beside : AtHand (oref_at 0 1 1 ∷ []) (one_box (value.Ref (oref_at 0 1 0)))
 unfolding IsDistinct
-beside = record { placed = (refl, tt); once = (tt, tt); free = (refl, tt);
-    unused = unused (value.Ref (oref_at 0 1 0)) (oref_at 0 1 1 ∷ []) refl refl }
+beside = record {
+  placed = (refl, tt);
+  once = (tt, tt);
+  free = (refl, tt);
+  unused = unused (value.Ref (oref_at 0 1 0)) (oref_at 0 1 1 ∷ []) refl refl;
+}
 
 without : AtHand [] (one_box value.Null)
 unfolding IsDistinct

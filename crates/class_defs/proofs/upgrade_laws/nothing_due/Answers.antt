@@ -39,6 +39,6 @@ pub returns : goal.returns
 returns c = record {
   level = λ s e o h. undue_level s e o (due_is s e o ∙ not_lagging s o e h);
   eager = λ s L sorted h.
-    ap (λ (m : Map oref_cmp Object). record { objects = m; epoch = L.epoch; roots = L.roots })
-    (same_each (value s L.objects L.epoch) bare L.objects L.objects sorted sorted (λ x. each_stays s L x (get L.objects x) refl h));
+      ap (λ (m : Map oref_cmp Object). record { objects = m; epoch = L.epoch; roots = L.roots })
+      (same_each (value s L.objects L.epoch) bare L.objects L.objects sorted sorted (λ x. each_stays s L x (get L.objects x) refl h));
 }

@@ -22,7 +22,7 @@ pub returns : goal.returns
 unfolding up
 returns c = record {
   others = λ old new u store x v is h.
-    at_name old new u store x ∙ ap (option_map (behind old new u store)) is ∙ ap (λ k. Some (transformed old new (get store.objects) v k)) h;
+      at_name old new u store x ∙ ap (option_map (behind old new u store)) is ∙ ap (λ k. Some (transformed old new (get store.objects) v k)) h;
   objects = at_name;
   names = λ old new u store. keys-each (behind old new u store) store.objects.pairs;
   epoch = λ old new u store. refl;
