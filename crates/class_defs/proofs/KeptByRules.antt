@@ -274,20 +274,20 @@ module _ (s : Schemas) (schema : Schema) (repos : ℕ) (u : Upgrade) (items : Li
 -- ---- the upgrades of a store
 
 -- an epoch whose classes have names of their own, and the kinds of the first epoch
-record IsAsFirst (s : Schemas) (k : ℕ) : Type 0 where
-  once : stand_once [] (map (λ x. x.name) (classes_of s k)) ≡ []
-  kinds : (t : ExprType) → is_part (classes_of s k) t ≡ is_part (classes_of s 0) t
+pub record IsAsFirst (s : Schemas) (k : ℕ) : Type 0 where
+  pub once : stand_once [] (map (λ x. x.name) (classes_of s k)) ≡ []
+  pub kinds : (t : ExprType) → is_part (classes_of s k) t ≡ is_part (classes_of s 0) t
 
 module _ (s : Schemas) (repos : ℕ) (items : List (List Stmt)) (k : ℕ) (accepted : IsAccepted s repos items k) where
   abbrev u : Upgrade
   u = accepted.upgrade
 
-  behind : classes_of s (suc k) ≡ classes_behind u (classes_of s k)
+  pub behind : classes_of s (suc k) ≡ classes_behind u (classes_of s k)
   unfolding applied
   behind = ap (λ (a : Schema). a.classes) accepted.behind
 
   -- what the upgrade says of a class
-  next_is : (c : ℕ) → next_of s k c ≡ option_and_then (said_of u) (slice_get (classes_of s k) c)
+  pub next_is : (c : ℕ) → next_of s k c ≡ option_and_then (said_of u) (slice_get (classes_of s k) c)
   next_is c = ap (λ o. option_and_then (λ v. upgrade_of (classes_of s k) v c) o) accepted.leads
 
   next_as_first : IsAsFirst s k → IsAsFirst s (suc k)
@@ -317,7 +317,7 @@ module _ (s : Schemas) (repos : ℕ) (items : List (List Stmt)) (e : ℕ) (first
       let r = nothing (class_names s.first ++ root_names s.first) classes p.0 in
       (nothing (class_names s.first) (root_names s.first) r.0).0
 
-  as_first : (k : ℕ) → k < suc e → IsAsFirst s k
+  pub as_first : (k : ℕ) → k < suc e → IsAsFirst s k
   as_first zero h = record { once = names_once; kinds = λ t. refl }
   as_first (suc k) h = next_as_first s repos items k (all k (omega (arith, h))) (as_first k (omega (arith, h)))
 
