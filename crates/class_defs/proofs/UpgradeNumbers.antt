@@ -101,7 +101,8 @@ stands_at : (n : List ℕ) (ds : List Class) → place n ds < length ds → Stan
 stands_at n [] h = absurd (omega (arith, h))
 stands_at n (d ∷ ds) h = by_test (bytes_eq d.name.text n) refl (stands_at n ds) h
   where
-    by_test : (b : Bool) → bytes_eq d.name.text n ≡ b → (place n ds < length ds → Stands ds n) → cond (not b) (1 + place n ds) 0 < length (d ∷ ds) → Stands (d ∷ ds) n
+    by_test : (b : Bool) → bytes_eq d.name.text n ≡ b → (place n ds < length ds → Stands ds n) → cond (not b) (1 + place n ds) 0 < length (d ∷ ds)
+        → Stands (d ∷ ds) n
     by_test true is rest h = record { at = zero; class = d; stands = refl; named = is }
     by_test false is rest h = one_further d ds n (rest (omega (arith, h)))
 
@@ -110,13 +111,16 @@ there_at true i h = refl
 there_at false i h = cc
 
 -- an accepted upgrade names a class
-names_one : (classes : List Class) (u : Upgrade) (ks : List ClassUpgrade) → u.classes ≡ ks → ¬ (ks ≡ []) → upgrade_rules classes u ≡ [] → Names classes u
+names_one : (classes : List Class) (u : Upgrade) (ks : List ClassUpgrade) → u.classes ≡ ks → ¬ (ks ≡ []) → upgrade_rules classes u ≡ []
+    → Names classes u
 unfolding upgrade_rules
 names_one classes u [] is some h = absurd (some refl)
 names_one classes u (k ∷ ks) is some h =
     let rules : named_once classes [] (map (λ k. k.name) (k ∷ ks)) ≡ [] =
-        subst (λ (xs : List ClassUpgrade). named_once classes [] (map (λ k. k.name) xs) ≡ []) is (nothing (named_once classes [] (map (λ k. k.name) u.classes)) _ h).0 in
-    let first = nothing (must_own (is_some (class_named classes k.name.text) && not (list_any (λ (m : Name). bytes_eq m.text k.name.text) [])) O1 k.name.line) _ rules in
+        subst (λ (xs : List ClassUpgrade). named_once classes [] (map (λ k. k.name) xs) ≡ []) is
+          (nothing (named_once classes [] (map (λ k. k.name) u.classes)) _ h).0 in
+    let first = nothing
+          (must_own (is_some (class_named classes k.name.text) && not (list_any (λ (m : Name). bytes_eq m.text k.name.text) [])) O1 k.name.line) _ rules in
     let there = first_true (is_some (class_named classes k.name.text)) _ (own_held _ _ _ first.0) in
     let s = stands_at k.name.text classes (ltb-true (place k.name.text classes) (length classes) (there_at _ _ there)) in
     record {
@@ -176,7 +180,8 @@ module _ (s : Schemas) (repos : ℕ) (items : List (List Stmt)) (k : ℕ) (accep
   next_numbers =
       let one = names_one ds u u.classes refl some (sound (schema_of s k) repos u items accepted.keeps).own in
       let its : number_of (schema_of s (suc k)).upgraded one.place ≡ suc k =
-          number_is one.place ∙ ap (λ o. number_at u (suc k) o (number_of ks one.place)) one.stands ∙ ap (λ b. cond b (suc k) (number_of ks one.place)) one.said in
+          number_is one.place ∙ ap (λ o. number_at u (suc k) o (number_of ks one.place)) one.stands
+          ∙ ap (λ b. cond b (suc k) (number_of ks one.place)) one.said in
       let under = number_below (schema_of s (suc k)).upgraded one.place in
       let old = h.below in
       record {
