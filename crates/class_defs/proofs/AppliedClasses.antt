@@ -36,7 +36,7 @@ module _ (u : Upgrade) where
   same_place n [] = refl
   same_place n (d ∷ ds) =
       ap (λ (m : Name). cond (not (bytes_eq m.text n))
-        (1 + position_or_len (λ (c : Class). bytes_eq c.name.text n) (classes_behind u ds)) 0) (keeps_name d (said_of u d))
+      (1 + position_or_len (λ (c : Class). bytes_eq c.name.text n) (classes_behind u ds)) 0) (keeps_name d (said_of u d))
       ∙ ap (λ i. cond (not (bytes_eq d.name.text n)) (1 + i) 0) (same_place n ds)
 
   pub same_class : (n : List ℕ) (ds : List Class) → class_named (classes_behind u ds) n ≡ class_named ds n

@@ -241,7 +241,7 @@ declared_at schema repos u c d k h is said i f at =
     let all = declared_fields (applied schema u) repos (0 + c) (class_behind d (Some k)) (inside_at schema repos u c d k h is said) in
     let there : slice_get (map new_field k.fields) i ≡ Some (new_field f) = slice_get-map new_field k.fields i ∙ ap (option_map new_field) at in
     let told = type_told (classes_behind u schema.classes) f.type_name
-          (at_place (λ g. is_type (classes_behind u schema.classes) g.type_name ≡ []) (map new_field k.fields) i (new_field f) all there) in
+    (at_place (λ g. is_type (classes_behind u schema.classes) g.type_name ≡ []) (map new_field k.fields) i (new_field f) all there) in
     subst IsDeclared (same_type u f.type_name schema.classes) told
 
 same_types : (fs : List FieldUpgrade) → map (λ f. f.type_name) (map new_field fs) ≡ map (λ f. f.type_name) fs

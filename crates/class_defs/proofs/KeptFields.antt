@@ -239,7 +239,7 @@ module _ (classes : List Class) where
         let rest = (nothing _ (handed_once classes c (earlier ++ as_list (hands_over classes c e)) fs) h).1 in
         first_false (list_any (λ i. i == j) earlier) _
         (sym (list_any-append (λ i. i == j) earlier (as_list (hands_over classes c e)))
-          ∙ never_before (earlier ++ as_list (hands_over classes c e)) fs i f j rest is g)
+        ∙ never_before (earlier ++ as_list (hands_over classes c e)) fs i f j rest is g)
 
     stands_there : (earlier : List ℕ) (o : Option ℕ) (j : ℕ) → o ≡ Some j → list_any (λ i. i == j) (earlier ++ as_list o) ≡ false → ⊥
     stands_there earlier None j is h = cc
@@ -265,4 +265,4 @@ module _ (classes : List Class) where
         absurd (stands_there earlier (hands_over classes c e) j (ap (hands_over classes c) (sym same) ∙ gj) (never_before _ fs a f j rest fa fj))
     taken_once earlier (e ∷ fs) (suc a) (suc b) f g j h fa gb fj gj =
         ap suc (taken_once (earlier ++ as_list (hands_over classes c e)) fs a b f g j
-          (nothing _ (handed_once classes c (earlier ++ as_list (hands_over classes c e)) fs) h).1 fa gb fj gj)
+        (nothing _ (handed_once classes c (earlier ++ as_list (hands_over classes c e)) fs) h).1 fa gb fj gj)

@@ -117,10 +117,10 @@ unfolding upgrade_rules
 names_one classes u [] is some h = absurd (some refl)
 names_one classes u (k ∷ ks) is some h =
     let rules : named_once classes [] (map (λ k. k.name) (k ∷ ks)) ≡ [] =
-        subst (λ (xs : List ClassUpgrade). named_once classes [] (map (λ k. k.name) xs) ≡ []) is
-          (nothing (named_once classes [] (map (λ k. k.name) u.classes)) _ h).0 in
+    subst (λ (xs : List ClassUpgrade). named_once classes [] (map (λ k. k.name) xs) ≡ []) is
+    (nothing (named_once classes [] (map (λ k. k.name) u.classes)) _ h).0 in
     let first = nothing
-          (must_own (is_some (class_named classes k.name.text) && not (list_any (λ (m : Name). bytes_eq m.text k.name.text) [])) O1 k.name.line) _ rules in
+    (must_own (is_some (class_named classes k.name.text) && not (list_any (λ (m : Name). bytes_eq m.text k.name.text) [])) O1 k.name.line) _ rules in
     let there = first_true (is_some (class_named classes k.name.text)) _ (own_held _ _ _ first.0) in
     let s = stands_at k.name.text classes (ltb-true (place k.name.text classes) (length classes) (there_at _ _ there)) in
     record {
@@ -180,8 +180,8 @@ module _ (s : Schemas) (repos : ℕ) (items : List (List Stmt)) (k : ℕ) (accep
   next_numbers =
       let one = names_one ds u u.classes refl some (sound (schema_of s k) repos u items accepted.keeps).own in
       let its : number_of (schema_of s (suc k)).upgraded one.place ≡ suc k =
-          number_is one.place ∙ ap (λ o. number_at u (suc k) o (number_of ks one.place)) one.stands
-          ∙ ap (λ b. cond b (suc k) (number_of ks one.place)) one.said in
+      number_is one.place ∙ ap (λ o. number_at u (suc k) o (number_of ks one.place)) one.stands
+      ∙ ap (λ b. cond b (suc k) (number_of ks one.place)) one.said in
       let under = number_below (schema_of s (suc k)).upgraded one.place in
       let old = h.below in
       record {
@@ -189,7 +189,7 @@ module _ (s : Schemas) (repos : ℕ) (items : List (List Stmt)) (k : ℕ) (accep
         reached = subst (λ n. n ≤ highest (schema_of s (suc k)).upgraded) its under;
         beyond = λ c none.
             let away : is_some (slice_get ds c) ≡ false =
-                sym (ap (λ (cs : List Class). is_some (slice_get cs c)) (behind s repos items k accepted) ∙ same_known u c ds) ∙ ap is_some none in
+            sym (ap (λ (cs : List Class). is_some (slice_get cs c)) (behind s repos items k accepted) ∙ same_known u c ds) ∙ ap is_some none in
             number_is c ∙ ap (λ o. number_at u (suc k) o (number_of ks c)) (gone (slice_get ds c) away);
         last = λ c. number_is c ∙ last_at c (slice_get ds c) refl ∙ sym (last_next c);
       }
