@@ -16,7 +16,7 @@ pub enum Status {
     SourceFault,
     /// The sink failed.
     SinkFault,
-    /// The script is too long.
+    /// The script passes a limit on bytes, clients or events.
     Limit,
     /// Memory was not there.
     NoMemory,
