@@ -5,6 +5,7 @@ pub mod AlikeRun
 pub mod AlikeSteps
 pub mod AppliedClasses
 pub mod AppliedRules
+pub mod CountedLoop
 pub mod FitActions
 pub mod FitArguments
 pub mod FitCalls

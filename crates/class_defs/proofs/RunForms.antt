@@ -97,7 +97,7 @@ deep_is w (x ∷ k) n = ap (λ (d : Meaning). record {
   execute = statement w d.value_of (block_of d.execute);
 }) (deep_is w k n)
 
-abbrev six : List ℕ
+abbrev pub six : List ℕ
 six = 0 ∷ 0 ∷ 0 ∷ 0 ∷ 0 ∷ 0 ∷ []
 
 abbrev two : List ℕ

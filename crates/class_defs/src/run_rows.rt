@@ -1,7 +1,7 @@
 //! Worked rows of runs, on a small store (`specs/RunRows.antt`): a box a with 5, an empty cell c, and an owner o.
 
-ghost use Rattle.std.specs.Prelude.{◌≡◌, ◌++◌, [], ◌∷◌, codes, negsuc, None, pos, Some};
-ghost use Rattle.thor_value.specs.declared.values.Fault.TheVariants.{NullCall};
+ghost use Rattle.std.specs.Prelude.{◌≡◌, ◌<◌, ◌+◌, ◌*◌, ◌++◌, ℕ, [], ◌∷◌, codes, negsuc, None, pos, Some};
+ghost use Rattle.thor_value.specs.declared.values.Fault.TheVariants.{NullCall, Steps};
 ghost use Rattle.class_defs.specs.Run.{run};
 ghost use Rattle.class_defs.specs.RunRows.{a, box_of, c, call, count_to, ended_in, evaluate, gave, gave_on, in_repo, local, minus, new, new_at, number, o, owner_of, part_of, plus, print, ran, ran_with, schema, steps_of, store_with_part, var_int, var_null};
 
@@ -26,14 +26,22 @@ fn nulls()
     ensures writes_are_given_up { ran (var_null (codes "Cell") (codes "d") ∷ evaluate (call (local (codes "d")) (codes "hop") (call (local (codes "a")) (codes "add") (number 1 ∷ []) ∷ [])) ∷ []) ≡ ended_in NullCall (a ∷ []) }
 {}
 
-/// How many steps are taken. A loop of n tests with `var int i = 0;` before it and `print i;` behind it takes
-/// 2 + 4n + 4(n - 1) + 2 of them.
+/// How many steps are taken.
 fn steps()
     ensures get { steps_of (print (call (local (codes "a")) (codes "get") []) ∷ []) ≡ Some 5 }
     ensures a_local { steps_of (var_int (codes "i") (number 1) ∷ print (local (codes "i")) ∷ []) ≡ Some 4 }
     ensures minus_takes_one_more { steps_of (var_int (codes "i") (number 1) ∷ print (minus (local (codes "i"))) ∷ []) ≡ Some 5 }
     ensures one_test { steps_of (count_to 0 ++ print (local (codes "i")) ∷ []) ≡ Some 8 }
     ensures two_tests { steps_of (count_to 1 ++ print (local (codes "i")) ∷ []) ≡ Some 16 }
+{}
+
+/// `var int i = 0; while (i < n) { i = i + 1; } print i;` prints n. It has n + 1 tests, and takes as many steps as are
+/// allowed where n is 12499; with `print -i;` it takes one more.
+fn loops()
+    ensures steps { (n : ℕ) → n < 12500 → steps_of (count_to n ++ print (local (codes "i")) ∷ []) ≡ Some (2 + 4 * (n + 1) + 4 * n + 2) }
+    ensures counted { (n : ℕ) → n < 12500 → ran (count_to n ++ print (local (codes "i")) ∷ []) ≡ gave (pos n ∷ []) [] [] }
+    ensures as_many_as_are_allowed { steps_of (count_to 12499 ++ print (local (codes "i")) ∷ []) ≡ Some 100000 }
+    ensures one_too_many { ran (count_to 12499 ++ print (minus (local (codes "i"))) ∷ []) ≡ ended_in Steps [] }
 {}
 
 /// Parts are made by their owners and reached through them.
