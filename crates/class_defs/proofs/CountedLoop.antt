@@ -92,7 +92,7 @@ module _ (last : ℕ) (few : last < 12500) where
   goes_on f t j h small =
       ap (λ (r : Result Flow Stop × Machine). after r.0 r.1 (λ flow. unless_returned flow (again f)))
       (turn_body t j (below t (omega (arith, h))) (below (t + 1) (omega (arith, h))) (below (t + 1 + 1) (omega (arith, h)))
-        (below (t + 1 + 1 + 1) (omega (arith, h))) (counted j small))
+      (below (t + 1 + 1 + 1) (omega (arith, h))) (counted j small))
 
   -- a loop with k turns before it
   loop : (k f s j : ℕ) → j + k ≡ last → k < f → s + 8 * k + 4 ≤ 100000 → again f (at s j) ≡ (Ok Next, at (s + 8 * k + 4) last)
@@ -159,7 +159,7 @@ to_the_end last s few =
     unrolled last s
     ∙ ap (λ r. end_block (then_do (in_order run_statement (stmt.While (condition last) body ∷ s ∷ [])) r)) begins
     ∙ ap (λ r. end_block (then_do (in_order run_statement (s ∷ [])) r))
-      (loops (condition last) body (at 2 0) ∙ loop last few last 100001 2 0 (omega arith) (omega (arith, few)) (omega (arith, few)))
+    (loops (condition last) body (at 2 0) ∙ loop last few last 100001 2 0 (omega arith) (omega (arith, few)) (omega (arith, few)))
 
 pub counts : (last : ℕ) → last < 12500
     → execute_all w (tx last (print (local (codes "i")))) (begun [] (Some 0))
@@ -167,7 +167,7 @@ pub counts : (last : ℕ) → last < 12500
 counts last few =
     to_the_end last (print (local (codes "i"))) few
     ∙ ap (λ r. end_block (then_do (pure Next) r))
-      (prints (2 + 8 * last + 4) last (below _ (omega (arith, few))) (below _ (omega (arith, few))))
+    (prints (2 + 8 * last + 4) last (below _ (omega (arith, few))) (below _ (omega (arith, few))))
 
 pub one_step_too_many :
     execute_all w (tx 12499 (print (minus (local (codes "i"))))) (begun [] (Some 0)) ≡ (Err (stop.Fault Steps), at 100000 12499)
