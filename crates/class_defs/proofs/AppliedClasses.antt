@@ -35,7 +35,8 @@ module _ (u : Upgrade) where
       → position_or_len (λ c. bytes_eq c.name.text n) (classes_behind u ds) ≡ position_or_len (λ c. bytes_eq c.name.text n) ds
   same_place n [] = refl
   same_place n (d ∷ ds) =
-      ap (λ (m : Name). cond (not (bytes_eq m.text n)) (1 + position_or_len (λ (c : Class). bytes_eq c.name.text n) (classes_behind u ds)) 0) (keeps_name d (said_of u d))
+      ap (λ (m : Name). cond (not (bytes_eq m.text n))
+      (1 + position_or_len (λ (c : Class). bytes_eq c.name.text n) (classes_behind u ds)) 0) (keeps_name d (said_of u d))
       ∙ ap (λ i. cond (not (bytes_eq d.name.text n)) (1 + i) 0) (same_place n ds)
 
   pub same_class : (n : List ℕ) (ds : List Class) → class_named (classes_behind u ds) n ≡ class_named ds n
@@ -78,7 +79,8 @@ module _ (u : Upgrade) where
   kept_in (Some d) h = ap (λ k. (class_behind d k).fields) h
 
   -- a class that isn't named keeps its fields
-  pub fields_kept : (c : ℕ) (ds : List Class) → option_and_then (said_of u) (slice_get ds c) ≡ None → fields_of (classes_behind u ds) c ≡ fields_of ds c
+  pub fields_kept : (c : ℕ) (ds : List Class) → option_and_then (said_of u) (slice_get ds c) ≡ None
+      → fields_of (classes_behind u ds) c ≡ fields_of ds c
   fields_kept c ds h = ap fields_in (slice_get-map step ds c) ∙ kept_in (slice_get ds c) h
 
   -- one that is has the new ones

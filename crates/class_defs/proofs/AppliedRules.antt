@@ -94,7 +94,8 @@ module _ (schema : Schema) (repos : ℕ) (u : Upgrade) where
       let r = nothing (outside_class u after repos n (step u d)) _ g in
       none (class_rules after repos n (step u d)) _ (after_class n d (said_of u d) refl p.0 q.0 r.0) (after_classes (n + 1) ds p.1 q.1 r.1)
 
-  pub rules_behind : (items : List (List Stmt)) → schema_rules schema repos ≡ [] → Sound schema repos u items → schema_rules (applied schema u) repos ≡ []
+  pub rules_behind : (items : List (List Stmt)) → schema_rules schema repos ≡ [] → Sound schema repos u items
+      → schema_rules (applied schema u) repos ≡ []
   unfolding schema_rules applied inside_rules outside_rules
   rules_behind items h fine =
       let classes = classes_from schema repos 0 old in

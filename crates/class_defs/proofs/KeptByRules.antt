@@ -43,7 +43,8 @@ some_told : (f : OwnFault) (fs : List OwnFault) → least_own_with (Some f) fs �
 some_told f [] h = cc
 some_told f (g ∷ fs) h = by_first (own_before g f) (some_told g fs) (some_told f fs) h
   where
-    by_first : (b : Bool) → (least_own_with (Some g) fs ≡ None → ⊥) → (least_own_with (Some f) fs ≡ None → ⊥) → least_own_with (cond b (Some g) (Some f)) fs ≡ None → ⊥
+    by_first : (b : Bool) → (least_own_with (Some g) fs ≡ None → ⊥) → (least_own_with (Some f) fs ≡ None → ⊥)
+        → least_own_with (cond b (Some g) (Some f)) fs ≡ None → ⊥
     by_first true first second h = first h
     by_first false first second h = second h
 
@@ -55,7 +56,8 @@ some_type : (f : TypeFault) (fs : List TypeFault) → least_with (Some f) fs ≡
 some_type f [] h = cc
 some_type f (g ∷ fs) h = by_first (told_before g f) (some_type g fs) (some_type f fs) h
   where
-    by_first : (b : Bool) → (least_with (Some g) fs ≡ None → ⊥) → (least_with (Some f) fs ≡ None → ⊥) → least_with (cond b (Some g) (Some f)) fs ≡ None → ⊥
+    by_first : (b : Bool) → (least_with (Some g) fs ≡ None → ⊥) → (least_with (Some f) fs ≡ None → ⊥)
+        → least_with (cond b (Some g) (Some f)) fs ≡ None → ⊥
     by_first true first second h = first h
     by_first false first second h = second h
 
@@ -81,7 +83,8 @@ pub record Sound (schema : Schema) (repos : ℕ) (u : Upgrade) (items : List (Li
   pub inside : inside_rules u (applied schema u) repos ≡ []
   pub outside : outside_rules u (applied schema u) repos items ≡ []
 
-pub sound : (schema : Schema) (repos : ℕ) (u : Upgrade) (items : List (List Stmt)) → own_fault schema repos u items ≡ None → Sound schema repos u items
+pub sound : (schema : Schema) (repos : ℕ) (u : Upgrade) (items : List (List Stmt)) → own_fault schema repos u items ≡ None
+    → Sound schema repos u items
 unfolding own_fault
 sound schema repos u items h =
     let p = neither (least_own (upgrade_rules schema.classes u)) _ h in
@@ -132,7 +135,8 @@ apart : (earlier : List Name) (ds : List Class) (c : ℕ) (d : Class) → stand_
 apart earlier [] c d h is = cc
 apart earlier (x ∷ ds) zero d h is =
     let same : x ≡ d = cc in
-    subst (λ (y : Class). list_any (λ m. bytes_eq m.text y.name.text) earlier ≡ false) same (not_true _ (held _ _ _ (nothing _ (stand_once (earlier ++ x.name ∷ []) (map (λ x. x.name) ds)) h).0))
+    subst (λ (y : Class). list_any (λ m. bytes_eq m.text y.name.text) earlier ≡ false) same
+    (not_true _ (held _ _ _ (nothing _ (stand_once (earlier ++ x.name ∷ []) (map (λ x. x.name) ds)) h).0))
 apart earlier (x ∷ ds) (suc c) d h is =
     first_false (list_any (λ m. bytes_eq m.text d.name.text) earlier) _
     (sym (list_any-append (λ m. bytes_eq m.text d.name.text) earlier (x.name ∷ []))
@@ -172,7 +176,8 @@ pub record FieldsSound (classes : List Class) (c : ℕ) (k : ClassUpgrade) : Typ
   pub each : AllByRecursion (λ f. field_rules classes c f ≡ []) k.fields
   pub once : handed_once classes c [] k.fields ≡ []
 
-fields_sound : (classes : List Class) (c : ℕ) (k : ClassUpgrade) (o : Option ℕ) → o ≡ Some c → fields_rules classes o k.fields ≡ [] → FieldsSound classes c k
+fields_sound : (classes : List Class) (c : ℕ) (k : ClassUpgrade) (o : Option ℕ) → o ≡ Some c → fields_rules classes o k.fields ≡ []
+    → FieldsSound classes c k
 fields_sound classes c k None is h = cc
 fields_sound classes c k (Some b) is h =
     let same : b ≡ c = cc in
@@ -186,12 +191,14 @@ unfolding upgrade_rules
 said_sound classes u c d k h once is said =
     let p = nothing (named_once classes [] (map (λ k. k.name) u.classes)) _ h in
     let f = found (λ k. class_upgrade_rules classes k ≡ []) (λ k. bytes_eq k.name.text d.name.text) u.classes k (each_nothing _ u.classes p.1) said in
-    fields_sound classes c k (class_named classes k.name.text) (class_at classes c d k.name.text once is ((bytes_eq-Decides k.name.text d.name.text).0 f.passes)) f.one
+    fields_sound classes c k (class_named classes k.name.text)
+    (class_at classes c d k.name.text once is ((bytes_eq-Decides k.name.text d.name.text).0 f.passes)) f.one
 
 -- ---- the classes behind it
 
 -- what rules say of classes they say of each
-pub over_at : (rules : ℕ → Class → List TypeFault) (n : ℕ) (ds : List Class) (c : ℕ) (d : Class) → over_classes rules n ds ≡ [] → slice_get ds c ≡ Some d
+pub over_at : (rules : ℕ → Class → List TypeFault) (n : ℕ) (ds : List Class) (c : ℕ) (d : Class) → over_classes rules n ds ≡ []
+    → slice_get ds c ≡ Some d
     → rules (n + c) d ≡ []
 over_at rules n [] c d h is = cc
 over_at rules n (x ∷ ds) zero d h is =
@@ -217,7 +224,8 @@ inside_at schema repos u c d k h is said =
     subst (λ y. class_rules (applied schema u) repos (0 + c) y ≡ []) behind
     (subst (λ o. cond (is_some o) (class_rules (applied schema u) repos (0 + c) (step u d)) [] ≡ []) named p)
 
-declared_fields : (schema : Schema) (repos c : ℕ) (d : Class) → class_rules schema repos c d ≡ [] → AllByRecursion (λ f. is_type schema.classes f.type_name ≡ []) d.fields
+declared_fields : (schema : Schema) (repos c : ℕ) (d : Class) → class_rules schema repos c d ≡ []
+    → AllByRecursion (λ f. is_type schema.classes f.type_name ≡ []) d.fields
 unfolding class_rules
 declared_fields schema repos c d h =
     let fields = flat_map (λ f. is_type schema.classes f.type_name) d.fields in
@@ -232,7 +240,8 @@ unfolding applied
 declared_at schema repos u c d k h is said i f at =
     let all = declared_fields (applied schema u) repos (0 + c) (class_behind d (Some k)) (inside_at schema repos u c d k h is said) in
     let there : slice_get (map new_field k.fields) i ≡ Some (new_field f) = slice_get-map new_field k.fields i ∙ ap (option_map new_field) at in
-    let told = type_told (classes_behind u schema.classes) f.type_name (at_place (λ g. is_type (classes_behind u schema.classes) g.type_name ≡ []) (map new_field k.fields) i (new_field f) all there) in
+    let told = type_told (classes_behind u schema.classes) f.type_name
+    (at_place (λ g. is_type (classes_behind u schema.classes) g.type_name ≡ []) (map new_field k.fields) i (new_field f) all there) in
     subst IsDeclared (same_type u f.type_name schema.classes) told
 
 same_types : (fs : List FieldUpgrade) → map (λ f. f.type_name) (map new_field fs) ≡ map (λ f. f.type_name) fs
@@ -267,27 +276,28 @@ module _ (s : Schemas) (schema : Schema) (repos : ℕ) (u : Upgrade) (items : Li
             (field_hands_over old c g b h (before g b r) (part b q) (rule j g bt) hg);
       }
 
-  named_keeps : (c : ℕ) (k : ClassUpgrade) (o : Option Class) → slice_get old c ≡ o → option_and_then (said_of u) o ≡ Some k → KeepsOwnership s old new c k
+  named_keeps : (c : ℕ) (k : ClassUpgrade) (o : Option Class) → slice_get old c ≡ o → option_and_then (said_of u) o ≡ Some k
+      → KeepsOwnership s old new c k
   named_keeps c k None is h = cc
   named_keeps c k (Some d) is h = said_keeps c d k is h
 
 -- ---- the upgrades of a store
 
 -- an epoch whose classes have names of their own, and the kinds of the first epoch
-record IsAsFirst (s : Schemas) (k : ℕ) : Type 0 where
-  once : stand_once [] (map (λ x. x.name) (classes_of s k)) ≡ []
-  kinds : (t : ExprType) → is_part (classes_of s k) t ≡ is_part (classes_of s 0) t
+pub record IsAsFirst (s : Schemas) (k : ℕ) : Type 0 where
+  pub once : stand_once [] (map (λ x. x.name) (classes_of s k)) ≡ []
+  pub kinds : (t : ExprType) → is_part (classes_of s k) t ≡ is_part (classes_of s 0) t
 
 module _ (s : Schemas) (repos : ℕ) (items : List (List Stmt)) (k : ℕ) (accepted : IsAccepted s repos items k) where
   abbrev u : Upgrade
   u = accepted.upgrade
 
-  behind : classes_of s (suc k) ≡ classes_behind u (classes_of s k)
+  pub behind : classes_of s (suc k) ≡ classes_behind u (classes_of s k)
   unfolding applied
   behind = ap (λ (a : Schema). a.classes) accepted.behind
 
   -- what the upgrade says of a class
-  next_is : (c : ℕ) → next_of s k c ≡ option_and_then (said_of u) (slice_get (classes_of s k) c)
+  pub next_is : (c : ℕ) → next_of s k c ≡ option_and_then (said_of u) (slice_get (classes_of s k) c)
   next_is c = ap (λ o. option_and_then (λ v. upgrade_of (classes_of s k) v c) o) accepted.leads
 
   next_as_first : IsAsFirst s k → IsAsFirst s (suc k)
@@ -317,7 +327,7 @@ module _ (s : Schemas) (repos : ℕ) (items : List (List Stmt)) (e : ℕ) (first
       let r = nothing (class_names s.first ++ root_names s.first) classes p.0 in
       (nothing (class_names s.first) (root_names s.first) r.0).0
 
-  as_first : (k : ℕ) → k < suc e → IsAsFirst s k
+  pub as_first : (k : ℕ) → k < suc e → IsAsFirst s k
   as_first zero h = record { once = names_once; kinds = λ t. refl }
   as_first (suc k) h = next_as_first s repos items k (all k (omega (arith, h))) (as_first k (omega (arith, h)))
 

@@ -53,7 +53,8 @@ module _ (classes : List Class) where
       → is_owned_path classes (part_class classes t) (next ∷ names) ≡ true
   goes_on (Some (type.Class d)) next names rest i g =
       let part = left_true (is_part classes (type.Class d)) _ g in
-      subst (λ b. is_owned_path classes (cond b (Some d) None) (next ∷ names) ≡ true) (sym part) (rest d i (right_true (is_part classes (type.Class d)) _ g))
+      subst (λ b. is_owned_path classes (cond b (Some d) None) (next ∷ names) ≡ true) (sym part)
+      (rest d i (right_true (is_part classes (type.Class d)) _ g))
   goes_on (Some type.Int) next names rest i g = sym (ends_nowhere names) ∙ i
   goes_on (Some type.Null) next names rest i g = sym (ends_nowhere names) ∙ i
   goes_on (Some type.Untold) next names rest i g = sym (ends_nowhere names) ∙ i
@@ -165,7 +166,8 @@ module _ (classes : List Class) where
 
     -- ---- a new field
 
-    reference_given : (t : ExprType) (e : Tf) (d : ℕ) → t ≡ type.Class d → value_rules classes c t e ≡ [] → gives_reference classes c d (out-Tf e) ≡ true
+    reference_given : (t : ExprType) (e : Tf) (d : ℕ) → t ≡ type.Class d → value_rules classes c t e ≡ []
+        → gives_reference classes c d (out-Tf e) ≡ true
     reference_given (type.Class b) e d is h =
         let same : b ≡ d = cc in
         subst (λ n. gives_reference classes c n (out-Tf e) ≡ true) same (own_held _ _ _ h)
@@ -173,20 +175,24 @@ module _ (classes : List Class) where
     reference_given type.Null e d is h = cc
     reference_given type.Untold e d is h = cc
 
-    owned_by_type : (t : ExprType) (e : Tf) → IsDeclared t → value_rules classes c t e ≡ [] → reads_parts classes c e ≡ true → reads_owned classes c e ≡ true
+    owned_by_type : (t : ExprType) (e : Tf) → IsDeclared t → value_rules classes c t e ≡ [] → reads_parts classes c e ≡ true
+        → reads_owned classes c e ≡ true
     owned_by_type type.Int e declared h g = int_reads_owned e g (own_held _ _ _ h)
     owned_by_type (type.Class d) e declared h g = owned_out e ∙ layer_owned d (out-Tf e) (own_held _ _ _ h)
     owned_by_type type.Null e declared h g = absurd declared
     owned_by_type type.Untold e declared h g = absurd declared
 
     -- its expression reads through owned fields
-    pub field_owned : (f : FieldUpgrade) → IsDeclared (type_named classes f.type_name) → field_rules classes c f ≡ [] → reads_owned classes c f.value ≡ true
+    pub field_owned : (f : FieldUpgrade) → IsDeclared (type_named classes f.type_name) → field_rules classes c f ≡ []
+        → reads_owned classes c f.value ≡ true
     field_owned f declared h =
         let p = nothing (value_rules classes c (type_named classes f.type_name) f.value) _ h in
         owned_by_type (type_named classes f.type_name) f.value declared p.0 (own_held _ _ _ p.1)
 
-    given_by : (f : FieldUpgrade) (d : ℕ) → type_named classes f.type_name ≡ type.Class d → field_rules classes c f ≡ [] → gives_reference classes c d (out-Tf f.value) ≡ true
-    given_by f d is h = reference_given (type_named classes f.type_name) f.value d is (nothing (value_rules classes c (type_named classes f.type_name) f.value) _ h).0
+    given_by : (f : FieldUpgrade) (d : ℕ) → type_named classes f.type_name ≡ type.Class d → field_rules classes c f ≡ []
+        → gives_reference classes c d (out-Tf f.value) ≡ true
+    given_by f d is h =
+        reference_given (type_named classes f.type_name) f.value d is (nothing (value_rules classes c (type_named classes f.type_name) f.value) _ h).0
 
     -- its reference is handed on
     pub field_handed : (f : FieldUpgrade) (d : ℕ) → type_named classes f.type_name ≡ type.Class d → field_rules classes c f ≡ []
@@ -227,11 +233,13 @@ module _ (classes : List Class) where
     never_before earlier [] i f j h is g = cc
     never_before earlier (e ∷ fs) zero f j h is g =
         let same : f ≡ e = cc in
-        new_one earlier (hands_over classes c e) j (ap (hands_over classes c) (sym same) ∙ g) (own_held _ _ _ (nothing _ (handed_once classes c (earlier ++ as_list (hands_over classes c e)) fs) h).0)
+        new_one earlier (hands_over classes c e) j (ap (hands_over classes c) (sym same) ∙ g)
+        (own_held _ _ _ (nothing _ (handed_once classes c (earlier ++ as_list (hands_over classes c e)) fs) h).0)
     never_before earlier (e ∷ fs) (suc i) f j h is g =
         let rest = (nothing _ (handed_once classes c (earlier ++ as_list (hands_over classes c e)) fs) h).1 in
         first_false (list_any (λ i. i == j) earlier) _
-        (sym (list_any-append (λ i. i == j) earlier (as_list (hands_over classes c e))) ∙ never_before (earlier ++ as_list (hands_over classes c e)) fs i f j rest is g)
+        (sym (list_any-append (λ i. i == j) earlier (as_list (hands_over classes c e)))
+        ∙ never_before (earlier ++ as_list (hands_over classes c e)) fs i f j rest is g)
 
     stands_there : (earlier : List ℕ) (o : Option ℕ) (j : ℕ) → o ≡ Some j → list_any (λ i. i == j) (earlier ++ as_list o) ≡ false → ⊥
     stands_there earlier None j is h = cc
@@ -256,4 +264,5 @@ module _ (classes : List Class) where
         let rest = (nothing _ (handed_once classes c (earlier ++ as_list (hands_over classes c e)) fs) h).1 in
         absurd (stands_there earlier (hands_over classes c e) j (ap (hands_over classes c) (sym same) ∙ gj) (never_before _ fs a f j rest fa fj))
     taken_once earlier (e ∷ fs) (suc a) (suc b) f g j h fa gb fj gj =
-        ap suc (taken_once (earlier ++ as_list (hands_over classes c e)) fs a b f g j (nothing _ (handed_once classes c (earlier ++ as_list (hands_over classes c e)) fs) h).1 fa gb fj gj)
+        ap suc (taken_once (earlier ++ as_list (hands_over classes c e)) fs a b f g j
+        (nothing _ (handed_once classes c (earlier ++ as_list (hands_over classes c e)) fs) h).1 fa gb fj gj)

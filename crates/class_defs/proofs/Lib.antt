@@ -46,4 +46,5 @@ pub mod TouchedStores
 pub mod TwiceKeeps
 pub mod Unseen
 pub mod UpgradeForms
+pub mod UpgradeNumbers
 pub mod Values

@@ -112,7 +112,8 @@ module _ (w : World) (value_of : Expr → Action Value) (block : List Stmt → A
   turns [] n condition body = repeat w value_of block n condition body
   turns (x ∷ k) n condition body = step >> value_of condition >>= (λ v. turn w value_of block v body (turns k n condition body))
 
-  turns_are : (k : List ℕ) (n : ℕ) (condition : Expr) (body : List Stmt) → repeat w value_of block (raised k n) condition body ≡ turns k n condition body
+  turns_are : (k : List ℕ) (n : ℕ) (condition : Expr) (body : List Stmt)
+      → repeat w value_of block (raised k n) condition body ≡ turns k n condition body
   unfolding turns repeat
   turns_are [] n condition body = refl
   turns_are (x ∷ k) n condition body =
@@ -121,4 +122,8 @@ module _ (w : World) (value_of : Expr → Action Value) (block : List Stmt → A
   pub turns_enough : (condition : Expr) (body : List Stmt) → repeat w value_of block 100001 condition body ≡ turns two 99999 condition body
   turns_enough condition body = turns_are two 99999 condition body
 
-pub ruleset run_forms = (type_null, type_this, type_field, type_variable, type_new, type_parens, out_var, out_assign, out_field_assign, out_return, out_if, out_if_else, out_while, out_print, out_evaluate, deep_enough, turns_enough)
+pub ruleset types = (type_null, type_this, type_field, type_variable, type_new, type_parens)
+
+pub ruleset statements = (out_var, out_assign, out_field_assign, out_return, out_if, out_if_else, out_while, out_print, out_evaluate)
+
+pub ruleset run_forms = (types, statements, deep_enough, turns_enough)

@@ -50,7 +50,8 @@ is_parens inner line = ap out-Tf (sym (tf.rolls-Parens inner line)) ∙ out-roll
 pub is_negate : (operand : Tf) (line : ℕ) → out-Tf (tf.Negate operand line) ≡ Tf-F.Negate operand line
 is_negate operand line = ap out-Tf (sym (tf.rolls-Negate operand line)) ∙ out-roll-Tf (Tf-F.Negate operand line)
 
-pub is_binary : (operator : Operator) (left right : Tf) (line : ℕ) → out-Tf (tf.Binary operator left right line) ≡ Tf-F.Binary operator left right line
+pub is_binary : (operator : Operator) (left right : Tf) (line : ℕ)
+    → out-Tf (tf.Binary operator left right line) ≡ Tf-F.Binary operator left right line
 is_binary operator left right line = ap out-Tf (sym (tf.rolls-Binary operator left right line)) ∙ out-roll-Tf (Tf-F.Binary operator left right line)
 
 pub ruleset upgrade_forms = (fold_null, fold_int, fold_path, fold_parens, fold_negate, fold_binary, is_null, is_number, is_path, is_parens, is_negate, is_binary)

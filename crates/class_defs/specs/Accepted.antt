@@ -1,7 +1,7 @@
 -- Upgrades that a check accepts (this project's). Rule O4 lets expressions read through owned fields alone, O3 and O6 let
 -- references be handed on alone, O5 lets each part be handed over once, and O1 and the rules T inside an upgrade keep
 -- classes and types: together they are what `KeptOwnership` asks of the upgrades of a store.
-use Rattle.std.specs.Prelude.{◌≡◌, ◌<◌, ℕ, suc, List, Some, None}
+use Rattle.std.specs.Prelude.{◌≡◌, ◌<◌, ℕ, suc, List, [], Some, None}
 use Rattle.class_defs.specs.Applied.{applied}
 use Rattle.class_defs.specs.Epochs.{schema_of, upgrade_to}
 use Rattle.class_defs.specs.UpgradeOrder.{own_fault}
@@ -19,3 +19,7 @@ pub record IsAccepted (s : Schemas) (repos : ℕ) (items : List (List Stmt)) (k 
 -- all upgrades up to an epoch are such
 abbrev pub AllAccepted : Schemas → ℕ → List (List Stmt) → ℕ → Type 0
 AllAccepted s repos items e = (k : ℕ) → k < e → IsAccepted s repos items k
+
+-- each upgrade up to an epoch names a class, as the grammar has it
+abbrev pub AllNameAClass : Schemas → ℕ → Type 0
+AllNameAClass s e = (k : ℕ) → (u : Upgrade) → k < e → upgrade_to s (suc k) ≡ Some u → ¬ (u.classes ≡ [])

@@ -1,5 +1,5 @@
 -- The schema behind an upgrade (this project's). Classes keep their numbers, their names and their kinds, for good.
-use Rattle.std.specs.Prelude.{ℕ, zero, suc, max, find, map, List, [], ◌∷◌, Option, Some, None, is_some, if◌then◌else◌}
+use Rattle.std.specs.Prelude.{ℕ, zero, suc, max, find, map, List, [], ◌∷◌, Option, Some, None, is_some, unwrap_or, slice_get, if◌then◌else◌}
 use Rattle.std.specs.Str.{bytes_eq}
 use Rattle.class_defs.specs.declared.classes.Class.{Class}
 use Rattle.class_defs.specs.declared.classes.Field.{Field}
@@ -24,6 +24,10 @@ class_behind d (Some k) = record d { fields = map new_field k.fields; methods = 
 -- classes behind an upgrade
 abbrev pub classes_behind : Upgrade → List Class → List Class
 classes_behind u ds = map (λ d. class_behind d (said_of u d)) ds
+
+-- the number of the last upgrade that names a class, where these are the numbers of the classes
+abbrev pub number_of : List ℕ → ℕ → ℕ
+number_of upgraded c = unwrap_or (slice_get upgraded c) zero
 
 -- the greatest of some numbers, 0 where there is none
 abbrev pub highest : List ℕ → ℕ

@@ -67,6 +67,6 @@ pub use store::{
 pub use types::ExprType;
 pub use upgrade_laws::{
     accepted_upgrades_break_no_rule, accepted_upgrades_keep_ownership, nothing_due,
-    upgrades_leave_other_classes,
+    numbers_tell_what_is_due, upgrades_leave_other_classes,
 };
 pub use upgrades::{ClassUpgrade, ClassUpgrades, FieldUpgrade, FieldUpgrades, Names, Tf, Upgrade};

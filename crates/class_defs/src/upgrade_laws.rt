@@ -1,15 +1,15 @@
 //! What upgrades leave as it is, and what those keep that a check accepts. Each law is a function with an empty body, whose clauses are proved once for all callers.
 
-ghost use Rattle.std.specs.Prelude.{◌≡◌, ◌<◌, ◌+◌, ℕ, List, [], Option, Some, None, false, option_map, slice_get};
+ghost use Rattle.std.specs.Prelude.{◌≡◌, ◌<◌, ◌+◌, ℕ, List, [], Option, Some, None, false, nat_lt, option_map, slice_get};
 ghost use Rattle.thor_value.specs.FiniteMap.{IsSorted, get, keys};
 ghost use Rattle.thor_value.specs.declared.names.Oref.{Oref};
 ghost use Rattle.thor_value.specs.declared.values.Obj.{Obj};
-ghost use Rattle.class_defs.specs.Accepted.{AllAccepted};
-ghost use Rattle.class_defs.specs.Applied.{applied};
+ghost use Rattle.class_defs.specs.Accepted.{AllAccepted, AllNameAClass};
+ghost use Rattle.class_defs.specs.Applied.{applied, number_of};
 ghost use Rattle.class_defs.specs.Eager.{eager};
-ghost use Rattle.class_defs.specs.Epochs.{next_of};
+ghost use Rattle.class_defs.specs.Epochs.{next_of, schema_of};
 ghost use Rattle.class_defs.specs.KeptOwnership.{AllKeepClasses};
-ghost use Rattle.class_defs.specs.Levels.{is_due, level};
+ghost use Rattle.class_defs.specs.Levels.{is_due, last_naming, level};
 ghost use Rattle.class_defs.specs.SchemaRules.{item_rules, schema_rules};
 ghost use Rattle.class_defs.specs.Stored.{Stored, bare, each_value};
 ghost use Rattle.class_defs.specs.UpgradeOrder.{own_fault};
@@ -61,4 +61,15 @@ pub fn accepted_upgrades_break_no_rule()
 pub fn accepted_upgrades_keep_ownership()
     ensures { (s : Schemas) → (repos : ℕ) → (items : List (List Stmt)) → (e : ℕ)
         → schema_rules s.first repos ≡ [] → AllAccepted s repos items e → AllKeepClasses s e }
+{}
+
+/// Where a check accepts the upgrades of a store, one after the other, the numbers in a schema are those of the last
+/// upgrades that name its classes. So an object is due where its class's number is above its version.
+pub fn numbers_tell_what_is_due()
+    ensures numbers { (s : Schemas) → (repos : ℕ) → (items : List (List Stmt)) → (e : ℕ) → (c : ℕ)
+        → ((d : ℕ) → number_of s.first.upgraded d ≡ 0) → AllAccepted s repos items e → AllNameAClass s e
+        → number_of (schema_of s e).upgraded c ≡ last_naming s c e }
+    ensures due { (s : Schemas) → (repos : ℕ) → (items : List (List Stmt)) → (e : ℕ) → (o : Obj)
+        → ((d : ℕ) → number_of s.first.upgraded d ≡ 0) → AllAccepted s repos items e → AllNameAClass s e
+        → is_due s e o ≡ nat_lt o.ver (number_of (schema_of s e).upgraded o.class) }
 {}

@@ -6,5 +6,6 @@ pub mod Playing
 pub mod Reads
 pub mod Refusals
 pub mod Script
+pub mod Statuses
 pub mod Top
 pub mod Words

@@ -1,3 +1,6 @@
+ghost use Rattle.std.specs.Prelude.{◌≡◌};
+ghost use Rattle.thor_top.specs.Statuses.{code_of};
+
 /// How the program ended.
 #[derive(Clone, Copy, Debug, PartialEq, Eq)]
 pub enum Status {
@@ -13,7 +16,7 @@ pub enum Status {
     SourceFault,
     /// The sink failed.
     SinkFault,
-    /// The script is too long.
+    /// The script passes a limit on bytes, clients or events.
     Limit,
     /// Memory was not there.
     NoMemory,
@@ -21,7 +24,9 @@ pub enum Status {
 
 impl Status {
     /// The exit status of the program.
-    pub fn code(self) -> u8 {
+    pub fn code(self) -> u8
+        ensures { result ≡ code_of self }
+    {
         match self {
             Status::Done => 0,
             Status::Unfinished => 1,

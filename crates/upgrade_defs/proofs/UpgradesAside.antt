@@ -4,6 +4,7 @@ use Rattle.std.specs.Prelude.{codes}
 use Rattle.std.specs.List.{AllByRecursion}
 use Rattle.std.proofs.lemmas.List.{length-map}
 use Rattle.class_defs.specs.Grammar.{max_depth, max_nesting}
+use Rattle.class_defs.specs.Printed.{with_spaces}
 use Rattle.class_defs.specs.Shape.{Shape, leaf}
 use Rattle.class_defs.specs.Spelling.{method_words}
 use Rattle.class_defs.specs.Words.{Word, Fixed, FixedAt, in_turn, name_word, symbol_of}
@@ -17,7 +18,7 @@ use Rattle.class_defs.specs.declared.upgrades.Upgrade.{Upgrade}
 use Rattle.method_parse.specs.LinesAside.{method_on_line_1, name_on_line_1}
 use Rattle.method_parse.specs.Matching.{AreWords}
 use Rattle.method_parse.proofs.ExpressionsAside.{lined, lined_both, lined_turns, type_lined}
-use Rattle.method_parse.proofs.PrintedTokens.{words_printed}
+use Rattle.method_parse.proofs.PrintedTokens.{printed_lined, words_printed}
 use Rattle.method_parse.proofs.StatementsAside.{each_aside, method_aside, methods_stay}
 use Rattle.script_text.specs.Grammar.{AreTokensOf}
 use Rattle.script_text.specs.Laws.{AreSpelled}
@@ -162,3 +163,6 @@ pub upgrade_read : (tokens : List Token) (upgrade : Upgrade) → AreSpelled toke
 upgrade_read tokens upgrade spelled spells =
     let p = words_printed tokens (upgrade_words upgrade) spelled spells.0 in
     (p.tokens, p.are, (subst (AreWords p.tokens) (sym (upgrade_aside upgrade)) p.spell, upgrade_stays upgrade spells.1))
+
+pub upgrade_again : (upgrade : Upgrade) → printed_upgrade (upgrade_on_line_1 upgrade) ≡ printed_upgrade upgrade
+upgrade_again upgrade = ap with_spaces (upgrade_aside upgrade) ∙ printed_lined (upgrade_words upgrade)

@@ -18,10 +18,13 @@ pub fn upgrade_spellings_are_unique()
 
 /// What was printed, read again, gives the upgrade back, lines aside.
 ///
-/// The upgrade is one that tokens of a text spell. The printed text has tokens, and they spell that upgrade as
-/// it stands on one line. So `scan` finds them, and `parse_upgrade` gives that upgrade, unless memory runs out.
-#[tactic(auto, using(crate::proofs::UpgradesAside::upgrade_read))]
+/// The upgrade is one that tokens spell, each token spelled as its kind is; those that `scan` finds are. The
+/// printed text has tokens, and they spell that upgrade as it stands on one line. So `scan` finds them in a
+/// text of less than 2^32 bytes, and `parse_upgrade` gives that upgrade, unless memory runs out. A text tells
+/// nothing of the lines: what was read so prints as the same text.
+#[tactic(auto, using(crate::proofs::UpgradesAside::upgrade_read, crate::proofs::UpgradesAside::upgrade_again))]
 pub fn printed_upgrades_are_read()
-    ensures { (tokens : List Token) → (upgrade : Upgrade) → AreSpelled tokens → SpellsUpgrade tokens upgrade
+    ensures upgrade { (tokens : List Token) → (upgrade : Upgrade) → AreSpelled tokens → SpellsUpgrade tokens upgrade
         → (printed : List Token) × AreTokensOf (printed_upgrade upgrade) printed × SpellsUpgrade printed (upgrade_on_line_1 upgrade) }
+    ensures lines { (upgrade : Upgrade) → printed_upgrade (upgrade_on_line_1 upgrade) ≡ printed_upgrade upgrade }
 {}
