@@ -1,6 +1,10 @@
 pub mod AloneAnswers
 pub mod AloneIsLegal
 pub mod CommitLaws
+pub mod DefinedNames
+pub mod DefinedOpened
+pub mod DefinedRuns
+pub mod DefinedTurns
 pub mod JudgingLaws
 pub mod NamesLaws
 pub mod Performing

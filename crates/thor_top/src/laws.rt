@@ -1,12 +1,19 @@
-ghost use Rattle.std.specs.Prelude.{◌≡◌, ℕ, List, true, Some};
+ghost use Rattle.std.specs.List.{list_any};
+ghost use Rattle.std.specs.Prelude.{◌≡◌, ◌⊎◌, ℕ, List, [], true, false, Some, None};
+ghost use Rattle.class_defs.specs.SchemaRules.{schema_rules};
+ghost use Rattle.class_defs.specs.declared.declarations.Declarations.{Declarations};
 ghost use Rattle.class_defs.specs.declared.store.Plain.{Plain};
 ghost use Rattle.class_defs.specs.declared.store.Schema.{Schema};
 ghost use Rattle.serial_model.specs.History.{IsLegal};
 ghost use Rattle.serial_model.specs.Outcomes.{Answers, all_items};
 ghost use Rattle.serial_model.specs.declared.entries.What.{What};
 ghost use Rattle.thor_top.specs.Alone.{performance, schemas_of};
-ghost use Rattle.thor_top.specs.Playing.{first_items, is_alone};
+ghost use Rattle.thor_top.specs.Judging.{items_rules};
+ghost use Rattle.thor_top.specs.Opened.{opened, schema_of};
+ghost use Rattle.thor_top.specs.Playing.{CantRun, can_run, first_items, have_upgrade, is_alone, is_upgrade};
+ghost use Rattle.thor_top.specs.Top.{IsAccepted};
 ghost use Rattle.thor_top.specs.declared.performed.Performed.{Performed};
+ghost use Rattle.thor_top.specs.declared.script.Script.{Script};
 
 /// What a client that is alone does is one serial history from the store: its timestamps rise, and each
 /// entry is legal on the store after those before it.
@@ -18,4 +25,18 @@ pub fn alone_histories_are_legal()
 /// item, and the entries stand in the order of the items.
 pub fn alone_histories_answer()
     ensures { (schema : Schema) (store : Plain) (tries : ℕ) (clients : List (List What)) (done : Performed) → is_alone clients ≡ true → performance schema tries 1 1 0 store (first_items clients) ≡ Some done → Answers done.history (all_items clients) done.ends }
+{}
+
+/// What a client that is alone performs, from the opened store, of items that break no rule under a setup that breaks
+/// none is always defined, unless there is an upgrade among them: no run stops for want of an object, or with names
+/// for new objects that don't fit. So an accepted script that can't run has another client with items, or an event,
+/// or an upgrade.
+pub fn accepted_runs_are_defined()
+    ensures items { (setup : Declarations) → (tries : ℕ) → (items : List What)
+        → schema_rules (schema_of setup) 1 ≡ [] → items_rules (schema_of setup) 1 items ≡ []
+        → performance (schema_of setup) tries 1 1 0 (opened (schema_of setup)) items ≡ None
+        → list_any is_upgrade items ≡ true }
+    ensures scripts { (schema : Schema) → (tries : ℕ) → (script : Script)
+        → IsAccepted 1 script schema → CantRun schema tries script
+        → (can_run script ≡ false) ⊎ (have_upgrade script.clients ≡ true) }
 {}

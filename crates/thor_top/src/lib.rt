@@ -23,7 +23,7 @@ pub use alone::perform;
 pub use command::{Command, command_of};
 pub use error::ReadError;
 pub use judging::judge;
-pub use laws::{alone_histories_answer, alone_histories_are_legal};
+pub use laws::{accepted_runs_are_defined, alone_histories_answer, alone_histories_are_legal};
 pub use performed::Performed;
 pub use reading::read_script;
 pub use refusal::Refusal;
