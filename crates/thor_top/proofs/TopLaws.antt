@@ -1,5 +1,5 @@
 -- What the top call says, from what its parts do.
-use Rattle.std.proofs.Common.{◌≡◌, ◌&&◌, inl, inr, ℕ, suc, ◌+◌, arith, ◌<◌, ◌≤◌, Bool, true, false, List, [], ◌∷◌, length, Option, Some, Result, Ok, Err, IfOk, refl, ap, subst, sym, ◌∙◌}
+use Rattle.std.proofs.Common.{◌≡◌, ◌&&◌, inl, inr, ℕ, suc, ◌+◌, arith, ◌<◌, ◌≤◌, Bool, true, false, List, [], ◌∷◌, length, Option, Some, Result, Ok, Err, IfOk, refl, ap, subst, sym, ◌∙◌, None}
 use Rattle.thor_value.specs.declared.memory.NoMemory.{NoMemory}
 use Rattle.class_defs.specs.declared.declarations.Declarations.{Declarations}
 use Rattle.class_defs.specs.declared.declarations.WrittenRoot.{WrittenRoot}
@@ -9,10 +9,10 @@ use Rattle.schedule.specs.Written.{AreEventsOf}
 use Rattle.script_text.specs.declared.sections.Split.{Split}
 use Rattle.script_text.specs.declared.syntax.Syntax.{Syntax}
 use Rattle.thor_top.specs.Opened.{opened, placed_from, schema_of}
-use Rattle.thor_top.specs.Playing.{Does, Plays, first_items, is_alone}
+use Rattle.thor_top.specs.Playing.{CantRun, Does, Plays, first_items, is_alone}
 use Rattle.thor_top.specs.Reads.{Each, Reads}
 use Rattle.thor_top.specs.Script.{AreItems, HasFew, IsRefusedEnd, IsRefusedSchedule, IsRefusedSplit, IsSetupPart}
-use Rattle.thor_top.specs.Top.{IsAccepted, IsReport, IsResult, IsUnfinished, IsWithinLimits, TellsOf, Says, Tells, WasRead, repos_of}
+use Rattle.thor_top.specs.Top.{IsAccepted, IsRefused, IsRefusedOn, IsReport, IsResult, IsUnbuilt, IsUnfinished, IsWithinLimits, TellsOf, Says, Tells, WasRead, repos_of}
 use Rattle.thor_top.specs.Words.{command_of}
 use Rattle.thor_top.specs.declared.command.Command.{Command}
 use Rattle.thor_top.specs.declared.command.Command.TheVariants.{Play}
@@ -26,6 +26,7 @@ use Rattle.thor_top.specs.declared.status.Status.TheVariants as status
 use Rattle.thor_top.specs.declared.top.Reply.{Reply}
 use Rattle.thor_top.proofs.AloneAnswers.{alone_answers}
 use Rattle.thor_top.proofs.AloneIsLegal.{is_legal}
+use Rattle.thor_top.proofs.DefinedRuns.{forms_stop}
 
 -- what is true of a status and a text is true of the reply that has them
 pub said : (P : Status → List ℕ → Type 0) (s : Status) (text : List ℕ) (r : Result Reply NoMemory) → P s text → IfOk r (λ reply. reply.status ≡ s) → IfOk r (λ reply. reply.text ≡ text) → IfOk r (λ reply. P reply.status reply.text)
@@ -90,6 +91,16 @@ pub unfinished_told : (script : Script) (schema : Schema) (command : Command) (t
 unfinished_told script schema command tries played p s within is unfinished play accepted some plays =
     let P : Status → Type 0 = λ t. TellsOf command script t p.text in
     subst P (sym is) (within, unfinished_play script schema command tries played p play accepted some unfinished plays)
+
+-- why it isn't run
+pub not_built_told : (script : Script) (schema : Schema) (command : Command) (tries : ℕ) (played : Option Played) → command ≡ Play tries → IsAccepted (repos_of command) script schema → played ≡ None → Plays schema tries script played → IsRefused command script refusal.Unbuilt
+not_built_told script schema command tries played is accepted none plays =
+    let P : Option Played → Type 0 = λ o. Plays schema tries script o in
+    let Q : Command → Type 0 = λ d. IsAccepted (repos_of d) script schema → IsUnbuilt d script refusal.Unbuilt in
+    let R : Option Declarations → Type 0 = λ o. IsRefusedOn command script o refusal.Unbuilt in
+    let cant : CantRun schema tries script = subst P none plays in
+    let unbuilt : IsUnbuilt command script refusal.Unbuilt = subst Q (sym is) (λ a. (refl, (schema, (a, forms_stop schema tries script a cant)))) accepted in
+    subst R (sym accepted.set_up) (inr unbuilt)
 
 length_placed : (n : ℕ) (roots : List WrittenRoot) → length (placed_from n roots) ≡ length roots
 length_placed n [] = refl

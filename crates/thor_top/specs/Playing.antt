@@ -42,6 +42,10 @@ can_run script = is_alone script.clients && length script.events == 0
 abbrev pub performed : Schema → ℕ → Script → Option Performed
 performed schema tries script = performance schema tries 1 1 0 (opened schema) (first_items script.clients)
 
+-- The script isn't of the form that runs: another client has items, or the schedule an event, or there is an upgrade.
+abbrev pub IsNotBuilt : Script → Type 0
+IsNotBuilt script = (can_run script ≡ false) ⊎ (have_upgrade script.clients ≡ true)
+
 -- the script can't run yet, or a run is undefined
 abbrev pub CantRun : Schema → ℕ → Script → Type 0
 CantRun schema tries script = (can_run script ≡ false) ⊎ (performed schema tries script ≡ None)

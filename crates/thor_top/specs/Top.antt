@@ -13,7 +13,7 @@ use Rattle.serial_model.specs.declared.outcomes.Ended.{Ended}
 use Rattle.thor_top.specs.Alone.{is_finished, schemas_of}
 use Rattle.thor_top.specs.Judging.{BreaksRule, KeepsRules}
 use Rattle.thor_top.specs.Opened.{opened, schema_of}
-use Rattle.thor_top.specs.Playing.{CantRun, Does, have_upgrade}
+use Rattle.thor_top.specs.Playing.{Does, IsNotBuilt, have_upgrade}
 use Rattle.thor_top.specs.Refusals.{refusal_text}
 use Rattle.thor_top.specs.Script.{IsRefusedText, IsWritten}
 use Rattle.thor_top.specs.Words.{command_of}
@@ -67,10 +67,10 @@ abbrev pub repos_of : Command → ℕ
 repos_of (Check repos) = repos
 repos_of (Play tries) = 1
 
--- The script breaks no rule T, and its upgrades' rules aren't checked yet; or it can't run yet.
+-- The script breaks no rule T, and has upgrades, whose rules aren't checked yet; or it isn't of the form that runs.
 abbrev pub IsUnbuilt : Command → Script → Refusal → Type 0
 IsUnbuilt (Check repos) script r = (r ≡ refusal.Unbuilt) × ((schema : Schema) × (IsAccepted repos script schema × (have_upgrade script.clients ≡ true)))
-IsUnbuilt (Play tries) script r = (r ≡ refusal.Unbuilt) × ((schema : Schema) × (IsAccepted 1 script schema × CantRun schema tries script))
+IsUnbuilt (Play tries) script r = (r ≡ refusal.Unbuilt) × ((schema : Schema) × (IsAccepted 1 script schema × IsNotBuilt script))
 
 -- a script with a setup is refused for a rule that it breaks, and else where it can't run yet
 abbrev pub IsRefusedOn : Command → Script → Option Declarations → Refusal → Type 0

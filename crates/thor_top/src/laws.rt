@@ -1,5 +1,5 @@
 ghost use Rattle.std.specs.List.{list_any};
-ghost use Rattle.std.specs.Prelude.{◌≡◌, ◌⊎◌, ℕ, List, [], true, false, Some, None};
+ghost use Rattle.std.specs.Prelude.{◌≡◌, ℕ, List, [], true, Some, None};
 ghost use Rattle.class_defs.specs.SchemaRules.{schema_rules};
 ghost use Rattle.class_defs.specs.declared.declarations.Declarations.{Declarations};
 ghost use Rattle.class_defs.specs.declared.store.Plain.{Plain};
@@ -10,7 +10,7 @@ ghost use Rattle.serial_model.specs.declared.entries.What.{What};
 ghost use Rattle.thor_top.specs.Alone.{performance, schemas_of};
 ghost use Rattle.thor_top.specs.Judging.{items_rules};
 ghost use Rattle.thor_top.specs.Opened.{opened, schema_of};
-ghost use Rattle.thor_top.specs.Playing.{CantRun, can_run, first_items, have_upgrade, is_alone, is_upgrade};
+ghost use Rattle.thor_top.specs.Playing.{CantRun, IsNotBuilt, first_items, is_alone, is_upgrade};
 ghost use Rattle.thor_top.specs.Top.{IsAccepted};
 ghost use Rattle.thor_top.specs.declared.performed.Performed.{Performed};
 ghost use Rattle.thor_top.specs.declared.script.Script.{Script};
@@ -38,5 +38,5 @@ pub fn accepted_runs_are_defined()
         → list_any is_upgrade items ≡ true }
     ensures scripts { (schema : Schema) → (tries : ℕ) → (script : Script)
         → IsAccepted 1 script schema → CantRun schema tries script
-        → (can_run script ≡ false) ⊎ (have_upgrade script.clients ≡ true) }
+        → IsNotBuilt script }
 {}
