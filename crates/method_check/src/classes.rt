@@ -47,7 +47,7 @@ fn member_names(alloc: Global, class: &Class, found: &mut Option<TypeFault>) -> 
 
 /// What the methods of a class break.
 #[tactic(auto, using(crate::proofs::Pieces::least_append))]
-fn methods(
+pub fn methods(
     alloc: Global,
     schema: &Schema,
     repos: u8,
@@ -66,7 +66,7 @@ fn methods(
 
 /// What a class breaks.
 #[tactic(auto, using(crate::proofs::Pieces::least_append), unfolding(class_defs::specs::SchemaRules::class_rules))]
-fn class_rules(
+pub fn class_rules(
     alloc: Global,
     schema: &Schema,
     repos: u8,
