@@ -161,6 +161,18 @@ fn scripts_are_checked(rt: HostRuntime) -> Result<(), Fail> {
             "play",
             "setup client 1 upgrade { }",
             Status::Script,
+            "script 1 Syntax\n",
+        ),
+        (
+            "check",
+            "setup free class A { } client 1 upgrade { class A { int n = 1; } }",
+            Status::Script,
+            "script 1 Unbuilt\n",
+        ),
+        (
+            "play",
+            "setup free class A { } client 1 upgrade { class A { int n = 1; } }",
+            Status::Script,
             "script 1 Unbuilt\n",
         ),
         ("play --tries 0", "", Status::Words, "words\n"),
