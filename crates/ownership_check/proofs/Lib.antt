@@ -1,4 +1,5 @@
 pub mod Behind
+pub mod LeastOwn
 pub mod Names
 pub mod OneTold
 pub mod Pieces

@@ -1,4 +1,4 @@
-ghost use Rattle.std.specs.Prelude.{◌≡◌, ◌<◌, ◌^◌, map, max, zero, slice_get, unwrap_or, drop, is_some, if◌then◌else◌, IfOk};
+ghost use Rattle.std.specs.Prelude.{◌≡◌, ◌<◌, ◌^◌, map, max, zero, slice_get, unwrap_or, drop, is_some, if◌then◌else◌, ◌↔◌, IsTrue, IfOk};
 ghost use Rattle.std.specs.Option.{option_copied};
 ghost use Rattle.class_defs.specs.Applied as spec;
 ghost use Rattle.class_defs.specs.Applied.{applied, highest, next_number};
@@ -126,6 +126,13 @@ fn numbers_behind(
         rest = behind_first(rest);
     }
     Ok(numbers)
+}
+
+/// Whether there is a number for one more upgrade, as `apply` and the check ask for it.
+pub fn has_next_number(schema: &Schema) -> bool
+    ensures { IsTrue result ↔ (next_number schema.now.upgraded < 2 ^ 32) }
+{
+    highest(schema.upgraded.as_slice()) < u32::MAX
 }
 
 /// The schema behind an upgrade.

@@ -30,7 +30,9 @@ fn is_class_once(
     found: &mut Option<OwnFault>,
 )
     requires { length classes.now ≤ 65536 }
-    ensures { found.new ≡ least_own_with found.old (must_own (is_some (types.class_named classes.now said.now.name.text) && not (list_any (λ k. bytes_eq k.name.text said.now.name.text) earlier.now)) O1 said.now.name.line) }
+    ensures { found.new ≡ least_own_with found.old (must_own (
+        is_some (types.class_named classes.now said.now.name.text) && not (list_any (λ k. bytes_eq k.name.text said.now.name.text) earlier.now)
+        ) O1 said.now.name.line) }
 {
     let name = &said.name;
     let there = class_named(classes, name.text.as_slice()).is_some();

@@ -8,10 +8,12 @@ mod error;
 mod expressions;
 mod fields;
 mod inside;
+mod laws;
 mod least;
 mod outside;
 mod paths;
 
-pub use applied::apply;
+pub use applied::{apply, has_next_number};
 pub use checking::{Owned, own_check};
 pub use error::OwnError;
+pub use laws::{one_upgrade_follows_another, the_least_own_fault_is_told};
