@@ -14,7 +14,7 @@ use Rattle.session_outbox.specs.History.{Aborted, Base, Committed, CommittedBelo
 use Rattle.session_outbox.specs.Laws.{BesideUpgrade}
 use Rattle.session_outbox.specs.Requests.{is_upgrade}
 use Rattle.session_outbox.specs.Sound.{Accepts, Admits, owes, sound}
-use Rattle.session_outbox.specs.Window.{Member, Window, cleared, close, close_by, enter, first_decided, room_for, slide, window, window_from, with_room, without}
+use Rattle.session_outbox.specs.Window.{Member, Window, cleared, close, close_by, enter, first_decided, slide, window, window_from, with_room, without}
 use Rattle.std.proofs.Common.{rules, List, [], ap, arith, cond, inl, inr, refl, subst, sym, ℕ, ◌++◌, ◌<◌, ◌≡◌, ◌≢◌, ◌∙◌, ◌∷◌}
 use Rattle.std.proofs.lemmas.Cmp.{eq_by_cmp_equiv, tied_itself}
 use Rattle.std.proofs.lemmas.Map.Keys.{IsDistinct-from_sorted}
@@ -33,6 +33,7 @@ use Rattle.thor_value.proofs.NameOrders.{not_before_itself, ts_exact, ts_total}
 use Rattle.thor_value.specs.FiniteMap.{IsSorted, Map, empty, get, insert, len, remove}
 use Rattle.thor_value.specs.Names.{AtMost, Before, later_of, ts_cmp}
 use Rattle.thor_value.specs.declared.names.Ts.{Ts}
+use Rattle.validation_queue.specs.Contents.{room_for}
 
 -- ---- timestamps
 

@@ -205,15 +205,19 @@ module _ (b : Base) where
   unfolding Parts IsNew
   decides_admitted S q sorted = through (is_admitted b S q)
       (λ p. record {
-        once = p.0.0.0.0.0;
+        vouched = record {
+          once = p.0.0.0.0.0;
+          within = p.0.0.0.1;
+          here = p.0.0.1;
+          unused = λ x c w. (p.0.1 x w c).0;
+          unwritten = λ x c w. (p.0.1 x w c).1;
+        };
         current = p.0.0.0.0.1;
-        within = p.0.0.0.1;
-        here = p.0.0.1;
-        unused = λ x c w. (p.0.1 x w c).0;
-        unwritten = λ x c w. (p.0.1 x w c).1;
         accepted = p.1;
       })
-      (λ h. (((((h.once, h.current), h.within), h.here), (λ x w c. (h.unused x c w, h.unwritten x c w))), h.accepted))
+      (λ h.
+      let v = h.vouched in
+      (((((v.once, h.current), v.within), v.here), (λ x w c. (v.unused x c w, v.unwritten x c w))), h.accepted))
       (decides_parts S q sorted)
 
   decides_alone : (q : Request) → Decides (is_alone b q) (IsAlone b q)

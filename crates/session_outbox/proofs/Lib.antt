@@ -13,6 +13,7 @@ pub mod Mended
 pub mod Traces
 pub mod Covered
 pub mod Validated
+pub mod Accepted
 pub mod Below
 pub mod Sessions
 pub mod Copies

@@ -99,7 +99,7 @@ module _ (b : Base) (H : List Entry) (sd : sound b H) where
 
   -- a transaction read what it wrote
   read_too : (t : Ts) (o : Standing) (x : Oref) → stands b H t ≡ Some o → IsTrue (has_written o.request x) → IsTrue (has_read o.request x)
-  read_too t o x it w = (judged b H sd t o it).within x w
+  read_too t o x it w = (judged b H sd t o it).vouched.within x w
 
   earlier_settled : (s t : Ts) (w o : Standing) (x : Oref) → BothWrote b H s t w o x → Before s t → CommittedBelow o.place w.fate
   earlier_settled s t w o x r e = order.settled t s o w x (record {
@@ -188,12 +188,12 @@ module _ (b : Base) (H : List Entry) (sd : sound b H) where
       let p : o.place < length H = (fits b H sd t o r.there).below in
       let y = stood b H sd o.place (omega arith) s w is l in
       let st : Stays y.0 w = y.2 in
-      let h : has_written y.0.request x ≡ false = MatchOption-at_some ⊤ (λ v. has_written v.request x ≡ false) y.0 y.1 ((judged b H sd t o r.there).unwritten x r.fresh r.wrote s) in
+      let h : has_written y.0.request x ≡ false = MatchOption-at_some ⊤ (λ v. has_written v.request x ≡ false) y.0 y.1 ((judged b H sd t o r.there).vouched.unwritten x r.fresh r.wrote s) in
       subst (λ q. has_written q x ≡ false) (sym st.request) h
 
   pub created_once : CreatedOnce b H
   created_once = record {
-    unused = λ t o x r. (judged b H sd t o r.there).unused x r.fresh r.wrote;
+    unused = λ t o x r. (judged b H sd t o r.there).vouched.unused x r.fresh r.wrote;
     first_by_place = first_in_place;
     first_by_time = λ t s o w x r lo is lw e. elim (three_ways w.place o.place) [
       | inl l ↦ first_in_place t s o w x r is l

@@ -4,12 +4,11 @@ use Rattle.commit_log.specs.declared.request.Request.{Request}
 use Rattle.session_outbox.proofs.Covered.{at_most_then, at_most_itself, first_at_most, held, second_at_most}
 use Rattle.session_outbox.proofs.Decided.{written_keys}
 use Rattle.session_outbox.proofs.Meeting.{in_order, not_both_ways}
-use Rattle.session_outbox.specs.Checking.{is_before}
 use Rattle.session_outbox.specs.Covers.{Agrees}
 use Rattle.session_outbox.specs.History.{Aborted, Base, Committed, Fate, IsCommitted, Lives, Open, Standing, epoch_of, stands, state}
 use Rattle.session_outbox.specs.Requests.{bars, has_read, has_written, is_upgrade, overwrites, reads_of, written}
 use Rattle.session_outbox.specs.Sound.{Accepts, sound}
-use Rattle.session_outbox.specs.Verdict.{bar, blocks, comes_earlier, comes_later, first_some, least_name, names_of, passing, reads_from, verdict, writes_over}
+use Rattle.session_outbox.specs.Verdict.{bar, blocks, comes_earlier, comes_later, first_refusal, least_name, names_of, passing, reads_from, writes_over}
 use Rattle.session_outbox.specs.Window.{Member, Window, window}
 use Rattle.session_outbox.specs.declared.refusal.Refusal.{Refusal}
 use Rattle.std.proofs.Common.{List, [], ap, cond, inl, inr, refl, subst, sym, ◌++◌, ◌≡◌, ◌∙◌, ◌∷◌}
@@ -32,6 +31,7 @@ use Rattle.thor_value.specs.FiniteMap.{Set, empty, get, has, insert, keys, overw
 use Rattle.thor_value.specs.Names.{AtMost, Before, later_of, oref_cmp, same_oref, ts_cmp}
 use Rattle.thor_value.specs.declared.names.Oref.{Oref}
 use Rattle.thor_value.specs.declared.names.Ts.{Ts}
+use Rattle.validation_queue.specs.Clashes.{first_some, is_before}
 
 -- ---- answers
 
@@ -200,7 +200,7 @@ undecided_is false f a e = refl
 -- ---- the verdict
 
 module _ (b : Base) (H : List Entry) (sd : sound b H) (q : Request) (stale full : Option Refusal) (once : stands b H q.tx ≡ None)
-    (passed : verdict (state b H) (window b H) stale full q ≡ None) where
+    (passed : first_refusal (state b H) (window b H) stale full q ≡ None) where
   not_here : {A : Type 0} (t : Ts) (o : Standing) → stands b H t ≡ Some o → t ≡ q.tx → A
   not_here t o is same = let e : None ≡ Some o = sym once ∙ subst (λ u. stands b H u ≡ Some o) same is in cc
 
@@ -334,7 +334,7 @@ if_some None P h = tt
 if_some (Some x) P h = h x refl
 
 -- what isn't refused is accepted
-pub validated : (b : Base) (H : List Entry) (q : Request) (stale full : Option Refusal) → sound b H → stands b H q.tx ≡ None → verdict (state b H) (window b H) stale full q ≡ None
+pub validated : (b : Base) (H : List Entry) (q : Request) (stale full : Option Refusal) → sound b H → stands b H q.tx ≡ None → first_refusal (state b H) (window b H) stale full q ≡ None
     → (q.epoch ≡ epoch_of (state b H)) × ((t : Ts) → IfSome (stands b H t) (Accepts q t))
 validated b H q stale full sd once passed =
     (current b H sd q stale full once passed, (λ t. if_some (stands b H t) (Accepts q t) (λ o is. accepts b H sd q stale full once passed t o is)))

@@ -7,12 +7,11 @@ use Rattle.session_outbox.specs.History.{Aborted, Base, Committed, Fate, Open, S
 use Rattle.session_outbox.specs.Requests.{bars, has_created, has_read, has_written, is_upgrade, overwrites, written}
 use Rattle.std.specs.List.{list_all}
 use Rattle.std.specs.Option.{is_none}
-use Rattle.std.specs.Ordering.{is_lt}
 use Rattle.std.specs.Prelude.{Bool, List, [], false, nat_eq, nat_lt, not, true, ◌&&◌, ◌∷◌, ◌||◌}
 use Rattle.thor_value.specs.FiniteMap.{get, has, keys}
-use Rattle.thor_value.specs.Names.{ts_cmp}
 use Rattle.thor_value.specs.declared.names.Oref.{Oref}
 use Rattle.thor_value.specs.declared.names.Ts.{Ts}
+use Rattle.validation_queue.specs.Clashes.{is_before}
 
 -- the second, where the first
 abbrev pub if_then : Bool → Bool → Bool
@@ -27,9 +26,6 @@ abbrev pub is_committed : Fate → Bool
 is_committed Open = false
 is_committed (Committed at) = true
 is_committed Aborted = false
-
-abbrev pub is_before : Ts → Ts → Bool
-is_before t u = is_lt (ts_cmp t u)
 
 abbrev pub is_empty : {X : Type 0} → List X → Bool
 is_empty [] = true

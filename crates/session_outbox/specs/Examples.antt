@@ -6,7 +6,7 @@ use Rattle.commit_log.specs.declared.request.Kind.TheVariants.{App, Upgrade}
 use Rattle.commit_log.specs.declared.request.Kind.{Kind}
 use Rattle.commit_log.specs.declared.request.Request.{Request}
 use Rattle.session_outbox.specs.History.{Base, state}
-use Rattle.session_outbox.specs.Verdict.{verdict}
+use Rattle.session_outbox.specs.Verdict.{first_refusal}
 use Rattle.session_outbox.specs.Window.{window}
 use Rattle.session_outbox.specs.declared.mark.Mark.TheVariants as the
 use Rattle.session_outbox.specs.declared.mark.Mark.{Mark}
@@ -205,4 +205,4 @@ kept_marks = the.Entry 0 ∷ the.Connected 1 1 ∷ the.Fetched 1 0 1 ∷ the.Ent
 
 -- the answer to q behind H, where no invalid set and no limit is in its way
 abbrev pub answer_to : List Entry → Request → Option Refusal
-answer_to H q = verdict (state home H) (window home H) None None q
+answer_to H q = first_refusal (state home H) (window home H) None None q

@@ -5,10 +5,10 @@ use Rattle.commit_log.specs.declared.entry.Entry.{Entry}
 use Rattle.commit_log.specs.declared.request.Request.{Request}
 use Rattle.session_outbox.specs.History.{Aborted, Base, Committed, CommittedBelow, Fate, IsCommitted, Lives, Open, Standing, commits, last_write, objects_at, stands, state, writers}
 use Rattle.session_outbox.specs.Requests.{has_created, has_read, has_written, is_upgrade, text_of, written}
-use Rattle.session_outbox.specs.Sound.{Admits}
+use Rattle.session_outbox.specs.Sound.{Admits, owes, sound}
 use Rattle.std.specs.List.{AllPairs, Contains, fold, slice_get}
 use Rattle.std.specs.Option.{IsSomeAnd}
-use Rattle.std.specs.Prelude.{IsTrue, List, None, Some, false, length, take, true, ℕ, ◌++◌, ◌<◌, ◌≡◌, ◌≢◌, ◌≤◌, ◌↔◌, ◌⊎◌}
+use Rattle.std.specs.Prelude.{IsTrue, List, None, Some, [], false, length, take, true, ℕ, ◌++◌, ◌<◌, ◌≡◌, ◌≢◌, ◌≤◌, ◌↔◌, ◌∷◌, ◌⊎◌}
 use Rattle.thor_value.specs.FiniteMap.{Map, get, overwrite}
 use Rattle.thor_value.specs.Names.{Before, later_of, oref_cmp}
 use Rattle.thor_value.specs.declared.names.Oref.{Oref}
@@ -171,3 +171,7 @@ pub record CreatedOnce (b : Base) (H : List Entry) : Type 0 where
   pub first_by_place : (t s : Ts) (o w : Standing) (x : Oref) → Creates b H t o x → stands b H s ≡ Some w → w.place < o.place → has_written w.request x ≡ false
   -- nor did a transaction with a lesser timestamp, where neither is aborted
   pub first_by_time : (t s : Ts) (o w : Standing) (x : Oref) → Creates b H t o x → Lives o.fate → stands b H s ≡ Some w → Lives w.fate → Before s t → has_written w.request x ≡ false
+
+-- The entry e owes nothing to the history H, which stays sound with it.
+abbrev pub Continues : Base → List Entry → Entry → Type 0
+Continues b H e = owes b (state b H) e × sound b (H ++ e ∷ [])

@@ -12,4 +12,5 @@ pub mod SessionExamples
 pub mod Sound
 pub mod Trace
 pub mod Verdict
+pub mod VerdictExamples
 pub mod Window

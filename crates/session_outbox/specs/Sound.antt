@@ -20,12 +20,11 @@ use Rattle.thor_value.specs.declared.names.Ts.{Ts}
 abbrev pub Accepts : Request → Ts → Standing → Type 0
 Accepts q t o = Lives o.fate → (IsTrue (bars q o.request) → IsCommitted o.fate × Before t q.tx) × (IsTrue (overwrites q o.request) → Before t q.tx)
 
--- What a request q owes to the state S that it meets.
-pub record Admits (b : Base) (S : State) (q : Request) : Type 0 where
+-- What the sender of a request q vouches for, where its repository is in the state S: a repository
+-- doesn't test it.
+pub record Vouches (b : Base) (S : State) (q : Request) : Type 0 where
   -- it comes once
   pub once : standing b S q.tx ≡ None
-  -- its client has seen the upgrades that are installed, and no others
-  pub current : q.epoch ≡ epoch_of S
   -- it read what it wrote
   pub within : (x : Oref) → IsTrue (has_written q x) → IsTrue (has_read q x)
   -- it speaks of this repository's objects
@@ -33,6 +32,13 @@ pub record Admits (b : Base) (S : State) (q : Request) : Type 0 where
   -- the objects that it created aren't there, and no transaction has written them
   pub unused : (x : Oref) → IsTrue (has_created q x) → IsTrue (has_written q x) → get S.objects x ≡ None
   pub unwritten : (x : Oref) → IsTrue (has_created q x) → IsTrue (has_written q x) → (t : Ts) → IfSome (standing b S t) (λ o. has_written o.request x ≡ false)
+
+-- What a request q owes to the state S that it meets.
+pub record Admits (b : Base) (S : State) (q : Request) : Type 0 where
+  -- what its sender vouches for
+  pub vouched : Vouches b S q
+  -- its client has seen the upgrades that are installed, and no others
+  pub current : q.epoch ≡ epoch_of S
   -- it can come behind each transaction that is here
   pub accepted : (t : Ts) → IfSome (standing b S t) (Accepts q t)
 

@@ -1,29 +1,33 @@
 -- What a repository answers to a request: the first refusal that holds. (Backward validation in
 -- timestamp order, with the checks against undecided transactions, after Adya and others, SIGMOD
 -- 1995; the fence of upgrades and the order of the checks are this project's.)
+use Rattle.commit_log.specs.declared.entry.Entry.{Entry}
 use Rattle.commit_log.specs.declared.request.Request.{Request}
-use Rattle.session_outbox.specs.Checking.{is_before}
-use Rattle.session_outbox.specs.History.{State, epoch_of}
+use Rattle.object_codec.specs.Spelling.{obj_bytes}
+use Rattle.session_outbox.specs.History.{Base, State, epoch_of, state}
 use Rattle.session_outbox.specs.Requests.{has_read, has_written, is_upgrade, written}
-use Rattle.session_outbox.specs.Window.{Member, Window}
+use Rattle.session_outbox.specs.Session.{Session, invalid, session}
+use Rattle.session_outbox.specs.Trace.{Item, entries}
+use Rattle.session_outbox.specs.Window.{Member, Window, first_decided, window}
 use Rattle.session_outbox.specs.declared.refusal.Refusal.TheVariants as refused
 use Rattle.session_outbox.specs.declared.refusal.Refusal.{Refusal}
-use Rattle.std.specs.List.{fold}
-use Rattle.std.specs.Option.{option_map, option_or}
-use Rattle.std.specs.Prelude.{Bool, List, None, Option, Some, [], cond, map, nat_eq, not, ◌&&◌, ◌++◌, ◌∷◌, ◌||◌}
-use Rattle.thor_value.specs.FiniteMap.{Set, empty, keys, overwrite}
+use Rattle.std.specs.List.{fold, sum_by}
+use Rattle.std.specs.Option.{is_none, option_and_then, option_map, option_or}
+use Rattle.std.specs.Prelude.{Bool, List, None, Option, Some, cond, length, map, nat_eq, nat_le, nat_lt, not, ℕ, ◌&&◌, ◌++◌, ◌||◌}
+use Rattle.thor_value.specs.FiniteMap.{Set, empty, keys, len, overwrite, values}
 use Rattle.thor_value.specs.Names.{later_of, oref_cmp}
 use Rattle.thor_value.specs.declared.names.Oref.{Oref}
 use Rattle.thor_value.specs.declared.names.Ts.{Ts}
+use Rattle.validation_queue.specs.Clashes.{first_some, is_before}
+use Rattle.validation_queue.specs.Contents.{room_for}
 
--- the first answer that there is
-abbrev pub first_some : {A B : Type 0} → (A → Option B) → List A → Option B
-first_some f [] = None
-first_some f (x ∷ xs) = option_or (f x) (first_some f xs)
+-- some names as a set
+abbrev pub set_of : List Oref → Set oref_cmp
+set_of names = overwrite empty (map (λ x. (x, tt)) names)
 
 -- the names that q read or wrote
 abbrev pub names_of : Request → Set oref_cmp
-names_of q = overwrite empty (map (λ x. (x, tt)) (q.ros ++ keys (written q)))
+names_of q = set_of (q.ros ++ keys (written q))
 
 -- x, where the test holds of it
 abbrev pub passing : (Oref → Bool) → Oref → Option Oref
@@ -57,13 +61,49 @@ comes_earlier q e = cond (not e.1.decided && is_before e.0 q.tx) (option_map (λ
 abbrev pub comes_later : Request → Ts × Member → Option Refusal
 comes_later q e = cond (is_before q.tx e.0) (option_map (λ x. refused.Later e.0 x) (least_name q (λ x. reads_from q e.1.request x || writes_over q e.1.request x))) None
 
--- The refusal of q, or None where it is accepted. `stale` is what the session's invalid set has
--- against it, and `full` what the limits have.
-abbrev pub verdict : State → Window → Option Refusal → Option Refusal → Request → Option Refusal
-verdict S W stale full q =
+-- The first refusal of q that holds, or None where it is accepted, but for the session's end. `stale`
+-- is what the session's invalid set has against it, and `full` what the limits have.
+abbrev pub first_refusal : State → Window → Option Refusal → Option Refusal → Request → Option Refusal
+first_refusal S W stale full q =
     option_or (first_some (blocks q) W.members.pairs)
     (option_or (cond (nat_eq q.epoch (epoch_of S)) None (Some (refused.Epoch (epoch_of S))))
     (option_or (cond (is_before (bar W q) q.tx) None (Some (refused.TooOld (bar W q))))
     (option_or stale
     (option_or (first_some (comes_earlier q) W.members.pairs)
     (option_or (first_some (comes_later q) W.members.pairs) full)))))
+
+-- the copy of x, where the place k of its last write by another session isn't below upto
+abbrev pub stale_from : ℕ → Oref → ℕ → Option Refusal
+stale_from upto x k = cond (nat_le upto k) (Some (refused.Stale x k)) None
+
+-- Of the names that q read, the least that the invalid set of its session has at a place which its
+-- client hasn't taken the message of.
+abbrev pub stale : Base → List Entry → ℕ → Session → Request → Option Refusal
+stale b H s v q = first_some (λ x. option_and_then (stale_from q.upto x) (invalid b H s v x)) (keys (set_of q.ros))
+
+-- the window has no room, and no member that may leave
+abbrev pub full_of_undecided : Window → Option Refusal
+full_of_undecided W = cond (nat_le room_for (len W.members) && is_none (first_decided W.members.pairs)) (Some (refused.Full room_for)) None
+
+-- how many bytes the objects that q wrote have, as they are spelled
+abbrev pub bytes_of : Request → ℕ
+bytes_of q = sum_by (λ o. length (obj_bytes o)) (values (written q))
+
+-- the buffer of modified objects can't hold what q wrote, were it empty
+abbrev pub full_of_writes : Base → Request → Option Refusal
+full_of_writes b q = cond (nat_lt b.limit (bytes_of q)) (Some (refused.Full b.limit)) None
+
+-- what the limits have against q
+abbrev pub full : Base → Window → Request → Option Refusal
+full b W q = option_or (full_of_undecided W) (full_of_writes b q)
+
+-- the refusal of q, which comes from the session s, where that stands so
+abbrev pub verdict_by : Base → List Entry → ℕ → Request → Option Session → Option Refusal
+verdict_by b H s q None = Some (refused.Gone s)
+verdict_by b H s q (Some v) = cond v.live (first_refusal (state b H) (window b H) (stale b H s v q) (full b (window b H) q) q) (Some (refused.Gone s))
+
+-- What a repository with this trace answers to the request q of the session s: the first of Gone,
+-- Blocked, Epoch, TooOld, Stale, Earlier, Later, Full of the window and Full of the buffer that holds,
+-- or None where it is accepted.
+abbrev pub verdict : Base → List Item → ℕ → Request → Option Refusal
+verdict b T s q = verdict_by b (entries T) s q (session b T s)

@@ -7,10 +7,11 @@ use Rattle.commit_log.specs.declared.entry.Entry.{Entry}
 use Rattle.commit_log.specs.declared.request.Request.{Request}
 use Rattle.session_outbox.specs.History.{Aborted, Base, Committed, Fate, Open, Standing, State, is_undecided, put, standing, start}
 use Rattle.session_outbox.specs.Requests.{is_upgrade}
-use Rattle.std.specs.Prelude.{Bool, List, None, Option, Some, [], cond, false, nat_le, true, ◌∷◌, ℕ}
+use Rattle.std.specs.Prelude.{Bool, List, None, Option, Some, [], cond, false, nat_le, true, ◌∷◌}
 use Rattle.thor_value.specs.FiniteMap.{Map, empty, insert, keep, len, remove}
 use Rattle.thor_value.specs.Names.{later_of, ts_cmp}
 use Rattle.thor_value.specs.declared.names.Ts.{Ts}
+use Rattle.validation_queue.specs.Contents.{room_for}
 
 -- a transaction in the window, and whether it has committed
 pub record Member : Type 0 where
@@ -22,10 +23,6 @@ pub record Member : Type 0 where
 pub record Window : Type 0 where
   pub threshold : Ts
   pub members : Map ts_cmp Member
-
--- how many members a window has room for
-abbrev pub room_for : ℕ
-room_for = 1024
 
 abbrev pub first_decided : List (Ts × Member) → Option Ts
 first_decided [] = None

@@ -2,22 +2,24 @@
 //! the law: they hold of every base and every history, and the events of a repository cite the same
 //! definitions.
 
-ghost use Rattle.commit_log.specs.declared.entry.Entry.TheVariants.{Life};
+ghost use Rattle.commit_log.specs.declared.entry.Entry.TheVariants.{Life, One, Prepared, Upgraded};
 ghost use Rattle.commit_log.specs.declared.entry.Entry.{Entry};
 ghost use Rattle.commit_log.specs.declared.request.Request.{Request};
 ghost use Rattle.session_outbox.specs.Checking.{is_sound};
 ghost use Rattle.session_outbox.specs.Covers.{Covers};
 ghost use Rattle.session_outbox.specs.History.{Base, Standing, Open, commit_of, commits, epoch_of, objects_at, put, stands, state};
-ghost use Rattle.session_outbox.specs.Laws.{CommitsListed, CreatedOnce, MadeByCommits, ReadsLast, Recorded, Stays, UpgradesFence, WritersRise};
+ghost use Rattle.session_outbox.specs.Laws.{CommitsListed, Continues, CreatedOnce, MadeByCommits, ReadsLast, Recorded, Stays, UpgradesFence, WritersRise};
 ghost use Rattle.session_outbox.specs.Order.{HasOrder};
-ghost use Rattle.session_outbox.specs.Sound.{Accepts, owes, sound};
-ghost use Rattle.session_outbox.specs.Verdict.{verdict};
+ghost use Rattle.session_outbox.specs.Sound.{Accepts, IsAlone, Vouches, owes, sound};
+ghost use Rattle.session_outbox.specs.Requests.{is_upgrade};
+ghost use Rattle.session_outbox.specs.Trace.{Item, entries};
+ghost use Rattle.session_outbox.specs.Verdict.{first_refusal, verdict};
 ghost use Rattle.session_outbox.specs.Window.{slide, window};
 ghost use Rattle.session_outbox.specs.declared.refusal.Refusal.{Refusal};
 ghost use Rattle.std.specs.Bool.{Decides};
 ghost use Rattle.std.specs.List.{filter};
 ghost use Rattle.std.specs.Option.{IfSome, IsSomeAnd};
-ghost use Rattle.std.specs.Prelude.{List, None, Option, [], ◌∷◌, ◌++◌, ℕ, ◌≡◌, ◌≢◌, ◌<◌, ◌≤◌, length, nat_lt, take};
+ghost use Rattle.std.specs.Prelude.{List, None, Option, [], ◌∷◌, ◌++◌, ℕ, ◌≡◌, ◌≢◌, ◌<◌, ◌≤◌, false, length, nat_lt, take, true};
 ghost use Rattle.thor_value.specs.declared.names.Ts.{Ts};
 
 /// A history grows at its end, by one step of the fold, and what it was at a place stays. The commits
@@ -113,11 +115,22 @@ pub fn windows_cover()
     ensures covers { (b : Base) (H : List Entry) → sound b H → Covers b H }
 {}
 
-/// A request that comes once and that the verdict doesn't refuse has seen the installed upgrades and
-/// can come behind each transaction that is there, whatever the invalid set and the limits say.
+/// A request that comes once and that isn't refused has seen the installed upgrades and can come behind
+/// each transaction that is there, whatever the invalid set and the limits say. Where its sender has
+/// kept its conditions, a request that the verdict accepts owes nothing: the history stays sound with
+/// its entry.
 pub fn verdicts_are_sound()
-    ensures { (b : Base) (H : List Entry) (q : Request) (stale full : Option Refusal) →
+    ensures accepts { (b : Base) (H : List Entry) (q : Request) (stale full : Option Refusal) →
         sound b H → stands b H q.tx ≡ None →
-        verdict (state b H) (window b H) stale full q ≡ None →
+        first_refusal (state b H) (window b H) stale full q ≡ None →
         (q.epoch ≡ epoch_of (state b H)) × ((t : Ts) → IfSome (stands b H t) (Accepts q t)) }
+    ensures prepared { (b : Base) (T : List Item) (s : ℕ) (q : Request) → sound b (entries T) →
+        Vouches b (state b (entries T)) q → verdict b T s q ≡ None →
+        Continues b (entries T) (Prepared q) }
+    ensures one { (b : Base) (T : List Item) (s : ℕ) (q : Request) → sound b (entries T) →
+        Vouches b (state b (entries T)) q → IsAlone b q → is_upgrade q ≡ false →
+        verdict b T s q ≡ None → Continues b (entries T) (One q) }
+    ensures upgraded { (b : Base) (T : List Item) (s : ℕ) (q : Request) → sound b (entries T) →
+        Vouches b (state b (entries T)) q → IsAlone b q → is_upgrade q ≡ true →
+        verdict b T s q ≡ None → Continues b (entries T) (Upgraded q) }
 {}

@@ -3,6 +3,7 @@
 //! session is sent, and why the copies that it holds stay right.
 #![tactic(auto)]
 
+mod answer_examples;
 mod history_examples;
 mod history_laws;
 mod mark;
@@ -11,6 +12,9 @@ mod session_laws;
 mod told_examples;
 mod trace_laws;
 
+pub use answer_examples::{
+    buffer_examples, gone_examples, order_examples, stale_examples, window_room_examples,
+};
 pub use history_examples::{
     mended_example, sound_examples, standing_examples, trace_example, unsound_examples,
     value_examples, verdict_examples, window_examples,

@@ -1,0 +1,46 @@
+-- What the whole verdict's acceptance tells: the session is there, and the entry owes nothing.
+use Rattle.commit_log.specs.declared.entry.Entry.TheVariants.{One, Prepared, Upgraded}
+use Rattle.commit_log.specs.declared.entry.Entry.{Entry}
+use Rattle.commit_log.specs.declared.request.Request.{Request}
+use Rattle.session_outbox.proofs.Growth.{sound-end}
+use Rattle.session_outbox.proofs.Validated.{validated}
+use Rattle.session_outbox.specs.History.{Base, state}
+use Rattle.session_outbox.specs.Laws.{Continues}
+use Rattle.session_outbox.specs.Requests.{is_upgrade}
+use Rattle.session_outbox.specs.Session.{Session, session}
+use Rattle.session_outbox.specs.Sound.{Admits, IsAlone, Vouches, owes, sound}
+use Rattle.session_outbox.specs.Trace.{Item, entries}
+use Rattle.session_outbox.specs.Verdict.{first_refusal, full, stale, verdict, verdict_by}
+use Rattle.session_outbox.specs.Window.{window}
+use Rattle.session_outbox.specs.declared.refusal.Refusal.{Refusal}
+use Rattle.std.proofs.Common.{List, cond, refl, ◌≡◌}
+use Rattle.std.specs.Prelude.{Bool, None, Option, Some, false, true, ℕ}
+
+only_live : (x : Bool) (o : Option Refusal) (r : Refusal) → cond x o (Some r) ≡ None → (x ≡ true) × (o ≡ None)
+only_live true o r e = (refl, e)
+only_live false o r e = cc
+
+-- the session of an accepted request is there, and nothing else refuses it
+pub passed : (b : Base) (H : List Entry) (s : ℕ) (q : Request) (o : Option Session) → verdict_by b H s q o ≡ None
+    → (v : Session) × (o ≡ Some v) × (v.live ≡ true) × (first_refusal (state b H) (window b H) (stale b H s v q) (full b (window b H) q) q ≡ None)
+passed b H s q None e = cc
+passed b H s q (Some v) e = let p = only_live v.live _ _ e in (v, refl, p.0, p.1)
+
+module _ (b : Base) (T : List Item) (s : ℕ) (q : Request) (sd : sound b (entries T)) (h : Vouches b (state b (entries T)) q) where
+  pub admitted : verdict b T s q ≡ None → Admits b (state b (entries T)) q
+  admitted e =
+      let p = passed b (entries T) s q (session b T s) e in
+      let a = validated b (entries T) q _ _ sd h.once p.3 in
+      record { vouched = h; current = a.0; accepted = a.1 }
+
+  continued : (e : Entry) → owes b (state b (entries T)) e → Continues b (entries T) e
+  continued e o = (o, sound-end b (entries T) e sd o)
+
+pub prepared : (b : Base) (T : List Item) (s : ℕ) (q : Request) → sound b (entries T) → Vouches b (state b (entries T)) q → verdict b T s q ≡ None → Continues b (entries T) (Prepared q)
+prepared b T s q sd h e = continued b T s q sd h (Prepared q) (admitted b T s q sd h e)
+
+pub one : (b : Base) (T : List Item) (s : ℕ) (q : Request) → sound b (entries T) → Vouches b (state b (entries T)) q → IsAlone b q → is_upgrade q ≡ false → verdict b T s q ≡ None → Continues b (entries T) (One q)
+one b T s q sd h alone kind e = continued b T s q sd h (One q) (admitted b T s q sd h e, alone, kind)
+
+pub upgraded : (b : Base) (T : List Item) (s : ℕ) (q : Request) → sound b (entries T) → Vouches b (state b (entries T)) q → IsAlone b q → is_upgrade q ≡ true → verdict b T s q ≡ None → Continues b (entries T) (Upgraded q)
+upgraded b T s q sd h alone kind e = continued b T s q sd h (Upgraded q) (admitted b T s q sd h e, alone, kind)
