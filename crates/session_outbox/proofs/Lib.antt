@@ -14,6 +14,8 @@ pub mod Traces
 pub mod Covered
 pub mod Validated
 pub mod Accepted
+pub mod Queued
+pub mod Clashing
 pub mod Below
 pub mod Sessions
 pub mod Copies

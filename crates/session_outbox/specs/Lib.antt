@@ -6,6 +6,7 @@ pub mod History
 pub mod Laws
 pub mod Order
 pub mod Messages
+pub mod Queue
 pub mod Requests
 pub mod Session
 pub mod SessionExamples

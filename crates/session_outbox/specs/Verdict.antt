@@ -45,6 +45,10 @@ blocks q e = cond (not e.1.decided && (is_upgrade q || is_upgrade e.1.request)) 
 abbrev pub bar : Window → Request → Ts
 bar W q = cond (is_upgrade q) (fold later_of W.threshold (keys W.members)) W.threshold
 
+-- q isn't above its bar
+abbrev pub too_old : Window → Request → Option Refusal
+too_old W q = cond (is_before (bar W q) q.tx) None (Some (refused.TooOld (bar W q)))
+
 -- whether q read x and s wrote it
 abbrev pub reads_from : Request → Request → Oref → Bool
 reads_from q s x = has_read q x && has_written s x
@@ -61,13 +65,17 @@ comes_earlier q e = cond (not e.1.decided && is_before e.0 q.tx) (option_map (λ
 abbrev pub comes_later : Request → Ts × Member → Option Refusal
 comes_later q e = cond (is_before q.tx e.0) (option_map (λ x. refused.Later e.0 x) (least_name q (λ x. reads_from q e.1.request x || writes_over q e.1.request x))) None
 
+-- q's client hasn't seen just the upgrades that are installed
+abbrev pub behind : State → Request → Option Refusal
+behind S q = cond (nat_eq q.epoch (epoch_of S)) None (Some (refused.Epoch (epoch_of S)))
+
 -- The first refusal of q that holds, or None where it is accepted, but for the session's end. `stale`
 -- is what the session's invalid set has against it, and `full` what the limits have.
 abbrev pub first_refusal : State → Window → Option Refusal → Option Refusal → Request → Option Refusal
 first_refusal S W stale full q =
     option_or (first_some (blocks q) W.members.pairs)
-    (option_or (cond (nat_eq q.epoch (epoch_of S)) None (Some (refused.Epoch (epoch_of S))))
-    (option_or (cond (is_before (bar W q) q.tx) None (Some (refused.TooOld (bar W q))))
+    (option_or (behind S q)
+    (option_or (too_old W q)
     (option_or stale
     (option_or (first_some (comes_earlier q) W.members.pairs)
     (option_or (first_some (comes_later q) W.members.pairs) full)))))

@@ -49,8 +49,12 @@ cleared t = record { threshold = t; members = empty }
 abbrev pub decide : Window → Ts → Request → Window
 decide W t q = cond (is_upgrade q) (cleared t) (record { threshold = W.threshold; members = insert W.members t (record { decided = true; request = q }) })
 
+-- t is aborted
+abbrev pub leave : Window → Ts → Window
+leave W t = record { threshold = W.threshold; members = remove W.members t }
+
 abbrev pub close_by : Window → Ts → Bool → Standing → Fate → Window
-close_by W t c o Open = cond c (decide W t o.request) (record { threshold = W.threshold; members = remove W.members t })
+close_by W t c o Open = cond c (decide W t o.request) (leave W t)
 close_by W t c o (Committed at) = W
 close_by W t c o Aborted = W
 
@@ -59,12 +63,13 @@ abbrev pub close : Window → Ts → Bool → Option Standing → Window
 close W t c None = W
 close W t c (Some o) = close_by W t c o o.fate
 
+-- a restart: the members stay of which the test holds, and the others that committed aren't above top
+abbrev pub restarted : Ts → Window → (Ts → Bool) → Window
+restarted top W test = record { threshold = top; members = keep W.members test }
+
 -- the window behind one more entry, where S is the state before it
 abbrev pub slide : Base → State → Window → Entry → Window
-slide b S W (Life n) = record {
-  threshold = S.top;
-  members = keep W.members (λ t. is_undecided (standing b (put b S (Life n)) t));
-}
+slide b S W (Life n) = restarted S.top W (λ t. is_undecided (standing b (put b S (Life n)) t))
 slide b S W (One q) = enter W q true
 slide b S W (Prepared q) = enter W q false
 slide b S W (Decided t c) = close W t c (standing b S t)

@@ -7,6 +7,7 @@ mod answer_examples;
 mod history_examples;
 mod history_laws;
 mod mark;
+mod queue_laws;
 mod refusal;
 mod session_laws;
 mod told_examples;
@@ -25,6 +26,7 @@ pub use history_laws::{
     sound_histories_have_order, upgrades_fence, verdicts_are_sound, windows_cover, writers_rise,
 };
 pub use mark::Mark;
+pub use queue_laws::{queues_answer_by_the_window, queues_keep_the_window};
 pub use refusal::Refusal;
 pub use session_laws::{
     commits_are_told, copies_are_current, copies_stay_right, messages_are_in_order,
