@@ -1,6 +1,7 @@
 -- A queue with the window's members answers as the verdict does.
 use Rattle.commit_log.specs.declared.request.Request.{Request}
 use Rattle.session_outbox.proofs.Decided.{written_keys}
+use Rattle.session_outbox.proofs.Meeting.{or_second}
 use Rattle.session_outbox.proofs.Queued.{first-on, len-queue, on}
 use Rattle.session_outbox.specs.History.{Base, State}
 use Rattle.session_outbox.specs.Queue.{TellsInOrder, old_of, queue_of, queued_of, refusal_by, refusal_of, transaction_of}
@@ -51,11 +52,7 @@ covered true y h = refl
 covered false true h = let e : false ≡ true = h refl in cc
 covered false false h = refl
 
-or_right : (x y : Bool) → y ≡ true → (x || y) ≡ true
-or_right true y h = refl
-or_right false y h = h
-
-itself : (x : Oref) → same_oref x x ≡ true
+pub itself : (x : Oref) → same_oref x x ≡ true
 itself x = ap is_eq (tied_itself oref_total x)
 
 -- ---- names
@@ -94,7 +91,7 @@ none_sorted : IsSorted {R = oref_cmp} (empty {X = Unit {0}})
 unfolding IsStrictlySortedBy
 none_sorted = tt
 
-in_set : (names : List Oref) (x : Oref) → has (set_of names) x ≡ is_among names x
+pub in_set : (names : List Oref) (x : Oref) → has (set_of names) x ≡ is_among names x
 in_set names x = made x (units names) ∙ ap (λ ys. is_among ys x) (keys-units names)
 
 abbrev rising : List Oref → Set oref_cmp
@@ -137,7 +134,7 @@ found_alike f g [] same = refl
 found_alike f g (y ∷ ys) same =
     or_next (f y) y (first_some (passing f) ys)
     ∙ ap (λ b. cond b (Some y) (first_some (passing f) ys)) (same y (ap (λ k. k || is_among ys y) (itself y)))
-    ∙ ap (cond (g y) (Some y)) (found_alike f g ys (λ x m. same x (or_right (same_oref x y) (is_among ys x) m)))
+    ∙ ap (cond (g y) (Some y)) (found_alike f g ys (λ x m. same x (or_second (same_oref x y) (is_among ys x) m)))
 
 least_alike : (q : Request) → TellsInOrder q → (f g : Oref → Bool) → ((x : Oref) → has_read q x ≡ true → f x ≡ g x) → least_name q f ≡ find g q.ros
 least_alike q h f g same = ap (first_some (passing f)) (names_in_order q h) ∙ found_alike f g q.ros same

@@ -184,7 +184,7 @@ not_open Open e c = absurd c
 not_open (Committed a) e c = cc
 not_open Aborted e c = absurd c
 
-lives_open : (f : Fate) → f ≡ Open → Lives f
+pub lives_open : (f : Fate) → f ≡ Open → Lives f
 lives_open Open e = tt
 lives_open (Committed a) e = tt
 lives_open Aborted e = cc

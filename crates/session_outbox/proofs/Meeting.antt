@@ -16,20 +16,20 @@ use Rattle.thor_value.specs.Names.{Before, oref_cmp, same_oref, ts_cmp}
 use Rattle.thor_value.specs.declared.names.Oref.{Oref}
 use Rattle.thor_value.specs.declared.names.Ts.{Ts}
 
-or_first : (x y : Bool) → x ≡ true → (x || y) ≡ true
+pub or_first : (x y : Bool) → x ≡ true → (x || y) ≡ true
 or_first true y h = refl
 or_first false y h = cc
 
-or_second : (x y : Bool) → y ≡ true → (x || y) ≡ true
+pub or_second : (x y : Bool) → y ≡ true → (x || y) ≡ true
 or_second true y h = refl
 or_second false y h = h
 
-or_cases : (x y : Bool) → (x || y) ≡ true → (x ≡ true) ⊎ (y ≡ true)
+pub or_cases : (x y : Bool) → (x || y) ≡ true → (x ≡ true) ⊎ (y ≡ true)
 or_cases true y h = inl refl
 or_cases false y h = inr h
 
 -- a test that holds of x holds of one of the names where x is one of them
-any_at : (test : Oref → Bool) (x : Oref) (ys : List Oref) → list_any (same_oref x) ys ≡ true → test x ≡ true → list_any test ys ≡ true
+pub any_at : (test : Oref → Bool) (x : Oref) (ys : List Oref) → list_any (same_oref x) ys ≡ true → test x ≡ true → list_any test ys ≡ true
 any_at test x [] h t = h
 any_at test x (y ∷ ys) h t = elim (or_cases (same_oref x y) (list_any (same_oref x) ys) h) [
   | inl e ↦ or_first (test y) (list_any test ys) (subst (λ z. test z ≡ true) (tells_apart oref_exact x y e) t)

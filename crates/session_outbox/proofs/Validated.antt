@@ -3,12 +3,12 @@ use Rattle.commit_log.specs.declared.entry.Entry.{Entry}
 use Rattle.commit_log.specs.declared.request.Request.{Request}
 use Rattle.session_outbox.proofs.Covered.{at_most_then, at_most_itself, first_at_most, held, second_at_most}
 use Rattle.session_outbox.proofs.Decided.{written_keys}
-use Rattle.session_outbox.proofs.Meeting.{in_order, not_both_ways}
+use Rattle.session_outbox.proofs.Meeting.{in_order, not_both_ways, or_cases, or_first, or_second}
 use Rattle.session_outbox.specs.Covers.{Agrees}
-use Rattle.session_outbox.specs.History.{Aborted, Base, Committed, Fate, IsCommitted, Lives, Open, Standing, epoch_of, stands, state}
+use Rattle.session_outbox.specs.History.{Aborted, Base, Committed, Fate, IsCommitted, Lives, Open, Standing, State, epoch_of, stands, state}
 use Rattle.session_outbox.specs.Requests.{bars, has_read, has_written, is_upgrade, overwrites, reads_of, written}
 use Rattle.session_outbox.specs.Sound.{Accepts, sound}
-use Rattle.session_outbox.specs.Verdict.{bar, blocks, comes_earlier, comes_later, first_refusal, least_name, names_of, passing, reads_from, writes_over}
+use Rattle.session_outbox.specs.Verdict.{bar, behind, blocks, comes_earlier, comes_later, first_refusal, least_name, names_of, passing, reads_from, too_old, writes_over}
 use Rattle.session_outbox.specs.Window.{Member, Window, window}
 use Rattle.session_outbox.specs.declared.refusal.Refusal.{Refusal}
 use Rattle.std.proofs.Common.{List, [], ap, cond, inl, inr, refl, subst, sym, ◌++◌, ◌≡◌, ◌∙◌, ◌∷◌}
@@ -35,7 +35,7 @@ use Rattle.validation_queue.specs.Clashes.{first_some, is_before}
 
 -- ---- answers
 
-neither : {X : Type 0} (a c : Option X) → option_or a c ≡ None → (a ≡ None) × (c ≡ None)
+pub neither : {X : Type 0} (a c : Option X) → option_or a c ≡ None → (a ≡ None) × (c ≡ None)
 neither None c e = (refl, e)
 neither (Some x) c e = cc
 
@@ -43,7 +43,7 @@ unless : {X : Type 0} (x : Bool) (o : Option X) → cond x o None ≡ None → x
 unless true o e h = e
 unless false o e h = cc
 
-unless_some : {X : Type 0} (x : Bool) (v : X) → cond x (Some v) None ≡ None → x ≡ false
+pub unless_some : {X : Type 0} (x : Bool) (v : X) → cond x (Some v) None ≡ None → x ≡ false
 unless_some true v e = cc
 unless_some false v e = refl
 
@@ -66,18 +66,6 @@ or_none false y e = (refl, e)
 none_or : (x y : Bool) → x ≡ false → y ≡ false → (x || y) ≡ false
 none_or true y d e = cc
 none_or false y d e = e
-
-or_cases : (x y : Bool) → (x || y) ≡ true → (x ≡ true) ⊎ (y ≡ true)
-or_cases true y e = inl refl
-or_cases false y e = inr e
-
-or_right : (x y : Bool) → y ≡ true → (x || y) ≡ true
-or_right true y e = refl
-or_right false y e = e
-
-or_left : (x y : Bool) → x ≡ true → (x || y) ≡ true
-or_left true y e = refl
-or_left false y e = cc
 
 never : {A : Type 0} (x : Bool) → x ≡ false → x ≡ true → A
 never true e h = cc
@@ -127,13 +115,13 @@ had x m (y ∷ ys) h = had x (insert m y tt) ys (elim h [
 any_left : (test : Oref → Bool) (xs ys : List Oref) → list_any test xs ≡ true → list_any test (xs ++ ys) ≡ true
 any_left test [] ys e = cc
 any_left test (x ∷ xs) ys e = elim (or_cases (test x) (list_any test xs) e) [
-  | inl h ↦ or_left (test x) (list_any test (xs ++ ys)) h
-  | inr h ↦ or_right (test x) (list_any test (xs ++ ys)) (any_left test xs ys h)
+  | inl h ↦ or_first (test x) (list_any test (xs ++ ys)) h
+  | inr h ↦ or_second (test x) (list_any test (xs ++ ys)) (any_left test xs ys h)
 ]
 
 any_right : (test : Oref → Bool) (xs ys : List Oref) → list_any test ys ≡ true → list_any test (xs ++ ys) ≡ true
 any_right test [] ys e = e
-any_right test (x ∷ xs) ys e = or_right (test x) (list_any test (xs ++ ys)) (any_right test xs ys e)
+any_right test (x ∷ xs) ys e = or_second (test x) (list_any test (xs ++ ys)) (any_right test xs ys e)
 
 named : (q : Request) (x : Oref) → list_any (same_oref x) (q.ros ++ keys (written q)) ≡ true → list_any (same_oref x) (keys (names_of q)) ≡ true
 named q x e = sym (is_some-lookup (is_at (oref_cmp x)) (names_of q).pairs) ∙ had x empty (q.ros ++ keys (written q)) (inr e)
@@ -147,8 +135,8 @@ no_name q test none x h = passes test (keys (names_of q)) x none (named q x (eli
 none_any : (test : Oref → Bool) (ys : List Oref) → ((x : Oref) → list_any (same_oref x) ys ≡ true → test x ≡ false) → list_any test ys ≡ false
 none_any test [] h = refl
 none_any test (y ∷ ys) h = none_or (test y) (list_any test ys)
-    (h y (or_left (same_oref y y) (list_any (same_oref y) ys) (ap is_eq (tied_itself oref_total y))))
-    (none_any test ys (λ x e. h x (or_right (same_oref x y) (list_any (same_oref x) ys) e)))
+    (h y (or_first (same_oref y y) (list_any (same_oref y) ys) (ap is_eq (tied_itself oref_total y))))
+    (none_any test ys (λ x e. h x (or_second (same_oref x y) (list_any (same_oref x) ys) e)))
 
 not_read : (q s : Request) → ((x : Oref) → has_read q x ≡ true → reads_from q s x ≡ false) → reads_of q s ≡ false
 not_read q s h = none_any (has_written s) q.ros (λ x r. and_second (has_read q x) (has_written s x) (h x r) r)
@@ -199,6 +187,29 @@ undecided_is false f a e = refl
 
 -- ---- the verdict
 
+-- none of the refusals holds
+pub record NothingHolds (S : State) (W : Window) (stale full : Option Refusal) (q : Request) : Type 0 where
+  pub blocked : first_some (blocks q) W.members.pairs ≡ None
+  pub epoch : behind S q ≡ None
+  pub old : too_old W q ≡ None
+  pub copies : stale ≡ None
+  pub earlier : first_some (comes_earlier q) W.members.pairs ≡ None
+  pub later : first_some (comes_later q) W.members.pairs ≡ None
+  pub limits : full ≡ None
+
+pub nothing_holds : (S : State) (W : Window) (stale full : Option Refusal) (q : Request) → first_refusal S W stale full q ≡ None → NothingHolds S W stale full q
+nothing_holds S W stale full q none =
+    let es = W.members.pairs in
+    let late = option_or (first_some (comes_later q) es) full in
+    let rest = option_or (first_some (comes_earlier q) es) late in
+    let p0 = neither (first_some (blocks q) es) (option_or (behind S q) (option_or (too_old W q) (option_or stale rest))) none in
+    let p1 = neither (behind S q) (option_or (too_old W q) (option_or stale rest)) p0.1 in
+    let p2 = neither (too_old W q) (option_or stale rest) p1.1 in
+    let p3 = neither stale rest p2.1 in
+    let p4 = neither (first_some (comes_earlier q) es) late p3.1 in
+    let p5 = neither (first_some (comes_later q) es) full p4.1 in
+    record { blocked = p0.0; epoch = p1.0; old = p2.0; copies = p3.0; earlier = p4.0; later = p5.0; limits = p5.1 }
+
 module _ (b : Base) (H : List Entry) (sd : sound b H) (q : Request) (stale full : Option Refusal) (once : stands b H q.tx ≡ None)
     (passed : first_refusal (state b H) (window b H) stale full q ≡ None) where
   not_here : {A : Type 0} (t : Ts) (o : Standing) → stands b H t ≡ Some o → t ≡ q.tx → A
@@ -215,13 +226,8 @@ module _ (b : Base) (H : List Entry) (sd : sound b H) (q : Request) (stale full 
   parts =
       let W = window b H in
       let S = state b H in
-      let p0 = neither (first_some (blocks q) W.members.pairs) _ passed in
-      let p1 = neither _ _ p0.1 in
-      let p2 = neither _ _ p1.1 in
-      let p3 = neither stale _ p2.1 in
-      let p4 = neither (first_some (comes_earlier q) W.members.pairs) _ p3.1 in
-      let p5 = neither (first_some (comes_later q) W.members.pairs) full p4.1 in
-      (p0.0, only_if (nat_eq q.epoch (epoch_of S)) _ p1.0, only_if (is_before (bar W q) q.tx) _ p2.0, p4.0, p5.0)
+      let none = nothing_holds S W stale full q passed in
+      (none.blocked, only_if (nat_eq q.epoch (epoch_of S)) _ none.epoch, only_if (is_before (bar W q) q.tx) _ none.old, none.earlier, none.later)
 
   pub current : q.epoch ≡ epoch_of (state b H)
   unfolding Parts

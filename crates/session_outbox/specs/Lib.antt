@@ -1,3 +1,4 @@
+pub mod Acceptance
 pub mod Checking
 pub mod Covers
 pub mod Current

@@ -3,6 +3,7 @@
 //! session is sent, and why the copies that it holds stay right.
 #![tactic(auto)]
 
+mod acceptance_laws;
 mod answer_examples;
 mod history_examples;
 mod history_laws;
@@ -13,6 +14,7 @@ mod session_laws;
 mod told_examples;
 mod trace_laws;
 
+pub use acceptance_laws::accepted_requests_are_current;
 pub use answer_examples::{
     buffer_examples, gone_examples, order_examples, stale_examples, window_room_examples,
 };
