@@ -3,6 +3,7 @@ use Rattle.commit_log.specs.declared.request.Request.{Request}
 use Rattle.session_outbox.proofs.Decided.{written_keys}
 use Rattle.session_outbox.proofs.Meeting.{or_second}
 use Rattle.session_outbox.proofs.Queued.{first-on, len-queue, on}
+use Rattle.session_outbox.proofs.Validated.{neither, nothing_holds, unmapped}
 use Rattle.session_outbox.specs.History.{Base, State}
 use Rattle.session_outbox.specs.Queue.{TellsInOrder, old_of, queue_of, queued_of, refusal_by, refusal_of, transaction_of}
 use Rattle.session_outbox.specs.Requests.{has_read, has_written, is_upgrade, written}
@@ -302,3 +303,15 @@ refusal_alike b S W q stale h =
     let tail = joined (queue.too_old Q (transaction_of q)) r (too_old W q) (option_or e (option_or l (full_of_undecided W))) stale w (old_alike W q) (old_is (is_before (queue.bar Q (is_upgrade q)) q.tx) (queue.bar Q (is_upgrade q))) not_old (rest_alike W q h) in
     ap (λ o. option_or o (option_or (behind S q) (option_or (too_old W q) (option_or stale (option_or e (option_or l (full b W q))))))) (blocks_alike W q)
     ∙ ap (λ o. option_or (option_map refused.Blocked (first_blocking Q (is_upgrade q))) (option_or (behind S q) o)) (ap (λ o. option_or (too_old W q) (option_or stale o)) (sym kept) ∙ sym tail)
+
+-- where nothing refuses, the queue has nothing against it
+pub clash_none : (b : Base) (S : State) (W : Window) (q : Request) (stale : Option Refusal) → TellsInOrder q → first_refusal S W stale (full b W q) q ≡ None → clash (queue_of W) (transaction_of q) ≡ None
+clash_none b S W q stale h none =
+    let n = nothing_holds S W stale (full b W q) q none in
+    let room = neither (full_of_undecided W) (full_of_writes b q) n.limits in
+    let e : option_or (too_old W q) (option_or (first_some (comes_earlier q) W.members.pairs) (option_or (first_some (comes_later q) W.members.pairs) (full_of_undecided W))) ≡ None =
+    none_of (too_old W q) (first_some (comes_earlier q) W.members.pairs) (first_some (comes_later q) W.members.pairs) (full_of_undecided W) n.old n.earlier n.later room.0 in
+    unmapped refusal_of (clash (queue_of W) (transaction_of q)) (clash_alike W q h ∙ e)
+  where
+    none_of : (a c d f : Option Refusal) → a ≡ None → c ≡ None → d ≡ None → f ≡ None → option_or a (option_or c (option_or d f)) ≡ None
+    none_of a c d f x y z w = rw (x, y, z, w) refl

@@ -16,6 +16,7 @@ pub mod Validated
 pub mod Accepted
 pub mod Queued
 pub mod Clashing
+pub mod Following
 pub mod Accepting
 pub mod Below
 pub mod Sessions

@@ -51,7 +51,7 @@ only_if : {X : Type 0} (x : Bool) (v : X) → cond x None (Some v) ≡ None → 
 only_if true v e = refl
 only_if false v e = cc
 
-unmapped : {X Y : Type 0} (f : X → Y) (o : Option X) → option_map f o ≡ None → o ≡ None
+pub unmapped : {X Y : Type 0} (f : X → Y) (o : Option X) → option_map f o ≡ None → o ≡ None
 unmapped f None e = refl
 unmapped f (Some x) e = cc
 

@@ -1,13 +1,18 @@
 -- The window as a validation queue holds it: the queue keeps of a request what validation looks at. So a
 -- repository that keeps a queue in place of its window answers and changes alike.
+use Rattle.commit_log.specs.declared.entry.Entry.TheVariants.{Decided, Finished, Life, One, Prepared, Upgraded}
+use Rattle.commit_log.specs.declared.entry.Entry.{Entry}
 use Rattle.commit_log.specs.declared.request.Request.{Request}
+use Rattle.session_outbox.specs.History.{Aborted, Base, Committed, Fate, Open, Standing, State, is_undecided, put, standing}
 use Rattle.session_outbox.specs.Requests.{is_upgrade}
 use Rattle.session_outbox.specs.Window.{Member, Window}
 use Rattle.session_outbox.specs.declared.refusal.Refusal.TheVariants as refused
 use Rattle.session_outbox.specs.declared.refusal.Refusal.{Refusal}
 use Rattle.std.specs.Map.{keys_of}
 use Rattle.std.specs.Option.{option_and_then, option_map, option_or}
-use Rattle.std.specs.Prelude.{None, Option, Some, map}
+use Rattle.std.specs.Prelude.{Bool, None, Option, Some, cond, false, map, true, ◌&&◌}
+use Rattle.thor_value.specs.FiniteMap.{keep}
+use Rattle.thor_value.specs.declared.names.Ts.{Ts}
 use Rattle.validation_queue.specs.Clashes.{clash}
 use Rattle.validation_queue.specs.Contents as queue
 use Rattle.validation_queue.specs.Contents.{Contents, Transaction, first_blocking}
@@ -56,3 +61,22 @@ refusal_by Q q behind stale full =
     (option_or (option_and_then old_of found)
     (option_or stale
     (option_or (option_map refusal_of found) full))))
+
+abbrev pub close_queue_by : Contents → Ts → Bool → Request → Fate → Contents
+close_queue_by Q t c q Open = cond (c && is_upgrade q) (queue.cleared t) (queue.decide Q t c)
+close_queue_by Q t c q (Committed at) = Q
+close_queue_by Q t c q Aborted = Q
+
+-- t, which stands so, is decided
+abbrev pub close_queue : Contents → Ts → Bool → Option Standing → Contents
+close_queue Q t c None = Q
+close_queue Q t c (Some o) = close_queue_by Q t c o.request o.fate
+
+-- the queue behind one more entry, where S is the state before it
+abbrev pub slide_queue : Base → State → Contents → Entry → Contents
+slide_queue b S Q (Life n) = record { threshold = S.top; members = keep Q.members (λ t. is_undecided (standing b (put b S (Life n)) t)) }
+slide_queue b S Q (One q) = queue.enter Q (transaction_of q) true
+slide_queue b S Q (Prepared q) = queue.enter Q (transaction_of q) false
+slide_queue b S Q (Decided t c) = close_queue Q t c (standing b S t)
+slide_queue b S Q (Finished t c) = close_queue Q t c (standing b S t)
+slide_queue b S Q (Upgraded q) = queue.cleared q.tx

@@ -84,8 +84,8 @@ first_refusal S W stale full q =
 abbrev pub stale_from : ℕ → Oref → ℕ → Option Refusal
 stale_from upto x k = cond (nat_le upto k) (Some (refused.Stale x k)) None
 
--- Of the names that q read, the least that the invalid set of its session has at a place which its
--- client hasn't taken the message of.
+-- Of the names that q read, the least that its session's invalid set has at a place not below q's
+-- `upto`: its client hadn't taken the message of that write.
 abbrev pub stale : Base → List Entry → ℕ → Session → Request → Option Refusal
 stale b H s v q = first_some (λ x. option_and_then (stale_from q.upto x) (invalid b H s v x)) (keys (set_of q.ros))
 

@@ -1,15 +1,17 @@
 //! What is proved of a validation queue that is kept in place of the window.
 
+ghost use Rattle.commit_log.specs.declared.entry.Entry.{Entry};
 ghost use Rattle.commit_log.specs.declared.request.Request.{Request};
-ghost use Rattle.session_outbox.specs.History.{Base, State};
-ghost use Rattle.session_outbox.specs.Queue.{TellsInOrder, queue_of, queued_of, refusal_by, refusal_of, transaction_of};
+ghost use Rattle.session_outbox.specs.History.{Base, State, state};
+ghost use Rattle.session_outbox.specs.Queue.{TellsInOrder, queue_of, queued_of, refusal_by, refusal_of, slide_queue, transaction_of};
 ghost use Rattle.session_outbox.specs.Requests.{is_upgrade};
+ghost use Rattle.session_outbox.specs.Sound.{sound};
 ghost use Rattle.session_outbox.specs.Verdict.{behind, blocks, comes_earlier, comes_later, first_refusal, full, full_of_undecided, full_of_writes, set_of, too_old};
-ghost use Rattle.session_outbox.specs.Window.{Member, Window, decide, enter, leave, restarted};
+ghost use Rattle.session_outbox.specs.Window.{Member, Window, decide, enter, leave, restarted, window};
 ghost use Rattle.session_outbox.specs.declared.refusal.Refusal.TheVariants as refused;
 ghost use Rattle.session_outbox.specs.declared.refusal.Refusal.{Refusal};
 ghost use Rattle.std.specs.Option.{option_map, option_or};
-ghost use Rattle.std.specs.Prelude.{Bool, List, Option, Some, false, true, ◌≡◌};
+ghost use Rattle.std.specs.Prelude.{Bool, List, None, Option, Some, [], false, true, ◌++◌, ◌≡◌, ◌∷◌};
 ghost use Rattle.thor_value.specs.FiniteMap.{empty, get, keep, keys, len};
 ghost use Rattle.thor_value.specs.declared.names.Oref.{Oref};
 ghost use Rattle.thor_value.specs.declared.names.Ts.{Ts};
@@ -20,6 +22,7 @@ ghost use Rattle.validation_queue.specs.Names.{Rises};
 
 /// A queue that has the window's members has them behind each step of the window: where a request
 /// comes in, where a transaction commits or is aborted, where an upgrade commits, and behind a restart.
+/// So a queue that follows the entries of a sound history has the members of its window.
 pub fn queues_keep_the_window()
     ensures begins { (t : Ts) → queue_of (record { threshold = t; members = empty }) ≡ queue.cleared t }
     ensures members { (W : Window) (t : Ts) →
@@ -37,6 +40,8 @@ pub fn queues_keep_the_window()
     ensures restarts { (W : Window) (top : Ts) (test : Ts → Bool) →
         queue_of (restarted top W test)
         ≡ record { threshold = top; members = keep (queue_of W).members test } }
+    ensures follows { (b : Base) (H : List Entry) (e : Entry) → sound b H →
+        queue_of (window b (H ++ e ∷ [])) ≡ slide_queue b (state b H) (queue_of (window b H)) e }
 {}
 
 /// What the transactions of the window have against a request is what the queue with the window's
@@ -56,5 +61,8 @@ pub fn queues_answer_by_the_window()
         TellsInOrder q →
         first_refusal S W stale (full b W q) q
         ≡ refusal_by (queue_of W) q (behind S q) stale (full_of_writes b q) }
+    ensures accepted { (b : Base) (S : State) (W : Window) (q : Request) (stale : Option Refusal) →
+        TellsInOrder q → first_refusal S W stale (full b W q) q ≡ None →
+        clash (queue_of W) (transaction_of q) ≡ None }
     ensures names { (names : List Oref) → Rises names → keys (set_of names) ≡ names }
 {}

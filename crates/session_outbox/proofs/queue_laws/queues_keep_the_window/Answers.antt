@@ -1,3 +1,4 @@
+use Rattle.session_outbox.proofs.Following.{follows}
 use Rattle.session_outbox.proofs.Queued as queued
 use Rattle.session_outbox.proofs.queue_laws.queues_keep_the_window.Goals as goal
 use Rattle.std.proofs.Common.{refl}
@@ -12,4 +13,5 @@ returns c = record {
   aborts = queued.aborts;
   clears = queued.clears;
   restarts = queued.restarts;
+  follows = follows;
 }
