@@ -1,11 +1,14 @@
 //! The verdict, computed on small traces (`specs/VerdictExamples.antt`).
 
+ghost use Rattle.commit_log.specs.declared.entry.Entry.TheVariants.{One};
+ghost use Rattle.session_outbox.specs.Checking.{is_sound};
 ghost use Rattle.session_outbox.specs.Examples.{at, home, x};
 ghost use Rattle.session_outbox.specs.SessionExamples.{acknowledged, connected_anew, invalid_taken, restarted, written_since};
+ghost use Rattle.session_outbox.specs.Trace.{entries};
 ghost use Rattle.session_outbox.specs.Verdict.{bytes_of, full_of_undecided, verdict};
 ghost use Rattle.session_outbox.specs.VerdictExamples.{advanced, answer_in, crowd, later_then, second_reads, second_sets, undecided_since, undecided_then, with_limit};
 ghost use Rattle.session_outbox.specs.declared.refusal.Refusal.TheVariants as refused;
-ghost use Rattle.std.specs.Prelude.{◌≡◌, None, Some, false, take, true};
+ghost use Rattle.std.specs.Prelude.{◌≡◌, [], ◌∷◌, ◌++◌, None, Some, false, take, true};
 
 /// A copy that another session has written since is stale until its client has taken the message of
 /// it, or has acknowledged it.
@@ -14,6 +17,7 @@ pub fn stale_examples()
     ensures stale { answer_in home written_since (second_reads 3 0) ≡ Some (refused.Stale x 1) }
     ensures stale_until_known { answer_in home invalid_taken (second_reads 3 1) ≡ Some (refused.Stale x 1) }
     ensures known { answer_in home invalid_taken (second_reads 3 2) ≡ None }
+    ensures sound_with_it { is_sound home (entries invalid_taken ++ One (second_reads 3 2) ∷ []) ≡ true }
     ensures acknowledged { answer_in home acknowledged (second_reads 3 0) ≡ None }
     ensures no_page { verdict home written_since 1 (second_reads 3 0) ≡ None }
 {}
