@@ -25,3 +25,5 @@ pub mod Kept
 pub mod Told
 pub mod Taken
 pub mod Own
+pub mod Undecided
+pub mod OwnExample

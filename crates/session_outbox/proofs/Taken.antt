@@ -47,16 +47,16 @@ head-of-all P x xs h = h 0 x (omega arith)
 -- ---- the session behind the message
 
 -- w is v behind the message m
-record Took (v w : Session) (m : Notice) : Type 0 where
-  upto : upto_of w ≡ bound m
-  pages : w.pages ≡ v.pages
-  sent : w.sent ≡ v.sent
-  began : w.began ≡ v.began
-  taken : w.taken ≡ v.taken + 1
-  acked : w.acked ≡ v.acked
+pub record Took (v w : Session) (m : Notice) : Type 0 where
+  pub upto : upto_of w ≡ bound m
+  pub pages : w.pages ≡ v.pages
+  pub sent : w.sent ≡ v.sent
+  pub began : w.began ≡ v.began
+  pub taken : w.taken ≡ v.taken + 1
+  pub acked : w.acked ≡ v.acked
 
 module _ (b : Base) where
-  took : (T : List Item) (s : ℕ) (v w : Session) (place : ℕ) (m : Notice) → Takes b T s v w place m → Took v w m
+  pub took : (T : List Item) (s : ℕ) (v w : Session) (place : ℕ) (m : Notice) → Takes b T s v w place m → Took v w m
   took T s v w place m h =
       let S : State = state b (entries T) in
       let i : Item = M (the.Took s place) in
@@ -182,7 +182,7 @@ module _ (b : Base) where
       le-trans : (i j k : ℕ) → i ≤ j → j ≤ k → i ≤ k
       le-trans i j k p q = omega arith
 
-  after-mark : (T : List Item) (m : Mark) → entries (T ++ M m ∷ []) ≡ entries T
+  pub after-mark : (T : List Item) (m : Mark) → entries (T ++ M m ∷ []) ≡ entries T
   after-mark T m = entries-append T (M m ∷ []) ∙ append-nil (entries T)
 
   -- a copy that a message doesn't name stays right, behind the place that the message makes known
@@ -260,12 +260,12 @@ page-there b s S pages (M (the.Forgot t)) page at h is = cc
 page-there b s S pages (M (the.Refused n q r)) page at h is = cc
 
 -- the pages of a session, where its repository has n entries
-record HasPages (v : Session) (n : ℕ) : Type 0 where
-  below : (q c : ℕ) → get v.pages q ≡ Some c → c ≤ n
+pub record HasPages (v : Session) (n : ℕ) : Type 0 where
+  pub below : (q c : ℕ) → get v.pages q ≡ Some c → c ≤ n
   sent : (i page at : ℕ) → slice_get v.sent i ≡ Some (Page page at) → There v.pages page at
 
 module _ (b : Base) where
-  abbrev KeepsPages : ℕ → List Item → Type 0
+  abbrev pub KeepsPages : ℕ → List Item → Type 0
   KeepsPages s T = (v : Session) → session b T s ≡ Some v → v.live ≡ true → HasPages v (length (entries T))
 
   longer : (T : List Item) (i : Item) → length (entries T) ≤ length (entries (T ++ i ∷ []))
@@ -306,7 +306,7 @@ module _ (b : Base) where
     sent = λ i page at e. let f : None ≡ Some (Page page at) = sym (ap (λ (ms : List Notice). slice_get ms i) h.1) ∙ e in cc;
   }
 
-  keeps-pages : (s : ℕ) (T : List Item) → KeepsPages s T
+  pub keeps-pages : (s : ℕ) (T : List Item) → KeepsPages s T
   keeps-pages s = at_end b (KeepsPages s) (λ v is l. cc) (λ T i h w is l. by T i h w l (came b s (state b (entries T)) (session b T s) i w (sym (session-end b T i s) ∙ is)))
     where
       by : (T : List Item) (i : Item) → KeepsPages s T → (w : Session) → w.live ≡ true → Begins b w ⊎ ((v : Session) × (session b T s ≡ Some v) × (w ≡ move b s (state b (entries T)) i v)) → HasPages w (length (entries (T ++ i ∷ [])))

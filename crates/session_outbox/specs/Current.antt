@@ -2,9 +2,10 @@
 -- right or is about to be called invalid is the invariant of the invalid sets of Adya and others,
 -- SIGMOD 1995. The form that keeps the place at which the copy was right is this project's: it is the
 -- one that each growth of the history and each message keep.)
+use Rattle.commit_log.specs.declared.entry.Entry.TheVariants.{Decided, Finished, Life, One, Prepared, Upgraded}
 use Rattle.commit_log.specs.declared.entry.Entry.{Entry}
 use Rattle.commit_log.specs.declared.request.Request.{Request}
-use Rattle.session_outbox.specs.History.{Base, Open, Standing, commit_of, objects_at, stands, state, writers}
+use Rattle.session_outbox.specs.History.{Base, Lives, Open, Standing, commit_of, objects_at, stands, state, writers}
 use Rattle.session_outbox.specs.Requests.{has_written, is_upgrade, written}
 use Rattle.session_outbox.specs.Session.{Grant, Invalid, Notice, Page, Session, Upgrade, invalid, session, upto_of}
 use Rattle.session_outbox.specs.Trace.{E, Item, M}
@@ -103,3 +104,31 @@ pub record Takes (b : Base) (T : List Item) (s : ℕ) (v w : Session) (place : �
 -- none of these commits is an upgrade's: upgrades write nothing
 abbrev pub NoUpgrades : List (ℕ × Request) → Type 0
 NoUpgrades cs = All (λ c. is_upgrade c.1 ≡ false) cs
+
+-- ---- what growth owes to a current copy
+
+-- The session v, which is live, is w behind the item i, at which its client takes no message.
+pub record Passes (b : Base) (T : List Item) (i : Item) (s : ℕ) (v w : Session) : Type 0 where
+  pub before : session b T s ≡ Some v
+  pub live : v.live ≡ true
+  pub quiet : is_taking s i ≡ false
+  pub after : session b (T ++ i ∷ []) s ≡ Some w
+
+-- No transaction that has committed at its coordinator is aborted here. (That is what two-phase commit
+-- promises.)
+abbrev pub NoneAborted : Base → List Entry → (Ts → Bool) → Type 0
+NoneAborted b H committed = (t : Ts) (w : Standing) → stands b H t ≡ Some w → committed t ≡ true → Lives w.fate
+
+-- each of these commits that wrote x is another session's than s, or it wrote the copy o there
+abbrev pub OthersOrSame : ℕ → Oref → Obj → List (ℕ × Request) → Type 0
+OthersOrSame s x o cs = All (λ c. has_written c.1 x ≡ true → (nat_eq c.1.session s ≡ false) ⊎ (get (written c.1) x ≡ Some o)) cs
+
+-- The entry may settle the transaction t: it is the decision about it, or a Life of its coordinator,
+-- which loses what it hadn't decided.
+abbrev pub MaySettle : Base → Ts → Entry → Type 0
+MaySettle b t (Life n) = t.repo ≡ b.repo
+MaySettle b t (One q) = ⊥
+MaySettle b t (Prepared q) = ⊥
+MaySettle b t (Decided u c) = u ≡ t
+MaySettle b t (Finished u c) = u ≡ t
+MaySettle b t (Upgraded q) = ⊥

@@ -1,13 +1,15 @@
 -- A small trace with two sessions, on which the definitions of sessions are computed. The transactions
 -- are of the first session; the second one reads.
-use Rattle.commit_log.specs.declared.entry.Entry.TheVariants.{Life}
-use Rattle.session_outbox.specs.Examples.{home, read_x, set_x, x}
+use Rattle.commit_log.specs.declared.entry.Entry.TheVariants.{Finished, Life}
+use Rattle.session_outbox.specs.Examples.{abroad, home, prepare_x, read_x, set_x, x}
 use Rattle.session_outbox.specs.History.{Base}
 use Rattle.session_outbox.specs.Session.{Notice, invalid, session, upto_of, waiting}
 use Rattle.session_outbox.specs.Trace.{E, Item, M, entries}
 use Rattle.session_outbox.specs.declared.mark.Mark.TheVariants as the
 use Rattle.std.specs.Option.{option_and_then, option_map}
-use Rattle.std.specs.Prelude.{Bool, List, Option, Some, [], ℕ, ◌++◌, ◌∷◌}
+use Rattle.std.specs.Prelude.{Bool, List, Option, Some, [], false, true, ℕ, ◌++◌, ◌∷◌}
+use Rattle.thor_value.specs.Names.{same_ts}
+use Rattle.thor_value.specs.declared.names.Ts.{Ts}
 
 -- both clients connect, the second one fetches page 0 and takes it, and the first one writes x
 abbrev pub written_since : List Item
@@ -47,3 +49,19 @@ known_in T = option_map upto_of (session home T 2)
 
 abbrev pub x_invalid_in : List Item → Option ℕ
 x_invalid_in T = option_and_then (λ v. invalid home (entries T) 2 v x) (session home T 2)
+
+-- the first client fetches page 0 and takes it, and writes x by a transaction of the other repository
+abbrev pub own_prepared : List Item
+own_prepared = M (the.Connected 1 1) ∷ M (the.Fetched 1 0 0) ∷ M (the.Took 1 0) ∷ E (prepare_x (abroad 1) 7) ∷ []
+
+-- which has committed there,
+abbrev pub committed_abroad : Ts → Bool
+committed_abroad t = same_ts t (abroad 1)
+
+-- and then here
+abbrev pub own_finished : List Item
+own_finished = own_prepared ++ E (Finished (abroad 1) true) ∷ []
+
+-- or it is aborted here, as no sound commit over several repositories lets it be
+abbrev pub own_aborted : List Item
+own_aborted = own_prepared ++ E (Finished (abroad 1) false) ∷ []

@@ -31,8 +31,8 @@ pub use mark::Mark;
 pub use queue_laws::{queues_answer_by_the_window, queues_keep_the_window};
 pub use refusal::Refusal;
 pub use session_laws::{
-    commits_are_told, copies_are_current, copies_stay_right, messages_are_in_order,
-    messages_keep_copies, sessions_grow,
+    commits_are_told, copies_are_current, copies_stay_right, current_copies_stay,
+    messages_are_in_order, messages_keep_copies, own_writes_stay, pages_stay, sessions_grow,
 };
-pub use told_examples::{session_examples, session_life_examples};
+pub use told_examples::{own_write_examples, session_examples, session_life_examples};
 pub use trace_laws::traces_grow;

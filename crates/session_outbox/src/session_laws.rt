@@ -3,16 +3,18 @@
 ghost use Rattle.commit_log.specs.declared.entry.Entry.{Entry};
 ghost use Rattle.commit_log.specs.declared.request.Request.{Request};
 ghost use Rattle.session_outbox.specs.Requests.{written};
-ghost use Rattle.session_outbox.specs.Current.{InStep, IsCurrent, IsRightOrStale, NoUpgrades, OthersSince, OthersWrite, RightAt, Takes, Tells, commits_in, is_taking, names_invalid};
-ghost use Rattle.session_outbox.specs.History.{Base, commit_of, objects_at, state, writers};
+ghost use Rattle.session_outbox.specs.Current.{InStep, IsCurrent, IsOwnWrite, IsRightOrStale, MaySettle, NoUpgrades, NoneAborted, OthersOrSame, OthersSince, OthersWrite, Passes, RightAt, Takes, Tells, commits_in, is_taking, names_invalid};
+ghost use Rattle.session_outbox.specs.History.{Base, IsCommitted, Standing, commit_of, objects_at, stands, state, writers};
 ghost use Rattle.session_outbox.specs.Messages.{KeepsOrder, WaitsByPlace};
 ghost use Rattle.session_outbox.specs.Session.{Notice, Page, Session, acked_after, bound, meet, session, upto_of};
+ghost use Rattle.session_outbox.specs.Sound.{sound};
 ghost use Rattle.session_outbox.specs.declared.mark.Mark.TheVariants as the;
+ghost use Rattle.session_outbox.specs.declared.mark.Mark.{Mark};
 ghost use Rattle.session_outbox.specs.Trace.{E, Item, M, entries};
 ghost use Rattle.std.specs.List.{All};
 ghost use Rattle.std.specs.Option.{IfSome, IsSomeAnd};
-ghost use Rattle.std.specs.Prelude.{List, [], ◌∷◌, ◌++◌, ℕ, ◌≡◌, ◌≤◌, ◌+◌, Bool, false, length, max, true};
-ghost use Rattle.thor_value.specs.FiniteMap.{get};
+ghost use Rattle.std.specs.Prelude.{List, Some, [], ◌∷◌, ◌++◌, ℕ, ◌≡◌, ◌≤◌, ◌+◌, Bool, false, length, max, true};
+ghost use Rattle.thor_value.specs.FiniteMap.{get, has};
 ghost use Rattle.thor_value.specs.declared.names.Oref.{Oref};
 ghost use Rattle.thor_value.specs.declared.names.Ts.{Ts};
 ghost use Rattle.thor_value.specs.declared.values.Obj.{Obj};
@@ -78,4 +80,52 @@ pub fn messages_keep_copies()
         RightAt b (entries (T ++ M (the.Took s place) ∷ [])) s w x o k }
     ensures step { (b : Base) (T : List Item) (s : ℕ) (v w : Session) (place : ℕ) (m : Notice) →
         Takes b T s v w place m → InStep v → InStep w }
+{}
+
+/// A write of the session's own stays one, with the same standing, behind each mark and each entry
+/// that can't settle its transaction: another's request, a decision about another, a Life of another
+/// coordinator. Where an entry commits the transaction here, the copy is right at the place behind it.
+/// Where an entry aborts it, the copy is no own write any more, and nothing is said of it. A
+/// transaction that turns out to be committed at its coordinator makes no copy less current.
+pub fn own_writes_stay()
+    ensures marks { (b : Base) (T : List Item) (k : Mark) (s : ℕ) (committed : Ts → Bool) (x : Oref) (o : Obj) (t : Ts) (p : Standing) →
+        IsOwnWrite b (entries T) s committed x o t p → IsOwnWrite b (entries (T ++ M k ∷ [])) s committed x o t p }
+    ensures entries { (b : Base) (T : List Item) (e : Entry) (s : ℕ) (committed : Ts → Bool) (x : Oref) (o : Obj) (t : Ts) (p : Standing) →
+        sound b (entries (T ++ E e ∷ [])) → ¬ MaySettle b t e →
+        IsOwnWrite b (entries T) s committed x o t p → IsOwnWrite b (entries (T ++ E e ∷ [])) s committed x o t p }
+    ensures committed { (b : Base) (T : List Item) (e : Entry) (s : ℕ) (v w : Session) (committed : Ts → Bool) (x : Oref) (o : Obj) (t : Ts) (p q : Standing) →
+        Passes b T (E e) s v w → InStep v → has v.pages x.page ≡ true → sound b (entries (T ++ E e ∷ [])) →
+        IsOwnWrite b (entries T) s committed x o t p → stands b (entries (T ++ E e ∷ [])) t ≡ Some q → IsCommitted q.fate →
+        RightAt b (entries (T ++ E e ∷ [])) s w x o (length (entries T) + 1) }
+    ensures more { (b : Base) (H : List Entry) (s : ℕ) (v : Session) (committed more : Ts → Bool) (x : Oref) (o : Obj) →
+        ((t : Ts) → committed t ≡ true → more t ≡ true) →
+        IsCurrent b H s v committed x o → IsCurrent b H s v more x o }
+{}
+
+/// A current copy stays current while its client takes no message, whatever the trace gains, where no
+/// transaction that committed at its coordinator is aborted here, and where what the session itself
+/// commits of the object is the copy. It stays so where its client takes a message that doesn't name
+/// its object. What a page brings is current, where other sessions alone have written it since.
+pub fn current_copies_stay()
+    ensures grown { (b : Base) (T : List Item) (i : Item) (s : ℕ) (v w : Session) (committed : Ts → Bool) (x : Oref) (o : Obj) →
+        Passes b T i s v w → InStep v → has v.pages x.page ≡ true →
+        sound b (entries (T ++ i ∷ [])) → NoneAborted b (entries (T ++ i ∷ [])) committed →
+        OthersOrSame s x o (commits_in b (entries T) i) →
+        IsCurrent b (entries T) s v committed x o → IsCurrent b (entries (T ++ i ∷ [])) s w committed x o }
+    ensures taken { (b : Base) (T : List Item) (s : ℕ) (v w : Session) (place : ℕ) (m : Notice) (committed : Ts → Bool) (x : Oref) (o : Obj) →
+        Takes b T s v w place m → names_invalid x m ≡ false → NoUpgrades (writers b (entries T) x) →
+        IsCurrent b (entries T) s v committed x o →
+        IsCurrent b (entries (T ++ M (the.Took s place) ∷ [])) s w committed x o }
+    ensures brought { (b : Base) (T : List Item) (s : ℕ) (v w : Session) (place page k : ℕ) (committed : Ts → Bool) (x : Oref) (o : Obj) →
+        Takes b T s v w place (Page page k) → x.page ≡ page →
+        get (objects_at b (entries T) k) x ≡ Some o → OthersSince s k (writers b (entries T) x) →
+        IsCurrent b (entries (T ++ M (the.Took s place) ∷ [])) s w committed x o }
+{}
+
+/// A session has the pages that it had, behind each item at which it doesn't begin.
+pub fn pages_stay()
+    ensures grown { (b : Base) (T : List Item) (i : Item) (s : ℕ) (v w : Session) (page : ℕ) →
+        Passes b T i s v w → has v.pages page ≡ true → has w.pages page ≡ true }
+    ensures taken { (b : Base) (T : List Item) (s : ℕ) (v w : Session) (place : ℕ) (m : Notice) →
+        Takes b T s v w place m → w.pages ≡ v.pages }
 {}

@@ -1,10 +1,15 @@
 //! The definitions of sessions, computed on a small trace (`specs/SessionExamples.antt`).
 
-ghost use Rattle.session_outbox.specs.Examples.{home, x};
+ghost use Rattle.session_outbox.specs.Examples.{abroad, box, home, x};
+ghost use Rattle.session_outbox.specs.Checking.{is_sound};
+ghost use Rattle.session_outbox.specs.Current.{IsCurrent, RightAt};
+ghost use Rattle.session_outbox.specs.History.{Aborted, Committed, Open, objects_at, stands};
 ghost use Rattle.session_outbox.specs.Session.{Invalid, Page, session, waiting};
-ghost use Rattle.session_outbox.specs.SessionExamples.{acknowledged, connected_anew, hasty, invalid_taken, known_in, live_in, restarted, waiting_in, written_since, x_invalid_in};
-ghost use Rattle.std.specs.Option.{option_map};
+ghost use Rattle.session_outbox.specs.SessionExamples.{acknowledged, committed_abroad, connected_anew, hasty, invalid_taken, known_in, live_in, own_aborted, own_finished, own_prepared, restarted, waiting_in, written_since, x_invalid_in};
+ghost use Rattle.session_outbox.specs.Trace.{entries};
+ghost use Rattle.std.specs.Option.{IsSomeAnd, option_map};
 ghost use Rattle.std.specs.Prelude.{◌≡◌, [], ◌∷◌, None, Some, false, take, true};
+ghost use Rattle.thor_value.specs.FiniteMap.{get};
 
 /// What a session is told, what waits for it, and what its client knows.
 pub fn session_examples()
@@ -29,4 +34,16 @@ pub fn session_life_examples()
     ensures patient { live_in hasty (take 5 written_since) ≡ Some true }
     ensures silent { live_in hasty written_since ≡ Some false }
     ensures nobody { live_in home (take 1 written_since) ≡ None }
+{}
+
+/// A write of a session's own: what stands here is still the old object while the transaction is
+/// undecided here, and the new one is current all the same. Behind the commit it is right.
+pub fn own_write_examples()
+    ensures undecided { option_map (λ w. w.fate) (stands home (entries own_prepared) (abroad 1)) ≡ Some Open }
+    ensures old { get (objects_at home (entries own_prepared) 1) x ≡ Some (box 0) }
+    ensures current { IsSomeAnd (session home own_prepared 1) (λ v. IsCurrent home (entries own_prepared) 1 v committed_abroad x (box 7)) }
+    ensures committed { option_map (λ w. w.fate) (stands home (entries own_finished) (abroad 1)) ≡ Some (Committed 1) }
+    ensures right { IsSomeAnd (session home own_finished 1) (λ v. RightAt home (entries own_finished) 1 v x (box 7) 2) }
+    ensures sound { is_sound home (entries own_finished) ≡ true }
+    ensures aborted { option_map (λ w. w.fate) (stands home (entries own_aborted) (abroad 1)) ≡ Some Aborted }
 {}
