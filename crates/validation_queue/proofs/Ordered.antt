@@ -27,7 +27,7 @@ whole true true p q = refl
 whole true false p q = cc
 whole false b p q = cc
 
-below_all : (x y : Oref) (xs : List Oref) → oref_cmp x y ≡ Less → AllByRecursion (λ z. oref_cmp y z ≡ Less) xs → AllByRecursion (λ z. oref_cmp x z ≡ Less) xs
+pub below_all : (x y : Oref) (xs : List Oref) → oref_cmp x y ≡ Less → AllByRecursion (λ z. oref_cmp y z ≡ Less) xs → AllByRecursion (λ z. oref_cmp x z ≡ Less) xs
 below_all x y [] l h = tt
 below_all x y (z ∷ zs) l h = (oref_total.trans x y z l h.0, below_all x y zs l h.1)
 
@@ -71,7 +71,7 @@ within_from names (y ∷ ys) h x m =
     by true e n h more = let f : x ≡ y = oref_exact x y (same (oref_cmp x y) e) in rw f h
     by false e n h more = more n
 
-itself : (y : Oref) (b : Bool) → (same_oref y y || b) ≡ true
+pub itself : (y : Oref) (b : Bool) → (same_oref y y || b) ≡ true
 itself y b = let e : oref_cmp y y ≡ Equal = tied_itself oref_total y in rw e refl
 
 or_right : (a b : Bool) → b ≡ true → (a || b) ≡ true

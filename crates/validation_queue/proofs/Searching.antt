@@ -12,11 +12,9 @@ use Rattle.std.specs.Ordering.{eq_by_cmp, is_eq, ordering_index}
 use Rattle.std.specs.Prelude.{Err, Ok, Result, is_ok}
 use Rattle.std.specs.declared.cmp.Ordering.TheVariants.{Equal, Greater, Less}
 use Rattle.std.specs.declared.cmp.Ordering.{Ordering}
-use Rattle.std.specs.Map.{keys_of}
 use Rattle.thor_value.proofs.NameOrders.{oref_total}
 use Rattle.thor_value.specs.Names.{oref_cmp}
 use Rattle.thor_value.specs.declared.names.Oref.{Oref}
-use Rattle.thor_value.specs.declared.values.Obj.{Obj}
 use Rattle.validation_queue.specs.Names.{Rises, is_among}
 
 at_most_two : (r : Ordering) → ordering_index r ≤ 2
@@ -83,7 +81,3 @@ searched_names x names r h b s =
     let is : map (λ (y : Oref). y) names ≡ names = map-id names in
     let k : is_ok r ≡ is_among (map (λ (y : Oref). y) names) x = searched_keys oref_cmp oref_total (λ y. y) x names r (rw is h) b s in
     rw is at k
-
--- and of what is written
-pub searched_writes : (x : Oref) (writes : List (Oref × Obj)) (r : Result ℕ ℕ) → Rises (keys_of writes) → IsSearchInRange r (length writes) → IsBinarySearchResult (λ w. oref_cmp w.0 x) writes r → is_ok r ≡ is_among (keys_of writes) x
-searched_writes x writes r h b s = searched_keys oref_cmp oref_total (λ w. w.0) x writes r h b s

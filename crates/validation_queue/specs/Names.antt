@@ -2,7 +2,7 @@
 use Rattle.std.specs.List.{list_any}
 use Rattle.std.specs.List.Sorted.{IsStrictlySortedBy}
 use Rattle.std.specs.Ordering.{is_lt}
-use Rattle.std.specs.Prelude.{Bool, List, None, Option, Some, [], true, ◌&&◌, ◌∷◌, ◌≡◌}
+use Rattle.std.specs.Prelude.{Bool, List, None, Option, Some, [], cond, true, ◌&&◌, ◌∷◌, ◌≡◌}
 use Rattle.thor_value.specs.Names.{oref_cmp, same_oref}
 use Rattle.thor_value.specs.declared.names.Oref.{Oref}
 
@@ -34,3 +34,9 @@ rises_after last (x ∷ xs) = is_behind last x && rises_after (Some x) xs
 abbrev pub all_among : List Oref → List Oref → Bool
 all_among names [] = true
 all_among names (x ∷ xs) = is_among names x && all_among names xs
+
+-- the lesser of two names, where there are two
+abbrev pub least_of : Option Oref → Option Oref → Option Oref
+least_of (Some x) (Some y) = cond (is_lt (oref_cmp x y)) (Some x) (Some y)
+least_of (Some x) None = Some x
+least_of None second = second

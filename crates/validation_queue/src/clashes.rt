@@ -7,12 +7,13 @@ ghost use Rattle.std.specs.Prelude.{◌≡◌, find, not};
 ghost use Rattle.thor_value.specs.Names.{later_of};
 ghost use Rattle.validation_queue.specs.Clashes.{comes_earlier, comes_later, first_some, is_before, meets_at};
 ghost use Rattle.validation_queue.specs.Contents.{is_blocking};
-ghost use Rattle.validation_queue.specs.Names.{Rises, is_among};
+ghost use Rattle.validation_queue.specs.Names.{IsInOrder, Rises, is_among, least_of};
 
 use crate::clash::Clash;
+use crate::common::first_common;
 use crate::member::Member;
 use crate::members::Members;
-use crate::name_set::{NameSet, is_written};
+use crate::name_set::NameSet;
 use std::cmp::Ordering;
 use thor_value::{Obj, Oref, Ts};
 
@@ -32,40 +33,45 @@ pub fn later_of(first: Ts, second: Ts) -> Ts
 }
 
 /// The first of the names that is in the set.
+#[tactic(auto, using(crate::proofs::Walking::names_of))]
 fn first_in(names: &[Oref], set: &NameSet) -> Option<Oref>
+    requires { Rises names.now }
     ensures { result ≡ find (is_among set.now) names.now }
 {
-    for name in names {
-        if set.contains(*name) {
-            return Some(*name);
-        }
-    }
-    None
+    first_common(names, set.as_slice())
 }
 
-/// Whether the request and the member meet at the name.
-fn meets_at(writes: &[(Oref, Obj)], member: &Member, name: Oref) -> bool
-    requires { Rises (keys_of writes.now) }
-    ensures { result ≡ meets_at (keys_of writes.now) member.now name }
+/// The lesser of two names, where there are two.
+fn least_of(first: Option<Oref>, second: Option<Oref>) -> Option<Oref>
+    ensures { result ≡ least_of first second }
 {
-    member.written.contains(name) || (is_written(writes, name) && member.read.contains(name))
+    match (first, second) {
+        (Some(first), Some(second)) => {
+            if first.cmp(&second).is_lt() {
+                Some(first)
+            } else {
+                Some(second)
+            }
+        }
+        (Some(first), None) => Some(first),
+        (None, second) => second,
+    }
 }
 
 /// The first of the names that a request read at which it and the member meet.
+#[tactic(auto, using(crate::proofs::Meeting::meeting))]
 fn first_meeting(ros: &[Oref], writes: &[(Oref, Obj)], member: &Member) -> Option<Oref>
-    requires { Rises (keys_of writes.now) }
+    requires { IsInOrder ros.now (keys_of writes.now) }
     ensures { result ≡ find (meets_at (keys_of writes.now) member.now) ros.now }
 {
-    for name in ros {
-        if meets_at(writes, member, *name) {
-            return Some(*name);
-        }
-    }
-    None
+    let read = first_in(ros, &member.written);
+    let written = first_common(writes, member.read.as_slice());
+    least_of(read, written)
 }
 
 /// What stands against a request by a member's being earlier.
 fn earlier(tx: Ts, ros: &[Oref], of: Ts, member: &Member) -> Option<Clash>
+    requires { Rises ros.now }
     ensures { result ≡ comes_earlier tx ros.now (of, member.now) }
 {
     if member.decided || !is_before(of, tx) {
@@ -79,7 +85,7 @@ fn earlier(tx: Ts, ros: &[Oref], of: Ts, member: &Member) -> Option<Clash>
 
 /// What stands against a request by a member's being later.
 fn later(tx: Ts, ros: &[Oref], writes: &[(Oref, Obj)], of: Ts, member: &Member) -> Option<Clash>
-    requires { Rises (keys_of writes.now) }
+    requires { IsInOrder ros.now (keys_of writes.now) }
     ensures { result ≡ comes_later tx ros.now (keys_of writes.now) (of, member.now) }
 {
     if !is_before(tx, of) {
@@ -93,6 +99,7 @@ fn later(tx: Ts, ros: &[Oref], writes: &[(Oref, Obj)], of: Ts, member: &Member) 
 
 /// The clash with the least undecided member that is earlier.
 pub fn first_earlier(members: &Members, tx: Ts, ros: &[Oref]) -> Option<Clash>
+    requires { Rises ros.now }
     ensures { result ≡ first_some (comes_earlier tx ros.now) members.now.entries }
 {
     for (of, member) in members {
@@ -106,7 +113,7 @@ pub fn first_earlier(members: &Members, tx: Ts, ros: &[Oref]) -> Option<Clash>
 
 /// The clash with the least member that is later.
 pub fn first_later(members: &Members, tx: Ts, ros: &[Oref], writes: &[(Oref, Obj)]) -> Option<Clash>
-    requires { Rises (keys_of writes.now) }
+    requires { IsInOrder ros.now (keys_of writes.now) }
     ensures { result ≡ first_some (comes_later tx ros.now (keys_of writes.now)) members.now.entries }
 {
     for (of, member) in members {

@@ -4,6 +4,7 @@
 
 mod clash;
 mod clashes;
+mod common;
 mod member;
 mod members;
 mod name_set;

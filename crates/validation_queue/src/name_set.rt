@@ -46,6 +46,14 @@ impl NameSet {
         Ok(NameSet { names })
     }
 
+    /// The names in their order.
+    pub(crate) fn as_slice(&self) -> &[Oref]
+        ensures names { result.now ≡ self.now }
+        ensures rise { Rises result.now }
+    {
+        self.names.as_slice()
+    }
+
     /// Whether the name is in the set.
     pub fn contains(&self, oref: Oref) -> bool
         ensures { result ≡ is_among self.now oref }
@@ -60,14 +68,6 @@ fn is_one_of(names: &[Oref], oref: Oref) -> bool
     ensures { result ≡ is_among names.now oref }
 {
     names.binary_search(&oref).is_ok()
-}
-
-/// Whether the name is written.
-pub fn is_written(writes: &[(Oref, Obj)], oref: Oref) -> bool
-    requires { Rises (keys_of writes.now) }
-    ensures { result ≡ is_among (keys_of writes.now) oref }
-{
-    writes.binary_search_by_key(&oref, |write| write.0).is_ok()
 }
 
 /// Whether the names of a request are in order, as a queue asks for: those that it read rise, those

@@ -26,6 +26,7 @@ const MEMBERS: &[(Row, bool)] = &[
     ((40, &[5, 6], &[5]), false),
     ((50, &[6, 7, 8], &[8]), true),
     ((60, &[7], &[]), false),
+    ((70, &[9, 10, 11], &[9]), true),
 ];
 
 /// Requests, each with what stands against it beside these.
@@ -48,15 +49,21 @@ const REQUESTS: &[(Row, Stands)] = &[
     ((45, &[6, 7, 8], &[6, 7]), Stands::Later(50, 6)),
     ((55, &[7], &[7]), Stands::Later(60, 7)),
     ((55, &[7], &[]), Stands::Nothing),
+    // names before a transaction's, among them and behind them
+    ((45, &[1, 3, 6], &[1]), Stands::Nothing),
+    ((45, &[1, 3, 5, 6], &[]), Stands::Earlier(30, 5)),
+    // of a name that it read and one that it wrote the lesser is told
+    ((65, &[9, 11], &[11]), Stands::Later(70, 9)),
+    ((65, &[10, 11], &[10, 11]), Stands::Later(70, 10)),
     // an earlier one is told first
     ((45, &[4, 8], &[]), Stands::Earlier(30, 4)),
 ];
 
 /// Times of upgrades, each with what stands against it beside the same transactions.
 const UPGRADES: &[(u64, Stands)] = &[
-    (11, Stands::Threshold(60)),
-    (60, Stands::Threshold(60)),
-    (61, Stands::Nothing),
+    (11, Stands::Threshold(70)),
+    (70, Stands::Threshold(70)),
+    (71, Stands::Nothing),
 ];
 
 fn ts(time: u64) -> Ts {
@@ -170,8 +177,8 @@ fn requests_clash_with_the_queue(rt: HostRuntime) -> Result<(), Fail> {
     assert_eq!(rt; queue.undecided(), Some(ts(30)));
     assert_eq!(rt; queue.blocking(true), Some(ts(30)));
     assert_eq!(rt; queue.blocking(false), None);
-    queue.clear(ts(70));
-    assert_eq!(rt; queue.threshold(), ts(70));
+    queue.clear(ts(80));
+    assert_eq!(rt; queue.threshold(), ts(80));
     assert_eq!(rt; queue.undecided(), None);
     Ok(())
 }
