@@ -14,8 +14,8 @@ use crate::steps::fault;
 use crate::types::{field_type, local_named, root_named, type_named};
 use crate::world::World;
 use class_defs::{
-    At, CREATE_LIMIT, Fields, Machine, NameSupply, Object, READ_LIMIT, Stop, beginning, class_named,
-    fitted,
+    At, CREATE_LIMIT, Fields, Machine, NameSupply, Object, READ_LIMIT, Stop, beginning,
+    class_named, fitted,
 };
 use thor_value::{Fault, NoMemory, Obj, Oref, Orefs, Sequence, TryCopy, Value, Values};
 
