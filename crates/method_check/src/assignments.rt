@@ -9,9 +9,7 @@ ghost use Rattle.method_check.specs.Bodies.{sight};
 
 use crate::body::Body;
 use crate::judge::judge;
-use crate::kinds::{
-    field_in_sight, field_type, fits, is_number, is_part, local_named, root_named,
-};
+use crate::kinds::{field_in_sight, field_type, fits, is_number, is_part, local_named, root_named};
 use crate::least::must;
 use crate::nodes::{is_class, line_of};
 use class_defs::{
