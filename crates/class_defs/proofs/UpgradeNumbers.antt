@@ -50,7 +50,7 @@ module _ (u : Upgrade) (n : ℕ) where
       both a b c h g = omega (arith, h, g)
 
   -- no number is above the upgrade's
-  highest_below : (ds : List Class) (ks : List ℕ) → highest ks ≤ n → highest (numbers_behind u n ds ks) ≤ n
+  pub highest_below : (ds : List Class) (ks : List ℕ) → highest ks ≤ n → highest (numbers_behind u n ds ks) ≤ n
   highest_below [] ks h = omega arith
   highest_below (d ∷ ds) [] h = within (is_some (said_of u d)) zero _ (omega arith) (highest_below ds [] h)
   highest_below (d ∷ ds) (k ∷ ks) h =
@@ -59,7 +59,7 @@ module _ (u : Upgrade) (n : ℕ) where
       within (is_some (said_of u d)) k _ (omega (arith, first, h)) (highest_below ds ks (omega (arith, rest, h)))
 
 -- a number of a list is at most its highest
-number_below : (ks : List ℕ) (c : ℕ) → number_of ks c ≤ highest ks
+pub number_below : (ks : List ℕ) (c : ℕ) → number_of ks c ≤ highest ks
 number_below [] c = omega arith
 number_below (k ∷ ks) zero = le-max_left k (highest ks)
 number_below (k ∷ ks) (suc c) = let below = number_below ks c in let more = le-max_right k (highest ks) in omega (arith, below, more)

@@ -9,7 +9,7 @@ ghost use Rattle.class_defs.specs.WellOwned.{AreOfTheirClasses, IsWellOwned};
 
 /// What objects are in the store that the stored map stands for. An owner's expressions read its parts as they
 /// were, though the same upgrade changes them.
-pub fn eager_examples()
+fn eager_examples()
     ensures reads_the_old_part { seen mixed a ≡ Some (Int (pos 7) ∷ Ref m ∷ []) }
     ensures part { seen mixed z ≡ Some (Int (pos 70) ∷ []) }
     ensures part_between { seen mixed m ≡ Some (Ref z ∷ []) }
@@ -21,14 +21,14 @@ pub fn eager_examples()
 
 /// Where the owner is brought first, nothing is seen of it. Where its part were brought first, the owner would read
 /// the part as it has become.
-pub fn order_examples()
+fn order_examples()
     ensures owner_first { seen (bring a (written 0 0 (Int (pos 0) ∷ Ref m ∷ [])) mixed) a ≡ Some (Int (pos 7) ∷ Ref m ∷ []) }
     ensures then_the_part { seen (bring z part (bring a (written 0 0 (Int (pos 0) ∷ Ref m ∷ [])) mixed)) a ≡ Some (Int (pos 7) ∷ Ref m ∷ []) }
     ensures part_first { seen (bring z part mixed) a ≡ Some (Int (pos 70) ∷ Ref m ∷ []) }
 {}
 
 /// Levels of objects.
-pub fn level_examples()
+fn level_examples()
     ensures changed_by_the_first { level twice 2 part ≡ 0 }
     ensures written_behind_the_first { level twice 2 (written 3 1 (Int (pos 6) ∷ [])) ≡ 1 }
     ensures not_named { level twice 2 (written 4 0 (Int (pos 3) ∷ [])) ≡ 2 }
@@ -38,7 +38,7 @@ pub fn level_examples()
 {}
 
 /// What the laws on lazy upgrades ask for holds here. It doesn't, where the part is brought first.
-pub fn premise_examples()
+fn premise_examples()
     ensures upgrades { AllKeepClasses twice 2 }
     ensures well_owned { IsWellOwned twice mixed }
     ensures kinds { AreOfTheirClasses twice mixed }

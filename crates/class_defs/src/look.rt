@@ -1,9 +1,11 @@
 ghost use Rattle.std.specs.Prelude.{◌≡◌, ◌≤◌, ◌<◌, IfSome, length, find, position};
 ghost use Rattle.std.specs.Option.{option_copied};
 ghost use Rattle.std.specs.Str.{bytes_eq};
-ghost use Rattle.class_defs.specs.Types.{class_named, field_named, method_of};
+ghost use Rattle.class_defs.specs.Types.{class_named, class_or_untold, field_named, method_of, type_named};
 
 use crate::classes::{Class, Classes, Field, Fields, Method, Methods};
+use crate::expressions::{Name, TypeName};
+use crate::types::ExprType;
 use thor_value::Text;
 
 fn has_name(text: &Text, name: &[u8]) -> bool
@@ -30,6 +32,28 @@ pub fn class_named(classes: &Classes, name: &[u8]) -> Option<u16>
     match class_place(classes, name) {
         Some(place) => Some(place as u16),
         None => None,
+    }
+}
+
+/// The type of the objects of the class with this name; no type can be told where there is none.
+pub fn class_type(classes: &Classes, name: &Name) -> ExprType
+    requires { length classes.now ≤ 65536 }
+    ensures { result ≡ class_or_untold (class_named classes.now name.now.text) }
+{
+    match class_named(classes, name.text.as_slice()) {
+        Some(class) => ExprType::Class(class),
+        None => ExprType::Untold,
+    }
+}
+
+/// The type that a type's word names.
+pub fn type_named(classes: &Classes, type_name: &TypeName) -> ExprType
+    requires { length classes.now ≤ 65536 }
+    ensures { result ≡ type_named classes.now type_name.now }
+{
+    match type_name {
+        TypeName::Int { line: _ } => ExprType::Int,
+        TypeName::Class { name } => class_type(classes, name),
     }
 }
 

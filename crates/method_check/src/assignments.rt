@@ -9,15 +9,12 @@ ghost use Rattle.method_check.specs.Bodies.{sight};
 
 use crate::body::Body;
 use crate::judge::judge;
-use crate::kinds::{
-    class_type, field_in_sight, field_type, fits, is_number, is_part, local_named, root_named,
-    type_named,
-};
+use crate::kinds::{field_in_sight, field_type, fits, is_number, is_part, local_named, root_named};
 use crate::least::must;
 use crate::nodes::{is_class, line_of};
 use class_defs::{
     Classes, Expr, ExprType, Name, NamedType, NamedTypes, Position, RootDeclaration, Rule,
-    TypeFault, TypeName,
+    TypeFault, TypeName, class_type, type_named,
 };
 use thor_value::{NoMemory, TryCopy};
 

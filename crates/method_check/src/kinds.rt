@@ -8,30 +8,8 @@ ghost use Rattle.method_check.specs.Bodies.{sight};
 use crate::body::Body;
 use class_defs::{
     ClassKind, Classes, ExprType, Field, Method, Name, NamedType, NamedTypes, Operator,
-    RootDeclaration, TypeName, class_named,
+    RootDeclaration, class_type, type_named,
 };
-
-/// The type of the objects of the class with this name.
-pub fn class_type(classes: &Classes, name: &Name) -> ExprType
-    requires { length classes.now ≤ 65536 }
-    ensures { result ≡ types.class_or_untold (types.class_named classes.now name.now.text) }
-{
-    match class_named(classes, name.text.as_slice()) {
-        Some(class) => ExprType::Class(class),
-        None => ExprType::Untold,
-    }
-}
-
-/// The type that a type's word names.
-pub fn type_named(classes: &Classes, type_name: &TypeName) -> ExprType
-    requires { length classes.now ≤ 65536 }
-    ensures { result ≡ types.type_named classes.now type_name.now }
-{
-    match type_name {
-        TypeName::Int { line: _ } => ExprType::Int,
-        TypeName::Class { name } => class_type(classes, name),
-    }
-}
 
 /// Whether a type is a part class.
 pub fn is_part(classes: &Classes, kind: ExprType) -> bool

@@ -19,7 +19,7 @@ mod nodes;
 pub use checking::{check, check_item, note_item, note_schema};
 pub use classes::{class_rules, methods as methods_rules};
 pub use error::CheckError;
-pub use kinds::{is_part, type_named};
+pub use kinds::is_part;
 pub use laws::the_least_fault_is_told;
 
 #[cfg(test)]

@@ -8,9 +8,10 @@ use crate::assignments::is_free_type;
 use crate::blocks::block;
 use crate::body::Body;
 use crate::declared::names_of;
-use crate::kinds::type_named;
 use crate::names::{names_in, stand_once};
-use class_defs::{Classes, Method, NamedType, NamedTypes, Names, Parameter, Schema, TypeFault};
+use class_defs::{
+    Classes, Method, NamedType, NamedTypes, Names, Parameter, Schema, TypeFault, type_named,
+};
 use std::alloc::Global;
 use thor_value::{NoMemory, TryCopy};
 

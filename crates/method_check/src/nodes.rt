@@ -11,13 +11,11 @@ ghost use Rattle.class_defs.specs.declared.expressions.Expr.{out-Expr};
 ghost use Rattle.method_check.specs.Bodies.{sight};
 
 use crate::body::Body;
-use crate::kinds::{
-    class_type, field_in_sight, field_type, fits, is_part, type_in_sight, type_named,
-};
+use crate::kinds::{field_in_sight, field_type, fits, is_part, type_in_sight};
 use crate::least::must;
 use class_defs::{
     At, Classes, Expr, ExprType, Method, Name, NamedTypes, Operator, Parameter, Position, Rule,
-    TypeFault, class_named,
+    TypeFault, class_named, class_type, type_named,
 };
 
 /// The line of an expression's own token.

@@ -2,10 +2,11 @@ ghost use Rattle.std.specs.Prelude.{◌≡◌, IfOk, slice_get, drop};
 ghost use Rattle.std.specs.Option.{option_copied};
 ghost use Rattle.class_defs.specs.Calls.{owners_at, bound, parameter, result_of};
 
-use crate::steps::beginning;
 use crate::types::type_named;
 use crate::world::World;
-use class_defs::{ClassKind, Flow, Local, Locals, Machine, Method, Parameter, Parameters};
+use class_defs::{
+    ClassKind, Flow, Local, Locals, Machine, Method, Parameter, Parameters, beginning,
+};
 use thor_value::{NoMemory, Orefs, TryCopy, Value, Values};
 
 /// The owners of a part that is reached through `this`, nearest first; none for a free object.

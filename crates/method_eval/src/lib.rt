@@ -6,7 +6,6 @@ mod evaluation;
 mod halt;
 mod locals;
 mod objects;
-mod operators;
 mod run;
 mod steps;
 mod types;

@@ -2,8 +2,7 @@ ghost use Rattle.std.specs.Prelude.{◌≡◌, ◌<◌, length, position, IfSome
 ghost use Rattle.std.specs.Str.{bytes_eq};
 ghost use Rattle.class_defs.specs.Statements.{assigned, declare, holds, with_value};
 
-use crate::steps::number;
-use class_defs::{ExprType, Local, Locals, Machine};
+use class_defs::{ExprType, Local, Locals, Machine, number};
 use thor_value::{NoMemory, Text, TryCopy, Value};
 
 /// Whether a condition holds.

@@ -10,11 +10,12 @@ ghost use Rattle.method_eval.specs.Does.{Does};
 ghost use Rattle.method_eval.specs.Viewed.{reading, last_upgrade};
 
 use crate::halt::Halt;
-use crate::steps::{beginning, fault, fitted};
+use crate::steps::fault;
 use crate::types::{field_type, local_named, root_named, type_named};
 use crate::world::World;
 use class_defs::{
-    At, CREATE_LIMIT, Fields, Machine, NameSupply, Object, READ_LIMIT, Stop, class_named,
+    At, CREATE_LIMIT, Fields, Machine, NameSupply, Object, READ_LIMIT, Stop, beginning,
+    class_named, fitted,
 };
 use thor_value::{Fault, NoMemory, Obj, Oref, Orefs, Sequence, TryCopy, Value, Values};
 

@@ -7,12 +7,12 @@ use crate::calls::{bound, owners_at, result_of};
 use crate::halt::Halt;
 use crate::locals::{assign_local, declare, holds};
 use crate::objects::{assign_field, create, field_value, named_value, touch};
-use crate::operators::combined;
-use crate::steps::{fault, number, take_step};
+use crate::steps::{fault, take_step};
 use crate::types::{method_of, type_named, type_of};
 use crate::world::World;
 use class_defs::{
-    Block, DEPTH_LIMIT, Expr, ExprType, Exprs, Flow, Machine, Method, Receiver, Stmt,
+    Block, DEPTH_LIMIT, Expr, ExprType, Exprs, Flow, Machine, Method, Receiver, Stmt, combined,
+    number,
 };
 use std::mem;
 use thor_value::{Fault, Oref, Value, Values};

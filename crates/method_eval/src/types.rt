@@ -2,31 +2,18 @@ ghost use Rattle.std.specs.Prelude.{◌≡◌, option_map};
 ghost use Rattle.std.specs.Option.{option_copied};
 ghost use Rattle.class_defs.specs.Objects.{local_named, root_named, type_in_sight, scope_at};
 ghost use Rattle.class_defs.specs.Types as spec;
-ghost use Rattle.class_defs.specs.Types.{class_named, type_named, class_or_untold, field_type, name_type, result_type, type_of};
+ghost use Rattle.class_defs.specs.Types.{type_named, field_type, name_type, result_type, type_of};
 
 use crate::world::World;
 use class_defs::{
-    Expr, ExprType, Field, Local, Machine, Method, RootDeclaration, TypeName, class_named,
+    Expr, ExprType, Field, Local, Machine, Method, RootDeclaration, TypeName, class_type,
 };
-use thor_value::Text;
-
-fn class_or_untold(world: &World<'_>, name: &Text) -> ExprType
-    ensures { result ≡ class_or_untold (class_named world.now.schema.now.classes name.now) }
-{
-    match class_named(&world.schema.classes, name.as_slice()) {
-        Some(class) => ExprType::Class(class),
-        None => ExprType::Untold,
-    }
-}
 
 /// The type that a type's word names.
 pub fn type_named(world: &World<'_>, type_name: &TypeName) -> ExprType
     ensures { result ≡ type_named world.now.schema.now.classes type_name.now }
 {
-    match type_name {
-        TypeName::Int { line: _ } => ExprType::Int,
-        TypeName::Class { name } => class_or_untold(world, &name.text),
-    }
+    class_defs::type_named(&world.schema.classes, type_name)
 }
 
 /// The local or parameter with this name.
@@ -101,7 +88,7 @@ fn name_type(world: &World<'_>, machine: &Machine, name: &[u8]) -> ExprType
     match local_named(machine, name) {
         Some(local) => local.kind,
         None => match root_named(world, machine, name) {
-            Some(root) => class_or_untold(world, &root.class.text),
+            Some(root) => class_type(&world.schema.classes, &root.class),
             None => ExprType::Untold,
         },
     }
@@ -134,7 +121,7 @@ pub fn type_of(world: &World<'_>, machine: &Machine, expr: &Expr) -> ExprType
         },
         Expr::Field { name } => field_type(world, machine, name.text.as_slice()),
         Expr::Variable { name } => name_type(world, machine, name.text.as_slice()),
-        Expr::New { class, at: _ } => class_or_untold(world, &class.text),
+        Expr::New { class, at: _ } => class_type(&world.schema.classes, class),
         Expr::Parens { inner, line: _ } => type_of(world, machine, inner.get()),
         Expr::Negate {
             operand: _,

@@ -6,8 +6,8 @@ ghost use Rattle.class_defs.specs.UpgradeRules as spec;
 
 use crate::expressions::{field_read, first_line, gives_int, gives_reference, reads_parts};
 use crate::least::must_own;
-use class_defs::{Classes, ExprType, FieldUpgrade, OwnFault, OwnRule, Tf};
-use method_check::{is_part, type_named};
+use class_defs::{Classes, ExprType, FieldUpgrade, OwnFault, OwnRule, Tf, type_named};
+use method_check::is_part;
 use std::alloc::Global;
 use thor_value::{NoMemory, Sequence};
 

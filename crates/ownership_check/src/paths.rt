@@ -5,8 +5,8 @@ ghost use Rattle.class_defs.specs.UpgradeRules as spec;
 ghost use Rattle.class_defs.specs.declared.types.ExprType.TheVariants as type;
 ghost use Rattle.ownership_check.specs.Paths.{goes_on};
 
-use class_defs::{Classes, ExprType, Name};
-use method_check::{is_part, type_named};
+use class_defs::{Classes, ExprType, Name, type_named};
+use method_check::is_part;
 
 /// The greatest number of names in a path behind `old`.
 const MAX_NAMES: usize = 8;

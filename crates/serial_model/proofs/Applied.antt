@@ -15,7 +15,8 @@ use Rattle.class_defs.specs.declared.store.Schemas.{Schemas}
 use Rattle.class_defs.specs.declared.upgrades.Upgrade.{Upgrade}
 use Rattle.method_eval.specs.Viewed.{last_upgrade}
 use Rattle.method_eval.specs.declared.view.View.{View}
-use Rattle.serial_model.specs.History.{schema_of, are_fresh, IsLegalTx}
+use Rattle.class_defs.specs.Epochs.{schema_of}
+use Rattle.serial_model.specs.History.{are_fresh, IsLegalTx}
 use Rattle.serial_model.specs.Replaying.{effect, effect_of}
 use Rattle.serial_model.specs.Replays.{AppliesDoing, AreMade}
 use Rattle.serial_model.specs.Whole.{plain, IsOfItsEpoch, NoneDue}

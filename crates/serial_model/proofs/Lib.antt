@@ -1,4 +1,5 @@
 pub mod Applied
+pub mod MadeSchemas
 pub mod Replayed
 pub mod SortedMaps
 pub mod TakenNames

@@ -19,7 +19,8 @@ use Rattle.class_defs.specs.declared.store.Schema.{Schema}
 use Rattle.class_defs.specs.declared.store.Schemas.{Schemas}
 use Rattle.method_eval.specs.Viewed.{last_upgrade}
 use Rattle.method_eval.specs.declared.view.View.{View}
-use Rattle.serial_model.specs.History.{schema_of, after, after_doing, after_entry, AreLegal, IsLegal, IsLegalEntry, Rise}
+use Rattle.class_defs.specs.Epochs.{schema_of}
+use Rattle.serial_model.specs.History.{after, after_doing, after_entry, AreLegal, IsLegal, IsLegalEntry, Rise}
 use Rattle.serial_model.specs.Replays.{AppliesDoing, AreMade, IsAbove, IsFirstNotLegal, last_ts}
 use Rattle.serial_model.specs.Whole.{bare_objects, plain, IsFirst, IsOfItsEpoch}
 use Rattle.serial_model.specs.declared.entries.Did.{Did}

@@ -1,31 +1,21 @@
 -- Legal histories: serial execution in timestamp order (Adya and others, SIGMOD 1995). The code never keeps such a
 -- list and runs it: it keeps queues, copies and logs.
-use Rattle.std.specs.Prelude.{◌≡◌, ℕ, zero, suc, ◌+◌, Bool, true, not, ◌&&◌, List, [], ◌∷◌, Option, Some, None, option_map, unwrap_or, slice_get, IsSomeAnd}
+use Rattle.std.specs.Prelude.{◌≡◌, ◌+◌, Bool, true, not, ◌&&◌, List, [], ◌∷◌, Option, Some, option_map, unwrap_or, IsSomeAnd}
 use Rattle.std.specs.List.{list_any}
 use Rattle.thor_value.specs.FiniteMap.{has}
 use Rattle.thor_value.specs.Names.{Before, same_oref}
 use Rattle.thor_value.specs.declared.names.Oref.{Oref}
 use Rattle.thor_value.specs.declared.values.Answer.TheVariants as answer
+use Rattle.class_defs.specs.Epochs.{schema_of, upgrade_to}
 use Rattle.class_defs.specs.Run as run
 use Rattle.class_defs.specs.Upgrades.{up}
 use Rattle.class_defs.specs.declared.statements.Stmt.{Stmt}
 use Rattle.class_defs.specs.declared.store.Plain.{Plain}
-use Rattle.class_defs.specs.declared.store.Schema.{Schema}
 use Rattle.class_defs.specs.declared.store.Schemas.{Schemas}
 use Rattle.class_defs.specs.declared.upgrades.Upgrade.{Upgrade}
 use Rattle.serial_model.specs.declared.entries.Did.{Did}
 use Rattle.serial_model.specs.declared.entries.What.{What}
 use Rattle.serial_model.specs.declared.entries.What.TheVariants.{Tx, Upgrade as UpgradeItem}
-
--- the schema of an epoch
-abbrev pub schema_of : Schemas → ℕ → Schema
-schema_of s zero = s.first
-schema_of s (suc n) = unwrap_or (option_map (λ u. u.schema) (slice_get s.upgraded n)) s.first
-
--- the upgrade that leads to an epoch
-abbrev pub upgrade_to : Schemas → ℕ → Option Upgrade
-upgrade_to s zero = None
-upgrade_to s (suc n) = option_map (λ u. u.upgrade) (slice_get s.upgraded n)
 
 -- what the run of a transaction gives on a store
 abbrev pub run_on : Schemas → Plain → List Stmt → List Oref → Option run.Ran

@@ -1,13 +1,19 @@
 -- What replaying a history tells (this project's).
-use Rattle.std.specs.Prelude.{◌≡◌, ℕ, ◌+◌, ◌<◌, ◌≤◌, Bool, true, false, List, [], ◌∷◌, length, take, Option, Some, None, Result, Ok, Err}
+use Rattle.std.specs.Prelude.{◌≡◌, ℕ, suc, ◌+◌, ◌<◌, ◌≤◌, nat_le, Bool, true, false, ◌&&◌, List, [], ◌∷◌, length, take, Option, Some, None, Result, Ok, Err}
+use Rattle.std.specs.List.{list_all}
 use Rattle.thor_value.specs.Names.{Before}
 use Rattle.thor_value.specs.declared.names.Ts.{Ts}
+use Rattle.class_defs.specs.Applied.{applied}
 use Rattle.class_defs.specs.declared.store.Plain.{Plain}
 use Rattle.class_defs.specs.declared.store.Root.{Root}
+use Rattle.class_defs.specs.declared.store.Schema.{Schema}
 use Rattle.class_defs.specs.declared.store.Schemas.{Schemas}
+use Rattle.class_defs.specs.declared.store.UpgradedSchema.{UpgradedSchema}
+use Rattle.class_defs.specs.declared.upgrades.Upgrade.{Upgrade}
 use Rattle.method_eval.specs.Viewed.{last_upgrade}
 use Rattle.method_eval.specs.declared.view.View.{View}
-use Rattle.serial_model.specs.History.{schema_of, after, after_doing, IsLegal, IsLegalDoing}
+use Rattle.class_defs.specs.Epochs.{schema_of}
+use Rattle.serial_model.specs.History.{after, after_doing, IsLegal, IsLegalDoing}
 use Rattle.serial_model.specs.Whole.{IsOfItsEpoch, plain}
 use Rattle.serial_model.specs.declared.entries.Did.{Did}
 use Rattle.serial_model.specs.declared.entries.What.{What}
@@ -19,6 +25,23 @@ use Rattle.serial_model.specs.declared.replaying.ReplayError.TheVariants.{NotLeg
 pub record AreMade (s : Schemas) : Type 0 where
   pub few : (n : ℕ) → length (schema_of s n).classes ≤ 65536
   pub past : (n c : ℕ) → last_upgrade (schema_of s n) c ≤ n
+
+-- the same as a test of one schema: it has few classes, and no number above the epoch's
+abbrev pub is_made : Schema → ℕ → Bool
+is_made schema n = nat_le (length schema.classes) 65536 && list_all (λ k. nat_le k n) schema.upgraded
+
+-- of those behind upgrades, the first of which has this number
+abbrev pub made_from : ℕ → List UpgradedSchema → Bool
+made_from n [] = true
+made_from n (u ∷ us) = is_made u.schema n && made_from (n + 1) us
+
+-- and of all
+abbrev pub are_made : Schemas → Bool
+are_made s = is_made s.first 0 && made_from 1 s.upgraded
+
+-- each schema but the first is the one before it with an upgrade
+abbrev pub AreApplied : Schemas → Type 0
+AreApplied s = (k : ℕ) → k < length s.upgraded → (u : Upgrade) × (schema_of s (suc k) ≡ applied (schema_of s k) u)
 
 -- ---- one entry
 

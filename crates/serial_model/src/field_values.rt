@@ -1,98 +1,21 @@
-ghost use Rattle.std.specs.Prelude.{◌≡◌, ◌≤◌, Option, Some, None, length, option_and_then};
+ghost use Rattle.std.specs.Prelude.{◌≡◌, Some, option_and_then};
 ghost use Rattle.std.specs.Option.{option_copied};
 ghost use Rattle.thor_value.specs.FiniteMap.{get};
-ghost use Rattle.class_defs.specs.Expressions.{combined, same_value, truth};
 ghost use Rattle.class_defs.specs.Objects.{fitted_or_beginning};
-ghost use Rattle.class_defs.specs.Steps.{beginning, fitted, number};
-ghost use Rattle.class_defs.specs.Types.{class_named, type_named};
 ghost use Rattle.class_defs.specs.Upgrades.{field_of_object, object_behind, path_value, tf_value};
 
-use class_defs::{Classes, ExprType, Name, Names, Object, Operator, PlainObjects, Tf, TypeName};
+use class_defs::{
+    Classes, ExprType, Name, Names, Object, PlainObjects, Tf, beginning, combined, fitted, number,
+};
 use thor_value::Value;
 
-/// The number that a value is.
-fn number(value: Value) -> i64
-    ensures { result ≡ number value }
-{
-    match value {
-        Value::Int(n) => n,
-        Value::Ref(_) | Value::Null => 0,
-    }
-}
-
-fn same_value(left: Value, right: Value) -> bool
-    ensures { result ≡ same_value left right }
-{
-    match (left, right) {
-        (Value::Int(a), Value::Int(b)) => a == b,
-        (Value::Ref(a), Value::Ref(b)) => a.cmp(&b).is_eq(),
-        (Value::Null, Value::Null) => true,
-        (_, _) => false,
-    }
-}
-
-fn truth(holds: bool) -> Value
-    ensures { result ≡ truth holds }
-{
-    if holds { Value::Int(1) } else { Value::Int(0) }
-}
-
-/// The value of an operator at two values. Numbers wrap.
-fn combined(operator: Operator, left: Value, right: Value) -> Value
-    ensures { result ≡ combined operator left right }
-{
-    match operator {
-        Operator::Add => Value::Int(number(left).wrapping_add(number(right))),
-        Operator::Subtract => Value::Int(number(left).wrapping_sub(number(right))),
-        Operator::Multiply => Value::Int(number(left).wrapping_mul(number(right))),
-        Operator::Equal => truth(same_value(left, right)),
-        Operator::Unequal => truth(!same_value(left, right)),
-        Operator::Less => truth(number(left) < number(right)),
-    }
-}
-
-/// The value with which a field of a type begins.
-fn beginning(kind: ExprType) -> Value
-    ensures { result ≡ beginning kind }
-{
-    match kind {
-        ExprType::Int => Value::Int(0),
-        ExprType::Null | ExprType::Class(_) | ExprType::Untold => Value::Null,
-    }
-}
-
-/// The value, or the one with which a field of the type begins where it is of a wrong kind.
-fn fitted(kind: ExprType, value: Value) -> Value
-    ensures { result ≡ fitted kind value }
-{
-    match (kind, value) {
-        (ExprType::Int, Value::Int(n)) => Value::Int(n),
-        (ExprType::Class(_), Value::Ref(oref)) => Value::Ref(oref),
-        (_, _) => beginning(kind),
-    }
-}
-
-/// The same, where there may be no value.
+/// The value, or the one with which a field of the type begins where there is none or it is of a wrong kind.
 pub fn fitted_or_beginning(kind: ExprType, value: Option<Value>) -> Value
     ensures { result ≡ fitted_or_beginning kind value }
 {
     match value {
         Some(value) => fitted(kind, value),
         None => beginning(kind),
-    }
-}
-
-/// The type that a type's word names.
-pub fn type_named(classes: &Classes, type_name: &TypeName) -> ExprType
-    requires { length classes.now ≤ 65536 }
-    ensures { result ≡ type_named classes.now type_name.now }
-{
-    match type_name {
-        TypeName::Int { line: _ } => ExprType::Int,
-        TypeName::Class { name } => match class_defs::class_named(classes, name.text.as_slice()) {
-            Some(class) => ExprType::Class(class),
-            None => ExprType::Untold,
-        },
     }
 }
 

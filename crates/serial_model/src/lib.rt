@@ -6,6 +6,7 @@ mod entries;
 mod equality;
 mod field_values;
 mod fresh;
+mod made;
 mod outcomes;
 mod replay_laws;
 mod replay_rows;
@@ -19,11 +20,16 @@ mod whole_maps;
 
 pub use entries::{Did, Dids, What};
 pub use fresh::are_fresh;
+pub use made::are_made;
 pub use outcomes::{Cause, Ended, Ends, ItemOutcome};
 pub use replay_laws::{
     beginnings_are_legal, first_schemas_are_made, histories_go_on, histories_keep_names_in_order,
+    upgraded_schemas_are_made,
 };
 pub use replaying::{ReplayError, replay};
 pub use running::{run_on, run_on_current};
 pub use taking::{Taken, names_taken};
 pub use upgrading::upgrade_store;
+
+#[cfg(test)]
+mod tests;

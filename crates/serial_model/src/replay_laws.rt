@@ -6,7 +6,7 @@ ghost use Rattle.thor_value.specs.FiniteMap.{IsSorted};
 ghost use Rattle.class_defs.specs.declared.store.Plain.{Plain};
 ghost use Rattle.class_defs.specs.declared.store.Schemas.{Schemas};
 ghost use Rattle.serial_model.specs.History.{after, after_entry, IsLegal, IsLegalEntry};
-ghost use Rattle.serial_model.specs.Replays.{AreMade, IsAbove, last_ts};
+ghost use Rattle.serial_model.specs.Replays.{AreApplied, AreMade, IsAbove, last_ts};
 ghost use Rattle.serial_model.specs.Whole.{IsFirst};
 ghost use Rattle.serial_model.specs.declared.entries.Did.{Did};
 
@@ -39,4 +39,9 @@ pub fn histories_keep_names_in_order()
 /// The schemas of a store without upgrades are as upgrades make them.
 pub fn first_schemas_are_made()
     ensures { (s : Schemas) → length s.first.classes ≤ 65536 → IsFirst s.first → s.upgraded ≡ [] → AreMade s }
+{}
+
+/// So are those behind upgrades, each of which makes its schema out of the one before it.
+pub fn upgraded_schemas_are_made()
+    ensures { (s : Schemas) → length s.first.classes ≤ 65536 → IsFirst s.first → AreApplied s → AreMade s }
 {}

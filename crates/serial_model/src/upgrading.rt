@@ -7,10 +7,10 @@ ghost use Rattle.class_defs.specs.Types.{type_named};
 ghost use Rattle.class_defs.specs.Upgrades.{tf_value, transformed, up, upgrade_of};
 ghost use Rattle.serial_model.specs.Upgrading.{transformed_pair};
 
-use crate::field_values::{fitted_or_beginning, tf_value, type_named};
+use crate::field_values::{fitted_or_beginning, tf_value};
 use crate::whole_maps::{map_of, pairs_of};
 use class_defs::{
-    ClassUpgrade, Classes, FieldUpgrades, Name, Object, Plain, PlainObjects, Upgrade,
+    ClassUpgrade, Classes, FieldUpgrades, Name, Object, Plain, PlainObjects, Upgrade, type_named,
 };
 use std::alloc::Global;
 use thor_value::{NoMemory, Oref, Sequence, TryCopy, Values};

@@ -16,7 +16,8 @@ use Rattle.class_defs.specs.declared.machine.Stop.TheVariants as stop
 use Rattle.class_defs.specs.declared.statements.Stmt.{Stmt}
 use Rattle.class_defs.specs.declared.store.Plain.{Plain}
 use Rattle.class_defs.specs.declared.store.Schema.{Schema}
-use Rattle.serial_model.specs.History.{are_fresh, schema_of, run_on, after_entry, AreLegal, IsLegal, IsLegalTx, Rise}
+use Rattle.class_defs.specs.Epochs.{schema_of}
+use Rattle.serial_model.specs.History.{are_fresh, run_on, after_entry, AreLegal, IsLegal, IsLegalTx, Rise}
 use Rattle.serial_model.specs.Replaying.{effect, effect_of}
 use Rattle.serial_model.specs.declared.entries.Did.{Did}
 use Rattle.serial_model.specs.declared.entries.What.{What}

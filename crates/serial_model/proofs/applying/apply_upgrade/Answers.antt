@@ -5,7 +5,7 @@ use Rattle.thor_value.specs.declared.values.Obj.{Obj}
 use Rattle.class_defs.specs.Upgrades.{up}
 use Rattle.class_defs.specs.declared.store.Plain.{Plain}
 use Rattle.class_defs.specs.declared.store.Schema.{Schema}
-use Rattle.serial_model.specs.History.{schema_of}
+use Rattle.class_defs.specs.Epochs.{schema_of}
 use Rattle.serial_model.specs.Whole.{bare_objects, plain}
 use Rattle.serial_model.proofs.Applied.{upgraded}
 use Rattle.serial_model.proofs.applying.apply_upgrade.Goals as goal

@@ -1,9 +1,22 @@
+//! What runs and upgrades do with values.
+
 ghost use Rattle.std.specs.Prelude.{◌≡◌};
 ghost use Rattle.class_defs.specs.Expressions.{combined, same_value, truth};
+ghost use Rattle.class_defs.specs.Steps.{beginning, fitted, number};
 
-use crate::steps::number;
-use class_defs::Operator;
+use crate::expressions::Operator;
+use crate::types::ExprType;
 use thor_value::Value;
+
+/// The number that a value is: 0 for one that is none.
+pub fn number(value: Value) -> i64
+    ensures { result ≡ number value }
+{
+    match value {
+        Value::Int(n) => n,
+        Value::Ref(_) | Value::Null => 0,
+    }
+}
 
 fn same_value(left: Value, right: Value) -> bool
     ensures { result ≡ same_value left right }
@@ -33,5 +46,26 @@ pub fn combined(operator: Operator, left: Value, right: Value) -> Value
         Operator::Equal => truth(same_value(left, right)),
         Operator::Unequal => truth(!same_value(left, right)),
         Operator::Less => truth(number(left) < number(right)),
+    }
+}
+
+/// The value with which a field of a type begins.
+pub fn beginning(kind: ExprType) -> Value
+    ensures { result ≡ beginning kind }
+{
+    match kind {
+        ExprType::Int => Value::Int(0),
+        ExprType::Null | ExprType::Class(_) | ExprType::Untold => Value::Null,
+    }
+}
+
+/// The value, or the one with which a field of the type begins where it is of a wrong kind.
+pub fn fitted(kind: ExprType, value: Value) -> Value
+    ensures { result ≡ fitted kind value }
+{
+    match (kind, value) {
+        (ExprType::Int, Value::Int(n)) => Value::Int(n),
+        (ExprType::Class(_), Value::Ref(oref)) => Value::Ref(oref),
+        (_, _) => beginning(kind),
     }
 }
