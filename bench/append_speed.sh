@@ -4,12 +4,10 @@
 # append_speed.sh [RECORDS] [FOLDER ON THE DISK TO BE MEASURED]
 set -eu
 records=${1:-10000}
-here=$(cd "$(dirname "$0")" && pwd)
-work=$(mktemp -d "${2:-/tmp}/append_speed.XXXXXX")
-trap 'rm -rf "$work"' EXIT
-mkdir -p "$work/crates/append_speed/src" "$work/crates/append_speed/proofs/add"
-for crate in thor_value disk_trait log_frame; do cp -r "$here/../crates/$crate" "$work/crates/"; done
-printf 'thor_value:\ndisk_trait:\nlog_frame: thor_value disk_trait\nappend_speed: disk_trait log_frame\n' > "$work/crates.txt"
+place=${2:-/tmp}
+source "$(dirname "$0")/measuring.sh"
+begin append_speed thor_value disk_trait log_frame
+mkdir -p "$work/crates/append_speed/proofs/add"
 cat > "$work/crates/append_speed/src/main.rt" <<'RT'
 #![tactic(auto)]
 
@@ -68,8 +66,7 @@ invariant-loop g l = record {
   agrees : WhereTold (g.P.Parts.disks l.parts) l.log.disk (λ bytes. Agrees l.log bytes);
 }
 ANTT
-# The measuring program is proved and built like any other, and so are the crates below it where they have no build.
-(cd "$work/crates/append_speed" && rt run) > "$work/said" 2>&1 || { cat "$work/said" >&2; exit 1; }
+build
 program=$work/crates/append_speed/out/append_speed
 cc -O2 -o "$work/plain" "$here/append_speed.c"
 

@@ -3,12 +3,8 @@
 # page_speed.sh [PAGES]
 set -eu
 pages=${1:-2000000}
-here=$(cd "$(dirname "$0")" && pwd)
-work=$(mktemp -d)
-trap 'rm -rf "$work"' EXIT
-mkdir -p "$work/crates/page_speed/src"
-for crate in thor_value page_format; do cp -r "$here/../crates/$crate" "$work/crates/"; done
-printf 'thor_value:\npage_format: thor_value byteorder\npage_speed: thor_value page_format\n' > "$work/crates.txt"
+source "$(dirname "$0")/measuring.sh"
+begin page_speed thor_value page_format
 cat > "$work/crates/page_speed/src/main.rt" <<'RT'
 #![tactic(auto)]
 
@@ -36,8 +32,7 @@ fn main(rt: HostRuntime) -> Result<(), Fail> {
     Ok(())
 }
 RT
-# The measuring program is proved and built like any other, and so are the crates below it where they have no build.
-(cd "$work/crates/page_speed" && rt run) > "$work/said" 2>&1 || { cat "$work/said" >&2; exit 1; }
+build
 seconds() { local from=$EPOCHREALTIME; "$@"; awk -v a="$from" -v b="$EPOCHREALTIME" 'BEGIN { printf "%.3f", b - a }'; }
 for what in parse spell; do
     took=$(seconds "$work/crates/page_speed/out/page_speed" "$what" "$pages")

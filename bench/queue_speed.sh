@@ -8,12 +8,8 @@
 # queue_speed.sh [REQUESTS]
 set -eu
 requests=${1:-20000}
-here=$(cd "$(dirname "$0")" && pwd)
-work=$(mktemp -d)
-trap 'rm -rf "$work"' EXIT
-mkdir -p "$work/crates/queue_speed/src"
-for crate in thor_value validation_queue; do cp -r "$here/../crates/$crate" "$work/crates/"; done
-printf 'thor_value:\nvalidation_queue: thor_value\nqueue_speed: thor_value validation_queue\n' > "$work/crates.txt"
+source "$(dirname "$0")/measuring.sh"
+begin queue_speed thor_value validation_queue
 cat > "$work/crates/queue_speed/src/main.rt" <<'RT'
 #![tactic(auto)]
 
@@ -138,8 +134,7 @@ fn main(rt: HostRuntime) -> Result<(), Fail> {
     Ok(())
 }
 RT
-# The measuring program is proved and built like any other, and so are the crates below it where they have no build.
-(cd "$work/crates/queue_speed" && rt run) > "$work/said" 2>&1 || { cat "$work/said" >&2; exit 1; }
+build
 
 # The seconds of the processor that a run takes.
 busy() { /usr/bin/time -f "%U %S" "$work/crates/queue_speed/out/queue_speed" "$@" 2>&1 > /dev/null | awk '{ print $1 + $2 }'; }
