@@ -1,3 +1,4 @@
+pub mod AcceptedUpgrades
 pub mod AloneAnswers
 pub mod AloneIsLegal
 pub mod CommitLaws
@@ -10,3 +11,4 @@ pub mod NamesLaws
 pub mod Performing
 pub mod ReadingParts
 pub mod TopLaws
+pub mod UpgradingLaws

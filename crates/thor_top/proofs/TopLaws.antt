@@ -1,6 +1,7 @@
 -- What the top call says, from what its parts do.
 use Rattle.std.proofs.Common.{◌≡◌, ◌&&◌, inl, inr, ℕ, suc, ◌+◌, arith, ◌<◌, ◌≤◌, Bool, true, false, List, [], ◌∷◌, length, Option, Some, Result, Ok, Err, IfOk, refl, ap, subst, sym, ◌∙◌, None}
 use Rattle.thor_value.specs.declared.memory.NoMemory.{NoMemory}
+use Rattle.class_defs.specs.Applied.{next_number}
 use Rattle.class_defs.specs.declared.declarations.Declarations.{Declarations}
 use Rattle.class_defs.specs.declared.declarations.WrittenRoot.{WrittenRoot}
 use Rattle.serial_model.specs.declared.entries.What.{What}
@@ -116,6 +117,12 @@ roots_are_few o setup schema is made few =
     let f : HasFew (Some setup) = subst P is few in
     let Q : ℕ → Type 0 = λ n. n < 4294967296 in
     subst Q (sym (ap (λ (s : Schema). length s.roots) made ∙ length_placed 0 setup.roots)) (few_roots (length setup.roots) f.1)
+
+-- before any upgrade there are numbers for all that a script may have
+pub numbers_are_few : (schema : Schema) (setup : Declarations) (upgrades : ℕ) → schema ≡ schema_of setup → upgrades ≤ 1000 → next_number schema.upgraded + upgrades ≤ 4294967296
+numbers_are_few schema setup upgrades made few =
+    let first : next_number schema.upgraded ≡ 1 = ap (λ (s : Schema). next_number s.upgraded) made in
+    omega (arith, first, few)
 
 -- the schedule is refused, behind parts that were read
 pub events_refused : (split : Split) (setup : Option Declarations) (clients : List (List What)) (error : ReadError) (Any : Script → Type 0) → IsSetupPart split.sections.setup setup → Each AreItems split.sections.clients clients

@@ -8,4 +8,5 @@ pub mod Refusals
 pub mod Script
 pub mod Statuses
 pub mod Top
+pub mod Upgrading
 pub mod Words

@@ -1,5 +1,5 @@
 -- What the program says (this project's): for each status the text that the sink takes, and when it comes.
-use Rattle.std.specs.Prelude.{◌≡◌, ◌⊎◌, ℕ, List, [], ◌∷◌, Option, Some, None, codes, map, ◌++◌, ◌≤◌, ◌<◌, length, Bool, true, false}
+use Rattle.std.specs.Prelude.{◌≡◌, ◌⊎◌, ℕ, List, [], ◌∷◌, Option, Some, None, codes, ◌++◌, ◌≤◌, ◌<◌, length, Bool, true, false}
 use Rattle.std.specs.Fmt.{decimal}
 use Rattle.std.specs.List.{list_all}
 use Rattle.outside.specs.Streams.{IsAtEnd, IsMoreThan, Put, PutFront, Took}
@@ -13,9 +13,10 @@ use Rattle.serial_model.specs.declared.outcomes.Ended.{Ended}
 use Rattle.thor_top.specs.Alone.{is_finished, schemas_of}
 use Rattle.thor_top.specs.Judging.{BreaksRule, KeepsRules}
 use Rattle.thor_top.specs.Opened.{opened, schema_of}
-use Rattle.thor_top.specs.Playing.{Does, IsNotBuilt, have_upgrade}
+use Rattle.thor_top.specs.Playing.{Does, IsNotBuilt}
 use Rattle.thor_top.specs.Refusals.{refusal_text}
 use Rattle.thor_top.specs.Script.{IsRefusedText, IsWritten}
+use Rattle.thor_top.specs.Upgrading.{upgrades_of}
 use Rattle.thor_top.specs.Words.{command_of}
 use Rattle.thor_top.specs.declared.command.Command.{Command}
 use Rattle.thor_top.specs.declared.command.Command.TheVariants.{Check, Play}
@@ -53,7 +54,7 @@ pub record IsReport (tries : ℕ) (script : Script) (finished : Bool) (text : Li
 
 -- what a command writes of a script, where all items are finished
 abbrev pub IsResult : Command → Script → List ℕ → Type 0
-IsResult (Check repos) script text = ((schema : Schema) × IsAccepted repos script schema) × (have_upgrade script.clients ≡ false) × (text ≡ codes "ok" ++ 10 ∷ [])
+IsResult (Check repos) script text = ((schema : Schema) × IsAccepted repos script schema) × (text ≡ codes "ok" ++ 10 ∷ [])
 IsResult (Play tries) script text = IsReport tries script true text
 
 -- and where one was refused
@@ -67,9 +68,9 @@ abbrev pub repos_of : Command → ℕ
 repos_of (Check repos) = repos
 repos_of (Play tries) = 1
 
--- The script breaks no rule T, and has upgrades, whose rules aren't checked yet; or it isn't of the form that runs.
+-- The script breaks no rule, and it isn't of the form that runs. There is no script that can't be checked.
 abbrev pub IsUnbuilt : Command → Script → Refusal → Type 0
-IsUnbuilt (Check repos) script r = (r ≡ refusal.Unbuilt) × ((schema : Schema) × (IsAccepted repos script schema × (have_upgrade script.clients ≡ true)))
+IsUnbuilt (Check repos) script r = ⊥
 IsUnbuilt (Play tries) script r = (r ≡ refusal.Unbuilt) × ((schema : Schema) × (IsAccepted 1 script schema × IsNotBuilt script))
 
 -- a script with a setup is refused for a rule that it breaks, and else where it can't run yet
@@ -82,13 +83,18 @@ IsRefused command script r = IsRefusedOn command script script.setup r
 
 -- ---- what is said
 
--- at most 64 clients, and at most 1,000,000 events
+-- at most 64 clients, at most 1,000,000 events, and at most 1,000 upgrades
 pub record IsWithinLimits (script : Script) : Type 0 where
   pub clients : length script.clients ≤ 64
   pub events : length script.events ≤ 1000000
+  pub upgrades : length (upgrades_of script.clients) ≤ 1000
 
+-- the first of these limits that the script passes
 abbrev pub IsOverLimit : Script → ℕ → Type 0
-IsOverLimit script limit = ((64 < length script.clients) × (limit ≡ 64)) ⊎ ((length script.clients ≤ 64) × (1000000 < length script.events) × (limit ≡ 1000000))
+IsOverLimit script limit =
+    ((64 < length script.clients) × (limit ≡ 64))
+    ⊎ (((length script.clients ≤ 64) × (1000000 < length script.events) × (limit ≡ 1000000))
+    ⊎ ((length script.clients ≤ 64) × (length script.events ≤ 1000000) × (1000 < length (upgrades_of script.clients)) × (limit ≡ 1000)))
 
 abbrev pub limit_text : ℕ → List ℕ
 limit_text limit = codes "limit " ++ (decimal limit ++ 10 ∷ [])

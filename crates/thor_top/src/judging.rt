@@ -1,10 +1,13 @@
-ghost use Rattle.std.specs.Prelude.{◌≡◌, ◌≤◌, [], None, List, length, IfOk, OnOk, IfErr};
+ghost use Rattle.std.specs.Prelude.{◌≡◌, ◌≤◌, ◌+◌, ◌^◌, length, IfOk, OnOk};
 ghost use Rattle.std.specs.List.{flat_map};
+ghost use Rattle.class_defs.specs.Applied.{next_number};
 ghost use Rattle.class_defs.specs.Rules.{least, least_with};
 ghost use Rattle.thor_top.specs.Judging.{IsToldEvent, Judges, items_rules, script_rules, told, what_rules};
+ghost use Rattle.thor_top.specs.Upgrading.{upgrades_of};
 
 use crate::refusal::Refusal;
 use crate::script::{ClientItems, Items, Script};
+use crate::upgrading::upgrades_fault;
 use class_defs::{Schema, TypeFault};
 use method_check::{note_item, note_schema};
 use schedule::{Events, check_events};
@@ -12,7 +15,7 @@ use serial_model::What;
 use std::alloc::Global;
 use thor_value::NoMemory;
 
-/// Notes what an item breaks; an upgrade has rules of its own.
+/// Notes what an item breaks; an upgrade is looked at behind all of them.
 fn note_what(
     alloc: Global,
     schema: &Schema,
@@ -107,6 +110,8 @@ fn told(rule: Option<TypeFault>, event: Option<u32>) -> Option<Refusal>
 }
 
 /// The refusal of a script that breaks a rule, under its schema and over so many repositories.
+///
+/// First it tells of the rules T1 to T9, and where these hold of the first upgrade that breaks a rule.
 pub fn judge(
     alloc: Global,
     schema: &Schema,
@@ -115,9 +120,16 @@ pub fn judge(
 ) -> Result<Option<Refusal>, NoMemory>
     requires classes { length schema.now.classes ≤ 65536 }
     requires clients { length script.now.clients ≤ 64 }
+    requires upgrades { next_number schema.now.upgraded + length (upgrades_of script.now.clients) ≤ 2 ^ 32 }
     ensures judged { IfOk result (Judges schema.now repos script.now) }
 {
     let rule = rule_fault(alloc, schema, &script.clients, repos)?;
     let event = event_fault(&script.events, script.clients.len() as u8, repos);
-    Ok(told(rule, event))
+    if let Some(refusal) = told(rule, event) {
+        return Ok(Some(refusal));
+    }
+    match upgrades_fault(alloc, schema, repos, script.clients.as_slice())? {
+        Some(fault) => Ok(Some(Refusal::Own(fault))),
+        None => Ok(None),
+    }
 }

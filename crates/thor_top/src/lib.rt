@@ -18,6 +18,8 @@ mod status;
 mod tests;
 mod top;
 mod turns;
+mod upgrade_laws;
+mod upgrading;
 
 pub use alone::perform;
 pub use command::{Command, command_of};
@@ -30,3 +32,4 @@ pub use refusal::Refusal;
 pub use script::{ClientItems, Items, Script};
 pub use status::Status;
 pub use top::{SCRIPT_LIMIT, thor};
+pub use upgrade_laws::upgrades_are_accepted_in_order;

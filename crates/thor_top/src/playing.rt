@@ -37,36 +37,6 @@ fn are_busy(clients: &[Items]) -> bool
     false
 }
 
-fn is_upgrade(what: &What) -> bool
-    ensures { result ≡ spec.is_upgrade what.now }
-{
-    matches!(what, What::Upgrade(_))
-}
-
-/// Whether one of the items is an upgrade.
-fn has_upgrade(items: &[What]) -> bool
-    ensures { result ≡ list_any spec.is_upgrade items.now }
-{
-    for item in items {
-        if is_upgrade(item) {
-            return true;
-        }
-    }
-    false
-}
-
-/// Whether one of the clients has an upgrade.
-pub fn have_upgrade(clients: &[Items]) -> bool
-    ensures { result ≡ spec.have_upgrade clients.now }
-{
-    for client in clients {
-        if has_upgrade(client.as_slice()) {
-            return true;
-        }
-    }
-    false
-}
-
 /// Whether client 1 alone has items, and the schedule no event.
 fn can_run(script: &Script) -> bool
     ensures { result ≡ spec.can_run script.now }

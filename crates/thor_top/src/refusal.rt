@@ -1,8 +1,8 @@
 ghost use Rattle.std.specs.Prelude.{◌≡◌, ◌++◌, IfOk, OnOk};
 ghost use Rattle.std.specs.String.{string_bytes};
-ghost use Rattle.thor_top.specs.Refusals.{refusal_text, rule_word, word_of, line_of};
+ghost use Rattle.thor_top.specs.Refusals.{broken_word, line_of, own_word, refusal_text, rule_word, word_of};
 
-use class_defs::{Rule, TypeFault};
+use class_defs::{BrokenRule, OwnFault, OwnRule, Rule, TypeFault};
 use std::alloc::Global;
 use std::fmt::Write;
 use thor_value::{NoMemory, Text};
@@ -18,6 +18,8 @@ pub enum Refusal {
     Rule(TypeFault),
     /// On this line is an event of the schedule that is none, or names what isn't there.
     Event { line: u32 },
+    /// An upgrade breaks a rule on upgrades, or a rule of the language in its own fields and methods.
+    Own(OwnFault),
     /// It asks for what isn't built yet.
     Unbuilt,
 }
@@ -31,6 +33,7 @@ fn line_of(refusal: Refusal) -> u32
         Refusal::Setup => 1,
         Refusal::Rule(fault) => fault.line,
         Refusal::Event { line } => line,
+        Refusal::Own(fault) => fault.line,
         Refusal::Unbuilt => 1,
     }
 }
@@ -50,6 +53,29 @@ fn rule_word(rule: Rule) -> &'static str
     }
 }
 
+fn own_word(rule: OwnRule) -> &'static str
+    ensures { result.now ≡ own_word rule }
+{
+    match rule {
+        OwnRule::O1 => "O1",
+        OwnRule::O2 => "O2",
+        OwnRule::O3 => "O3",
+        OwnRule::O4 => "O4",
+        OwnRule::O5 => "O5",
+        OwnRule::O6 => "O6",
+        OwnRule::O7 => "O7",
+    }
+}
+
+fn broken_word(rule: BrokenRule) -> &'static str
+    ensures { result.now ≡ broken_word rule }
+{
+    match rule {
+        BrokenRule::Own(rule) => own_word(rule),
+        BrokenRule::Typing(rule) => rule_word(rule),
+    }
+}
+
 /// The word that is told.
 fn word_of(refusal: Refusal) -> &'static str
     ensures { result.now ≡ word_of refusal }
@@ -59,6 +85,7 @@ fn word_of(refusal: Refusal) -> &'static str
         Refusal::Setup => "Setup",
         Refusal::Rule(fault) => rule_word(fault.rule),
         Refusal::Event { line: _ } => "T9",
+        Refusal::Own(fault) => broken_word(fault.rule),
         Refusal::Unbuilt => "Unbuilt",
     }
 }

@@ -16,7 +16,7 @@ pub enum Status {
     SourceFault,
     /// The sink failed.
     SinkFault,
-    /// The script passes a limit on bytes, clients or events.
+    /// The script passes a limit on bytes, clients, events or upgrades.
     Limit,
     /// Memory was not there.
     NoMemory,

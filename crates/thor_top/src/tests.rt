@@ -166,8 +166,8 @@ fn scripts_are_checked(rt: HostRuntime) -> Result<(), Fail> {
         (
             "check",
             "setup free class A { } client 1 upgrade { class A { int n = 1; } }",
-            Status::Script,
-            "script 1 Unbuilt\n",
+            Status::Done,
+            "ok\n",
         ),
         (
             "play",
@@ -264,6 +264,174 @@ fn scripts_have_greatest_lengths(rt: HostRuntime) -> Result<(), Fail> {
         );
         assert_eq!(rt; status, want);
         assert_eq!(rt; sink.taken(), text.as_bytes());
+    }
+    Ok(())
+}
+
+/// The setup of scripts with upgrades; client 1 begins on line 5.
+const PARTS: &str = "setup
+free class A { int n; P p; A next; method int get() { return this.n; } }
+part class P { int m; }
+root a = new A() at 0;
+client 1 ";
+
+/// What `check` says of a script with this setup.
+fn told_of(alloc: Global, command: &str, behind: &str) -> Result<Text, NoMemory> {
+    let mut bytes = Text::from_slice(alloc, PARTS.as_bytes())?;
+    bytes.extend_from_slice(behind.as_bytes())?;
+    let mut source = MemSource::new(bytes, Ints::new(alloc));
+    let mut sink = MemSink::new(Ints::new(alloc));
+    let _ = thor(
+        alloc,
+        words_of(alloc, command)?.as_slice(),
+        &mut source,
+        &mut sink,
+    );
+    Text::from_slice(alloc, sink.taken())
+}
+
+#[test]
+fn upgrades_are_checked(rt: HostRuntime) -> Result<(), Fail> {
+    // What stands behind the setup, and what is said of it.
+    let rows = [
+        (
+            "upgrade { class A { int k = old.n + 1; P p = old.p; A next = old.next; method int get() { return this.k; } } }",
+            "ok\n",
+        ),
+        ("upgrade {\nclass B { int n = 1; } }", "script 6 O1\n"),
+        (
+            "upgrade { class P {\nint k = old.gone; } }",
+            "script 6 O2\n",
+        ),
+        (
+            "upgrade { class P { int m = old.m;\nA far = 1; } }",
+            "script 6 O3\n",
+        ),
+        (
+            "upgrade { class A { int n =\nold.next.n; method int get() { return this.n; } } }",
+            "script 6 O4\n",
+        ),
+        (
+            "upgrade { class A { int n = old.n; P p = old.p;\nP q = old.p; method int get() { return this.n; } } }",
+            "script 6 O5\n",
+        ),
+        (
+            "upgrade { class A { int n = old.n;\nP p = 1; method int get() { return this.n; } } }",
+            "script 6 O6\n",
+        ),
+        (
+            "tx { print a.get(); }\nupgrade { class A { int n = old.n; } }",
+            "script 6 O7\n",
+        ),
+        (
+            "upgrade { class A { int n = old.n;\nmethod int get() { return this.gone; } } }",
+            "script 6 T2\n",
+        ),
+    ];
+    for (behind, want) in rows {
+        let text = told_of(rt.alloc(), "check", behind)?;
+        assert_eq!(rt; text.as_slice(), want.as_bytes());
+    }
+    Ok(())
+}
+
+#[test]
+fn upgrades_are_checked_in_order(rt: HostRuntime) -> Result<(), Fail> {
+    // The command, what stands behind the setup, and what is said of it.
+    let rows = [
+        // The second one is right on the schema behind the first alone.
+        (
+            "check",
+            "upgrade { class P { int k = old.m; } }\nupgrade { class P { int m = old.k; } }",
+            "ok\n",
+        ),
+        (
+            "check",
+            "upgrade { class P { int k = old.m; } }\nupgrade { class P { int m = old.m; } }",
+            "script 6 O2\n",
+        ),
+        // The first fault is told, and on the second schema none would be.
+        (
+            "check",
+            "upgrade { class P { int k = old.l; } }\nupgrade { class P { int l = 1; } }\nupgrade { class B { } }",
+            "script 5 O2\n",
+        ),
+        // Transactions of all clients are looked at, whether they stand before the upgrade or behind it.
+        (
+            "check",
+            "upgrade { class A { int n = old.n; } }\nclient 2 tx { print a.get(); }",
+            "script 5 O7\n",
+        ),
+        (
+            "check",
+            "tx { print a.get(); }\nclient 2 upgrade { class A { int n = old.n; } }",
+            "script 6 O7\n",
+        ),
+        (
+            "check",
+            "tx { print a.get(); }\nclient 2 upgrade { class P { } }",
+            "ok\n",
+        ),
+        // The rules T of transactions and events come first, on the schema of the setup.
+        (
+            "check",
+            "upgrade { class B { int n = 1; } }\ntx { print b; }",
+            "script 6 T2\n",
+        ),
+        (
+            "check",
+            "upgrade { class B { int n = 1; } }\nschedule s2",
+            "script 6 T9\n",
+        ),
+        (
+            "check",
+            "upgrade { class A { int n = old.n; method int more() { return 1; } } }\ntx { print a.more(); }",
+            "script 6 T2\n",
+        ),
+        // A run begins with the check.
+        (
+            "play",
+            "tx { print a.get(); }\nupgrade { class B { int n = 1; } }",
+            "script 6 O1\n",
+        ),
+        (
+            "play",
+            "upgrade { class P { int m = old.m; } }",
+            "script 1 Unbuilt\n",
+        ),
+    ];
+    for (command, behind, want) in rows {
+        let text = told_of(rt.alloc(), command, behind)?;
+        assert_eq!(rt; text.as_slice(), want.as_bytes());
+    }
+    Ok(())
+}
+
+#[test]
+fn scripts_have_at_most_1000_upgrades(rt: HostRuntime) -> Result<(), Fail> {
+    // How many upgrades, and what is said of them.
+    let rows = [(1000, "ok\n"), (1001, "limit 1000\n")];
+    for (count, want) in rows {
+        let upgrades = repeated(rt.alloc(), 0, count, "upgrade { class P { } } ")?;
+        let mut bytes = Text::from_slice(rt.alloc(), PARTS.as_bytes())?;
+        bytes.append(upgrades)?;
+        let mut source = MemSource::new(bytes, Ints::new(rt.alloc()));
+        let mut sink = MemSink::new(Ints::new(rt.alloc()));
+        let status = thor(
+            rt.alloc(),
+            words_of(rt.alloc(), "check")?.as_slice(),
+            &mut source,
+            &mut sink,
+        );
+        assert_eq!(rt; sink.taken(), want.as_bytes());
+        assert_eq!(rt;
+            status,
+            if count == 1000 {
+                Status::Done
+            } else {
+                Status::Limit
+            }
+        );
     }
     Ok(())
 }

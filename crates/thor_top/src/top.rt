@@ -9,11 +9,12 @@ use crate::command::{Command, command_of};
 use crate::error::ReadError;
 use crate::judging::judge;
 use crate::opening::schema_of;
-use crate::playing::{Played, have_upgrade, play};
+use crate::playing::{Played, play};
 use crate::reading::read_script;
 use crate::refusal::{Refusal, refusal_text};
 use crate::script::Script;
 use crate::status::Status;
+use crate::upgrading::upgrade_count;
 use class_defs::{Declarations, Schema};
 use outside::{ReadAll, Sink, Source, read_all, write_all};
 use std::alloc::Global;
@@ -28,6 +29,9 @@ const CLIENT_LIMIT: usize = 64;
 
 /// The most events that a schedule may have.
 const EVENT_LIMIT: usize = 1_000_000;
+
+/// The most upgrades that a script may have.
+const UPGRADE_LIMIT: usize = 1_000;
 
 /// What the program has to write, and the status with which it ends.
 #[derive(Debug, Drop)]
@@ -96,13 +100,7 @@ fn reply_accepted(
     ensures { IfOk result (λ reply. TellsOf command script.now reply.status reply.text) }
 {
     match command {
-        Command::Check { repos: _ } => {
-            if have_upgrade(script.clients.as_slice()) {
-                refused(alloc, Refusal::Unbuilt)
-            } else {
-                says(alloc, Status::Done, b"ok\n")
-            }
-        }
+        Command::Check { repos: _ } => says(alloc, Status::Done, b"ok\n"),
         Command::Play { tries } => match play(alloc, schema, script, tries)? {
             Some(Played { text, finished }) => Ok(Reply {
                 status: if finished {
@@ -137,6 +135,7 @@ fn reply_set_up(
 }
 
 /// The reply to a command on a script that was read.
+#[tactic(auto, using(crate::proofs::UpgradingLaws::within_limit))]
 fn reply_to(alloc: Global, command: Command, script: &Script) -> Result<Reply, NoMemory>
     requires { HasFew script.now.setup }
     ensures { IfOk result (λ reply. TellsOf command script.now reply.status reply.text) }
@@ -146,6 +145,9 @@ fn reply_to(alloc: Global, command: Command, script: &Script) -> Result<Reply, N
     }
     if EVENT_LIMIT < script.events.len() {
         return limited(alloc, EVENT_LIMIT);
+    }
+    if UPGRADE_LIMIT < upgrade_count(script.clients.as_slice()) {
+        return limited(alloc, UPGRADE_LIMIT);
     }
     match &script.setup {
         None => refused(alloc, Refusal::Setup),

@@ -15,6 +15,6 @@ returns-after-finished c = elim c.if-finished.branch [
 
 pub returns-in-None : goal.returns-in-None
 returns-in-None c =
-    said (TellsOf c.args.command c.args.script.now) status.Script (refusal_text refusal.Unbuilt) c.refused-in-None.result
+    said (TellsOf c.args.command c.args.script.now) status.Script (refusal_text refusal.Unbuilt) c.refused.result
     (c.requires.within, (refusal.Unbuilt, (not_built_told c.args.script.now c.args.schema.now c.args.command c.in-Play.tries c.in_ok-text-in-Play.field-0 c.in-Play.is c.requires.accepted c.in-None.is c.in_ok-text-in-Play.ensures.played, refl)))
-    c.refused-in-None.ensures.status c.refused-in-None.ensures.text
+    c.refused.ensures.status c.refused.ensures.text
