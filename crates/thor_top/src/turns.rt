@@ -81,7 +81,7 @@ fn turn_with_some_of(
     requires first { IsFirst schema.now }
     ensures { IfOk result (λ turn. (roots : List Root) → TurnsTo roots view.old (spec.turn_by schema.now tx.now (plain roots view.old) (names_taken schema.now tx.now (plain roots view.old) names)) turn view.new) }
 {
-    match names_taken(alloc, tx, schema, view, names)? {
+    match names_taken(alloc, tx, schema, view, &names)? {
         Taken::Names(fresh) => turn_with(alloc, schema, view, tx, fresh),
         Taken::Wanting => Ok(Turn::LacksNames),
         Taken::Stopped => Ok(Turn::Undefined),

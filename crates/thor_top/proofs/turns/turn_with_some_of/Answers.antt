@@ -22,5 +22,5 @@ returns-in-Names c =
 pub returns-in-Wanting : goal.returns-in-Wanting
 returns-in-Wanting c = λ roots. (by_taken c.args.schema.now c.args.tx.now (plain roots c.args.view.now) _ c.in_ok-fresh.field-0 taken.Wanting (c.in_ok-fresh.ensures.taken roots) c.in-Wanting.is, c.in_ok-fresh.ensures.store roots)
 
-pub returns-in-Stopped : goal.returns-in-Stopped
-returns-in-Stopped c = λ roots. (by_taken c.args.schema.now c.args.tx.now (plain roots c.args.view.now) _ c.in_ok-fresh.field-0 taken.Stopped (c.in_ok-fresh.ensures.taken roots) c.in-Stopped.is, c.in_ok-fresh.ensures.store roots)
+pub returns : goal.returns
+returns c = λ roots. (by_taken c.args.schema.now c.args.tx.now (plain roots c.args.view.now) _ c.in_ok-fresh.field-0 taken.Stopped (c.in_ok-fresh.ensures.taken roots) c.in-Stopped.is, c.in_ok-fresh.ensures.store roots)
