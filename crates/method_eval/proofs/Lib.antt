@@ -1,1 +1,5 @@
 pub mod Depth
+pub mod Given
+pub mod Holding
+pub mod Marking
+pub mod Taken

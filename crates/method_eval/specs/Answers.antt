@@ -8,12 +8,12 @@ use Rattle.class_defs.specs.Run.{begun, execute_all}
 use Rattle.class_defs.specs.Steps as steps
 use Rattle.class_defs.specs.declared.machine.Flow.{Flow}
 use Rattle.class_defs.specs.declared.machine.Machine.{Machine}
-use Rattle.class_defs.specs.declared.machine.NameSupply.{NameSupply}
 use Rattle.class_defs.specs.declared.machine.Stop.{Stop}
 use Rattle.class_defs.specs.declared.machine.Stop.TheVariants as stop
 use Rattle.class_defs.specs.declared.statements.Stmt.{Stmt}
 use Rattle.class_defs.specs.declared.store.Object.{Object}
 use Rattle.class_defs.specs.declared.store.Schema.{Schema}
+use Rattle.method_eval.specs.Names.{supply}
 use Rattle.method_eval.specs.Viewed.{current}
 use Rattle.method_eval.specs.declared.view.Ran.{Ran}
 use Rattle.method_eval.specs.declared.view.Ran.TheVariants.{Done, Need, NeedName}
@@ -37,5 +37,5 @@ in_view schema view = record { schema = schema; at_hand = λ x. current schema (
 -- The evaluation of a transaction over a view: its run over the objects at hand that aren't due, with the view's names.
 unfoldable pub evaluation : List Stmt → Schema → View → Ran
 evaluation tx schema view =
-    let r = execute_all (in_view schema view) tx (begun view.names.waiting view.names.stand_in) in
+    let r = execute_all (in_view schema view) tx (begun (supply view.names).waiting (supply view.names).stand_in) in
     ran_at view.epoch r.0 r.1

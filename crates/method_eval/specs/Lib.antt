@@ -1,4 +1,6 @@
 pub mod Answers
 pub mod Does
 pub mod Inner
+pub mod Marks
+pub mod Names
 pub mod Viewed

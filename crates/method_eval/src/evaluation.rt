@@ -3,6 +3,7 @@ ghost use Rattle.thor_value.specs.FiniteMap.{keys};
 ghost use Rattle.class_defs.specs.Run.{begun, execute_all};
 ghost use Rattle.method_eval.specs.Answers.{evaluation, ran_at, stored_at};
 ghost use Rattle.method_eval.specs.Does.{Does};
+ghost use Rattle.method_eval.specs.Names.{supply};
 ghost use Rattle.method_eval.specs.Viewed.{reading};
 
 use crate::halt::Halt;
@@ -11,10 +12,10 @@ use crate::view::{Ran, View};
 use crate::world::World;
 use class_defs::{Block, Flow, Machine, Object, Schema, Stop};
 use std::alloc::Global;
-use thor_value::{Answer, Ints, NoMemory, Obj, Oref, OrefMap, Orefs, Sequence, TryCopy, Writes};
+use thor_value::{Answer, Ints, NoMemory, Obj, Oref, OrefMap, Orefs, Sequence, Writes};
 
 pub(crate) fn begun(alloc: Global, view: &View) -> Result<Machine, NoMemory>
-    ensures { IfOk result (λ machine. machine ≡ begun view.now.names.waiting view.now.names.stand_in) }
+    ensures { IfOk result (λ machine. machine ≡ begun (supply view.now.names).waiting (supply view.now.names).stand_in) }
 {
     Ok(Machine {
         steps: 0,
@@ -25,7 +26,7 @@ pub(crate) fn begun(alloc: Global, view: &View) -> Result<Machine, NoMemory>
         writes: OrefMap::new(alloc),
         created: Orefs::new(alloc),
         printed: Ints::new(alloc),
-        names: view.names.copy()?,
+        names: view.names.supply(alloc)?,
     })
 }
 

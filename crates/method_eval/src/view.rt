@@ -1,12 +1,12 @@
-use class_defs::NameSupply;
+use crate::names::Names;
 use thor_value::{Answer, Obj, Oref, OrefMap, Orefs, Writes};
 
 /// What an evaluation has at hand.
 #[derive(Drop)]
 pub struct View {
     pub objects: OrefMap<Obj>,
-    /// The names that new objects may take.
-    pub names: NameSupply,
+    /// The names that new objects may take. An evaluation gives none of them.
+    pub names: Names,
     /// How many upgrades are installed.
     pub epoch: u32,
 }

@@ -26,6 +26,7 @@ use Rattle.class_defs.specs.declared.store.Plain.{Plain}
 use Rattle.class_defs.specs.declared.store.Root.{Root}
 use Rattle.class_defs.specs.declared.store.Object.{Object}
 use Rattle.class_defs.specs.declared.store.Schema.{Schema}
+use Rattle.method_eval.specs.Names.{Names, free, listed, orefs, supply, waiting}
 use Rattle.method_eval.specs.Answers.{stored_at, ran_at, in_view, evaluation}
 use Rattle.method_eval.specs.declared.view.Ran.{Ran}
 use Rattle.method_eval.specs.declared.view.Ran.TheVariants.{Done, Need, NeedName}
@@ -114,10 +115,19 @@ agree names roots view (Err (stop.Fault f)) m = map_if effect (length names == 0
 agree names roots view (Err (stop.Need x owners)) m = refl
 agree names roots view (Err (stop.NeedName repo)) m = refl
 
+-- all listed names wait
+pub listed_wait : (names : List Oref) → orefs (waiting (map free names)) ≡ names
+listed_wait [] = refl
+listed_wait (x ∷ names) = ap (λ (xs : List Oref). x ∷ xs) (listed_wait names)
+
+-- an evaluation has listed names at hand, and stand-in names behind them
+pub listed_supply : (names : List Oref) → supply (listed names) ≡ record { waiting = names; stand_in = Some 0 }
+listed_supply names = ap (λ (xs : List Oref). record { waiting = xs; stand_in = Some 0 }) (listed_wait names)
+
 -- the evaluation over a whole store with the given names, and stand-in names behind them, is the run with these names
-pub evaluation_is_run : (schema : Schema) (tx : List Stmt) (names : List Oref) (roots : List Root) (view : View) → NoneDue schema view → view.names ≡ record { waiting = names; stand_in = Some 0 } → Agrees names roots view (evaluation tx schema view) (effect_of schema tx (plain roots view) names)
+pub evaluation_is_run : (schema : Schema) (tx : List Stmt) (names : List Oref) (roots : List Root) (view : View) (supplied : Names) → NoneDue schema view → supply supplied ≡ record { waiting = names; stand_in = Some 0 } → Agrees names roots view (evaluation tx schema (record view { names = supplied })) (effect_of schema tx (plain roots view) names)
 unfolding evaluation run
-evaluation_is_run schema tx names roots view none given =
+evaluation_is_run schema tx names roots view supplied none given =
     let P : World → Type 0 = λ w. Agrees names roots view (let r = execute_all (record { schema = schema; at_hand = λ x. current schema (get view.objects x) }) tx (begun names (Some 0)) in ran_at view.epoch r.0 r.1) (option_map effect (let r = execute_all w tx (begun names (Some 0)) in ran_by (plain roots view) names r.0 r.1)) in
     rw given (subst P (same_world schema view none) (agree names roots view _ _))
 
@@ -138,19 +148,19 @@ settled schema tx names roots old (answer.Ints ints) reads fresh writes taken ne
 settled schema tx names roots old (answer.Fault f) reads fresh writes taken new e s = by_test (length names == 0) schema tx names roots old old _ taken new e s.0 (s.1 ∙ same_either (length names == 0) old)
 
 -- what is taken over of an evaluation that ended is what the run gives
-pub done_ran : (schema : Schema) (tx : List Stmt) (names : List Oref) (roots : List Root) (old : View) (a : Answer) (reads fresh : List Oref) (writes : List (Oref × Obj)) (taken : Option Answer) (new : View)
-    → NoneDue schema old → old.names ≡ record { waiting = names; stand_in = Some 0 } → Done a reads writes fresh ≡ evaluation tx schema old → Settles names fresh writes old a taken new → RanOn schema tx names roots old taken new
-done_ran schema tx names roots old a reads fresh writes taken new none given is s =
-    settled schema tx names roots old a reads fresh writes taken new (subst (λ (r : Ran). Agrees names roots old r (effect_of schema tx (plain roots old) names)) (sym is) (evaluation_is_run schema tx names roots old none given)) s
+pub done_ran : (schema : Schema) (tx : List Stmt) (names : List Oref) (roots : List Root) (old : View) (supplied : Names) (a : Answer) (reads fresh : List Oref) (writes : List (Oref × Obj)) (taken : Option Answer) (new : View)
+    → NoneDue schema old → supply supplied ≡ record { waiting = names; stand_in = Some 0 } → Done a reads writes fresh ≡ evaluation tx schema (record old { names = supplied }) → Settles names fresh writes old a taken new → RanOn schema tx names roots old taken new
+done_ran schema tx names roots old supplied a reads fresh writes taken new none given is s =
+    settled schema tx names roots old a reads fresh writes taken new (subst (λ (r : Ran). Agrees names roots old r (effect_of schema tx (plain roots old) names)) (sym is) (evaluation_is_run schema tx names roots old supplied none given)) s
 
 -- an evaluation that needs an object or a name is that of a run that is undefined
-pub need_ran : (schema : Schema) (tx : List Stmt) (names : List Oref) (roots : List Root) (old : View) (x : Oref) (owners : List Oref)
-    → NoneDue schema old → old.names ≡ record { waiting = names; stand_in = Some 0 } → Need x owners ≡ evaluation tx schema old → effect_of schema tx (plain roots old) names ≡ None
-need_ran schema tx names roots old x owners none given is = subst (λ (r : Ran). Agrees names roots old r (effect_of schema tx (plain roots old) names)) (sym is) (evaluation_is_run schema tx names roots old none given)
+pub need_ran : (schema : Schema) (tx : List Stmt) (names : List Oref) (roots : List Root) (old : View) (supplied : Names) (x : Oref) (owners : List Oref)
+    → NoneDue schema old → supply supplied ≡ record { waiting = names; stand_in = Some 0 } → Need x owners ≡ evaluation tx schema (record old { names = supplied }) → effect_of schema tx (plain roots old) names ≡ None
+need_ran schema tx names roots old supplied x owners none given is = subst (λ (r : Ran). Agrees names roots old r (effect_of schema tx (plain roots old) names)) (sym is) (evaluation_is_run schema tx names roots old supplied none given)
 
-pub need_name_ran : (schema : Schema) (tx : List Stmt) (names : List Oref) (roots : List Root) (old : View) (repo : ℕ)
-    → NoneDue schema old → old.names ≡ record { waiting = names; stand_in = Some 0 } → NeedName repo ≡ evaluation tx schema old → effect_of schema tx (plain roots old) names ≡ None
-need_name_ran schema tx names roots old repo none given is = subst (λ (r : Ran). Agrees names roots old r (effect_of schema tx (plain roots old) names)) (sym is) (evaluation_is_run schema tx names roots old none given)
+pub need_name_ran : (schema : Schema) (tx : List Stmt) (names : List Oref) (roots : List Root) (old : View) (supplied : Names) (repo : ℕ)
+    → NoneDue schema old → supply supplied ≡ record { waiting = names; stand_in = Some 0 } → NeedName repo ≡ evaluation tx schema (record old { names = supplied }) → effect_of schema tx (plain roots old) names ≡ None
+need_name_ran schema tx names roots old supplied repo none given is = subst (λ (r : Ran). Agrees names roots old r (effect_of schema tx (plain roots old) names)) (sym is) (evaluation_is_run schema tx names roots old supplied none given)
 
 epoch_either : (b : Bool) (after old new : View) → after.epoch ≡ old.epoch → new ≡ cond b after old → new.epoch ≡ old.epoch
 epoch_either true after old new same is = ap (λ (v : View). v.epoch) is ∙ same
@@ -161,10 +171,10 @@ pub settled_epoch : (names fresh : List Oref) (writes : List (Oref × Obj)) (old
 settled_epoch names fresh writes old (answer.Ints ints) taken new s = epoch_either (takes fresh names) _ old new refl s.1
 settled_epoch names fresh writes old (answer.Fault f) taken new s = ap (λ (v : View). v.epoch) s.1
 
-pub done_result : (schema : Schema) (tx : List Stmt) (names : List Oref) (old : View) (a : Answer) (reads fresh : List Oref) (writes : List (Oref × Obj)) (new : View) (r : Result (Option Answer) NoMemory)
-    → NoneDue schema old → old.names ≡ record { waiting = names; stand_in = Some 0 } → Done a reads writes fresh ≡ evaluation tx schema old → IfOk r (λ t. Settles names fresh writes old a t new) → IfOk r (λ t. (roots : List Root) → RanOn schema tx names roots old t new)
-done_result schema tx names old a reads fresh writes new (Ok t) none given is s = λ roots. done_ran schema tx names roots old a reads fresh writes t new none given is s
-done_result schema tx names old a reads fresh writes new (Err e) none given is s = tt
+pub done_result : (schema : Schema) (tx : List Stmt) (names : List Oref) (old : View) (supplied : Names) (a : Answer) (reads fresh : List Oref) (writes : List (Oref × Obj)) (new : View) (r : Result (Option Answer) NoMemory)
+    → NoneDue schema old → supply supplied ≡ record { waiting = names; stand_in = Some 0 } → Done a reads writes fresh ≡ evaluation tx schema (record old { names = supplied }) → IfOk r (λ t. Settles names fresh writes old a t new) → IfOk r (λ t. (roots : List Root) → RanOn schema tx names roots old t new)
+done_result schema tx names old supplied a reads fresh writes new (Ok t) none given is s = λ roots. done_ran schema tx names roots old supplied a reads fresh writes t new none given is s
+done_result schema tx names old supplied a reads fresh writes new (Err e) none given is s = tt
 
 some_bare : (o : Option Obj) → is_some (option_map bare o) ≡ is_some o
 some_bare None = refl
@@ -208,7 +218,7 @@ ran_writes epoch (Err (stop.NeedName repo)) m = tt
 evaluation_writes : (tx : List Stmt) (schema : Schema) (view : View) → WritesAt view.epoch (evaluation tx schema view)
 unfolding evaluation
 evaluation_writes tx schema view =
-    let r = execute_all (in_view schema view) tx (begun view.names.waiting view.names.stand_in) in
+    let r = execute_all (in_view schema view) tx (begun (supply view.names).waiting (supply view.names).stand_in) in
     ran_writes view.epoch r.0 r.1
 
 kept_either : (P : View → Type 0) (b : Bool) (after old new : View) → P after → P old → new ≡ cond b after old → P new
@@ -220,7 +230,7 @@ settled_versions names fresh writes old (answer.Ints ints) taken new s written h
 settled_versions names fresh writes old (answer.Fault f) taken new s written h = subst IsOfItsEpoch (sym s.1) h
 
 -- objects of the view's epoch stay so
-pub done_versions : (schema : Schema) (tx : List Stmt) (names : List Oref) (old : View) (a : Answer) (reads fresh : List Oref) (writes : List (Oref × Obj)) (new : View) (r : Result (Option Answer) NoMemory)
-    → Done a reads writes fresh ≡ evaluation tx schema old → IfOk r (λ t. Settles names fresh writes old a t new) → IsOfItsEpoch old → OnOk r (IsOfItsEpoch new)
-done_versions schema tx names old a reads fresh writes new (Ok t) is s h = settled_versions names fresh writes old a t new s (subst (WritesAt old.epoch) (sym is) (evaluation_writes tx schema old)) h
-done_versions schema tx names old a reads fresh writes new (Err e) is s h = tt
+pub done_versions : (schema : Schema) (tx : List Stmt) (names : List Oref) (old : View) (supplied : Names) (a : Answer) (reads fresh : List Oref) (writes : List (Oref × Obj)) (new : View) (r : Result (Option Answer) NoMemory)
+    → Done a reads writes fresh ≡ evaluation tx schema (record old { names = supplied }) → IfOk r (λ t. Settles names fresh writes old a t new) → IsOfItsEpoch old → OnOk r (IsOfItsEpoch new)
+done_versions schema tx names old supplied a reads fresh writes new (Ok t) is s h = settled_versions names fresh writes old a t new s (subst (WritesAt old.epoch) (sym is) (evaluation_writes tx schema (record old { names = supplied }))) h
+done_versions schema tx names old supplied a reads fresh writes new (Err e) is s h = tt

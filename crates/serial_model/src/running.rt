@@ -4,14 +4,17 @@ ghost use Rattle.std.specs.List.{list_any};
 ghost use Rattle.thor_value.specs.Names.{same_oref};
 ghost use Rattle.class_defs.specs.Run.{takes};
 ghost use Rattle.class_defs.specs.declared.store.Root.{Root};
+ghost use Rattle.method_eval.specs.Answers.{evaluation};
+ghost use Rattle.method_eval.specs.Names.{listed};
 ghost use Rattle.serial_model.specs.Replaying.{RanOn, Settles};
 ghost use Rattle.serial_model.specs.Whole.{IsFirst, IsOfItsEpoch, NoneDue};
 
 use crate::whole_maps::overwrite;
-use class_defs::{Block, NameSupply, Schema};
-use method_eval::{Ran, View, eval};
+use class_defs::{Block, Schema};
+use method_eval::{Names, Ran, View, eval};
 use std::alloc::Global;
-use thor_value::{Answer, NoMemory, Orefs, TryCopy, Writes};
+use std::mem;
+use thor_value::{Answer, NoMemory, Orefs, Writes};
 
 fn same_names(left: &Orefs, right: &Orefs) -> bool
     ensures { result ≡ pointwise same_oref left.now right.now }
@@ -65,6 +68,25 @@ fn settle(
     }
 }
 
+/// Evaluates a transaction over a view where its new objects take listed names, and stand-in names behind them.
+/// The view stays as it is.
+fn eval_with(
+    alloc: Global,
+    tx: &Block,
+    schema: &Schema,
+    view: &mut View,
+    names: &Orefs,
+) -> Result<Ran, NoMemory>
+    requires { length schema.now.classes ≤ 65536 }
+    ensures ran { IfOk result (λ ran. ran ≡ evaluation tx.now schema.now (record view.old { names = listed names.now })) }
+    ensures view { view.new ≡ view.old }
+{
+    let kept = mem::replace(&mut view.names, Names::listed(alloc, names)?);
+    let ran = eval(alloc, tx, schema, view);
+    view.names = kept;
+    ran
+}
+
 /// Runs a transaction on the whole store that a view has, its new objects taking just these names.
 ///
 /// Gives the answer where the run is defined, and leaves the store behind it in the view; else the store
@@ -80,6 +102,7 @@ pub fn run_on(
     requires first { IsFirst schema.now }
     ensures ran { IfOk result (λ answer. (roots : List Root) → RanOn schema.now tx.now names.now roots view.old answer view.new) }
     ensures epoch { OnOk result (view.new.epoch ≡ view.old.epoch) }
+    ensures names { OnOk result (view.new.names ≡ view.old.names) }
 {
     run_on_current(alloc, tx, schema, view, names)
 }
@@ -98,13 +121,10 @@ pub fn run_on_current(
     requires current { NoneDue schema.now view.old }
     ensures ran { IfOk result (λ answer. (roots : List Root) → RanOn schema.now tx.now names.now roots view.old answer view.new) }
     ensures epoch { OnOk result (view.new.epoch ≡ view.old.epoch) }
+    ensures names { OnOk result (view.new.names ≡ view.old.names) }
     ensures versions { IsOfItsEpoch view.old → OnOk result (IsOfItsEpoch view.new) }
 {
-    view.names = NameSupply {
-        waiting: names.copy()?,
-        stand_in: Some(0),
-    };
-    match eval(alloc, tx, schema, view)? {
+    match eval_with(alloc, tx, schema, view, names)? {
         Ran::Done {
             answer,
             reads: _,

@@ -3,8 +3,8 @@ ghost use Rattle.class_defs.specs.declared.store.Root.{Root};
 ghost use Rattle.serial_model.specs.Taking.{names_taken, taken_in};
 ghost use Rattle.serial_model.specs.Whole.{IsFirst, plain};
 
-use class_defs::{Block, NameSupply, Schema};
-use method_eval::{Ran, View, eval};
+use class_defs::{Block, Schema};
+use method_eval::{Names, Ran, View, eval};
 use std::alloc::Global;
 use thor_value::{Answer, NoMemory, Orefs};
 
@@ -45,17 +45,14 @@ pub fn names_taken(
     tx: &Block,
     schema: &Schema,
     view: &mut View,
-    names: Orefs,
+    names: &Orefs,
 ) -> Result<Taken, NoMemory>
     requires few { length schema.now.classes ≤ 65536 }
     requires first { IsFirst schema.now }
-    ensures taken { IfOk result (λ taken. (roots : List Root) → taken ≡ names_taken schema.now tx.now (plain roots view.old) names) }
+    ensures taken { IfOk result (λ taken. (roots : List Root) → taken ≡ names_taken schema.now tx.now (plain roots view.old) names.now) }
     ensures store { OnOk result ((roots : List Root) → plain roots view.new ≡ plain roots view.old) }
 {
-    view.names = NameSupply {
-        waiting: names,
-        stand_in: None,
-    };
+    view.names = Names::only_listed(alloc, names)?;
     let ran = eval(alloc, tx, schema, view)?;
     Ok(taken_in(ran))
 }

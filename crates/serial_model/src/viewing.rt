@@ -5,10 +5,10 @@ ghost use Rattle.method_eval.specs.Answers.{stored_at};
 ghost use Rattle.serial_model.specs.Whole.{IsOfItsEpoch, bare_objects, bare_pair, plain};
 
 use crate::whole_maps::{map_of, pairs_of};
-use class_defs::{NameSupply, Object, Plain, Roots};
-use method_eval::View;
+use class_defs::{Object, Plain, Roots};
+use method_eval::{Names, View};
 use std::alloc::Global;
-use thor_value::{NoMemory, Obj, Oref, OrefMap, Orefs, Sequence, TryCopy};
+use thor_value::{NoMemory, Obj, Oref, OrefMap, Sequence, TryCopy};
 
 /// Objects as they are stored at an epoch.
 fn stored_at(
@@ -56,10 +56,7 @@ pub fn view_of(alloc: Global, store: &Plain) -> Result<View, NoMemory>
     let stored = stored_at(alloc, store.epoch, pairs)?;
     Ok(View {
         objects: map_of(alloc, stored)?,
-        names: NameSupply {
-            waiting: Orefs::new(alloc),
-            stand_in: None,
-        },
+        names: Names::new(alloc),
         epoch: store.epoch,
     })
 }

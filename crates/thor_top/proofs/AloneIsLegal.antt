@@ -25,7 +25,7 @@ use Rattle.serial_model.specs.declared.entries.What.TheVariants.{Tx, Upgrade as 
 use Rattle.serial_model.specs.Taking.{names_taken}
 use Rattle.serial_model.specs.declared.taking.Taken.{Taken}
 use Rattle.serial_model.specs.declared.taking.Taken.TheVariants.{Names, Wanting, Stopped}
-use Rattle.thor_top.specs.Alone.{Commit, Turn, Commits, LacksNames, IsUndefined, by_turn, commits_or, commits_or_not, did, first_page, names_at_hand, performance, schemas_of, turn_by, turn_of, with_entry, with_names, with_refused}
+use Rattle.thor_top.specs.Alone.{Commit, Turn, Commits, LacksNames, IsUndefined, by_turn, commits_or_not, did, first_page, names_at_hand, performance, schemas_of, turn_by, turn_of, with_entry, with_names, with_refused}
 use Rattle.thor_top.specs.declared.performed.Performed.{Performed}
 
 pub some_is : {X : Type 0} {x y : X} → Some x ≡ Some y → x ≡ y
@@ -68,14 +68,10 @@ is_commit_if schema tx store fresh false c ok h = absurd (let bad : IsUndefined 
 is_commit_taken : (schema : Schema) (tx : List Stmt) (store : Plain) (taken : Taken) (c : Commit) → turn_by schema tx store taken ≡ Commits c → IsCommit schema tx store c
 is_commit_taken schema tx store (Names fresh) c h = is_commit_if schema tx store fresh (are_fresh store fresh) c refl h
 is_commit_taken schema tx store Wanting c h = absurd (let bad : LacksNames ≡ Commits c = h in cc)
-is_commit_taken schema tx store Stopped c h = absurd (let bad : IsUndefined ≡ Commits c = h in cc)
-
-is_commit_by : (schema : Schema) (tx : List Stmt) (store : Plain) (at_hand : List Oref) (o : Option Commit) (c : Commit) → with_names schema tx store [] ≡ o → commits_or o (turn_by schema tx store (names_taken schema tx store at_hand)) ≡ Commits c → IsCommit schema tx store c
-is_commit_by schema tx store at_hand (Some d) c is h = is_commit_with schema tx store [] c refl (is ∙ ap Some (let e : Commits d ≡ Commits c = h in cc))
-is_commit_by schema tx store at_hand None c is h = is_commit_taken schema tx store (names_taken schema tx store at_hand) c h
+is_commit_taken schema tx store Stopped c h = is_commit_of schema tx store [] (with_names schema tx store []) c refl refl h
 
 pub is_commit : (schema : Schema) (tx : List Stmt) (store : Plain) (at_hand : List Oref) (c : Commit) → turn_of schema tx store at_hand ≡ Commits c → IsCommit schema tx store c
-is_commit schema tx store at_hand c h = is_commit_by schema tx store at_hand (with_names schema tx store []) c refl h
+is_commit schema tx store at_hand c h = is_commit_taken schema tx store (names_taken schema tx store at_hand) c h
 
 -- ---- a performance of one transaction and more
 

@@ -10,11 +10,10 @@ use Rattle.class_defs.specs.declared.store.Schema.{Schema}
 use Rattle.method_eval.specs.declared.view.View.{View}
 use Rattle.serial_model.specs.History.{are_fresh}
 use Rattle.serial_model.specs.Replaying.{RanOn}
-use Rattle.serial_model.specs.Taking.{names_taken}
 use Rattle.serial_model.specs.declared.taking.Taken.{Taken}
 use Rattle.serial_model.specs.Whole.{plain}
 use Rattle.thor_top.specs.Alone as alone
-use Rattle.thor_top.specs.Alone.{Commit, commits_or, commits_or_not, turn_by, turn_of, turn_with, with_names}
+use Rattle.thor_top.specs.Alone.{Commit, commits_or_not, turn_by, turn_with, with_names}
 use Rattle.thor_top.specs.Committing.{CommitsOn, TurnsTo}
 use Rattle.thor_top.specs.declared.turns.Committed.{Committed}
 use Rattle.thor_top.specs.declared.turns.Turn.{Turn}
@@ -76,6 +75,6 @@ when_not roots old new o r none h = let P : Option Committed → Type 0 = λ q. 
 pub by_taken : (schema : Schema) (tx : List Stmt) (store : Plain) (found taken other : Taken) → taken ≡ found → taken ≡ other → turn_by schema tx store found ≡ turn_by schema tx store other
 by_taken schema tx store found taken other are is = ap (turn_by schema tx store) (sym are ∙ is)
 
--- first without names, by what that commits
-pub by_none : (schema : Schema) (tx : List Stmt) (store : Plain) (at_hand none : List Oref) (o : Option Commit) → none ≡ [] → with_names schema tx store none ≡ o → turn_of schema tx store at_hand ≡ commits_or o (turn_by schema tx store (names_taken schema tx store at_hand))
-by_none schema tx store at_hand none o is with = ap (λ (q : Option Commit). commits_or q (turn_by schema tx store (names_taken schema tx store at_hand))) (ap (with_names schema tx store) (sym is) ∙ with)
+-- without names, by what that commits
+pub without_turn : (schema : Schema) (tx : List Stmt) (store : Plain) (none : List Oref) (o : Option Commit) → none ≡ [] → with_names schema tx store none ≡ o → commits_or_not (with_names schema tx store []) ≡ commits_or_not o
+without_turn schema tx store none o is with = ap commits_or_not (ap (with_names schema tx store) (sym is) ∙ with)

@@ -2,16 +2,16 @@
 -- transaction isn't undefined, and this holds again behind it.
 use Rattle.std.proofs.Common.{◌≡◌, arith, Bool, true, false, cond, List, [], Option, Some, None, option_map, IsSomeAnd, Result, Ok, Err, refl, sym, ◌∙◌, subst, ℕ, length}
 use Rattle.std.specs.List.{AllByRecursion}
-use Rattle.std.specs.Prelude.{◌+◌, min}
+use Rattle.std.specs.Prelude.{◌+◌}
 use Rattle.thor_value.specs.FiniteMap.{get}
 use Rattle.thor_value.specs.declared.names.Oref.{Oref}
 use Rattle.thor_value.specs.declared.values.Answer.{Answer}
 use Rattle.thor_value.specs.declared.values.Fault.{Fault}
-use Rattle.class_defs.proofs.FitRun.{run_answered, run_fits, run_had}
+use Rattle.class_defs.proofs.FitRun.{run_fits, run_had}
 use Rattle.class_defs.proofs.RenamedAfter.{unused_behind, unwritten_behind}
 use Rattle.class_defs.proofs.RenamedEnds.{runs_same, stand_ins_enough}
-use Rattle.class_defs.proofs.RenamedStores.{created_takeable, defined_with, no_names_takeable, taken_in_order}
-use Rattle.class_defs.specs.Fits.{Fresh, IsAnswered, StoreFits}
+use Rattle.class_defs.proofs.RenamedStores.{created_takeable, defined_again, no_names_takeable, taken_in_order}
+use Rattle.class_defs.specs.Fits.{Fresh, StoreFits}
 use Rattle.class_defs.specs.Objects.{stand_in_name}
 use Rattle.class_defs.specs.Renaming.{SameEnd, Takeable, Unused}
 use Rattle.class_defs.specs.Run.{Ran, begun, execute_all, ran_by, run, world_of}
@@ -27,7 +27,7 @@ use Rattle.class_defs.specs.declared.store.Schema.{Schema}
 use Rattle.serial_model.specs.Replaying.{effect}
 use Rattle.serial_model.specs.Taking.{names_taken, taken_by}
 use Rattle.thor_top.proofs.DefinedNames.{all_here, fresh_from, front_given, names_fresh, names_takeable, still_fresh, still_given}
-use Rattle.thor_top.specs.Alone.{Commit, Turn, Commits, LacksNames, IsUndefined, commits_or, commits_or_not, names_at_hand, names_left, turn_by, turn_of, turn_with, with_names}
+use Rattle.thor_top.specs.Alone.{Commit, Turn, Commits, LacksNames, IsUndefined, commits_or_not, names_at_hand, names_left, turn_by, turn_of, turn_with, with_names}
 
 -- The store fits its schema, nothing in it refers to a name that may still be given, and no object has such a name.
 pub record Ready (first given : ℕ) (schema : Schema) (store : Plain) : Type 0 where
@@ -43,13 +43,6 @@ Goes first given schema IsUndefined = ⊥
 
 abbrev commit_with : List Oref → Answer × Plain → Commit
 commit_with fresh e = record { fresh = fresh; answer = e.0; after = e.1 }
-
--- an evaluation that ended by itself or in a fault had its objects
-had_by : (o : Result Flow Stop) → IsAnswered o → HadObjects o
-had_by (Ok flow) h = tt
-had_by (Err (stop.Fault f)) h = tt
-had_by (Err (stop.Need x owners)) h = absurd h
-had_by (Err (stop.NeedName repo)) h = tt
 
 module _ (first given : ℕ) (schema : Schema) (sound : schema_rules schema 1 ≡ []) (tx : List Stmt) (kept : item_rules schema 1 tx ≡ [])
     (store : Plain) (ready : Ready first given schema store) where
@@ -89,22 +82,19 @@ module _ (first given : ℕ) (schema : Schema) (sound : schema_rules schema 1 �
       subst (λ b. Goes first given schema (cond b (commits_or_not (with_names schema tx store names)) IsUndefined))
       (sym (still_fresh store fresh ready.free names t)) (goes_of P names t taken (run schema tx store names) refl h)
 
-  -- ---- where the run isn't defined without names
+  -- ---- by the evaluation with the names at hand
 
   abbrev at_hand : List Oref
   at_hand = names_at_hand first given
 
   hand_takeable : Takeable fresh at_hand
-  hand_takeable = names_takeable first given (min 64 (names_left first given))
+  hand_takeable = names_takeable first given (names_left first given)
 
   abbrev without : Result Flow Stop × Machine
   without = execute_all (world_of schema store) tx (begun [] (Some 0))
 
   no_names : Takeable fresh []
   no_names = no_names_takeable schema tx store fresh ready.unused
-
-  without_had : HadObjects without.0
-  without_had = had_by without.0 (run_answered schema 1 tx store [] sound kept ready.fits (fresh_for [] no_names))
 
   no_fault : (cs ds : List Oref) (f : Fault) (o : Result Flow Stop) (m : Machine) → SameEnd fresh cs ds o (Err (stop.Fault f))
       → ran_by store [] o m ≡ None → ⊥
@@ -121,30 +111,28 @@ module _ (first given : ℕ) (schema : Schema) (sound : schema_rules schema 1 �
       no_names hand_takeable refl is (stand_ins_enough (world_of schema store) fresh ready.unused tx [] no_names) tt in
       no_fault without.1.created m.created f without.0 without.1 same.ended undefined
 
+  goes_without : (o : Option Ran) → run schema tx store [] ≡ o → (run schema tx store [] ≡ None → ⊥)
+      → Goes first given schema (commits_or_not (option_map (commit_with []) (option_map effect o)))
+  goes_without (Some r) is defined = ready_behind [] r no_names tt is
+  goes_without None is defined = absurd (defined is)
+
   goes_taken : (o : Result Flow Stop) (m : Machine) → execute_all (world_of schema store) tx (begun at_hand None) ≡ (o, m)
-      → run schema tx store [] ≡ None
       → Goes first given schema (turn_by schema tx store (taken_by o m))
-  goes_taken (Ok flow) m is undefined =
+  goes_taken (Ok flow) m is =
       let all = taken_in_order schema tx store fresh ready.unused at_hand hand_takeable (Ok flow) m is tt 0
-      (all_here first given (min 64 (names_left first given))) in
+      (all_here first given (names_left first given)) in
       goes_with _ m.created (created_takeable schema tx store fresh ready.unused at_hand hand_takeable (Ok flow) m is tt)
-      (front_given first given (given + length m.created) (min 64 (names_left first given)) m.created m.names.waiting all (omega arith))
-      (defined_with schema tx store fresh ready.unused at_hand hand_takeable (Ok flow) m undefined without_had is tt)
-  goes_taken (Err (stop.Fault f)) m is undefined = absurd (never_faults f m is undefined)
-  goes_taken (Err (stop.Need x owners)) m is undefined =
+      (front_given first given (given + length m.created) (names_left first given) m.created m.names.waiting all (omega arith))
+      (defined_again schema tx store fresh ready.unused at_hand hand_takeable (Ok flow) m is tt flow refl)
+  goes_taken (Err (stop.Fault f)) m is = goes_without (run schema tx store []) refl (never_faults f m is)
+  goes_taken (Err (stop.Need x owners)) m is =
       let had = run_had schema 1 tx store at_hand sound kept ready.fits (fresh_for at_hand hand_takeable) in
       absurd (subst (λ (p : Result Flow Stop × Machine). HadObjects p.0) is had)
-  goes_taken (Err (stop.NeedName repo)) m is undefined = tt
-
-  goes_by : (o : Option Ran) → run schema tx store [] ≡ o
-      → Goes first given schema
-      (commits_or (option_map (commit_with []) (option_map effect o)) (turn_by schema tx store (names_taken schema tx store at_hand)))
-  unfolding names_taken
-  goes_by (Some r) is = ready_behind [] r no_names tt is
-  goes_by None is =
-      let p = execute_all (world_of schema store) tx (begun at_hand None) in
-      goes_taken p.0 p.1 refl is
+  goes_taken (Err (stop.NeedName repo)) m is = tt
 
   -- the turn commits or lacks names
   pub turn_goes : Goes first given schema (turn_of schema tx store (names_at_hand first given))
-  turn_goes = goes_by (run schema tx store []) refl
+  unfolding names_taken
+  turn_goes =
+      let p = execute_all (world_of schema store) tx (begun at_hand None) in
+      goes_taken p.0 p.1 refl

@@ -38,13 +38,18 @@ abbrev pub names_from : ℕ → ℕ → ℕ → List Oref
 names_from first n zero = []
 names_from first n (suc count) = granted first n ∷ names_from first (n + 1) count
 
--- how many names are left where n were given: a repository has 65,536 pages
-abbrev pub names_left : ℕ → ℕ → ℕ
-names_left first n = (65536 - first) * 12 - n
+-- How many pages a client holds that gave n names: it is granted one after the other until 64 names wait, as many as a
+-- transaction may create objects, or until no page is left. A repository has 65,536 pages.
+abbrev pub pages_held : ℕ → ℕ → ℕ
+pages_held first n = min (65536 - first) ((n + 75) / 12)
 
--- The names at hand where n were given: as many as a transaction may create objects, as far as there are pages.
+-- how many names of these wait
+abbrev pub names_left : ℕ → ℕ → ℕ
+names_left first n = pages_held first n * 12 - n
+
+-- the names at hand where n were given: those of the pages that the client holds
 abbrev pub names_at_hand : ℕ → ℕ → List Oref
-names_at_hand first n = names_from first n (min 64 (names_left first n))
+names_at_hand first n = names_from first n (names_left first n)
 
 -- ---- a transaction
 
@@ -75,16 +80,12 @@ turn_with schema tx store fresh = if are_fresh store fresh then commits_or_not (
 abbrev pub turn_by : Schema → List Stmt → Plain → Taken → Turn
 turn_by schema tx store (Names fresh) = turn_with schema tx store fresh
 turn_by schema tx store Wanting = LacksNames
-turn_by schema tx store Stopped = IsUndefined
+turn_by schema tx store Stopped = commits_or_not (with_names schema tx store [])
 
-abbrev pub commits_or : Option Commit → Turn → Turn
-commits_or (Some c) other = Commits c
-commits_or None other = other
-
--- What becomes of a transaction with these names at hand, of which its new objects take those that they need. One that
--- leaves no new objects takes none; so does one that ends in a fault.
+-- What becomes of a transaction, by its evaluation with these names at hand: where it ends by itself, its new objects
+-- take the names that it took; where it ends in a fault it takes none; and it may want a name more than there are.
 abbrev pub turn_of : Schema → List Stmt → Plain → List Oref → Turn
-turn_of schema tx store at_hand = commits_or (with_names schema tx store []) (turn_by schema tx store (names_taken schema tx store at_hand))
+turn_of schema tx store at_hand = turn_by schema tx store (names_taken schema tx store at_hand)
 
 -- ---- all transactions
 

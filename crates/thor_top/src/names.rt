@@ -29,18 +29,22 @@ fn granted(first: usize, n: usize) -> Oref
     }
 }
 
-/// How many names are left where n were given.
-fn names_left(first: usize, n: usize) -> usize
-    ensures { result ≡ spec.names_left first n }
+/// How many pages the client holds that gave n names. There is no memory for more names than a number can count.
+fn pages_held(first: usize, n: usize) -> Result<usize, NoMemory>
+    ensures pages { IfOk result (λ pages. pages ≡ spec.pages_held first n) }
+    ensures within { IfOk result (λ pages. pages ≤ 65536 - first) }
 {
-    (PAGES.saturating_sub(first) * 12).saturating_sub(n)
+    let Some(wanted) = n.checked_add(75) else {
+        return Err(NoMemory);
+    };
+    Ok(PAGES.saturating_sub(first).min(wanted / 12))
 }
 
 /// The names that a transaction may take where n were given.
 pub fn names_at_hand(alloc: Global, first: usize, n: usize) -> Result<Orefs, NoMemory>
     ensures { IfOk result (λ names. names ≡ spec.names_at_hand first n) }
 {
-    let count = names_left(first, n).min(64);
+    let count = (pages_held(first, n)? * 12).saturating_sub(n);
     let mut names = Orefs::new(alloc);
     for k in 0..count {
         names.push(granted(first, n + k))?;

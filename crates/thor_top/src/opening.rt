@@ -8,12 +8,12 @@ ghost use Rattle.thor_value.specs.FiniteMap.{empty, overwrite};
 ghost use Rattle.thor_top.specs.Opened as spec;
 
 use class_defs::{
-    Declarations, Epochs, Fields, NameSupply, RootDeclaration, RootDeclarations, Schema, TypeName,
-    WrittenRoot, WrittenRoots, class_named,
+    Declarations, Epochs, Fields, RootDeclaration, RootDeclarations, Schema, TypeName, WrittenRoot,
+    WrittenRoots, class_named,
 };
-use method_eval::View;
+use method_eval::{Names, View};
 use std::alloc::Global;
-use thor_value::{NoMemory, Obj, Oref, OrefMap, Orefs, TryCopy, Value, Values};
+use thor_value::{NoMemory, Obj, Oref, OrefMap, TryCopy, Value, Values};
 
 /// A root with its object's name: the n-th takes the slot n mod 12 of page n / 12.
 fn placed(root: &WrittenRoot, n: usize) -> Result<RootDeclaration, NoMemory>
@@ -132,10 +132,7 @@ pub fn open(alloc: Global, schema: &Schema) -> Result<View, NoMemory>
 {
     Ok(View {
         objects: root_objects(alloc, schema)?,
-        names: NameSupply {
-            waiting: Orefs::new(alloc),
-            stand_in: None,
-        },
+        names: Names::new(alloc),
         epoch: 0,
     })
 }

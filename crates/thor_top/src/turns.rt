@@ -1,4 +1,4 @@
-ghost use Rattle.std.specs.Prelude.{◌≡◌, ◌≤◌, List, length, IfOk};
+ghost use Rattle.std.specs.Prelude.{◌≡◌, ◌≤◌, List, [], length, IfOk};
 ghost use Rattle.class_defs.specs.declared.store.Root.{Root};
 ghost use Rattle.serial_model.specs.Taking.{names_taken};
 ghost use Rattle.serial_model.specs.Whole.{IsFirst, plain};
@@ -69,6 +69,23 @@ fn turn_with(
     }
 }
 
+/// The turn of a transaction that leaves no new objects.
+fn turn_without(
+    alloc: Global,
+    schema: &Schema,
+    view: &mut View,
+    tx: &Block,
+) -> Result<Turn, NoMemory>
+    requires few { length schema.now.classes ≤ 65536 }
+    requires first { IsFirst schema.now }
+    ensures { IfOk result (λ turn. (roots : List Root) → TurnsTo roots view.old (spec.commits_or_not (spec.with_names schema.now tx.now (plain roots view.old) [])) turn view.new) }
+{
+    match commit_with(alloc, schema, view, tx, Orefs::new(alloc))? {
+        Some(committed) => Ok(Turn::Commits(committed)),
+        None => Ok(Turn::Undefined),
+    }
+}
+
 /// The turn of a transaction whose new objects take those that they need of these names.
 fn turn_with_some_of(
     alloc: Global,
@@ -81,10 +98,10 @@ fn turn_with_some_of(
     requires first { IsFirst schema.now }
     ensures { IfOk result (λ turn. (roots : List Root) → TurnsTo roots view.old (spec.turn_by schema.now tx.now (plain roots view.old) (names_taken schema.now tx.now (plain roots view.old) names)) turn view.new) }
 {
-    match names_taken(alloc, tx, schema, view, names)? {
+    match names_taken(alloc, tx, schema, view, &names)? {
         Taken::Names(fresh) => turn_with(alloc, schema, view, tx, fresh),
         Taken::Wanting => Ok(Turn::LacksNames),
-        Taken::Stopped => Ok(Turn::Undefined),
+        Taken::Stopped => turn_without(alloc, schema, view, tx),
     }
 }
 
@@ -102,11 +119,6 @@ pub fn take_turn(
     requires first { IsFirst schema.now }
     ensures { IfOk result (λ turn. (roots : List Root) → TurnsTo roots view.old (spec.turn_of schema.now tx.now (plain roots view.old) (spec.names_at_hand first given)) turn view.new) }
 {
-    match commit_with(alloc, schema, view, tx, Orefs::new(alloc))? {
-        Some(committed) => Ok(Turn::Commits(committed)),
-        None => {
-            let names = names_at_hand(alloc, first, given)?;
-            turn_with_some_of(alloc, schema, view, tx, names)
-        }
-    }
+    let names = names_at_hand(alloc, first, given)?;
+    turn_with_some_of(alloc, schema, view, tx, names)
 }
