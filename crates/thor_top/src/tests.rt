@@ -372,6 +372,12 @@ fn upgrades_are_checked_in_order(rt: HostRuntime) -> Result<(), Fail> {
             "tx { print a.get(); }\nclient 2 upgrade { class P { } }",
             "ok\n",
         ),
+        // One client alone has upgrades.
+        (
+            "check",
+            "upgrade { class P { } }\nclient 2 upgrade { class P { } }",
+            "script 6 Syntax\n",
+        ),
         // The rules T of transactions and events come first, on the schema of the setup.
         (
             "check",
