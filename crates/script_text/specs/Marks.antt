@@ -38,7 +38,7 @@ mark_of token = mark_by token.kind token.text
 abbrev pub max_number : ℕ
 max_number = 9223372036854775807
 
--- the number that the text of such a token is: a number alone is one
+-- the number that a text of the kind is; names, keywords and symbols are none
 abbrev pub number_by : TokenKind → List ℕ → Option ℕ
 number_by Number text = digits_value max_number text
 number_by Name text = None
