@@ -12,9 +12,10 @@ use Rattle.class_defs.specs.declared.expressions.TypeName.{TypeName}
 use Rattle.class_defs.specs.declared.expressions.TypeName.TheVariants as types
 use Rattle.class_defs.specs.Words.{Word, Fixed, FixedAt, Numbered, name_word}
 use Rattle.class_defs.specs.Spelling as spelling
+use Rattle.script_text.specs.Marks.{number_in}
 use Rattle.method_parse.specs.declared.deep.Level.{Level}
 use Rattle.method_parse.specs.declared.deep.Level.TheVariants as levels
-use Rattle.method_parse.specs.Matching.{IsWord, AreWords, is, is_name_kind, is_fixed_kind, number_in}
+use Rattle.method_parse.specs.Matching.{IsWord, AreWords, is, is_name_kind, is_fixed_kind}
 use Rattle.method_parse.specs.Reader.{Reader, ◌>>=◌, onward, give, take_by, word, name, name_in, number, with_line, type_word, type_in, next}
 use Rattle.method_parse.specs.Expressions.{operator_of, operator_by, operator_in}
 
@@ -94,7 +95,7 @@ module _ {B : Type 0} (rest : List Token) (result : Result (B × List Token) ℕ
   name_then n ws [] next h goes = absurd h
   name_then n ws (t ∷ us) next h goes = after_taken name_in n t (us ++ rest) next (name_says n t h.0) (goes us h.1)
 
-  number_says : (n line : ℕ) (t : Token) (o : Option ℕ) → number_in t.kind t.text ≡ o → option_map pos o ≡ Some (pos n) → t.line ≡ line → with_line o t.line ≡ Some (n, line)
+  number_says : (n line : ℕ) (t : Token) (o : Option ℕ) → number_in t ≡ o → option_map pos o ≡ Some (pos n) → t.line ≡ line → with_line o t.line ≡ Some (n, line)
   number_says n line t (Some v) e h l = let same : (v, t.line) ≡ (n, line) = cc in ap (λ (p : ℕ × ℕ). Some p) same
   number_says n line t None e h l = absurd cc
 
@@ -103,7 +104,7 @@ module _ {B : Type 0} (rest : List Token) (result : Result (B × List Token) ℕ
   unfolding number
   number_then n line ws [] next h goes = absurd h
   number_then n line ws (t ∷ us) next h goes =
-      after_taken (λ t. with_line (number_in t.kind t.text) t.line) (n, line) t (us ++ rest) next (number_says n line t (number_in t.kind t.text) refl h.0.0 h.0.1) (goes us h.1)
+      after_taken (λ t. with_line (number_in t) t.line) (n, line) t (us ++ rest) next (number_says n line t (number_in t) refl h.0.0 h.0.1) (goes us h.1)
 
   name_is_no_word : (k : TokenKind) (a : Bool) → is_name_kind k ≡ true → (is_fixed_kind k && a) ≡ false
   name_is_no_word kinds.Name a e = refl

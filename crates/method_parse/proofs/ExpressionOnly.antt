@@ -16,12 +16,13 @@ use Rattle.class_defs.specs.declared.places.Place.{Place}
 use Rattle.class_defs.specs.Words.{Word, Fixed, FixedAt, Numbered, name_word, with_commas}
 use Rattle.class_defs.specs.Spelling.{expr_words, at_words}
 use Rattle.class_defs.specs.Shape.{Shape, shape, deepest, most_nested, all_proper, in_method, level_of}
+use Rattle.script_text.specs.Marks.{number_by, number_in}
 use Rattle.method_parse.specs.declared.deep.Deep.{Deep}
 use Rattle.method_parse.specs.declared.deep.Level.{Level}
 use Rattle.method_parse.specs.declared.deep.Room.{Room}
 use Rattle.method_parse.specs.declared.deep.Start.{Start}
 use Rattle.method_parse.specs.declared.deep.Start.TheVariants as starts
-use Rattle.method_parse.specs.Matching.{IsWord, AreWords, is, is_fixed_kind, is_name_kind, number_in}
+use Rattle.method_parse.specs.Matching.{IsWord, AreWords, is, is_fixed_kind, is_name_kind}
 use Rattle.method_parse.specs.Reader.{Reader, ◌>>=◌, onward, give, word, name, number, next, repeat}
 use Rattle.method_parse.specs.Expressions.{at, arguments, call, leaf, may_call, is_field_call, after_field, after_this, created, parens, fixed_start, start_by, start, primary_by, primary, called, is_call, calls, postfix, Parts}
 use Rattle.method_parse.proofs.Matched.{both_true}
@@ -56,7 +57,7 @@ name_starts place room kinds.Number text f = absurd cc
 name_starts place room kinds.Keyword text f = absurd cc
 name_starts place room kinds.Symbol text f = absurd cc
 
-number_starts : (place : Place) (room : Room) (k : TokenKind) (text : List ℕ) (v : ℤ) → option_map pos (number_in k text) ≡ Some v → start_by place room k text ≡ starts.Number
+number_starts : (place : Place) (room : Room) (k : TokenKind) (text : List ℕ) (v : ℤ) → option_map pos (number_by k text) ≡ Some v → start_by place room k text ≡ starts.Number
 number_starts place room kinds.Name text v f = absurd cc
 number_starts place room kinds.Number text v f = refl
 number_starts place room kinds.Keyword text v f = absurd cc
@@ -124,7 +125,7 @@ module _ (place : Place) (room : Room) (below : ℕ) (deeper : room.depth ≡ be
   int_reads v l ts rest h fit calm dot =
       let k : AreWords ts (Numbered v l ∷ []) = subst (λ (w : List Word). AreWords ts w) (eq.words-Int v l) h in
       let f = first ts (Numbered v l) [] k in
-      int_by v l (number_in f.token.kind f.token.text) ts rest f.is.0 k
+      int_by v l (number_in f.token) ts rest f.is.0 k
 
   null_reads : (l : ℕ) → Primary (Expr-F.Null l) (e.Null l)
   unfolding primary_by

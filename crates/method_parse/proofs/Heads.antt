@@ -12,7 +12,8 @@ use Rattle.class_defs.specs.declared.places.Place.{Place}
 use Rattle.class_defs.specs.Words.{Word}
 use Rattle.class_defs.specs.Spelling.{expr_step, expr_words}
 use Rattle.class_defs.specs.Shape.{Shape, shape_step, shape}
-use Rattle.method_parse.specs.Matching.{IsWord, AreWords, is, is_name_kind, is_fixed_kind, number_in}
+use Rattle.script_text.specs.Marks.{number_by}
+use Rattle.method_parse.specs.Matching.{IsWord, AreWords, is, is_name_kind, is_fixed_kind}
 use Rattle.method_parse.proofs.Eats.{is_not, split, first}
 
 -- the words and the shape of one level
@@ -80,7 +81,7 @@ name_plain kinds.Number e = absurd cc
 name_plain kinds.Keyword e = absurd cc
 name_plain kinds.Symbol e = absurd cc
 
-number_plain : (k : TokenKind) (text : List ℕ) (v : ℤ) → option_map pos (number_in k text) ≡ Some v → is_fixed_kind k ≡ false
+number_plain : (k : TokenKind) (text : List ℕ) (v : ℤ) → option_map pos (number_by k text) ≡ Some v → is_fixed_kind k ≡ false
 number_plain kinds.Name text v e = refl
 number_plain kinds.Number text v e = refl
 number_plain kinds.Keyword text v e = absurd cc

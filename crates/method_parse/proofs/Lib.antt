@@ -7,7 +7,6 @@ pub mod Fits
 pub mod ExpressionLaws
 pub mod StatementLaws
 pub mod SetupLaws
-pub mod LastLine
 pub mod Ends
 pub mod Eats
 pub mod Heads

@@ -11,7 +11,8 @@ use Rattle.class_defs.specs.declared.expressions.TypeName.{TypeName}
 use Rattle.class_defs.specs.declared.expressions.TypeName.TheVariants as types
 use Rattle.class_defs.specs.Words.{Word, Fixed, FixedAt, Numbered, name_word}
 use Rattle.class_defs.specs.Spelling as spelling
-use Rattle.method_parse.specs.Matching.{AreWords, is, is_name_kind, is_fixed_kind, number_in}
+use Rattle.script_text.specs.Marks.{number_in}
+use Rattle.method_parse.specs.Matching.{AreWords, is, is_name_kind, is_fixed_kind}
 use Rattle.method_parse.specs.Reader.{taken, take_by, word, name, name_in, number, with_line, type_word, type_in}
 use Rattle.method_parse.proofs.Lawful.{Says, Reads, Some_text, Lawful}
 
@@ -84,7 +85,7 @@ lawful_name = lawful_one SaysName name_in
     subst (λ (m : Name). SaysName m (t ∷ [])) w.1 ((w.0, refl, refl), tt))
     (record { value = record { text = []; line = 1 }; text = token_of kinds.Name [] ∷ []; said = ((refl, refl, refl), tt) })
 
-numbered : (t : Token) (o : Option ℕ) (n : ℕ × ℕ) → number_in t.kind t.text ≡ o → with_line o t.line ≡ Some n → SaysNumber n (t ∷ [])
+numbered : (t : Token) (o : Option ℕ) (n : ℕ × ℕ) → number_in t ≡ o → with_line o t.line ≡ Some n → SaysNumber n (t ∷ [])
 numbered t (Some v) n e h =
     let p : (v, t.line) ≡ n = cc in
     subst (λ (m : ℕ × ℕ). SaysNumber m (t ∷ [])) p ((ap (option_map pos) e, refl), tt)
@@ -92,8 +93,8 @@ numbered t None n e h = absurd cc
 
 pub lawful_number : Lawful SaysNumber number
 unfolding number
-lawful_number = lawful_one SaysNumber (λ t. with_line (number_in t.kind t.text) t.line)
-    (λ t n e. numbered t (number_in t.kind t.text) n refl e)
+lawful_number = lawful_one SaysNumber (λ t. with_line (number_in t) t.line)
+    (λ t n e. numbered t (number_in t) n refl e)
     (record { value = (0, 1); text = token_of kinds.Number [] ∷ []; said = ((refl, refl), tt) })
 
 typed : (t : Token) (b : Bool) (ty : TypeName) → is (codes "int") t ≡ b → cond b (Some (types.Int t.line)) (cond (is_name_kind t.kind) (Some (types.Class (record { text = t.text; line = t.line }))) None) ≡ Some ty → SaysType ty (t ∷ [])

@@ -15,11 +15,12 @@ use Rattle.class_defs.specs.declared.places.Place.{Place}
 use Rattle.class_defs.specs.Words.{Word, Fixed, FixedAt, symbol_of}
 use Rattle.class_defs.specs.Spelling.{expr_words}
 use Rattle.class_defs.specs.Shape.{Shape, shape, level_of, left_level, right_level}
+use Rattle.script_text.specs.Marks.{number_by}
 use Rattle.method_parse.specs.declared.deep.Deep.{Deep}
 use Rattle.method_parse.specs.declared.deep.Level.{Level}
 use Rattle.method_parse.specs.declared.deep.Level.TheVariants as levels
 use Rattle.method_parse.specs.declared.deep.Room.{Room}
-use Rattle.method_parse.specs.Matching.{IsWord, AreWords, is, is_fixed_kind, is_name_kind, number_in}
+use Rattle.method_parse.specs.Matching.{IsWord, AreWords, is, is_fixed_kind, is_name_kind}
 use Rattle.method_parse.specs.Reader.{Reader, ◌>>=◌, onward, give, next, repeat}
 use Rattle.method_parse.specs.Expressions.{Parts, is_minus, unary, operator_of, operator_by, operator_in, with_operator_line, operator, tighter, joined, is_join, most_joins, joins, at_level, expression_in}
 use Rattle.method_parse.proofs.Matched.{both_true}
@@ -110,7 +111,7 @@ name_plain kinds.Number e = absurd cc
 name_plain kinds.Keyword e = absurd cc
 name_plain kinds.Symbol e = absurd cc
 
-pub number_plain : (k : TokenKind) (text : List ℕ) (v : ℤ) → option_map pos (number_in k text) ≡ Some v → is_fixed_kind k ≡ false
+pub number_plain : (k : TokenKind) (text : List ℕ) (v : ℤ) → option_map pos (number_by k text) ≡ Some v → is_fixed_kind k ≡ false
 number_plain kinds.Name text v e = refl
 number_plain kinds.Number text v e = refl
 number_plain kinds.Keyword text v e = absurd cc

@@ -13,7 +13,9 @@ use Rattle.std.proofs.lemmas.Str.{digit_value_digit}
 use Rattle.std.proofs.lemmas.Str.Parse.{digit_from_value, numerals_by_value, tells_digits, IsNumeralModel}
 use Rattle.script_text.specs.Grammar.{is_number, IsToken}
 use Rattle.script_text.specs.declared.token.TokenKind.TheVariants.{Number}
-use Rattle.method_parse.specs.Matching.{max_number, with_digit, number_of}
+use Rattle.script_text.specs.Marks.{max_number}
+use Rattle.script_text.specs.Numbers.{with_digit}
+use Rattle.script_text.specs.Numbers as numbers
 
 numerals : IsNumeralModel (AllDigits 10) (digits_value 10)
 numerals = numerals_by_value (AllDigits 10) tells_digits
@@ -46,7 +48,7 @@ grows [] a = omega arith
 grows (d ∷ ds) a = omega (arith, grows ds (a * 10 + digit_value d))
 
 reads_as : (ds : List ℕ) (a : ℕ) → AllDigits 10 ds → digits_value_after 10 a ds ≤ max_number
-    → fold with_digit (Some a) ds ≡ Some (digits_value_after 10 a ds)
+    → fold (with_digit max_number) (Some a) ds ≡ Some (digits_value_after 10 a ds)
 reads_as [] a all small = refl
 reads_as (d ∷ ds) a all small =
     let within : IsInRange 48 57 d = digit_from_value d all.0 in
@@ -54,11 +56,11 @@ reads_as (d ∷ ds) a all small =
     let next : a * 10 + digit_value d ≤ max_number = omega (arith, grows ds (a * 10 + digit_value d), small) in
     let passes : (is_ascii_digit d && nat_le (a * 10 + (d - 48)) max_number) ≡ true =
     and_from (is_ascii_digit d) _ (digit_is d all.0) (le-leb (a * 10 + (d - 48)) max_number (omega (arith, is, next))) in
-    let one : with_digit (Some a) d ≡ Some (a * 10 + digit_value d) =
+    let one : with_digit max_number (Some a) d ≡ Some (a * 10 + digit_value d) =
     cond-true _ _ _ passes ∙ ap (λ (v : ℕ). Some (a * 10 + v)) is in
-    ap (λ (r : Option ℕ). fold with_digit r ds) one ∙ reads_as ds (a * 10 + digit_value d) all.1 small
+    ap (λ (r : Option ℕ). fold (with_digit max_number) r ds) one ∙ reads_as ds (a * 10 + digit_value d) all.1 small
 
-pub decimal_number : (n : ℕ) → n ≤ max_number → number_of (decimal n) ≡ Some n
+pub decimal_number : (n : ℕ) → n ≤ max_number → numbers.digits_value max_number (decimal n) ≡ Some n
 decimal_number n small =
     let h : n < 2 ^ 64 = omega (arith, small) in
     let value : digits_value 10 (decimal n) ≡ n = digits_value-decimal numerals n h in
@@ -68,16 +70,16 @@ abbrev Small : Option ℕ → Type 0
 Small None = Unit {0}
 Small (Some n) = n ≤ max_number
 
-one_small : (r : Option ℕ) (d : ℕ) → Small (with_digit r d)
+one_small : (r : Option ℕ) (d : ℕ) → Small (with_digit max_number r d)
 one_small None d = tt
 one_small (Some a) d =
     cond_both (is_ascii_digit d && nat_le (a * 10 + (d - 48)) max_number) _ _ Small
     (λ e. leb-true (a * 10 + (d - 48)) max_number (and_parts (is_ascii_digit d) _ e).1)
     (λ e. tt)
 
-all_small : (ds : List ℕ) (r : Option ℕ) → Small r → Small (fold with_digit r ds)
+all_small : (ds : List ℕ) (r : Option ℕ) → Small r → Small (fold (with_digit max_number) r ds)
 all_small [] r s = s
-all_small (d ∷ ds) r s = all_small ds (with_digit r d) (one_small r d)
+all_small (d ∷ ds) r s = all_small ds (with_digit max_number r d) (one_small r d)
 
-pub number_small : (ds : List ℕ) (n : ℕ) → number_of ds ≡ Some n → n ≤ max_number
+pub number_small : (ds : List ℕ) (n : ℕ) → numbers.digits_value max_number ds ≡ Some n → n ≤ max_number
 number_small ds n e = subst Small e (all_small ds (Some 0) (omega arith))

@@ -10,7 +10,8 @@ use Rattle.script_text.specs.Laws.{AreSpelled}
 use Rattle.script_text.specs.Grammar.{IsToken, Part, Separator, Lexeme, bytes_of, EndsBefore, AreParts, tokens_in, AreTokensOf}
 use Rattle.class_defs.specs.Words.{Word, Fixed, FixedAt, Named, Numbered}
 use Rattle.class_defs.specs.Printed.{word_text, spaced_words, with_spaces}
-use Rattle.method_parse.specs.Matching.{AreWords, IsWord, number_in}
+use Rattle.script_text.specs.Marks.{number_by}
+use Rattle.method_parse.specs.Matching.{AreWords, IsWord}
 use Rattle.method_parse.proofs.PrintedNumbers.{decimal_token, decimal_number, number_small}
 use Rattle.method_parse.proofs.PrintedWords.{OnOneLine, line_both, line_cons, line_take, token_line, ends_before_space, ends_at_end}
 
@@ -32,7 +33,7 @@ pub record IsPrinted (kind : TokenKind) (word : Word) : Type 0 where
 
 -- a number that a token is
 number_printed : (kind : TokenKind) (text : List ℕ) (o : Option ℕ) (value : ℤ) (line : ℕ)
-    → number_in kind text ≡ o → option_map pos o ≡ Some value
+    → number_by kind text ≡ o → option_map pos o ≡ Some value
     → IsPrinted kind (Numbered value line)
 number_printed kind text None value line e h = absurd cc
 number_printed kinds.Name text (Some n) value line e h = absurd cc

@@ -5,9 +5,10 @@ use Rattle.class_defs.specs.declared.expressions.Name.{Name}
 use Rattle.class_defs.specs.declared.expressions.TypeName.{TypeName}
 use Rattle.class_defs.specs.declared.expressions.TypeName.TheVariants as type_name
 use Rattle.script_text.specs.declared.token.Token.{Token}
+use Rattle.script_text.specs.Marks.{number_in}
 use Rattle.method_parse.specs.declared.error.ParseError.{ParseError}
 use Rattle.method_parse.specs.declared.error.ParseError.TheVariants as errors
-use Rattle.method_parse.specs.Matching.{number_in, is_name_kind, is}
+use Rattle.method_parse.specs.Matching.{is_name_kind, is}
 use Rattle.std.specs.Prelude.{codes}
 
 abbrev pub Reader : Type 0 → Type 0
@@ -55,7 +56,7 @@ with_line None line = None
 
 -- a number, with its line
 unfoldable pub number : Reader (ℕ × ℕ)
-number = take_by (λ token. with_line (number_in token.kind token.text) token.line)
+number = take_by (λ token. with_line (number_in token) token.line)
 
 abbrev pub type_in : Token → Option TypeName
 type_in token =

@@ -6,6 +6,7 @@ use Rattle.class_defs.specs.declared.places.Place.TheVariants.{Item}
 use Rattle.class_defs.specs.Spelling.{block_words, setup_words}
 use Rattle.class_defs.specs.Grammar.{IsBlock, IsSetup}
 use Rattle.script_text.specs.declared.token.Token.{Token}
+use Rattle.script_text.specs.Sections.{last_line}
 use Rattle.script_text.specs.declared.syntax.SyntaxError.{SyntaxError}
 use Rattle.script_text.specs.declared.syntax.SyntaxError.TheVariants.{Fault, NoMemory}
 use Rattle.method_parse.specs.declared.error.ParseError.{ParseError}
@@ -23,12 +24,6 @@ SpellsSetup tokens setup = AreWords tokens (setup_words setup) × IsSetup setup
 -- some text of the grammar begins so
 abbrev pub Begins : {X : Type 0} → (List Token → X → Type 0) → List Token → Type 0
 Begins {X = X} Spells tokens = (more : List Token) × (tree : X) × Spells (tokens ++ more) tree
-
--- the line of the last token, or 1
-abbrev pub last_line : List Token → ℕ
-last_line [] = 1
-last_line (token ∷ []) = token.line
-last_line (token ∷ other ∷ tokens) = last_line (other ∷ tokens)
 
 -- the first token that can't go on: those before it begin some text, and with it they begin none
 pub record IsFirstFault {X : Type 0} (Spells : List Token → X → Type 0) (tokens : List Token) (line : ℕ) : Type 0 where

@@ -1,16 +1,13 @@
 //! One token from the front.
 
-ghost use Rattle.std.specs.Prelude.{◌≡◌, ◌≤◌, IfSome, IfOk};
-ghost use Rattle.method_parse.specs.Matching.{is, is_name_kind, with_digit, number_of, number_in};
+ghost use Rattle.std.specs.Prelude.{◌≡◌, ◌≤◌, IfOk};
+ghost use Rattle.method_parse.specs.Matching.{is, is_name_kind};
 ghost use Rattle.method_parse.specs.Reader.{Gives, next, word, name, number, type_word};
 
 use crate::error::ParseError;
 use class_defs::{Name, TypeName};
 use script_text::{Token, TokenKind};
 use thor_value::TryCopy;
-
-/// The greatest number.
-const GREATEST: u64 = 9223372036854775807;
 
 /// Whether a token is this keyword or symbol.
 pub fn is(token: &Token, text: &[u8]) -> bool
@@ -71,42 +68,6 @@ pub fn name(tokens: &[Token]) -> Result<(Name, &[Token]), ParseError>
     }
 }
 
-/// A number with one more digit, unless it is past the greatest.
-fn with_digit(value: Option<u64>, digit: u8) -> Option<u64>
-    ensures value { result ≡ with_digit value digit }
-    ensures small { IfSome result (λ n. n ≤ 9223372036854775807) }
-{
-    let value = value?;
-    if !digit.is_ascii_digit() || GREATEST / 10 < value {
-        return None;
-    }
-    let grown = value * 10 + u64::from(digit - b'0');
-    if GREATEST < grown { None } else { Some(grown) }
-}
-
-/// The number that digits write.
-fn number_of(digits: &[u8]) -> Option<u64>
-    ensures value { result ≡ number_of digits.now }
-    ensures small { IfSome result (λ n. n ≤ 9223372036854775807) }
-{
-    let mut value = Some(0);
-    for digit in digits {
-        value = with_digit(value, *digit);
-    }
-    value
-}
-
-/// The number that a token is.
-fn number_in(token: &Token) -> Option<u64>
-    ensures value { result ≡ number_in token.now.kind token.now.text }
-    ensures small { IfSome result (λ n. n ≤ 9223372036854775807) }
-{
-    match token.kind {
-        TokenKind::Number => number_of(token.text.as_slice()),
-        _ => None,
-    }
-}
-
 /// Takes a number, and gives its line too.
 #[tactic(auto, unfolding(crate::specs::Reader::number))]
 pub fn number(tokens: &[Token]) -> Result<((u64, u32), &[Token]), ParseError>
@@ -115,7 +76,7 @@ pub fn number(tokens: &[Token]) -> Result<((u64, u32), &[Token]), ParseError>
 {
     match tokens.split_first() {
         None => Err(ParseError::Stuck(0)),
-        Some((token, rest)) => match number_in(token) {
+        Some((token, rest)) => match script_text::number(token) {
             Some(value) => Ok(((value, token.line), rest)),
             None => Err(ParseError::Stuck(tokens.len())),
         },

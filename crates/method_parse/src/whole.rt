@@ -3,24 +3,14 @@
 ghost use Rattle.std.specs.Prelude.{◌≡◌};
 ghost use Rattle.method_parse.specs.Reader.{Gives};
 ghost use Rattle.method_parse.specs.Setups.{block_of, setup_of};
-ghost use Rattle.method_parse.specs.Texts.{last_line, fault_line, IsErrorFor, Answers};
+ghost use Rattle.method_parse.specs.Texts.{fault_line, IsErrorFor, Answers};
 
 use crate::error::ParseError;
 use crate::setups::{MAX_NESTING, setup};
 use crate::statements::block_in;
 use class_defs::{Block, Declarations, Place};
-use script_text::{Syntax, SyntaxError, Token};
+use script_text::{Syntax, SyntaxError, Token, last_line};
 use std::alloc::Global;
-
-/// The line of the last token, or 1.
-fn last_line(tokens: &[Token]) -> u32
-    ensures { result ≡ last_line tokens.now }
-{
-    match tokens.last() {
-        None => 1,
-        Some(token) => token.line,
-    }
-}
 
 /// The line of a fault with so many tokens left.
 fn fault_line(tokens: &[Token], left: usize) -> u32

@@ -5,10 +5,11 @@ use Rattle.std.proofs.lemmas.List.Sums.{fold-append}
 use Rattle.script_text.specs.declared.token.Token.{Token}
 use Rattle.script_text.specs.declared.token.TokenKind.TheVariants as kinds
 use Rattle.script_text.specs.declared.syntax.Syntax.{Syntax}
+use Rattle.script_text.specs.Sections.{last_line}
 use Rattle.schedule.specs.declared.events.Event.{Event}
 use Rattle.schedule.specs.declared.reader.Reader.{Reader}
 use Rattle.schedule.specs.declared.reader.Reader.TheVariants.{Ready, Named, Dotted, Stopped}
-use Rattle.schedule.specs.Schedule.{Mark, IsName, IsPoint, IsNumber, IsOther, mark_of, alone_event, pair_event, ready_step, named_step, dotted_step, step, at_end, last_line, read, events_of}
+use Rattle.schedule.specs.Schedule.{Mark, IsName, IsPoint, IsNumber, IsOther, mark_of, alone_event, pair_event, ready_step, named_step, dotted_step, step, at_end, read, events_of}
 use Rattle.schedule.specs.Written.{AreEventsOf, Begin, StopAt, EndShort, IsFirstFault}
 use Rattle.schedule.proofs.Schedules.{events_read, read_holds, events_held}
 

@@ -6,10 +6,11 @@ use Rattle.std.proofs.lemmas.Grind.{flat_map-append}
 use Rattle.std.proofs.lemmas.List.{map-append}
 use Rattle.script_text.specs.declared.token.Token.{Token}
 use Rattle.script_text.specs.declared.syntax.Syntax.{Syntax}
+use Rattle.script_text.specs.Sections.{last_line}
 use Rattle.schedule.specs.declared.events.Event.{Event}
 use Rattle.schedule.specs.declared.reader.Reader.{Reader}
 use Rattle.schedule.specs.declared.reader.Reader.TheVariants.{Ready, Named, Dotted, Stopped}
-use Rattle.schedule.specs.Schedule.{Mark, IsName, IsPoint, IsNumber, IsOther, mark_of, alone_event, pair_event, ready_step, named_step, dotted_step, step, at_end, last_line, read, events_of}
+use Rattle.schedule.specs.Schedule.{Mark, IsName, IsPoint, IsNumber, IsOther, mark_of, alone_event, pair_event, ready_step, named_step, dotted_step, step, at_end, read, events_of}
 use Rattle.schedule.specs.Written.{Written, Alone, Pair, tokens_in, event_in, IsWritten, AreEventsOf}
 
 -- An event may begin next, and the tokens may end; these are the events so far.

@@ -8,6 +8,7 @@ use Rattle.script_text.specs.declared.token.Token.{Token}
 use Rattle.script_text.specs.declared.token.TokenKind.{TokenKind}
 use Rattle.script_text.specs.declared.token.TokenKind.TheVariants as kinds
 use Rattle.script_text.specs.declared.syntax.Syntax.{Syntax}
+use Rattle.script_text.specs.Sections.{last_line}
 use Rattle.schedule.specs.declared.events.Event.{Event}
 use Rattle.schedule.specs.declared.reader.Reader.{Reader}
 use Rattle.schedule.specs.declared.reader.Reader.TheVariants.{Ready, Named, Dotted, Stopped}
@@ -71,10 +72,6 @@ at_end (Ready events) line = Ok events
 at_end (Named events named name) line = Ok (events ++ alone_event named name ∷ [])
 at_end (Dotted events named name) line = Err (record { line = line })
 at_end (Stopped fault) line = Err fault
-
--- the line of the last token, or 1
-abbrev pub last_line : List Token → ℕ
-last_line tokens = fold (λ line token. token.line) 1 tokens
 
 unfoldable pub read : List Token → Reader
 read tokens = fold step (Ready []) tokens

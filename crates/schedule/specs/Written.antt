@@ -6,10 +6,11 @@ use Rattle.std.specs.Prelude.{◌≡◌, ◌⊎◌, List, [], ◌∷◌, ◌++�
 use Rattle.std.specs.List.{AllByRecursion, flat_map}
 use Rattle.script_text.specs.declared.token.Token.{Token}
 use Rattle.script_text.specs.declared.syntax.Syntax.{Syntax}
+use Rattle.script_text.specs.Sections.{last_line}
 use Rattle.script_text.specs.declared.syntax.SyntaxError.{SyntaxError}
 use Rattle.script_text.specs.declared.syntax.SyntaxError.TheVariants.{Fault, NoMemory}
 use Rattle.schedule.specs.declared.events.Event.{Event}
-use Rattle.schedule.specs.Schedule.{IsName, IsPoint, IsNumber, mark_of, alone_event, pair_event, last_line}
+use Rattle.schedule.specs.Schedule.{IsName, IsPoint, IsNumber, mark_of, alone_event, pair_event}
 
 -- an event is a name, or a name, a point and a number
 pub data Written : Type 0 where

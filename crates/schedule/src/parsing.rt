@@ -5,12 +5,12 @@ ghost use Rattle.script_text.specs.Reading.{Gives};
 ghost use Rattle.script_text.specs.declared.syntax.Syntax.{Syntax};
 ghost use Rattle.schedule.specs.declared.events.Event.{Event};
 ghost use Rattle.schedule.specs.Written.{AreEventsOf, IsFirstFault, IsFaultIn};
-ghost use Rattle.schedule.specs.Schedule.{read, last_line, at_end, events_of};
+ghost use Rattle.schedule.specs.Schedule.{read, at_end, events_of};
 
 use crate::events::Events;
 use crate::reader::Reader;
 use crate::steps::{step, with_alone};
-use script_text::{Syntax, SyntaxError, Token, Tokens};
+use script_text::{Syntax, SyntaxError, Token, Tokens, last_line};
 use std::alloc::Global;
 use thor_value::NoMemory;
 
@@ -26,17 +26,6 @@ fn read(alloc: Global, tokens: &[Token]) -> Result<Reader, NoMemory>
         reader = step(reader, token)?;
     }
     Ok(reader)
-}
-
-/// The line of the last token, or 1.
-fn last_line(tokens: &[Token]) -> u32
-    ensures { result ≡ last_line tokens.now }
-{
-    let mut line = 1;
-    for token in tokens {
-        line = token.line;
-    }
-    line
 }
 
 /// What was read when the tokens end, on a line.

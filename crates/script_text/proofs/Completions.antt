@@ -11,7 +11,8 @@ use Rattle.script_text.specs.declared.reader.Found.{Found}
 use Rattle.script_text.specs.declared.reader.Current.{Current}
 use Rattle.script_text.specs.declared.reader.Reader.{Reader}
 use Rattle.script_text.specs.declared.reader.Reader.TheVariants.{Start, Setup, Number, Client, Word, Item, Schedule, Stopped}
-use Rattle.script_text.specs.Marks.{mark_of, number_in, number_of, with_digit, max_number}
+use Rattle.script_text.specs.Marks.{mark_of, max_number}
+use Rattle.script_text.specs.Numbers.{with_digit, digits_value}
 use Rattle.script_text.specs.Sections.{new_client, stop, number_step, step, fault_at_end}
 
 -- a token with a text
@@ -66,7 +67,7 @@ digits_of (suc n) =
 -- digits that write a number
 record Writes (n : ℕ) : Type 0 where
   digits : List ℕ
-  is : number_of digits ≡ Some n
+  is : digits_value max_number digits ≡ Some n
 
 is_digit_byte : (r : ℕ) → r < 10 → is_ascii_digit (r + 48) ≡ true
 is_digit_byte r small = grind arith
@@ -81,15 +82,15 @@ written (suc fuel) (suc n) within fits =
     let value : d.tens * 10 + (d.ones + 48 - 48) ≡ suc n = omega (arith, d.value) in
     record {
       digits = before.digits ++ (d.ones + 48) ∷ [];
-      is = fold-append with_digit (Some 0) before.digits ((d.ones + 48) ∷ [])
-          ∙ ap (λ o. with_digit o (d.ones + 48)) before.is
+      is = fold-append (with_digit max_number) (Some 0) before.digits ((d.ones + 48) ∷ [])
+          ∙ ap (λ o. with_digit max_number o (d.ones + 48)) before.is
           ∙ ap (λ v. cond (is_ascii_digit (d.ones + 48) && nat_le v max_number) (Some v) None) value
           ∙ ap (λ b. cond (b && nat_le (suc n) max_number) (Some (suc n)) None) (is_digit_byte d.ones d.small)
           ∙ ap (λ b. cond b (Some (suc n)) None) (le-leb (suc n) max_number fits);
     }
 
 number_completes : (f : Found) → length f.clients + 1 ≤ max_number → Completes (Number f)
-unfolding step number_in
+unfolding step
 number_completes f fits =
     let n : ℕ = length f.clients + 1 in
     let w = written n n (omega arith) fits in

@@ -7,6 +7,7 @@ pub mod Rest
 pub mod Laws
 pub mod Rows
 pub mod Grammar
+pub mod Numbers
 pub mod Marks
 pub mod Sections
 pub mod Script

@@ -5,6 +5,7 @@ mod front;
 mod lengths;
 mod mark;
 mod marking;
+mod numbers;
 mod piece;
 mod place;
 mod reader;
@@ -16,9 +17,11 @@ mod syntax;
 mod token;
 mod words;
 
+pub use marking::number;
+pub use numbers::digits_value;
 pub use scanning::scan;
 pub use sections::{ClientParts, ItemParts, Sections, Split};
-pub use splitting::split_sections;
+pub use splitting::{last_line, split_sections};
 pub use syntax::{Syntax, SyntaxError};
 pub use token::{Token, TokenKind, Tokens};
 

@@ -1,12 +1,13 @@
 //! What single tokens are for the parts of a script.
 
 ghost use Rattle.std.specs.Prelude.{◌≡◌, ◌≤◌, IfSome};
-ghost use Rattle.script_text.specs.Marks.{keyword_mark, symbol_mark, mark_of, with_digit, number_of, number_in};
+ghost use Rattle.script_text.specs.Marks.{keyword_mark, symbol_mark, mark_of, number_in};
 
 use crate::mark::Mark;
+use crate::numbers::digits_value;
 use crate::token::{Token, TokenKind};
 
-/// The greatest number.
+/// The greatest number of a token.
 const GREATEST: u64 = 9223372036854775807;
 
 fn keyword_mark(text: &[u8]) -> Mark
@@ -53,39 +54,13 @@ pub fn mark(token: &Token) -> Mark
     }
 }
 
-/// A number with one more digit, unless it is past the greatest.
-fn with_digit(value: Option<u64>, digit: u8) -> Option<u64>
-    ensures value { result ≡ with_digit value digit }
-    ensures small { IfSome result (λ n. n ≤ 9223372036854775807) }
-{
-    let value = value?;
-    if !digit.is_ascii_digit() || GREATEST / 10 < value {
-        return None;
-    }
-    let grown = value * 10 + u64::from(digit - b'0');
-    if GREATEST < grown { None } else { Some(grown) }
-}
-
-/// The number that digits write.
-fn number_of(digits: &[u8]) -> Option<u64>
-    ensures value { result ≡ number_of digits.now }
-    ensures small { IfSome result (λ n. n ≤ 9223372036854775807) }
-{
-    let mut value = Some(0);
-    for digit in digits {
-        value = with_digit(value, *digit);
-    }
-    value
-}
-
-/// The number that the token is.
-#[tactic(auto, unfolding(crate::specs::Marks::number_in))]
+/// The number that the token is, from 0 to 9223372036854775807; `None` where it is no number.
 pub fn number(token: &Token) -> Option<u64>
     ensures value { result ≡ number_in token.now }
     ensures small { IfSome result (λ n. n ≤ 9223372036854775807) }
 {
     match token.kind {
-        TokenKind::Number => number_of(token.text.as_slice()),
+        TokenKind::Number => digits_value(GREATEST, token.text.as_slice()),
         _ => None,
     }
 }

@@ -26,15 +26,14 @@ fn read(alloc: Global, tokens: &[Token]) -> Result<Reader, NoMemory>
     Ok(reader)
 }
 
-/// The line of the last token, or 1.
-fn last_line(tokens: &[Token]) -> u32
+/// The line of the last token, from 1; 1 where there is none.
+pub fn last_line(tokens: &[Token]) -> u32
     ensures { result ≡ last_line tokens.now }
 {
-    let mut line = 1;
-    for token in tokens {
-        line = token.line;
+    match tokens.last() {
+        None => 1,
+        Some(token) => token.line,
     }
-    line
 }
 
 /// The fault where the tokens end, on a line.

@@ -90,3 +90,20 @@ fn faults_have_their_line(rt: HostRuntime) {
         assert!(rt; scan(rt.alloc(), text).map(|_| ()) == fault, "at {line}");
     }
 }
+
+#[test]
+fn digits_have_their_value(rt: HostRuntime) {
+    let rows: [(u64, &[u8], Option<u64>); 8] = [
+        (9, b"", Some(0)),
+        (9, b"009", Some(9)),
+        (9, b"10", None),
+        (9, b"1a", None),
+        (0, b"1", None),
+        (u64::MAX, b"18446744073709551615", Some(18446744073709551615)),
+        (u64::MAX, b"18446744073709551616", None),
+        (u64::MAX, b"99999999999999999999", None),
+    ];
+    for (greatest, digits, value) in rows {
+        assert_eq!(rt; digits_value(greatest, digits), value);
+    }
+}

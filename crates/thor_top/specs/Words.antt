@@ -1,23 +1,13 @@
 -- The words of the program and what they ask for (this project's).
-use Rattle.std.specs.Prelude.{ℕ, ◌+◌, ◌*◌, ◌-◌, ◌&&◌, nat_le, Option, Some, None, option_map, List, [], ◌∷◌, length, fold, codes, if◌then◌else◌}
-use Rattle.std.specs.Char.{is_ascii_digit}
+use Rattle.std.specs.Prelude.{ℕ, ◌&&◌, nat_le, Option, Some, None, option_map, List, [], ◌∷◌, length, codes, if◌then◌else◌}
 use Rattle.std.specs.Str.{bytes_eq}
+use Rattle.script_text.specs.Numbers.{digits_value}
 use Rattle.thor_top.specs.declared.command.Command.{Command}
 use Rattle.thor_top.specs.declared.command.Command.TheVariants.{Check, Play}
 
--- a number with one more digit, unless it is past the greatest
-abbrev pub with_digit : Option ℕ → ℕ → Option ℕ
-with_digit None digit = None
-with_digit (Some value) digit =
-    if is_ascii_digit digit && nat_le (value * 10 + (digit - 48)) 999999999 then Some (value * 10 + (digit - 48)) else None
-
--- the value of digits
-abbrev pub value_of : List ℕ → Option ℕ
-value_of digits = fold with_digit (Some 0) digits
-
 -- a number is one to nine digits
 abbrev pub number_of : List ℕ → Option ℕ
-number_of word = if nat_le 1 (length word) && nat_le (length word) 9 then value_of word else None
+number_of word = if nat_le 1 (length word) && nat_le (length word) 9 then digits_value 999999999 word else None
 
 abbrev pub within : ℕ → Option ℕ → Option ℕ
 within greatest None = None

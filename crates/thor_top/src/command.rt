@@ -1,6 +1,7 @@
 ghost use Rattle.std.specs.Prelude.{◌≡◌, ◌≤◌, IfSome, codes, option_map};
-ghost use Rattle.thor_top.specs.Words.{command_of, number_of, number_within, value_of, with_digit, with_option};
+ghost use Rattle.thor_top.specs.Words.{command_of, number_of, number_within, with_option};
 
+use script_text::digits_value;
 use thor_value::Text;
 
 /// What the words of the program ask for.
@@ -13,42 +14,16 @@ pub enum Command {
 }
 
 /// The greatest number that a word can be.
-const GREATEST: u32 = 999_999_999;
-
-/// A number with one more digit, unless it is past the greatest.
-fn with_digit(value: Option<u32>, digit: u8) -> Option<u32>
-    ensures { result ≡ with_digit value digit }
-{
-    let value = value?;
-    if !digit.is_ascii_digit() {
-        return None;
-    }
-    let grown = u64::from(value) * 10 + u64::from(digit - b'0');
-    if u64::from(GREATEST) < grown {
-        return None;
-    }
-    Some(grown as u32)
-}
-
-/// The value of digits.
-fn value_of(digits: &[u8]) -> Option<u32>
-    ensures { result ≡ value_of digits.now }
-{
-    let mut value = Some(0);
-    for digit in digits {
-        value = with_digit(value, *digit);
-    }
-    value
-}
+const GREATEST: u64 = 999_999_999;
 
 /// The number that a word of one to nine digits is.
-fn number_of(word: &[u8]) -> Option<u32>
+fn number_of(word: &[u8]) -> Option<u64>
     ensures { result ≡ number_of word.now }
 {
     if word.is_empty() || 9 < word.len() {
         return None;
     }
-    value_of(word)
+    digits_value(GREATEST, word)
 }
 
 /// The number that a word is, where it is from 1 to `greatest`.
@@ -56,7 +31,7 @@ fn number_within(greatest: u8, word: &[u8]) -> Option<u8>
     ensures { result ≡ number_within greatest word.now }
 {
     match number_of(word) {
-        Some(number) if 1 <= number && number <= u32::from(greatest) => Some(number as u8),
+        Some(number) if 1 <= number && number <= u64::from(greatest) => Some(number as u8),
         _ => None,
     }
 }

@@ -13,8 +13,9 @@ use Rattle.class_defs.specs.declared.upgrades.Tf.TheFolds.{fold-roll-Tf}
 use Rattle.class_defs.specs.declared.upgrades.Tf.TheOpen.{Tf-F}
 use Rattle.class_defs.specs.declared.upgrades.Tf.TheVariants as tf
 use Rattle.script_text.specs.declared.token.Token.{Token}
+use Rattle.script_text.specs.Marks.{number_in}
 use Rattle.method_parse.specs.Expressions.{operator, operator_in, tighter}
-use Rattle.method_parse.specs.Matching.{AreWords, is, number_in}
+use Rattle.method_parse.specs.Matching.{AreWords, is}
 use Rattle.method_parse.specs.Reader.{Reader, ◌>>=◌, onward, give, name, next, repeat, word}
 use Rattle.method_parse.specs.declared.deep.Level.{Level}
 use Rattle.method_parse.specs.declared.deep.Level.TheVariants as levels
@@ -129,7 +130,7 @@ int_by v l None ts rest is k = absurd cc
 integer_reads : (v : ℤ) (l : ℕ) (ts rest : List Token) → AreWords ts (Numbered v l ∷ []) → integer (ts ++ rest) ≡ got (leaf (tf.Int v l)) rest
 integer_reads v l ts rest k =
     let f = first ts (Numbered v l) [] k in
-    int_by v l (number_in f.token.kind f.token.text) ts rest f.is.0 k
+    int_by v l (number_in f.token) ts rest f.is.0 k
 
 -- a number is none of these words
 number_fails : (v : ℤ) (l : ℕ) (other : List ℕ) (ts rest : List Token) (ws : List Word) → AreWords ts (Numbered v l ∷ ws)

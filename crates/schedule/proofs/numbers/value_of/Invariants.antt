@@ -1,7 +1,0 @@
-use Rattle.std.proofs.Common.{◌≡◌, take, Some, fold}
-use Rattle.schedule.specs.Numbers.{with_digit}
-use Rattle.schedule.proofs.numbers.value_of.Given as goal
-
--- the value of the digits so far
-abbrev pub invariant-loop-digit : goal.invariant-loop-digit
-invariant-loop-digit l = l.value ≡ fold with_digit (Some 0) (take l.digit-index l.digits)
