@@ -13,6 +13,7 @@ mod playing;
 mod reading;
 mod refusal;
 mod script;
+mod script_laws;
 mod status;
 #[cfg(test)]
 mod tests;
@@ -28,5 +29,6 @@ pub use performed::Performed;
 pub use reading::read_script;
 pub use refusal::Refusal;
 pub use script::{ClientItems, Items, Script};
+pub use script_laws::scripts_are_read_in_one_way;
 pub use status::Status;
 pub use top::{SCRIPT_LIMIT, thor};
