@@ -8,6 +8,8 @@ pub mod DefinedRuns
 pub mod DefinedTurns
 pub mod JudgingLaws
 pub mod NamesLaws
+pub mod OneFault
+pub mod OneScript
 pub mod Performing
 pub mod ReadingParts
 pub mod TopLaws

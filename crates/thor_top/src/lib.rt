@@ -13,6 +13,7 @@ mod playing;
 mod reading;
 mod refusal;
 mod script;
+mod script_laws;
 mod status;
 #[cfg(test)]
 mod tests;
@@ -30,6 +31,7 @@ pub use performed::Performed;
 pub use reading::read_script;
 pub use refusal::Refusal;
 pub use script::{ClientItems, Items, Script};
+pub use script_laws::scripts_are_read_in_one_way;
 pub use status::Status;
 pub use top::{SCRIPT_LIMIT, thor};
 pub use upgrade_laws::upgrades_are_accepted_in_order;
