@@ -1,5 +1,5 @@
 -- Lists of held names: the first that waits is given, and all are taken back.
-use Rattle.std.proofs.Common.{◌≡◌, ◌≤◌, ◌<◌, ◌+◌, Bool, true, false, cond, List, [], ◌∷◌, ◌++◌, map, length, take, drop, ℕ, zero, suc, refl, ap, sym, ◌∙◌, subst, arith, get_or, slice_get, Option, Some, None, append_assoc, IsSomeAnd}
+use Rattle.std.proofs.Common.{◌≡◌, ◌≤◌, ◌<◌, ◌+◌, Bool, true, false, cond, List, [], ◌∷◌, ◌++◌, map, length, take, drop, ℕ, zero, suc, refl, ap, sym, ◌∙◌, arith, get_or, slice_get, Option, Some, None, append_assoc, IsSomeAnd}
 use Rattle.std.proofs.lemmas.Bool.Decides.{nat_tests}
 use Rattle.std.proofs.lemmas.List.Elements.{filter-append}
 use Rattle.std.proofs.lemmas.List.Folds.{find_at}

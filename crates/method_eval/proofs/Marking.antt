@@ -1,17 +1,17 @@
 -- Marks of spent names: which names they tell as spent, and that each held name keeps its mark.
-use Rattle.std.proofs.Common.{◌≡◌, Bool, true, false, cond, List, [], ◌∷◌, ◌++◌, map, length, take, ℕ, zero, suc, refl, ap, sym, ◌∙◌, subst, ◌+◌, ◌<◌, get_or, arith}
+use Rattle.std.proofs.Common.{◌≡◌, Bool, true, false, cond, List, [], ◌∷◌, ◌++◌, map, length, take, ℕ, zero, suc, refl, ap, sym, ◌∙◌, subst, ◌<◌, get_or, arith}
 use Rattle.std.proofs.lemmas.Cmp.{tied_itself}
 use Rattle.std.specs.BTreeMap.{insert_entry, is_at}
 use Rattle.std.specs.List.{AllByRecursion, filter, range_with_len}
 use Rattle.std.specs.List.Sorted.{IsStrictlySortedBy}
 use Rattle.std.specs.Map.{keys_of, lookup}
 use Rattle.std.specs.Ordering.{eq_by_cmp, is_eq}
-use Rattle.std.specs.Prelude.{Option, Some, None, is_some, not, Result, Ok, Err, OnOk, OnErr}
+use Rattle.std.specs.Prelude.{Option, Some, None, is_some, Result, Ok, Err, OnOk, OnErr}
 use Rattle.std.specs.declared.cmp.Ordering.{Ordering}
 use Rattle.std.specs.declared.cmp.Ordering.TheVariants.{Less, Equal, Greater}
 use Rattle.thor_value.proofs.FiniteMap.{IsSorted-insert, get-insert, same_map}
 use Rattle.thor_value.proofs.NameOrders.{oref_exact, oref_total}
-use Rattle.thor_value.specs.FiniteMap.{IsSorted, Map, Set, add, get, has, insert}
+use Rattle.thor_value.specs.FiniteMap.{IsSorted, Map, add, get, has, insert}
 use Rattle.thor_value.specs.Names.{oref_cmp}
 use Rattle.thor_value.specs.declared.names.Oref.{Oref}
 use Rattle.method_eval.specs.Marks.{AreMarked, spent_in}

@@ -1,4 +1,4 @@
-use Rattle.std.proofs.Common.{◌≡◌, ◌∙◌, ◌++◌, ◌∷◌, [], ap, map, not}
+use Rattle.std.proofs.Common.{◌∙◌, ◌++◌, ◌∷◌, [], ap, map, not}
 use Rattle.std.specs.List.{filter}
 use Rattle.thor_value.specs.FiniteMap.{Set, has}
 use Rattle.thor_value.specs.Names.{oref_cmp}

@@ -1,7 +1,6 @@
 use Rattle.std.proofs.Common.{◌≡◌, ◌++◌, map, not}
-use Rattle.std.specs.List.{filter, range_with_len}
+use Rattle.std.specs.List.{filter}
 use Rattle.thor_value.specs.FiniteMap.{has}
-use Rattle.thor_value.specs.declared.names.Oref.{Oref}
 use Rattle.method_eval.specs.Marks.{AreMarked, marks_of, spent_in}
 use Rattle.method_eval.specs.Names.{free}
 use Rattle.method_eval.proofs.Marking.{page_from}

@@ -1,5 +1,4 @@
-use Rattle.std.proofs.Common.{subst}
-use Rattle.method_eval.specs.Marks.{AreMarked, marks_of}
+use Rattle.method_eval.specs.Marks.{marks_of}
 use Rattle.method_eval.proofs.Marking.{marked_some}
 use Rattle.method_eval.proofs.names.Names.drop_repo.Goals as goal
 
