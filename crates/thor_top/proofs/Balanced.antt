@@ -152,14 +152,14 @@ expr_steps (Expr-F.Call receiver method arguments) =
     balanced_both (expr_words receiver.0) (Fixed (codes ".") ∷ name_word method ∷ Fixed (codes "(") ∷ (listed ++ Fixed (codes ")") ∷ [])) receiver.1
     (balanced_both listed (Fixed (codes ")") ∷ []) (balanced_commas (map expr_words (exprs_in arguments)) (each_expr arguments)) (λ d. refl))
 
-abbrev CalmExpr : Expr → Type 0
-CalmExpr x = Balanced (expr_words x)
+abbrev ExprBalanced : Expr → Type 0
+ExprBalanced x = Balanced (expr_words x)
 
-expr_rolls : (y : Expr-F HeldExpr) → CalmExpr (roll-Expr (bare_expr y))
+expr_rolls : (y : Expr-F HeldExpr) → ExprBalanced (roll-Expr (bare_expr y))
 expr_rolls y = subst (λ (w : List Word). Balanced w) (sym (fold-roll-Expr (List Word) expr_step (bare_expr y))) (expr_steps y)
 
-balanced_expr : (x : Expr) → CalmExpr x
-balanced_expr = ind-Expr CalmExpr (λ x y is. subst (λ z. CalmExpr (roll-Expr z)) is (expr_rolls y))
+balanced_expr : (x : Expr) → ExprBalanced x
+balanced_expr = ind-Expr ExprBalanced (λ x y is. subst (λ z. ExprBalanced (roll-Expr z)) is (expr_rolls y))
 
 balanced_ended : (x : Expr) → Balanced (ended x)
 balanced_ended x = balanced_both (expr_words x) (Fixed (codes ";") ∷ []) (balanced_expr x) (λ d. refl)
@@ -170,11 +170,11 @@ balanced_condition x w p =
 
 -- ---- statements
 
-abbrev CalmStmt : Stmt → Type 0
-CalmStmt x = Balanced (stmt_words x)
+abbrev StmtBalanced : Stmt → Type 0
+StmtBalanced x = Balanced (stmt_words x)
 
 abbrev HeldStmt : Type 0
-HeldStmt = (x : Stmt) × CalmStmt x
+HeldStmt = (x : Stmt) × StmtBalanced x
 
 abbrev bare_stmt : Stmt-F HeldStmt → Stmt-F Stmt
 bare_stmt y = map-Stmt HeldStmt Stmt (λ p. p.0) y
@@ -203,11 +203,11 @@ stmt_steps (Stmt-F.While condition body) = balanced_condition condition (braces 
 stmt_steps (Stmt-F.Print value) = balanced_ended value
 stmt_steps (Stmt-F.Evaluate value) = balanced_ended value
 
-stmt_rolls : (y : Stmt-F HeldStmt) → CalmStmt (roll-Stmt (bare_stmt y))
+stmt_rolls : (y : Stmt-F HeldStmt) → StmtBalanced (roll-Stmt (bare_stmt y))
 stmt_rolls y = subst (λ (w : List Word). Balanced w) (sym (fold-roll-Stmt (List Word) stmt_step (bare_stmt y))) (stmt_steps y)
 
-balanced_stmt : (x : Stmt) → CalmStmt x
-balanced_stmt = ind-Stmt CalmStmt (λ x y is. subst (λ z. CalmStmt (roll-Stmt z)) is (stmt_rolls y))
+balanced_stmt : (x : Stmt) → StmtBalanced x
+balanced_stmt = ind-Stmt StmtBalanced (λ x y is. subst (λ z. StmtBalanced (roll-Stmt z)) is (stmt_rolls y))
 
 -- the statements between the braces of a block
 pub balanced_stmts : (block : List Stmt) → Balanced (in_turn (map stmt_words block))
@@ -246,11 +246,11 @@ balanced_class x =
 balanced_name : (x : Name) → Balanced (dot_name x)
 balanced_name x = λ d. refl
 
-abbrev CalmTf : Tf → Type 0
-CalmTf x = Balanced (tf_words x)
+abbrev TfBalanced : Tf → Type 0
+TfBalanced x = Balanced (tf_words x)
 
 abbrev HeldTf : Type 0
-HeldTf = (x : Tf) × CalmTf x
+HeldTf = (x : Tf) × TfBalanced x
 
 abbrev bare_tf : Tf-F HeldTf → Tf-F Tf
 bare_tf y = map-Tf HeldTf Tf (λ p. p.0) y
@@ -264,11 +264,11 @@ tf_steps (Tf-F.Negate operand line) = operand.1
 tf_steps (Tf-F.Binary operator left right line) =
     balanced_both (tf_words left.0) (FixedAt (symbol_of operator) line ∷ tf_words right.0) left.1 (balanced_symbol operator line (tf_words right.0) right.1)
 
-tf_rolls : (y : Tf-F HeldTf) → CalmTf (roll-Tf (bare_tf y))
+tf_rolls : (y : Tf-F HeldTf) → TfBalanced (roll-Tf (bare_tf y))
 tf_rolls y = subst (λ (w : List Word). Balanced w) (sym (fold-roll-Tf (List Word) tf_step (bare_tf y))) (tf_steps y)
 
-balanced_tf : (x : Tf) → CalmTf x
-balanced_tf = ind-Tf CalmTf (λ x y is. subst (λ z. CalmTf (roll-Tf z)) is (tf_rolls y))
+balanced_tf : (x : Tf) → TfBalanced x
+balanced_tf = ind-Tf TfBalanced (λ x y is. subst (λ z. TfBalanced (roll-Tf z)) is (tf_rolls y))
 
 balanced_field_upgrade : (x : FieldUpgrade) → Balanced (field_upgrade_words x)
 balanced_field_upgrade x =

@@ -1,4 +1,4 @@
--- A script goes on with what was read and is alive.
+-- Where a script can go on with what was read, one does.
 use Rattle.std.proofs.Common.{◌≡◌, ◌⊎◌, ◌≤◌, ℕ, zero, suc, ◌+◌, Bool, true, false, cond, Option, Some, None, List, [], ◌∷◌, ◌++◌, length, map, refl, sym, ap, ◌∙◌, subst, inl, inr, append_assoc, append-nil, length-append, arith}
 use Rattle.std.specs.Prelude.{◌&&◌, codes, fold, nat_eq}
 use Rattle.std.specs.List.{flat_map}
@@ -35,8 +35,8 @@ use Rattle.upgrade_defs.specs.Spelling.{upgrade_words}
 use Rattle.upgrade_defs.specs.Texts.{SpellsUpgrade}
 use Rattle.thor_top.specs.Script.{AreItems, AreRefusedItems, HasParts, HasTokens, IsItem, IsRefusedItem}
 use Rattle.thor_top.specs.declared.script.Script.{Script}
-use Rattle.thor_top.proofs.Alive.{Alive, IsCurrent, IsFound}
-use Rattle.thor_top.proofs.PartsEnd.{AreProper, block_ends, both_proper, mended, mended_proper, mended_words, rest_proper, upgrade_ends}
+use Rattle.thor_top.proofs.GoingOn.{CanGoOn, IsCurrent, IsFound}
+use Rattle.thor_top.proofs.PartsEnd.{AreProper, block_ends, both_proper, made_proper, now_proper, made_proper_words, rest_proper, upgrade_ends}
 use Rattle.thor_top.proofs.ReadingParts.{each_more}
 use Rattle.thor_top.proofs.SetupEnds.{setup_ends}
 
@@ -70,10 +70,10 @@ finish_client ts more r cur read is h =
 
 setup_completed : (part : List Token) (d : ℕ) (c : Bool) (ts : List Token) → InSetup part d c ts → AreProper ts → Begins SpellsSetup part → Begins HasTokens ts
 setup_completed part d c ts h proper b =
-    let more : List Token = map mended b.0 in
-    let spells : SpellsSetup (part ++ more) b.1 = (mended_words part b.0 (setup_words b.1) b.2.0, b.2.1) in
+    let more : List Token = map made_proper b.0 in
+    let spells : SpellsSetup (part ++ more) b.1 = (made_proper_words part b.0 (setup_words b.1) b.2.0, b.2.1) in
     let front : AreProper (h.word ∷ part) = subst (λ (l : List Token). AreProper l) (sym h.whole) proper in
-    let ended = setup_ends (part ++ more) b.1 spells (both_proper part more front.1 (mended_proper b.0)) in
+    let ended = setup_ends (part ++ more) b.1 spells (both_proper part more front.1 (now_proper b.0)) in
     let parts : Sections = record { setup = Some (part ++ more); clients = []; schedule = [] } in
     let are : ArePartsOf (ts ++ more) parts =
     record {
@@ -238,13 +238,13 @@ item_closes cur part d ts xs what h is proper =
     let item = item_ends h.first (h.brace ∷ (h.rest ++ xs)) what h.is (subst (λ (l : List Token). IsItem l what) whole is) (subst (λ (l : List Token). AreProper l) whole proper) in
     sym (h.so xs) ∙ (and_parts _ _ (and_parts _ _ item).1).1
 
-mended_by : (word : Token) (front more : List Token) (what : What) → IsItem (word ∷ (front ++ more)) what → IsItem (word ∷ (front ++ map mended more)) what
-mended_by word front more (Tx block) is = (is.0, (mended_words front more (block_words block) is.1.0, is.1.1))
-mended_by word front more (UpgradeItem upgrade) is = (mended_words (word ∷ front) more (upgrade_words upgrade) is.0, is.1)
+made_proper_by : (word : Token) (front more : List Token) (what : What) → IsItem (word ∷ (front ++ more)) what → IsItem (word ∷ (front ++ map made_proper more)) what
+made_proper_by word front more (Tx block) is = (is.0, (made_proper_words front more (block_words block) is.1.0, is.1.1))
+made_proper_by word front more (UpgradeItem upgrade) is = (made_proper_words (word ∷ front) more (upgrade_words upgrade) is.0, is.1)
 
-pub mended_item : (part front more : List Token) (word : Token) (what : What) → part ≡ word ∷ front → IsItem (part ++ more) what → IsItem (part ++ map mended more) what
-mended_item part front more word what e is =
-    subst (λ (l : List Token). IsItem (l ++ map mended more) what) (sym e) (mended_by word front more what (subst (λ (l : List Token). IsItem (l ++ more) what) e is))
+pub made_proper_item : (part front more : List Token) (word : Token) (what : What) → part ≡ word ∷ front → IsItem (part ++ more) what → IsItem (part ++ map made_proper more) what
+made_proper_item part front more word what e is =
+    subst (λ (l : List Token). IsItem (l ++ map made_proper more) what) (sym e) (made_proper_by word front more what (subst (λ (l : List Token). IsItem (l ++ more) what) e is))
 
 rest_by : (m : Mark) (t : Token) (ts : List Token) (cur : Current) (p : List Token) (d : ℕ)
     → ((q : List Token) (k : ℕ) → closes k ts ≡ true → fold step (Item cur q k) ts ≡ Client (with_item cur (q ++ ts)))
@@ -269,10 +269,10 @@ rest_read (t ∷ ts) cur p d e = rest_by (mark_of t) t ts cur p d (λ q k. rest_
 item_completed : (cur : Current) (part : List Token) (d : ℕ) (ts : List Token) → fold step Start ts ≡ Item cur part d → InItem cur part d ts → AreProper ts → IsCurrent cur → Begins IsItem part
     → Begins HasTokens ts
 item_completed cur part d ts read h proper current b =
-    let more : List Token = map mended b.0 in
-    let item : IsItem (part ++ more) b.1 = mended_item part (h.brace ∷ h.rest) b.0 h.first b.1 h.part_is b.2 in
+    let more : List Token = map made_proper b.0 in
+    let item : IsItem (part ++ more) b.1 = made_proper_item part (h.brace ∷ h.rest) b.0 h.first b.1 h.part_is b.2 in
     let own : AreProper part = rest_proper h.front part (subst (λ (l : List Token). AreProper l) (sym h.whole) proper) in
-    let closed = item_closes cur part d ts more b.1 h item (both_proper part more own (mended_proper b.0)) in
+    let closed = item_closes cur part d ts more b.1 h item (both_proper part more own (now_proper b.0)) in
     finish_client ts more (Item cur part d) (with_item cur (part ++ more)) read (rest_read more cur part d closed) (item_current cur (part ++ more) b.1 current item)
 
 -- ---- the schedule
@@ -289,17 +289,17 @@ schedule_completed f tokens ts read found b =
 
 -- ---- what was read
 
-completed_by : (r : Reader) (ts : List Token) → fold step Start ts ≡ r → Holds r ts → AreProper ts → length ts ≤ max_number → Alive r → Begins HasTokens ts
-completed_by Start ts read h proper short alive =
+completed_by : (r : Reader) (ts : List Token) → fold step Start ts ≡ r → Holds r ts → AreProper ts → length ts ≤ max_number → CanGoOn r → Begins HasTokens ts
+completed_by Start ts read h proper short can =
     finish ts [] Start Start (record { setup = None; clients = []; events = [] }) read refl refl (record { setup = tt; clients = tt; events = no_events })
-completed_by (Setup part d c) ts read h proper short alive = setup_completed part d c ts h proper alive
-completed_by (Number f) ts read h proper short alive = number_completed f ts read h short alive
-completed_by (Client cur) ts read h proper short alive = finish_client ts [] (Client cur) cur read refl alive
-completed_by (Word cur part) ts read h proper short alive = word_completed cur part ts read h alive
-completed_by (Item cur part d) ts read h proper short alive = item_completed cur part d ts read h proper alive.0 alive.1
-completed_by (Schedule f tokens) ts read h proper short alive = schedule_completed f tokens ts read alive.0 alive.1
-completed_by (Stopped s f) ts read h proper short alive = absurd alive
+completed_by (Setup part d c) ts read h proper short can = setup_completed part d c ts h proper can
+completed_by (Number f) ts read h proper short can = number_completed f ts read h short can
+completed_by (Client cur) ts read h proper short can = finish_client ts [] (Client cur) cur read refl can
+completed_by (Word cur part) ts read h proper short can = word_completed cur part ts read h can
+completed_by (Item cur part d) ts read h proper short can = item_completed cur part d ts read h proper can.0 can.1
+completed_by (Schedule f tokens) ts read h proper short can = schedule_completed f tokens ts read can.0 can.1
+completed_by (Stopped s f) ts read h proper short can = absurd can
 
 -- a script begins with tokens that are read so
-pub completed : (ts : List Token) → AreProper ts → length ts ≤ max_number → Alive (fold step Start ts) → Begins HasTokens ts
-completed ts proper short alive = completed_by (fold step Start ts) ts refl (read_holds ts) proper short alive
+pub completed : (ts : List Token) → AreProper ts → length ts ≤ max_number → CanGoOn (fold step Start ts) → Begins HasTokens ts
+completed ts proper short can = completed_by (fold step Start ts) ts refl (read_holds ts) proper short can

@@ -29,43 +29,43 @@ use Rattle.thor_top.specs.Script.{AreItems, HasParts, IsItem, IsRefusedSplit}
 use Rattle.thor_top.specs.declared.refusal.Refusal.{Refusal}
 use Rattle.thor_top.specs.declared.refusal.Refusal.TheVariants as refusal
 use Rattle.thor_top.specs.declared.script.Script.{Script}
-use Rattle.thor_top.proofs.Alive.{Alive, IsCurrent, IsFound, item_last}
-use Rattle.thor_top.proofs.Completed.{current_found, found_parts, item_closes, item_current, mended_item, no_events, open_brace, stays, word_goes_on}
+use Rattle.thor_top.proofs.GoingOn.{CanGoOn, IsCurrent, IsFound, item_last}
+use Rattle.thor_top.proofs.Completed.{current_found, found_parts, item_closes, item_current, made_proper_item, no_events, open_brace, stays, word_goes_on}
 use Rattle.thor_top.proofs.Decided.{Decided, decided_events, decided_item, decided_setup}
-use Rattle.thor_top.proofs.Doomed.{Bad, BadItem, BadItems, Doomed, doomed_refused, first_behind, fold_doomed}
+use Rattle.thor_top.proofs.StayingRefused.{Faulty, FaultyItem, FaultyItems, StaysRefused, stays_refused, first_behind, fold_stays}
 use Rattle.thor_top.proofs.OneFault.{begins_at, spelled_begins}
 use Rattle.thor_top.proofs.OneScript.{past_parts, split_same}
-use Rattle.thor_top.proofs.PartsEnd.{AreProper, both_proper, front_proper, mended, mended_proper, mended_words, rest_proper}
+use Rattle.thor_top.proofs.PartsEnd.{AreProper, both_proper, front_proper, made_proper, now_proper, made_proper_words, rest_proper}
 use Rattle.thor_top.proofs.SetupEnds.{setup_cut, setup_ends}
 
 -- no script goes on with what was read, and the line is told, whatever stands behind
-pub record Off (r : Reader) (line : ℕ) : Type 0 where
-  pub never : Alive r → ⊥
+pub record IsFault (r : Reader) (line : ℕ) : Type 0 where
+  pub never : CanGoOn r → ⊥
   pub told : (more : List Token) (end : ℕ) (q : Refusal) → IsRefusedSplit (split_at_end (fold step r more) end) q → q ≡ refusal.Syntax line
 
 abbrev pub Next : Reader → ℕ → Type 0
-Next r line = Alive r ⊎ Off r line
+Next r line = CanGoOn r ⊎ IsFault r line
 
-off_doomed : (r : Reader) (line : ℕ) → (Alive r → ⊥) → Doomed (so_far r) (refusal.Syntax line) → Off r line
-off_doomed r line never doomed = record {
+fault_stays : (r : Reader) (line : ℕ) → (CanGoOn r → ⊥) → StaysRefused (so_far r) (refusal.Syntax line) → IsFault r line
+fault_stays r line never stays = record {
   never = never;
   told = λ more end q refused. split_same (split_at_end (fold step r more) end) q (refusal.Syntax line) refused
-      (doomed_refused (split_at_end (fold step r more) end) (refusal.Syntax line) (fold_doomed more r (refusal.Syntax line) doomed));
+      (stays_refused (split_at_end (fold step r more) end) (refusal.Syntax line) (fold_stays more r (refusal.Syntax line) stays));
 }
 
 abbrev fault_at : ℕ → Syntax
 fault_at line = record { line = line }
 
-off_stopped : (s : Sections) (line : ℕ) (script : Script) → HasParts s script → Off (Stopped s (fault_at line)) line
-off_stopped s line script has = record {
+fault_stops : (s : Sections) (line : ℕ) (script : Script) → HasParts s script → IsFault (Stopped s (fault_at line)) line
+fault_stops s line script has = record {
   never = λ a. a;
   told = λ more end q refused. past_parts (record { sections = s; fault = Some (fault_at line) }) script q has
       (subst (λ (x : Reader). IsRefusedSplit (split_at_end x end) q) (stays more s (fault_at line)) refused);
 }
 
 -- all that was read before the token are whole parts
-off_found : (f : Found) (line : ℕ) → IsFound f → Off (Stopped (sections_of f []) (fault_at line)) line
-off_found f line found = off_stopped (sections_of f []) line (record { setup = found.0.0; clients = found.1.0; events = [] }) (found_parts f found)
+fault_found : (f : Found) (line : ℕ) → IsFound f → IsFault (Stopped (sections_of f []) (fault_at line)) line
+fault_found f line found = fault_stops (sections_of f []) line (record { setup = found.0.0; clients = found.1.0; events = [] }) (found_parts f found)
 
 module _ {X : Type 0} (Spells : List Token → X → Type 0) where
   pub begins_or_not : (part : List Token) (t : Token) → Decided Spells (part ++ t ∷ []) → Begins Spells (part ++ t ∷ []) ⊎ (Begins Spells (part ++ t ∷ []) → ⊥)
@@ -73,8 +73,8 @@ module _ {X : Type 0} (Spells : List Token → X → Type 0) where
   begins_or_not part t (inr (line, inl f)) = inr (λ b. f.ends (begins_at Spells (part ++ t ∷ []) f.before f.token f.behind f.parts b))
   begins_or_not part t (inr (line, inr c)) = inl c.begins
 
-  pub bad_at : (part : List Token) (t : Token) → Begins Spells part → (Begins Spells (part ++ t ∷ []) → ⊥) → Bad Spells (part ++ t ∷ []) (refusal.Syntax t.line)
-  bad_at part t begins never = (t.line, (refl, record { before = part; token = t; behind = []; parts = refl; begins = begins; ends = never; on_line = refl }))
+  pub faulty_at : (part : List Token) (t : Token) → Begins Spells part → (Begins Spells (part ++ t ∷ []) → ⊥) → Faulty Spells (part ++ t ∷ []) (refusal.Syntax t.line)
+  faulty_at part t begins never = (t.line, (refl, record { before = part; token = t; behind = []; parts = refl; begins = begins; ends = never; on_line = refl }))
 
 no_schedule : Begins AreEventsOf []
 no_schedule = ([], [], no_events)
@@ -94,12 +94,12 @@ start_next : (m : Mark) (t : Token) → Next (start_step m t) t.line
 start_next marks.Setup t = inl setup_starts
 start_next marks.Client t = inl nothing_found
 start_next marks.Schedule t = inl (nothing_found, no_schedule)
-start_next marks.Tx t = inr (off_found nothing t.line nothing_found)
-start_next marks.Upgrade t = inr (off_found nothing t.line nothing_found)
-start_next marks.Open t = inr (off_found nothing t.line nothing_found)
-start_next marks.Close t = inr (off_found nothing t.line nothing_found)
-start_next marks.End t = inr (off_found nothing t.line nothing_found)
-start_next marks.Other t = inr (off_found nothing t.line nothing_found)
+start_next marks.Tx t = inr (fault_found nothing t.line nothing_found)
+start_next marks.Upgrade t = inr (fault_found nothing t.line nothing_found)
+start_next marks.Open t = inr (fault_found nothing t.line nothing_found)
+start_next marks.Close t = inr (fault_found nothing t.line nothing_found)
+start_next marks.End t = inr (fault_found nothing t.line nothing_found)
+start_next marks.Other t = inr (fault_found nothing t.line nothing_found)
 
 false_true : false ≡ true → ⊥
 false_true e = cc
@@ -113,18 +113,18 @@ module _ (part : List Token) (d : ℕ) (t : Token) (ts : List Token) (proper : A
   -- a setup that may end there is whole
   setup_found : InSetup part d true ts → IsFound (with_setup part)
   setup_found h =
-      let more : List Token = map mended begins.0 in
+      let more : List Token = map made_proper begins.0 in
       let own : AreProper part = front_proper part (t ∷ []) (part_proper true h) in
-      let spells : SpellsSetup (part ++ more) begins.1 = (mended_words part begins.0 (setup_words begins.1) begins.2.0, begins.2.1) in
-      let cut = setup_cut part more begins.1 spells (both_proper part more own (mended_proper begins.0)) (ap (ends 0 true) (sym (append-nil part)) ∙ h.so []) in
+      let spells : SpellsSetup (part ++ more) begins.1 = (made_proper_words part begins.0 (setup_words begins.1) begins.2.0, begins.2.1) in
+      let cut = setup_cut part more begins.1 spells (both_proper part more own (now_proper begins.0)) (ap (ends 0 true) (sym (append-nil part)) ∙ h.so []) in
       ((Some cut.0, cut.1), ([], tt))
 
   setup_never : (c : Bool) → InSetup part d c ts → ((b : ℕ → Bool → Bool) → ends_by (mark_of t) d b ≡ false) → Begins SpellsSetup (part ++ t ∷ []) → ⊥
   setup_never c h fails b =
-      let more : List Token = map mended b.0 in
+      let more : List Token = map made_proper b.0 in
       let front : List Token = part ++ t ∷ [] in
-      let spells : SpellsSetup (front ++ more) b.1 = (mended_words front b.0 (setup_words b.1) b.2.0, b.2.1) in
-      let ended : ends 0 true (front ++ more) ≡ true = setup_ends (front ++ more) b.1 spells (both_proper front more (part_proper c h) (mended_proper b.0)) in
+      let spells : SpellsSetup (front ++ more) b.1 = (made_proper_words front b.0 (setup_words b.1) b.2.0, b.2.1) in
+      let ended : ends 0 true (front ++ more) ≡ true = setup_ends (front ++ more) b.1 spells (both_proper front more (part_proper c h) (now_proper b.0)) in
       false_true (sym (fails (λ k e. ends k e more)) ∙ sym (h.so (t ∷ more)) ∙ sym (ap (ends 0 true) (append_assoc part (t ∷ []) more)) ∙ ended)
 
   setup_grows : (k : ℕ) (b : Bool) → Next (Setup (part ++ t ∷ []) k b) t.line
@@ -132,11 +132,11 @@ module _ (part : List Token) (d : ℕ) (t : Token) (ts : List Token) (proper : A
     where
       by : Begins SpellsSetup (part ++ t ∷ []) ⊎ (Begins SpellsSetup (part ++ t ∷ []) → ⊥) → Next (Setup (part ++ t ∷ []) k b) t.line
       by (inl on) = inl on
-      by (inr never) = inr (off_doomed (Setup (part ++ t ∷ []) k b) t.line never (inl (bad_at SpellsSetup part t begins never)))
+      by (inr never) = inr (fault_stays (Setup (part ++ t ∷ []) k b) t.line never (inl (faulty_at SpellsSetup part t begins never)))
 
   setup_stops : (c : Bool) → InSetup part d c ts → ((b : ℕ → Bool → Bool) → ends_by (mark_of t) d b ≡ false) → Next (stop_setup part d c t) t.line
-  setup_stops true h fails = inr (off_found (with_setup part) t.line (setup_found h))
-  setup_stops false h fails = inr (off_doomed (stop (Setup (part ++ t ∷ []) d false) t) t.line (λ a. a) (inl (bad_at SpellsSetup part t begins (setup_never false h fails))))
+  setup_stops true h fails = inr (fault_found (with_setup part) t.line (setup_found h))
+  setup_stops false h fails = inr (fault_stays (stop (Setup (part ++ t ∷ []) d false) t) t.line (λ a. a) (inl (faulty_at SpellsSetup part t begins (setup_never false h fails))))
 
 setup_next : (m : Mark) (part : List Token) (d : ℕ) (c : Bool) (t : Token) (ts : List Token) → mark_of t ≡ m → InSetup part d c ts → AreProper (ts ++ t ∷ []) → Begins SpellsSetup part
     → Next (setup_step m part d c t) t.line
@@ -156,15 +156,15 @@ setup_next marks.Upgrade part d c t ts e h proper b = setup_stops part d t ts pr
 -- ---- clients
 
 number_next : (o : Option ℕ) (f : Found) (t : Token) → IsFound f → Next (number_step o f t) t.line
-number_next None f t found = inr (off_found f t.line found)
+number_next None f t found = inr (fault_found f t.line found)
 number_next (Some n) f t found = by (nat_eq n (length f.clients + 1))
   where
     by : (b : Bool) → Next (cond b (Client (new_client f)) (stop (Number f) t)) t.line
     by true = inl (found, ([], tt))
-    by false = inr (off_found f t.line found)
+    by false = inr (fault_found f t.line found)
 
-client_stops : (cur : Current) (line : ℕ) → IsCurrent cur → Off (Stopped (sections_of (with_client cur) []) (fault_at line)) line
-client_stops cur line h = off_found (with_client cur) line (current_found cur h)
+client_stops : (cur : Current) (line : ℕ) → IsCurrent cur → IsFault (Stopped (sections_of (with_client cur) []) (fault_at line)) line
+client_stops cur line h = fault_found (with_client cur) line (current_found cur h)
 
 upgrade_next : (b : Bool) (cur : Current) (t : Token) → IsCurrent cur → Next (upgrade_step b cur t) t.line
 upgrade_next true cur t h = inr (client_stops cur t.line h)
@@ -240,23 +240,23 @@ module _ (cur : Current) (part : List Token) (d : ℕ) (t : Token) (ts : List To
       rest_proper h.front (part ++ t ∷ []) (subst (λ (l : List Token). AreProper l) same all)
 
   -- with the token the item goes on to its end
-  item_on : (b : Begins IsItem (part ++ t ∷ [])) → closes d (t ∷ map mended b.0) ≡ true
+  item_on : (b : Begins IsItem (part ++ t ∷ [])) → closes d (t ∷ map made_proper b.0) ≡ true
   item_on b =
-      let more : List Token = map mended b.0 in
+      let more : List Token = map made_proper b.0 in
       let front : List Token = part ++ t ∷ [] in
       let shape : front ≡ h.first ∷ (h.brace ∷ (h.rest ++ t ∷ [])) = ap (λ (l : List Token). l ++ t ∷ []) h.part_is in
       let same : front ++ more ≡ part ++ (t ∷ more) = append_assoc part (t ∷ []) more in
-      let item : IsItem (front ++ more) b.1 = mended_item front (h.brace ∷ (h.rest ++ t ∷ [])) b.0 h.first b.1 shape b.2 in
+      let item : IsItem (front ++ more) b.1 = made_proper_item front (h.brace ∷ (h.rest ++ t ∷ [])) b.0 h.first b.1 shape b.2 in
       item_closes cur part d ts (t ∷ more) b.1 h (subst (λ (l : List Token). IsItem l b.1) same item)
-      (subst (λ (l : List Token). AreProper l) same (both_proper front more own (mended_proper b.0)))
+      (subst (λ (l : List Token). AreProper l) same (both_proper front more own (now_proper b.0)))
 
-  item_doomed : (Begins IsItem (part ++ t ∷ []) → ⊥) → Doomed (sections_of (with_client (with_item cur (part ++ t ∷ []))) []) (refusal.Syntax t.line)
-  item_doomed never =
+  item_stays : (Begins IsItem (part ++ t ∷ []) → ⊥) → StaysRefused (sections_of (with_client (with_item cur (part ++ t ∷ []))) []) (refusal.Syntax t.line)
+  item_stays never =
       let q : Refusal = refusal.Syntax t.line in
       inr (
         current.0.0,
-        inl (first_behind AreItems BadItems cur.found.clients current.0.1.0 (cur.items ++ (part ++ t ∷ []) ∷ []) q current.0.1.1
-            (first_behind IsItem BadItem cur.items current.1.0 (part ++ t ∷ []) q current.1.1 (two, bad_at IsItem part t begins never))),
+        inl (first_behind AreItems FaultyItems cur.found.clients current.0.1.0 (cur.items ++ (part ++ t ∷ []) ∷ []) q current.0.1.1
+            (first_behind IsItem FaultyItem cur.items current.1.0 (part ++ t ∷ []) q current.1.1 (two, faulty_at IsItem part t begins never))),
       )
 
   item_grows : (k : ℕ) → Next (Item cur (part ++ t ∷ []) k) t.line
@@ -264,16 +264,16 @@ module _ (cur : Current) (part : List Token) (d : ℕ) (t : Token) (ts : List To
     where
       by : Begins IsItem (part ++ t ∷ []) ⊎ (Begins IsItem (part ++ t ∷ []) → ⊥) → Next (Item cur (part ++ t ∷ []) k) t.line
       by (inl on) = inl (current, on)
-      by (inr never) = inr (off_doomed (Item cur (part ++ t ∷ []) k) t.line (λ a. never a.1) (item_doomed never))
+      by (inr never) = inr (fault_stays (Item cur (part ++ t ∷ []) k) t.line (λ a. never a.1) (item_stays never))
 
   item_stops : ((last : Bool) (b : ℕ → Bool) → closes_by (mark_of t) d last b ≡ false) → Next (stop (Item cur (part ++ t ∷ []) d) t) t.line
   item_stops fails =
-      inr (off_doomed (stop (Item cur (part ++ t ∷ []) d) t) t.line (λ a. a)
-      (item_doomed (λ b. false_true (sym (fails (are_none (map mended b.0)) (λ k. closes k (map mended b.0))) ∙ item_on b))))
+      inr (fault_stays (stop (Item cur (part ++ t ∷ []) d) t) t.line (λ a. a)
+      (item_stays (λ b. false_true (sym (fails (are_none (map made_proper b.0)) (λ k. closes k (map made_proper b.0))) ∙ item_on b))))
 
-none_mended : (more : List Token) → are_none (map mended more) ≡ true → more ≡ []
-none_mended [] e = refl
-none_mended (t ∷ more) e = absurd cc
+none_made_proper : (more : List Token) → are_none (map made_proper more) ≡ true → more ≡ []
+none_made_proper [] e = refl
+none_made_proper (t ∷ more) e = absurd cc
 
 item_ended : (cur : Current) (part : List Token) (t : Token) (ts : List Token) → mark_of t ≡ marks.Close → InItem cur part 0 ts → AreProper (ts ++ t ∷ []) → IsCurrent cur → Begins IsItem part
     → Next (Client (with_item cur (part ++ t ∷ []))) t.line
@@ -281,18 +281,18 @@ item_ended cur part t ts e h proper current begins = by (decided_item (part ++ t
   where
     on : (b : Begins IsItem (part ++ t ∷ [])) → IsItem (part ++ t ∷ []) b.1
     on b =
-        let closed : are_none (map mended b.0) ≡ true = sym (ap (λ m. closes_by m 0 (are_none (map mended b.0)) (λ k. closes k (map mended b.0))) e) ∙ item_on cur part 0 t ts h proper current begins b in
-        let none : b.0 ≡ [] = none_mended b.0 closed in
+        let closed : are_none (map made_proper b.0) ≡ true = sym (ap (λ m. closes_by m 0 (are_none (map made_proper b.0)) (λ k. closes k (map made_proper b.0))) e) ∙ item_on cur part 0 t ts h proper current begins b in
+        let none : b.0 ≡ [] = none_made_proper b.0 closed in
         subst (λ (l : List Token). IsItem l b.1) (ap (λ (l : List Token). (part ++ t ∷ []) ++ l) none ∙ append-nil (part ++ t ∷ [])) b.2
 
-    off : (Begins IsItem (part ++ t ∷ []) → ⊥) → Next (Client (with_item cur (part ++ t ∷ []))) t.line
-    off never = inr (off_doomed (Client (with_item cur (part ++ t ∷ []))) t.line
+    fault : (Begins IsItem (part ++ t ∷ []) → ⊥) → Next (Client (with_item cur (part ++ t ∷ []))) t.line
+    fault never = inr (fault_stays (Client (with_item cur (part ++ t ∷ []))) t.line
         (λ a. (let last = item_last cur (part ++ t ∷ []) a in never (spelled_begins IsItem (part ++ t ∷ []) last.1.0 last.1.1)))
-        (item_doomed cur part 0 t ts h proper current begins never))
+        (item_stays cur part 0 t ts h proper current begins never))
 
     by : Decided IsItem (part ++ t ∷ []) → Next (Client (with_item cur (part ++ t ∷ []))) t.line
     by (inl k) = inl (item_current cur (part ++ t ∷ []) k.0 current k.1)
-    by (inr (line, inl f)) = off (λ b. f.ends (begins_at IsItem (part ++ t ∷ []) f.before f.token f.behind f.parts b))
+    by (inr (line, inl f)) = fault (λ b. f.ends (begins_at IsItem (part ++ t ∷ []) f.before f.token f.behind f.parts b))
     by (inr (line, inr c)) = inl (item_current cur (part ++ t ∷ []) c.begins.1 current (on c.begins))
 
 item_next : (m : Mark) (cur : Current) (part : List Token) (d : ℕ) (t : Token) (ts : List Token) → mark_of t ≡ m → InItem cur part d ts → AreProper (ts ++ t ∷ []) → IsCurrent cur → Begins IsItem part
@@ -315,17 +315,17 @@ schedule_next f tokens t found begins = by (begins_or_not AreEventsOf tokens t (
   where
     by : Begins AreEventsOf (tokens ++ t ∷ []) ⊎ (Begins AreEventsOf (tokens ++ t ∷ []) → ⊥) → Next (Schedule f (tokens ++ t ∷ [])) t.line
     by (inl on) = inl (found, on)
-    by (inr never) = inr (off_doomed (Schedule f (tokens ++ t ∷ [])) t.line (λ a. never a.1) (inr (found.0, inr (found.1, bad_at AreEventsOf tokens t begins never))))
+    by (inr never) = inr (fault_stays (Schedule f (tokens ++ t ∷ [])) t.line (λ a. never a.1) (inr (found.0, inr (found.1, faulty_at AreEventsOf tokens t begins never))))
 
 -- ---- each token
 
-pub alive_next : (r : Reader) (t : Token) (ts : List Token) → Holds r ts → AreProper (ts ++ t ∷ []) → Alive r → Next (step r t) t.line
+pub next_token : (r : Reader) (t : Token) (ts : List Token) → Holds r ts → AreProper (ts ++ t ∷ []) → CanGoOn r → Next (step r t) t.line
 unfolding step
-alive_next Start t ts h proper alive = start_next (mark_of t) t
-alive_next (Setup part d c) t ts h proper alive = setup_next (mark_of t) part d c t ts refl h proper alive
-alive_next (Number f) t ts h proper alive = number_next (number_in t) f t alive
-alive_next (Client cur) t ts h proper alive = client_next (mark_of t) cur t alive
-alive_next (Word cur part) t ts h proper alive = word_next (mark_of t) cur part t ts refl h alive
-alive_next (Item cur part d) t ts h proper alive = item_next (mark_of t) cur part d t ts refl h proper alive.0 alive.1
-alive_next (Schedule f tokens) t ts h proper alive = schedule_next f tokens t alive.0 alive.1
-alive_next (Stopped s f) t ts h proper alive = absurd alive
+next_token Start t ts h proper can = start_next (mark_of t) t
+next_token (Setup part d c) t ts h proper can = setup_next (mark_of t) part d c t ts refl h proper can
+next_token (Number f) t ts h proper can = number_next (number_in t) f t can
+next_token (Client cur) t ts h proper can = client_next (mark_of t) cur t can
+next_token (Word cur part) t ts h proper can = word_next (mark_of t) cur part t ts refl h can
+next_token (Item cur part d) t ts h proper can = item_next (mark_of t) cur part d t ts refl h proper can.0 can.1
+next_token (Schedule f tokens) t ts h proper can = schedule_next f tokens t can.0 can.1
+next_token (Stopped s f) t ts h proper can = absurd can

@@ -27,11 +27,11 @@ use Rattle.thor_top.specs.Script.{AreItems, AreRefusedItems, HasTokens, IsItem, 
 use Rattle.thor_top.specs.declared.refusal.Refusal.{Refusal}
 use Rattle.thor_top.specs.declared.refusal.Refusal.TheVariants as refusal
 use Rattle.thor_top.specs.declared.script.Script.{Script}
-use Rattle.thor_top.proofs.Alive.{Alive, IsCurrent, IsFound, begins_alive}
+use Rattle.thor_top.proofs.GoingOn.{CanGoOn, IsCurrent, IsFound, begins_can}
 use Rattle.thor_top.proofs.Completed.{completed, current_found, found_parts, item_current, no_events}
 use Rattle.thor_top.proofs.Decided.{Decided, decided_setup, events_fault, events_or_fault, item_fault, item_or_refused, last_same}
-use Rattle.thor_top.proofs.Doomed.{first_behind}
-use Rattle.thor_top.proofs.FirstFault.{Next, alive_next, empty_setup}
+use Rattle.thor_top.proofs.StayingRefused.{first_behind}
+use Rattle.thor_top.proofs.FirstFault.{Next, next_token, empty_setup}
 use Rattle.thor_top.proofs.OneFault.{begins_at}
 use Rattle.thor_top.proofs.OneScript.{one_tokens, past_parts, split_same, tokens_apart, tokens_or_stop}
 use Rattle.thor_top.proofs.PartsEnd.{AreProper, front_proper, spelled_proper}
@@ -122,59 +122,59 @@ schedule_told f tokens ts line e h found begins q refused = by (events_or_fault 
     by (inl k) = absurd (past_parts split (record { setup = found.0.0; clients = found.1.0; events = k.0 }) q (record { setup = found.0.1; clients = found.1.1; events = k.1 }) refused)
     by (inr k) = by_fault k.0 k.1 (events_fault tokens k.0 k.1)
 
-end_told : (r : Reader) (ts : List Token) (line : ℕ) → line ≡ last_line ts → Holds r ts → Alive r → (q : Refusal) → IsRefusedSplit (split_at_end r line) q → Told q line
-end_told Start ts line e h alive q refused = absurd (found_told nothing None q ((None, tt), ([], tt)) refused)
-end_told (Setup part d c) ts line e h alive q refused = setup_told part d c ts line e h alive q refused
-end_told (Number f) ts line e h alive q refused = found_told f (Some (record { line = line })) q alive refused
-end_told (Client cur) ts line e h alive q refused = absurd (found_told (with_client cur) None q (current_found cur alive) refused)
-end_told (Word cur part) ts line e h alive q refused = found_told (with_client cur) (Some (record { line = line })) q (current_found cur alive) refused
-end_told (Item cur part d) ts line e h alive q refused = item_told cur part d ts line e h alive.0 alive.1 q refused
-end_told (Schedule f tokens) ts line e h alive q refused = schedule_told f tokens ts line e h alive.0 alive.1 q refused
-end_told (Stopped s f) ts line e h alive q refused = absurd alive
+end_told : (r : Reader) (ts : List Token) (line : ℕ) → line ≡ last_line ts → Holds r ts → CanGoOn r → (q : Refusal) → IsRefusedSplit (split_at_end r line) q → Told q line
+end_told Start ts line e h can q refused = absurd (found_told nothing None q ((None, tt), ([], tt)) refused)
+end_told (Setup part d c) ts line e h can q refused = setup_told part d c ts line e h can q refused
+end_told (Number f) ts line e h can q refused = found_told f (Some (record { line = line })) q can refused
+end_told (Client cur) ts line e h can q refused = absurd (found_told (with_client cur) None q (current_found cur can) refused)
+end_told (Word cur part) ts line e h can q refused = found_told (with_client cur) (Some (record { line = line })) q (current_found cur can) refused
+end_told (Item cur part d) ts line e h can q refused = item_told cur part d ts line e h can.0 can.1 q refused
+end_told (Schedule f tokens) ts line e h can q refused = schedule_told f tokens ts line e h can.0 can.1 q refused
+end_told (Stopped s f) ts line e h can q refused = absurd can
 
 -- ---- token by token
 
 module _ (whole : List Token) (q : Refusal) (line : ℕ) (at_last : line ≡ last_line whole) (proper : AreProper whole) (short : length whole ≤ max_number) (none : (script : Script) → HasTokens whole script → ⊥) where
-  end_of : (front : List Token) → front ≡ whole → Alive (fold step Start front) → IsRefusedSplit (split_at_end (fold step Start front) line) q → IsSyntaxOf HasTokens whole q
-  end_of front same alive refused = (
+  end_of : (front : List Token) → front ≡ whole → CanGoOn (fold step Start front) → IsRefusedSplit (split_at_end (fold step Start front) line) q → IsSyntaxOf HasTokens whole q
+  end_of front same can refused = (
     line,
     (
-      end_told (fold step Start front) front line (at_last ∙ ap last_line (sym same)) (read_holds front) alive q refused,
-      inr (record { begins = completed whole proper short (subst (λ (l : List Token). Alive (fold step Start l)) same alive); none = none; on_line = at_last }),
+      end_told (fold step Start front) front line (at_last ∙ ap last_line (sym same)) (read_holds front) can q refused,
+      inr (record { begins = completed whole proper short (subst (λ (l : List Token). CanGoOn (fold step Start l)) same can); none = none; on_line = at_last }),
     ),
   )
 
-  next_of : (front : List Token) (t : Token) (ts : List Token) → front ++ t ∷ ts ≡ whole → Alive (fold step Start front) → Next (step (fold step Start front) t) t.line
+  next_of : (front : List Token) (t : Token) (ts : List Token) → front ++ t ∷ ts ≡ whole → CanGoOn (fold step Start front) → Next (step (fold step Start front) t) t.line
       → IsRefusedSplit (split_at_end (fold step (step (fold step Start front) t) ts) line) q
-      → (Alive (fold step Start (front ++ t ∷ [])) → IsRefusedSplit (split_at_end (fold step (fold step Start (front ++ t ∷ [])) ts) line) q → IsSyntaxOf HasTokens whole q)
+      → (CanGoOn (fold step Start (front ++ t ∷ [])) → IsRefusedSplit (split_at_end (fold step (fold step Start (front ++ t ∷ [])) ts) line) q → IsSyntaxOf HasTokens whole q)
       → IsSyntaxOf HasTokens whole q
-  next_of front t ts same alive (inl on) refused further =
+  next_of front t ts same can (inl on) refused further =
       let one : step (fold step Start front) t ≡ fold step Start (front ++ t ∷ []) = sym (fold-append step Start front (t ∷ [])) in
-      further (subst (λ (r : Reader). Alive r) one on) (subst (λ (r : Reader). IsRefusedSplit (split_at_end (fold step r ts) line) q) one refused)
-  next_of front t ts same alive (inr off) refused further =
+      further (subst (λ (r : Reader). CanGoOn r) one on) (subst (λ (r : Reader). IsRefusedSplit (split_at_end (fold step r ts) line) q) one refused)
+  next_of front t ts same can (inr fault) refused further =
       let one : fold step Start (front ++ t ∷ []) ≡ step (fold step Start front) t = fold-append step Start front (t ∷ []) in
       let all : length (front ++ t ∷ ts) ≡ length whole = ap length same in (
         t.line,
         (
-          off.told ts line q refused,
+          fault.told ts line q refused,
           inl (record {
             before = front;
             token = t;
             behind = ts;
             parts = sym same;
-            begins = completed front (front_proper front (t ∷ ts) (subst (λ (l : List Token). AreProper l) (sym same) proper)) (omega (arith, short, all, length-append front (t ∷ ts))) alive;
-            ends = λ b. off.never (subst (λ (r : Reader). Alive r) one (begins_alive (front ++ t ∷ []) b));
+            begins = completed front (front_proper front (t ∷ ts) (subst (λ (l : List Token). AreProper l) (sym same) proper)) (omega (arith, short, all, length-append front (t ∷ ts))) can;
+            ends = λ b. fault.never (subst (λ (r : Reader). CanGoOn r) one (begins_can (front ++ t ∷ []) b));
             on_line = refl;
           }),
         ),
       )
 
-  walk : (ts front : List Token) → front ++ ts ≡ whole → Alive (fold step Start front) → IsRefusedSplit (split_at_end (fold step (fold step Start front) ts) line) q → IsSyntaxOf HasTokens whole q
-  walk [] front same alive refused = end_of front (sym (append-nil front) ∙ same) alive refused
-  walk (t ∷ ts) front same alive refused =
+  walk : (ts front : List Token) → front ++ ts ≡ whole → CanGoOn (fold step Start front) → IsRefusedSplit (split_at_end (fold step (fold step Start front) ts) line) q → IsSyntaxOf HasTokens whole q
+  walk [] front same can refused = end_of front (sym (append-nil front) ∙ same) can refused
+  walk (t ∷ ts) front same can refused =
       let more : (front ++ t ∷ []) ++ ts ≡ whole = append_assoc front (t ∷ []) ts ∙ same in
       let here : AreProper (front ++ t ∷ []) = front_proper (front ++ t ∷ []) ts (subst (λ (l : List Token). AreProper l) (sym more) proper) in
-      next_of front t ts same alive (alive_next (fold step Start front) t front (read_holds front) here alive) refused
+      next_of front t ts same can (next_token (fold step Start front) t front (read_holds front) here can) refused
       (λ on later. walk ts (front ++ t ∷ []) more on later)
 
 tokens_told : (tokens : List Token) (q : Refusal) → AreProper tokens → length tokens ≤ max_number → IsRefusedSplit (split_of tokens) q → IsSyntaxOf HasTokens tokens q

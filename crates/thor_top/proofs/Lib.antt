@@ -1,4 +1,3 @@
-pub mod Alive
 pub mod AloneAnswers
 pub mod AloneIsLegal
 pub mod Balanced
@@ -9,10 +8,10 @@ pub mod DefinedNames
 pub mod DefinedOpened
 pub mod DefinedRuns
 pub mod DefinedTurns
-pub mod Doomed
 pub mod EachText
 pub mod FirstFault
 pub mod FirstFaultTold
+pub mod GoingOn
 pub mod JudgingLaws
 pub mod NamesLaws
 pub mod OneFault
@@ -21,4 +20,5 @@ pub mod PartsEnd
 pub mod Performing
 pub mod ReadingParts
 pub mod SetupEnds
+pub mod StayingRefused
 pub mod TopLaws

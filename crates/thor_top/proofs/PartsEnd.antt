@@ -75,8 +75,8 @@ kind_for kinds.Number text = kinds.Number
 kind_for kinds.Keyword text = kind_by (symbol_mark text)
 kind_for kinds.Symbol text = kind_by (symbol_mark text)
 
-abbrev pub mended : Token → Token
-mended token = record token { kind = kind_for token.kind token.text }
+abbrev pub made_proper : Token → Token
+made_proper token = record token { kind = kind_for token.kind token.text }
 
 by_tests : (a b c : Bool) (plain : Mark) (symbol : Mark) → symbol ≡ cond a marks.Open (cond b marks.Close (cond c marks.End marks.Other)) → (text : List ℕ) → symbol_mark text ≡ symbol → keyword_mark text ≡ plain
     → mark_by (kind_by symbol) text ≡ cond a marks.Open (cond b marks.Close (cond c marks.End plain))
@@ -85,19 +85,19 @@ by_tests false true c plain symbol e text s k = subst (λ m. mark_by (kind_by m)
 by_tests false false true plain symbol e text s k = subst (λ m. mark_by (kind_by m) text ≡ marks.End) (sym e) (s ∙ e)
 by_tests false false false plain symbol e text s k = subst (λ m. mark_by (kind_by m) text ≡ plain) (sym e) k
 
-mended_mark : (text : List ℕ) → mark_by (kind_by (symbol_mark text)) text ≡ text_mark text
-mended_mark text = by_tests (bytes_eq text (codes "{")) (bytes_eq text (codes "}")) (bytes_eq text (codes ";")) (keyword_mark text) (symbol_mark text) refl text refl refl
+made_proper_mark : (text : List ℕ) → mark_by (kind_by (symbol_mark text)) text ≡ text_mark text
+made_proper_mark text = by_tests (bytes_eq text (codes "{")) (bytes_eq text (codes "}")) (bytes_eq text (codes ";")) (keyword_mark text) (symbol_mark text) refl text refl refl
 
-mended_by : (kind : TokenKind) (text : List ℕ) → is_fixed_kind (kind_for kind text) ≡ true → mark_by (kind_for kind text) text ≡ text_mark text
-mended_by kinds.Name text fixed = absurd (false_true fixed)
-mended_by kinds.Number text fixed = absurd (false_true fixed)
-mended_by kinds.Keyword text fixed = mended_mark text
-mended_by kinds.Symbol text fixed = mended_mark text
+made_proper_by : (kind : TokenKind) (text : List ℕ) → is_fixed_kind (kind_for kind text) ≡ true → mark_by (kind_for kind text) text ≡ text_mark text
+made_proper_by kinds.Name text fixed = absurd (false_true fixed)
+made_proper_by kinds.Number text fixed = absurd (false_true fixed)
+made_proper_by kinds.Keyword text fixed = made_proper_mark text
+made_proper_by kinds.Symbol text fixed = made_proper_mark text
 
-pub mended_proper : (tokens : List Token) → AreProper (map mended tokens)
+pub now_proper : (tokens : List Token) → AreProper (map made_proper tokens)
 unfolding mark_of
-mended_proper [] = tt
-mended_proper (token ∷ tokens) = (λ fixed. mended_by token.kind token.text fixed, mended_proper tokens)
+now_proper [] = tt
+now_proper (token ∷ tokens) = (λ fixed. made_proper_by token.kind token.text fixed, now_proper tokens)
 
 fixed_by : (m : Mark) → is_fixed_kind (kind_by m) ≡ true
 fixed_by marks.Open = refl
@@ -128,19 +128,19 @@ still_number kinds.Name text o v e is = is ∙ e
 still_number kinds.Keyword text o v e is = absurd cc
 still_number kinds.Symbol text o v e is = absurd cc
 
-mended_word : (token : Token) (word : Word) → IsWord token word → IsWord (mended token) word
-mended_word token (Fixed text) is = (still_fixed token.kind token.text is.0, is.1)
-mended_word token (FixedAt text line) is = (still_fixed token.kind token.text is.0, is.1, is.2)
-mended_word token (Named text line) is = (still_name token.kind token.text is.0, is.1, is.2)
-mended_word token (Numbered value line) is = (still_number token.kind token.text (Some value) value refl is.0, is.1)
+made_proper_word : (token : Token) (word : Word) → IsWord token word → IsWord (made_proper token) word
+made_proper_word token (Fixed text) is = (still_fixed token.kind token.text is.0, is.1)
+made_proper_word token (FixedAt text line) is = (still_fixed token.kind token.text is.0, is.1, is.2)
+made_proper_word token (Named text line) is = (still_name token.kind token.text is.0, is.1, is.2)
+made_proper_word token (Numbered value line) is = (still_number token.kind token.text (Some value) value refl is.0, is.1)
 
 -- words that go on so go on with proper tokens
-pub mended_words : (front more : List Token) (words : List Word) → AreWords (front ++ more) words → AreWords (front ++ map mended more) words
-mended_words [] [] words are = are
-mended_words [] (t ∷ ts) [] are = absurd are
-mended_words [] (t ∷ ts) (w ∷ ws) are = (mended_word t w are.0, mended_words [] ts ws are.1)
-mended_words (f ∷ fs) more [] are = absurd are
-mended_words (f ∷ fs) more (w ∷ ws) are = (are.0, mended_words fs more ws are.1)
+pub made_proper_words : (front more : List Token) (words : List Word) → AreWords (front ++ more) words → AreWords (front ++ map made_proper more) words
+made_proper_words [] [] words are = are
+made_proper_words [] (t ∷ ts) [] are = absurd are
+made_proper_words [] (t ∷ ts) (w ∷ ws) are = (made_proper_word t w are.0, made_proper_words [] ts ws are.1)
+made_proper_words (f ∷ fs) more [] are = absurd are
+made_proper_words (f ∷ fs) more (w ∷ ws) are = (are.0, made_proper_words fs more ws are.1)
 
 pub both_proper : (front more : List Token) → AreProper front → AreProper more → AreProper (front ++ more)
 both_proper [] more p q = q

@@ -17,10 +17,11 @@ pub fn scripts_are_read_in_one_way()
 {}
 
 /// The line that is told of a refused text is that of its first token that no script goes on with, whatever part
-/// of the script it stands in. Where a script goes on with all tokens, and they are none, it is the last one's, or 1.
+/// of the script the token stands in. Where a script goes on with all tokens, and they are none, it is the line of
+/// the last one, or 1.
 ///
-/// The parts of a script are read and refused one by one: this says that nothing of that is seen. It speaks of texts
-/// that have tokens. Of the others the fault is where the tokens stop.
+/// `IsSyntaxOf` says this of whole scripts as it does of their parts. It speaks of texts that have tokens: any other
+/// is refused at the line on which they stop. `only` is the other direction: that line is told, and no other cause.
 pub fn the_first_fault_of_a_script_is_told()
     ensures told { (bytes : List ℕ) (tokens : List Token) (r : Refusal) → length bytes < 2 ^ 32 → AreTokensOf bytes tokens
         → IsRefusedText bytes r → IsSyntaxOf HasTokens tokens r }

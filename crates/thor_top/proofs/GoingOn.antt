@@ -31,15 +31,15 @@ IsFound f = ((setup : Option Declarations) × IsSetupPart f.setup setup) × ((wh
 abbrev pub IsCurrent : Current → Type 0
 IsCurrent cur = IsFound cur.found × ((whats : List What) × AreItems cur.items whats)
 
-abbrev pub Alive : Reader → Type 0
-Alive Start = Unit {0}
-Alive (Setup part depth closed) = Begins SpellsSetup part
-Alive (Number f) = IsFound f
-Alive (Client cur) = IsCurrent cur
-Alive (Word cur part) = IsCurrent cur
-Alive (Item cur part depth) = IsCurrent cur × Begins IsItem part
-Alive (Schedule f tokens) = IsFound f × Begins AreEventsOf tokens
-Alive (Stopped sections fault) = ⊥
+abbrev pub CanGoOn : Reader → Type 0
+CanGoOn Start = Unit {0}
+CanGoOn (Setup part depth closed) = Begins SpellsSetup part
+CanGoOn (Number f) = IsFound f
+CanGoOn (Client cur) = IsCurrent cur
+CanGoOn (Word cur part) = IsCurrent cur
+CanGoOn (Item cur part depth) = IsCurrent cur × Begins IsItem part
+CanGoOn (Schedule f tokens) = IsFound f × Begins AreEventsOf tokens
+CanGoOn (Stopped sections fault) = ⊥
 
 module _ {A T : Type 0} (Is : A → T → Type 0) where
   pub each_cut : (xs ys : List A) (ts : List T) → Each Is (xs ++ ys) ts → ((us : List T) × Each Is xs us) × ((vs : List T) × Each Is ys vs)
@@ -66,14 +66,14 @@ part_begins part (Some setup) is = spelled_begins SpellsSetup part setup is
 
 -- ---- backwards
 
-start_back : (m : Mark) (t : Token) → Alive (start_step m t) → Alive Start
+start_back : (m : Mark) (t : Token) → CanGoOn (start_step m t) → CanGoOn Start
 start_back m t h = tt
 
-stop_back : (part : List Token) (d : ℕ) (c : Bool) (t : Token) → Alive (stop_setup part d c t) → ⊥
+stop_back : (part : List Token) (d : ℕ) (c : Bool) (t : Token) → CanGoOn (stop_setup part d c t) → ⊥
 stop_back part d true t h = h
 stop_back part d false t h = h
 
-setup_back : (m : Mark) (part : List Token) (d : ℕ) (c : Bool) (t : Token) → Alive (setup_step m part d c t) → Begins SpellsSetup part
+setup_back : (m : Mark) (part : List Token) (d : ℕ) (c : Bool) (t : Token) → CanGoOn (setup_step m part d c t) → Begins SpellsSetup part
 setup_back marks.Open part d c t h = begins_less SpellsSetup part (t ∷ []) h
 setup_back marks.Close part (suc d) c t h = begins_less SpellsSetup part (t ∷ []) h
 setup_back marks.Close part zero c t h = absurd (stop_back part zero c t h)
@@ -87,19 +87,19 @@ setup_back marks.Setup part d c t h = absurd (stop_back part d c t h)
 setup_back marks.Tx part d c t h = absurd (stop_back part d c t h)
 setup_back marks.Upgrade part d c t h = absurd (stop_back part d c t h)
 
-number_back : (o : Option ℕ) (f : Found) (t : Token) → Alive (number_step o f t) → IsFound f
+number_back : (o : Option ℕ) (f : Found) (t : Token) → CanGoOn (number_step o f t) → IsFound f
 number_back None f t h = absurd h
 number_back (Some n) f t h = by (nat_eq n (length f.clients + 1)) h
   where
-    by : (b : Bool) → Alive (cond b (Client (new_client f)) (stop (Number f) t)) → IsFound f
+    by : (b : Bool) → CanGoOn (cond b (Client (new_client f)) (stop (Number f) t)) → IsFound f
     by true h = h.0
     by false h = absurd h
 
-upgrade_back : (b : Bool) (cur : Current) (t : Token) → Alive (upgrade_step b cur t) → IsCurrent cur
+upgrade_back : (b : Bool) (cur : Current) (t : Token) → CanGoOn (upgrade_step b cur t) → IsCurrent cur
 upgrade_back true cur t h = absurd h
 upgrade_back false cur t h = h
 
-client_back : (m : Mark) (cur : Current) (t : Token) → Alive (client_step m cur t) → IsCurrent cur
+client_back : (m : Mark) (cur : Current) (t : Token) → CanGoOn (client_step m cur t) → IsCurrent cur
 client_back marks.Tx cur t h = h
 client_back marks.Upgrade cur t h = upgrade_back cur.found.upgraded cur t h
 client_back marks.Client cur t h = found_current cur h
@@ -110,7 +110,7 @@ client_back marks.Close cur t h = absurd h
 client_back marks.End cur t h = absurd h
 client_back marks.Other cur t h = absurd h
 
-word_back : (m : Mark) (cur : Current) (part : List Token) (t : Token) → Alive (word_step m cur part t) → IsCurrent cur
+word_back : (m : Mark) (cur : Current) (part : List Token) (t : Token) → CanGoOn (word_step m cur part t) → IsCurrent cur
 word_back marks.Open cur part t h = h.0
 word_back marks.Setup cur part t h = absurd h
 word_back marks.Client cur part t h = absurd h
@@ -130,7 +130,7 @@ item_joined cur part t h =
     let c = item_last cur (part ++ t ∷ []) h in
     (c.0, begins_less IsItem part (t ∷ []) (spelled_begins IsItem (part ++ t ∷ []) c.1.0 c.1.1))
 
-item_back : (m : Mark) (cur : Current) (part : List Token) (d : ℕ) (t : Token) → Alive (item_step m cur part d t) → IsCurrent cur × Begins IsItem part
+item_back : (m : Mark) (cur : Current) (part : List Token) (d : ℕ) (t : Token) → CanGoOn (item_step m cur part d t) → IsCurrent cur × Begins IsItem part
 item_back marks.Open cur part d t h = (h.0, begins_less IsItem part (t ∷ []) h.1)
 item_back marks.Close cur part zero t h = item_joined cur part t h
 item_back marks.Close cur part (suc d) t h = (h.0, begins_less IsItem part (t ∷ []) h.1)
@@ -142,7 +142,7 @@ item_back marks.Tx cur part d t h = absurd h
 item_back marks.Upgrade cur part d t h = absurd h
 item_back marks.Schedule cur part d t h = absurd h
 
-step_back : (r : Reader) (t : Token) → Alive (step r t) → Alive r
+step_back : (r : Reader) (t : Token) → CanGoOn (step r t) → CanGoOn r
 unfolding step
 step_back Start t h = tt
 step_back (Setup part d c) t h = setup_back (mark_of t) part d c t h
@@ -153,7 +153,7 @@ step_back (Item cur part d) t h = item_back (mark_of t) cur part d t h
 step_back (Schedule f tokens) t h = (h.0, begins_less AreEventsOf tokens (t ∷ []) h.1)
 step_back (Stopped s f) t h = absurd h
 
-fold_back : (ts : List Token) (r : Reader) → Alive (fold step r ts) → Alive r
+fold_back : (ts : List Token) (r : Reader) → CanGoOn (fold step r ts) → CanGoOn r
 fold_back [] r h = h
 fold_back (t ∷ ts) r h = step_back r t (fold_back ts (step r t) h)
 
@@ -161,26 +161,26 @@ some_none : {A : Type 0} (x : A) → Some x ≡ None → ⊥
 some_none x e = cc
 
 -- where a script ends it goes on
-whole_alive : (r : Reader) (line : ℕ) (script : Script) → fault_at_end r line ≡ None → HasParts (so_far r) script → Alive r
-whole_alive Start line script none has = tt
-whole_alive (Setup part d true) line script none has = part_begins part script.setup has.setup
-whole_alive (Setup part d false) line script none has = absurd (some_none _ none)
-whole_alive (Number f) line script none has = absurd (some_none _ none)
-whole_alive (Client cur) line script none has = found_current cur ((script.setup, has.setup), (script.clients, has.clients))
-whole_alive (Word cur part) line script none has = absurd (some_none _ none)
-whole_alive (Item cur part d) line script none has = absurd (some_none _ none)
-whole_alive (Schedule f tokens) line script none has = (((script.setup, has.setup), (script.clients, has.clients)), spelled_begins AreEventsOf tokens script.events has.events)
-whole_alive (Stopped s f) line script none has = absurd (some_none _ none)
+whole_can : (r : Reader) (line : ℕ) (script : Script) → fault_at_end r line ≡ None → HasParts (so_far r) script → CanGoOn r
+whole_can Start line script none has = tt
+whole_can (Setup part d true) line script none has = part_begins part script.setup has.setup
+whole_can (Setup part d false) line script none has = absurd (some_none _ none)
+whole_can (Number f) line script none has = absurd (some_none _ none)
+whole_can (Client cur) line script none has = found_current cur ((script.setup, has.setup), (script.clients, has.clients))
+whole_can (Word cur part) line script none has = absurd (some_none _ none)
+whole_can (Item cur part d) line script none has = absurd (some_none _ none)
+whole_can (Schedule f tokens) line script none has = (((script.setup, has.setup), (script.clients, has.clients)), spelled_begins AreEventsOf tokens script.events has.events)
+whole_can (Stopped s f) line script none has = absurd (some_none _ none)
 
 -- what a script has was read
-tokens_alive : (tokens : List Token) (script : Script) → HasTokens tokens script → Alive (fold step Start tokens)
+tokens_can : (tokens : List Token) (script : Script) → HasTokens tokens script → CanGoOn (fold step Start tokens)
 unfolding split_of read
-tokens_alive tokens script has =
+tokens_can tokens script has =
     let same = parts_read tokens has.0 has.1.0 in
-    whole_alive (fold step Start tokens) (last_line tokens) script (ap (λ s. s.fault) same)
+    whole_can (fold step Start tokens) (last_line tokens) script (ap (λ s. s.fault) same)
     (subst (λ (p : Sections). HasParts p script) (sym (ap (λ s. s.sections) same)) has.1.1)
 
--- where a script goes on, what was read is alive
-pub begins_alive : (tokens : List Token) → Begins HasTokens tokens → Alive (fold step Start tokens)
-begins_alive tokens b =
-    fold_back b.0 (fold step Start tokens) (subst (λ (r : Reader). Alive r) (fold-append step Start tokens b.0) (tokens_alive (tokens ++ b.0) b.1 b.2))
+-- where a script goes on with the tokens, it can go on with what was read
+pub begins_can : (tokens : List Token) → Begins HasTokens tokens → CanGoOn (fold step Start tokens)
+begins_can tokens b =
+    fold_back b.0 (fold step Start tokens) (subst (λ (r : Reader). CanGoOn r) (fold-append step Start tokens b.0) (tokens_can (tokens ++ b.0) b.1 b.2))
