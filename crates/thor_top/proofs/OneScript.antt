@@ -8,15 +8,12 @@ use Rattle.class_defs.specs.declared.upgrades.Upgrade.{Upgrade}
 use Rattle.method_parse.specs.Matching.{is, is_fixed_kind}
 use Rattle.method_parse.specs.Texts.{SpellsBlock, SpellsSetup}
 use Rattle.method_parse.proofs.Only.{one_block, one_setup}
-use Rattle.schedule.specs.Schedule.{events_of}
 use Rattle.schedule.specs.Written.{AreEventsOf}
 use Rattle.schedule.specs.declared.events.Event.{Event}
 use Rattle.schedule.proofs.Schedules.{events_read}
 use Rattle.schedule.proofs.Faults.{only_first_fault}
 use Rattle.script_text.specs.Grammar.{AreTokensOf, StopsAt}
-use Rattle.script_text.specs.Script.{ArePartsOf}
 use Rattle.script_text.specs.Sections.{split_of}
-use Rattle.script_text.specs.Tokens.{tokens_of}
 use Rattle.script_text.specs.declared.sections.Sections.{Sections}
 use Rattle.script_text.specs.declared.sections.Split.{Split}
 use Rattle.script_text.specs.declared.syntax.Syntax.{Syntax}
@@ -271,10 +268,10 @@ stopped_one f g e = cc
 scanned_stopped : (a : List Token) (f : Syntax) → scanned a ≡ stopped f → ⊥
 scanned_stopped a f e = cc
 
-one_tokens : (bytes : List ℕ) (a b : List Token) → AreTokensOf bytes a → AreTokensOf bytes b → a ≡ b
+pub one_tokens : (bytes : List ℕ) (a b : List Token) → AreTokensOf bytes a → AreTokensOf bytes b → a ≡ b
 one_tokens bytes a b p q = scanned_one a b (sym (one_reading bytes a p) ∙ one_reading bytes b q)
 
-tokens_or_stop : (bytes : List ℕ) (tokens : List Token) (fault : Syntax) → AreTokensOf bytes tokens → StopsAt bytes fault → ⊥
+pub tokens_or_stop : (bytes : List ℕ) (tokens : List Token) (fault : Syntax) → AreTokensOf bytes tokens → StopsAt bytes fault → ⊥
 tokens_or_stop bytes tokens fault are stops = scanned_stopped tokens fault (sym (one_reading bytes tokens are) ∙ one_stop bytes fault stops)
 
 same_stop : (bytes : List ℕ) (f g : Syntax) → StopsAt bytes f → StopsAt bytes g → f ≡ g

@@ -13,6 +13,8 @@ mod playing;
 mod reading;
 mod refusal;
 mod script;
+#[cfg(test)]
+mod script_law_tests;
 mod script_laws;
 mod status;
 #[cfg(test)]
@@ -31,7 +33,7 @@ pub use performed::Performed;
 pub use reading::read_script;
 pub use refusal::Refusal;
 pub use script::{ClientItems, Items, Script};
-pub use script_laws::scripts_are_read_in_one_way;
+pub use script_laws::{scripts_are_read_in_one_way, the_first_fault_of_a_script_is_told};
 pub use status::Status;
 pub use top::{SCRIPT_LIMIT, thor};
 pub use upgrade_laws::upgrades_are_accepted_in_order;

@@ -1,5 +1,9 @@
+use Rattle.thor_top.proofs.EachText.{each_text}
 use Rattle.thor_top.proofs.OneScript.{none_refused, one_refusal, one_script}
 use Rattle.thor_top.proofs.script_laws.scripts_are_read_in_one_way.Goals as goal
+
+pub returns-clause-each : goal.returns-clause-each
+returns-clause-each c = each_text
 
 pub returns-clause-script : goal.returns-clause-script
 returns-clause-script c = one_script
