@@ -1,12 +1,12 @@
 -- Tokens are a part of a script, or they can't go on at one place.
 use Rattle.std.proofs.Common.{◌≡◌, ◌⊎◌, ◌≤◌, ℕ, Bool, true, false, List, [], ◌∷◌, ◌++◌, length, drop, Result, Ok, Err, refl, sym, ap, ◌∙◌, subst, inl, inr, append_assoc, arith}
-use Rattle.std.specs.Prelude.{codes, fold}
+use Rattle.std.specs.Prelude.{codes}
 use Rattle.class_defs.specs.declared.declarations.Declarations.{Declarations}
 use Rattle.class_defs.specs.declared.statements.Stmt.{Stmt}
 use Rattle.class_defs.specs.declared.upgrades.Upgrade.{Upgrade}
 use Rattle.method_parse.specs.Matching.{is}
 use Rattle.method_parse.specs.Setups.{block_of, setup_of}
-use Rattle.method_parse.specs.Texts.{Begins, IsFaultAt, SpellsBlock, SpellsSetup, fault_line, last_line}
+use Rattle.method_parse.specs.Texts.{Begins, IsFaultAt, SpellsBlock, SpellsSetup, fault_line}
 use Rattle.method_parse.proofs.Ends.{block_found, setup_found}
 use Rattle.method_parse.proofs.Faults.{block_fault, setup_fault}
 use Rattle.schedule.specs.Schedule.{events_of}
@@ -57,14 +57,6 @@ decided_upgrade tokens = upgrade_by tokens (upgrade_of tokens) refl
 
 -- ---- schedules
 
-fold_last : (tokens : List Token) (token : Token) (line : ℕ) → fold (λ (n : ℕ) (t : Token). t.line) line (token ∷ tokens) ≡ last_line (token ∷ tokens)
-fold_last [] token line = refl
-fold_last (next ∷ tokens) token line = fold_last tokens next token.line
-
-pub last_same : (tokens : List Token) → fold (λ (n : ℕ) (t : Token). t.line) 1 tokens ≡ last_line tokens
-last_same [] = refl
-last_same (token ∷ tokens) = fold_last tokens token 1
-
 pub events_fault : (tokens : List Token) (fault : Syntax) → IsEventFault tokens fault → IsFaultAt AreEventsOf tokens fault.line
 events_fault tokens fault (inl s) = inl (record {
   before = s.front;
@@ -75,7 +67,7 @@ events_fault tokens fault (inl s) = inl (record {
   ends = λ b. s.none b.0 b.1 (subst (λ (l : List Token). AreEventsOf l b.1) (append_assoc s.front (s.token ∷ []) b.0) b.2);
   on_line = s.line;
 })
-events_fault tokens fault (inr s) = inr (record { begins = (s.begin.more, s.begin.events, s.begin.is); none = s.none; on_line = s.line ∙ last_same tokens })
+events_fault tokens fault (inr s) = inr (record { begins = (s.begin.more, s.begin.events, s.begin.is); none = s.none; on_line = s.line })
 
 pub events_or_fault : (tokens : List Token) → ((events : List Event) × AreEventsOf tokens events) ⊎ ((fault : Syntax) × IsEventFault tokens fault)
 events_or_fault tokens = by (events_of tokens) refl

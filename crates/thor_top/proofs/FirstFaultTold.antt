@@ -5,13 +5,13 @@ use Rattle.std.specs.List.{AllByRecursion}
 use Rattle.std.proofs.lemmas.List.Elements.{recursion_from_All}
 use Rattle.std.proofs.lemmas.List.Sums.{fold-append}
 use Rattle.class_defs.specs.declared.declarations.Declarations.{Declarations}
-use Rattle.method_parse.specs.Texts.{Begins, IsFaultAt, SpellsSetup, last_line}
+use Rattle.method_parse.specs.Texts.{Begins, IsFaultAt, SpellsSetup}
 use Rattle.schedule.specs.Written.{AreEventsOf, IsFirstFault as IsEventFault}
 use Rattle.schedule.specs.declared.events.Event.{Event}
 use Rattle.script_text.specs.Grammar.{AreTokensOf, IsToken}
 use Rattle.script_text.specs.Laws.{SpansRise}
 use Rattle.script_text.specs.Marks.{max_number}
-use Rattle.script_text.specs.Sections.{nothing, with_client, with_item, with_setup, sections_of, step, fault_at_end, read, split_at_end, split_of}
+use Rattle.script_text.specs.Sections.{nothing, with_client, with_item, with_setup, sections_of, step, fault_at_end, last_line, read, split_at_end, split_of}
 use Rattle.script_text.specs.declared.reader.Current.{Current}
 use Rattle.script_text.specs.declared.reader.Found.{Found}
 use Rattle.script_text.specs.declared.reader.Reader.{Reader}
@@ -29,7 +29,7 @@ use Rattle.thor_top.specs.declared.refusal.Refusal.TheVariants as refusal
 use Rattle.thor_top.specs.declared.script.Script.{Script}
 use Rattle.thor_top.proofs.GoingOn.{CanGoOn, IsCurrent, IsFound, begins_can}
 use Rattle.thor_top.proofs.Completed.{completed, current_found, found_parts, item_current, no_events}
-use Rattle.thor_top.proofs.Decided.{Decided, decided_setup, events_fault, events_or_fault, item_fault, item_or_refused, last_same}
+use Rattle.thor_top.proofs.Decided.{Decided, decided_setup, events_fault, events_or_fault, item_fault, item_or_refused}
 use Rattle.thor_top.proofs.StayingRefused.{first_behind}
 use Rattle.thor_top.proofs.FirstFault.{Next, next_token, empty_setup}
 use Rattle.thor_top.proofs.OneFault.{begins_at}
@@ -38,10 +38,12 @@ use Rattle.thor_top.proofs.PartsEnd.{AreProper, front_proper, spelled_proper}
 
 -- ---- where the tokens end
 
+line_behind : (front : List Token) (t : Token) (ts : List Token) (n : ℕ) → fold (λ (m : ℕ) (u : Token). u.line) n (front ++ t ∷ ts) ≡ fold (λ (m : ℕ) (u : Token). u.line) t.line ts
+line_behind [] t ts n = refl
+line_behind (f ∷ front) t ts n = line_behind front t ts f.line
+
 last_behind : (front : List Token) (t : Token) (ts : List Token) → last_line (front ++ t ∷ ts) ≡ last_line (t ∷ ts)
-last_behind [] t ts = refl
-last_behind (f ∷ []) t ts = refl
-last_behind (f ∷ g ∷ front) t ts = last_behind (g ∷ front) t ts
+last_behind front t ts = line_behind front t ts 1
 
 -- whole parts, and a fault or none behind them
 found_told : (f : Found) (fault : Option Syntax) (q : Refusal) → IsFound f → IsRefusedSplit (record { sections = sections_of f []; fault = fault }) q → IsRefusedEnd fault q
@@ -180,7 +182,7 @@ module _ (whole : List Token) (q : Refusal) (line : ℕ) (at_last : line ≡ las
 tokens_told : (tokens : List Token) (q : Refusal) → AreProper tokens → length tokens ≤ max_number → IsRefusedSplit (split_of tokens) q → IsSyntaxOf HasTokens tokens q
 unfolding split_of read
 tokens_told tokens q proper short refused =
-    walk tokens q (fold (λ (n : ℕ) (t : Token). t.line) 1 tokens) (last_same tokens) proper short (λ script has. tokens_apart tokens script q has refused) tokens [] refl tt refused
+    walk tokens q (last_line tokens) refl proper short (λ script has. tokens_apart tokens script q has refused) tokens [] refl tt refused
 
 -- ---- bytes
 

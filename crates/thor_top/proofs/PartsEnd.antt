@@ -7,11 +7,11 @@ use Rattle.class_defs.specs.Spelling.{stmt_words}
 use Rattle.class_defs.specs.Words.{Word, Fixed, FixedAt, Named, Numbered, in_turn}
 use Rattle.class_defs.specs.declared.statements.Stmt.{Stmt}
 use Rattle.class_defs.specs.declared.upgrades.Upgrade.{Upgrade}
-use Rattle.method_parse.specs.Matching.{AreWords, IsWord, is_fixed_kind, is_name_kind, number_in}
+use Rattle.method_parse.specs.Matching.{AreWords, IsWord, is_fixed_kind, is_name_kind}
 use Rattle.method_parse.specs.Texts.{SpellsBlock}
 use Rattle.method_parse.proofs.Eats.{split}
 use Rattle.script_text.specs.Grammar.{IsToken}
-use Rattle.script_text.specs.Marks.{mark_by, mark_of, keyword_mark, symbol_mark}
+use Rattle.script_text.specs.Marks.{mark_by, mark_of, keyword_mark, number_by, symbol_mark}
 use Rattle.script_text.specs.Script.{are_none, closes_by, closes, ends_by, ends, is_open, is_item_word, is_item}
 use Rattle.script_text.specs.Words.{keywords, is_keyword, long_symbols, short_symbols}
 use Rattle.script_text.specs.declared.mark.Mark.{Mark}
@@ -122,7 +122,7 @@ still_name kinds.Number text is = absurd (false_true is)
 still_name kinds.Keyword text is = absurd (false_true is)
 still_name kinds.Symbol text is = absurd (false_true is)
 
-still_number : (kind : TokenKind) (text : List ℕ) (o : Option ℤ) (v : ℤ) → o ≡ Some v → option_map pos (number_in kind text) ≡ o → option_map pos (number_in (kind_for kind text) text) ≡ Some v
+still_number : (kind : TokenKind) (text : List ℕ) (o : Option ℤ) (v : ℤ) → o ≡ Some v → option_map pos (number_by kind text) ≡ o → option_map pos (number_by (kind_for kind text) text) ≡ Some v
 still_number kinds.Number text o v e is = is ∙ e
 still_number kinds.Name text o v e is = is ∙ e
 still_number kinds.Keyword text o v e is = absurd cc
@@ -162,7 +162,7 @@ name_mark kinds.Number text is = absurd (false_true is)
 name_mark kinds.Keyword text is = absurd (false_true is)
 name_mark kinds.Symbol text is = absurd (false_true is)
 
-number_mark : (kind : TokenKind) (text : List ℕ) (v : ℤ) → option_map pos (number_in kind text) ≡ Some v → mark_by kind text ≡ marks.Other
+number_mark : (kind : TokenKind) (text : List ℕ) (v : ℤ) → option_map pos (number_by kind text) ≡ Some v → mark_by kind text ≡ marks.Other
 number_mark kinds.Name text v is = refl
 number_mark kinds.Number text v is = refl
 number_mark kinds.Keyword text v is = absurd cc
