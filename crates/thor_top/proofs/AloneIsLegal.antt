@@ -8,6 +8,7 @@ use Rattle.thor_value.specs.Names.{Before}
 use Rattle.thor_value.specs.declared.names.Oref.{Oref}
 use Rattle.thor_value.specs.declared.names.Ts.{Ts}
 use Rattle.thor_value.specs.declared.values.Answer.{Answer}
+use Rattle.thor_value.specs.declared.values.Answer.TheVariants as answer
 use Rattle.class_defs.specs.Run.{Ran, run, ran_by, takes, execute_all, world_of, begun}
 use Rattle.class_defs.specs.declared.machine.Flow.{Flow}
 use Rattle.class_defs.specs.declared.machine.Machine.{Machine}
@@ -25,7 +26,7 @@ use Rattle.serial_model.specs.declared.entries.What.TheVariants.{Tx, Upgrade as 
 use Rattle.serial_model.specs.Taking.{names_taken}
 use Rattle.serial_model.specs.declared.taking.Taken.{Taken}
 use Rattle.serial_model.specs.declared.taking.Taken.TheVariants.{Names, Wanting, Stopped}
-use Rattle.thor_top.specs.Alone.{Commit, Turn, Commits, LacksNames, IsUndefined, by_turn, commits_or_not, did, first_page, names_at_hand, performance, schemas_of, turn_by, turn_of, with_entry, with_names, with_refused}
+use Rattle.thor_top.specs.Alone.{Commit, Turn, Commits, LacksNames, IsUndefined, by_turn, commits_or_not, did, first_page, names_at_hand, performance, schemas_of, turn_after, turn_by, turn_of, turn_without, with_entry, with_names, with_refused}
 use Rattle.thor_top.specs.declared.performed.Performed.{Performed}
 
 pub some_is : {X : Type 0} {x y : X} → Some x ≡ Some y → x ≡ y
@@ -68,10 +69,21 @@ is_commit_if schema tx store fresh false c ok h = absurd (let bad : IsUndefined 
 is_commit_taken : (schema : Schema) (tx : List Stmt) (store : Plain) (taken : Taken) (c : Commit) → turn_by schema tx store taken ≡ Commits c → IsCommit schema tx store c
 is_commit_taken schema tx store (Names fresh) c h = is_commit_if schema tx store fresh (are_fresh store fresh) c refl h
 is_commit_taken schema tx store Wanting c h = absurd (let bad : LacksNames ≡ Commits c = h in cc)
-is_commit_taken schema tx store Stopped c h = is_commit_of schema tx store [] (with_names schema tx store []) c refl refl h
+is_commit_taken schema tx store Stopped c h = absurd (let bad : IsUndefined ≡ Commits c = h in cc)
+
+-- where the run without names is defined
+commits_same : (d : Commit) (a : Answer) (taken : Taken) (c : Commit) → turn_without d a taken ≡ Commits c → d ≡ c
+commits_same d (answer.Ints ints) taken c h = let e : Commits d ≡ Commits c = h in cc
+commits_same d (answer.Fault f) (Names fresh) c h = let e : Commits d ≡ Commits c = h in cc
+commits_same d (answer.Fault f) Wanting c h = absurd (let bad : LacksNames ≡ Commits c = h in cc)
+commits_same d (answer.Fault f) Stopped c h = let e : Commits d ≡ Commits c = h in cc
+
+is_commit_after : (schema : Schema) (tx : List Stmt) (store : Plain) (taken : Taken) (o : Option Commit) (c : Commit) → with_names schema tx store [] ≡ o → turn_after schema tx store o taken ≡ Commits c → IsCommit schema tx store c
+is_commit_after schema tx store taken (Some d) c is h = is_commit_with schema tx store [] c refl (is ∙ ap Some (commits_same d d.answer taken c h))
+is_commit_after schema tx store taken None c is h = is_commit_taken schema tx store taken c h
 
 pub is_commit : (schema : Schema) (tx : List Stmt) (store : Plain) (at_hand : List Oref) (c : Commit) → turn_of schema tx store at_hand ≡ Commits c → IsCommit schema tx store c
-is_commit schema tx store at_hand c h = is_commit_taken schema tx store (names_taken schema tx store at_hand) c h
+is_commit schema tx store at_hand c h = is_commit_after schema tx store (names_taken schema tx store at_hand) (with_names schema tx store []) c refl h
 
 -- ---- a performance of one transaction and more
 

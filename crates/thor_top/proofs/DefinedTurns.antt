@@ -6,6 +6,7 @@ use Rattle.std.specs.Prelude.{◌+◌}
 use Rattle.thor_value.specs.FiniteMap.{get}
 use Rattle.thor_value.specs.declared.names.Oref.{Oref}
 use Rattle.thor_value.specs.declared.values.Answer.{Answer}
+use Rattle.thor_value.specs.declared.values.Answer.TheVariants as answer
 use Rattle.thor_value.specs.declared.values.Fault.{Fault}
 use Rattle.class_defs.proofs.FitRun.{run_fits, run_had}
 use Rattle.class_defs.proofs.RenamedAfter.{unused_behind, unwritten_behind}
@@ -26,8 +27,10 @@ use Rattle.class_defs.specs.declared.store.Plain.{Plain}
 use Rattle.class_defs.specs.declared.store.Schema.{Schema}
 use Rattle.serial_model.specs.Replaying.{effect}
 use Rattle.serial_model.specs.Taking.{names_taken, taken_by}
+use Rattle.serial_model.specs.declared.taking.Taken.{Taken}
+use Rattle.serial_model.specs.declared.taking.Taken.TheVariants.{Names, Wanting, Stopped}
 use Rattle.thor_top.proofs.DefinedNames.{all_here, fresh_from, front_given, names_fresh, names_takeable, still_fresh, still_given}
-use Rattle.thor_top.specs.Alone.{Commit, Turn, Commits, LacksNames, IsUndefined, commits_or_not, names_at_hand, names_left, turn_by, turn_of, turn_with, with_names}
+use Rattle.thor_top.specs.Alone.{Commit, Turn, Commits, LacksNames, IsUndefined, commits_or_not, names_at_hand, names_left, turn_after, turn_by, turn_of, turn_with, turn_without, with_names}
 
 -- The store fits its schema, nothing in it refers to a name that may still be given, and no object has such a name.
 pub record Ready (first given : ℕ) (schema : Schema) (store : Plain) : Type 0 where
@@ -82,7 +85,7 @@ module _ (first given : ℕ) (schema : Schema) (sound : schema_rules schema 1 �
       subst (λ b. Goes first given schema (cond b (commits_or_not (with_names schema tx store names)) IsUndefined))
       (sym (still_fresh store fresh ready.free names t)) (goes_of P names t taken (run schema tx store names) refl h)
 
-  -- ---- by the evaluation with the names at hand
+  -- ---- where the run isn't defined without names
 
   abbrev at_hand : List Oref
   at_hand = names_at_hand first given
@@ -111,28 +114,38 @@ module _ (first given : ℕ) (schema : Schema) (sound : schema_rules schema 1 �
       no_names hand_takeable refl is (stand_ins_enough (world_of schema store) fresh ready.unused tx [] no_names) tt in
       no_fault without.1.created m.created f without.0 without.1 same.ended undefined
 
-  goes_without : (o : Option Ran) → run schema tx store [] ≡ o → (run schema tx store [] ≡ None → ⊥)
-      → Goes first given schema (commits_or_not (option_map (commit_with []) (option_map effect o)))
-  goes_without (Some r) is defined = ready_behind [] r no_names tt is
-  goes_without None is defined = absurd (defined is)
-
   goes_taken : (o : Result Flow Stop) (m : Machine) → execute_all (world_of schema store) tx (begun at_hand None) ≡ (o, m)
+      → run schema tx store [] ≡ None
       → Goes first given schema (turn_by schema tx store (taken_by o m))
-  goes_taken (Ok flow) m is =
+  goes_taken (Ok flow) m is undefined =
       let all = taken_in_order schema tx store fresh ready.unused at_hand hand_takeable (Ok flow) m is tt 0
       (all_here first given (names_left first given)) in
       goes_with _ m.created (created_takeable schema tx store fresh ready.unused at_hand hand_takeable (Ok flow) m is tt)
       (front_given first given (given + length m.created) (names_left first given) m.created m.names.waiting all (omega arith))
       (defined_again schema tx store fresh ready.unused at_hand hand_takeable (Ok flow) m is tt flow refl)
-  goes_taken (Err (stop.Fault f)) m is = goes_without (run schema tx store []) refl (never_faults f m is)
-  goes_taken (Err (stop.Need x owners)) m is =
+  goes_taken (Err (stop.Fault f)) m is undefined = absurd (never_faults f m is undefined)
+  goes_taken (Err (stop.Need x owners)) m is undefined =
       let had = run_had schema 1 tx store at_hand sound kept ready.fits (fresh_for at_hand hand_takeable) in
       absurd (subst (λ (p : Result Flow Stop × Machine). HadObjects p.0) is had)
-  goes_taken (Err (stop.NeedName repo)) m is = tt
+  goes_taken (Err (stop.NeedName repo)) m is undefined = tt
+
+  -- ---- first without names
+
+  goes_without : (c : Commit) (a : Answer) (taken : Taken) → Goes first given schema (Commits c) → Goes first given schema (turn_without c a taken)
+  goes_without c (answer.Ints ints) taken h = h
+  goes_without c (answer.Fault f) (Names names) h = h
+  goes_without c (answer.Fault f) Wanting h = tt
+  goes_without c (answer.Fault f) Stopped h = h
+
+  goes_after : (o : Option Ran) → run schema tx store [] ≡ o
+      → Goes first given schema
+      (turn_after schema tx store (option_map (commit_with []) (option_map effect o)) (names_taken schema tx store at_hand))
+  unfolding names_taken
+  goes_after (Some r) is = goes_without (commit_with [] (effect r)) r.answer (names_taken schema tx store at_hand) (ready_behind [] r no_names tt is)
+  goes_after None is =
+      let p = execute_all (world_of schema store) tx (begun at_hand None) in
+      goes_taken p.0 p.1 refl is
 
   -- the turn commits or lacks names
   pub turn_goes : Goes first given schema (turn_of schema tx store (names_at_hand first given))
-  unfolding names_taken
-  turn_goes =
-      let p = execute_all (world_of schema store) tx (begun at_hand None) in
-      goes_taken p.0 p.1 refl
+  turn_goes = goes_after (run schema tx store []) refl

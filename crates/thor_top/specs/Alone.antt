@@ -77,15 +77,28 @@ commits_or_not None = IsUndefined
 abbrev pub turn_with : Schema → List Stmt → Plain → List Oref → Turn
 turn_with schema tx store fresh = if are_fresh store fresh then commits_or_not (with_names schema tx store fresh) else IsUndefined
 
+-- the transaction, by the names that its new objects take of those at hand
 abbrev pub turn_by : Schema → List Stmt → Plain → Taken → Turn
 turn_by schema tx store (Names fresh) = turn_with schema tx store fresh
 turn_by schema tx store Wanting = LacksNames
-turn_by schema tx store Stopped = commits_or_not (with_names schema tx store [])
+turn_by schema tx store Stopped = IsUndefined
 
--- What becomes of a transaction, by its evaluation with these names at hand: where it ends by itself, its new objects
--- take the names that it took; where it ends in a fault it takes none; and it may want a name more than there are.
+-- A transaction that leaves no new objects takes no names. One that ends in a fault leaves none either, but it is refused
+-- where it wants more names than there are before it comes to that.
+abbrev pub turn_without : Commit → Answer → Taken → Turn
+turn_without c (answer.Ints ints) taken = Commits c
+turn_without c (answer.Fault f) (Names fresh) = Commits c
+turn_without c (answer.Fault f) Wanting = LacksNames
+turn_without c (answer.Fault f) Stopped = Commits c
+
+-- the transaction, by what it commits without names: where that run isn't defined, it takes names
+abbrev pub turn_after : Schema → List Stmt → Plain → Option Commit → Taken → Turn
+turn_after schema tx store (Some c) taken = turn_without c c.answer taken
+turn_after schema tx store None taken = turn_by schema tx store taken
+
+-- What becomes of a transaction with these names at hand, of which its new objects take those that they need.
 abbrev pub turn_of : Schema → List Stmt → Plain → List Oref → Turn
-turn_of schema tx store at_hand = turn_by schema tx store (names_taken schema tx store at_hand)
+turn_of schema tx store at_hand = turn_after schema tx store (with_names schema tx store []) (names_taken schema tx store at_hand)
 
 -- ---- all transactions
 

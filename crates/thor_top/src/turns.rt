@@ -1,9 +1,9 @@
-ghost use Rattle.std.specs.Prelude.{◌≡◌, ◌≤◌, List, [], length, IfOk};
+ghost use Rattle.std.specs.Prelude.{◌≡◌, ◌≤◌, List, length, IfOk};
 ghost use Rattle.class_defs.specs.declared.store.Root.{Root};
 ghost use Rattle.serial_model.specs.Taking.{names_taken};
 ghost use Rattle.serial_model.specs.Whole.{IsFirst, plain};
 ghost use Rattle.thor_top.specs.Alone as spec;
-ghost use Rattle.thor_top.specs.Committing.{CommitsOn, TurnsTo};
+ghost use Rattle.thor_top.specs.Committing.{CommitsOn, TurnsTo, commit_on};
 
 use crate::names::names_at_hand;
 use class_defs::{Block, Schema};
@@ -69,23 +69,6 @@ fn turn_with(
     }
 }
 
-/// The turn of a transaction that leaves no new objects.
-fn turn_without(
-    alloc: Global,
-    schema: &Schema,
-    view: &mut View,
-    tx: &Block,
-) -> Result<Turn, NoMemory>
-    requires few { length schema.now.classes ≤ 65536 }
-    requires first { IsFirst schema.now }
-    ensures { IfOk result (λ turn. (roots : List Root) → TurnsTo roots view.old (spec.commits_or_not (spec.with_names schema.now tx.now (plain roots view.old) [])) turn view.new) }
-{
-    match commit_with(alloc, schema, view, tx, Orefs::new(alloc))? {
-        Some(committed) => Ok(Turn::Commits(committed)),
-        None => Ok(Turn::Undefined),
-    }
-}
-
 /// The turn of a transaction whose new objects take those that they need of these names.
 fn turn_with_some_of(
     alloc: Global,
@@ -101,7 +84,45 @@ fn turn_with_some_of(
     match names_taken(alloc, tx, schema, view, &names)? {
         Taken::Names(fresh) => turn_with(alloc, schema, view, tx, fresh),
         Taken::Wanting => Ok(Turn::LacksNames),
-        Taken::Stopped => turn_without(alloc, schema, view, tx),
+        Taken::Stopped => Ok(Turn::Undefined),
+    }
+}
+
+/// The turn of a transaction that commits so without names, on the store behind it, where so many names were given
+/// behind those of the first pages.
+///
+/// One that ends in a fault has left the store as it was, and it is refused where it wants more names than there are
+/// before it comes to that. Only for such a one are the names at hand built.
+fn turn_without(
+    alloc: Global,
+    schema: &Schema,
+    view: &mut View,
+    tx: &Block,
+    first: usize,
+    given: usize,
+    committed: Committed,
+) -> Result<Turn, NoMemory>
+    requires few { length schema.now.classes ≤ 65536 }
+    requires first { IsFirst schema.now }
+    ensures { IfOk result (λ turn. (roots : List Root) → TurnsTo roots view.old (spec.turn_without (commit_on roots view.old committed) committed.answer (names_taken schema.now tx.now (plain roots view.old) (spec.names_at_hand first given))) turn view.new) }
+{
+    let Committed { fresh, answer } = committed;
+    let fault = match answer {
+        Answer::Ints(ints) => {
+            return Ok(Turn::Commits(Committed {
+                fresh,
+                answer: Answer::Ints(ints),
+            }));
+        }
+        Answer::Fault(fault) => fault,
+    };
+    let names = names_at_hand(alloc, first, given)?;
+    match names_taken(alloc, tx, schema, view, &names)? {
+        Taken::Wanting => Ok(Turn::LacksNames),
+        Taken::Names(_) | Taken::Stopped => Ok(Turn::Commits(Committed {
+            fresh,
+            answer: Answer::Fault(fault),
+        })),
     }
 }
 
@@ -119,6 +140,11 @@ pub fn take_turn(
     requires first { IsFirst schema.now }
     ensures { IfOk result (λ turn. (roots : List Root) → TurnsTo roots view.old (spec.turn_of schema.now tx.now (plain roots view.old) (spec.names_at_hand first given)) turn view.new) }
 {
-    let names = names_at_hand(alloc, first, given)?;
-    turn_with_some_of(alloc, schema, view, tx, names)
+    match commit_with(alloc, schema, view, tx, Orefs::new(alloc))? {
+        Some(committed) => turn_without(alloc, schema, view, tx, first, given, committed),
+        None => {
+            let names = names_at_hand(alloc, first, given)?;
+            turn_with_some_of(alloc, schema, view, tx, names)
+        }
+    }
 }

@@ -1,9 +1,9 @@
-use Rattle.std.proofs.Common.{◌∙◌, [], ap, sym}
+use Rattle.std.proofs.Common.{◌∙◌, ap, sym}
 use Rattle.class_defs.specs.declared.store.Plain.{Plain}
 use Rattle.serial_model.specs.Taking.{names_taken}
 use Rattle.serial_model.specs.Whole.{plain}
 use Rattle.serial_model.specs.declared.taking.Taken.TheVariants as taken
-use Rattle.thor_top.specs.Alone.{commits_or_not, turn_by, turn_with, with_names}
+use Rattle.thor_top.specs.Alone.{turn_by, turn_with}
 use Rattle.thor_top.proofs.CommitLaws.{by_taken, turns_result}
 use Rattle.thor_top.proofs.turns.turn_with_some_of.Goals as goal
 
@@ -23,13 +23,4 @@ pub returns-in-Wanting : goal.returns-in-Wanting
 returns-in-Wanting c = λ roots. (by_taken c.args.schema.now c.args.tx.now (plain roots c.args.view.now) _ c.in_ok-fresh.field-0 taken.Wanting (c.in_ok-fresh.ensures.taken roots) c.in-Wanting.is, c.in_ok-fresh.ensures.store roots)
 
 pub returns : goal.returns
-returns c =
-    let schema = c.args.schema.now in
-    let tx = c.args.tx.now in
-    turns_result c.args.view.now c.names_taken.new.view c.turn_without.new.view
-    (λ roots. commits_or_not (with_names schema tx (plain roots c.names_taken.new.view) []))
-    (λ roots. turn_by schema tx (plain roots c.args.view.now) (names_taken schema tx (plain roots c.args.view.now) c.args.names))
-    c.turn_without.result
-    (λ roots. by_taken schema tx (plain roots c.args.view.now) _ c.in_ok-fresh.field-0 taken.Stopped (c.in_ok-fresh.ensures.taken roots) c.in-Stopped.is
-    ∙ ap (λ (s : Plain). commits_or_not (with_names schema tx s [])) (sym (c.in_ok-fresh.ensures.store roots)))
-    c.in_ok-fresh.ensures.store c.turn_without.ensures
+returns c = λ roots. (by_taken c.args.schema.now c.args.tx.now (plain roots c.args.view.now) _ c.in_ok-fresh.field-0 taken.Stopped (c.in_ok-fresh.ensures.taken roots) c.in-Stopped.is, c.in_ok-fresh.ensures.store roots)
