@@ -6,7 +6,7 @@ ghost use Rattle.schedule.specs.Breaks.{least_breach};
 ghost use Rattle.schedule.specs.Rows.{events_in, event};
 
 /// The events of short schedules.
-#[tactic(auto, unfolding(script_text::specs::Tokens::tokens_of, script_text::specs::Tokens::tokens_among, script_text::specs::Pieces::pieces, script_text::specs::Pieces::first_piece, script_text::specs::Pieces::word_piece, script_text::specs::Pieces::number_piece, script_text::specs::Pieces::symbol_piece, crate::specs::Schedule::events_of, crate::specs::Schedule::read, crate::specs::Schedule::step, crate::specs::Schedule::mark_of))]
+#[tactic(auto, unfolding(script_text::specs::Tokens::tokens_of, script_text::specs::Tokens::tokens_among, script_text::specs::Pieces::pieces, script_text::specs::Pieces::first_piece, script_text::specs::Pieces::word_piece, script_text::specs::Pieces::number_piece, script_text::specs::Pieces::symbol_piece, schedule::specs::Schedule::events_of, schedule::specs::Schedule::read, schedule::specs::Schedule::step, schedule::specs::Schedule::mark_of))]
 fn events()
     ensures nothing { events_in [] ≡ Ok [] }
     ensures each_kind { events_in (codes "s1 d2.0 f0 k1 x1.2 c0.9 q7") ≡ Ok (event 1 (Step 1) ∷ event 1 (Deliver 2 0) ∷ event 1 (Flush 0)
@@ -18,7 +18,7 @@ fn events()
 {}
 
 /// Texts that are no schedule, with the line at which they can't go on.
-#[tactic(auto, unfolding(script_text::specs::Tokens::tokens_of, script_text::specs::Tokens::tokens_among, script_text::specs::Pieces::pieces, script_text::specs::Pieces::first_piece, script_text::specs::Pieces::word_piece, script_text::specs::Pieces::number_piece, script_text::specs::Pieces::symbol_piece, crate::specs::Schedule::events_of, crate::specs::Schedule::read, crate::specs::Schedule::step, crate::specs::Schedule::mark_of))]
+#[tactic(auto, unfolding(script_text::specs::Tokens::tokens_of, script_text::specs::Tokens::tokens_among, script_text::specs::Pieces::pieces, script_text::specs::Pieces::first_piece, script_text::specs::Pieces::word_piece, script_text::specs::Pieces::number_piece, script_text::specs::Pieces::symbol_piece, schedule::specs::Schedule::events_of, schedule::specs::Schedule::read, schedule::specs::Schedule::step, schedule::specs::Schedule::mark_of))]
 fn faults()
     ensures number { events_in (codes "s1" ++ 10 ∷ codes "5") ≡ Err (record { line = 2 }) }
     ensures point_at_the_end { events_in (codes "d1." ++ 10 ∷ []) ≡ Err (record { line = 1 }) }
@@ -27,7 +27,7 @@ fn faults()
 {}
 
 /// The least line of an event that breaks the rule, with two clients and two repositories.
-#[tactic(auto, unfolding(crate::specs::Breaks::least_breach))]
+#[tactic(auto, unfolding(schedule::specs::Breaks::least_breach))]
 fn breaches()
     ensures none { least_breach 2 2 (event 1 (Step 2) ∷ event 2 (Flush 1) ∷ []) ≡ None }
     ensures client_0 { least_breach 2 2 (event 1 (Step 0) ∷ []) ≡ Some 1 }

@@ -6,7 +6,7 @@ ghost use Rattle.script_text.specs.Tokens.{tokens_of};
 ghost use Rattle.script_text.specs.Rows.{row};
 
 /// Where the tokens of short texts stand.
-#[tactic(auto, unfolding(crate::specs::Tokens::tokens_of, crate::specs::Tokens::tokens_among, crate::specs::Pieces::pieces, crate::specs::Pieces::first_piece, crate::specs::Pieces::word_piece, crate::specs::Pieces::number_piece, crate::specs::Pieces::symbol_piece))]
+#[tactic(auto, unfolding(script_text::specs::Tokens::tokens_of, script_text::specs::Tokens::tokens_among, script_text::specs::Pieces::pieces, script_text::specs::Pieces::first_piece, script_text::specs::Pieces::word_piece, script_text::specs::Pieces::number_piece, script_text::specs::Pieces::symbol_piece))]
 fn cut()
     ensures nothing { tokens_of [] ≡ Ok [] }
     ensures separators { tokens_of (9 ∷ 13 ∷ 10 ∷ 32 ∷ []) ≡ Ok [] }
@@ -28,7 +28,7 @@ fn cut()
 {}
 
 /// Where there are none.
-#[tactic(auto, unfolding(crate::specs::Tokens::tokens_of, crate::specs::Tokens::tokens_among, crate::specs::Pieces::pieces, crate::specs::Pieces::first_piece, crate::specs::Pieces::word_piece, crate::specs::Pieces::number_piece, crate::specs::Pieces::symbol_piece))]
+#[tactic(auto, unfolding(script_text::specs::Tokens::tokens_of, script_text::specs::Tokens::tokens_among, script_text::specs::Pieces::pieces, script_text::specs::Pieces::first_piece, script_text::specs::Pieces::word_piece, script_text::specs::Pieces::number_piece, script_text::specs::Pieces::symbol_piece))]
 fn faults()
     ensures one_slash { tokens_of (10 ∷ codes "a / b") ≡ Err (record { line = 2 }) }
     ensures no_equals { tokens_of (codes "a ! b") ≡ Err (record { line = 1 }) }
@@ -38,7 +38,7 @@ fn faults()
 {}
 
 /// The limits of names and numbers.
-#[tactic(auto, unfolding(crate::specs::Tokens::tokens_of, crate::specs::Tokens::tokens_among, crate::specs::Pieces::pieces, crate::specs::Pieces::first_piece, crate::specs::Pieces::word_piece, crate::specs::Pieces::number_piece, crate::specs::Pieces::symbol_piece))]
+#[tactic(auto, unfolding(script_text::specs::Tokens::tokens_of, script_text::specs::Tokens::tokens_among, script_text::specs::Pieces::pieces, script_text::specs::Pieces::first_piece, script_text::specs::Pieces::word_piece, script_text::specs::Pieces::number_piece, script_text::specs::Pieces::symbol_piece))]
 fn limits()
     ensures name_of_32_bytes { tokens_of (replicate 32 97) ≡ Ok (row Name (replicate 32 97) 1 0 ∷ []) }
     ensures name_of_33_bytes { tokens_of (replicate 33 97) ≡ Err (record { line = 1 }) }

@@ -4,7 +4,7 @@ ghost use Rattle.std.specs.Prelude.{◌≡◌, ◌++◌, [], ◌∷◌, codes, S
 ghost use Rattle.script_text.specs.Rows.{sizes};
 
 /// Scripts, with the sizes of their setup, of each client's items and of their schedule.
-#[tactic(auto, unfolding(crate::specs::Tokens::tokens_of, crate::specs::Tokens::tokens_among, crate::specs::Pieces::pieces, crate::specs::Pieces::first_piece, crate::specs::Pieces::word_piece, crate::specs::Pieces::number_piece, crate::specs::Pieces::symbol_piece, crate::specs::Sections::split_of, crate::specs::Sections::read, crate::specs::Sections::step, crate::specs::Marks::mark_of))]
+#[tactic(auto, unfolding(script_text::specs::Tokens::tokens_of, script_text::specs::Tokens::tokens_among, script_text::specs::Pieces::pieces, script_text::specs::Pieces::first_piece, script_text::specs::Pieces::word_piece, script_text::specs::Pieces::number_piece, script_text::specs::Pieces::symbol_piece, script_text::specs::Sections::split_of, script_text::specs::Sections::read, script_text::specs::Sections::step, script_text::specs::Marks::mark_of))]
 fn scripts()
     ensures nothing { sizes [] ≡ Ok (None, [], 0, None) }
     ensures empty_setup { sizes (codes "setup") ≡ Ok (Some 0, [], 0, None) }
@@ -19,7 +19,7 @@ fn scripts()
 {}
 
 /// Texts that are none, with the line at which they can't go on.
-#[tactic(auto, unfolding(crate::specs::Tokens::tokens_of, crate::specs::Tokens::tokens_among, crate::specs::Pieces::pieces, crate::specs::Pieces::first_piece, crate::specs::Pieces::word_piece, crate::specs::Pieces::number_piece, crate::specs::Pieces::symbol_piece, crate::specs::Sections::split_of, crate::specs::Sections::read, crate::specs::Sections::step, crate::specs::Marks::mark_of))]
+#[tactic(auto, unfolding(script_text::specs::Tokens::tokens_of, script_text::specs::Tokens::tokens_among, script_text::specs::Pieces::pieces, script_text::specs::Pieces::first_piece, script_text::specs::Pieces::word_piece, script_text::specs::Pieces::number_piece, script_text::specs::Pieces::symbol_piece, script_text::specs::Sections::split_of, script_text::specs::Sections::read, script_text::specs::Sections::step, script_text::specs::Marks::mark_of))]
 fn faults()
     ensures item_without_client { sizes (10 ∷ codes "tx { }") ≡ Ok (None, [], 0, Some 2) }
     ensures second_client_first { sizes (codes "client" ++ 10 ∷ codes "2") ≡ Ok (None, [], 0, Some 2) }
@@ -33,7 +33,7 @@ fn faults()
 {}
 
 /// What is handed on of a part that is open.
-#[tactic(auto, unfolding(crate::specs::Tokens::tokens_of, crate::specs::Tokens::tokens_among, crate::specs::Pieces::pieces, crate::specs::Pieces::first_piece, crate::specs::Pieces::word_piece, crate::specs::Pieces::number_piece, crate::specs::Pieces::symbol_piece, crate::specs::Sections::split_of, crate::specs::Sections::read, crate::specs::Sections::step, crate::specs::Marks::mark_of))]
+#[tactic(auto, unfolding(script_text::specs::Tokens::tokens_of, script_text::specs::Tokens::tokens_among, script_text::specs::Pieces::pieces, script_text::specs::Pieces::first_piece, script_text::specs::Pieces::word_piece, script_text::specs::Pieces::number_piece, script_text::specs::Pieces::symbol_piece, script_text::specs::Sections::split_of, script_text::specs::Sections::read, script_text::specs::Sections::step, script_text::specs::Marks::mark_of))]
 fn open_parts()
     ensures item_open_at_client { sizes (codes "client 1 tx { a" ++ 10 ∷ codes "client 2 tx { }") ≡ Ok (None, (4 ∷ []) ∷ [], 0, Some 2) }
     ensures item_open_at_end { sizes (codes "client 1 tx {" ++ 10 ∷ codes "{ }") ≡ Ok (None, (4 ∷ []) ∷ [], 0, Some 2) }
