@@ -9,4 +9,6 @@ mod event_rows;
 #[cfg(test)]
 mod part_rows;
 #[cfg(test)]
+mod printing;
+#[cfg(test)]
 mod token_rows;
