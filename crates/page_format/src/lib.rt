@@ -4,8 +4,6 @@
 mod fault;
 mod page;
 mod splice;
-#[cfg(test)]
-mod tests;
 mod walk;
 
 pub use fault::{Damaged, Full};
