@@ -9,7 +9,7 @@ use Rattle.std.specs.List.{AllByRecursion}
 use Rattle.std.specs.List.Sorted.{IsStrictlySortedBy}
 use Rattle.std.specs.Map.{keys_of}
 use Rattle.std.specs.Ordering.{nat_cmp}
-use Rattle.std.specs.Prelude.{ℕ, ◌<◌, ◌^◌, FitsSigned, List}
+use Rattle.std.specs.Prelude.{ℕ, ◌<◌, ◌^◌, FitsSigned, List, length}
 use Rattle.thor_value.specs.Names.{oref_cmp}
 use Rattle.thor_value.specs.Spelling.{OrefFits, TsFits}
 use Rattle.thor_value.specs.declared.names.Oref.{Oref}
@@ -42,7 +42,7 @@ abbrev pub ReposRise : List ℕ → Type 0
 ReposRise repos = IsStrictlySortedBy nat_cmp repos
 
 -- The requests that have a spelling: each number is one of the formats, and the other repositories that take
--- part rise.
+-- part rise and are counted by one byte.
 pub record RequestFits (q : Request) : Type 0 where
   pub tx : TsFits q.tx
   pub who : WhoFits q.who
@@ -53,7 +53,7 @@ pub record RequestFits (q : Request) : Type 0 where
   pub writes : AllByRecursion WriteFits q.writes
   pub fresh : AllByRecursion OrefFits q.fresh
   pub answer : AnswerFits q.answer
-  pub others : AllByRecursion (λ r. r < 2 ^ 8) q.others
+  pub others : length q.others < 2 ^ 8
   pub others_rise : ReposRise q.others
 
 -- The form of a request: it has a spelling, the names that it read rise, so do those that it wrote, and
