@@ -16,17 +16,10 @@ use Rattle.thor_value.specs.declared.names.Oref.{Oref}
 use Rattle.thor_value.specs.declared.values.Answer.TheVariants.{Ints, Fault}
 use Rattle.thor_value.specs.declared.values.Answer.{Answer}
 use Rattle.thor_value.specs.declared.values.Obj.{Obj}
-use Rattle.thor_value.specs.declared.values.Who.{Who}
-
--- the items that a script can have
-pub record WhoFits (w : Who) : Type 0 where
-  pub client : w.client < 2 ^ 8
-  pub index : w.index < 2 ^ 32
 
 -- a name that a store can have, with an object that it can have
-pub record WriteFits (w : Oref × Obj) : Type 0 where
-  pub name : OrefFits w.0
-  pub object : ObjFits w.1
+abbrev pub WriteFits : Oref × Obj → Type 0
+WriteFits w = OrefFits w.0 × ObjFits w.1
 
 -- the answers that a transaction can give: numbers of 64 bits, or a fault
 abbrev pub AnswerFits : Answer → Type 0
@@ -45,7 +38,7 @@ ReposRise repos = IsStrictlySortedBy nat_cmp repos
 -- part rise and are counted by one byte.
 pub record RequestFits (q : Request) : Type 0 where
   pub tx : TsFits q.tx
-  pub who : WhoFits q.who
+  pub index : q.who.index < 2 ^ 32
   pub session : q.session < 2 ^ 32
   pub epoch : q.epoch < 2 ^ 32
   pub upto : q.upto < 2 ^ 64
