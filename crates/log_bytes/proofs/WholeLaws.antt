@@ -64,3 +64,11 @@ whole_of f ef v put h e n = record { fits = h; countable = ef.counts v h (subst 
 pub spelled_ok : {V E : Type 0} (f : Format V) (ef : IsExactFormat f) (v : V) (put : List ℕ) → f.Fits v → put ≡ f.spelling v → (r : Result (List ℕ) E) → IfOk r (λ t. t ≡ put) → IfOk r (λ t. length t < 2 ^ 32) → IfOk r (λ t. IsSpelled f t v)
 spelled_ok f ef v put h e (Ok t) same short = whole_of f ef v t h (same ∙ e) short
 spelled_ok f ef v put h e (Err d) same short = tt
+
+-- and is read again
+pub read_again : {V E : Type 0} (f : Format V) (ef : IsExactFormat f) (v : V) (put : List ℕ) → f.Fits v → put ≡ f.spelling v → (r : Result (List ℕ) E) → IfOk r (λ t. t ≡ put) → IfOk r (λ t. length t < 2 ^ 32) → IfOk r (λ t. value_of f t ≡ Some v)
+read_again f ef v put h e (Ok t) same short =
+    let s = whole_of f ef v t h (same ∙ e) short in
+    let r : f.reading t ≡ Some (v, []) = ap f.reading (s.whole ∙ sym (append-nil (f.spelling v))) ∙ ef.again v [] s.fits s.countable in
+    some_on (f.reading t) to_the_end (v, []) r
+read_again f ef v put h e (Err d) same short = tt

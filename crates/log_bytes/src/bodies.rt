@@ -1,6 +1,6 @@
 //! Reading and spelling the bodies of records.
 
-ghost use Rattle.std.specs.Prelude.{◌≡◌, ◌++◌, ◌∷◌, ◌<◌, ◌^◌, length, IfOk, OnOk, IsErrOf, Ok, Err};
+ghost use Rattle.std.specs.Prelude.{Some, ◌≡◌, ◌++◌, ◌∷◌, ◌<◌, ◌^◌, length, IfOk, OnOk, IsErrOf, Ok, Err};
 ghost use Rattle.commit_log.specs.RequestForm.{RequestFits};
 ghost use Rattle.log_bytes.specs.Format.{Answered, Gives, IsSpelled, u32_format, value_of};
 ghost use Rattle.log_bytes.specs.Grammar.{BodyFits, body_format, flag_format, request_format, ts_format};
@@ -136,6 +136,7 @@ fn put_installed(page: u32, side: u8, out: &mut Text) -> Result<(), NoMemory>
 pub fn spell_entry(alloc: Global, entry: &Entry) -> Result<Text, NoMemory>
     requires { BodyFits (AnEntry entry.now) }
     ensures spelled { IfOk result (λ put. IsSpelled body_format put (AnEntry entry.now)) }
+    ensures read { IfOk result (λ put. value_of body_format put ≡ Some (AnEntry entry.now)) }
     ensures short { IfOk result (λ put. length put < 2 ^ 32) }
 {
     let mut put = Text::new(alloc);
@@ -147,6 +148,7 @@ pub fn spell_entry(alloc: Global, entry: &Entry) -> Result<Text, NoMemory>
 pub fn spell_installed(alloc: Global, page: u32, side: u8) -> Result<Text, NoMemory>
     requires { side < 2 }
     ensures spelled { IfOk result (λ put. IsSpelled body_format put (AnInstalled page side)) }
+    ensures read { IfOk result (λ put. value_of body_format put ≡ Some (AnInstalled page side)) }
     ensures short { IfOk result (λ put. length put < 2 ^ 32) }
 {
     let mut put = Text::new(alloc);

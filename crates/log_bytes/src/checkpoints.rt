@@ -337,6 +337,7 @@ pub fn read_state(alloc: Global, bytes: &[u8]) -> Result<State, BodyFault>
 pub fn spell_state(alloc: Global, state: &State) -> Result<Text, NoMemory>
     requires { StateFits state.now }
     ensures spelled { IfOk result (λ put. IsSpelled state_format put state.now) }
+    ensures read { IfOk result (λ put. value_of state_format put ≡ Some state.now) }
     ensures short { IfOk result (λ put. length put < 2 ^ 32) }
 {
     let mut text = Text::new(alloc);
