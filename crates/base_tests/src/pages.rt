@@ -1,9 +1,9 @@
 //! Pages of objects: their one spelling, how much they hold, and bytes that are none.
 
-use page_format::{Damaged, Full, Page};
+use page_format::{Damaged, Full, Page, Room, Sides};
 use std::alloc::Global;
 use std::test::Fail;
-use thor_value::{NoMemory, Text, TryCopy};
+use thor_value::{NoMemory, Sequence, Text, TryCopy};
 
 /// So many bytes that begin so and go on with zeros.
 fn filled(alloc: Global, front: &[u8], count: usize) -> Result<Text, NoMemory> {
@@ -120,5 +120,45 @@ fn bytes_that_are_no_page_are_damaged(rt: HostRuntime) -> Result<(), Fail> {
         let read = Page::parse(rt.alloc(), bytes.as_slice());
         assert!(rt; matches!(read, Err(Damaged::NoPage)));
     }
+    Ok(())
+}
+
+#[test]
+fn pages_rise_with_their_sides(rt: HostRuntime) -> Result<(), Fail> {
+    let alloc = rt.alloc();
+    let rows: [(&[(u32, u8)], bool); 6] = [
+        (&[], true),
+        (&[(0, 1)], true),
+        (&[(3, 0), (7, 1), (u32::MAX, 0)], true),
+        (&[(3, 0), (3, 1)], false),
+        (&[(4, 0), (3, 1)], false),
+        (&[(1, 2)], false),
+    ];
+    for (pairs, fits) in rows {
+        let made = Sides::from_pairs(Sequence::from_slice(alloc, pairs)?);
+        assert_eq!(rt; made.is_some(), fits);
+        if let Some(sides) = made {
+            assert_eq!(rt; sides.copy()?.as_slice(), pairs);
+        }
+    }
+    Ok(())
+}
+
+#[test]
+fn side_in_use_is_put_in_place(rt: HostRuntime) -> Result<(), Fail> {
+    let alloc = rt.alloc();
+    let mut sides = Sides::new(alloc);
+    let mut room = Room::new(alloc);
+    for page in [9u32, 2, 5, 0, 7, 5] {
+        room.grow(sides.as_slice().len() + 1)?;
+        sides.put_within(&mut room, page, 1);
+    }
+    sides.put(5, 0)?;
+    sides.put(6, 0)?;
+    let want: [(u32, u8); 6] = [(0, 1), (2, 1), (5, 0), (6, 0), (7, 1), (9, 1)];
+    assert_eq!(rt; sides.as_slice(), want.as_slice());
+    assert_eq!(rt; sides.in_use(5), Some(0));
+    assert_eq!(rt; sides.in_use(9), Some(1));
+    assert_eq!(rt; sides.in_use(8), None);
     Ok(())
 }
