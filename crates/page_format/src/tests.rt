@@ -63,6 +63,9 @@ fn put_keeps_slots_in_order_and_puts_anew(rt: HostRuntime) -> Result<(), Fail> {
     assert_eq!(rt; page.spell()?.as_slice(), want.as_slice());
     assert_eq!(rt; page.get(5), Some([51, 52, 53].as_slice()));
     assert_eq!(rt; page.get(200), Some([].as_slice()));
+    assert_eq!(rt; page.len(), 3);
+    assert_eq!(rt; page.nth(1), Some((5, [51, 52, 53].as_slice())));
+    assert_eq!(rt; page.nth(3), None);
     assert_eq!(rt; page.get(3), None);
     Ok(())
 }
