@@ -10,3 +10,4 @@ mod walk;
 pub use fault::{Damaged, Full};
 pub use page::{Page, pages_are_apart, twelve_objects_fit};
 pub use sides::{Room, Sides};
+pub use walk::PAGE as PAGE_BYTES;
