@@ -10,8 +10,8 @@ use Rattle.seen_board.specs.declared.knowledge.Knowledge.{Knowledge}
 use Rattle.seen_board.specs.declared.knowledge.Made.{Made}
 use Rattle.seen_board.specs.Clauses.{StillMay}
 use Rattle.seen_board.specs.Knowledge.{Coherent, Covered, InOrder, MayAdd, all_unowned, at, both, histories, items_of, longer_by, nothing, together, with_call, with_item}
-use Rattle.seen_board.specs.Meaning.{Lasts, Meaning}
-use Rattle.seen_board.proofs.Prefixes.{get_push, prefix_get}
+use Rattle.seen_board.specs.Meaning.{Lasts, Meaning, stays_at}
+use Rattle.seen_board.proofs.Prefixes.{get_push}
 use Rattle.seen_board.proofs.Owned.{grown_else, grown_here, prefix_longer_by, prefix_together, together_either}
 
 module _ {I C : Type 0} (w : Meaning I C) where
@@ -20,7 +20,7 @@ module _ {I C : Type 0} (w : Meaning I C) where
 
   -- a covered item stays covered where more calls are known
   covered_more : (g h : Knowledge I C) (r : ℕ) (before : List (Made I)) (m : Made I) → ((k : ℕ) → IsPrefix (at g.calls k) (at h.calls k)) → Covered w g r before m → Covered w h r before m
-  covered_more g h r before m pre cov = (cov.0, λ k i e. let c = cov.1 k i e in (c.0, prefix_get _ _ i c.0 (pre k) c.1, c.2))
+  covered_more g h r before m pre cov = (cov.0, λ k i e. let c = cov.1 k i e in (c.0, stays_at _ _ i c.0 (pre k) c.1, c.2))
 
   -- what might stand next in a history still may, where the history is the same and more calls are known
   pub still_may : (g h : Knowledge I C) (r : ℕ) → at h.items r ≡ at g.items r → ((k : ℕ) → IsPrefix (at g.calls k) (at h.calls k)) → StillMay w r g h

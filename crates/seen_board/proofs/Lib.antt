@@ -5,3 +5,4 @@ pub mod Next
 pub mod Owned
 pub mod Prefixes
 pub mod Rows
+pub mod SampleLemmas

@@ -95,13 +95,6 @@ module _ {A : Type 0} where
   pub prefix_both : (xs ys : List A) → IsPrefix xs ys → IsPrefix ys xs → xs ≡ ys
   prefix_both xs ys p q = prefix_whole xs ys p (prefix_length ys xs q)
 
-  -- what stands in a beginning stands in the whole, at the same place
-  pub prefix_get : (xs ys : List A) (k : ℕ) (x : A) → IsPrefix xs ys → slice_get xs k ≡ Some x → slice_get ys k ≡ Some x
-  prefix_get [] ys k x p h = absurd cc
-  prefix_get (y ∷ xs) [] k x p h = absurd (cc (p.1))
-  prefix_get (y ∷ xs) (z ∷ ys) zero x p h = cc (p.1, h)
-  prefix_get (y ∷ xs) (z ∷ ys) (suc k) x p h = prefix_get xs ys k x (p.0, cc (p.1)) h
-
   pub get_here : (xs : List A) (x : A) → slice_get (xs ++ x ∷ []) (length xs) ≡ Some x
   get_here [] x = refl
   get_here (y ∷ xs) x = get_here xs x

@@ -1,12 +1,11 @@
 -- What stands in a row after a change.
-use Rattle.std.proofs.Common.{◌≡◌, ◌≢◌, ℕ, zero, suc, Bool, true, false, ◌||◌, ◌==◌, cond, eqb, List, [], ◌∷◌, ◌++◌, get_or, take, length, Some, append_assoc, refl, ap, sym, ◌∙◌, subst, arith, eq-eqb, ne_eqb, true≢false, ◌<◌, ◌⊎◌, inl, inr, ⊎_elim}
+use Rattle.std.proofs.Common.{◌≡◌, ◌≢◌, ℕ, zero, suc, Bool, true, false, ◌||◌, ◌==◌, cond, eqb, List, [], ◌∷◌, ◌++◌, get_or, take, length, append_assoc, refl, ap, sym, ◌∙◌, subst, arith, eq-eqb, ne_eqb, true≢false, ◌<◌, ◌⊎◌, inl, inr, ⊎_elim}
 use Rattle.std.proofs.lemmas.Bool.{eqb-true}
-use Rattle.std.proofs.lemmas.List.{append-nil}
-use Rattle.std.specs.Prelude.{slice_get}
 use mathlib.Core.Logic.{dite}
 use native.Mathlib.Decide.{ℕ_discrete}
 use mathlib.Core.Option.{some, some-ne-none, some-injective}
 use lib.ListN.{get_elem?}
+use Rattle.seen_board.specs.Meaning.{stays_at}
 use Rattle.seen_board.specs.Rows.{EachOf, Taken, put, longer, longers, among, from}
 use Rattle.seen_board.proofs.Prefixes.{get_here, get_push, longer_nil, nil_longer}
 
@@ -108,22 +107,14 @@ module _ {A : Type 0} where
   pub each_none : (P : ℕ → A → Type 0) → EachOf P []
   each_none P i x e = absurd (cc e)
 
-  get_front : (xs ys : List A) (i : ℕ) (y : A) → slice_get xs i ≡ Some y → slice_get (xs ++ ys) i ≡ Some y
-  get_front [] ys i y e = absurd (cc e)
-  get_front (x ∷ xs) ys zero y e = e
-  get_front (x ∷ xs) ys (suc i) y e = get_front xs ys i y e
-
   pub each_pop : (P : ℕ → A → Type 0) (all xs : List A) (x : A) → all ≡ xs ++ x ∷ [] → EachOf P all → EachOf P xs × P (length xs) x
   each_pop P all xs x is each =
       let e = subst (EachOf P) is each in
-      ((λ i y h. e i y (get_front xs (x ∷ []) i y h)), e (length xs) x (get_here xs x))
+      ((λ i y h. e i y (stays_at xs (xs ++ x ∷ []) i y (x ∷ [], refl) h)), e (length xs) x (get_here xs x))
 
   each_cons : (P : A → Type 0) (x : A) (xs : List A) → P x → EachOf (λ _ y. P y) xs → EachOf (λ _ y. P y) (x ∷ xs)
   each_cons P x xs p each zero y e = let same : x ≡ y = cc e in subst P same p
   each_cons P x xs p each (suc i) y e = each i y e
-
-  pub taken_none : (P : A → Type 0) (xs : List A) → Taken P xs xs
-  taken_none P xs = ([], append-nil xs, each_none (λ _ x. P x))
 
   pub taken_more : (P Q : A → Type 0) (old new all : List A) (x : A) → old ≡ new ++ x ∷ [] → ((y : A) → P y → Q y) → Q x → Taken P old all → Taken Q new all
   taken_more P Q old new all x is weaker q t =

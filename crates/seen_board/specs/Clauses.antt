@@ -21,7 +21,11 @@ module _ {S I C : Type 0} where
   abbrev pub calls_of : Seat S (View I C) → ℕ → List C
   calls_of p k = at p.me.0.knows.calls k
 
-  -- how long the seat found a repository's history to be, when it last looked
+  -- how long the seat found each repository's history to be, when it last looked
+  abbrev pub looks : Seat S (View I C) → List ℕ
+  looks p = p.me.0.reached
+
+  -- the same of one repository
   abbrev pub reached : Seat S (View I C) → ℕ → ℕ
   reached p r = slice_index p.me.0.reached r
 

@@ -1,5 +1,5 @@
 ghost use Rattle.std.specs.Prelude.{◌≡◌, ◌<◌, ◌≤◌, [], length, IfOk};
-ghost use Rattle.seen_board.specs.Clauses.{IsFresh, knowledge};
+ghost use Rattle.seen_board.specs.Clauses.{IsFresh, knowledge, looks};
 ghost use Rattle.seen_board.specs.Knowledge.{Coherent, LiesIn, both};
 ghost use Rattle.seen_board.specs.Rows.{EachOf};
 ghost use Rattle.seen_board.specs.Rule.{first_view};
@@ -88,6 +88,7 @@ impl<N: Naming> Board<N> {
         requires some { 0 < self.now.table.shared.table_id.words }
         ensures table { seat.new.table_id ≡ seat.old.table_id }
         ensures free { seat.new.me.1 ≡ seat.old.me.1 }
+        ensures looks { looks seat.new ≡ looks seat.old }
         ensures knows { knowledge seat.new ≡ both (knowledge seat.old) (knowledge other) }
         ensures calm { IsCalm seat.new.me.0 }
         ensures mine { LiesIn (knowledge seat.old) (knowledge seat.new) }

@@ -1,5 +1,5 @@
-ghost use Rattle.std.specs.Prelude.{◌≡◌, ℕ, ◌<◌, ◌≤◌, Some, [], ◌∷◌, ◌++◌, length};
-ghost use Rattle.seen_board.specs.Clauses.{IsCopy, Learnt, calls_of, history, knowledge, reached};
+ghost use Rattle.std.specs.Prelude.{◌≡◌, ◌≢◌, ℕ, ◌<◌, ◌≤◌, Some, [], ◌∷◌, ◌++◌, length};
+ghost use Rattle.seen_board.specs.Clauses.{IsCopy, Learnt, calls_of, history, knowledge, looks, reached};
 ghost use Rattle.seen_board.specs.Knowledge.{Coherent, histories};
 ghost use Rattle.seen_board.specs.Steps.{IsCalm, sent};
 
@@ -34,6 +34,7 @@ impl<N: Naming> ClientPass<N> {
         ensures at_least { length (history self.old.seat repo) ≤ result }
         ensures rises { reached self.old.seat repo ≤ result }
         ensures found { reached self.new.seat repo ≡ result }
+        ensures others { (r : ℕ) → r ≢ repo → reached self.new.seat r ≡ reached self.old.seat r }
     {
         let word = usize::from(repo);
         board.table.shared.load::<Meets>(&mut self.seat, word)
@@ -43,6 +44,7 @@ impl<N: Naming> ClientPass<N> {
     pub fn split(&mut self, board: &Board<N>) -> Pass<N>
         requires { self.old.seat.table_id ≡ board.now.table.shared.table_id }
         ensures same { (self.new.client ≡ self.old.client) × (self.new.seat.table_id ≡ self.old.seat.table_id) × (knowledge self.new.seat ≡ knowledge self.old.seat) }
+        ensures looks { looks self.new.seat ≡ looks self.old.seat }
         ensures table { result.seat.table_id ≡ self.old.seat.table_id }
         ensures copy { IsCopy (knowledge self.old.seat) (knowledge result.seat) }
     {
@@ -56,6 +58,7 @@ impl<N: Naming> ClientPass<N> {
         requires board { self.old.seat.table_id ≡ board.now.table.shared.table_id }
         requires other { other.seat.table_id ≡ board.now.table.shared.table_id }
         ensures same { (self.new.client ≡ self.old.client) × (self.new.seat.table_id ≡ self.old.seat.table_id) }
+        ensures looks { looks self.new.seat ≡ looks self.old.seat }
         ensures own { calls_of self.new.seat self.old.client ≡ calls_of self.old.seat self.old.client }
         ensures learnt { Learnt (knowledge self.old.seat) (knowledge other.seat) (knowledge self.new.seat) }
         ensures coherent { Coherent N.meaning (knowledge self.new.seat) }
@@ -70,7 +73,9 @@ impl<N: Naming> ClientPass<N> {
         requires board { self.old.seat.table_id ≡ board.now.table.shared.table_id }
         requires justified { N.meaning.justified (histories (knowledge self.old.seat)) call.now }
         ensures same { (self.new.client ≡ self.old.client) × (self.new.seat.table_id ≡ self.old.seat.table_id) }
+        ensures looks { looks self.new.seat ≡ looks self.old.seat }
         ensures items { (knowledge self.new.seat).items ≡ (knowledge self.old.seat).items }
+        ensures others { (k : ℕ) → k ≢ self.old.client → calls_of self.new.seat k ≡ calls_of self.old.seat k }
         ensures sent { calls_of self.new.seat self.old.client ≡ calls_of self.old.seat self.old.client ++ call.now ∷ [] }
     {
         send_as::<N, Brand>(board, &mut self.seat, self.client, call);

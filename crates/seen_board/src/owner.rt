@@ -1,4 +1,4 @@
-ghost use Rattle.std.specs.Prelude.{◌≡◌, ℕ, ◌-◌, ◌<◌, ◌^◌, [], ◌∷◌, length};
+ghost use Rattle.std.specs.Prelude.{◌≡◌, ◌≢◌, ℕ, ◌-◌, ◌<◌, ◌^◌, [], ◌∷◌, length};
 ghost use Rattle.seen_board.specs.Clauses.{Added, IsCopy, Learnt, MayGrow, StillMay, history, knowledge};
 ghost use Rattle.seen_board.specs.Knowledge.{Coherent};
 ghost use Rattle.seen_board.specs.Steps.{IsCalm};
@@ -53,6 +53,7 @@ impl<N: Naming> Owner<N> {
         requires next { MayGrow N.meaning (N.items kept.now) (knowledge self.old.seat) self.old.repo }
         ensures same { (self.new.repo ≡ self.old.repo) × (self.new.seat.table_id ≡ self.old.seat.table_id) }
         ensures calls { (knowledge self.new.seat).calls ≡ (knowledge self.old.seat).calls }
+        ensures others { (r : ℕ) → r ≢ self.old.repo → history self.new.seat r ≡ history self.old.seat r }
         ensures added { Added (N.items kept.now) (history self.old.seat self.old.repo) (history self.new.seat self.old.repo) }
     {
         let word = usize::from(self.repo);

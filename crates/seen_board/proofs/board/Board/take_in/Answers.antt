@@ -17,6 +17,7 @@ returns g c =
     let t = taken_in g.N.Naming.meaning g.N.Naming.lasts c.args.seat.now.me.0 c.args.other.me.0 c.args.seat.now.me.1 _ _ j.2 l.2 in record {
       table = l.0 ∙ j.0;
       free = ap (λ m. m.1) t.0;
+      looks = ap (λ m. m.0.reached) t.0;
       knows = ap (λ m. m.0.knows) t.0;
       calm = (ap (λ m. m.0.mine) t.0, ap (λ m. m.0.theirs) t.0);
       mine = t.1;

@@ -4,7 +4,7 @@ use Rattle.seen_board.specs.declared.knowledge.Knowledge.{Knowledge}
 use Rattle.seen_board.specs.declared.knowledge.Made.{Made}
 use Rattle.seen_board.specs.Clauses.{calls_of, history}
 use Rattle.seen_board.specs.Knowledge.{MayAdd, at}
-use Rattle.seen_board.proofs.Prefixes.{longer_prefix}
+use Rattle.seen_board.proofs.Prefixes.{longer_prefix, prefix_trans}
 use Rattle.seen_board.proofs.client_pass.ClientPass.catch_up.Goals as goal
 
 pub returns : goal.returns
@@ -28,7 +28,12 @@ returns g c =
       owner = (note.same.0 ∙ owner.same.0, note.same.1 ∙ owner.same.1);
       unchanged = ap (λ h. at h.items r) note.same.2 ∙ owner.own;
       history = (mine.learnt.items r).longer ∙ (longer_prefix _ _ (subst (IsPrefix before) (sym noted) begins) ∙ noted);
+      looks = mine.looks ∙ split.looks;
       mine = λ q. subst (λ (l : List (Made g.row.N-Item.Denot)). IsPrefix l (history c.learn-2.new.self.seat q)) (ap (λ h. at h.items q) split.same.2) (mine.learnt.items q).first;
+      shown = λ q. prefix_trans _ _ _ (owner.learnt.items q).first
+          (subst (λ (l : List (Made g.row.N-Item.Denot)). IsPrefix l (history c.learn-2.new.self.seat q)) (note.copy.0 q) (mine.learnt.items q).second);
+      known = λ q. subst (IsPrefix (history c.args.self.now.seat q)) (ap (λ h. at h.items q) (sym note.same.2))
+          (subst (λ (l : List (Made g.row.N-Item.Denot)). IsPrefix l (history c.learn.new.self.seat q)) (split.copy.0 q) (owner.learnt.items q).second);
       calls = same_calls;
       owner_calls = subst (λ (l : List g.row.N-Call.Denot). IsPrefix l (calls_of c.args.self.now.seat k)) shown (subst (IsPrefix (calls_of c.note-note.result.seat k)) same_calls (mine.learnt.calls k).second);
       coherent = mine.coherent;

@@ -19,6 +19,7 @@ invariant_of-self g c = let o = c.args.self.now in let t = c.take_in.ensures in 
 pub returns : goal.returns
 returns g c = let o = c.args.self.now in let t = c.take_in.ensures in record {
   same = (refl, t.table);
+  looks = t.looks;
   own = sym (t.mine.1.whole o.client (own_one o.client _ o.owned));
   learnt = learnt (knowledge o.seat) (knowledge c.args.other.seat) (knowledge c.take_in.new.seat) t.knows t.mine t.theirs;
   coherent = t.coherent;

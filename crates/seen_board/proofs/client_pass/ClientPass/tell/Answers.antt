@@ -1,7 +1,7 @@
 use Rattle.std.proofs.Common.{◌≡◌, ℕ, List, [], ◌∷◌, ◌++◌, ap, sym, ◌∙◌, subst}
 use mathlib.Core.List.{IsPrefix}
 use Rattle.seen_board.specs.declared.knowledge.Made.{Made}
-use Rattle.seen_board.specs.Clauses.{MakesNext, calls_of, knowledge}
+use Rattle.seen_board.specs.Clauses.{MakesNext, calls_of, history, knowledge}
 use Rattle.seen_board.specs.Knowledge.{at}
 use Rattle.seen_board.proofs.Next.{may_add}
 use Rattle.seen_board.proofs.Prefixes.{longer_prefix, prefix_more}
@@ -24,11 +24,13 @@ returns g c =
     let sent = ap (λ h. at h.calls k) split.same.2 ∙ send.sent in
     record {
       same = (split.same.0 ∙ send.same.0, split.same.1 ∙ send.same.1);
+      looks = split.looks ∙ send.looks;
       items = ap (λ h. h.items) split.same.2 ∙ send.items;
       owner = owner.same;
       unchanged = owner.own;
       sent = sent;
-      known = told ∙ sym sent;
+      told = told ∙ sym sent;
+      known = λ q. subst (λ (l : List (Made g.row.N-Item.Denot)). IsPrefix l (history c.learn.new.self.seat q)) (split.copy.0 q ∙ ap (λ i. at i q) send.items) (owner.learnt.items q).second;
       coherent = owner.coherent;
       may = owner.may;
       next = λ x next. may_add w (knowledge c.learn.new.self.seat) owner.coherent call k r x old told (subst (λ (l : List (Made g.row.N-Item.Denot)). MakesNext w call k r l x) (sym owner.own) next);

@@ -4,7 +4,7 @@ use Rattle.seen_board.specs.Clauses.{history, knowledge}
 use Rattle.seen_board.specs.Knowledge.{at}
 use Rattle.seen_board.specs.Steps.{grown}
 use Rattle.seen_board.proofs.Rows.{own_one}
-use Rattle.seen_board.proofs.Owned.{grown_here}
+use Rattle.seen_board.proofs.Owned.{grown_else, grown_here}
 use Rattle.seen_board.proofs.Keeps.{grows}
 use Rattle.seen_board.proofs.owner.Owner.grow.Goals as goal
 
@@ -41,5 +41,6 @@ returns g c =
     let more = ap (λ v. at v.knows.items o.repo) grew ∙ grown_here (knowledge o.seat).items o.repo to.0 in record {
       same = (refl, e.0);
       calls = ap (λ v. v.knows.calls) grew;
+      others = λ q n. ap (λ v. at v.knows.items q) grew ∙ grown_else (knowledge o.seat).items o.repo q to.0 n;
       added = (to.0, c.requires.next.1 ∙ ap Some (sym to.1), more);
     }
