@@ -8,7 +8,7 @@ use Rattle.session_outbox.specs.History.{Base, state}
 use Rattle.session_outbox.specs.Laws.{Continues}
 use Rattle.session_outbox.specs.Requests.{is_upgrade}
 use Rattle.session_outbox.specs.Session.{Session, session}
-use Rattle.session_outbox.specs.Sound.{Admits, IsAlone, Vouches, owes, sound}
+use Rattle.session_outbox.specs.Sound.{Admits, IsAlone, IsShared, Vouches, owes, sound}
 use Rattle.session_outbox.specs.Trace.{Item, entries}
 use Rattle.session_outbox.specs.Verdict.{first_refusal, full, stale, verdict, verdict_by}
 use Rattle.session_outbox.specs.Window.{window}
@@ -36,8 +36,8 @@ module _ (b : Base) (T : List Item) (s : ℕ) (q : Request) (sd : sound b (entri
   continued : (e : Entry) → owes b (state b (entries T)) e → Continues b (entries T) e
   continued e o = (o, sound-end b (entries T) e sd o)
 
-pub prepared : (b : Base) (T : List Item) (s : ℕ) (q : Request) → sound b (entries T) → Vouches b (state b (entries T)) q → verdict b T s q ≡ None → Continues b (entries T) (Prepared q)
-prepared b T s q sd h e = continued b T s q sd h (Prepared q) (admitted b T s q sd h e)
+pub prepared : (b : Base) (T : List Item) (s : ℕ) (q : Request) → sound b (entries T) → Vouches b (state b (entries T)) q → IsShared q → verdict b T s q ≡ None → Continues b (entries T) (Prepared q)
+prepared b T s q sd h shared e = continued b T s q sd h (Prepared q) (admitted b T s q sd h e, shared)
 
 pub one : (b : Base) (T : List Item) (s : ℕ) (q : Request) → sound b (entries T) → Vouches b (state b (entries T)) q → IsAlone b q → is_upgrade q ≡ false → verdict b T s q ≡ None → Continues b (entries T) (One q)
 one b T s q sd h alone kind e = continued b T s q sd h (One q) (admitted b T s q sd h e, alone, kind)

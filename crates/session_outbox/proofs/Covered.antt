@@ -15,7 +15,7 @@ use Rattle.session_outbox.specs.Laws.{BesideUpgrade}
 use Rattle.session_outbox.specs.Requests.{is_upgrade}
 use Rattle.session_outbox.specs.Sound.{Accepts, Admits, owes, sound}
 use Rattle.session_outbox.specs.Window.{Member, Window, cleared, close, close_by, enter, first_decided, slide, window, window_from, with_room, without}
-use Rattle.std.proofs.Common.{rules, List, [], ap, arith, cond, inl, inr, refl, subst, sym, ℕ, ◌++◌, ◌<◌, ◌≡◌, ◌≢◌, ◌∙◌, ◌∷◌}
+use Rattle.std.proofs.Common.{rules, List, [], ap, arith, cond, inl, inr, refl, subst, sym, ℕ, ◌++◌, ◌≡◌, ◌≢◌, ◌∙◌, ◌∷◌}
 use Rattle.std.proofs.lemmas.Cmp.{eq_by_cmp_equiv, tied_itself}
 use Rattle.std.proofs.lemmas.Map.Keys.{IsDistinct-from_sorted}
 use Rattle.std.proofs.lemmas.Map.Views.{lookup-from_Contains, tells_apart}
@@ -428,7 +428,7 @@ module _ (b : Base) where
   true_cond true o m e = (refl, e)
   true_cond false o m e = cc
 
-  held_life : (S : State) (W : Window) (n : ℕ) → LifeBegan b S → S.life < n → Held (standing b S) S.top W
+  held_life : (S : State) (W : Window) (n : ℕ) → LifeBegan b S → owes b S (Life n) → Held (standing b S) S.top W
       → Held (standing b (put b S (Life n))) S.top (slide b S W (Life n))
   held_life S W n began owed held =
       let new = standing b (put b S (Life n)) in
@@ -459,7 +459,7 @@ module _ (b : Base) where
             held.high t y.0 y.1 (committed_before S.length y.0.request y.0.fate o.fate y.2.2 c);
       }
     where
-      was : (S : State) (n : ℕ) → LifeBegan b S → S.life < n → (t : Ts) (o : Standing) → standing b (put b S (Life n)) t ≡ Some o → (v : Standing) × (standing b S t ≡ Some v) × Kept [] S.length v o
+      was : (S : State) (n : ℕ) → LifeBegan b S → owes b S (Life n) → (t : Ts) (o : Standing) → standing b (put b S (Life n)) t ≡ Some o → (v : Standing) × (standing b S t ≡ Some v) × Kept [] S.length v o
       was S n began owed t o is = elim (came b S (Life n) began owed t o is) [
         | inl x ↦ absurd x.1.0
         | inr x ↦ x

@@ -3,11 +3,11 @@ use Rattle.commit_log.specs.declared.entry.Entry.TheVariants.{Decided, Finished,
 use Rattle.commit_log.specs.declared.entry.Entry.{Entry}
 use Rattle.commit_log.specs.declared.request.Request.{Request}
 use Rattle.session_outbox.proofs.Steps.{by_settling}
-use Rattle.session_outbox.specs.Checking.{each_known, if_then, is_accepted, is_admitted, is_alone, is_committed, is_empty, is_kept_by, is_live, is_new, is_owed, is_sound}
-use Rattle.session_outbox.specs.History.{Aborted, Base, Committed, Fate, IsCommitted, Lives, Open, Standing, State, epoch_of, is_undecided, or_lost, put, settle, standing, start}
+use Rattle.session_outbox.specs.Checking.{each_known, if_then, is_accepted, is_admitted, is_alone, is_committed, is_empty, is_kept_by, is_live, is_new, is_owed, is_sound, settles_so}
+use Rattle.session_outbox.specs.History.{Aborted, Base, Committed, Fate, IsCommitted, LeftOver, Lives, Open, Standing, State, epoch_of, is_undecided, or_lost, put, settle, standing, start}
 use Rattle.session_outbox.specs.Requests.{bars, has_created, has_read, has_written, is_upgrade, overwrites, written}
 use Rattle.session_outbox.specs.Sound.{Accepts, Admits, IsAlone, kept_by, owes, sound}
-use Rattle.std.proofs.Common.{List, [], ap, arith, cond, eq-eqb, inl, inr, length, refl, subst, suc, sym, ℕ, ◌<◌, ◌≡◌, ◌∙◌, ◌∷◌}
+use Rattle.std.proofs.Common.{List, [], ap, arith, cond, eq-eqb, inl, inr, length, refl, subst, suc, sym, ℕ, ◌+◌, ◌<◌, ◌≡◌, ◌∙◌, ◌∷◌}
 use Rattle.std.proofs.lemmas.Bool.{eqb-true, lt-ltb, ltb-true}
 use Rattle.std.proofs.lemmas.Cmp.{eq_by_cmp_equiv, tied_itself}
 use Rattle.std.proofs.lemmas.Map.Keys.{IsDistinct-from_sorted}
@@ -18,14 +18,14 @@ use Rattle.std.specs.Bool.{Decides}
 use Rattle.std.specs.List.{Contains, list_all, list_any}
 use Rattle.std.specs.List.Sorted.{IsStrictlySortedBy}
 use Rattle.std.specs.Map.{lookup}
-use Rattle.std.specs.Option.{IfSome, is_none, option_map}
+use Rattle.std.specs.Option.{IfSome, IsSomeAnd, is_none, option_map}
 use Rattle.std.specs.Ordering.{is_eq, is_lt}
 use Rattle.std.specs.Prelude.{Bool, IsTrue, None, Option, Some, false, nat_eq, nat_lt, not, true, ◌&&◌, ◌||◌, ◌⊎◌}
 use Rattle.std.specs.declared.cmp.Ordering.TheVariants.{Equal, Greater, Less}
 use Rattle.std.specs.declared.cmp.Ordering.{Ordering}
 use Rattle.thor_value.proofs.FiniteMap.{IsSorted-insert}
 use Rattle.thor_value.proofs.NameOrders.{oref_exact, oref_total, ts_exact, ts_total}
-use Rattle.thor_value.specs.FiniteMap.{IsSorted, get, has, keys}
+use Rattle.thor_value.specs.FiniteMap.{IsSorted, get, keys}
 use Rattle.thor_value.specs.Names.{oref_cmp, same_oref, ts_cmp}
 use Rattle.thor_value.specs.declared.names.Oref.{Oref}
 use Rattle.thor_value.specs.declared.names.Ts.{Ts}
@@ -186,15 +186,17 @@ module _ (b : Base) where
 
   Parts : State → Request → Type 0
   Parts S q =
-      (((((standing b S q.tx ≡ None) × (q.epoch ≡ epoch_of S)) × ((x : Oref) → IsTrue (has_written q x) → IsTrue (has_read q x)))
+      (((((((0 < S.length) × (standing b S q.tx ≡ None)) × (get b.left q.tx ≡ None)) × (q.epoch ≡ epoch_of S)) × ((x : Oref) → IsTrue (has_written q x) → IsTrue (has_read q x)))
       × ((x : Oref) → IsTrue (has_read q x) → x.repo ≡ b.repo)) × ((x : Oref) → IsTrue (has_written q x) → IsNew S q x))
       × ((t : Ts) → IfSome (standing b S t) (Accepts q t))
 
   decides_parts : (S : State) (q : Request) → IsSorted S.known → Decides (is_admitted b S q) (Parts S q)
   unfolding Parts
   decides_parts S q sorted =
-      decides_and _ _ (decides_and _ _ (decides_and _ _ (decides_and _ _ (decides_and _ _
-      (decides_none (standing b S q.tx))
+      decides_and _ _ (decides_and _ _ (decides_and _ _ (decides_and _ _ (decides_and _ _ (decides_and _ _ (decides_and _ _
+      (decides_lt 0 S.length)
+      (decides_none (standing b S q.tx)))
+      (decides_none (get b.left q.tx)))
       (decides_eq q.epoch (epoch_of S)))
       (decides_written (has_read q) (λ x. IsTrue (has_read q x)) q (λ x. decides_true (has_read q x))))
       (decides_each (λ x. nat_eq x.repo b.repo) (λ x. x.repo ≡ b.repo) q.ros (λ x. decides_eq x.repo b.repo)))
@@ -206,7 +208,9 @@ module _ (b : Base) where
   decides_admitted S q sorted = through (is_admitted b S q)
       (λ p. record {
         vouched = record {
-          once = p.0.0.0.0.0;
+          begun = p.0.0.0.0.0.0.0;
+          once = p.0.0.0.0.0.0.1;
+          unleft = p.0.0.0.0.0.1;
           within = p.0.0.0.1;
           here = p.0.0.1;
           unused = λ x c w. (p.0.1 x w c).0;
@@ -217,7 +221,7 @@ module _ (b : Base) where
       })
       (λ h.
       let v = h.vouched in
-      (((((v.once, h.current), v.within), v.here), (λ x w c. (v.unused x c w, v.unwritten x c w))), h.accepted))
+      (((((((v.begun, v.once), v.unleft), h.current), v.within), v.here), (λ x w c. (v.unused x c w, v.unwritten x c w))), h.accepted))
       (decides_parts S q sorted)
 
   decides_alone : (q : Request) → Decides (is_alone b q) (IsAlone b q)
@@ -229,12 +233,17 @@ module _ (b : Base) where
   nested : {A B C : Type 0} → A × B × C → (A × B) × C
   nested p = ((p.0, p.1), p.2)
 
+  decides_settles : (c : Bool) (o : Option LeftOver) → Decides (settles_so c o) (IsSomeAnd o (λ l. l.commits ≡ c))
+  decides_settles c None = ((λ e. cc), (λ h. absurd h))
+  decides_settles true (Some l) = ((λ e. e), (λ e. e))
+  decides_settles false (Some l) = decides_false l.commits
+
   decides_owed : (S : State) (e : Entry) → IsSorted S.known → Decides (is_owed b S e) (owes b S e)
-  decides_owed S (Life n) sorted = decides_lt S.life n
+  decides_owed S (Life n) sorted = decides_eq n (S.life + 1)
   decides_owed S (One q) sorted = through _ flat nested (decides_and _ _ (decides_and _ _ (decides_admitted S q sorted) (decides_alone q)) (decides_false (is_upgrade q)))
-  decides_owed S (Prepared q) sorted = decides_admitted S q sorted
+  decides_owed S (Prepared q) sorted = decides_and _ _ (decides_admitted S q sorted) (decides_not _ (decides_empty q.others))
   decides_owed S (Decided t c) sorted = decides_and _ _ (decides_true (is_undecided (standing b S t))) (decides_eq t.repo b.repo)
-  decides_owed S (Finished t c) sorted = decides_or _ _ (decides_and _ _ (decides_true (is_undecided (standing b S t))) (decides_not _ (decides_eq t.repo b.repo))) (decides_true (has b.left t))
+  decides_owed S (Finished t c) sorted = decides_or _ _ (decides_and _ _ (decides_true (is_undecided (standing b S t))) (decides_not _ (decides_eq t.repo b.repo))) (decides_and _ _ (decides_lt 0 S.length) (decides_settles c (get S.left t)))
   decides_owed S (Upgraded q) sorted = through _ flat nested (decides_and _ _ (decides_and _ _ (decides_admitted S q sorted) (decides_alone q)) (decides_true (is_upgrade q)))
 
   sorted_settle : (S : State) (t : Ts) (c : Bool) → IsSorted S.known → IsSorted (settle S t c (standing b S t)).known

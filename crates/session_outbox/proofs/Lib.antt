@@ -8,6 +8,7 @@ pub mod Commits
 pub mod LastWrite
 pub mod Listed
 pub mod Final
+pub mod Lives
 pub mod Decided
 pub mod Mended
 pub mod Traces
@@ -27,3 +28,4 @@ pub mod Taken
 pub mod Own
 pub mod Undecided
 pub mod OwnExample
+pub mod OpenedExample

@@ -81,7 +81,7 @@ module _ (b : Base) where
   stands-still : (S : State) (e : Entry) (t : Ts) (p : Standing) → owes b S e → ¬ MaySettle b t e → standing b S t ≡ Some p → standing b (put b S e) t ≡ Some p
   stands-still S (Life n) t p o h is = life-other S n t h ∙ is
   stands-still S (One q) t p o h is = elsewhere S q.tx t (record { place = S.length; request = q; fate = Committed S.length }) (new-apart S q.tx t p o.0.vouched.once is) ∙ is
-  stands-still S (Prepared q) t p o h is = elsewhere S q.tx t (record { place = S.length; request = q; fate = Open }) (new-apart S q.tx t p o.vouched.once is) ∙ is
+  stands-still S (Prepared q) t p o h is = elsewhere S q.tx t (record { place = S.length; request = q; fate = Open }) (new-apart S q.tx t p o.0.vouched.once is) ∙ is
   stands-still S (Upgraded q) t p o h is = elsewhere S q.tx t (record { place = S.length; request = q; fate = Committed S.length }) (new-apart S q.tx t p o.0.vouched.once is) ∙ is
   stands-still S (Decided u c) t p o h is = settled-other S u t c (λ e. h (sym e)) ∙ is
   stands-still S (Finished u c) t p o h is = settled-other S u t c (λ e. h (sym e)) ∙ is

@@ -3,12 +3,12 @@
 use Rattle.commit_log.specs.declared.entry.Entry.TheVariants.{Decided, Finished, Life, One, Prepared, Upgraded}
 use Rattle.commit_log.specs.declared.entry.Entry.{Entry}
 use Rattle.commit_log.specs.declared.request.Request.{Request}
-use Rattle.session_outbox.specs.History.{Aborted, Base, Committed, Fate, Open, Standing, State, epoch_of, is_undecided, or_lost, put, standing, start}
+use Rattle.session_outbox.specs.History.{Aborted, Base, Committed, Fate, LeftOver, Open, Standing, State, epoch_of, is_undecided, or_lost, put, standing, start}
 use Rattle.session_outbox.specs.Requests.{bars, has_created, has_read, has_written, is_upgrade, overwrites, written}
 use Rattle.std.specs.List.{list_all}
 use Rattle.std.specs.Option.{is_none}
-use Rattle.std.specs.Prelude.{Bool, List, [], false, nat_eq, nat_lt, not, true, ◌&&◌, ◌∷◌, ◌||◌}
-use Rattle.thor_value.specs.FiniteMap.{get, has, keys}
+use Rattle.std.specs.Prelude.{Bool, List, None, Option, Some, [], cond, false, nat_eq, nat_lt, not, true, ◌&&◌, ◌+◌, ◌∷◌, ◌||◌}
+use Rattle.thor_value.specs.FiniteMap.{get, keys}
 use Rattle.thor_value.specs.declared.names.Oref.{Oref}
 use Rattle.thor_value.specs.declared.names.Ts.{Ts}
 use Rattle.validation_queue.specs.Clashes.{is_before}
@@ -46,7 +46,7 @@ is_new b S q x = if_then (has_created q x) (is_none (get S.objects x) && each_kn
 -- whether q owes nothing to S
 abbrev pub is_admitted : Base → State → Request → Bool
 is_admitted b S q =
-    is_none (standing b S q.tx) && nat_eq q.epoch (epoch_of S)
+    nat_lt 0 S.length && is_none (standing b S q.tx) && is_none (get b.left q.tx) && nat_eq q.epoch (epoch_of S)
     && list_all (has_read q) (keys (written q))
     && list_all (λ x. nat_eq x.repo b.repo) q.ros
     && list_all (is_new b S q) (keys (written q))
@@ -56,13 +56,21 @@ is_admitted b S q =
 abbrev pub is_alone : Base → Request → Bool
 is_alone b q = is_empty q.others && nat_eq q.tx.repo b.repo
 
+abbrev pub settles_so : Bool → Option LeftOver → Bool
+settles_so c None = false
+settles_so c (Some l) = cond c l.commits (not l.commits)
+
+-- whether t has still to be settled, and so
+abbrev pub is_left_so : State → Ts → Bool → Bool
+is_left_so S t c = nat_lt 0 S.length && settles_so c (get S.left t)
+
 -- whether the entry owes nothing to S
 abbrev pub is_owed : Base → State → Entry → Bool
-is_owed b S (Life n) = nat_lt S.life n
+is_owed b S (Life n) = nat_eq n (S.life + 1)
 is_owed b S (One q) = is_admitted b S q && is_alone b q && not (is_upgrade q)
-is_owed b S (Prepared q) = is_admitted b S q
+is_owed b S (Prepared q) = is_admitted b S q && not (is_empty q.others)
 is_owed b S (Decided t c) = is_undecided (standing b S t) && nat_eq t.repo b.repo
-is_owed b S (Finished t c) = (is_undecided (standing b S t) && not (nat_eq t.repo b.repo)) || has b.left t
+is_owed b S (Finished t c) = (is_undecided (standing b S t) && not (nat_eq t.repo b.repo)) || is_left_so S t c
 is_owed b S (Upgraded q) = is_admitted b S q && is_alone b q && is_upgrade q
 
 abbrev pub is_kept_by : Base → State → List Entry → Bool

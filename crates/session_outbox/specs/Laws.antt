@@ -3,12 +3,12 @@
 use Rattle.commit_log.specs.declared.entry.Entry.TheVariants.{Decided, Finished, Life, One, Prepared, Upgraded}
 use Rattle.commit_log.specs.declared.entry.Entry.{Entry}
 use Rattle.commit_log.specs.declared.request.Request.{Request}
-use Rattle.session_outbox.specs.History.{Aborted, Base, Committed, CommittedBelow, Fate, IsCommitted, Lives, Open, Standing, commits, last_write, objects_at, stands, state, writers}
+use Rattle.session_outbox.specs.History.{Aborted, Base, Committed, CommittedBelow, Fate, IsCommitted, Lives, Open, Standing, commits, is_life, last_write, objects_at, stands, state, writers}
 use Rattle.session_outbox.specs.Requests.{has_created, has_read, has_written, is_upgrade, text_of, written}
 use Rattle.session_outbox.specs.Sound.{Admits, owes, sound}
-use Rattle.std.specs.List.{AllPairs, Contains, fold, slice_get}
+use Rattle.std.specs.List.{AllPairs, Contains, filter, fold, slice_get}
 use Rattle.std.specs.Option.{IsSomeAnd}
-use Rattle.std.specs.Prelude.{IsTrue, List, None, Some, [], false, length, take, true, ℕ, ◌++◌, ◌<◌, ◌≡◌, ◌≢◌, ◌≤◌, ◌↔◌, ◌∷◌, ◌⊎◌}
+use Rattle.std.specs.Prelude.{IsTrue, List, None, Some, [], false, length, take, true, ℕ, ◌+◌, ◌++◌, ◌<◌, ◌≡◌, ◌≢◌, ◌≤◌, ◌↔◌, ◌∷◌, ◌⊎◌}
 use Rattle.thor_value.specs.FiniteMap.{Map, get, overwrite}
 use Rattle.thor_value.specs.Names.{Before, later_of, oref_cmp}
 use Rattle.thor_value.specs.declared.names.Oref.{Oref}
@@ -175,3 +175,10 @@ pub record CreatedOnce (b : Base) (H : List Entry) : Type 0 where
 -- The entry e owes nothing to the history H, which stays sound with it.
 abbrev pub Continues : Base → List Entry → Entry → Type 0
 Continues b H e = owes b (state b H) e × sound b (H ++ e ∷ [])
+
+-- The lives of a repository follow one another: the first entry is one, and each is one above the last.
+pub record LivesFollow (b : Base) (H : List Entry) : Type 0 where
+  pub first : (e : Entry) → slice_get H 0 ≡ Some e → e ≡ Life (b.life + 1)
+  -- the present life is told by how many there are
+  pub count : (state b H).life ≡ b.life + length (filter is_life H)
+  pub each : (i n : ℕ) → slice_get H i ≡ Some (Life n) → n ≡ (state b (take i H)).life + 1

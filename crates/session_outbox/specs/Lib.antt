@@ -7,6 +7,7 @@ pub mod History
 pub mod Laws
 pub mod Order
 pub mod Messages
+pub mod Opening
 pub mod Queue
 pub mod Requests
 pub mod Session

@@ -6,7 +6,7 @@
 use Rattle.commit_log.specs.declared.entry.Entry.TheVariants.{Decided, Finished, Life, One, Prepared, Upgraded}
 use Rattle.commit_log.specs.declared.entry.Entry.{Entry}
 use Rattle.commit_log.specs.declared.request.Request.{Request}
-use Rattle.session_outbox.specs.History.{Base, State, commit_of, epoch_of, put, start, writers}
+use Rattle.session_outbox.specs.History.{Base, State, commit_of, epoch_of, is_life, put, start, writers}
 use Rattle.session_outbox.specs.Requests.{is_upgrade, written}
 use Rattle.session_outbox.specs.Trace.{E, Item, M}
 use Rattle.session_outbox.specs.declared.mark.Mark.TheVariants as the
@@ -75,14 +75,6 @@ request_in (Prepared q) = Some q
 request_in (Decided t c) = None
 request_in (Finished t c) = None
 request_in (Upgraded q) = Some q
-
-abbrev pub is_life : Entry → Bool
-is_life (Life n) = true
-is_life (One q) = false
-is_life (Prepared q) = false
-is_life (Decided t c) = false
-is_life (Finished t c) = false
-is_life (Upgraded q) = false
 
 -- what a request of the session s acknowledges
 abbrev pub acked_by : ℕ → ℕ → Option Request → ℕ

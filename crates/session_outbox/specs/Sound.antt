@@ -6,9 +6,9 @@ use Rattle.commit_log.specs.declared.entry.Entry.{Entry}
 use Rattle.commit_log.specs.declared.request.Request.{Request}
 use Rattle.session_outbox.specs.History.{Base, IsCommitted, Lives, Standing, State, epoch_of, is_undecided, put, standing, start}
 use Rattle.session_outbox.specs.Requests.{bars, has_created, has_read, has_written, is_upgrade, overwrites}
-use Rattle.std.specs.Option.{IfSome}
-use Rattle.std.specs.Prelude.{◌≡◌, ◌≢◌, ◌⊎◌, IsTrue, true, false, List, [], ◌∷◌, ◌<◌, None}
-use Rattle.thor_value.specs.FiniteMap.{get, has}
+use Rattle.std.specs.Option.{IfSome, IsSomeAnd}
+use Rattle.std.specs.Prelude.{◌≡◌, ◌≢◌, ◌⊎◌, Bool, IsTrue, true, false, List, [], ◌∷◌, ◌<◌, ◌+◌, None}
+use Rattle.thor_value.specs.FiniteMap.{get}
 use Rattle.thor_value.specs.Names.{Before}
 use Rattle.thor_value.specs.declared.names.Oref.{Oref}
 use Rattle.thor_value.specs.declared.names.Ts.{Ts}
@@ -23,8 +23,11 @@ Accepts q t o = Lives o.fate → (IsTrue (bars q o.request) → IsCommitted o.fa
 -- What the sender of a request q vouches for, where its repository is in the state S: a repository
 -- doesn't test it.
 pub record Vouches (b : Base) (S : State) (q : Request) : Type 0 where
-  -- it comes once
+  -- it comes behind the Life of the opening
+  pub begun : 0 < S.length
+  -- it comes once in this run, and its transaction isn't one that an earlier run left prepared
   pub once : standing b S q.tx ≡ None
+  pub unleft : get b.left q.tx ≡ None
   -- it read what it wrote
   pub within : (x : Oref) → IsTrue (has_written q x) → IsTrue (has_read q x)
   -- it speaks of this repository's objects
@@ -46,13 +49,23 @@ pub record Admits (b : Base) (S : State) (q : Request) : Type 0 where
 abbrev pub IsAlone : Base → Request → Type 0
 IsAlone b q = (q.others ≡ []) × (q.tx.repo ≡ b.repo)
 
--- What an entry owes to the state at its place.
+-- q's transaction has other participants
+abbrev pub IsShared : Request → Type 0
+IsShared q = q.others ≢ []
+
+-- t is one that an earlier run left prepared, it has still to be settled, and it is so, behind the Life of
+-- the opening
+abbrev pub IsLeftSo : State → Ts → Bool → Type 0
+IsLeftSo S t c = (0 < S.length) × IsSomeAnd (get S.left t) (λ l. l.commits ≡ c)
+
+-- What an entry owes to the state at its place. The first entry is a Life, since every other one comes
+-- behind a Life; and each Life is one above the last.
 abbrev pub owes : Base → State → Entry → Type 0
-owes b S (Life n) = S.life < n
+owes b S (Life n) = n ≡ S.life + 1
 owes b S (One q) = Admits b S q × IsAlone b q × (is_upgrade q ≡ false)
-owes b S (Prepared q) = Admits b S q
+owes b S (Prepared q) = Admits b S q × IsShared q
 owes b S (Decided t c) = IsTrue (is_undecided (standing b S t)) × (t.repo ≡ b.repo)
-owes b S (Finished t c) = (IsTrue (is_undecided (standing b S t)) × (t.repo ≢ b.repo)) ⊎ IsTrue (has b.left t)
+owes b S (Finished t c) = (IsTrue (is_undecided (standing b S t)) × (t.repo ≢ b.repo)) ⊎ IsLeftSo S t c
 owes b S (Upgraded q) = Admits b S q × IsAlone b q × (is_upgrade q ≡ true)
 
 -- each of the entries owes what it owes to the state at its place, the first to S

@@ -34,15 +34,15 @@ with_limit n = record home { limit = n }
 
 -- another transaction of the first client has prepared a write of x, and is undecided
 abbrev pub undecided_since : List Item
-undecided_since = written_since ++ E (prepare_x (at 3) 8) ∷ []
+undecided_since = written_since ++ E (prepare_x 3 8) ∷ []
 
 -- the same, where the second client has acknowledged the first write
 abbrev pub undecided_then : List Item
-undecided_then = acknowledged ++ E (prepare_x (at 3) 8) ∷ []
+undecided_then = acknowledged ++ E (prepare_x 3 8) ∷ []
 
 -- the first client's transaction with a greater timestamp prepared a write of x
 abbrev pub later_then : List Item
-later_then = acknowledged ++ E (prepare_x (at 9) 8) ∷ []
+later_then = acknowledged ++ E (prepare_x 9 8) ∷ []
 
 -- a member that reads x, and a window with this many undecided ones behind a first one
 abbrev pub member_at : ℕ → Bool → Ts × Member

@@ -13,11 +13,11 @@ ghost use Rattle.std.specs.Prelude.{◌≡◌, [], ◌∷◌, ◌++◌, None, So
 /// A copy that another session has written since is stale until its client has taken the message of
 /// it, or has acknowledged it.
 pub fn stale_examples()
-    ensures nothing_written { answer_in home (take 5 written_since) (second_reads 3 0) ≡ None }
-    ensures stale { answer_in home written_since (second_reads 3 0) ≡ Some (refused.Stale x 1) }
-    ensures stale_until_known { answer_in home invalid_taken (second_reads 3 1) ≡ Some (refused.Stale x 1) }
-    ensures known { answer_in home invalid_taken (second_reads 3 2) ≡ None }
-    ensures sound_with_it { is_sound home (entries invalid_taken ++ One (second_reads 3 2) ∷ []) ≡ true }
+    ensures nothing_written { answer_in home (take 6 written_since) (second_reads 3 0) ≡ None }
+    ensures stale { answer_in home written_since (second_reads 3 0) ≡ Some (refused.Stale x 2) }
+    ensures stale_until_known { answer_in home invalid_taken (second_reads 3 2) ≡ Some (refused.Stale x 2) }
+    ensures known { answer_in home invalid_taken (second_reads 3 3) ≡ None }
+    ensures sound_with_it { is_sound home (entries invalid_taken ++ One (second_reads 3 3) ∷ []) ≡ true }
     ensures acknowledged { answer_in home acknowledged (second_reads 3 0) ≡ None }
     ensures no_page { verdict home written_since 1 (second_reads 3 0) ≡ None }
 {}
@@ -33,7 +33,7 @@ pub fn gone_examples()
 pub fn order_examples()
     ensures gone_first { answer_in advanced restarted (second_reads 3 0) ≡ Some (refused.Gone 2) }
     ensures too_old_before_stale { answer_in advanced written_since (second_reads 3 0) ≡ Some (refused.TooOld (at 5)) }
-    ensures stale_before_earlier { answer_in home undecided_since (second_reads 4 0) ≡ Some (refused.Stale x 1) }
+    ensures stale_before_earlier { answer_in home undecided_since (second_reads 4 0) ≡ Some (refused.Stale x 2) }
     ensures earlier { answer_in home undecided_then (second_reads 4 0) ≡ Some (refused.Earlier (at 3) x) }
     ensures later_before_full { answer_in (with_limit 0) later_then (second_sets 4 0) ≡ Some (refused.Later (at 9) x) }
 {}

@@ -8,9 +8,9 @@ ghost use Rattle.commit_log.specs.declared.request.Request.{Request};
 ghost use Rattle.session_outbox.specs.Checking.{is_sound};
 ghost use Rattle.session_outbox.specs.Covers.{Covers};
 ghost use Rattle.session_outbox.specs.History.{Base, Standing, Open, commit_of, commits, epoch_of, objects_at, put, stands, state};
-ghost use Rattle.session_outbox.specs.Laws.{CommitsListed, Continues, CreatedOnce, MadeByCommits, ReadsLast, Recorded, Stays, UpgradesFence, WritersRise};
+ghost use Rattle.session_outbox.specs.Laws.{CommitsListed, Continues, CreatedOnce, LivesFollow, MadeByCommits, ReadsLast, Recorded, Stays, UpgradesFence, WritersRise};
 ghost use Rattle.session_outbox.specs.Order.{HasOrder};
-ghost use Rattle.session_outbox.specs.Sound.{Accepts, IsAlone, Vouches, owes, sound};
+ghost use Rattle.session_outbox.specs.Sound.{Accepts, IsAlone, IsShared, Vouches, owes, sound};
 ghost use Rattle.session_outbox.specs.Requests.{is_upgrade};
 ghost use Rattle.session_outbox.specs.Trace.{Item, entries};
 ghost use Rattle.session_outbox.specs.Verdict.{first_refusal, verdict};
@@ -41,6 +41,11 @@ pub fn sound_histories_grow()
     ensures owed { (b : Base) (H : List Entry) (e : Entry) → sound b (H ++ e ∷ []) → owes b (state b H) e }
     ensures grown { (b : Base) (H : List Entry) (e : Entry) → sound b H → owes b (state b H) e →
         sound b (H ++ e ∷ []) }
+{}
+
+/// A repository's lives follow one another.
+pub fn lives_follow()
+    ensures { (b : Base) (H : List Entry) → sound b H → LivesFollow b H }
 {}
 
 /// The test of a history decides whether it is sound.
@@ -125,7 +130,7 @@ pub fn verdicts_are_sound()
         first_refusal (state b H) (window b H) stale full q ≡ None →
         (q.epoch ≡ epoch_of (state b H)) × ((t : Ts) → IfSome (stands b H t) (Accepts q t)) }
     ensures prepared { (b : Base) (T : List Item) (s : ℕ) (q : Request) → sound b (entries T) →
-        Vouches b (state b (entries T)) q → verdict b T s q ≡ None →
+        Vouches b (state b (entries T)) q → IsShared q → verdict b T s q ≡ None →
         Continues b (entries T) (Prepared q) }
     ensures one { (b : Base) (T : List Item) (s : ℕ) (q : Request) → sound b (entries T) →
         Vouches b (state b (entries T)) q → IsAlone b q → is_upgrade q ≡ false →

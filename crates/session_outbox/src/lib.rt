@@ -19,12 +19,12 @@ pub use answer_examples::{
     buffer_examples, gone_examples, order_examples, stale_examples, window_room_examples,
 };
 pub use history_examples::{
-    mended_example, sound_examples, standing_examples, trace_example, unsound_examples,
-    value_examples, verdict_examples, window_examples,
+    life_examples, mended_example, opening_examples, sound_examples, standing_examples,
+    trace_example, unsound_examples, value_examples, verdict_examples, window_examples,
 };
 pub use history_laws::{
     commits_make_the_state, created_objects_are_new, histories_are_checked, histories_grow,
-    outcomes_are_final, reads_are_last_writes, requests_are_recorded, sound_histories_grow,
+    lives_follow, outcomes_are_final, reads_are_last_writes, requests_are_recorded, sound_histories_grow,
     sound_histories_have_order, upgrades_fence, verdicts_are_sound, windows_cover, writers_rise,
 };
 pub use mark::Mark;
