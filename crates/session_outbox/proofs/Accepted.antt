@@ -6,9 +6,10 @@ use Rattle.session_outbox.proofs.Growth.{sound-end}
 use Rattle.session_outbox.proofs.Validated.{validated}
 use Rattle.session_outbox.specs.History.{Base, state}
 use Rattle.session_outbox.specs.Laws.{Continues}
+use Rattle.session_outbox.specs.Participants.{IsAlone, IsShared}
 use Rattle.session_outbox.specs.Requests.{is_upgrade}
 use Rattle.session_outbox.specs.Session.{Session, session}
-use Rattle.session_outbox.specs.Sound.{Admits, IsAlone, IsShared, Vouches, owes, sound}
+use Rattle.session_outbox.specs.Sound.{Admits, Vouches, owes, sound}
 use Rattle.session_outbox.specs.Trace.{Item, entries}
 use Rattle.session_outbox.specs.Verdict.{first_refusal, full, stale, verdict, verdict_by}
 use Rattle.session_outbox.specs.Window.{window}

@@ -9,6 +9,8 @@ pub mod LastWrite
 pub mod Listed
 pub mod Final
 pub mod Lives
+pub mod Tests
+pub mod FormDecided
 pub mod Decided
 pub mod Mended
 pub mod Traces

@@ -4,13 +4,17 @@ use Rattle.commit_log.specs.declared.entry.Entry.TheVariants.{Decided, Finished,
 use Rattle.commit_log.specs.declared.entry.Entry.{Entry}
 use Rattle.commit_log.specs.declared.request.Request.{Request}
 use Rattle.session_outbox.specs.History.{Aborted, Base, Committed, Fate, LeftOver, Open, Standing, State, epoch_of, is_undecided, or_lost, put, standing, start}
+use Rattle.session_outbox.specs.FormChecking.{is_well_formed}
+use Rattle.session_outbox.specs.Participants.{takes_part}
 use Rattle.session_outbox.specs.Requests.{bars, has_created, has_read, has_written, is_upgrade, overwrites, written}
-use Rattle.std.specs.List.{list_all}
-use Rattle.std.specs.Option.{is_none}
-use Rattle.std.specs.Prelude.{Bool, List, None, Option, Some, [], cond, false, nat_eq, nat_lt, not, true, ◌&&◌, ◌+◌, ◌∷◌, ◌||◌}
+use Rattle.std.specs.List.{list_all, range_with_len}
+use Rattle.std.specs.Option.{is_none, is_some}
+use Rattle.std.specs.Prelude.{Bool, List, None, Option, Some, [], cond, false, nat_eq, nat_le, nat_lt, not, true, ◌&&◌, ◌+◌, ◌∷◌, ◌||◌}
 use Rattle.thor_value.specs.FiniteMap.{get, keys}
 use Rattle.thor_value.specs.declared.names.Oref.{Oref}
 use Rattle.thor_value.specs.declared.names.Ts.{Ts}
+use Rattle.thor_value.specs.declared.values.Answer.TheVariants.{Fault, Ints}
+use Rattle.thor_value.specs.declared.values.Answer.{Answer}
 use Rattle.validation_queue.specs.Clashes.{is_before}
 
 -- the second, where the first
@@ -43,14 +47,43 @@ each_known b S test = list_all (λ e. test e.0 (or_lost b S e.0 e.1)) S.known.pa
 abbrev pub is_new : Base → State → Request → Oref → Bool
 is_new b S q x = if_then (has_created q x) (is_none (get S.objects x) && each_known b S (λ t o. not (has_written o.request x)))
 
--- whether q owes nothing to S
-abbrev pub is_admitted : Base → State → Request → Bool
-is_admitted b S q =
-    nat_lt 0 S.length && is_none (standing b S q.tx) && is_none (get b.left q.tx) && nat_eq q.epoch (epoch_of S)
+-- whether x, if q didn't create it, is there
+abbrev pub is_there : Base → State → Request → Oref → Bool
+is_there b S q x = has_created q x || is_some (get S.objects x)
+
+-- whether q's participants are this repository and others, and the least coordinates
+abbrev pub has_participants : Base → Request → Bool
+has_participants b q =
+    list_all (λ n. nat_lt n b.repos && not (nat_eq n b.repo)) q.others
+    && takes_part b.repo q q.tx.repo
+    && list_all (nat_le q.tx.repo) (b.repo ∷ q.others)
+
+abbrev pub answers_nothing : Answer → Bool
+answers_nothing (Ints ns) = is_empty ns
+answers_nothing (Fault f) = false
+
+-- whether q, if it is an upgrade, changes nothing itself and is everywhere
+abbrev pub is_bare_upgrade : Base → Request → Bool
+is_bare_upgrade b q =
+    is_empty q.ros && is_empty q.writes && is_empty q.fresh && answers_nothing q.answer
+    && list_all (takes_part b.repo q) (range_with_len 0 b.repos)
+
+-- whether the sender of q can vouch for it
+abbrev pub is_vouched : Base → State → Request → Bool
+is_vouched b S q =
+    is_well_formed q && nat_lt 0 S.length && is_none (standing b S q.tx) && is_none (get b.left q.tx)
+    && if_then (nat_eq q.tx.repo b.repo) (nat_eq q.tx.life S.life)
+    && has_participants b q
     && list_all (has_read q) (keys (written q))
     && list_all (λ x. nat_eq x.repo b.repo) q.ros
+    && list_all (λ w. nat_eq w.1.ver q.epoch) q.writes
+    && if_then (is_upgrade q) (is_bare_upgrade b q)
+    && if_then b.tells (list_all (is_there b S q) (keys (written q)))
     && list_all (is_new b S q) (keys (written q))
-    && each_known b S (is_accepted q)
+
+-- whether q owes nothing to S
+abbrev pub is_admitted : Base → State → Request → Bool
+is_admitted b S q = is_vouched b S q && nat_eq q.epoch (epoch_of S) && each_known b S (is_accepted q)
 
 -- whether q's transaction has this one participant
 abbrev pub is_alone : Base → Request → Bool

@@ -1,6 +1,6 @@
 -- Small histories of one repository, on which the definitions are computed. The objects x and y have
 -- one field each, 0 in the base.
-use Rattle.commit_log.specs.declared.entry.Entry.TheVariants.{Decided, Finished, Life, One, Prepared}
+use Rattle.commit_log.specs.declared.entry.Entry.TheVariants.{Decided, Finished, Life, One, Prepared, Upgraded}
 use Rattle.commit_log.specs.declared.entry.Entry.{Entry}
 use Rattle.commit_log.specs.declared.request.Kind.TheVariants.{App, Upgrade}
 use Rattle.commit_log.specs.declared.request.Kind.{Kind}
@@ -197,6 +197,16 @@ left_over commits = opened recovered 1048576 None true (λ t. commits)
 abbrev pub settled_by_opening : Bool → List Entry
 settled_by_opening commits = Life 2 ∷ Finished (at 9) commits ∷ read_far (abroad 10) ∷ []
 
+-- where there is one repository alone, it installs an upgrade at once
+abbrev pub only : Base
+only = record home { repos = 1; roots = x ∷ y ∷ [] }
+
+abbrev pub upgrading_alone : ℕ → Request
+upgrading_alone n = request (at n) (Upgrade (117 ∷ [])) 0 [] [] [] []
+
+abbrev pub upgraded_alone : List Entry
+upgraded_alone = Life 1 ∷ set_x 1 5 ∷ Upgraded (upgrading_alone 2) ∷ read_upgraded 3 ∷ []
+
 -- ---- histories that aren't sound
 
 -- the second reads what an undecided transaction with a lesser timestamp wrote
@@ -256,6 +266,49 @@ same_life = Life 1 ∷ Life 1 ∷ []
 
 abbrev pub skipped_life : List Entry
 skipped_life = Life 1 ∷ Life 3 ∷ []
+
+-- requests for which no sender can vouch: one of a life that hasn't begun
+abbrev pub other_life : List Entry
+other_life = Life 1 ∷ set_x_again 1 5 ∷ []
+
+-- one whose coordinator isn't the least of its participants, one that names its own repository among the
+-- others, one that names a repository that isn't there, and one whose coordinator takes no part
+abbrev pub coordinated_above : List Entry
+coordinated_above = Life 1 ∷ Prepared (request (abroad 1) App 0 (x ∷ []) [] [] (1 ∷ [])) ∷ []
+
+abbrev pub beside_itself : List Entry
+beside_itself = Life 1 ∷ Prepared (request (at 1) App 0 (x ∷ []) [] [] (0 ∷ 1 ∷ [])) ∷ []
+
+abbrev pub with_nobody : List Entry
+with_nobody = Life 1 ∷ Prepared (request (at 1) App 0 (x ∷ []) [] [] (2 ∷ [])) ∷ []
+
+abbrev pub coordinated_outside : List Entry
+coordinated_outside = Life 1 ∷ One (request (at 1) App 0 (far ∷ []) [] [] []) ∷ []
+
+-- one that is prepared though it takes part alone
+abbrev pub prepared_alone : List Entry
+prepared_alone = Life 1 ∷ Prepared (reading_x 1) ∷ []
+
+-- an upgrade that writes, which nobody would be told; and one that a repository installs without the other
+abbrev pub upgrade_that_writes : List Entry
+upgrade_that_writes = Life 1 ∷ Prepared (request (at 1) (Upgrade (117 ∷ [])) 0 (x ∷ []) ((x, box 5) ∷ []) [] (1 ∷ [])) ∷ []
+
+abbrev pub upgraded_by_one : List Entry
+upgraded_by_one = Life 1 ∷ Upgraded (upgrading_alone 1) ∷ []
+
+-- one that writes what isn't there and isn't new, one that writes a version of another epoch, one whose
+-- names don't rise, and one with a number that no format has
+abbrev pub writes_nowhere : List Entry
+writes_nowhere = Life 1 ∷ One (request (at 1) App 0 (z ∷ []) ((z, box 7) ∷ []) [] []) ∷ []
+
+abbrev pub other_version : List Entry
+other_version = Life 1 ∷ One (request (at 1) App 0 (x ∷ []) ((x, record (box 7) { ver = 1 }) ∷ []) [] []) ∷ []
+
+abbrev pub out_of_order : List Entry
+out_of_order = Life 1 ∷ One (request (at 1) App 0 (y ∷ x ∷ []) [] [] []) ∷ []
+
+abbrev pub out_of_range : List Entry
+out_of_range = Life 1 ∷ One (record (reading_x 1) { session = 4294967296 }) ∷ []
 
 -- a decision behind the Life that aborted its transaction
 abbrev pub decided_when_lost : List Entry

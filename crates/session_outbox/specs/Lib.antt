@@ -3,11 +3,13 @@ pub mod Checking
 pub mod Covers
 pub mod Current
 pub mod Examples
+pub mod FormChecking
 pub mod History
 pub mod Laws
 pub mod Order
 pub mod Messages
 pub mod Opening
+pub mod Participants
 pub mod Queue
 pub mod Requests
 pub mod Session

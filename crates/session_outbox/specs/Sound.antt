@@ -1,12 +1,15 @@
 -- What each entry of a history owes to the entries before it. It is said once, of the state at the
 -- entry's place, and no later entry changes it: nothing is proved anew when a transaction commits,
 -- aborts or is recovered.
+use Rattle.commit_log.specs.RequestForm.{IsWellFormed}
 use Rattle.commit_log.specs.declared.entry.Entry.TheVariants.{Life, One, Prepared, Decided, Finished, Upgraded}
 use Rattle.commit_log.specs.declared.entry.Entry.{Entry}
 use Rattle.commit_log.specs.declared.request.Request.{Request}
 use Rattle.session_outbox.specs.History.{Base, IsCommitted, Lives, Standing, State, epoch_of, is_undecided, put, standing, start}
+use Rattle.session_outbox.specs.Participants.{HasParticipants, IsAlone, IsBareUpgrade, IsShared}
 use Rattle.session_outbox.specs.Requests.{bars, has_created, has_read, has_written, is_upgrade, overwrites}
-use Rattle.std.specs.Option.{IfSome, IsSomeAnd}
+use Rattle.std.specs.List.{AllByRecursion}
+use Rattle.std.specs.Option.{IfSome, IsSome, IsSomeAnd}
 use Rattle.std.specs.Prelude.{◌≡◌, ◌≢◌, ◌⊎◌, Bool, IsTrue, true, false, List, [], ◌∷◌, ◌<◌, ◌+◌, None}
 use Rattle.thor_value.specs.FiniteMap.{get}
 use Rattle.thor_value.specs.Names.{Before}
@@ -23,15 +26,24 @@ Accepts q t o = Lives o.fate → (IsTrue (bars q o.request) → IsCommitted o.fa
 -- What the sender of a request q vouches for, where its repository is in the state S: a repository
 -- doesn't test it.
 pub record Vouches (b : Base) (S : State) (q : Request) : Type 0 where
+  pub formed : IsWellFormed q
   -- it comes behind the Life of the opening
   pub begun : 0 < S.length
   -- it comes once in this run, and its transaction isn't one that an earlier run left prepared
   pub once : standing b S q.tx ≡ None
   pub unleft : get b.left q.tx ≡ None
+  -- where this repository coordinates it, it is a transaction of the present life
+  pub alive : q.tx.repo ≡ b.repo → q.tx.life ≡ S.life
+  pub participants : HasParticipants b q
   -- it read what it wrote
   pub within : (x : Oref) → IsTrue (has_written q x) → IsTrue (has_read q x)
   -- it speaks of this repository's objects
   pub here : (x : Oref) → IsTrue (has_read q x) → x.repo ≡ b.repo
+  -- what it wrote has its epoch as version
+  pub versions : AllByRecursion (λ w. w.1.ver ≡ q.epoch) q.writes
+  pub upgrades : IsTrue (is_upgrade q) → IsBareUpgrade b q
+  -- the objects that it wrote and didn't create are there, where a page brings what is there
+  pub known : IsTrue b.tells → (x : Oref) → IsTrue (has_written q x) → has_created q x ≡ false → IsSome (get S.objects x)
   -- the objects that it created aren't there, and no transaction has written them
   pub unused : (x : Oref) → IsTrue (has_created q x) → IsTrue (has_written q x) → get S.objects x ≡ None
   pub unwritten : (x : Oref) → IsTrue (has_created q x) → IsTrue (has_written q x) → (t : Ts) → IfSome (standing b S t) (λ o. has_written o.request x ≡ false)
@@ -44,14 +56,6 @@ pub record Admits (b : Base) (S : State) (q : Request) : Type 0 where
   pub current : q.epoch ≡ epoch_of S
   -- it can come behind each transaction that is here
   pub accepted : (t : Ts) → IfSome (standing b S t) (Accepts q t)
-
--- q's transaction has this one participant, which is its coordinator
-abbrev pub IsAlone : Base → Request → Type 0
-IsAlone b q = (q.others ≡ []) × (q.tx.repo ≡ b.repo)
-
--- q's transaction has other participants
-abbrev pub IsShared : Request → Type 0
-IsShared q = q.others ≢ []
 
 -- t is one that an earlier run left prepared, it has still to be settled, and it is so, behind the Life of
 -- the opening

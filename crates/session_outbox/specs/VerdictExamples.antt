@@ -15,10 +15,10 @@ use Rattle.thor_value.specs.declared.names.Ts.{Ts}
 
 -- the second client reads x, or writes 9 there, at the time n, and knows the places below upto
 abbrev pub second_reads : ℕ → ℕ → Request
-second_reads n upto = record (reading_x n) { session = 2; upto = upto }
+second_reads n upto = record (reading_x n) { who = record { client = 2; index = 1 }; session = 2; upto = upto }
 
 abbrev pub second_sets : ℕ → ℕ → Request
-second_sets n upto = record (setting_x n 9) { session = 2; upto = upto }
+second_sets n upto = record (setting_x n 9) { who = record { client = 2; index = 1 }; session = 2; upto = upto }
 
 -- the answer to a request of the second client
 abbrev pub answer_in : Base → List Item → Request → Option Refusal

@@ -1,7 +1,7 @@
 //! The definitions of local histories, computed on small histories (`specs/Examples.antt`).
 
 ghost use Rattle.session_outbox.specs.Checking.{is_sound};
-ghost use Rattle.session_outbox.specs.Examples.{again, answer_to, at, away, before_upgrade, blind_writers, box, created, created_twice, decided_late, decided_when_lost, earlier, far, finished_at_home, home, kept_marks, later_read, later_write, left_behind, left_over, left_prepared, lost_by_life, mended, outlives, prepared_anew, reading_upgraded, reading_x, same_life, setting_x, settled_by_opening, settled_twice, skipped_life, two_commits, upgrade_in_haste, upgraded, upgrading, without_life, x, y, z};
+ghost use Rattle.session_outbox.specs.Examples.{again, answer_to, at, away, before_upgrade, beside_itself, blind_writers, box, coordinated_above, coordinated_outside, created, created_twice, decided_late, decided_when_lost, earlier, far, finished_at_home, home, kept_marks, later_read, later_write, left_behind, left_over, left_prepared, lost_by_life, mended, only, other_life, other_version, out_of_order, out_of_range, outlives, prepared_alone, prepared_anew, reading_upgraded, reading_x, same_life, setting_x, settled_by_opening, settled_twice, skipped_life, two_commits, upgrade_in_haste, upgrade_that_writes, upgraded, upgraded_alone, upgraded_by_one, upgrading, with_nobody, without_life, writes_nowhere, x, y, z};
 ghost use Rattle.session_outbox.specs.History.{Aborted, Committed, Open, epoch_of, objects_at, stands, state};
 ghost use Rattle.session_outbox.specs.Opening.{IsBase};
 ghost use Rattle.session_outbox.specs.Order.{HasOrder};
@@ -52,6 +52,24 @@ pub fn opening_examples()
     ensures settled { keys (state (left_over true) (settled_by_opening true)).left ≡ [] }
     ensures home { IsBase home }
     ensures left_over { (commits : Bool) → IsBase (left_over commits) }
+{}
+
+/// Histories with requests for which no sender can vouch.
+pub fn vouching_examples()
+    ensures other_life { is_sound home other_life ≡ false }
+    ensures coordinated_above { is_sound home coordinated_above ≡ false }
+    ensures beside_itself { is_sound home beside_itself ≡ false }
+    ensures with_nobody { is_sound home with_nobody ≡ false }
+    ensures coordinated_outside { is_sound away coordinated_outside ≡ false }
+    ensures prepared_alone { is_sound home prepared_alone ≡ false }
+    ensures upgrade_that_writes { is_sound home upgrade_that_writes ≡ false }
+    ensures upgraded_by_one { is_sound home upgraded_by_one ≡ false }
+    ensures upgraded_alone { is_sound only upgraded_alone ≡ true }
+    ensures writes_nowhere { is_sound home writes_nowhere ≡ false }
+    ensures untold { is_sound (record home { tells = false }) writes_nowhere ≡ true }
+    ensures other_version { is_sound home other_version ≡ false }
+    ensures out_of_order { is_sound home out_of_order ≡ false }
+    ensures out_of_range { is_sound home out_of_range ≡ false }
 {}
 
 /// The first entry is a Life, and each Life is one above the last.

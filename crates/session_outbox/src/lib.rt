@@ -20,7 +20,8 @@ pub use answer_examples::{
 };
 pub use history_examples::{
     life_examples, mended_example, opening_examples, sound_examples, standing_examples,
-    trace_example, unsound_examples, value_examples, verdict_examples, window_examples,
+    trace_example, unsound_examples, value_examples, verdict_examples, vouching_examples,
+    window_examples,
 };
 pub use history_laws::{
     commits_make_the_state, created_objects_are_new, histories_are_checked, histories_grow,
