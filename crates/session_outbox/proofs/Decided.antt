@@ -6,7 +6,7 @@ use Rattle.session_outbox.proofs.FormDecided.{decides_form}
 use Rattle.session_outbox.proofs.Steps.{by_settling}
 use Rattle.session_outbox.proofs.Tests.{decides_all, decides_empty, decides_eq, decides_false, decides_if, decides_le, decides_less, decides_lt, decides_none, decides_not, decides_or, decides_some, decides_true, turned, ◌also◌}
 use Rattle.session_outbox.specs.Checking.{answers_nothing, each_known, has_participants, is_accepted, is_admitted, is_alone, is_bare_upgrade, is_committed, is_kept_by, is_live, is_new, is_owed, is_sound, is_there, is_vouched, settles_so}
-use Rattle.session_outbox.specs.History.{Aborted, Base, Committed, Fate, IsCommitted, LeftOver, Lives, Open, Standing, State, epoch_of, is_undecided, or_lost, put, settle, standing, start}
+use Rattle.session_outbox.specs.History.{Aborted, Base, Committed, Fate, IsCommitted, LeftOver, Lives, Open, Standing, State, epoch_of, is_undecided, or_lost, put, settle, standing, start, state}
 use Rattle.session_outbox.specs.Participants.{HasParticipants, IsAlone, IsBareUpgrade, takes_part}
 use Rattle.session_outbox.specs.Requests.{bars, has_created, has_read, has_written, is_upgrade, overwrites, written}
 use Rattle.session_outbox.specs.Sound.{Accepts, Admits, Vouches, kept_by, owes, sound}
@@ -17,7 +17,7 @@ use Rattle.std.proofs.lemmas.Map.Made.{is_some-lookup}
 use Rattle.std.proofs.lemmas.Map.Views.{lookup-from_Contains, tells_apart}
 use Rattle.std.specs.BTreeMap.{is_at}
 use Rattle.std.specs.Bool.{Decides}
-use Rattle.std.specs.List.{Contains, list_all, list_any, range_with_len}
+use Rattle.std.specs.List.{Contains, fold, list_all, list_any, range_with_len}
 use Rattle.std.specs.List.Sorted.{IsStrictlySortedBy}
 use Rattle.std.specs.Map.{lookup}
 use Rattle.std.specs.Option.{IfSome, IsSome, IsSomeAnd, is_some, option_map}
@@ -245,6 +245,14 @@ module _ (b : Base) where
   sorted_start : IsSorted (start b).known
   unfolding IsStrictlySortedBy
   sorted_start = tt
+
+  sorted_on : (S : State) (H : List Entry) → IsSorted S.known → IsSorted (fold (put b) S H).known
+  sorted_on S [] sorted = sorted
+  sorted_on S (e ∷ H) sorted = sorted_on (put b S e) H (sorted_put S e sorted)
+
+  -- what is known is in order
+  pub sorted_state : (H : List Entry) → IsSorted (state b H).known
+  sorted_state H = sorted_on (start b) H sorted_start
 
   pub decides_sound : (H : List Entry) → Decides (is_sound b H) (sound b H)
   decides_sound H = decides_kept (start b) H sorted_start

@@ -9,6 +9,9 @@ pub mod LastWrite
 pub mod Listed
 pub mod Final
 pub mod Lives
+pub mod Settling
+pub mod Telling
+pub mod Making
 pub mod Tests
 pub mod FormDecided
 pub mod Decided

@@ -38,10 +38,10 @@ end_cases (z ∷ xs) y x (suc k) h = elim (end_cases xs y x k h) [
   | inr p ↦ inr (ap suc p.0, p.1)
 ]
 
-is_some_and : {X : Type 0} (o : Option X) (P : X → Type 0) (x : X) → o ≡ Some x → P x → IsSomeAnd o P
+pub is_some_and : {X : Type 0} (o : Option X) (P : X → Type 0) (x : X) → o ≡ Some x → P x → IsSomeAnd o P
 is_some_and o P x e p = subst (λ v. IsSomeAnd v P) (sym e) p
 
-some_and : {X : Type 0} (o : Option X) (P : X → Type 0) → IsSomeAnd o P → (x : X) × (o ≡ Some x) × P x
+pub some_and : {X : Type 0} (o : Option X) (P : X → Type 0) → IsSomeAnd o P → (x : X) × (o ≡ Some x) × P x
 some_and None P h = absurd h
 some_and (Some x) P h = (x, refl, h)
 

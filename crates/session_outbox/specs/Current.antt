@@ -2,7 +2,6 @@
 -- right or is about to be called invalid is the invariant of the invalid sets of Adya and others,
 -- SIGMOD 1995. The form that keeps the place at which the copy was right is this project's: it is the
 -- one that each growth of the history and each message keep.)
-use Rattle.commit_log.specs.declared.entry.Entry.TheVariants.{Decided, Finished, Life, One, Prepared, Upgraded}
 use Rattle.commit_log.specs.declared.entry.Entry.{Entry}
 use Rattle.commit_log.specs.declared.request.Request.{Request}
 use Rattle.session_outbox.specs.History.{Base, Lives, Open, Standing, commit_of, objects_at, stands, state, writers}
@@ -122,13 +121,3 @@ NoneAborted b H committed = (t : Ts) (w : Standing) → stands b H t ≡ Some w 
 -- each of these commits that wrote x is another session's than s, or it wrote the copy o there
 abbrev pub OthersOrSame : ℕ → Oref → Obj → List (ℕ × Request) → Type 0
 OthersOrSame s x o cs = All (λ c. has_written c.1 x ≡ true → (nat_eq c.1.session s ≡ false) ⊎ (get (written c.1) x ≡ Some o)) cs
-
--- The entry may settle the transaction t: it is the decision about it, or a Life of its coordinator,
--- which loses what it hadn't decided.
-abbrev pub MaySettle : Base → Ts → Entry → Type 0
-MaySettle b t (Life n) = t.repo ≡ b.repo
-MaySettle b t (One q) = ⊥
-MaySettle b t (Prepared q) = ⊥
-MaySettle b t (Decided u c) = u ≡ t
-MaySettle b t (Finished u c) = u ≡ t
-MaySettle b t (Upgraded q) = ⊥

@@ -121,6 +121,24 @@ pub record ReadsLast (b : Base) (H : List Entry) : Type 0 where
   -- none did, or the last one's write is what stands there
   pub value : (t : Ts) (o : Standing) (x : Oref) → Reads b H t o x → NoneWrote b H t o x ⊎ ((s : Ts) × (w : Standing) × LastWrote b H t o x s w)
 
+-- no transaction that wrote x has committed, and the object is the base's
+pub record Unwritten (b : Base) (H : List Entry) (x : Oref) : Type 0 where
+  pub none : (s : Ts) (w : Standing) (m : ℕ) → stands b H s ≡ Some w → w.fate ≡ Committed m → IsTrue (has_written w.request x) → ⊥
+  pub value : get (state b H).objects x ≡ get b.objects x
+
+-- s wrote x and committed at the place m, none that wrote x committed behind it, and the object is as s
+-- wrote it
+pub record WrittenLast (b : Base) (H : List Entry) (x : Oref) (s : Ts) (w : Standing) (m : ℕ) : Type 0 where
+  pub there : stands b H s ≡ Some w
+  pub fate : w.fate ≡ Committed m
+  pub wrote : IsTrue (has_written w.request x)
+  pub value : get (state b H).objects x ≡ get (written w.request) x
+  pub last : (r : Ts) (v : Standing) (n : ℕ) → stands b H r ≡ Some v → v.fate ≡ Committed n → IsTrue (has_written v.request x) → n ≤ m
+
+-- where the object x comes from at the end of a history
+abbrev pub ComesFrom : Base → List Entry → Oref → Type 0
+ComesFrom b H x = Unwritten b H x ⊎ ((s : Ts) × (w : Standing) × (m : ℕ) × WrittenLast b H x s w m)
+
 -- The transactions s and t stand in H as w and o, neither is aborted, and both wrote x.
 pub record BothWrote (b : Base) (H : List Entry) (s t : Ts) (w o : Standing) (x : Oref) : Type 0 where
   pub first : stands b H s ≡ Some w

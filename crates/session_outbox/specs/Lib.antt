@@ -9,6 +9,7 @@ pub mod Laws
 pub mod Order
 pub mod Messages
 pub mod Opening
+pub mod Outcomes
 pub mod Participants
 pub mod Queue
 pub mod Requests

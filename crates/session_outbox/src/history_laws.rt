@@ -8,7 +8,7 @@ ghost use Rattle.commit_log.specs.declared.request.Request.{Request};
 ghost use Rattle.session_outbox.specs.Checking.{is_sound};
 ghost use Rattle.session_outbox.specs.Covers.{Covers};
 ghost use Rattle.session_outbox.specs.History.{Base, Standing, Open, commit_of, commits, epoch_of, objects_at, put, stands, state};
-ghost use Rattle.session_outbox.specs.Laws.{CommitsListed, Continues, CreatedOnce, LivesFollow, MadeByCommits, ReadsLast, Recorded, Stays, UpgradesFence, WritersRise};
+ghost use Rattle.session_outbox.specs.Laws.{ComesFrom, CommitsListed, Continues, CreatedOnce, LivesFollow, MadeByCommits, ReadsLast, Recorded, Stays, UpgradesFence, WritersRise};
 ghost use Rattle.session_outbox.specs.Order.{HasOrder};
 ghost use Rattle.session_outbox.specs.Sound.{Accepts, Vouches, owes, sound};
 ghost use Rattle.session_outbox.specs.Participants.{IsAlone, IsShared};
@@ -19,9 +19,13 @@ ghost use Rattle.session_outbox.specs.Window.{slide, window};
 ghost use Rattle.session_outbox.specs.declared.refusal.Refusal.{Refusal};
 ghost use Rattle.std.specs.Bool.{Decides};
 ghost use Rattle.std.specs.List.{filter};
-ghost use Rattle.std.specs.Option.{IfSome, IsSomeAnd};
+ghost use Rattle.std.specs.Option.{IfSome, IsSomeAnd, option_or};
 ghost use Rattle.std.specs.Prelude.{List, None, Option, [], ◌∷◌, ◌++◌, ℕ, ◌≡◌, ◌≢◌, ◌<◌, ◌≤◌, false, length, nat_lt, take, true};
+ghost use Rattle.thor_value.specs.FiniteMap.{Map, empty, get, overwrite};
+ghost use Rattle.thor_value.specs.Names.{oref_cmp};
+ghost use Rattle.thor_value.specs.declared.names.Oref.{Oref};
 ghost use Rattle.thor_value.specs.declared.names.Ts.{Ts};
+ghost use Rattle.thor_value.specs.declared.values.Obj.{Obj};
 
 /// A history grows at its end, by one step of the fold, and what it was at a place stays. The commits
 /// below a place are those of the list of commits whose places are below.
@@ -83,6 +87,14 @@ pub fn requests_are_recorded()
 /// it; so its value at a place is that of the last commit below that wrote it.
 pub fn commits_make_the_state()
     ensures { (b : Base) (H : List Entry) → MadeByCommits b H }
+{}
+
+/// An object at the end of a history is as the last commit wrote it that wrote it, or else the base's.
+/// What a list of writes leaves at a name is its last write there, or what stood there.
+pub fn objects_are_written()
+    ensures source { (b : Base) (H : List Entry) (x : Oref) → sound b H → ComesFrom b H x }
+    ensures behind { (x : Oref) (m : Map oref_cmp Obj) (ws : List (Oref × Obj)) →
+        get (overwrite m ws) x ≡ option_or (get {R = oref_cmp} (overwrite empty ws) x) (get m x) }
 {}
 
 /// Writers of one object come in the same order by place and by timestamp. At most one of them is

@@ -8,6 +8,7 @@ mod answer_examples;
 mod history_examples;
 mod history_laws;
 mod mark;
+mod outcome_laws;
 mod queue_laws;
 mod refusal;
 mod session_laws;
@@ -25,10 +26,11 @@ pub use history_examples::{
 };
 pub use history_laws::{
     commits_make_the_state, created_objects_are_new, histories_are_checked, histories_grow,
-    lives_follow, outcomes_are_final, reads_are_last_writes, requests_are_recorded, sound_histories_grow,
+    lives_follow, objects_are_written, outcomes_are_final, reads_are_last_writes, requests_are_recorded, sound_histories_grow,
     sound_histories_have_order, upgrades_fence, verdicts_are_sound, windows_cover, writers_rise,
 };
 pub use mark::Mark;
+pub use outcome_laws::{entries_make, entries_settle, entries_tell};
 pub use queue_laws::{queues_answer_by_the_window, queues_keep_the_window};
 pub use refusal::Refusal;
 pub use session_laws::{

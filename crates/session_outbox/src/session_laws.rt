@@ -3,8 +3,9 @@
 ghost use Rattle.commit_log.specs.declared.entry.Entry.{Entry};
 ghost use Rattle.commit_log.specs.declared.request.Request.{Request};
 ghost use Rattle.session_outbox.specs.Requests.{written};
-ghost use Rattle.session_outbox.specs.Current.{InStep, IsCurrent, IsOwnWrite, IsRightOrStale, MaySettle, NoUpgrades, NoneAborted, OthersOrSame, OthersSince, OthersWrite, Passes, RightAt, Takes, Tells, commits_in, is_taking, names_invalid};
+ghost use Rattle.session_outbox.specs.Current.{InStep, IsCurrent, IsOwnWrite, IsRightOrStale, NoUpgrades, NoneAborted, OthersOrSame, OthersSince, OthersWrite, Passes, RightAt, Takes, Tells, commits_in, is_taking, names_invalid};
 ghost use Rattle.session_outbox.specs.History.{Base, IsCommitted, Standing, commit_of, objects_at, stands, state, writers};
+ghost use Rattle.session_outbox.specs.Outcomes.{MaySettle};
 ghost use Rattle.session_outbox.specs.Messages.{KeepsOrder, WaitsByPlace};
 ghost use Rattle.session_outbox.specs.Session.{Notice, Page, Session, acked_after, bound, meet, session, upto_of};
 ghost use Rattle.session_outbox.specs.Sound.{sound};
