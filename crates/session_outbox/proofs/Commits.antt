@@ -72,7 +72,7 @@ module _ (b : Base) where
       by_fate Aborted false = (refl, refl, refl)
 
   -- one entry changes them by the commit that it is
-  made : (S : State) (e : Entry) → Made S (commit_of b S e) (put b S e)
+  pub made : (S : State) (e : Entry) → Made S (commit_of b S e) (put b S e)
   made S (Life n) = (refl, refl, refl)
   made S (One q) = (refl, refl, refl)
   made S (Prepared q) = (refl, refl, refl)

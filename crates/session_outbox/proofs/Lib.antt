@@ -12,6 +12,8 @@ pub mod Lives
 pub mod Settling
 pub mod Telling
 pub mod Making
+pub mod Stamps
+pub mod Vouched
 pub mod Tests
 pub mod FormDecided
 pub mod Decided

@@ -156,7 +156,7 @@ module _ (b : Base) where
       let st : Stays x.0 y.0 = y.2 in
       is_some_and (stands b (H ++ e ∷ []) c.1.tx) (λ o. (o.request ≡ c.1) × (o.fate ≡ Committed c.0)) y.0 y.1 (st.request ∙ x.2.0, stays_committed c.0 x.0.fate y.0.fate x.2.1 st.fate)
 
-  stand : (H : List Entry) → sound b H → (c : ℕ × Request) → Contains (commits b H) c → StandsSo H c
+  pub stand : (H : List Entry) → sound b H → (c : ℕ × Request) → Contains (commits b H) c → StandsSo H c
   stand =
       by_growth b (λ H. (c : ℕ × Request) → Contains (commits b H) c → StandsSo H c)
       (λ c h. let l : h.0 < 0 = h.1 in absurd (omega arith))

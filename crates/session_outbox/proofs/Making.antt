@@ -104,7 +104,7 @@ module _ (b : Base) where
       by true h false k = let e : nat_eq d c ≡ true = eq-eqb d c (sym (tells_apart exact_unsigned c d h)) in cc
       by false h true k = let e : eq_by_cmp nat_cmp c d ≡ true = subst (λ n. eq_by_cmp nat_cmp c n ≡ true) (sym (eqb-true d c k)) (ap is_eq (tied_itself nat_cmp_total c)) in cc
 
-  alone-put : (S : State) (e : Entry) (c : ℕ) → get (put b S e).alone c ≡ option_or (alone_at c e) (get S.alone c)
+  pub alone-put : (S : State) (e : Entry) (c : ℕ) → get (put b S e).alone c ≡ option_or (alone_at c e) (get S.alone c)
   alone-put S (Life n) c = refl
   alone-put S (One q) c = new-alone S.alone q.who.client c q.tx
   alone-put S (Prepared q) c = refl

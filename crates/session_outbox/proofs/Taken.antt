@@ -7,12 +7,15 @@ use Rattle.session_outbox.proofs.Growth.{length-state}
 use Rattle.session_outbox.proofs.Kept.{Extends, pages-extend}
 use Rattle.session_outbox.proofs.Sessions.{at-most-last, bound-at, keeps-order, session-end, waits-by-place}
 use Rattle.session_outbox.proofs.Told.{Begins, Went, all-both, all-told, at_end, came, pages-old, went}
+use Rattle.session_outbox.proofs.Vouched.{plain}
 use Rattle.session_outbox.proofs.Traces.{entries-append}
-use Rattle.session_outbox.specs.Current.{InStep, IsTold, NoUpgrades, OthersSince, RightAt, Takes, Tells, names_invalid}
+use Rattle.session_outbox.specs.Current.{InStep, IsTold, OthersSince, RightAt, Takes, Tells, names_invalid}
 use Rattle.session_outbox.specs.History.{Base, State, commit_of, epoch_of, last_write, objects_at, state, writers}
 use Rattle.session_outbox.specs.Messages.{InOrder, KeepsOrder, WaitsByPlace}
+use Rattle.session_outbox.specs.Laws.{NoUpgrades}
 use Rattle.session_outbox.specs.Requests.{is_upgrade, written}
 use Rattle.session_outbox.specs.Session.{Grant, Invalid, Notice, Page, Session, Upgrade, bound, cache, invalid_of, is_silent, meet, move, moved, notice, or_retired, pages_after, place_of, push, session, told_of, upto_of}
+use Rattle.session_outbox.specs.Sound.{sound}
 use Rattle.session_outbox.specs.Trace.{E, Item, M, entries}
 use Rattle.session_outbox.specs.declared.mark.Mark.TheVariants as the
 use Rattle.session_outbox.specs.declared.mark.Mark.{Mark}
@@ -186,9 +189,9 @@ module _ (b : Base) where
   after-mark T m = entries-append T (M m ∷ []) ∙ append-nil (entries T)
 
   -- a copy that a message doesn't name stays right, behind the place that the message makes known
-  pub right-taken : (T : List Item) (s : ℕ) (v w : Session) (place : ℕ) (m : Notice) (x : Oref) (o : Obj) (n : ℕ) → Takes b T s v w place m → names_invalid x m ≡ false → NoUpgrades (writers b (entries T) x)
+  pub right-taken : (T : List Item) (s : ℕ) (v w : Session) (place : ℕ) (m : Notice) (x : Oref) (o : Obj) (n : ℕ) → Takes b T s v w place m → names_invalid x m ≡ false → sound b (entries T)
       → RightAt b (entries T) s v x o n → RightAt b (entries (T ++ M (the.Took s place) ∷ [])) s w x o (max n (bound m))
-  right-taken T s v w place m x o n h unnamed plain r = subst (λ (H : List Entry). RightAt b H s w x o (max n (bound m))) (sym (after-mark T (the.Took s place))) (right-taken-here T s v w place m x o n h unnamed plain r)
+  right-taken T s v w place m x o n h unnamed sd r = subst (λ (H : List Entry). RightAt b H s w x o (max n (bound m))) (sym (after-mark T (the.Took s place))) (right-taken-here T s v w place m x o n h unnamed (plain b (entries T) sd x) r)
 
 -- ---- what a page brings
 

@@ -10,7 +10,7 @@ use Rattle.session_outbox.proofs.Settling.{stands-still}
 use Rattle.session_outbox.proofs.Steps.{FateMoves, Kept}
 use Rattle.session_outbox.proofs.Taken.{after-mark, keeps-pages, page-taken, right-taken, took}
 use Rattle.session_outbox.proofs.Traces.{entries-append}
-use Rattle.session_outbox.specs.Current.{InStep, IsCurrent, IsOwnWrite, NoUpgrades, NoneAborted, OthersOrSame, OthersSince, OthersWrite, Passes, RightAt, Takes, commits_in, names_invalid}
+use Rattle.session_outbox.specs.Current.{InStep, IsCurrent, IsOwnWrite, NoneAborted, OthersOrSame, OthersSince, OthersWrite, Passes, RightAt, Takes, commits_in, names_invalid}
 use Rattle.session_outbox.specs.History.{Aborted, Base, Committed, Fate, IsCommitted, Lives, Open, Standing, State, commit_of, objects_at, put, standing, stands, state, writers}
 use Rattle.session_outbox.specs.Outcomes.{MaySettle}
 use Rattle.session_outbox.specs.Requests.{has_written, written}
@@ -172,10 +172,10 @@ module _ (b : Base) where
   current-grown T (M k) s v w committed x o ps step page sd n a (inr y) = inr (y.0, y.1, mark-keeps T k s committed x o y.0 y.1 y.2)
 
   -- and where it takes one that doesn't name its object
-  pub current-taken : (T : List Item) (s : ℕ) (v w : Session) (place : ℕ) (m : Notice) (committed : Ts → Bool) (x : Oref) (o : Obj) → Takes b T s v w place m → names_invalid x m ≡ false → NoUpgrades (writers b (entries T) x)
+  pub current-taken : (T : List Item) (s : ℕ) (v w : Session) (place : ℕ) (m : Notice) (committed : Ts → Bool) (x : Oref) (o : Obj) → Takes b T s v w place m → names_invalid x m ≡ false → sound b (entries T)
       → IsCurrent b (entries T) s v committed x o → IsCurrent b (entries (T ++ M (the.Took s place) ∷ [])) s w committed x o
-  current-taken T s v w place m committed x o h unnamed plain (inl r) = inl (_, right-taken b T s v w place m x o r.0 h unnamed plain r.1)
-  current-taken T s v w place m committed x o h unnamed plain (inr y) = inr (y.0, y.1, mark-keeps T (the.Took s place) s committed x o y.0 y.1 y.2)
+  current-taken T s v w place m committed x o h unnamed sd (inl r) = inl (_, right-taken b T s v w place m x o r.0 h unnamed sd r.1)
+  current-taken T s v w place m committed x o h unnamed sd (inr y) = inr (y.0, y.1, mark-keeps T (the.Took s place) s committed x o y.0 y.1 y.2)
 
   pub current-brought : (T : List Item) (s : ℕ) (v w : Session) (place page k : ℕ) (committed : Ts → Bool) (x : Oref) (o : Obj) → Takes b T s v w place (Page page k) → x.page ≡ page → get (objects_at b (entries T) k) x ≡ Some o → OthersSince s k (writers b (entries T) x)
       → IsCurrent b (entries (T ++ M (the.Took s place) ∷ [])) s w committed x o

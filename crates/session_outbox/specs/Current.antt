@@ -100,10 +100,6 @@ pub record Takes (b : Base) (T : List Item) (s : ℕ) (v w : Session) (place : �
   pub message : slice_get v.sent v.taken ≡ Some m
   pub after : session b (T ++ M (the.Took s place) ∷ []) s ≡ Some w
 
--- none of these commits is an upgrade's: upgrades write nothing
-abbrev pub NoUpgrades : List (ℕ × Request) → Type 0
-NoUpgrades cs = All (λ c. is_upgrade c.1 ≡ false) cs
-
 -- ---- what growth owes to a current copy
 
 -- The session v, which is live, is w behind the item i, at which its client takes no message.

@@ -8,7 +8,8 @@ ghost use Rattle.commit_log.specs.declared.request.Request.{Request};
 ghost use Rattle.session_outbox.specs.Checking.{is_sound};
 ghost use Rattle.session_outbox.specs.Covers.{Covers};
 ghost use Rattle.session_outbox.specs.History.{Base, Standing, Open, commit_of, commits, epoch_of, objects_at, put, stands, state};
-ghost use Rattle.session_outbox.specs.Laws.{ComesFrom, CommitsListed, Continues, CreatedOnce, LivesFollow, MadeByCommits, ReadsLast, Recorded, Stays, UpgradesFence, WritersRise};
+ghost use Rattle.session_outbox.specs.Laws.{ComesFrom, CommitsListed, Continues, CreatedOnce, KeepsBase, LivesFollow, MadeByCommits, ReadsLast, Recorded, Stays, UpgradesAreBare, UpgradesFence, WritersRise};
+ghost use Rattle.session_outbox.specs.Opening.{IsBase};
 ghost use Rattle.session_outbox.specs.Order.{HasOrder};
 ghost use Rattle.session_outbox.specs.Sound.{Accepts, Vouches, owes, sound};
 ghost use Rattle.session_outbox.specs.Participants.{IsAlone, IsShared};
@@ -112,6 +113,16 @@ pub fn reads_are_last_writes()
 /// Each transaction is before an upgrade or after it, by timestamp and by place alike.
 pub fn upgrades_fence()
     ensures { (b : Base) (H : List Entry) → sound b H → UpgradesFence b H }
+{}
+
+/// An upgrade changes no object and is every repository's.
+pub fn upgrades_are_bare()
+    ensures { (b : Base) (H : List Entry) → sound b H → UpgradesAreBare b H }
+{}
+
+/// What holds of the objects of a base, and of its last single commits, holds of each sound history's.
+pub fn bases_are_kept()
+    ensures { (b : Base) (H : List Entry) → IsBase b → sound b H → KeepsBase b H }
 {}
 
 /// A created object wasn't there, and nobody before wrote it.

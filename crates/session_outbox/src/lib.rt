@@ -25,9 +25,10 @@ pub use history_examples::{
     window_examples,
 };
 pub use history_laws::{
-    commits_make_the_state, created_objects_are_new, histories_are_checked, histories_grow,
-    lives_follow, objects_are_written, outcomes_are_final, reads_are_last_writes, requests_are_recorded, sound_histories_grow,
-    sound_histories_have_order, upgrades_fence, verdicts_are_sound, windows_cover, writers_rise,
+    bases_are_kept, commits_make_the_state, created_objects_are_new, histories_are_checked,
+    histories_grow, lives_follow, objects_are_written, outcomes_are_final, reads_are_last_writes,
+    requests_are_recorded, sound_histories_grow, sound_histories_have_order, upgrades_are_bare,
+    upgrades_fence, verdicts_are_sound, windows_cover, writers_rise,
 };
 pub use mark::Mark;
 pub use outcome_laws::{entries_make, entries_settle, entries_tell};

@@ -3,7 +3,7 @@
 ghost use Rattle.commit_log.specs.declared.entry.Entry.{Entry};
 ghost use Rattle.commit_log.specs.declared.request.Request.{Request};
 ghost use Rattle.session_outbox.specs.Requests.{written};
-ghost use Rattle.session_outbox.specs.Current.{InStep, IsCurrent, IsOwnWrite, IsRightOrStale, NoUpgrades, NoneAborted, OthersOrSame, OthersSince, OthersWrite, Passes, RightAt, Takes, Tells, commits_in, is_taking, names_invalid};
+ghost use Rattle.session_outbox.specs.Current.{InStep, IsCurrent, IsOwnWrite, IsRightOrStale, NoneAborted, OthersOrSame, OthersSince, OthersWrite, Passes, RightAt, Takes, Tells, commits_in, is_taking, names_invalid};
 ghost use Rattle.session_outbox.specs.History.{Base, IsCommitted, Standing, commit_of, objects_at, stands, state, writers};
 ghost use Rattle.session_outbox.specs.Outcomes.{MaySettle};
 ghost use Rattle.session_outbox.specs.Messages.{KeepsOrder, WaitsByPlace};
@@ -72,7 +72,7 @@ pub fn commits_are_told()
 /// sessions alone have written it since.
 pub fn messages_keep_copies()
     ensures kept { (b : Base) (T : List Item) (s : ℕ) (v w : Session) (place : ℕ) (m : Notice) (x : Oref) (o : Obj) (n : ℕ) →
-        Takes b T s v w place m → names_invalid x m ≡ false → NoUpgrades (writers b (entries T) x) →
+        Takes b T s v w place m → names_invalid x m ≡ false → sound b (entries T) →
         RightAt b (entries T) s v x o n →
         RightAt b (entries (T ++ M (the.Took s place) ∷ [])) s w x o (max n (bound m)) }
     ensures brought { (b : Base) (T : List Item) (s : ℕ) (v w : Session) (place page k : ℕ) (x : Oref) (o : Obj) →
@@ -114,7 +114,7 @@ pub fn current_copies_stay()
         OthersOrSame s x o (commits_in b (entries T) i) →
         IsCurrent b (entries T) s v committed x o → IsCurrent b (entries (T ++ i ∷ [])) s w committed x o }
     ensures taken { (b : Base) (T : List Item) (s : ℕ) (v w : Session) (place : ℕ) (m : Notice) (committed : Ts → Bool) (x : Oref) (o : Obj) →
-        Takes b T s v w place m → names_invalid x m ≡ false → NoUpgrades (writers b (entries T) x) →
+        Takes b T s v w place m → names_invalid x m ≡ false → sound b (entries T) →
         IsCurrent b (entries T) s v committed x o →
         IsCurrent b (entries (T ++ M (the.Took s place) ∷ [])) s w committed x o }
     ensures brought { (b : Base) (T : List Item) (s : ℕ) (v w : Session) (place page k : ℕ) (committed : Ts → Bool) (x : Oref) (o : Obj) →
