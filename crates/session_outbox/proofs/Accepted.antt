@@ -3,7 +3,8 @@ use Rattle.commit_log.specs.declared.entry.Entry.TheVariants.{One, Prepared, Upg
 use Rattle.commit_log.specs.declared.entry.Entry.{Entry}
 use Rattle.commit_log.specs.declared.request.Request.{Request}
 use Rattle.session_outbox.proofs.Growth.{sound-end}
-use Rattle.session_outbox.proofs.Validated.{validated}
+use Rattle.session_outbox.proofs.Room.{room_left}
+use Rattle.session_outbox.proofs.Validated.{neither, nothing_holds, validated}
 use Rattle.session_outbox.specs.History.{Base, state}
 use Rattle.session_outbox.specs.Laws.{Continues}
 use Rattle.session_outbox.specs.Participants.{IsAlone, IsShared}
@@ -32,7 +33,8 @@ module _ (b : Base) (T : List Item) (s : ℕ) (q : Request) (sd : sound b (entri
   admitted e =
       let p = passed b (entries T) s q (session b T s) e in
       let a = validated b (entries T) q _ _ sd h.once p.3 in
-      record { vouched = h; current = a.0; accepted = a.1 }
+      let none = nothing_holds (state b (entries T)) (window b (entries T)) _ _ q p.3 in
+      record { vouched = h; current = a.0; accepted = a.1; room = room_left b (entries T) sd (neither _ _ none.limits).0 }
 
   continued : (e : Entry) → owes b (state b (entries T)) e → Continues b (entries T) e
   continued e o = (o, sound-end b (entries T) e sd o)

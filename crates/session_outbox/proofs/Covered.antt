@@ -61,11 +61,10 @@ module _ {X : Type 0} where
 
 -- ---- room for one more
 
-Found : List (Ts × Member) → Ts → Type 0
+abbrev pub Found : List (Ts × Member) → Ts → Type 0
 Found es t = (m : Member) × Contains es (t, m) × (m.decided ≡ true)
 
-found_first : (es : List (Ts × Member)) (t : Ts) → first_decided es ≡ Some t → Found es t
-unfolding Found
+pub found_first : (es : List (Ts × Member)) (t : Ts) → first_decided es ≡ Some t → Found es t
 found_first [] t e = cc
 found_first (e ∷ es) t h = by_test e.1.decided refl h (λ k. let x = found_first es t k in (x.0, shifted es e (t, x.0) x.1, x.2))
   where
@@ -108,7 +107,6 @@ roomy_without W u n h here decided = record {
 }
 
 by_found : (W : Window) → IsSorted W.members → (o : Option Ts) → ((t : Ts) → o ≡ Some t → Found W.members.pairs t) → Roomy W (without W o)
-unfolding Found
 by_found W h None f = roomy_same W h
 by_found W h (Some u) f =
     let x = f u refl in

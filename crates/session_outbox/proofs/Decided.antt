@@ -6,7 +6,7 @@ use Rattle.session_outbox.proofs.FormDecided.{decides_form}
 use Rattle.session_outbox.proofs.Steps.{by_settling}
 use Rattle.session_outbox.proofs.Tests.{decides_all, decides_empty, decides_eq, decides_false, decides_if, decides_le, decides_less, decides_lt, decides_none, decides_not, decides_or, decides_some, decides_true, turned, ◌also◌}
 use Rattle.session_outbox.specs.Checking.{answers_nothing, each_known, has_participants, is_accepted, is_admitted, is_alone, is_bare_upgrade, is_committed, is_kept_by, is_live, is_new, is_owed, is_sound, is_there, is_vouched, settles_so}
-use Rattle.session_outbox.specs.History.{Aborted, Base, Committed, Fate, IsCommitted, LeftOver, Lives, Open, Standing, State, epoch_of, is_undecided, or_lost, put, settle, standing, start, state}
+use Rattle.session_outbox.specs.History.{Aborted, Base, Committed, Fate, IsCommitted, LeftOver, Lives, Open, Standing, State, epoch_of, is_undecided, or_lost, put, settle, standing, start, state, undecided_in}
 use Rattle.session_outbox.specs.Participants.{HasParticipants, IsAlone, IsBareUpgrade, takes_part}
 use Rattle.session_outbox.specs.Requests.{bars, has_created, has_read, has_written, is_upgrade, overwrites, written}
 use Rattle.session_outbox.specs.Sound.{Accepts, Admits, Vouches, kept_by, owes, sound}
@@ -25,12 +25,13 @@ use Rattle.std.specs.Ordering.{is_eq}
 use Rattle.std.specs.Prelude.{Bool, IsTrue, None, Option, Some, false, nat_eq, not, true, ◌&&◌, ◌||◌, ◌⊎◌}
 use Rattle.thor_value.proofs.FiniteMap.{IsSorted-insert}
 use Rattle.thor_value.proofs.NameOrders.{oref_exact, oref_total, ts_exact, ts_total}
-use Rattle.thor_value.specs.FiniteMap.{IsSorted, get, keys}
+use Rattle.thor_value.specs.FiniteMap.{IsSorted, get, keys, len}
 use Rattle.thor_value.specs.Names.{oref_cmp, same_oref, ts_cmp}
 use Rattle.thor_value.specs.declared.names.Oref.{Oref}
 use Rattle.thor_value.specs.declared.names.Ts.{Ts}
 use Rattle.thor_value.specs.declared.values.Answer.TheVariants.{Fault, Ints}
 use Rattle.thor_value.specs.declared.values.Answer.{Answer}
+use Rattle.validation_queue.specs.Contents.{room_for}
 
 pub decides_lives : (f : Fate) → Decides (is_live f) (Lives f)
 decides_lives Open = ((λ e. tt), (λ e. refl))
@@ -197,9 +198,10 @@ module _ (b : Base) where
 
   decides_admitted : (S : State) (q : Request) → IsSorted S.known → Decides (is_admitted b S q) (Admits b S q)
   decides_admitted S q sorted = turned
-      (decides_vouched S q sorted also decides_eq q.epoch (epoch_of S) also decides_known S (is_accepted q) (Accepts q) sorted (λ t o. decides_accepted q t o))
-      (λ p. record { vouched = p.0.0; current = p.0.1; accepted = p.1 })
-      (λ h. ((h.vouched, h.current), h.accepted))
+      (decides_vouched S q sorted also decides_eq q.epoch (epoch_of S) also decides_known S (is_accepted q) (Accepts q) sorted (λ t o. decides_accepted q t o)
+      also decides_lt (len (undecided_in b S)) room_for)
+      (λ p. record { vouched = p.0.0.0; current = p.0.0.1; accepted = p.0.1; room = p.1 })
+      (λ h. (((h.vouched, h.current), h.accepted), h.room))
 
   decides_alone : (q : Request) → Decides (is_alone b q) (IsAlone b q)
   decides_alone q = decides_empty q.others also decides_eq q.tx.repo b.repo

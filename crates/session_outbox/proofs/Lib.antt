@@ -21,6 +21,7 @@ pub mod Mended
 pub mod Traces
 pub mod Covered
 pub mod Validated
+pub mod Room
 pub mod Accepted
 pub mod Queued
 pub mod Clashing

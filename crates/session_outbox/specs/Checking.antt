@@ -3,19 +3,20 @@
 use Rattle.commit_log.specs.declared.entry.Entry.TheVariants.{Decided, Finished, Life, One, Prepared, Upgraded}
 use Rattle.commit_log.specs.declared.entry.Entry.{Entry}
 use Rattle.commit_log.specs.declared.request.Request.{Request}
-use Rattle.session_outbox.specs.History.{Aborted, Base, Committed, Fate, LeftOver, Open, Standing, State, epoch_of, is_undecided, or_lost, put, standing, start}
+use Rattle.session_outbox.specs.History.{Aborted, Base, Committed, Fate, LeftOver, Open, Standing, State, epoch_of, is_undecided, or_lost, put, standing, start, undecided_in}
 use Rattle.session_outbox.specs.FormChecking.{is_well_formed}
 use Rattle.session_outbox.specs.Participants.{takes_part}
 use Rattle.session_outbox.specs.Requests.{bars, has_created, has_read, has_written, is_upgrade, overwrites, written}
 use Rattle.std.specs.List.{list_all, range_with_len}
 use Rattle.std.specs.Option.{is_none, is_some}
 use Rattle.std.specs.Prelude.{Bool, List, None, Option, Some, [], cond, false, nat_eq, nat_le, nat_lt, not, true, ◌&&◌, ◌+◌, ◌∷◌, ◌||◌}
-use Rattle.thor_value.specs.FiniteMap.{get, keys}
+use Rattle.thor_value.specs.FiniteMap.{get, keys, len}
 use Rattle.thor_value.specs.declared.names.Oref.{Oref}
 use Rattle.thor_value.specs.declared.names.Ts.{Ts}
 use Rattle.thor_value.specs.declared.values.Answer.TheVariants.{Fault, Ints}
 use Rattle.thor_value.specs.declared.values.Answer.{Answer}
 use Rattle.validation_queue.specs.Clashes.{is_before}
+use Rattle.validation_queue.specs.Contents.{room_for}
 
 -- the second, where the first
 abbrev pub if_then : Bool → Bool → Bool
@@ -83,7 +84,7 @@ is_vouched b S q =
 
 -- whether q owes nothing to S
 abbrev pub is_admitted : Base → State → Request → Bool
-is_admitted b S q = is_vouched b S q && nat_eq q.epoch (epoch_of S) && each_known b S (is_accepted q)
+is_admitted b S q = is_vouched b S q && nat_eq q.epoch (epoch_of S) && each_known b S (is_accepted q) && nat_lt (len (undecided_in b S)) room_for
 
 -- whether q's transaction has this one participant
 abbrev pub is_alone : Base → Request → Bool

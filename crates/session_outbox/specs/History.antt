@@ -184,6 +184,10 @@ abbrev pub is_undecided : Option Standing → Bool
 is_undecided None = false
 is_undecided (Some o) = is_open o.fate
 
+-- the transactions that are undecided
+abbrev pub undecided_in : Base → State → Map ts_cmp Standing
+undecided_in b S = keep S.known (λ t. is_undecided (standing b S t))
+
 -- what an entry changes, but for the number of entries
 abbrev pub change : Base → State → Entry → State
 change b S (Life n) = record S { life = n; last_life = S.length }

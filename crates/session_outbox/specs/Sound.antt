@@ -5,16 +5,17 @@ use Rattle.commit_log.specs.RequestForm.{IsWellFormed}
 use Rattle.commit_log.specs.declared.entry.Entry.TheVariants.{Life, One, Prepared, Decided, Finished, Upgraded}
 use Rattle.commit_log.specs.declared.entry.Entry.{Entry}
 use Rattle.commit_log.specs.declared.request.Request.{Request}
-use Rattle.session_outbox.specs.History.{Base, IsCommitted, Lives, Standing, State, epoch_of, is_undecided, put, standing, start}
+use Rattle.session_outbox.specs.History.{Base, IsCommitted, Lives, Standing, State, epoch_of, is_undecided, put, standing, start, undecided_in}
 use Rattle.session_outbox.specs.Participants.{HasParticipants, IsAlone, IsBareUpgrade, IsShared}
 use Rattle.session_outbox.specs.Requests.{bars, has_created, has_read, has_written, is_upgrade, overwrites}
 use Rattle.std.specs.List.{AllByRecursion}
 use Rattle.std.specs.Option.{IfSome, IsSome, IsSomeAnd}
 use Rattle.std.specs.Prelude.{◌≡◌, ◌≢◌, ◌⊎◌, Bool, IsTrue, true, false, List, [], ◌∷◌, ◌<◌, ◌+◌, None}
-use Rattle.thor_value.specs.FiniteMap.{get}
+use Rattle.thor_value.specs.FiniteMap.{get, len}
 use Rattle.thor_value.specs.Names.{Before}
 use Rattle.thor_value.specs.declared.names.Oref.{Oref}
 use Rattle.thor_value.specs.declared.names.Ts.{Ts}
+use Rattle.validation_queue.specs.Contents.{room_for}
 
 -- That q can come behind t, which stands as o. Where q read what t wrote, or one of them is an
 -- upgrade, t has committed and is before q. Where q wrote what t read, t is before q. (Backward
@@ -56,6 +57,8 @@ pub record Admits (b : Base) (S : State) (q : Request) : Type 0 where
   pub current : q.epoch ≡ epoch_of S
   -- it can come behind each transaction that is here
   pub accepted : (t : Ts) → IfSome (standing b S t) (Accepts q t)
+  -- a queue of the undecided ones has room for it
+  pub room : len (undecided_in b S) < room_for
 
 -- t is one that an earlier run left prepared, it has still to be settled, and it is so, behind the Life of
 -- the opening

@@ -9,7 +9,7 @@ use Rattle.session_outbox.specs.Verdict.{verdict}
 use Rattle.session_outbox.specs.Window.{Member, Window}
 use Rattle.session_outbox.specs.declared.refusal.Refusal.{Refusal}
 use Rattle.std.specs.List.{range_with_len}
-use Rattle.std.specs.Prelude.{Bool, List, Option, [], false, map, ℕ, ◌++◌, ◌∷◌}
+use Rattle.std.specs.Prelude.{Bool, List, Option, [], false, map, ℕ, ◌+◌, ◌++◌, ◌∷◌}
 use Rattle.thor_value.specs.Names.{zero_ts}
 use Rattle.thor_value.specs.declared.names.Ts.{Ts}
 
@@ -48,5 +48,9 @@ later_then = acknowledged ++ E (prepare_x 9 8) ∷ []
 abbrev pub member_at : ℕ → Bool → Ts × Member
 member_at n decided = (at n, record { decided = decided; request = reading_x n })
 
+-- the same, where the first one's time is t
+abbrev pub crowd_at : ℕ → ℕ → Bool → Window
+crowd_at t n decided = record { threshold = zero_ts; members = record { pairs = member_at t decided ∷ map (λ k. member_at k false) (range_with_len (t + 1) n) } }
+
 abbrev pub crowd : ℕ → Bool → Window
-crowd n decided = record { threshold = zero_ts; members = record { pairs = member_at 0 decided ∷ map (λ k. member_at k false) (range_with_len 1 n) } }
+crowd n decided = crowd_at 0 n decided

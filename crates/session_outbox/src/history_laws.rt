@@ -6,7 +6,7 @@ ghost use Rattle.commit_log.specs.declared.entry.Entry.TheVariants.{Life, One, P
 ghost use Rattle.commit_log.specs.declared.entry.Entry.{Entry};
 ghost use Rattle.commit_log.specs.declared.request.Request.{Request};
 ghost use Rattle.session_outbox.specs.Checking.{is_sound};
-ghost use Rattle.session_outbox.specs.Covers.{Covers};
+ghost use Rattle.session_outbox.specs.Covers.{Covers, HasRoom};
 ghost use Rattle.session_outbox.specs.History.{Base, Standing, Open, commit_of, commits, epoch_of, objects_at, put, stands, state};
 ghost use Rattle.session_outbox.specs.Laws.{ComesFrom, CommitsListed, Continues, CreatedOnce, KeepsBase, LivesFollow, MadeByCommits, ReadsLast, Recorded, Stays, UpgradesAreBare, UpgradesFence, WritersRise};
 ghost use Rattle.session_outbox.specs.Opening.{IsBase};
@@ -137,11 +137,12 @@ pub fn sound_histories_have_order()
 
 /// The window of a history grows by one step of its fold, and has all that a request has to be
 /// validated against: each undecided transaction, and of those that committed each that is above the
-/// threshold.
+/// threshold. There are at most as many of them as a validation queue holds.
 pub fn windows_cover()
     ensures step { (b : Base) (H : List Entry) (e : Entry) →
         window b (H ++ e ∷ []) ≡ slide b (state b H) (window b H) e }
     ensures covers { (b : Base) (H : List Entry) → sound b H → Covers b H }
+    ensures room { (b : Base) (H : List Entry) → sound b H → HasRoom b H }
 {}
 
 /// A request that comes once and that isn't refused has seen the installed upgrades and can come behind
