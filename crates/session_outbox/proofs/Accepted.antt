@@ -9,7 +9,7 @@ use Rattle.session_outbox.specs.History.{Base, state}
 use Rattle.session_outbox.specs.Laws.{Continues}
 use Rattle.session_outbox.specs.Participants.{IsAlone, IsShared}
 use Rattle.session_outbox.specs.Requests.{is_upgrade}
-use Rattle.session_outbox.specs.Session.{Session, session}
+use Rattle.session_outbox.specs.Session.{Session, session, session_lives}
 use Rattle.session_outbox.specs.Sound.{Admits, Vouches, owes, sound}
 use Rattle.session_outbox.specs.Trace.{Item, entries}
 use Rattle.session_outbox.specs.Verdict.{first_refusal, full, stale, verdict, verdict_by}
@@ -24,9 +24,9 @@ only_live false o r e = cc
 
 -- the session of an accepted request is there, and nothing else refuses it
 pub passed : (b : Base) (H : List Entry) (s : ℕ) (q : Request) (o : Option Session) → verdict_by b H s q o ≡ None
-    → (v : Session) × (o ≡ Some v) × (v.live ≡ true) × (first_refusal (state b H) (window b H) (stale b H s v q) (full b (window b H) q) q ≡ None)
+    → (v : Session) × (o ≡ Some v) × (session_lives v ≡ true) × (first_refusal (state b H) (window b H) (stale b H s v q) (full b (window b H) q) q ≡ None)
 passed b H s q None e = cc
-passed b H s q (Some v) e = let p = only_live v.live _ _ e in (v, refl, p.0, p.1)
+passed b H s q (Some v) e = let p = only_live (session_lives v) _ _ e in (v, refl, p.0, p.1)
 
 module _ (b : Base) (T : List Item) (s : ℕ) (q : Request) (sd : sound b (entries T)) (h : Vouches b (state b (entries T)) q) where
   pub admitted : verdict b T s q ≡ None → Admits b (state b (entries T)) q

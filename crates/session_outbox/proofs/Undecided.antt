@@ -14,7 +14,7 @@ use Rattle.session_outbox.specs.Current.{InStep, IsCurrent, IsOwnWrite, NoneAbor
 use Rattle.session_outbox.specs.History.{Aborted, Base, Committed, Fate, IsCommitted, Lives, Open, Standing, State, commit_of, objects_at, put, standing, stands, state, writers}
 use Rattle.session_outbox.specs.Outcomes.{MaySettle}
 use Rattle.session_outbox.specs.Requests.{has_written, written}
-use Rattle.session_outbox.specs.Session.{Notice, Page, Session, is_silent, move, moved, or_retired, session}
+use Rattle.session_outbox.specs.Session.{Notice, Page, Session, is_silent, move, moved, or_retired, rested, retired, session, session_lives}
 use Rattle.session_outbox.specs.Sound.{sound}
 use Rattle.session_outbox.specs.Trace.{E, Item, M, entries}
 use Rattle.session_outbox.specs.declared.mark.Mark.TheVariants as the
@@ -68,7 +68,7 @@ module _ (b : Base) where
       by None e f = cc
       by (Some c) e f = f c refl
 
-  page-there : (T : List Item) (s : ℕ) (v : Session) (x : Oref) → session b T s ≡ Some v → v.live ≡ true → has v.pages x.page ≡ true → IsSomeAnd (get v.pages x.page) (λ c. c ≤ length (entries T))
+  page-there : (T : List Item) (s : ℕ) (v : Session) (x : Oref) → session b T s ≡ Some v → session_lives v ≡ true → has v.pages x.page ≡ true → IsSomeAnd (get v.pages x.page) (λ c. c ≤ length (entries T))
   page-there T s v x is live h = page-low v.pages x.page (length (entries T)) h (λ c e. (keeps-pages b s T v is live).below x.page c e)
 
   -- ---- a transaction that was undecided, by what becomes of it
@@ -184,13 +184,13 @@ module _ (b : Base) where
   -- ---- pages
 
   moved-pages : (s : ℕ) (S : State) (i : Item) (v : Session) → Extends v.pages (move b s S i v).pages
-  moved-pages s S i v = by v.live
+  moved-pages s S i v = by (session_lives v)
     where
-      quiet : (t : Bool) → Extends v.pages (cond t (record (moved b s S v i) { live = false }) (moved b s S v i)).pages
+      quiet : (t : Bool) → Extends v.pages (cond t (record (moved b s S v i) { stage = retired (moved b s S v i).stage }) (moved b s S v i)).pages
       quiet true = pages-extend s S v.pages i
       quiet false = pages-extend s S v.pages i
 
-      by : (t : Bool) → Extends v.pages (cond t (or_retired b (moved b s S v i)) v).pages
+      by : (t : Bool) → Extends v.pages (cond t (or_retired b (moved b s S v i)) (rested v i)).pages
       by true = quiet (is_silent b.silence (moved b s S v i))
       by false = λ p c is. is
 

@@ -6,7 +6,7 @@ use Rattle.commit_log.specs.declared.entry.Entry.{Entry}
 use Rattle.commit_log.specs.declared.request.Request.{Request}
 use Rattle.session_outbox.specs.History.{Base, Lives, Open, Standing, commit_of, objects_at, stands, state, writers}
 use Rattle.session_outbox.specs.Requests.{has_written, is_upgrade, written}
-use Rattle.session_outbox.specs.Session.{Grant, Invalid, Notice, Page, Session, Upgrade, invalid, session, upto_of}
+use Rattle.session_outbox.specs.Session.{Grant, Invalid, Notice, Page, Session, Upgrade, invalid, session, session_lives, upto_of}
 use Rattle.session_outbox.specs.Trace.{E, Item, M}
 use Rattle.session_outbox.specs.declared.mark.Mark.TheVariants as the
 use Rattle.std.specs.List.{All, list_any, slice_get}
@@ -96,7 +96,7 @@ names_invalid x (Upgrade number k) = false
 -- The session v takes the message m, and is w then.
 pub record Takes (b : Base) (T : List Item) (s : ℕ) (v w : Session) (place : ℕ) (m : Notice) : Type 0 where
   pub before : session b T s ≡ Some v
-  pub live : v.live ≡ true
+  pub live : session_lives v ≡ true
   pub message : slice_get v.sent v.taken ≡ Some m
   pub after : session b (T ++ M (the.Took s place) ∷ []) s ≡ Some w
 
@@ -105,7 +105,7 @@ pub record Takes (b : Base) (T : List Item) (s : ℕ) (v w : Session) (place : �
 -- The session v, which is live, is w behind the item i, at which its client takes no message.
 pub record Passes (b : Base) (T : List Item) (i : Item) (s : ℕ) (v w : Session) : Type 0 where
   pub before : session b T s ≡ Some v
-  pub live : v.live ≡ true
+  pub live : session_lives v ≡ true
   pub quiet : is_taking s i ≡ false
   pub after : session b (T ++ i ∷ []) s ≡ Some w
 

@@ -3,7 +3,7 @@
 use Rattle.commit_log.specs.declared.entry.Entry.TheVariants.{Finished, Life}
 use Rattle.session_outbox.specs.Examples.{at, home, prepare_far, read_x, set_x, x}
 use Rattle.session_outbox.specs.History.{Base}
-use Rattle.session_outbox.specs.Session.{Notice, invalid, session, upto_of, waiting}
+use Rattle.session_outbox.specs.Session.{Notice, Stage, invalid, session, upto_of, waiting}
 use Rattle.session_outbox.specs.Trace.{E, Item, M, entries}
 use Rattle.session_outbox.specs.declared.mark.Mark.TheVariants as the
 use Rattle.std.specs.Option.{option_and_then, option_map}
@@ -37,9 +37,9 @@ restarted = written_since ++ E (Life 2) ∷ []
 abbrev pub hasty : Base
 hasty = record home { silence = Some 0 }
 
--- of the second session: whether it is live, what waits for it, what it knows, and where x is invalid
-abbrev pub live_in : Base → List Item → Option Bool
-live_in b T = option_map (λ v. v.live) (session b T 2)
+-- of the second session: how far it has come, what waits for it, what it knows, and where x is invalid
+abbrev pub stage_in : Base → List Item → Option Stage
+stage_in b T = option_map (λ v. v.stage) (session b T 2)
 
 abbrev pub waiting_in : List Item → Option (List Notice)
 waiting_in T = option_map waiting (session home T 2)

@@ -7,7 +7,7 @@ ghost use Rattle.session_outbox.specs.Current.{InStep, IsCurrent, IsOwnWrite, Is
 ghost use Rattle.session_outbox.specs.History.{Base, IsCommitted, Standing, commit_of, objects_at, stands, state, writers};
 ghost use Rattle.session_outbox.specs.Outcomes.{MaySettle};
 ghost use Rattle.session_outbox.specs.Messages.{KeepsOrder, WaitsByPlace};
-ghost use Rattle.session_outbox.specs.Session.{Notice, Page, Session, acked_after, bound, meet, session, upto_of};
+ghost use Rattle.session_outbox.specs.Session.{Notice, Page, Session, acked_after, bound, meet, session, session_lives, upto_of};
 ghost use Rattle.session_outbox.specs.Sound.{sound};
 ghost use Rattle.session_outbox.specs.declared.mark.Mark.TheVariants as the;
 ghost use Rattle.session_outbox.specs.declared.mark.Mark.{Mark};
@@ -38,7 +38,7 @@ pub fn messages_are_in_order()
 /// sessions alone have written since, is right now or is in the invalid set.
 pub fn copies_are_current()
     ensures { (b : Base) (H : List Entry) (s : ℕ) (v : Session) (committed : Ts → Bool) (x : Oref) (o : Obj) →
-        v.live ≡ true → InStep v → IsCurrent b H s v committed x o → IsRightOrStale b H s v committed x o }
+        session_lives v ≡ true → InStep v → IsCurrent b H s v committed x o → IsRightOrStale b H s v committed x o }
 {}
 
 /// A copy that was right at a place stays so while its client takes no message and other sessions
@@ -63,7 +63,7 @@ pub fn copies_stay_right()
 /// A live session was told of each commit by another session of an object on one of its pages, from
 /// the page's first fetch or grant on; an upgrade's commit is told as such.
 pub fn commits_are_told()
-    ensures { (b : Base) (T : List Item) (s : ℕ) (v : Session) → session b T s ≡ Some v → v.live ≡ true →
+    ensures { (b : Base) (T : List Item) (s : ℕ) (v : Session) → session b T s ≡ Some v → session_lives v ≡ true →
         (x : Oref) → All (Tells s v x) (writers b (entries T) x) }
 {}
 

@@ -1,14 +1,16 @@
 //! The definitions of sessions, computed on a small trace (`specs/SessionExamples.antt`).
 
-ghost use Rattle.session_outbox.specs.Examples.{at, away, box, far, home, x};
+ghost use Rattle.session_outbox.specs.Examples.{at, away, box, far, home, reading_x, set_x, x};
 ghost use Rattle.session_outbox.specs.Checking.{is_sound};
 ghost use Rattle.session_outbox.specs.Current.{IsCurrent, RightAt};
 ghost use Rattle.session_outbox.specs.History.{Aborted, Committed, Open, objects_at, stands};
-ghost use Rattle.session_outbox.specs.Session.{Invalid, Page, session, waiting};
-ghost use Rattle.session_outbox.specs.SessionExamples.{acknowledged, committed_there, connected_anew, hasty, invalid_taken, known_in, live_in, own_aborted, own_finished, own_prepared, restarted, waiting_in, written_since, x_invalid_in};
-ghost use Rattle.session_outbox.specs.Trace.{entries};
+ghost use Rattle.session_outbox.specs.Session.{Ended, Invalid, Live, Page, Retired, session, waiting};
+ghost use Rattle.session_outbox.specs.SessionExamples.{acknowledged, committed_there, connected_anew, hasty, invalid_taken, known_in, own_aborted, own_finished, own_prepared, restarted, stage_in, waiting_in, written_since, x_invalid_in};
+ghost use Rattle.session_outbox.specs.Trace.{E, entries};
+ghost use Rattle.session_outbox.specs.Verdict.{verdict};
+ghost use Rattle.session_outbox.specs.declared.refusal.Refusal.TheVariants as refused;
 ghost use Rattle.std.specs.Option.{IsSomeAnd, option_map};
-ghost use Rattle.std.specs.Prelude.{◌≡◌, [], ◌∷◌, None, Some, false, take, true};
+ghost use Rattle.std.specs.Prelude.{◌≡◌, [], ◌∷◌, ◌++◌, None, Some, false, take, true};
 ghost use Rattle.thor_value.specs.FiniteMap.{get};
 
 /// What a session is told, what waits for it, and what its client knows.
@@ -26,14 +28,19 @@ pub fn session_examples()
     ensures fetched_again { waiting_in acknowledged ≡ Some (Page 0 3 ∷ []) }
 {}
 
-/// Which sessions are live.
+/// Which sessions are live, which are retired, and which have ended. A retired one is told nothing more,
+/// and ends as a live one does.
 pub fn session_life_examples()
-    ensures live { live_in home written_since ≡ Some true }
-    ensures anew { live_in home connected_anew ≡ Some false }
-    ensures restarted { live_in home restarted ≡ Some false }
-    ensures patient { live_in hasty (take 6 written_since) ≡ Some true }
-    ensures silent { live_in hasty written_since ≡ Some false }
-    ensures nobody { live_in home (take 2 written_since) ≡ None }
+    ensures live { stage_in home written_since ≡ Some Live }
+    ensures anew { stage_in home connected_anew ≡ Some Ended }
+    ensures restarted { stage_in home restarted ≡ Some Ended }
+    ensures patient { stage_in hasty (take 6 written_since) ≡ Some Live }
+    ensures silent { stage_in hasty written_since ≡ Some Retired }
+    ensures untold { option_map waiting (session hasty (written_since ++ E (set_x 3 8) ∷ []) 2) ≡ Some (Invalid (x ∷ []) 2 ∷ []) }
+    ensures silent_anew { stage_in hasty connected_anew ≡ Some Ended }
+    ensures silent_restarted { stage_in hasty restarted ≡ Some Ended }
+    ensures gone { verdict hasty written_since 2 (reading_x 3) ≡ Some (refused.Gone 2) }
+    ensures nobody { stage_in home (take 2 written_since) ≡ None }
 {}
 
 /// A write of a session's own: what stands here is still the old object while the transaction is
