@@ -35,5 +35,6 @@ pub mod Told
 pub mod Taken
 pub mod Own
 pub mod Undecided
+pub mod Exactness
 pub mod OwnExample
 pub mod OpenedExample

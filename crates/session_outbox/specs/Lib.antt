@@ -1,7 +1,10 @@
 pub mod Acceptance
+pub mod Calls
 pub mod Checking
 pub mod Covers
 pub mod Current
+pub mod Exact
+pub mod ExactExamples
 pub mod Examples
 pub mod FormChecking
 pub mod History
@@ -15,6 +18,7 @@ pub mod Queue
 pub mod Requests
 pub mod Session
 pub mod SessionExamples
+pub mod Sessions
 pub mod Sound
 pub mod Trace
 pub mod Verdict

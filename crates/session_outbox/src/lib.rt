@@ -7,6 +7,8 @@ mod acceptance_laws;
 mod answer_examples;
 mod history_examples;
 mod history_laws;
+mod item_examples;
+mod item_laws;
 mod mark;
 mod outcome_laws;
 mod queue_laws;
@@ -30,6 +32,8 @@ pub use history_laws::{
     requests_are_recorded, sound_histories_grow, sound_histories_have_order, upgrades_are_bare,
     upgrades_fence, verdicts_are_sound, windows_cover, writers_rise,
 };
+pub use item_examples::{call_examples, exact_examples, inexact_examples};
+pub use item_laws::{exact_traces_grow, next_numbers_rise, sessions_are_numbered};
 pub use mark::Mark;
 pub use outcome_laws::{entries_make, entries_settle, entries_tell};
 pub use queue_laws::{queues_answer_by_the_window, queues_keep_the_window};
