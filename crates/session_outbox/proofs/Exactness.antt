@@ -138,7 +138,7 @@ module _ (b : Base) where
   pub came-end : (T : List Item) (i : Item) (s : ℕ) (w : Session) → session b (T ++ i ∷ []) s ≡ Some w → Came s (state b (entries T)) (session b T s) i w
   came-end T i s w h = session-came s (state b (entries T)) (session b T s) i w (sym (session-end b T i s) ∙ h)
 
-  move-began : (s : ℕ) (S : State) (i : Item) (v : Session) → ((move b s S i v).began ≡ v.began) × ((move b s S i v).client ≡ v.client)
+  pub move-began : (s : ℕ) (S : State) (i : Item) (v : Session) → ((move b s S i v).began ≡ v.began) × ((move b s S i v).client ≡ v.client)
   move-began s S i v = by (session_lives v)
     where
       quiet : (t : Bool) → ((cond t (record (moved b s S v i) { stage = retired (moved b s S v i).stage }) (moved b s S v i)).began ≡ v.began) × ((cond t (record (moved b s S v i) { stage = retired (moved b s S v i).stage }) (moved b s S v i)).client ≡ v.client)

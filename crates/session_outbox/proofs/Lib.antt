@@ -36,5 +36,8 @@ pub mod Taken
 pub mod Own
 pub mod Undecided
 pub mod Exactness
+pub mod Fences
+pub mod EpochsTold
+pub mod Thresholds
 pub mod OwnExample
 pub mod OpenedExample

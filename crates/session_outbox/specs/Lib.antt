@@ -3,6 +3,7 @@ pub mod Calls
 pub mod Checking
 pub mod Covers
 pub mod Current
+pub mod Epochs
 pub mod Exact
 pub mod ExactExamples
 pub mod Examples

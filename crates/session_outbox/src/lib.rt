@@ -5,6 +5,7 @@
 
 mod acceptance_laws;
 mod answer_examples;
+mod epoch_laws;
 mod history_examples;
 mod history_laws;
 mod item_examples;
@@ -21,6 +22,7 @@ pub use acceptance_laws::accepted_requests_are_current;
 pub use answer_examples::{
     buffer_examples, gone_examples, order_examples, stale_examples, window_room_examples,
 };
+pub use epoch_laws::{epochs_are_told, fences_count, thresholds_commit};
 pub use history_examples::{
     life_examples, mended_example, opening_examples, sound_examples, standing_examples,
     trace_example, unsound_examples, value_examples, verdict_examples, vouching_examples,
