@@ -218,8 +218,8 @@ module _ (b : Base) where
   telling-step T i ih s w h = elim (came-end b T i s w h) [
     | inl x ↦ new x.0 x.1 x.2
     | inr x ↦ by (session_lives x.0) refl
-      (λ live. told-by T i s x.0 w x.1 live x.2 (ih s x.0 x.1) (notice b s (state b (entries T)) x.0.pages i) refl (ap (λ (z : Session). z.sent) x.2 ∙ moved-sent s (state b (entries T)) i x.0 live))
-      (λ dead. told-nothing T i s x.0 w x.1 dead x.2 (ih s x.0 x.1))
+        (λ live. told-by T i s x.0 w x.1 live x.2 (ih s x.0 x.1) (notice b s (state b (entries T)) x.0.pages i) refl (ap (λ (z : Session). z.sent) x.2 ∙ moved-sent s (state b (entries T)) i x.0 live))
+        (λ dead. told-nothing T i s x.0 w x.1 dead x.2 (ih s x.0 x.1))
   ]
     where
       by : {A : Type 0} (t : Bool) {u : Bool} → u ≡ t → (u ≡ true → A) → (u ≡ false → A) → A

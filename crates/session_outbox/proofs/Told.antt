@@ -182,7 +182,6 @@ module _ (b : Base) where
       by true l g = silent (is_silent b.silence (moved b s S v i)) l
       by false l g = let n : false ≡ true = sym (dead (lives_on v.client i) l) ∙ g in cc
 
-
   -- a commit of before
   tells-more : (s : ℕ) (S : State) (i : Item) (v w : Session) (x : Oref) (c : ℕ × Request) → Went s S i v w → c.0 < S.length → Tells s v x c → Tells s w x c
   tells-more s S i v w x c g l h p is le other plain =
