@@ -173,7 +173,7 @@ module _ (b : Base) where
       by true l g = (refl, silent (is_silent b.silence (moved b s S v i)) g)
       by false l g = let n : false ≡ true = sym (dead (lives_on v.client i) l) ∙ g in cc
 
-  known : (T : List Item) (s : ℕ) (v : Session) → session b T s ≡ Some v → s ≤ last_session T
+  pub known : (T : List Item) (s : ℕ) (v : Session) → session b T s ≡ Some v → s ≤ last_session T
   known = by_each_item (λ T. (s : ℕ) (v : Session) → session b T s ≡ Some v → s ≤ last_session T) (λ s v h. cc)
       (λ T i ih s w h.
       let e = session-end-number T i in

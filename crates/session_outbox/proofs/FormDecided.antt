@@ -3,15 +3,14 @@ use Rattle.commit_log.specs.RequestForm.{AnswerFits, IsWellFormed, RequestFits, 
 use Rattle.commit_log.specs.declared.request.Request.{Request}
 use Rattle.object_codec.specs.Spelling.{ObjFits, most_fields}
 use Rattle.session_outbox.proofs.Tests.{decides_all, decides_le, decides_lt, decides_rises, turned, ◌also◌}
-use Rattle.session_outbox.specs.FormChecking.{is_answer, is_name, is_object, is_spelled, is_stamp, is_value, is_well_formed, is_write}
-use Rattle.std.proofs.Common.{length, refl, subst, ◌^◌}
-use Rattle.std.proofs.lemmas.Bool.Decides.{Decides-int_eq}
-use Rattle.std.proofs.lemmas.Int.{SFits-int_wrap, int_wrap_fits}
+use Rattle.session_outbox.specs.FormChecking.{is_answer, is_name, is_number, is_object, is_spelled, is_stamp, is_value, is_well_formed, is_write}
+use Rattle.std.proofs.Common.{arith, length, refl, ◌^◌}
+use Rattle.std.proofs.lemmas.Int.{ints}
 use Rattle.std.specs.Bool.{Decides}
-use Rattle.std.specs.Int.{int_wrap, w64}
+use Rattle.std.specs.Int.{w64}
 use Rattle.std.specs.Map.{keys_of}
-use Rattle.std.specs.Ordering.{int_eq, nat_cmp}
-use Rattle.std.specs.Prelude.{FitsSigned, ℤ}
+use Rattle.std.specs.Ordering.{nat_cmp}
+use Rattle.std.specs.Prelude.{FitsSigned, negsuc, pos, ℕ, ℤ, ◌<◌}
 use Rattle.thor_value.specs.Names.{oref_cmp}
 use Rattle.thor_value.specs.Spelling.{OrefFits, TsFits, ValueFits}
 use Rattle.thor_value.specs.declared.names.Oref.{Oref}
@@ -22,8 +21,21 @@ use Rattle.thor_value.specs.declared.values.Obj.{Obj}
 use Rattle.thor_value.specs.declared.values.Value.TheVariants.{Int, Null, Ref}
 use Rattle.thor_value.specs.declared.values.Value.{Value}
 
-decides_number : (z : ℤ) → Decides (int_eq (int_wrap w64 z) z) (FitsSigned w64 z)
-decides_number z = turned (Decides-int_eq (int_wrap w64 z) z) (λ e. subst (FitsSigned w64) e (SFits-int_wrap w64 z)) (int_wrap_fits w64 z)
+below_pos : (n : ℕ) → FitsSigned w64 (pos n) → n < 2 ^ 63
+below_pos n f = omega (arith, ints, f)
+
+fits_pos : (n : ℕ) → n < 2 ^ 63 → FitsSigned w64 (pos n)
+fits_pos n l = omega (arith, ints)
+
+below_neg : (n : ℕ) → FitsSigned w64 (negsuc n) → n < 2 ^ 63
+below_neg n f = omega (arith, ints, f)
+
+fits_neg : (n : ℕ) → n < 2 ^ 63 → FitsSigned w64 (negsuc n)
+fits_neg n l = omega (arith, ints)
+
+decides_number : (z : ℤ) → Decides (is_number z) (FitsSigned w64 z)
+decides_number (pos n) = turned (decides_lt n (2 ^ 63)) (fits_pos n) (below_pos n)
+decides_number (negsuc n) = turned (decides_lt n (2 ^ 63)) (fits_neg n) (below_neg n)
 
 decides_name : (x : Oref) → Decides (is_name x) (OrefFits x)
 decides_name x = turned (decides_lt x.repo 8 also decides_lt x.page 65536 also decides_lt x.slot 12)

@@ -125,7 +125,7 @@ move-later b s S i v l h = by (session_lives v)
     by false = record { upto = refl; pages = λ p c is. is; taken = l }
 
 -- an item at which the session takes no message and doesn't begin moves it
-meet-moves : (b : Base) (s : ℕ) (S : State) (v : Session) (i : Item) → is_taking s i ≡ false → meet b s S (Some v) i ≡ Some (move b s S i v)
+pub meet-moves : (b : Base) (s : ℕ) (S : State) (v : Session) (i : Item) → is_taking s i ≡ false → meet b s S (Some v) i ≡ Some (move b s S i v)
 meet-moves b s S v (E e) h = refl
 meet-moves b s S v (M (the.Connected n c)) h = ap (λ (t : Bool). cond t (Some (begun c S.length)) (Some (move b s S (M (the.Connected n c)) v))) h
 meet-moves b s S v (M (the.Took n k)) h = refl

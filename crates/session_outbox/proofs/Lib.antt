@@ -36,8 +36,10 @@ pub mod Taken
 pub mod Own
 pub mod Undecided
 pub mod Exactness
+pub mod Outlived
 pub mod Fences
 pub mod EpochsTold
 pub mod Thresholds
 pub mod OwnExample
 pub mod OpenedExample
+pub mod GapExample

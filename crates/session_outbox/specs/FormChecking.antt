@@ -1,11 +1,10 @@
 -- The test of a request's form: the same conditions as IsWellFormed, as a computation.
 use Rattle.commit_log.specs.declared.request.Request.{Request}
 use Rattle.object_codec.specs.Spelling.{most_fields}
-use Rattle.std.specs.Int.{int_wrap, w64}
 use Rattle.std.specs.List.{list_all}
 use Rattle.std.specs.Map.{keys_of}
-use Rattle.std.specs.Ordering.{int_eq, is_lt, nat_cmp}
-use Rattle.std.specs.Prelude.{Bool, List, [], length, nat_le, nat_lt, true, ◌&&◌, ◌^◌, ◌∷◌}
+use Rattle.std.specs.Ordering.{is_lt, nat_cmp}
+use Rattle.std.specs.Prelude.{Bool, List, [], length, nat_le, nat_lt, negsuc, pos, true, ℤ, ◌&&◌, ◌^◌, ◌∷◌}
 use Rattle.std.specs.declared.cmp.Ordering.{Ordering}
 use Rattle.thor_value.specs.Names.{oref_cmp}
 use Rattle.thor_value.specs.declared.names.Oref.{Oref}
@@ -27,8 +26,13 @@ is_name x = nat_lt x.repo 8 && nat_lt x.page 65536 && nat_lt x.slot 12
 abbrev pub is_stamp : Ts → Bool
 is_stamp t = nat_lt t.time (2 ^ 62) && nat_lt t.repo 8 && nat_lt t.life (2 ^ 32)
 
+-- whether a number fits 64 bits, sign included
+abbrev pub is_number : ℤ → Bool
+is_number (pos n) = nat_lt n (2 ^ 63)
+is_number (negsuc n) = nat_lt n (2 ^ 63)
+
 abbrev pub is_value : Value → Bool
-is_value (Int z) = int_eq (int_wrap w64 z) z
+is_value (Int z) = is_number z
 is_value (Ref x) = is_name x
 is_value Null = true
 
@@ -39,7 +43,7 @@ abbrev pub is_write : Oref × Obj → Bool
 is_write w = is_name w.0 && is_object w.1
 
 abbrev pub is_answer : Answer → Bool
-is_answer (Ints ns) = list_all (λ z. int_eq (int_wrap w64 z) z) ns
+is_answer (Ints ns) = list_all is_number ns
 is_answer (Fault f) = true
 
 -- whether q has a spelling

@@ -8,6 +8,7 @@ pub mod Exact
 pub mod ExactExamples
 pub mod Examples
 pub mod FormChecking
+pub mod Gaps
 pub mod History
 pub mod Laws
 pub mod Order

@@ -2,8 +2,14 @@
 
 ghost use Rattle.session_outbox.specs.Calls.{Settled, Undecided, asked, drawer, is_kept, last_drawn, next_page, next_session, welcome};
 ghost use Rattle.session_outbox.specs.Exact.{ComesFromSession, ItemIsExact, exact};
-ghost use Rattle.session_outbox.specs.ExactExamples.{borrowed, creating, deciding, forgetting, opened, refusing, restarted};
-ghost use Rattle.session_outbox.specs.Examples.{abroad, again, at, create_z, home, reading_x, x};
+ghost use Rattle.session_outbox.specs.ExactExamples.{borrowed, copy_of_x, creating, deciding, fetched, forgetting, nothing_committed, opened, refusing, restarted, since_fetched};
+ghost use Rattle.session_outbox.specs.Examples.{again, at, create_z, home, reading_x, upgraded, x};
+ghost use Rattle.session_outbox.specs.Current.{Takes};
+ghost use Rattle.session_outbox.specs.Epochs.{upgrades_before};
+ghost use Rattle.session_outbox.specs.Gaps.{ByOthers, GrowsByOthers};
+ghost use Rattle.session_outbox.specs.History.{commits};
+ghost use Rattle.session_outbox.specs.Session.{Invalid, session};
+ghost use Rattle.std.specs.Option.{IsSomeAnd};
 ghost use Rattle.session_outbox.specs.SessionExamples.{connected_anew, invalid_taken, written_since};
 ghost use Rattle.session_outbox.specs.Trace.{E, M};
 ghost use Rattle.session_outbox.specs.VerdictExamples.{second_reads};
@@ -52,4 +58,14 @@ pub fn call_examples()
     ensures unknown { asked home opened (at 1) ≡ Settled false }
     ensures is_kept { is_kept home deciding (at 1) ≡ true }
     ensures welcome { welcome home written_since ≡ record { session = 3; epoch = 0; threshold = zero_ts; place = 3; upgrades = [] } }
+{}
+
+/// A copy that a client fetched, behind what others have done since: all that the law of growth asks, and
+/// a message that the client takes then.
+pub fn growth_examples()
+    ensures grows { IsSomeAnd (session home fetched 2) (λ v. GrowsByOthers home fetched since_fetched 2 v nothing_committed copy_of_x) }
+    ensures own { ¬ ByOthers home 1 fetched since_fetched }
+    ensures takes { IsSomeAnd (session home written_since 2) (λ v. IsSomeAnd (session home invalid_taken 2) (λ w. Takes home written_since 2 v w 2 (Invalid (x ∷ []) 2))) }
+    ensures fence { upgrades_before (at 3) (commits home upgraded) ≡ 1 }
+    ensures before { upgrades_before (at 1) (commits home upgraded) ≡ 0 }
 {}

@@ -6,6 +6,7 @@
 mod acceptance_laws;
 mod answer_examples;
 mod epoch_laws;
+mod gap_laws;
 mod history_examples;
 mod history_laws;
 mod item_examples;
@@ -23,6 +24,7 @@ pub use answer_examples::{
     buffer_examples, gone_examples, order_examples, stale_examples, window_room_examples,
 };
 pub use epoch_laws::{epochs_are_told, fences_count, thresholds_commit};
+pub use gap_laws::copies_outlive_others;
 pub use history_examples::{
     life_examples, mended_example, opening_examples, sound_examples, standing_examples,
     trace_example, unsound_examples, value_examples, verdict_examples, vouching_examples,
@@ -34,7 +36,7 @@ pub use history_laws::{
     requests_are_recorded, sound_histories_grow, sound_histories_have_order, upgrades_are_bare,
     upgrades_fence, verdicts_are_sound, windows_cover, writers_rise,
 };
-pub use item_examples::{call_examples, exact_examples, inexact_examples};
+pub use item_examples::{call_examples, exact_examples, growth_examples, inexact_examples};
 pub use item_laws::{exact_traces_grow, next_numbers_rise, sessions_are_numbered};
 pub use mark::Mark;
 pub use outcome_laws::{entries_make, entries_settle, entries_tell};
