@@ -117,7 +117,7 @@ module _ (b : Base) where
 
   -- ---- growth
 
-  none-aborted-back : (H more : List Entry) (committed : Ts → Bool) → sound b (H ++ more) → NoneAborted b (H ++ more) committed → NoneAborted b H committed
+  pub none-aborted-back : (H more : List Entry) (committed : Ts → Bool) → sound b (H ++ more) → NoneAborted b (H ++ more) committed → NoneAborted b H committed
   none-aborted-back H more committed sd none t o is c =
       let y = stays b H more sd t o is in
       let st : Stays o y.0 = y.2 in
