@@ -3,12 +3,14 @@ use Rattle.commit_log.specs.declared.entry.Entry.TheVariants.{One, Prepared, Upg
 use Rattle.commit_log.specs.declared.entry.Entry.{Entry}
 use Rattle.commit_log.specs.declared.request.Request.{Request}
 use Rattle.session_outbox.proofs.Growth.{sound-end}
-use Rattle.session_outbox.proofs.Validated.{validated}
+use Rattle.session_outbox.proofs.Room.{room_left}
+use Rattle.session_outbox.proofs.Validated.{neither, nothing_holds, validated}
 use Rattle.session_outbox.specs.History.{Base, state}
 use Rattle.session_outbox.specs.Laws.{Continues}
+use Rattle.session_outbox.specs.Participants.{IsAlone, IsShared}
 use Rattle.session_outbox.specs.Requests.{is_upgrade}
-use Rattle.session_outbox.specs.Session.{Session, session}
-use Rattle.session_outbox.specs.Sound.{Admits, IsAlone, Vouches, owes, sound}
+use Rattle.session_outbox.specs.Session.{Session, session, session_lives}
+use Rattle.session_outbox.specs.Sound.{Admits, Vouches, owes, sound}
 use Rattle.session_outbox.specs.Trace.{Item, entries}
 use Rattle.session_outbox.specs.Verdict.{first_refusal, full, stale, verdict, verdict_by}
 use Rattle.session_outbox.specs.Window.{window}
@@ -22,22 +24,23 @@ only_live false o r e = cc
 
 -- the session of an accepted request is there, and nothing else refuses it
 pub passed : (b : Base) (H : List Entry) (s : ℕ) (q : Request) (o : Option Session) → verdict_by b H s q o ≡ None
-    → (v : Session) × (o ≡ Some v) × (v.live ≡ true) × (first_refusal (state b H) (window b H) (stale b H s v q) (full b (window b H) q) q ≡ None)
+    → (v : Session) × (o ≡ Some v) × (session_lives v ≡ true) × (first_refusal (state b H) (window b H) (stale b H s v q) (full b (window b H) q) q ≡ None)
 passed b H s q None e = cc
-passed b H s q (Some v) e = let p = only_live v.live _ _ e in (v, refl, p.0, p.1)
+passed b H s q (Some v) e = let p = only_live (session_lives v) _ _ e in (v, refl, p.0, p.1)
 
 module _ (b : Base) (T : List Item) (s : ℕ) (q : Request) (sd : sound b (entries T)) (h : Vouches b (state b (entries T)) q) where
   pub admitted : verdict b T s q ≡ None → Admits b (state b (entries T)) q
   admitted e =
       let p = passed b (entries T) s q (session b T s) e in
       let a = validated b (entries T) q _ _ sd h.once p.3 in
-      record { vouched = h; current = a.0; accepted = a.1 }
+      let none = nothing_holds (state b (entries T)) (window b (entries T)) _ _ q p.3 in
+      record { vouched = h; current = a.0; accepted = a.1; room = room_left b (entries T) sd (neither _ _ none.limits).0 }
 
   continued : (e : Entry) → owes b (state b (entries T)) e → Continues b (entries T) e
   continued e o = (o, sound-end b (entries T) e sd o)
 
-pub prepared : (b : Base) (T : List Item) (s : ℕ) (q : Request) → sound b (entries T) → Vouches b (state b (entries T)) q → verdict b T s q ≡ None → Continues b (entries T) (Prepared q)
-prepared b T s q sd h e = continued b T s q sd h (Prepared q) (admitted b T s q sd h e)
+pub prepared : (b : Base) (T : List Item) (s : ℕ) (q : Request) → sound b (entries T) → Vouches b (state b (entries T)) q → IsShared q → verdict b T s q ≡ None → Continues b (entries T) (Prepared q)
+prepared b T s q sd h shared e = continued b T s q sd h (Prepared q) (admitted b T s q sd h e, shared)
 
 pub one : (b : Base) (T : List Item) (s : ℕ) (q : Request) → sound b (entries T) → Vouches b (state b (entries T)) q → IsAlone b q → is_upgrade q ≡ false → verdict b T s q ≡ None → Continues b (entries T) (One q)
 one b T s q sd h alone kind e = continued b T s q sd h (One q) (admitted b T s q sd h e, alone, kind)

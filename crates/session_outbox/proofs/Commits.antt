@@ -37,6 +37,10 @@ overwritten x d m n (kv ∷ kvs) h = overwritten x d (insert m kv.0 kv.1) (inser
 pub get-overwrite : (x : Oref) (m : Map oref_cmp Obj) (q : Request) → get (overwrite m q.writes) x ≡ option_or (get (written q) x) (get m x)
 get-overwrite x m q = overwritten x (get m x) m empty q.writes refl
 
+-- the same of any list of writes
+pub get-writes : (x : Oref) (m : Map oref_cmp Obj) (ws : List (Oref × Obj)) → get (overwrite m ws) x ≡ option_or (get {R = oref_cmp} (overwrite empty ws) x) (get m x)
+get-writes x m ws = overwritten x (get m x) m empty ws refl
+
 filtered : (x : Oref) (d : Option Obj) (c : ℕ × Request) (F : List (ℕ × Request)) (g : Option Obj) → get (written c.1) x ≡ g
     → last_write x (option_or g d) F ≡ last_write x d (cond (is_some g) (c ∷ F) F)
 filtered x d c F None h = refl
@@ -68,7 +72,7 @@ module _ (b : Base) where
       by_fate Aborted false = (refl, refl, refl)
 
   -- one entry changes them by the commit that it is
-  made : (S : State) (e : Entry) → Made S (commit_of b S e) (put b S e)
+  pub made : (S : State) (e : Entry) → Made S (commit_of b S e) (put b S e)
   made S (Life n) = (refl, refl, refl)
   made S (One q) = (refl, refl, refl)
   made S (Prepared q) = (refl, refl, refl)

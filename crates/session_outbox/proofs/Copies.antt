@@ -6,7 +6,7 @@ use Rattle.session_outbox.proofs.Commits.{made_by_commits}
 use Rattle.session_outbox.specs.Current.{InStep, IsCurrent, IsRightOrStale, OthersSince, RightAt}
 use Rattle.session_outbox.specs.History.{Base, commits, last_write, objects_at, state, writers}
 use Rattle.session_outbox.specs.Requests.{has_written, written}
-use Rattle.session_outbox.specs.Session.{Session, invalid, invalid_in, last_other, upto_of}
+use Rattle.session_outbox.specs.Session.{Session, invalid, invalid_in, last_other, session_lives, upto_of}
 use Rattle.std.proofs.Common.{Bool, List, [], ap, arith, cond, false, inl, inr, length, refl, subst, sym, take, true, ℕ, ◌≡◌, ◌≤◌, ◌∙◌, ◌∷◌}
 use Rattle.std.proofs.lemmas.Bool.Decides.{nat_tests}
 use Rattle.std.proofs.lemmas.List.Elements.{All-tail}
@@ -72,7 +72,7 @@ module _ (b : Base) where
       ]
 
   -- a later commit by another session is in the invalid set
-  in-set : (H : List Entry) (s : ℕ) (v : Session) (x : Oref) (m : ℕ) → v.live ≡ true → v.acked ≤ m → IsSomeAnd (get v.pages x.page) (λ c. c ≤ m) → IsSomeAnd (last_other s (writers b H x)) (λ k. m ≤ k) → IsSomeAnd (invalid b H s v x) (λ k. m ≤ k)
+  in-set : (H : List Entry) (s : ℕ) (v : Session) (x : Oref) (m : ℕ) → session_lives v ≡ true → v.acked ≤ m → IsSomeAnd (get v.pages x.page) (λ c. c ≤ m) → IsSomeAnd (last_other s (writers b H x)) (λ k. m ≤ k) → IsSomeAnd (invalid b H s v x) (λ k. m ≤ k)
   in-set H s v x m live acked page last = by (get v.pages x.page) (last_other s (writers b H x)) page last
     where
       by : (o l : Option ℕ) → IsSomeAnd o (λ c. c ≤ m) → IsSomeAnd l (λ k. m ≤ k) → IsSomeAnd (invalid_in v o l) (λ k. m ≤ k)
@@ -87,7 +87,7 @@ module _ (b : Base) where
   higher None n m l h = absurd h
   higher (Some k) n m l h = omega arith
 
-  right-or-stale : (H : List Entry) (s : ℕ) (v : Session) (x : Oref) (o : Obj) (m : ℕ) → v.live ≡ true → InStep v → RightAt b H s v x o m
+  right-or-stale : (H : List Entry) (s : ℕ) (v : Session) (x : Oref) (o : Obj) (m : ℕ) → session_lives v ≡ true → InStep v → RightAt b H s v x o m
       → (get (state b H).objects x ≡ Some o) ⊎ IsSomeAnd (invalid b H s v x) (λ k. upto_of v ≤ k)
   right-or-stale H s v x o m live step h =
       let acked : v.acked ≤ m = le-trans v.acked (upto_of v) m step.acked h.unknown in
@@ -100,7 +100,7 @@ module _ (b : Base) where
       le-trans i j k p q = omega arith
 
   -- a current copy is right, or it is told to be invalid, or it is the session's own write
-  pub current-cases : (H : List Entry) (s : ℕ) (v : Session) (committed : Ts → Bool) (x : Oref) (o : Obj) → v.live ≡ true → InStep v → IsCurrent b H s v committed x o → IsRightOrStale b H s v committed x o
+  pub current-cases : (H : List Entry) (s : ℕ) (v : Session) (committed : Ts → Bool) (x : Oref) (o : Obj) → session_lives v ≡ true → InStep v → IsCurrent b H s v committed x o → IsRightOrStale b H s v committed x o
   current-cases H s v committed x o live step (inr w) = inr (inr w)
   current-cases H s v committed x o live step (inl h) = elim (right-or-stale H s v x o h.0 live step h.1) [
     | inl e ↦ inl e

@@ -5,9 +5,10 @@ use Rattle.commit_log.specs.declared.request.Request.{Request}
 use Rattle.session_outbox.proofs.Decided.{shifted}
 use Rattle.session_outbox.proofs.Growth.{by_growth, state-end}
 use Rattle.session_outbox.proofs.LastWrite.{no_commit}
-use Rattle.session_outbox.proofs.Meeting.{bars-upgrade, in_order, not_both_ways}
+use Rattle.session_outbox.proofs.Meeting.{bars-upgrade, in_order}
 use Rattle.session_outbox.proofs.Places.{Placed, came, placed}
 use Rattle.session_outbox.proofs.Serial.{upgrades_fence}
+use Rattle.session_outbox.proofs.Stamps.{at_most_itself, at_most_then, before_at_most, first_at_most, later_at_most, second_at_most}
 use Rattle.session_outbox.proofs.Steps.{FateMoves, Kept, LifeBegan, not_lost}
 use Rattle.session_outbox.specs.Covers.{Agrees, Covers}
 use Rattle.session_outbox.specs.History.{Aborted, Base, Committed, CommittedBelow, Fate, IsCommitted, Lives, Open, Standing, State, commit, is_open, is_undecided, lapse, or_lost, put, settle, settle_by, standing, start, state}
@@ -15,7 +16,7 @@ use Rattle.session_outbox.specs.Laws.{BesideUpgrade}
 use Rattle.session_outbox.specs.Requests.{is_upgrade}
 use Rattle.session_outbox.specs.Sound.{Accepts, Admits, owes, sound}
 use Rattle.session_outbox.specs.Window.{Member, Window, cleared, close, close_by, enter, first_decided, slide, window, window_from, with_room, without}
-use Rattle.std.proofs.Common.{rules, List, [], ap, arith, cond, inl, inr, refl, subst, sym, ℕ, ◌++◌, ◌<◌, ◌≡◌, ◌≢◌, ◌∙◌, ◌∷◌}
+use Rattle.std.proofs.Common.{rules, List, [], ap, arith, cond, inl, inr, refl, subst, sym, ℕ, ◌++◌, ◌≡◌, ◌≢◌, ◌∙◌, ◌∷◌}
 use Rattle.std.proofs.lemmas.Cmp.{eq_by_cmp_equiv, tied_itself}
 use Rattle.std.proofs.lemmas.Map.Keys.{IsDistinct-from_sorted}
 use Rattle.std.proofs.lemmas.Map.Views.{lookup-from_Contains, tells_apart}
@@ -24,51 +25,14 @@ use Rattle.std.specs.Bool.{⊤}
 use Rattle.std.specs.List.Sorted.{IsStrictlySortedBy}
 use Rattle.std.specs.List.{Contains, fold}
 use Rattle.std.specs.Option.{IsSome, IsSomeAnd, option_map}
-use Rattle.std.specs.Ordering.{eq_by_cmp, is_eq, match_ordering, ordering_reverse}
+use Rattle.std.specs.Ordering.{eq_by_cmp, is_eq}
 use Rattle.std.specs.Prelude.{Bool, IsTrue, None, Option, Some, false, nat_le, true, ◌⊎◌}
-use Rattle.std.specs.declared.cmp.Ordering.TheVariants.{Equal, Greater, Less}
-use Rattle.std.specs.declared.cmp.Ordering.{Ordering}
 use Rattle.thor_value.proofs.FiniteMap.{IsSorted-insert, IsSorted-keep, IsSorted-remove, get-insert, get-keep, get-remove}
-use Rattle.thor_value.proofs.NameOrders.{not_before_itself, ts_exact, ts_total}
+use Rattle.thor_value.proofs.NameOrders.{ts_exact, ts_total}
 use Rattle.thor_value.specs.FiniteMap.{IsSorted, Map, empty, get, insert, len, remove}
 use Rattle.thor_value.specs.Names.{AtMost, Before, later_of, ts_cmp}
 use Rattle.thor_value.specs.declared.names.Ts.{Ts}
 use Rattle.validation_queue.specs.Contents.{room_for}
-
--- ---- timestamps
-
-pub at_most_itself : (t : Ts) → AtMost t t
-at_most_itself t = not_before_itself t
-
-pub at_most_then : (t u v : Ts) → AtMost t u → AtMost u v → AtMost t v
-at_most_then t u v h k e = elim (in_order u v) [
-  | inl l ↦ h (ts_total.trans u v t l e)
-  | inr m ↦ elim m [
-    | inl same ↦ h (subst (λ w. Before w t) (sym same) e)
-    | inr l ↦ k l
-  ]
-]
-
-before_at_most : (t u : Ts) → Before t u → AtMost t u
-before_at_most t u e k = not_both_ways t u e k
-
-module _ (t u : Ts) where
-  by_later : (P : Ts → Type 0) → (Before t u → P u) → ((t ≡ u) → P u) → (Before u t → P t) → P (later_of t u)
-  by_later P less same greater = by_order (ts_cmp t u) refl
-    where
-      by_order : (o : Ordering) → ts_cmp t u ≡ o → P (match_ordering o u u t)
-      by_order Less e = less e
-      by_order Equal e = same (ts_exact t u e)
-      by_order Greater e = greater (ts_total.antisymm u t ∙ ap ordering_reverse e)
-
-  pub first_at_most : AtMost t (later_of t u)
-  first_at_most = by_later (AtMost t) (λ e. before_at_most t u e) (λ e. subst (λ v. AtMost t v) e (at_most_itself t)) (λ e. at_most_itself t)
-
-  pub second_at_most : AtMost u (later_of t u)
-  second_at_most = by_later (AtMost u) (λ e. at_most_itself u) (λ e. at_most_itself u) (λ e. before_at_most u t e)
-
-  later_at_most : (v : Ts) → AtMost t v → AtMost u v → AtMost (later_of t u) v
-  later_at_most v h k = by_later (λ w. AtMost w v) (λ e. k) (λ e. k) (λ e. h)
 
 -- ---- keys
 
@@ -97,11 +61,10 @@ module _ {X : Type 0} where
 
 -- ---- room for one more
 
-Found : List (Ts × Member) → Ts → Type 0
+abbrev pub Found : List (Ts × Member) → Ts → Type 0
 Found es t = (m : Member) × Contains es (t, m) × (m.decided ≡ true)
 
-found_first : (es : List (Ts × Member)) (t : Ts) → first_decided es ≡ Some t → Found es t
-unfolding Found
+pub found_first : (es : List (Ts × Member)) (t : Ts) → first_decided es ≡ Some t → Found es t
 found_first [] t e = cc
 found_first (e ∷ es) t h = by_test e.1.decided refl h (λ k. let x = found_first es t k in (x.0, shifted es e (t, x.0) x.1, x.2))
   where
@@ -144,7 +107,6 @@ roomy_without W u n h here decided = record {
 }
 
 by_found : (W : Window) → IsSorted W.members → (o : Option Ts) → ((t : Ts) → o ≡ Some t → Found W.members.pairs t) → Roomy W (without W o)
-unfolding Found
 by_found W h None f = roomy_same W h
 by_found W h (Some u) f =
     let x = f u refl in
@@ -428,7 +390,7 @@ module _ (b : Base) where
   true_cond true o m e = (refl, e)
   true_cond false o m e = cc
 
-  held_life : (S : State) (W : Window) (n : ℕ) → LifeBegan b S → S.life < n → Held (standing b S) S.top W
+  held_life : (S : State) (W : Window) (n : ℕ) → LifeBegan b S → owes b S (Life n) → Held (standing b S) S.top W
       → Held (standing b (put b S (Life n))) S.top (slide b S W (Life n))
   held_life S W n began owed held =
       let new = standing b (put b S (Life n)) in
@@ -459,7 +421,7 @@ module _ (b : Base) where
             held.high t y.0 y.1 (committed_before S.length y.0.request y.0.fate o.fate y.2.2 c);
       }
     where
-      was : (S : State) (n : ℕ) → LifeBegan b S → S.life < n → (t : Ts) (o : Standing) → standing b (put b S (Life n)) t ≡ Some o → (v : Standing) × (standing b S t ≡ Some v) × Kept [] S.length v o
+      was : (S : State) (n : ℕ) → LifeBegan b S → owes b S (Life n) → (t : Ts) (o : Standing) → standing b (put b S (Life n)) t ≡ Some o → (v : Standing) × (standing b S t ≡ Some v) × Kept [] S.length v o
       was S n began owed t o is = elim (came b S (Life n) began owed t o is) [
         | inl x ↦ absurd x.1.0
         | inr x ↦ x

@@ -2,77 +2,36 @@
 use Rattle.commit_log.specs.declared.entry.Entry.TheVariants.{Decided, Finished, Life, One, Prepared, Upgraded}
 use Rattle.commit_log.specs.declared.entry.Entry.{Entry}
 use Rattle.commit_log.specs.declared.request.Request.{Request}
+use Rattle.session_outbox.proofs.FormDecided.{decides_form}
 use Rattle.session_outbox.proofs.Steps.{by_settling}
-use Rattle.session_outbox.specs.Checking.{each_known, if_then, is_accepted, is_admitted, is_alone, is_committed, is_empty, is_kept_by, is_live, is_new, is_owed, is_sound}
-use Rattle.session_outbox.specs.History.{Aborted, Base, Committed, Fate, IsCommitted, Lives, Open, Standing, State, epoch_of, is_undecided, or_lost, put, settle, standing, start}
+use Rattle.session_outbox.proofs.Tests.{decides_all, decides_empty, decides_eq, decides_false, decides_if, decides_le, decides_less, decides_lt, decides_none, decides_not, decides_or, decides_some, decides_true, turned, ◌also◌}
+use Rattle.session_outbox.specs.Checking.{answers_nothing, each_known, has_participants, is_accepted, is_admitted, is_alone, is_bare_upgrade, is_committed, is_kept_by, is_live, is_new, is_owed, is_sound, is_there, is_vouched, settles_so}
+use Rattle.session_outbox.specs.History.{Aborted, Base, Committed, Fate, IsCommitted, LeftOver, Lives, Open, Standing, State, epoch_of, is_undecided, or_lost, put, settle, standing, start, state, undecided_in}
+use Rattle.session_outbox.specs.Participants.{HasParticipants, IsAlone, IsBareUpgrade, takes_part}
 use Rattle.session_outbox.specs.Requests.{bars, has_created, has_read, has_written, is_upgrade, overwrites, written}
-use Rattle.session_outbox.specs.Sound.{Accepts, Admits, IsAlone, kept_by, owes, sound}
-use Rattle.std.proofs.Common.{List, [], ap, arith, cond, eq-eqb, inl, inr, length, refl, subst, suc, sym, ℕ, ◌<◌, ◌≡◌, ◌∙◌, ◌∷◌}
-use Rattle.std.proofs.lemmas.Bool.{eqb-true, lt-ltb, ltb-true}
+use Rattle.session_outbox.specs.Sound.{Accepts, Admits, Vouches, kept_by, owes, sound}
+use Rattle.std.proofs.Common.{List, [], ap, arith, cond, inl, inr, length, refl, subst, suc, sym, ℕ, ◌+◌, ◌<◌, ◌≡◌, ◌∙◌, ◌∷◌}
 use Rattle.std.proofs.lemmas.Cmp.{eq_by_cmp_equiv, tied_itself}
 use Rattle.std.proofs.lemmas.Map.Keys.{IsDistinct-from_sorted}
 use Rattle.std.proofs.lemmas.Map.Made.{is_some-lookup}
 use Rattle.std.proofs.lemmas.Map.Views.{lookup-from_Contains, tells_apart}
 use Rattle.std.specs.BTreeMap.{is_at}
 use Rattle.std.specs.Bool.{Decides}
-use Rattle.std.specs.List.{Contains, list_all, list_any}
+use Rattle.std.specs.List.{Contains, fold, list_all, list_any, range_with_len}
 use Rattle.std.specs.List.Sorted.{IsStrictlySortedBy}
 use Rattle.std.specs.Map.{lookup}
-use Rattle.std.specs.Option.{IfSome, is_none, option_map}
-use Rattle.std.specs.Ordering.{is_eq, is_lt}
-use Rattle.std.specs.Prelude.{Bool, IsTrue, None, Option, Some, false, nat_eq, nat_lt, not, true, ◌&&◌, ◌||◌, ◌⊎◌}
-use Rattle.std.specs.declared.cmp.Ordering.TheVariants.{Equal, Greater, Less}
-use Rattle.std.specs.declared.cmp.Ordering.{Ordering}
+use Rattle.std.specs.Option.{IfSome, IsSome, IsSomeAnd, is_some, option_map}
+use Rattle.std.specs.Ordering.{is_eq}
+use Rattle.std.specs.Prelude.{Bool, IsTrue, None, Option, Some, false, nat_eq, not, true, ◌&&◌, ◌||◌, ◌⊎◌}
 use Rattle.thor_value.proofs.FiniteMap.{IsSorted-insert}
 use Rattle.thor_value.proofs.NameOrders.{oref_exact, oref_total, ts_exact, ts_total}
-use Rattle.thor_value.specs.FiniteMap.{IsSorted, get, has, keys}
+use Rattle.thor_value.specs.FiniteMap.{IsSorted, get, keys, len}
 use Rattle.thor_value.specs.Names.{oref_cmp, same_oref, ts_cmp}
 use Rattle.thor_value.specs.declared.names.Oref.{Oref}
 use Rattle.thor_value.specs.declared.names.Ts.{Ts}
-
--- ---- tests
-
-decides_and : {P Q : Type 0} (x y : Bool) → Decides x P → Decides y Q → Decides (x && y) (P × Q)
-decides_and true y p q = ((λ e. (p.0 refl, q.0 e)), (λ h. q.1 h.1))
-decides_and false y p q = ((λ e. cc), (λ h. p.1 h.0))
-
-decides_or : {P Q : Type 0} (x y : Bool) → Decides x P → Decides y Q → Decides (x || y) (P ⊎ Q)
-decides_or true y p q = ((λ e. inl (p.0 refl)), (λ h. refl))
-decides_or false y p q = ((λ e. inr (q.0 e)), (λ h. elim h [ inl a ↦ (let e = p.1 a in cc) | inr c ↦ q.1 c ]))
-
-decides_not : {P : Type 0} (x : Bool) → Decides x P → Decides (not x) (¬ P)
-decides_not true p = ((λ e. cc), (λ h. absurd (h (p.0 refl))))
-decides_not false p = ((λ e h. let k = p.1 h in cc), (λ h. refl))
-
-pub decides_if : {P Q : Type 0} (x y : Bool) → Decides x P → Decides y Q → Decides (if_then x y) (P → Q)
-decides_if true y p q = ((λ e h. q.0 e), (λ f. q.1 (f (p.0 refl))))
-decides_if false y p q = ((λ e h. absurd (let k = p.1 h in cc)), (λ f. refl))
-
-decides_true : (x : Bool) → Decides x (IsTrue x)
-decides_true x = ((λ e. e), (λ e. e))
-
-decides_false : (x : Bool) → Decides (not x) (x ≡ false)
-decides_false true = ((λ e. cc), (λ e. cc))
-decides_false false = ((λ e. refl), (λ e. refl))
-
-decides_eq : (m n : ℕ) → Decides (nat_eq m n) (m ≡ n)
-decides_eq m n = (eqb-true m n, eq-eqb m n)
-
-decides_lt : (m n : ℕ) → Decides (nat_lt m n) (m < n)
-decides_lt m n = (ltb-true m n, lt-ltb m n)
-
-decides_none : {X : Type 0} (o : Option X) → Decides (is_none o) (o ≡ None)
-decides_none None = ((λ e. refl), (λ e. refl))
-decides_none (Some x) = ((λ e. cc), (λ e. cc))
-
-pub decides_empty : {X : Type 0} (xs : List X) → Decides (is_empty xs) (xs ≡ [])
-decides_empty [] = ((λ e. refl), (λ e. refl))
-decides_empty (x ∷ xs) = ((λ e. cc), (λ e. cc))
-
-decides_less : (o : Ordering) → Decides (is_lt o) (o ≡ Less)
-decides_less Less = ((λ e. refl), (λ e. refl))
-decides_less Equal = ((λ e. cc), (λ e. cc))
-decides_less Greater = ((λ e. cc), (λ e. cc))
+use Rattle.thor_value.specs.declared.values.Answer.TheVariants.{Fault, Ints}
+use Rattle.thor_value.specs.declared.values.Answer.{Answer}
+use Rattle.validation_queue.specs.Contents.{room_for}
 
 pub decides_lives : (f : Fate) → Decides (is_live f) (Lives f)
 decides_lives Open = ((λ e. tt), (λ e. refl))
@@ -84,16 +43,12 @@ decides_committed Open = ((λ e. cc), (λ h. absurd h))
 decides_committed (Committed at) = ((λ e. tt), (λ e. refl))
 decides_committed Aborted = ((λ e. cc), (λ h. absurd h))
 
-through : {P Q : Type 0} (x : Bool) → (P → Q) → (Q → P) → Decides x P → Decides x Q
-through x f g d = ((λ e. f (d.0 e)), (λ q. d.1 (g q)))
-
 decides_accepted : (q : Request) (t : Ts) (o : Standing) → Decides (is_accepted q t o) (Accepts q t o)
 decides_accepted q t o =
     let before = decides_less (ts_cmp t q.tx) in
     decides_if _ _ (decides_lives o.fate)
-    (decides_and _ _
-    (decides_if _ _ (decides_true (bars q o.request)) (decides_and _ _ (decides_committed o.fate) before))
-    (decides_if _ _ (decides_true (overwrites q o.request)) before))
+    (decides_if _ _ (decides_true (bars q o.request)) (decides_committed o.fate also before)
+    also decides_if _ _ (decides_true (overwrites q o.request)) before)
 
 -- ---- what holds of each name, and of each transaction
 
@@ -143,7 +98,7 @@ pub written_keys : (q : Request) (x : Oref) → list_any (same_oref x) (keys (wr
 written_keys q x = sym (is_some-lookup (is_at (oref_cmp x)) (written q).pairs)
 
 decides_written : (test : Oref → Bool) (P : Oref → Type 0) (q : Request) → ((x : Oref) → Decides (test x) (P x)) → Decides (list_all test (keys (written q))) ((x : Oref) → IsTrue (has_written q x) → P x)
-decides_written test P q d = through _ (λ h x w. h x (written_keys q x ∙ w)) (λ h x w. h x (sym (written_keys q x) ∙ w)) (decides_each test P (keys (written q)) d)
+decides_written test P q d = turned (decides_each test P (keys (written q)) d) (λ h x w. h x (written_keys q x ∙ w)) (λ h x w. h x (sym (written_keys q x) ∙ w))
 
 pub at_pair : (test : Ts → Standing → Bool) (f : Ts → Standing → Standing) (es : List (Ts × Standing)) → list_all (λ e. test e.0 (f e.0 e.1)) es ≡ true → (t : Ts) → IfSome (option_map (f t) (lookup (is_at (ts_cmp t)) es)) (λ o. test t o ≡ true)
 at_pair test f [] a t = tt
@@ -182,46 +137,74 @@ module _ (b : Base) where
 
   decides_new : (S : State) (q : Request) → IsSorted S.known → (x : Oref) → Decides (is_new b S q x) (IsNew S q x)
   unfolding IsNew
-  decides_new S q sorted x = decides_if _ _ (decides_true (has_created q x)) (decides_and _ _ (decides_none (get S.objects x)) (decides_known S (λ t o. not (has_written o.request x)) (λ t o. has_written o.request x ≡ false) sorted (λ t o. decides_false (has_written o.request x))))
+  decides_new S q sorted x = decides_if _ _ (decides_true (has_created q x))
+      (decides_none (get S.objects x) also decides_known S (λ t o. not (has_written o.request x)) (λ t o. has_written o.request x ≡ false) sorted (λ t o. decides_false (has_written o.request x)))
 
-  Parts : State → Request → Type 0
-  Parts S q =
-      (((((standing b S q.tx ≡ None) × (q.epoch ≡ epoch_of S)) × ((x : Oref) → IsTrue (has_written q x) → IsTrue (has_read q x)))
-      × ((x : Oref) → IsTrue (has_read q x) → x.repo ≡ b.repo)) × ((x : Oref) → IsTrue (has_written q x) → IsNew S q x))
-      × ((t : Ts) → IfSome (standing b S t) (Accepts q t))
+  decides_there : (S : State) (q : Request) (x : Oref) → Decides (is_there b S q x) (has_created q x ≡ false → IsSome (get S.objects x))
+  decides_there S q x = by (has_created q x)
+    where
+      by : (c : Bool) → Decides (c || is_some (get S.objects x)) (c ≡ false → IsSome (get S.objects x))
+      by true = ((λ e f. cc), (λ h. refl))
+      by false = turned (decides_some (get S.objects x)) (λ h e. h) (λ f. f refl)
 
-  decides_parts : (S : State) (q : Request) → IsSorted S.known → Decides (is_admitted b S q) (Parts S q)
-  unfolding Parts
-  decides_parts S q sorted =
-      decides_and _ _ (decides_and _ _ (decides_and _ _ (decides_and _ _ (decides_and _ _
-      (decides_none (standing b S q.tx))
-      (decides_eq q.epoch (epoch_of S)))
-      (decides_written (has_read q) (λ x. IsTrue (has_read q x)) q (λ x. decides_true (has_read q x))))
-      (decides_each (λ x. nat_eq x.repo b.repo) (λ x. x.repo ≡ b.repo) q.ros (λ x. decides_eq x.repo b.repo)))
-      (decides_written (is_new b S q) (IsNew S q) q (decides_new S q sorted)))
-      (decides_known S (is_accepted q) (Accepts q) sorted (λ t o. decides_accepted q t o))
+  decides_participants : (q : Request) → Decides (has_participants b q) (HasParticipants b q)
+  decides_participants q = turned
+      (decides_all (λ n. decides_lt n b.repos also decides_not _ (decides_eq n b.repo)) q.others
+      also decides_true (takes_part b.repo q q.tx.repo)
+      also decides_all (decides_le q.tx.repo) (b.repo ∷ q.others))
+      (λ p. record { others = p.0.0; coordinator = p.0.1; least = p.1 })
+      (λ h. ((h.others, h.coordinator), h.least))
+
+  decides_answer : (a : Answer) → Decides (answers_nothing a) (a ≡ Ints [])
+  decides_answer (Ints []) = ((λ e. refl), (λ h. refl))
+  decides_answer (Ints (n ∷ ns)) = ((λ e. cc), (λ h. cc))
+  decides_answer (Fault f) = ((λ e. cc), (λ h. cc))
+
+  decides_bare : (q : Request) → Decides (is_bare_upgrade b q) (IsBareUpgrade b q)
+  decides_bare q = turned
+      (decides_empty q.ros also decides_empty q.writes also decides_empty q.fresh also decides_answer q.answer
+      also decides_all (λ n. decides_true (takes_part b.repo q n)) (range_with_len 0 b.repos))
+      (λ p. record { reads = p.0.0.0.0; writes = p.0.0.0.1; creates = p.0.0.1; answers = p.0.1; wide = p.1 })
+      (λ h. ((((h.reads, h.writes), h.creates), h.answers), h.wide))
+
+  decides_vouched : (S : State) (q : Request) → IsSorted S.known → Decides (is_vouched b S q) (Vouches b S q)
+  unfolding IsNew
+  decides_vouched S q sorted = turned
+      (decides_form q also decides_lt 0 S.length also decides_none (standing b S q.tx) also decides_none (get b.left q.tx)
+      also decides_if _ _ (decides_eq q.tx.repo b.repo) (decides_eq q.tx.life S.life)
+      also decides_participants q
+      also decides_written (has_read q) (λ x. IsTrue (has_read q x)) q (λ x. decides_true (has_read q x))
+      also decides_each (λ x. nat_eq x.repo b.repo) (λ x. x.repo ≡ b.repo) q.ros (λ x. decides_eq x.repo b.repo)
+      also decides_all (λ w. decides_eq w.1.ver q.epoch) q.writes
+      also decides_if _ _ (decides_true (is_upgrade q)) (decides_bare q)
+      also decides_if _ _ (decides_true b.tells) (decides_written (is_there b S q) (λ x. has_created q x ≡ false → IsSome (get S.objects x)) q (decides_there S q))
+      also decides_written (is_new b S q) (IsNew S q) q (decides_new S q sorted))
+      (λ p. record {
+        formed = p.0.0.0.0.0.0.0.0.0.0.0;
+        begun = p.0.0.0.0.0.0.0.0.0.0.1;
+        once = p.0.0.0.0.0.0.0.0.0.1;
+        unleft = p.0.0.0.0.0.0.0.0.1;
+        alive = p.0.0.0.0.0.0.0.1;
+        participants = p.0.0.0.0.0.0.1;
+        within = p.0.0.0.0.0.1;
+        here = p.0.0.0.0.1;
+        versions = p.0.0.0.1;
+        upgrades = p.0.0.1;
+        known = p.0.1;
+        unused = λ x c w. (p.1 x w c).0;
+        unwritten = λ x c w. (p.1 x w c).1;
+      })
+      (λ v. (((((((((((v.formed, v.begun), v.once), v.unleft), v.alive), v.participants), v.within), v.here), v.versions), v.upgrades), v.known), (λ x w c. (v.unused x c w, v.unwritten x c w))))
 
   decides_admitted : (S : State) (q : Request) → IsSorted S.known → Decides (is_admitted b S q) (Admits b S q)
-  unfolding Parts IsNew
-  decides_admitted S q sorted = through (is_admitted b S q)
-      (λ p. record {
-        vouched = record {
-          once = p.0.0.0.0.0;
-          within = p.0.0.0.1;
-          here = p.0.0.1;
-          unused = λ x c w. (p.0.1 x w c).0;
-          unwritten = λ x c w. (p.0.1 x w c).1;
-        };
-        current = p.0.0.0.0.1;
-        accepted = p.1;
-      })
-      (λ h.
-      let v = h.vouched in
-      (((((v.once, h.current), v.within), v.here), (λ x w c. (v.unused x c w, v.unwritten x c w))), h.accepted))
-      (decides_parts S q sorted)
+  decides_admitted S q sorted = turned
+      (decides_vouched S q sorted also decides_eq q.epoch (epoch_of S) also decides_known S (is_accepted q) (Accepts q) sorted (λ t o. decides_accepted q t o)
+      also decides_lt (len (undecided_in b S)) room_for)
+      (λ p. record { vouched = p.0.0.0; current = p.0.0.1; accepted = p.0.1; room = p.1 })
+      (λ h. (((h.vouched, h.current), h.accepted), h.room))
 
   decides_alone : (q : Request) → Decides (is_alone b q) (IsAlone b q)
-  decides_alone q = decides_and _ _ (decides_empty q.others) (decides_eq q.tx.repo b.repo)
+  decides_alone q = decides_empty q.others also decides_eq q.tx.repo b.repo
 
   flat : {A B C : Type 0} → (A × B) × C → A × B × C
   flat p = (p.0.0, p.0.1, p.1)
@@ -229,13 +212,20 @@ module _ (b : Base) where
   nested : {A B C : Type 0} → A × B × C → (A × B) × C
   nested p = ((p.0, p.1), p.2)
 
+  decides_settles : (c : Bool) (o : Option LeftOver) → Decides (settles_so c o) (IsSomeAnd o (λ l. l.commits ≡ c))
+  decides_settles c None = ((λ e. cc), (λ h. absurd h))
+  decides_settles true (Some l) = ((λ e. e), (λ e. e))
+  decides_settles false (Some l) = decides_false l.commits
+
   decides_owed : (S : State) (e : Entry) → IsSorted S.known → Decides (is_owed b S e) (owes b S e)
-  decides_owed S (Life n) sorted = decides_lt S.life n
-  decides_owed S (One q) sorted = through _ flat nested (decides_and _ _ (decides_and _ _ (decides_admitted S q sorted) (decides_alone q)) (decides_false (is_upgrade q)))
-  decides_owed S (Prepared q) sorted = decides_admitted S q sorted
-  decides_owed S (Decided t c) sorted = decides_and _ _ (decides_true (is_undecided (standing b S t))) (decides_eq t.repo b.repo)
-  decides_owed S (Finished t c) sorted = decides_or _ _ (decides_and _ _ (decides_true (is_undecided (standing b S t))) (decides_not _ (decides_eq t.repo b.repo))) (decides_true (has b.left t))
-  decides_owed S (Upgraded q) sorted = through _ flat nested (decides_and _ _ (decides_and _ _ (decides_admitted S q sorted) (decides_alone q)) (decides_true (is_upgrade q)))
+  decides_owed S (Life n) sorted = decides_eq n (S.life + 1)
+  decides_owed S (One q) sorted = turned (decides_admitted S q sorted also decides_alone q also decides_false (is_upgrade q)) flat nested
+  decides_owed S (Prepared q) sorted = decides_admitted S q sorted also decides_not _ (decides_empty q.others)
+  decides_owed S (Decided t c) sorted = decides_true (is_undecided (standing b S t)) also decides_eq t.repo b.repo
+  decides_owed S (Finished t c) sorted = decides_or _ _
+      (decides_true (is_undecided (standing b S t)) also decides_not _ (decides_eq t.repo b.repo))
+      (decides_lt 0 S.length also decides_settles c (get S.left t))
+  decides_owed S (Upgraded q) sorted = turned (decides_admitted S q sorted also decides_alone q also decides_true (is_upgrade q)) flat nested
 
   sorted_settle : (S : State) (t : Ts) (c : Bool) → IsSorted S.known → IsSorted (settle S t c (standing b S t)).known
   sorted_settle S t c sorted = by_settling b (λ T. IsSorted T.known) S t c (standing b S t) sorted
@@ -252,11 +242,19 @@ module _ (b : Base) where
 
   decides_kept : (S : State) (H : List Entry) → IsSorted S.known → Decides (is_kept_by b S H) (kept_by b S H)
   decides_kept S [] sorted = ((λ e. tt), (λ e. refl))
-  decides_kept S (e ∷ H) sorted = decides_and _ _ (decides_owed S e sorted) (decides_kept (put b S e) H (sorted_put S e sorted))
+  decides_kept S (e ∷ H) sorted = decides_owed S e sorted also decides_kept (put b S e) H (sorted_put S e sorted)
 
   sorted_start : IsSorted (start b).known
   unfolding IsStrictlySortedBy
   sorted_start = tt
+
+  sorted_on : (S : State) (H : List Entry) → IsSorted S.known → IsSorted (fold (put b) S H).known
+  sorted_on S [] sorted = sorted
+  sorted_on S (e ∷ H) sorted = sorted_on (put b S e) H (sorted_put S e sorted)
+
+  -- what is known is in order
+  pub sorted_state : (H : List Entry) → IsSorted (state b H).known
+  sorted_state H = sorted_on (start b) H sorted_start
 
   pub decides_sound : (H : List Entry) → Decides (is_sound b H) (sound b H)
   decides_sound H = decides_kept (start b) H sorted_start

@@ -8,7 +8,7 @@ use Rattle.session_outbox.proofs.Traces.{entries-append}
 use Rattle.session_outbox.specs.Current.{InStep, OthersSince, OthersWrite, RightAt, commits_in, is_taking}
 use Rattle.session_outbox.specs.History.{Base, State, commit_of, commits, state, writers}
 use Rattle.session_outbox.specs.Requests.{has_written}
-use Rattle.session_outbox.specs.Session.{Notice, Session, acked_after, begun, bound, cache, is_silent, meet, move, moved, notice, or_retired, pages_after, push, session, taken_after, upto_of}
+use Rattle.session_outbox.specs.Session.{Notice, Session, acked_after, begun, bound, cache, is_silent, meet, move, moved, notice, or_retired, pages_after, push, rested, retired, session, session_lives, taken_after, upto_of}
 use Rattle.session_outbox.specs.Trace.{E, Item, M, entries}
 use Rattle.session_outbox.specs.declared.mark.Mark.TheVariants as the
 use Rattle.std.proofs.Common.{Bool, List, [], ap, arith, cond, false, length, refl, subst, sym, take, true, ℕ, ◌+◌, ◌++◌, ◌≡◌, ◌≤◌, ◌∙◌, ◌∷◌}
@@ -113,19 +113,19 @@ moved-later b s S v i l h =
 pub retired-later : (b : Base) (v w : Session) → Later v w → Later v (or_retired b w)
 retired-later b v w h = by (is_silent b.silence w)
   where
-    by : (q : Bool) → Later v (cond q (record w { live = false }) w)
+    by : (q : Bool) → Later v (cond q (record w { stage = retired w.stage }) w)
     by true = record { upto = h.upto; pages = h.pages; taken = h.taken }
     by false = h
 
 pub move-later : (b : Base) (s : ℕ) (S : State) (i : Item) (v : Session) → v.taken ≤ length v.sent → is_taking s i ≡ false → Later v (move b s S i v)
-move-later b s S i v l h = by v.live
+move-later b s S i v l h = by (session_lives v)
   where
-    by : (q : Bool) → Later v (cond q (or_retired b (moved b s S v i)) v)
+    by : (q : Bool) → Later v (cond q (or_retired b (moved b s S v i)) (rested v i))
     by true = retired-later b v (moved b s S v i) (moved-later b s S v i l h)
     by false = record { upto = refl; pages = λ p c is. is; taken = l }
 
 -- an item at which the session takes no message and doesn't begin moves it
-meet-moves : (b : Base) (s : ℕ) (S : State) (v : Session) (i : Item) → is_taking s i ≡ false → meet b s S (Some v) i ≡ Some (move b s S i v)
+pub meet-moves : (b : Base) (s : ℕ) (S : State) (v : Session) (i : Item) → is_taking s i ≡ false → meet b s S (Some v) i ≡ Some (move b s S i v)
 meet-moves b s S v (E e) h = refl
 meet-moves b s S v (M (the.Connected n c)) h = ap (λ (t : Bool). cond t (Some (begun c S.length)) (Some (move b s S (M (the.Connected n c)) v))) h
 meet-moves b s S v (M (the.Took n k)) h = refl
@@ -190,13 +190,13 @@ module _ (b : Base) where
       subst (λ (u : Session). RightAt b (entries (T ++ i ∷ [])) s u x o m) (sym e) (right-same (entries (T ++ i ∷ [])) s v (move b s (state b (entries T)) i v) x o m k (right-grown T i s v x o m a r))
 
   move-acks : (s : ℕ) (S : State) (i : Item) (v : Session) → (n : ℕ) → acked_after s v.acked i ≤ n → v.acked ≤ n → (move b s S i v).acked ≤ n
-  move-acks s S i v n p q = by v.live
+  move-acks s S i v n p q = by (session_lives v)
     where
-      quiet : (t : Bool) → (cond t (record (moved b s S v i) { live = false }) (moved b s S v i)).acked ≤ n
+      quiet : (t : Bool) → (cond t (record (moved b s S v i) { stage = retired (moved b s S v i).stage }) (moved b s S v i)).acked ≤ n
       quiet true = p
       quiet false = p
 
-      by : (t : Bool) → (cond t (or_retired b (moved b s S v i)) v).acked ≤ n
+      by : (t : Bool) → (cond t (or_retired b (moved b s S v i)) (rested v i)).acked ≤ n
       by true = quiet (is_silent b.silence (moved b s S v i))
       by false = q
 

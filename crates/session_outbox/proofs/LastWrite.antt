@@ -10,7 +10,7 @@ use Rattle.session_outbox.proofs.Prefixes.{fits, le_cases}
 use Rattle.session_outbox.proofs.Serial.{below_place, committed_at, committed_lives, order, writers_rise}
 use Rattle.session_outbox.proofs.Steps.{FateBegun, FateMoves}
 use Rattle.session_outbox.specs.History.{Aborted, Base, Committed, CommittedBelow, Fate, Open, Standing, State, commit, commit_by, commit_of, is_open, or_lost, put, settle, settle_by, standing, stands, state}
-use Rattle.session_outbox.specs.Laws.{BothWrote, FateStays, ReadsLast, Stays, with_writes}
+use Rattle.session_outbox.specs.Laws.{BothWrote, ComesFrom, FateStays, ReadsLast, Stays, with_writes}
 use Rattle.session_outbox.specs.Requests.{has_written, written}
 use Rattle.session_outbox.specs.Sound.{owes, sound}
 use Rattle.std.proofs.Common.{◌≡◌, ◌≤◌, ◌<◌, ℕ, List, [], ◌∷◌, ◌++◌, length, take, drop, refl, ap, sym, ◌∙◌, subst, arith, inl, inr}
@@ -175,26 +175,12 @@ module _ (b : Base) where
 
   -- ---- the commit that an object comes from
 
-  record Untouched (H : List Entry) (x : Oref) : Type 0 where
-    none : (s : Ts) (w : Standing) (m : ℕ) → stands b H s ≡ Some w → w.fate ≡ Committed m → IsTrue (has_written w.request x) → ⊥
-    value : get (state b H).objects x ≡ get b.objects x
-
-  record From (H : List Entry) (x : Oref) (s : Ts) (w : Standing) (at : ℕ) : Type 0 where
-    there : stands b H s ≡ Some w
-    fate : w.fate ≡ Committed at
-    wrote : IsTrue (has_written w.request x)
-    value : get (state b H).objects x ≡ get (written w.request) x
-    last : (r : Ts) (v : Standing) (m : ℕ) → stands b H r ≡ Some v → v.fate ≡ Committed m → IsTrue (has_written v.request x) → m ≤ at
-
-  abbrev Source : List Entry → Oref → Type 0
-  Source H x = Untouched H x ⊎ ((s : Ts) × (w : Standing) × (at : ℕ) × From H x s w at)
-
   object_end : (H : List Entry) (e : Entry) (x : Oref) → get (state b (H ++ e ∷ [])).objects x ≡ get (with_writes (state b H).objects (commit_of b (state b H) e)) x
   object_end H e x = ap (λ (S : State). get S.objects x) (state-end b H e) ∙ ap (λ (m : Map oref_cmp Obj). get m x) (objects-put b (state b H) e)
 
   -- an entry that doesn't write x leaves where it comes from
   carried : (H : List Entry) (e : Entry) (x : Oref) → sound b H → owes b (state b H) e → ((q : Request) → commit_of b (state b H) e ≡ (length H, q) ∷ [] → has_written q x ≡ false)
-      → get (state b (H ++ e ∷ [])).objects x ≡ get (state b H).objects x → Source H x → Source (H ++ e ∷ []) x
+      → get (state b (H ++ e ∷ [])).objects x ≡ get (state b H).objects x → ComesFrom b H x → ComesFrom b (H ++ e ∷ []) x
   carried H e x sd ow quiet same (inl u) = inl (record {
     none = λ s w m is f wrote. elim (committed_end H e sd ow s w m is f) [
       | inl y ↦ u.none s y.0 m y.1 y.2 (subst (λ q. IsTrue (has_written q x)) y.3 wrote)
@@ -222,7 +208,7 @@ module _ (b : Base) where
       )
 
   -- an entry that commits a write of x is where it comes from
-  taken_over : (H : List Entry) (e : Entry) (x : Oref) (q : Request) → sound b H → owes b (state b H) e → commit_of b (state b H) e ≡ (length H, q) ∷ [] → has_written q x ≡ true → Source (H ++ e ∷ []) x
+  taken_over : (H : List Entry) (e : Entry) (x : Oref) (q : Request) → sound b H → owes b (state b H) e → commit_of b (state b H) e ≡ (length H, q) ∷ [] → has_written q x ≡ true → ComesFrom b (H ++ e ∷ []) x
   taken_over H e x q sd ow is wrote =
       let n = length-state b H in
       let here = commit_here (state b H) e q (placed b H sd) (subst (λ k. commit_of b (state b H) e ≡ (k, q) ∷ []) (sym n) is) in
@@ -248,7 +234,7 @@ module _ (b : Base) where
         },
       )
 
-  by_write : (H : List Entry) (e : Entry) (x : Oref) (q : Request) → sound b H → owes b (state b H) e → commit_of b (state b H) e ≡ (length H, q) ∷ [] → Source H x → (y : Bool) → has_written q x ≡ y → Source (H ++ e ∷ []) x
+  by_write : (H : List Entry) (e : Entry) (x : Oref) (q : Request) → sound b H → owes b (state b H) e → commit_of b (state b H) e ≡ (length H, q) ∷ [] → ComesFrom b H x → (y : Bool) → has_written q x ≡ y → ComesFrom b (H ++ e ∷ []) x
   by_write H e x q sd ow is old true w = taken_over H e x q sd ow is w
   by_write H e x q sd ow is old false w =
       carried H e x sd ow
@@ -256,9 +242,9 @@ module _ (b : Base) where
       (object_end H e x ∙ ap (λ cs. get (with_writes (state b H).objects cs) x) is ∙ get-overwrite x (state b H).objects q ∙ or_old (get (written q) x) _ w)
       old
 
-  source : (x : Oref) (H : List Entry) → sound b H → Source H x
+  pub source : (x : Oref) (H : List Entry) → sound b H → ComesFrom b H x
   source x =
-      by_growth b (λ H. Source H x) (inl (record { none = λ s w m is f wrote. cc; value = refl }))
+      by_growth b (λ H. ComesFrom b H x) (inl (record { none = λ s w m is f wrote. cc; value = refl }))
       (λ H e sd ih ow. elim (commit_shape (state b H) e) [
         | inl none ↦ carried H e x sd ow (λ q k. no_commit (commit_of b (state b H) e) (length H, q) none k) (object_end H e x ∙ ap (λ cs. get (with_writes (state b H).objects cs) x) none) ih
         | inr one ↦ by_write H e x one.0 sd ow (subst (λ k. commit_of b (state b H) e ≡ (k, one.0) ∷ []) (length-state b H) one.1) ih (has_written one.0 x) refl

@@ -13,6 +13,7 @@ use Rattle.std.proofs.Common.{List, [], ap, arith, inl, inr, length, refl, subst
 use Rattle.std.proofs.lemmas.List.Elements.{Contains-append_left, Contains-push, Contains-push_cases, Contains-get_or}
 use Rattle.std.proofs.lemmas.List.Quantifiers.{all_pairs_push}
 use Rattle.std.proofs.lemmas.List.{append-nil}
+use Rattle.std.proofs.lemmas.Option.{same_Some}
 use Rattle.std.specs.List.{AllPairs, Contains, fold, slice_get}
 use Rattle.std.specs.Option.{IsSomeAnd}
 use Rattle.std.specs.Prelude.{Bool, None, Option, Some, false, true, ◌&&◌, ◌⊎◌}
@@ -27,10 +28,20 @@ pub get_end : {X : Type 0} (xs : List X) (y : X) → slice_get (xs ++ y ∷ []) 
 get_end [] y = refl
 get_end (x ∷ xs) y = get_end xs y
 
-is_some_and : {X : Type 0} (o : Option X) (P : X → Type 0) (x : X) → o ≡ Some x → P x → IsSomeAnd o P
+-- an element of a list with one more is of the list, or it is that one
+pub end_cases : {X : Type 0} (xs : List X) (y x : X) (k : ℕ) → slice_get (xs ++ y ∷ []) k ≡ Some x → ((k < length xs) × (slice_get xs k ≡ Some x)) ⊎ ((k ≡ length xs) × (x ≡ y))
+end_cases [] y x zero h = inr (refl, same_Some x y (sym h))
+end_cases [] y x (suc k) h = cc
+end_cases (z ∷ xs) y x zero h = inl (omega arith, h)
+end_cases (z ∷ xs) y x (suc k) h = elim (end_cases xs y x k h) [
+  | inl p ↦ let l : k < length xs = p.0 in inl (omega arith, p.1)
+  | inr p ↦ inr (ap suc p.0, p.1)
+]
+
+pub is_some_and : {X : Type 0} (o : Option X) (P : X → Type 0) (x : X) → o ≡ Some x → P x → IsSomeAnd o P
 is_some_and o P x e p = subst (λ v. IsSomeAnd v P) (sym e) p
 
-some_and : {X : Type 0} (o : Option X) (P : X → Type 0) → IsSomeAnd o P → (x : X) × (o ≡ Some x) × P x
+pub some_and : {X : Type 0} (o : Option X) (P : X → Type 0) → IsSomeAnd o P → (x : X) × (o ≡ Some x) × P x
 some_and None P h = absurd h
 some_and (Some x) P h = (x, refl, h)
 
@@ -145,7 +156,7 @@ module _ (b : Base) where
       let st : Stays x.0 y.0 = y.2 in
       is_some_and (stands b (H ++ e ∷ []) c.1.tx) (λ o. (o.request ≡ c.1) × (o.fate ≡ Committed c.0)) y.0 y.1 (st.request ∙ x.2.0, stays_committed c.0 x.0.fate y.0.fate x.2.1 st.fate)
 
-  stand : (H : List Entry) → sound b H → (c : ℕ × Request) → Contains (commits b H) c → StandsSo H c
+  pub stand : (H : List Entry) → sound b H → (c : ℕ × Request) → Contains (commits b H) c → StandsSo H c
   stand =
       by_growth b (λ H. (c : ℕ × Request) → Contains (commits b H) c → StandsSo H c)
       (λ c h. let l : h.0 < 0 = h.1 in absurd (omega arith))

@@ -1,5 +1,6 @@
 -- The example that has local order and isn't sound: no transaction that isn't aborted writes.
-use Rattle.session_outbox.proofs.Decided.{at_pair, decides_empty, decides_if, decides_lives}
+use Rattle.session_outbox.proofs.Decided.{at_pair, decides_lives}
+use Rattle.session_outbox.proofs.Tests.{decides_empty, decides_if}
 use Rattle.session_outbox.specs.Checking.{if_then, is_empty, is_live}
 use Rattle.session_outbox.specs.Examples.{home, mended}
 use Rattle.session_outbox.specs.History.{Standing, or_lost, stands, state}

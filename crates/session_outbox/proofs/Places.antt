@@ -111,7 +111,7 @@ one_request (Upgraded s) q r x y = sym x ∙ y
 pub admitted : (b : Base) (S : State) (e : Entry) (q : Request) → Asks e q → owes b S e → Admits b S q
 admitted b S (Life n) q x o = absurd x
 admitted b S (One r) q x o = subst (Admits b S) x o.0
-admitted b S (Prepared r) q x o = subst (Admits b S) x o
+admitted b S (Prepared r) q x o = subst (Admits b S) x o.0
 admitted b S (Decided t c) q x o = absurd x
 admitted b S (Finished t c) q x o = absurd x
 admitted b S (Upgraded r) q x o = subst (Admits b S) x o.0

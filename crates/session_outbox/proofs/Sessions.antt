@@ -4,7 +4,7 @@ use Rattle.session_outbox.proofs.Growth.{length-state}
 use Rattle.session_outbox.specs.History.{Base, State, commit_of, epoch_of, put, start, state}
 use Rattle.session_outbox.specs.Messages.{InOrder, KeepsOrder, WaitsByPlace}
 use Rattle.session_outbox.specs.Requests.{is_upgrade, written}
-use Rattle.session_outbox.specs.Session.{Grant, Invalid, Notice, Page, Session, Upgrade, begun, bound, invalid_of, is_silent, meet, move, moved, notice, or_retired, pass, place_of, push, session, session_from, told, told_of, upto_of}
+use Rattle.session_outbox.specs.Session.{Grant, Invalid, Notice, Page, Session, Upgrade, begun, bound, invalid_of, is_silent, meet, move, moved, notice, or_retired, pass, place_of, push, rested, retired, session, session_from, session_lives, told, told_of, upto_of}
 use Rattle.session_outbox.specs.Trace.{E, Item, M, entries}
 use Rattle.session_outbox.specs.declared.mark.Mark.TheVariants as the
 use Rattle.std.proofs.Common.{Bool, List, [], ap, arith, cond, inl, inr, rules, false, length, refl, subst, suc, take, true, zero, ℕ, ◌+◌, ◌++◌, ◌<◌, ◌≡◌, ◌≤◌, ◌∙◌, ◌∷◌}
@@ -177,7 +177,7 @@ moved-keeps b s S v i h =
 retired-keeps : (b : Base) (v : Session) (n : ℕ) → KeepsOrder v n → KeepsOrder (or_retired b v) n
 retired-keeps b v n h = by (is_silent b.silence v)
   where
-    by : (q : Bool) → KeepsOrder (cond q (record v { live = false }) v) n
+    by : (q : Bool) → KeepsOrder (cond q (record v { stage = retired v.stage }) v) n
     by true = record { began = h.began; rise = h.rise; below = h.below }
     by false = h
 
@@ -185,11 +185,13 @@ later-keeps : (v : Session) (n k : ℕ) → n ≤ k → KeepsOrder v n → Keeps
 later-keeps v n k l h = let p = h.began in let q = h.below in record { began = omega arith; rise = h.rise; below = omega arith }
 
 move-keeps : (b : Base) (s : ℕ) (S : State) (i : Item) (v : Session) → KeepsOrder v S.length → KeepsOrder (move b s S i v) (pass b S i).length
-move-keeps b s S i v h = by v.live
+move-keeps b s S i v h = by (session_lives v)
   where
-    by : (q : Bool) → KeepsOrder (cond q (or_retired b (moved b s S v i)) v) (pass b S i).length
+    by : (q : Bool) → KeepsOrder (cond q (or_retired b (moved b s S v i)) (rested v i)) (pass b S i).length
     by true = retired-keeps b (moved b s S v i) (pass b S i).length (moved-keeps b s S v i h)
-    by false = later-keeps v S.length (pass b S i).length (longer b S i) h
+    by false =
+        let k = later-keeps v S.length (pass b S i).length (longer b S i) h in
+        record { began = k.began; rise = k.rise; below = k.below }
 
 map-keeps : (b : Base) (s : ℕ) (S : State) (i : Item) (o : Option Session) → IfSome o (λ v. KeepsOrder v S.length) → IfSome (option_map (move b s S i) o) (λ v. KeepsOrder v (pass b S i).length)
 map-keeps b s S i None h = tt

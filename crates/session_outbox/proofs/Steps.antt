@@ -145,7 +145,7 @@ module _ (b : Base) where
       by_known None = tt
       by_known (Some p) = (refl, refl, lapse_moves [] S.length p.request p.fate _ _ (under_and (nat_eq t.repo b.repo) _ _ (λ l. let m = ltb-true p.place S.last_life l in lt-ltb p.place S.length (omega arith))))
   moved S (One q) h o t = begun S (One q) ((S.length, q) ∷ []) q h refl o.0.vouched.once (Committed S.length) (refl, refl) t
-  moved S (Prepared q) h o t = begun S (Prepared q) [] q h refl o.vouched.once Open (subst (λ l. FateBegun [] S.length q (lapse Open l)) (sym (not_lost S q.tx h)) tt) t
+  moved S (Prepared q) h o t = begun S (Prepared q) [] q h refl o.0.vouched.once Open (subst (λ l. FateBegun [] S.length q (lapse Open l)) (sym (not_lost S q.tx h)) tt) t
   moved S (Upgraded q) h o t = begun S (Upgraded q) ((S.length, q) ∷ []) q h refl o.0.vouched.once (Committed S.length) (refl, refl) t
   moved S (Decided u c) h o t = settled S (Decided u c) u c t
   moved S (Finished u c) h o t = settled S (Finished u c) u c t

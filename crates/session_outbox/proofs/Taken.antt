@@ -7,12 +7,15 @@ use Rattle.session_outbox.proofs.Growth.{length-state}
 use Rattle.session_outbox.proofs.Kept.{Extends, pages-extend}
 use Rattle.session_outbox.proofs.Sessions.{at-most-last, bound-at, keeps-order, session-end, waits-by-place}
 use Rattle.session_outbox.proofs.Told.{Begins, Went, all-both, all-told, at_end, came, pages-old, went}
+use Rattle.session_outbox.proofs.Vouched.{plain}
 use Rattle.session_outbox.proofs.Traces.{entries-append}
-use Rattle.session_outbox.specs.Current.{InStep, IsTold, NoUpgrades, OthersSince, RightAt, Takes, Tells, names_invalid}
+use Rattle.session_outbox.specs.Current.{InStep, IsTold, OthersSince, RightAt, Takes, Tells, names_invalid}
 use Rattle.session_outbox.specs.History.{Base, State, commit_of, epoch_of, last_write, objects_at, state, writers}
 use Rattle.session_outbox.specs.Messages.{InOrder, KeepsOrder, WaitsByPlace}
+use Rattle.session_outbox.specs.Laws.{NoUpgrades}
 use Rattle.session_outbox.specs.Requests.{is_upgrade, written}
-use Rattle.session_outbox.specs.Session.{Grant, Invalid, Notice, Page, Session, Upgrade, bound, cache, invalid_of, is_silent, meet, move, moved, notice, or_retired, pages_after, place_of, push, session, told_of, upto_of}
+use Rattle.session_outbox.specs.Session.{Grant, Invalid, Live, Notice, Page, Retired, Session, Stage, Upgrade, bound, cache, invalid_of, is_silent, meet, move, moved, notice, or_retired, pages_after, place_of, push, rested, retired, session, session_lives, told_of, upto_of}
+use Rattle.session_outbox.specs.Sound.{sound}
 use Rattle.session_outbox.specs.Trace.{E, Item, M, entries}
 use Rattle.session_outbox.specs.declared.mark.Mark.TheVariants as the
 use Rattle.session_outbox.specs.declared.mark.Mark.{Mark}
@@ -62,7 +65,7 @@ module _ (b : Base) where
       let i : Item = M (the.Took s place) in
       let e : Some (move b s S i v) ≡ Some w = sym (session-end b T i s ∙ ap (λ (u : Option Session). meet b s S u i) h.before) ∙ h.after in
       let f : move b s S i v ≡ w = cc in
-      subst (λ (z : Session). Took v z m) f (by v.live h.live)
+      subst (λ (z : Session). Took v z m) f (by (session_lives v) h.live)
     where
       upto-of : upto_of (record v { taken = v.taken + 1 }) ≡ bound m
       upto-of = ap (λ (n : ℕ). fold (λ k n. bound n) v.began (take n v.sent)) (sym (suc-eq-add-one v.taken)) ∙ bound-at v.began v.sent v.taken m h.message
@@ -70,14 +73,14 @@ module _ (b : Base) where
       counted : cond (nat_eq s s) (v.taken + 1) v.taken ≡ v.taken + 1
       counted = ap (λ (t : Bool). cond t (v.taken + 1) v.taken) (same-number s)
 
-      all : (l : Bool) (n : ℕ) → n ≡ v.taken + 1 → Took v (record v { live = l; taken = n }) m
+      all : (l : Stage) (n : ℕ) → n ≡ v.taken + 1 → Took v (record v { stage = l; taken = n }) m
       all l n e = record { upto = ap (λ (k : ℕ). fold (λ j n. bound n) v.began (take k v.sent)) e ∙ upto-of; pages = refl; sent = refl; began = refl; taken = e; acked = refl }
 
-      quiet : (t : Bool) → Took v (cond t (record (moved b s (state b (entries T)) v (M (the.Took s place))) { live = false }) (moved b s (state b (entries T)) v (M (the.Took s place)))) m
-      quiet true = all false (cond (nat_eq s s) (v.taken + 1) v.taken) counted
-      quiet false = all true (cond (nat_eq s s) (v.taken + 1) v.taken) counted
+      quiet : (t : Bool) → Took v (cond t (record (moved b s (state b (entries T)) v (M (the.Took s place))) { stage = retired (moved b s (state b (entries T)) v (M (the.Took s place))).stage }) (moved b s (state b (entries T)) v (M (the.Took s place)))) m
+      quiet true = all Retired (cond (nat_eq s s) (v.taken + 1) v.taken) counted
+      quiet false = all Live (cond (nat_eq s s) (v.taken + 1) v.taken) counted
 
-      by : (t : Bool) → t ≡ true → Took v (cond t (or_retired b (moved b s (state b (entries T)) v (M (the.Took s place)))) v) m
+      by : (t : Bool) → t ≡ true → Took v (cond t (or_retired b (moved b s (state b (entries T)) v (M (the.Took s place)))) (rested v (M (the.Took s place)))) m
       by true l = quiet (is_silent b.silence (moved b s (state b (entries T)) v (M (the.Took s place))))
       by false l = cc
 
@@ -134,7 +137,7 @@ module _ (b : Base) where
       sides : (t i : ℕ) → t ≤ i → (t ≡ i) ⊎ (t + 1 ≤ i)
       sides t i l = grind arith
 
-  none-between : (T : List Item) (s : ℕ) (v w : Session) (m : Notice) (x : Oref) (o : Obj) (n : ℕ) → session b T s ≡ Some v → v.live ≡ true → Took v w m → InOrder v.began v.sent → slice_get v.sent v.taken ≡ Some m → names_invalid x m ≡ false
+  none-between : (T : List Item) (s : ℕ) (v w : Session) (m : Notice) (x : Oref) (o : Obj) (n : ℕ) → session b T s ≡ Some v → session_lives v ≡ true → Took v w m → InOrder v.began v.sent → slice_get v.sent v.taken ≡ Some m → names_invalid x m ≡ false
       → NoUpgrades (writers b (entries T) x) → RightAt b (entries T) s v x o n → All (λ c. n ≤ c.0 → bound m ≤ c.0) (writers b (entries T) x)
   none-between T s v w m x o n is live k h at unnamed plain r =
       let page = some-page (get v.pages x.page) n r.cached in
@@ -186,9 +189,9 @@ module _ (b : Base) where
   after-mark T m = entries-append T (M m ∷ []) ∙ append-nil (entries T)
 
   -- a copy that a message doesn't name stays right, behind the place that the message makes known
-  pub right-taken : (T : List Item) (s : ℕ) (v w : Session) (place : ℕ) (m : Notice) (x : Oref) (o : Obj) (n : ℕ) → Takes b T s v w place m → names_invalid x m ≡ false → NoUpgrades (writers b (entries T) x)
+  pub right-taken : (T : List Item) (s : ℕ) (v w : Session) (place : ℕ) (m : Notice) (x : Oref) (o : Obj) (n : ℕ) → Takes b T s v w place m → names_invalid x m ≡ false → sound b (entries T)
       → RightAt b (entries T) s v x o n → RightAt b (entries (T ++ M (the.Took s place) ∷ [])) s w x o (max n (bound m))
-  right-taken T s v w place m x o n h unnamed plain r = subst (λ (H : List Entry). RightAt b H s w x o (max n (bound m))) (sym (after-mark T (the.Took s place))) (right-taken-here T s v w place m x o n h unnamed plain r)
+  right-taken T s v w place m x o n h unnamed sd r = subst (λ (H : List Entry). RightAt b H s w x o (max n (bound m))) (sym (after-mark T (the.Took s place))) (right-taken-here T s v w place m x o n h unnamed (plain b (entries T) sd x) r)
 
 -- ---- what a page brings
 
@@ -266,7 +269,7 @@ pub record HasPages (v : Session) (n : ℕ) : Type 0 where
 
 module _ (b : Base) where
   abbrev pub KeepsPages : ℕ → List Item → Type 0
-  KeepsPages s T = (v : Session) → session b T s ≡ Some v → v.live ≡ true → HasPages v (length (entries T))
+  KeepsPages s T = (v : Session) → session b T s ≡ Some v → session_lives v ≡ true → HasPages v (length (entries T))
 
   longer : (T : List Item) (i : Item) → length (entries T) ≤ length (entries (T ++ i ∷ []))
   longer T i =
@@ -309,11 +312,11 @@ module _ (b : Base) where
   pub keeps-pages : (s : ℕ) (T : List Item) → KeepsPages s T
   keeps-pages s = at_end b (KeepsPages s) (λ v is l. cc) (λ T i h w is l. by T i h w l (came b s (state b (entries T)) (session b T s) i w (sym (session-end b T i s) ∙ is)))
     where
-      by : (T : List Item) (i : Item) → KeepsPages s T → (w : Session) → w.live ≡ true → Begins b w ⊎ ((v : Session) × (session b T s ≡ Some v) × (w ≡ move b s (state b (entries T)) i v)) → HasPages w (length (entries (T ++ i ∷ [])))
+      by : (T : List Item) (i : Item) → KeepsPages s T → (w : Session) → session_lives w ≡ true → Begins b w ⊎ ((v : Session) × (session b T s ≡ Some v) × (w ≡ move b s (state b (entries T)) i v)) → HasPages w (length (entries (T ++ i ∷ [])))
       by T i h w l (inl new) = new-pages w (length (entries (T ++ i ∷ []))) new
       by T i h w l (inr y) =
           let v : Session = y.0 in
-          let live : (move b s (state b (entries T)) i v).live ≡ true = ap (λ (z : Session). z.live) (sym y.2) ∙ l in
+          let live : session_lives (move b s (state b (entries T)) i v) ≡ true = ap (λ (z : Session). session_lives z) (sym y.2) ∙ l in
           subst (λ (z : Session). HasPages z (length (entries (T ++ i ∷ [])))) (sym y.2) (pages-behind s T i v (move b s (state b (entries T)) i v) y.1 h (went b s (state b (entries T)) i v live))
 
   -- what a page brings is right at its place

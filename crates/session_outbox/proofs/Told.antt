@@ -11,7 +11,7 @@ use Rattle.session_outbox.proofs.Traces.{entries-append}
 use Rattle.session_outbox.specs.Current.{IsTold, Tells}
 use Rattle.session_outbox.specs.History.{Base, State, commit_of, commits, epoch_of, start, state, writers}
 use Rattle.session_outbox.specs.Requests.{has_written, is_upgrade, written}
-use Rattle.session_outbox.specs.Session.{Invalid, Notice, Session, Upgrade, begun, cache, invalid_of, is_silent, meet, move, moved, notice, or_retired, pages_after, push, session, told, told_of}
+use Rattle.session_outbox.specs.Session.{Ended, Invalid, Notice, Session, Upgrade, begun, cache, invalid_of, is_live, is_silent, lives_on, meet, move, moved, notice, or_retired, pages_after, push, rested, retired, session, session_lives, told, told_of}
 use Rattle.session_outbox.specs.Trace.{E, Item, M, entries}
 use Rattle.session_outbox.specs.declared.mark.Mark.TheVariants as the
 use Rattle.std.proofs.Common.{Bool, List, [], ap, append_assoc, arith, cond, false, inl, inr, length, refl, subst, suc, sym, true, zero, ℕ, ◌+◌, ◌++◌, ◌<◌, ◌≡◌, ◌≤◌, ◌∙◌, ◌∷◌}
@@ -165,18 +165,22 @@ module _ (b : Base) where
 
   -- what a session that is live behind an item is
   abbrev pub Went : ℕ → State → Item → Session → Session → Type 0
-  Went s S i v w = (v.live ≡ true) × (w.pages ≡ pages_after s S v.pages i) × (w.sent ≡ push v.sent (notice b s S v.pages i))
+  Went s S i v w = (session_lives v ≡ true) × (w.pages ≡ pages_after s S v.pages i) × (w.sent ≡ push v.sent (notice b s S v.pages i))
 
-  pub went : (s : ℕ) (S : State) (i : Item) (v : Session) → (move b s S i v).live ≡ true → Went s S i v (move b s S i v)
-  went s S i v h = by v.live refl h
+  pub went : (s : ℕ) (S : State) (i : Item) (v : Session) → session_lives (move b s S i v) ≡ true → Went s S i v (move b s S i v)
+  went s S i v h = by (session_lives v) refl h
     where
-      retired : (t : Bool) → v.live ≡ true → Went s S i v (cond t (record (moved b s S v i) { live = false }) (moved b s S v i))
-      retired true l = (l, refl, refl)
-      retired false l = (l, refl, refl)
+      dead : (t : Bool) → session_lives v ≡ false → is_live (cond t v.stage Ended) ≡ false
+      dead true l = l
+      dead false l = refl
 
-      by : (t : Bool) → v.live ≡ t → (cond t (or_retired b (moved b s S v i)) v).live ≡ true → Went s S i v (cond t (or_retired b (moved b s S v i)) v)
-      by true l g = retired (is_silent b.silence (moved b s S v i)) l
-      by false l g = let n : false ≡ true = sym l ∙ g in cc
+      silent : (t : Bool) → session_lives v ≡ true → Went s S i v (cond t (record (moved b s S v i) { stage = retired (moved b s S v i).stage }) (moved b s S v i))
+      silent true l = (l, refl, refl)
+      silent false l = (l, refl, refl)
+
+      by : (t : Bool) → session_lives v ≡ t → session_lives (cond t (or_retired b (moved b s S v i)) (rested v i)) ≡ true → Went s S i v (cond t (or_retired b (moved b s S v i)) (rested v i))
+      by true l g = silent (is_silent b.silence (moved b s S v i)) l
+      by false l g = let n : false ≡ true = sym (dead (lives_on v.client i) l) ∙ g in cc
 
   -- a commit of before
   tells-more : (s : ℕ) (S : State) (i : Item) (v w : Session) (x : Oref) (c : ℕ × Request) → Went s S i v w → c.0 < S.length → Tells s v x c → Tells s w x c
@@ -216,7 +220,7 @@ module _ (b : Base) where
       go done (i ∷ rest) h = subst P (append_assoc done (i ∷ []) rest) (go (done ++ i ∷ []) rest (step done i h))
 
   abbrev AllTold : ℕ → List Item → Type 0
-  AllTold s T = (v : Session) → session b T s ≡ Some v → v.live ≡ true → (x : Oref) → All (Tells s v x) (writers b (entries T) x)
+  AllTold s T = (v : Session) → session b T s ≡ Some v → session_lives v ≡ true → (x : Oref) → All (Tells s v x) (writers b (entries T) x)
 
   -- none is told of a page that isn't there
   no-page : (s : ℕ) (w : Session) (x : Oref) (cs : List (ℕ × Request)) → w.pages ≡ empty → All (Tells s w x) cs
@@ -237,9 +241,9 @@ module _ (b : Base) where
   pub all-told : (s : ℕ) (T : List Item) → AllTold s T
   all-told s = at_end (AllTold s) (λ v is l x. cc) (λ T i h w is l x. by T i h w l x (came s (state b (entries T)) (session b T s) i w (sym (session-end b T i s) ∙ is)))
     where
-      by : (T : List Item) (i : Item) → AllTold s T → (w : Session) → w.live ≡ true → (x : Oref) → Begins w ⊎ ((v : Session) × (session b T s ≡ Some v) × (w ≡ move b s (state b (entries T)) i v)) → All (Tells s w x) (writers b (entries (T ++ i ∷ [])) x)
+      by : (T : List Item) (i : Item) → AllTold s T → (w : Session) → session_lives w ≡ true → (x : Oref) → Begins w ⊎ ((v : Session) × (session b T s ≡ Some v) × (w ≡ move b s (state b (entries T)) i v)) → All (Tells s w x) (writers b (entries (T ++ i ∷ [])) x)
       by T i h w l x (inl none) = no-page s w x (writers b (entries (T ++ i ∷ [])) x) none.0
       by T i h w l x (inr y) =
           let v : Session = y.0 in
-          let live : (move b s (state b (entries T)) i v).live ≡ true = ap (λ (z : Session). z.live) (sym y.2) ∙ l in
+          let live : session_lives (move b s (state b (entries T)) i v) ≡ true = ap (λ (z : Session). session_lives z) (sym y.2) ∙ l in
           subst (λ (z : Session). All (Tells s z x) (writers b (entries (T ++ i ∷ [])) x)) (sym y.2) (behind s T i v (move b s (state b (entries T)) i v) y.1 h (went s (state b (entries T)) i v live) x)

@@ -1,5 +1,4 @@
 -- A write of a session's own stays current while its transaction is undecided, and behind its commit.
-use Rattle.commit_log.specs.declared.entry.Entry.TheVariants.{Decided, Finished, Life, One, Prepared, Upgraded}
 use Rattle.commit_log.specs.declared.entry.Entry.{Entry}
 use Rattle.commit_log.specs.declared.request.Request.{Request}
 use Rattle.session_outbox.proofs.Growth.{length-state, owed-end, sound-beginning, state-end}
@@ -7,85 +6,31 @@ use Rattle.session_outbox.proofs.Kept.{Extends, next, pages-extend, right-kept}
 use Rattle.session_outbox.proofs.LastWrite.{commit_shape}
 use Rattle.session_outbox.proofs.Own.{own-right}
 use Rattle.session_outbox.proofs.Places.{goes, placed}
-use Rattle.session_outbox.proofs.Steps.{FateMoves, Kept, by_settling}
+use Rattle.session_outbox.proofs.Settling.{stands-still}
+use Rattle.session_outbox.proofs.Steps.{FateMoves, Kept}
 use Rattle.session_outbox.proofs.Taken.{after-mark, keeps-pages, page-taken, right-taken, took}
 use Rattle.session_outbox.proofs.Traces.{entries-append}
-use Rattle.session_outbox.specs.Current.{InStep, IsCurrent, IsOwnWrite, MaySettle, NoUpgrades, NoneAborted, OthersOrSame, OthersSince, OthersWrite, Passes, RightAt, Takes, commits_in, names_invalid}
-use Rattle.session_outbox.specs.History.{Aborted, Base, Committed, Fate, IsCommitted, Lives, Open, Standing, State, commit_of, lapse, objects_at, or_lost, put, settle, standing, stands, state, writers}
+use Rattle.session_outbox.specs.Current.{InStep, IsCurrent, IsOwnWrite, NoneAborted, OthersOrSame, OthersSince, OthersWrite, Passes, RightAt, Takes, commits_in, names_invalid}
+use Rattle.session_outbox.specs.History.{Aborted, Base, Committed, Fate, IsCommitted, Lives, Open, Standing, State, commit_of, objects_at, put, standing, stands, state, writers}
+use Rattle.session_outbox.specs.Outcomes.{MaySettle}
 use Rattle.session_outbox.specs.Requests.{has_written, written}
-use Rattle.session_outbox.specs.Session.{Notice, Page, Session, is_silent, move, moved, or_retired, session}
-use Rattle.session_outbox.specs.Sound.{owes, sound}
+use Rattle.session_outbox.specs.Session.{Notice, Page, Session, is_silent, move, moved, or_retired, rested, retired, session, session_lives}
+use Rattle.session_outbox.specs.Sound.{sound}
 use Rattle.session_outbox.specs.Trace.{E, Item, M, entries}
 use Rattle.session_outbox.specs.declared.mark.Mark.TheVariants as the
 use Rattle.session_outbox.specs.declared.mark.Mark.{Mark}
 use Rattle.std.proofs.Common.{Bool, List, [], ap, arith, cond, false, inl, inr, length, refl, subst, sym, true, ℕ, ◌+◌, ◌++◌, ◌≡◌, ◌≤◌, ◌∙◌, ◌∷◌}
-use Rattle.std.proofs.lemmas.Bool.Decides.{nat_tests}
 use Rattle.std.proofs.lemmas.List.Elements.{All-cons, All-nil}
-use Rattle.std.proofs.lemmas.Map.Views.{tells_apart}
 use Rattle.std.specs.List.{All}
-use Rattle.std.specs.Option.{IsSomeAnd, is_some, option_map}
-use Rattle.std.specs.Ordering.{eq_by_cmp, nat_cmp}
-use Rattle.std.specs.Prelude.{None, Option, Some, nat_eq, nat_lt, ◌&&◌, ◌⊎◌}
-use Rattle.thor_value.proofs.FiniteMap.{get-insert}
-use Rattle.thor_value.proofs.NameOrders.{ts_exact, ts_total}
-use Rattle.thor_value.specs.FiniteMap.{Map, get, has, insert}
-use Rattle.thor_value.specs.Names.{ts_cmp}
+use Rattle.std.specs.Option.{IsSomeAnd, is_some}
+use Rattle.std.specs.Ordering.{nat_cmp}
+use Rattle.std.specs.Prelude.{None, Option, Some, nat_eq, ◌⊎◌}
+use Rattle.thor_value.specs.FiniteMap.{Map, get, has}
 use Rattle.thor_value.specs.declared.names.Oref.{Oref}
 use Rattle.thor_value.specs.declared.names.Ts.{Ts}
 use Rattle.thor_value.specs.declared.values.Obj.{Obj}
 
--- ---- an entry that can't settle a transaction
-
-other-key : (t u : Ts) → ¬ (t ≡ u) → eq_by_cmp ts_cmp t u ≡ false
-other-key t u h = by (eq_by_cmp ts_cmp t u) refl
-  where
-    by : (same : Bool) → eq_by_cmp ts_cmp t u ≡ same → eq_by_cmp ts_cmp t u ≡ false
-    by true e = absurd (h (tells_apart ts_exact t u e))
-    by false e = e
-
-other-number : (m n : ℕ) → ¬ (m ≡ n) → nat_eq m n ≡ false
-other-number m n h = by (nat_eq m n) refl
-  where
-    same : nat_eq m n ≡ true → m ≡ n
-    same e = grind (arith, nat_tests)
-
-    by : (t : Bool) → nat_eq m n ≡ t → nat_eq m n ≡ false
-    by true e = absurd (h (same e))
-    by false e = e
-
-neither : (a x y : Bool) → a ≡ false → (a && x) ≡ (a && y)
-neither true x y e = cc
-neither false x y e = refl
-
 module _ (b : Base) where
-  elsewhere : (S : State) (u t : Ts) (p : Standing) → ¬ (t ≡ u) → option_map (or_lost b S t) (get (insert S.known u p) t) ≡ standing b S t
-  elsewhere S u t p h = ap (option_map (or_lost b S t)) (get-insert ts_total S.known u p t ∙ ap (λ (same : Bool). cond same (Some p) (get S.known t)) (other-key t u h))
-
-  new-apart : (S : State) (u t : Ts) (p : Standing) → standing b S u ≡ None → standing b S t ≡ Some p → ¬ (t ≡ u)
-  new-apart S u t p none is e = let f : Some p ≡ None = sym is ∙ ap (standing b S) e ∙ none in cc
-
-  settled-other : (S : State) (u t : Ts) (c : Bool) → ¬ (t ≡ u) → standing b (settle S u c (standing b S u)) t ≡ standing b S t
-  settled-other S u t c h =
-      by_settling b (λ Z. standing b Z t ≡ standing b S t) S u c (standing b S u) refl
-      (λ p is at_first k. elsewhere S u t (record { place = p.place; request = p.request; fate = Committed S.length }) h)
-      (λ p is at_first. elsewhere S u t (record p { fate = Aborted }) h)
-
-  life-other : (S : State) (n : ℕ) (t : Ts) → ¬ (t.repo ≡ b.repo) → standing b (put b S (Life n)) t ≡ standing b S t
-  life-other S n t h = by (get S.known t)
-    where
-      by : (k : Option Standing) → option_map (or_lost b (put b S (Life n)) t) k ≡ option_map (or_lost b S t) k
-      by None = refl
-      by (Some p) = ap (λ (l : Bool). Some (record p { fate = lapse p.fate l })) (neither (nat_eq t.repo b.repo) (nat_lt p.place S.length) (nat_lt p.place S.last_life) (other-number t.repo b.repo h))
-
-  -- it leaves the transaction as it stands
-  stands-still : (S : State) (e : Entry) (t : Ts) (p : Standing) → owes b S e → ¬ MaySettle b t e → standing b S t ≡ Some p → standing b (put b S e) t ≡ Some p
-  stands-still S (Life n) t p o h is = life-other S n t h ∙ is
-  stands-still S (One q) t p o h is = elsewhere S q.tx t (record { place = S.length; request = q; fate = Committed S.length }) (new-apart S q.tx t p o.0.vouched.once is) ∙ is
-  stands-still S (Prepared q) t p o h is = elsewhere S q.tx t (record { place = S.length; request = q; fate = Open }) (new-apart S q.tx t p o.vouched.once is) ∙ is
-  stands-still S (Upgraded q) t p o h is = elsewhere S q.tx t (record { place = S.length; request = q; fate = Committed S.length }) (new-apart S q.tx t p o.0.vouched.once is) ∙ is
-  stands-still S (Decided u c) t p o h is = settled-other S u t c (λ e. h (sym e)) ∙ is
-  stands-still S (Finished u c) t p o h is = settled-other S u t c (λ e. h (sym e)) ∙ is
-
   after-entry : (T : List Item) (e : Entry) → entries (T ++ E e ∷ []) ≡ entries T ++ e ∷ []
   after-entry T e = entries-append T (E e ∷ [])
 
@@ -105,7 +50,7 @@ module _ (b : Base) where
   mark-keeps T k s committed x o t p h = subst (λ (H : List Entry). IsOwnWrite b H s committed x o t p) (sym (after-mark b T k)) h
 
   pub entry-keeps : (T : List Item) (e : Entry) (s : ℕ) (committed : Ts → Bool) (x : Oref) (o : Obj) (t : Ts) (p : Standing) → sound b (entries (T ++ E e ∷ [])) → ¬ MaySettle b t e → IsOwnWrite b (entries T) s committed x o t p → IsOwnWrite b (entries (T ++ E e ∷ [])) s committed x o t p
-  entry-keeps T e s committed x o t p sd n h = same-own (entries T) (entries (T ++ E e ∷ [])) s committed x o t p (stands-end T e t ∙ stands-still (state b (entries T)) e t p (owed-end b (entries T) e (sound-there T e sd)) n h.there) h
+  entry-keeps T e s committed x o t p sd n h = same-own (entries T) (entries (T ++ E e ∷ [])) s committed x o t p (stands-end T e t ∙ stands-still b (state b (entries T)) e t p (owed-end b (entries T) e (sound-there T e sd)) n h.there) h
 
   -- how a transaction stands behind one more entry
   goes-end : (T : List Item) (e : Entry) (t : Ts) (p : Standing) → sound b (entries (T ++ E e ∷ [])) → stands b (entries T) t ≡ Some p
@@ -123,7 +68,7 @@ module _ (b : Base) where
       by None e f = cc
       by (Some c) e f = f c refl
 
-  page-there : (T : List Item) (s : ℕ) (v : Session) (x : Oref) → session b T s ≡ Some v → v.live ≡ true → has v.pages x.page ≡ true → IsSomeAnd (get v.pages x.page) (λ c. c ≤ length (entries T))
+  page-there : (T : List Item) (s : ℕ) (v : Session) (x : Oref) → session b T s ≡ Some v → session_lives v ≡ true → has v.pages x.page ≡ true → IsSomeAnd (get v.pages x.page) (λ c. c ≤ length (entries T))
   page-there T s v x is live h = page-low v.pages x.page (length (entries T)) h (λ c e. (keeps-pages b s T v is live).below x.page c e)
 
   -- ---- a transaction that was undecided, by what becomes of it
@@ -227,10 +172,10 @@ module _ (b : Base) where
   current-grown T (M k) s v w committed x o ps step page sd n a (inr y) = inr (y.0, y.1, mark-keeps T k s committed x o y.0 y.1 y.2)
 
   -- and where it takes one that doesn't name its object
-  pub current-taken : (T : List Item) (s : ℕ) (v w : Session) (place : ℕ) (m : Notice) (committed : Ts → Bool) (x : Oref) (o : Obj) → Takes b T s v w place m → names_invalid x m ≡ false → NoUpgrades (writers b (entries T) x)
+  pub current-taken : (T : List Item) (s : ℕ) (v w : Session) (place : ℕ) (m : Notice) (committed : Ts → Bool) (x : Oref) (o : Obj) → Takes b T s v w place m → names_invalid x m ≡ false → sound b (entries T)
       → IsCurrent b (entries T) s v committed x o → IsCurrent b (entries (T ++ M (the.Took s place) ∷ [])) s w committed x o
-  current-taken T s v w place m committed x o h unnamed plain (inl r) = inl (_, right-taken b T s v w place m x o r.0 h unnamed plain r.1)
-  current-taken T s v w place m committed x o h unnamed plain (inr y) = inr (y.0, y.1, mark-keeps T (the.Took s place) s committed x o y.0 y.1 y.2)
+  current-taken T s v w place m committed x o h unnamed sd (inl r) = inl (_, right-taken b T s v w place m x o r.0 h unnamed sd r.1)
+  current-taken T s v w place m committed x o h unnamed sd (inr y) = inr (y.0, y.1, mark-keeps T (the.Took s place) s committed x o y.0 y.1 y.2)
 
   pub current-brought : (T : List Item) (s : ℕ) (v w : Session) (place page k : ℕ) (committed : Ts → Bool) (x : Oref) (o : Obj) → Takes b T s v w place (Page page k) → x.page ≡ page → get (objects_at b (entries T) k) x ≡ Some o → OthersSince s k (writers b (entries T) x)
       → IsCurrent b (entries (T ++ M (the.Took s place) ∷ [])) s w committed x o
@@ -239,13 +184,13 @@ module _ (b : Base) where
   -- ---- pages
 
   moved-pages : (s : ℕ) (S : State) (i : Item) (v : Session) → Extends v.pages (move b s S i v).pages
-  moved-pages s S i v = by v.live
+  moved-pages s S i v = by (session_lives v)
     where
-      quiet : (t : Bool) → Extends v.pages (cond t (record (moved b s S v i) { live = false }) (moved b s S v i)).pages
+      quiet : (t : Bool) → Extends v.pages (cond t (record (moved b s S v i) { stage = retired (moved b s S v i).stage }) (moved b s S v i)).pages
       quiet true = pages-extend s S v.pages i
       quiet false = pages-extend s S v.pages i
 
-      by : (t : Bool) → Extends v.pages (cond t (or_retired b (moved b s S v i)) v).pages
+      by : (t : Bool) → Extends v.pages (cond t (or_retired b (moved b s S v i)) (rested v i)).pages
       by true = quiet (is_silent b.silence (moved b s S v i))
       by false = λ p c is. is
 

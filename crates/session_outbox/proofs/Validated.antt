@@ -1,7 +1,8 @@
 -- A request that validation doesn't refuse can come behind each transaction that is there.
 use Rattle.commit_log.specs.declared.entry.Entry.{Entry}
 use Rattle.commit_log.specs.declared.request.Request.{Request}
-use Rattle.session_outbox.proofs.Covered.{at_most_then, at_most_itself, first_at_most, held, second_at_most}
+use Rattle.session_outbox.proofs.Covered.{held}
+use Rattle.session_outbox.proofs.Stamps.{at_most_itself, at_most_then, first_at_most, second_at_most}
 use Rattle.session_outbox.proofs.Decided.{written_keys}
 use Rattle.session_outbox.proofs.Meeting.{in_order, not_both_ways, or_cases, or_first, or_second}
 use Rattle.session_outbox.specs.Covers.{Agrees}

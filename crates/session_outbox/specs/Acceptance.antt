@@ -2,7 +2,7 @@
 use Rattle.commit_log.specs.declared.request.Request.{Request}
 use Rattle.session_outbox.specs.History.{Base, Open, Standing, stands}
 use Rattle.session_outbox.specs.Requests.{has_read, reads_of}
-use Rattle.session_outbox.specs.Session.{Session, invalid, session}
+use Rattle.session_outbox.specs.Session.{Session, invalid, session, session_lives}
 use Rattle.session_outbox.specs.Trace.{Item, entries}
 use Rattle.session_outbox.specs.Verdict.{bytes_of}
 use Rattle.session_outbox.specs.Window.{first_decided, window}
@@ -16,7 +16,7 @@ use Rattle.validation_queue.specs.Contents.{room_for}
 -- The request q of the session s, which stands as v, was accepted.
 pub record WasAccepted (b : Base) (T : List Item) (s : ℕ) (q : Request) (v : Session) : Type 0 where
   pub there : session b T s ≡ Some v
-  pub live : v.live ≡ true
+  pub live : session_lives v ≡ true
   -- its client had taken the messages of all that is in the invalid set of what it read
   pub known : (x : Oref) → has_read q x ≡ true → IfSome (invalid b (entries T) s v x) (λ k. k < q.upto)
   -- no undecided transaction wrote what it read

@@ -1,13 +1,14 @@
 -- What the window has of a history.
 use Rattle.commit_log.specs.declared.entry.Entry.{Entry}
-use Rattle.session_outbox.specs.History.{Aborted, Base, Committed, Fate, IsCommitted, Open, Standing, stands, state}
+use Rattle.session_outbox.specs.History.{Aborted, Base, Committed, Fate, IsCommitted, Open, Standing, stands, state, undecided_in}
 use Rattle.session_outbox.specs.Requests.{is_upgrade}
 use Rattle.session_outbox.specs.Window.{Member, window}
 use Rattle.std.specs.Option.{IsSome, IsSomeAnd}
-use Rattle.std.specs.Prelude.{Bool, IsTrue, List, Some, false, true, ◌≡◌, ◌⊎◌}
-use Rattle.thor_value.specs.FiniteMap.{get}
+use Rattle.std.specs.Prelude.{Bool, IsTrue, List, Some, false, true, ◌≡◌, ◌≤◌, ◌⊎◌}
+use Rattle.thor_value.specs.FiniteMap.{get, len}
 use Rattle.thor_value.specs.Names.{AtMost}
 use Rattle.thor_value.specs.declared.names.Ts.{Ts}
+use Rattle.validation_queue.specs.Contents.{room_for}
 
 -- a decided member committed, and the others are undecided
 abbrev pub Agrees : Bool → Fate → Type 0
@@ -31,3 +32,9 @@ pub record Covers (b : Base) (H : List Entry) : Type 0 where
   -- the threshold isn't above the greatest timestamp that committed, and no commit is
   pub threshold : AtMost (window b H).threshold (state b H).top
   pub top : (t : Ts) (o : Standing) → stands b H t ≡ Some o → IsCommitted o.fate → AtMost t (state b H).top
+
+-- The undecided transactions of a history, and the members of its window, are at most as many as a
+-- validation queue holds.
+pub record HasRoom (b : Base) (H : List Entry) : Type 0 where
+  pub undecided : len (undecided_in b (state b H)) ≤ room_for
+  pub members : len (window b H).members ≤ room_for

@@ -2,12 +2,11 @@
 -- right or is about to be called invalid is the invariant of the invalid sets of Adya and others,
 -- SIGMOD 1995. The form that keeps the place at which the copy was right is this project's: it is the
 -- one that each growth of the history and each message keep.)
-use Rattle.commit_log.specs.declared.entry.Entry.TheVariants.{Decided, Finished, Life, One, Prepared, Upgraded}
 use Rattle.commit_log.specs.declared.entry.Entry.{Entry}
 use Rattle.commit_log.specs.declared.request.Request.{Request}
 use Rattle.session_outbox.specs.History.{Base, Lives, Open, Standing, commit_of, objects_at, stands, state, writers}
 use Rattle.session_outbox.specs.Requests.{has_written, is_upgrade, written}
-use Rattle.session_outbox.specs.Session.{Grant, Invalid, Notice, Page, Session, Upgrade, invalid, session, upto_of}
+use Rattle.session_outbox.specs.Session.{Grant, Invalid, Notice, Page, Session, Upgrade, invalid, session, session_lives, upto_of}
 use Rattle.session_outbox.specs.Trace.{E, Item, M}
 use Rattle.session_outbox.specs.declared.mark.Mark.TheVariants as the
 use Rattle.std.specs.List.{All, list_any, slice_get}
@@ -97,20 +96,16 @@ names_invalid x (Upgrade number k) = false
 -- The session v takes the message m, and is w then.
 pub record Takes (b : Base) (T : List Item) (s : ℕ) (v w : Session) (place : ℕ) (m : Notice) : Type 0 where
   pub before : session b T s ≡ Some v
-  pub live : v.live ≡ true
+  pub live : session_lives v ≡ true
   pub message : slice_get v.sent v.taken ≡ Some m
   pub after : session b (T ++ M (the.Took s place) ∷ []) s ≡ Some w
-
--- none of these commits is an upgrade's: upgrades write nothing
-abbrev pub NoUpgrades : List (ℕ × Request) → Type 0
-NoUpgrades cs = All (λ c. is_upgrade c.1 ≡ false) cs
 
 -- ---- what growth owes to a current copy
 
 -- The session v, which is live, is w behind the item i, at which its client takes no message.
 pub record Passes (b : Base) (T : List Item) (i : Item) (s : ℕ) (v w : Session) : Type 0 where
   pub before : session b T s ≡ Some v
-  pub live : v.live ≡ true
+  pub live : session_lives v ≡ true
   pub quiet : is_taking s i ≡ false
   pub after : session b (T ++ i ∷ []) s ≡ Some w
 
@@ -122,13 +117,3 @@ NoneAborted b H committed = (t : Ts) (w : Standing) → stands b H t ≡ Some w 
 -- each of these commits that wrote x is another session's than s, or it wrote the copy o there
 abbrev pub OthersOrSame : ℕ → Oref → Obj → List (ℕ × Request) → Type 0
 OthersOrSame s x o cs = All (λ c. has_written c.1 x ≡ true → (nat_eq c.1.session s ≡ false) ⊎ (get (written c.1) x ≡ Some o)) cs
-
--- The entry may settle the transaction t: it is the decision about it, or a Life of its coordinator,
--- which loses what it hadn't decided.
-abbrev pub MaySettle : Base → Ts → Entry → Type 0
-MaySettle b t (Life n) = t.repo ≡ b.repo
-MaySettle b t (One q) = ⊥
-MaySettle b t (Prepared q) = ⊥
-MaySettle b t (Decided u c) = u ≡ t
-MaySettle b t (Finished u c) = u ≡ t
-MaySettle b t (Upgraded q) = ⊥

@@ -10,12 +10,18 @@ use Rattle.session_outbox.specs.Requests.{text_of, written, has_written}
 use Rattle.std.specs.List.{filter, fold}
 use Rattle.std.specs.Option.{option_map}
 use Rattle.std.specs.Ordering.{nat_cmp}
-use Rattle.std.specs.Prelude.{Bool, true, false, cond, ◌&&◌, List, [], ◌∷◌, ◌++◌, ℕ, ◌+◌, length, take, nat_eq, nat_lt, Option, Some, None, ◌<◌}
-use Rattle.thor_value.specs.FiniteMap.{Map, Set, add, empty, get, insert, overwrite}
-use Rattle.thor_value.specs.Names.{oref_cmp, ts_cmp, later_of}
+use Rattle.std.specs.Prelude.{Bool, true, false, cond, ◌&&◌, List, [], ◌∷◌, ◌++◌, ℕ, ◌+◌, length, take, nat_eq, nat_lt, not, Option, Some, None, ◌<◌}
+use Rattle.thor_value.specs.FiniteMap.{Map, Set, add, empty, get, insert, keep, overwrite}
+use Rattle.thor_value.specs.Names.{oref_cmp, same_ts, ts_cmp, later_of}
 use Rattle.thor_value.specs.declared.names.Oref.{Oref}
 use Rattle.thor_value.specs.declared.names.Ts.{Ts}
 use Rattle.thor_value.specs.declared.values.Obj.{Obj}
+
+-- A transaction that an earlier run left prepared, under another coordinator: its request here, and
+-- whether the coordinator kept its decision to commit it.
+pub record LeftOver : Type 0 where
+  pub request : Request
+  pub commits : Bool
 
 -- What a repository began with in this run: what stands once its opening has settled the
 -- transactions that earlier runs left prepared.
@@ -25,12 +31,16 @@ pub record Base : Type 0 where
   pub repos : ℕ
   -- how often it had been opened or restarted before
   pub life : ℕ
+  -- how many entries the earlier runs have written
+  pub count : ℕ
   -- the limit of its buffer of modified objects, in bytes
   pub limit : ℕ
   -- its objects
   pub objects : Map oref_cmp Obj
   -- the greatest timestamp of a transaction that committed here, or the zero timestamp
   pub top : Ts
+  -- the objects that the roots of the store name, of every repository
+  pub roots : List Oref
   -- the texts of the installed upgrades, in order
   pub texts : List (List ℕ)
   -- the least page that was never granted
@@ -38,9 +48,11 @@ pub record Base : Type 0 where
   -- for each client, its last transaction that committed here with no other participant
   pub alone : Map nat_cmp Ts
   -- the transactions that the opening settles
-  pub left : Set ts_cmp
+  pub left : Map ts_cmp LeftOver
   -- how many messages a session may leave unacknowledged, where sessions are retired at all
   pub silence : Option ℕ
+  -- whether its disk of pages tells what it holds. Where it doesn't, a page may bring anything
+  pub tells : Bool
 
 -- What became of a transaction: it is undecided, or its writes count from a place on, or it counts
 -- for nothing.
@@ -98,6 +110,16 @@ pub record State : Type 0 where
   pub kept : Set ts_cmp
   -- for each client, its last transaction that committed here with no other participant
   pub alone : Map nat_cmp Ts
+  -- of the transactions that earlier runs left prepared, those that have still to be settled
+  pub left : Map ts_cmp LeftOver
+
+abbrev pub is_life : Entry → Bool
+is_life (Life n) = true
+is_life (One q) = false
+is_life (Prepared q) = false
+is_life (Decided t c) = false
+is_life (Finished t c) = false
+is_life (Upgraded q) = false
 
 -- how many upgrades are installed
 abbrev pub epoch_of : State → ℕ
@@ -115,6 +137,7 @@ start b = record {
   texts = b.texts;
   kept = empty;
   alone = b.alone;
+  left = b.left;
 }
 
 -- an undecided transaction whose coordinator has lost it is aborted
@@ -161,6 +184,10 @@ abbrev pub is_undecided : Option Standing → Bool
 is_undecided None = false
 is_undecided (Some o) = is_open o.fate
 
+-- the transactions that are undecided
+abbrev pub undecided_in : Base → State → Map ts_cmp Standing
+undecided_in b S = keep S.known (λ t. is_undecided (standing b S t))
+
 -- what an entry changes, but for the number of entries
 abbrev pub change : Base → State → Entry → State
 change b S (Life n) = record S { life = n; last_life = S.length }
@@ -168,7 +195,7 @@ change b S (Prepared q) = record S { known = insert S.known q.tx (record { place
 change b S (One q) = record (commit S q.tx S.length q) { alone = insert S.alone q.who.client q.tx }
 change b S (Upgraded q) = record (commit S q.tx S.length q) { alone = insert S.alone q.who.client q.tx }
 change b S (Decided t c) = record (settle S t c (standing b S t)) { kept = cond (c && is_undecided (standing b S t)) (add S.kept t) S.kept }
-change b S (Finished t c) = settle S t c (standing b S t)
+change b S (Finished t c) = record (settle S t c (standing b S t)) { left = keep S.left (λ u. not (same_ts u t)) }
 
 -- the state behind one more entry
 abbrev pub put : Base → State → Entry → State

@@ -3,14 +3,15 @@
 use Rattle.commit_log.specs.declared.entry.Entry.TheVariants.{Decided, Finished, Life, One, Prepared, Upgraded}
 use Rattle.commit_log.specs.declared.entry.Entry.{Entry}
 use Rattle.commit_log.specs.declared.request.Request.{Request}
-use Rattle.session_outbox.specs.History.{Aborted, Base, Committed, CommittedBelow, Fate, IsCommitted, Lives, Open, Standing, commits, last_write, objects_at, stands, state, writers}
+use Rattle.session_outbox.specs.History.{Aborted, Base, Committed, CommittedBelow, Fate, IsCommitted, Lives, Open, Standing, commits, epoch_of, is_life, last_write, objects_at, stands, state, writers}
+use Rattle.session_outbox.specs.Participants.{IsBareUpgrade, takes_part}
 use Rattle.session_outbox.specs.Requests.{has_created, has_read, has_written, is_upgrade, text_of, written}
 use Rattle.session_outbox.specs.Sound.{Admits, owes, sound}
-use Rattle.std.specs.List.{AllPairs, Contains, fold, slice_get}
+use Rattle.std.specs.List.{All, AllPairs, Contains, filter, fold, slice_get}
 use Rattle.std.specs.Option.{IsSomeAnd}
-use Rattle.std.specs.Prelude.{IsTrue, List, None, Some, [], false, length, take, true, ℕ, ◌++◌, ◌<◌, ◌≡◌, ◌≢◌, ◌≤◌, ◌↔◌, ◌∷◌, ◌⊎◌}
+use Rattle.std.specs.Prelude.{IsTrue, List, None, Some, [], false, length, take, true, ℕ, ◌+◌, ◌++◌, ◌<◌, ◌≡◌, ◌≢◌, ◌≤◌, ◌↔◌, ◌∷◌, ◌⊎◌}
 use Rattle.thor_value.specs.FiniteMap.{Map, get, overwrite}
-use Rattle.thor_value.specs.Names.{Before, later_of, oref_cmp}
+use Rattle.thor_value.specs.Names.{AtMost, Before, later_of, oref_cmp}
 use Rattle.thor_value.specs.declared.names.Oref.{Oref}
 use Rattle.thor_value.specs.declared.names.Ts.{Ts}
 use Rattle.thor_value.specs.declared.values.Obj.{Obj}
@@ -121,6 +122,24 @@ pub record ReadsLast (b : Base) (H : List Entry) : Type 0 where
   -- none did, or the last one's write is what stands there
   pub value : (t : Ts) (o : Standing) (x : Oref) → Reads b H t o x → NoneWrote b H t o x ⊎ ((s : Ts) × (w : Standing) × LastWrote b H t o x s w)
 
+-- no transaction that wrote x has committed, and the object is the base's
+pub record Unwritten (b : Base) (H : List Entry) (x : Oref) : Type 0 where
+  pub none : (s : Ts) (w : Standing) (m : ℕ) → stands b H s ≡ Some w → w.fate ≡ Committed m → IsTrue (has_written w.request x) → ⊥
+  pub value : get (state b H).objects x ≡ get b.objects x
+
+-- s wrote x and committed at the place m, none that wrote x committed behind it, and the object is as s
+-- wrote it
+pub record WrittenLast (b : Base) (H : List Entry) (x : Oref) (s : Ts) (w : Standing) (m : ℕ) : Type 0 where
+  pub there : stands b H s ≡ Some w
+  pub fate : w.fate ≡ Committed m
+  pub wrote : IsTrue (has_written w.request x)
+  pub value : get (state b H).objects x ≡ get (written w.request) x
+  pub last : (r : Ts) (v : Standing) (n : ℕ) → stands b H r ≡ Some v → v.fate ≡ Committed n → IsTrue (has_written v.request x) → n ≤ m
+
+-- where the object x comes from at the end of a history
+abbrev pub ComesFrom : Base → List Entry → Oref → Type 0
+ComesFrom b H x = Unwritten b H x ⊎ ((s : Ts) × (w : Standing) × (m : ℕ) × WrittenLast b H x s w m)
+
 -- The transactions s and t stand in H as w and o, neither is aborted, and both wrote x.
 pub record BothWrote (b : Base) (H : List Entry) (s t : Ts) (w o : Standing) (x : Oref) : Type 0 where
   pub first : stands b H s ≡ Some w
@@ -175,3 +194,32 @@ pub record CreatedOnce (b : Base) (H : List Entry) : Type 0 where
 -- The entry e owes nothing to the history H, which stays sound with it.
 abbrev pub Continues : Base → List Entry → Entry → Type 0
 Continues b H e = owes b (state b H) e × sound b (H ++ e ∷ [])
+
+-- The lives of a repository follow one another: the first entry is one, and each is one above the last.
+pub record LivesFollow (b : Base) (H : List Entry) : Type 0 where
+  pub first : (e : Entry) → slice_get H 0 ≡ Some e → e ≡ Life (b.life + 1)
+  -- the present life is told by how many there are
+  pub count : (state b H).life ≡ b.life + length (filter is_life H)
+  pub each : (i n : ℕ) → slice_get H i ≡ Some (Life n) → n ≡ (state b (take i H)).life + 1
+
+-- none of these commits is an upgrade's: upgrades write nothing
+abbrev pub NoUpgrades : List (ℕ × Request) → Type 0
+NoUpgrades cs = All (λ c. is_upgrade c.1 ≡ false) cs
+
+-- What holds of the upgrades of a history.
+pub record UpgradesAreBare (b : Base) (H : List Entry) : Type 0 where
+  -- one that stands changes no object, and all repositories take part in it
+  pub bare : (t : Ts) (o : Standing) → stands b H t ≡ Some o → IsTrue (is_upgrade o.request) → IsBareUpgrade b o.request
+  pub wide : (t : Ts) (o : Standing) (n : ℕ) → stands b H t ≡ Some o → IsTrue (is_upgrade o.request) → n < b.repos → IsTrue (takes_part b.repo o.request n)
+  -- so none is among those that wrote an object
+  pub plain : (x : Oref) → NoUpgrades (writers b H x)
+  -- and one that commits at once does so where this repository is all there is
+  pub one : (m : ℕ) (q : Request) → slice_get H m ≡ Some (Upgraded q) → b.repos ≤ 1
+
+-- What a base is, a sound history keeps.
+pub record KeepsBase (b : Base) (H : List Entry) : Type 0 where
+  -- the objects are this repository's, and no upgrade is missing to their versions
+  pub here : (x : Oref) (o : Obj) → get (state b H).objects x ≡ Some o → x.repo ≡ b.repo
+  pub versions : (x : Oref) (o : Obj) → get (state b H).objects x ≡ Some o → o.ver ≤ epoch_of (state b H)
+  -- no last single commit is above the greatest timestamp that committed
+  pub alone : (c : ℕ) (t : Ts) → get (state b H).alone c ≡ Some t → AtMost t (state b H).top

@@ -6,7 +6,7 @@
 use Rattle.commit_log.specs.declared.entry.Entry.TheVariants.{Decided, Finished, Life, One, Prepared, Upgraded}
 use Rattle.commit_log.specs.declared.entry.Entry.{Entry}
 use Rattle.commit_log.specs.declared.request.Request.{Request}
-use Rattle.session_outbox.specs.History.{Base, State, commit_of, epoch_of, put, start, writers}
+use Rattle.session_outbox.specs.History.{Base, State, commit_of, epoch_of, is_life, put, start, writers}
 use Rattle.session_outbox.specs.Requests.{is_upgrade, written}
 use Rattle.session_outbox.specs.Trace.{E, Item, M}
 use Rattle.session_outbox.specs.declared.mark.Mark.TheVariants as the
@@ -49,10 +49,29 @@ is_news (Grant page k) = false
 is_news (Invalid names k) = true
 is_news (Upgrade number k) = true
 
+-- How far the life of a session has come.
+pub data Stage : Type 0 where
+  -- its repository has it
+  Live : Stage
+  -- its repository has given it up, since its client left too much unacknowledged. Its client is told
+  -- nothing more and may still decide what it had prepared
+  Retired : Stage
+  -- a Life has ended it, or its client, which connected anew
+  Ended : Stage
+
+abbrev pub is_live : Stage → Bool
+is_live Live = true
+is_live Retired = false
+is_live Ended = false
+
+abbrev pub is_ended : Stage → Bool
+is_ended Live = false
+is_ended Retired = false
+is_ended Ended = true
+
 pub record Session : Type 0 where
   pub client : ℕ
-  -- whether the repository still has it
-  pub live : Bool
+  pub stage : Stage
   -- how many entries there were when it began
   pub began : ℕ
   -- the pages that the client may have, each with the number of entries at its first fetch or grant
@@ -63,9 +82,22 @@ pub record Session : Type 0 where
   pub sent : List Notice
   pub taken : ℕ
 
+-- whether its repository has the session
+abbrev pub session_lives : Session → Bool
+session_lives v = is_live v.stage
+
+-- whether the session has ended, so that its client may decide nothing by it
+abbrev pub session_ended : Session → Bool
+session_ended v = is_ended v.stage
+
+abbrev pub retired : Stage → Stage
+retired Live = Retired
+retired Retired = Retired
+retired Ended = Ended
+
 -- a new session of the client, at the place k
 abbrev pub begun : ℕ → ℕ → Session
-begun client k = record { client = client; live = true; began = k; pages = empty; acked = 0; sent = []; taken = 0 }
+begun client k = record { client = client; stage = Live; began = k; pages = empty; acked = 0; sent = []; taken = 0 }
 
 -- the request that an entry is, if it is one
 abbrev pub request_in : Entry → Option Request
@@ -75,14 +107,6 @@ request_in (Prepared q) = Some q
 request_in (Decided t c) = None
 request_in (Finished t c) = None
 request_in (Upgraded q) = Some q
-
-abbrev pub is_life : Entry → Bool
-is_life (Life n) = true
-is_life (One q) = false
-is_life (Prepared q) = false
-is_life (Decided t c) = false
-is_life (Finished t c) = false
-is_life (Upgraded q) = false
 
 -- what a request of the session s acknowledges
 abbrev pub acked_by : ℕ → ℕ → Option Request → ℕ
@@ -137,8 +161,8 @@ taken_after s taken (M (the.Took n place)) = cond (nat_eq n s) (taken + 1) taken
 taken_after s taken (M m) = taken
 taken_after s taken (E e) = taken
 
--- whether a live session is still there behind the item: a Life ends each, and a client that connects
--- anew its old one
+-- whether a session hasn't ended behind the item, where it hadn't before: a Life ends each, and a client
+-- that connects anew its old one
 abbrev pub lives_on : ℕ → Item → Bool
 lives_on client (E e) = cond (is_life e) false true
 lives_on client (M (the.Connected n c)) = cond (nat_eq c client) false true
@@ -148,7 +172,7 @@ lives_on client (M m) = true
 abbrev pub moved : Base → ℕ → State → Session → Item → Session
 moved b s S v i = record {
   client = v.client;
-  live = lives_on v.client i;
+  stage = cond (lives_on v.client i) Live Ended;
   began = v.began;
   pages = pages_after s S v.pages i;
   acked = acked_after s v.acked i;
@@ -167,11 +191,15 @@ is_silent None v = false
 is_silent (Some n) v = nat_lt n (unanswered v)
 
 abbrev pub or_retired : Base → Session → Session
-or_retired b v = cond (is_silent b.silence v) (record v { live = false }) v
+or_retired b v = cond (is_silent b.silence v) (record v { stage = retired v.stage }) v
 
--- a session behind one more item; one that has ended stays as it was
+-- a session that isn't live behind one more item: it may end, and nothing else changes
+abbrev pub rested : Session → Item → Session
+rested v i = record v { stage = cond (lives_on v.client i) v.stage Ended }
+
+-- a session behind one more item
 abbrev pub move : Base → ℕ → State → Item → Session → Session
-move b s S i v = cond v.live (or_retired b (moved b s S v i)) v
+move b s S i v = cond (session_lives v) (or_retired b (moved b s S v i)) (rested v i)
 
 -- what is known of the session s behind one more item
 abbrev pub meet : Base → ℕ → State → Option Session → Item → Option Session
@@ -214,7 +242,7 @@ not_below c a k = cond (nat_le c k && nat_le a k) (Some k) None
 
 abbrev pub invalid_in : Session → Option ℕ → Option ℕ → Option ℕ
 invalid_in v None last = None
-invalid_in v (Some c) last = cond v.live (option_and_then (not_below c v.acked) last) None
+invalid_in v (Some c) last = cond (session_lives v) (option_and_then (not_below c v.acked) last) None
 
 -- The invalid set of a session: for each object on one of its pages that another session wrote since
 -- the page was first there, where that isn't acknowledged, the place of the last such commit.

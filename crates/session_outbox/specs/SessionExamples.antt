@@ -1,9 +1,9 @@
 -- A small trace with two sessions, on which the definitions of sessions are computed. The transactions
 -- are of the first session; the second one reads.
 use Rattle.commit_log.specs.declared.entry.Entry.TheVariants.{Finished, Life}
-use Rattle.session_outbox.specs.Examples.{abroad, home, prepare_x, read_x, set_x, x}
+use Rattle.session_outbox.specs.Examples.{at, home, prepare_far, read_x, set_x, x}
 use Rattle.session_outbox.specs.History.{Base}
-use Rattle.session_outbox.specs.Session.{Notice, invalid, session, upto_of, waiting}
+use Rattle.session_outbox.specs.Session.{Notice, Stage, invalid, session, upto_of, waiting}
 use Rattle.session_outbox.specs.Trace.{E, Item, M, entries}
 use Rattle.session_outbox.specs.declared.mark.Mark.TheVariants as the
 use Rattle.std.specs.Option.{option_and_then, option_map}
@@ -14,16 +14,16 @@ use Rattle.thor_value.specs.declared.names.Ts.{Ts}
 -- both clients connect, the second one fetches page 0 and takes it, and the first one writes x
 abbrev pub written_since : List Item
 written_since =
-    M (the.Connected 1 1) ∷ M (the.Connected 2 2) ∷ M (the.Fetched 2 0 0) ∷ M (the.Took 2 0)
+    E (Life 1) ∷ M (the.Connected 1 1) ∷ M (the.Connected 2 2) ∷ M (the.Fetched 2 0 1) ∷ M (the.Took 2 1)
     ∷ E (read_x 1) ∷ E (set_x 2 7) ∷ []
 
 -- the second client takes the invalidation
 abbrev pub invalid_taken : List Item
-invalid_taken = written_since ++ M (the.Took 2 1) ∷ []
+invalid_taken = written_since ++ M (the.Took 2 2) ∷ []
 
 -- and acknowledges it with its next fetch
 abbrev pub acknowledged : List Item
-acknowledged = invalid_taken ++ M (the.Fetched 2 0 2) ∷ []
+acknowledged = invalid_taken ++ M (the.Fetched 2 0 3) ∷ []
 
 -- it connects anew
 abbrev pub connected_anew : List Item
@@ -31,15 +31,15 @@ connected_anew = written_since ++ M (the.Connected 3 2) ∷ []
 
 -- the repository is restarted
 abbrev pub restarted : List Item
-restarted = written_since ++ E (Life 1) ∷ []
+restarted = written_since ++ E (Life 2) ∷ []
 
 -- a base whose sessions may leave no news unacknowledged
 abbrev pub hasty : Base
 hasty = record home { silence = Some 0 }
 
--- of the second session: whether it is live, what waits for it, what it knows, and where x is invalid
-abbrev pub live_in : Base → List Item → Option Bool
-live_in b T = option_map (λ v. v.live) (session b T 2)
+-- of the second session: how far it has come, what waits for it, what it knows, and where x is invalid
+abbrev pub stage_in : Base → List Item → Option Stage
+stage_in b T = option_map (λ v. v.stage) (session b T 2)
 
 abbrev pub waiting_in : List Item → Option (List Notice)
 waiting_in T = option_map waiting (session home T 2)
@@ -50,18 +50,19 @@ known_in T = option_map upto_of (session home T 2)
 abbrev pub x_invalid_in : List Item → Option ℕ
 x_invalid_in T = option_and_then (λ v. invalid home (entries T) 2 v x) (session home T 2)
 
--- the first client fetches page 0 and takes it, and writes x by a transaction of the other repository
+-- At repository 1, the first client fetches page 0 and takes it, and writes the object there by a
+-- transaction that the other repository coordinates,
 abbrev pub own_prepared : List Item
-own_prepared = M (the.Connected 1 1) ∷ M (the.Fetched 1 0 0) ∷ M (the.Took 1 0) ∷ E (prepare_x (abroad 1) 7) ∷ []
+own_prepared = E (Life 1) ∷ M (the.Connected 1 1) ∷ M (the.Fetched 1 0 1) ∷ M (the.Took 1 1) ∷ E (prepare_far 1 7) ∷ []
 
 -- which has committed there,
-abbrev pub committed_abroad : Ts → Bool
-committed_abroad t = same_ts t (abroad 1)
+abbrev pub committed_there : Ts → Bool
+committed_there t = same_ts t (at 1)
 
 -- and then here
 abbrev pub own_finished : List Item
-own_finished = own_prepared ++ E (Finished (abroad 1) true) ∷ []
+own_finished = own_prepared ++ E (Finished (at 1) true) ∷ []
 
 -- or it is aborted here, as no sound commit over several repositories lets it be
 abbrev pub own_aborted : List Item
-own_aborted = own_prepared ++ E (Finished (abroad 1) false) ∷ []
+own_aborted = own_prepared ++ E (Finished (at 1) false) ∷ []

@@ -6,7 +6,7 @@ use Rattle.commit_log.specs.declared.request.Request.{Request}
 use Rattle.object_codec.specs.Spelling.{obj_bytes}
 use Rattle.session_outbox.specs.History.{Base, State, epoch_of, state}
 use Rattle.session_outbox.specs.Requests.{has_read, has_written, is_upgrade, written}
-use Rattle.session_outbox.specs.Session.{Session, invalid, session}
+use Rattle.session_outbox.specs.Session.{Session, invalid, session, session_lives}
 use Rattle.session_outbox.specs.Trace.{Item, entries}
 use Rattle.session_outbox.specs.Window.{Member, Window, first_decided, window}
 use Rattle.session_outbox.specs.declared.refusal.Refusal.TheVariants as refused
@@ -108,7 +108,7 @@ full b W q = option_or (full_of_undecided W) (full_of_writes b q)
 -- the refusal of q, which comes from the session s, where that stands so
 abbrev pub verdict_by : Base → List Entry → ℕ → Request → Option Session → Option Refusal
 verdict_by b H s q None = Some (refused.Gone s)
-verdict_by b H s q (Some v) = cond v.live (first_refusal (state b H) (window b H) (stale b H s v q) (full b (window b H) q) q) (Some (refused.Gone s))
+verdict_by b H s q (Some v) = cond (session_lives v) (first_refusal (state b H) (window b H) (stale b H s v q) (full b (window b H) q) q) (Some (refused.Gone s))
 
 -- What a repository with this trace answers to the request q of the session s: the first of Gone,
 -- Blocked, Epoch, TooOld, Stale, Earlier, Later, Full of the window and Full of the buffer that holds,

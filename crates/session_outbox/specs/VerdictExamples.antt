@@ -9,16 +9,16 @@ use Rattle.session_outbox.specs.Verdict.{verdict}
 use Rattle.session_outbox.specs.Window.{Member, Window}
 use Rattle.session_outbox.specs.declared.refusal.Refusal.{Refusal}
 use Rattle.std.specs.List.{range_with_len}
-use Rattle.std.specs.Prelude.{Bool, List, Option, [], false, map, ℕ, ◌++◌, ◌∷◌}
+use Rattle.std.specs.Prelude.{Bool, List, Option, [], false, map, ℕ, ◌+◌, ◌++◌, ◌∷◌}
 use Rattle.thor_value.specs.Names.{zero_ts}
 use Rattle.thor_value.specs.declared.names.Ts.{Ts}
 
 -- the second client reads x, or writes 9 there, at the time n, and knows the places below upto
 abbrev pub second_reads : ℕ → ℕ → Request
-second_reads n upto = record (reading_x n) { session = 2; upto = upto }
+second_reads n upto = record (reading_x n) { who = record { client = 2; index = 1 }; session = 2; upto = upto }
 
 abbrev pub second_sets : ℕ → ℕ → Request
-second_sets n upto = record (setting_x n 9) { session = 2; upto = upto }
+second_sets n upto = record (setting_x n 9) { who = record { client = 2; index = 1 }; session = 2; upto = upto }
 
 -- the answer to a request of the second client
 abbrev pub answer_in : Base → List Item → Request → Option Refusal
@@ -34,19 +34,23 @@ with_limit n = record home { limit = n }
 
 -- another transaction of the first client has prepared a write of x, and is undecided
 abbrev pub undecided_since : List Item
-undecided_since = written_since ++ E (prepare_x (at 3) 8) ∷ []
+undecided_since = written_since ++ E (prepare_x 3 8) ∷ []
 
 -- the same, where the second client has acknowledged the first write
 abbrev pub undecided_then : List Item
-undecided_then = acknowledged ++ E (prepare_x (at 3) 8) ∷ []
+undecided_then = acknowledged ++ E (prepare_x 3 8) ∷ []
 
 -- the first client's transaction with a greater timestamp prepared a write of x
 abbrev pub later_then : List Item
-later_then = acknowledged ++ E (prepare_x (at 9) 8) ∷ []
+later_then = acknowledged ++ E (prepare_x 9 8) ∷ []
 
 -- a member that reads x, and a window with this many undecided ones behind a first one
 abbrev pub member_at : ℕ → Bool → Ts × Member
 member_at n decided = (at n, record { decided = decided; request = reading_x n })
 
+-- the same, where the first one's time is t
+abbrev pub crowd_at : ℕ → ℕ → Bool → Window
+crowd_at t n decided = record { threshold = zero_ts; members = record { pairs = member_at t decided ∷ map (λ k. member_at k false) (range_with_len (t + 1) n) } }
+
 abbrev pub crowd : ℕ → Bool → Window
-crowd n decided = record { threshold = zero_ts; members = record { pairs = member_at 0 decided ∷ map (λ k. member_at k false) (range_with_len 1 n) } }
+crowd n decided = crowd_at 0 n decided

@@ -2,22 +2,25 @@
 
 ghost use Rattle.commit_log.specs.declared.entry.Entry.TheVariants.{One};
 ghost use Rattle.session_outbox.specs.Checking.{is_sound};
-ghost use Rattle.session_outbox.specs.Examples.{at, home, x};
+ghost use Rattle.session_outbox.specs.Examples.{at, home, reading_x, x};
 ghost use Rattle.session_outbox.specs.SessionExamples.{acknowledged, connected_anew, invalid_taken, restarted, written_since};
 ghost use Rattle.session_outbox.specs.Trace.{entries};
 ghost use Rattle.session_outbox.specs.Verdict.{bytes_of, full_of_undecided, verdict};
-ghost use Rattle.session_outbox.specs.VerdictExamples.{advanced, answer_in, crowd, later_then, second_reads, second_sets, undecided_since, undecided_then, with_limit};
+ghost use Rattle.session_outbox.specs.VerdictExamples.{advanced, answer_in, crowd, crowd_at, later_then, second_reads, second_sets, undecided_since, undecided_then, with_limit};
+ghost use Rattle.session_outbox.specs.Window.{enter, with_room};
 ghost use Rattle.session_outbox.specs.declared.refusal.Refusal.TheVariants as refused;
+ghost use Rattle.thor_value.specs.FiniteMap.{get, len};
+ghost use Rattle.thor_value.specs.Names.{zero_ts};
 ghost use Rattle.std.specs.Prelude.{◌≡◌, [], ◌∷◌, ◌++◌, None, Some, false, take, true};
 
 /// A copy that another session has written since is stale until its client has taken the message of
 /// it, or has acknowledged it.
 pub fn stale_examples()
-    ensures nothing_written { answer_in home (take 5 written_since) (second_reads 3 0) ≡ None }
-    ensures stale { answer_in home written_since (second_reads 3 0) ≡ Some (refused.Stale x 1) }
-    ensures stale_until_known { answer_in home invalid_taken (second_reads 3 1) ≡ Some (refused.Stale x 1) }
-    ensures known { answer_in home invalid_taken (second_reads 3 2) ≡ None }
-    ensures sound_with_it { is_sound home (entries invalid_taken ++ One (second_reads 3 2) ∷ []) ≡ true }
+    ensures nothing_written { answer_in home (take 6 written_since) (second_reads 3 0) ≡ None }
+    ensures stale { answer_in home written_since (second_reads 3 0) ≡ Some (refused.Stale x 2) }
+    ensures stale_until_known { answer_in home invalid_taken (second_reads 3 2) ≡ Some (refused.Stale x 2) }
+    ensures known { answer_in home invalid_taken (second_reads 3 3) ≡ None }
+    ensures sound_with_it { is_sound home (entries invalid_taken ++ One (second_reads 3 3) ∷ []) ≡ true }
     ensures acknowledged { answer_in home acknowledged (second_reads 3 0) ≡ None }
     ensures no_page { verdict home written_since 1 (second_reads 3 0) ≡ None }
 {}
@@ -33,7 +36,7 @@ pub fn gone_examples()
 pub fn order_examples()
     ensures gone_first { answer_in advanced restarted (second_reads 3 0) ≡ Some (refused.Gone 2) }
     ensures too_old_before_stale { answer_in advanced written_since (second_reads 3 0) ≡ Some (refused.TooOld (at 5)) }
-    ensures stale_before_earlier { answer_in home undecided_since (second_reads 4 0) ≡ Some (refused.Stale x 1) }
+    ensures stale_before_earlier { answer_in home undecided_since (second_reads 4 0) ≡ Some (refused.Stale x 2) }
     ensures earlier { answer_in home undecided_then (second_reads 4 0) ≡ Some (refused.Earlier (at 3) x) }
     ensures later_before_full { answer_in (with_limit 0) later_then (second_sets 4 0) ≡ Some (refused.Later (at 9) x) }
 {}
@@ -46,9 +49,14 @@ pub fn buffer_examples()
     ensures reads { answer_in (with_limit 0) acknowledged (second_reads 3 0) ≡ None }
 {}
 
-/// A window has room for one more unless it has 1,024 members and all are undecided.
+/// A window has room for one more unless it has 1,024 members and all are undecided. Where it is full, the
+/// decided member with the least timestamp leaves, and the threshold rises to it.
 pub fn window_room_examples()
     ensures one_less { full_of_undecided (crowd 1022 false) ≡ None }
     ensures full { full_of_undecided (crowd 1023 false) ≡ Some (refused.Full 1024) }
     ensures one_decided { full_of_undecided (crowd 1023 true) ≡ None }
+    ensures evicted { get (with_room (crowd_at 1 1023 true)).members (at 1) ≡ None }
+    ensures raised { (with_room (crowd_at 1 1023 true)).threshold ≡ at 1 }
+    ensures full_again { len (enter (crowd_at 1 1023 true) (reading_x 2000) false).members ≡ 1024 }
+    ensures kept { (with_room (crowd_at 1 1022 true)).threshold ≡ zero_ts }
 {}

@@ -6,11 +6,13 @@ ghost use Rattle.commit_log.specs.declared.entry.Entry.TheVariants.{Life, One, P
 ghost use Rattle.commit_log.specs.declared.entry.Entry.{Entry};
 ghost use Rattle.commit_log.specs.declared.request.Request.{Request};
 ghost use Rattle.session_outbox.specs.Checking.{is_sound};
-ghost use Rattle.session_outbox.specs.Covers.{Covers};
+ghost use Rattle.session_outbox.specs.Covers.{Covers, HasRoom};
 ghost use Rattle.session_outbox.specs.History.{Base, Standing, Open, commit_of, commits, epoch_of, objects_at, put, stands, state};
-ghost use Rattle.session_outbox.specs.Laws.{CommitsListed, Continues, CreatedOnce, MadeByCommits, ReadsLast, Recorded, Stays, UpgradesFence, WritersRise};
+ghost use Rattle.session_outbox.specs.Laws.{ComesFrom, CommitsListed, Continues, CreatedOnce, KeepsBase, LivesFollow, MadeByCommits, ReadsLast, Recorded, Stays, UpgradesAreBare, UpgradesFence, WritersRise};
+ghost use Rattle.session_outbox.specs.Opening.{IsBase};
 ghost use Rattle.session_outbox.specs.Order.{HasOrder};
-ghost use Rattle.session_outbox.specs.Sound.{Accepts, IsAlone, Vouches, owes, sound};
+ghost use Rattle.session_outbox.specs.Sound.{Accepts, Vouches, owes, sound};
+ghost use Rattle.session_outbox.specs.Participants.{IsAlone, IsShared};
 ghost use Rattle.session_outbox.specs.Requests.{is_upgrade};
 ghost use Rattle.session_outbox.specs.Trace.{Item, entries};
 ghost use Rattle.session_outbox.specs.Verdict.{first_refusal, verdict};
@@ -18,9 +20,13 @@ ghost use Rattle.session_outbox.specs.Window.{slide, window};
 ghost use Rattle.session_outbox.specs.declared.refusal.Refusal.{Refusal};
 ghost use Rattle.std.specs.Bool.{Decides};
 ghost use Rattle.std.specs.List.{filter};
-ghost use Rattle.std.specs.Option.{IfSome, IsSomeAnd};
+ghost use Rattle.std.specs.Option.{IfSome, IsSomeAnd, option_or};
 ghost use Rattle.std.specs.Prelude.{List, None, Option, [], ◌∷◌, ◌++◌, ℕ, ◌≡◌, ◌≢◌, ◌<◌, ◌≤◌, false, length, nat_lt, take, true};
+ghost use Rattle.thor_value.specs.FiniteMap.{Map, empty, get, overwrite};
+ghost use Rattle.thor_value.specs.Names.{oref_cmp};
+ghost use Rattle.thor_value.specs.declared.names.Oref.{Oref};
 ghost use Rattle.thor_value.specs.declared.names.Ts.{Ts};
+ghost use Rattle.thor_value.specs.declared.values.Obj.{Obj};
 
 /// A history grows at its end, by one step of the fold, and what it was at a place stays. The commits
 /// below a place are those of the list of commits whose places are below.
@@ -41,6 +47,11 @@ pub fn sound_histories_grow()
     ensures owed { (b : Base) (H : List Entry) (e : Entry) → sound b (H ++ e ∷ []) → owes b (state b H) e }
     ensures grown { (b : Base) (H : List Entry) (e : Entry) → sound b H → owes b (state b H) e →
         sound b (H ++ e ∷ []) }
+{}
+
+/// A repository's lives follow one another.
+pub fn lives_follow()
+    ensures { (b : Base) (H : List Entry) → sound b H → LivesFollow b H }
 {}
 
 /// The test of a history decides whether it is sound.
@@ -79,6 +90,14 @@ pub fn commits_make_the_state()
     ensures { (b : Base) (H : List Entry) → MadeByCommits b H }
 {}
 
+/// An object at the end of a history is as the last commit wrote it that wrote it, or else the base's.
+/// What a list of writes leaves at a name is its last write there, or what stood there.
+pub fn objects_are_written()
+    ensures source { (b : Base) (H : List Entry) (x : Oref) → sound b H → ComesFrom b H x }
+    ensures behind { (x : Oref) (m : Map oref_cmp Obj) (ws : List (Oref × Obj)) →
+        get (overwrite m ws) x ≡ option_or (get {R = oref_cmp} (overwrite empty ws) x) (get m x) }
+{}
+
 /// Writers of one object come in the same order by place and by timestamp. At most one of them is
 /// undecided, and it is above all that committed.
 pub fn writers_rise()
@@ -96,6 +115,16 @@ pub fn upgrades_fence()
     ensures { (b : Base) (H : List Entry) → sound b H → UpgradesFence b H }
 {}
 
+/// An upgrade changes no object and is every repository's.
+pub fn upgrades_are_bare()
+    ensures { (b : Base) (H : List Entry) → sound b H → UpgradesAreBare b H }
+{}
+
+/// What holds of the objects of a base, and of its last single commits, holds of each sound history's.
+pub fn bases_are_kept()
+    ensures { (b : Base) (H : List Entry) → IsBase b → sound b H → KeepsBase b H }
+{}
+
 /// A created object wasn't there, and nobody before wrote it.
 pub fn created_objects_are_new()
     ensures { (b : Base) (H : List Entry) → sound b H → CreatedOnce b H }
@@ -108,11 +137,12 @@ pub fn sound_histories_have_order()
 
 /// The window of a history grows by one step of its fold, and has all that a request has to be
 /// validated against: each undecided transaction, and of those that committed each that is above the
-/// threshold.
+/// threshold. There are at most as many of them as a validation queue holds.
 pub fn windows_cover()
     ensures step { (b : Base) (H : List Entry) (e : Entry) →
         window b (H ++ e ∷ []) ≡ slide b (state b H) (window b H) e }
     ensures covers { (b : Base) (H : List Entry) → sound b H → Covers b H }
+    ensures room { (b : Base) (H : List Entry) → sound b H → HasRoom b H }
 {}
 
 /// A request that comes once and that isn't refused has seen the installed upgrades and can come behind
@@ -125,7 +155,7 @@ pub fn verdicts_are_sound()
         first_refusal (state b H) (window b H) stale full q ≡ None →
         (q.epoch ≡ epoch_of (state b H)) × ((t : Ts) → IfSome (stands b H t) (Accepts q t)) }
     ensures prepared { (b : Base) (T : List Item) (s : ℕ) (q : Request) → sound b (entries T) →
-        Vouches b (state b (entries T)) q → verdict b T s q ≡ None →
+        Vouches b (state b (entries T)) q → IsShared q → verdict b T s q ≡ None →
         Continues b (entries T) (Prepared q) }
     ensures one { (b : Base) (T : List Item) (s : ℕ) (q : Request) → sound b (entries T) →
         Vouches b (state b (entries T)) q → IsAlone b q → is_upgrade q ≡ false →

@@ -3,10 +3,11 @@
 ghost use Rattle.commit_log.specs.declared.entry.Entry.{Entry};
 ghost use Rattle.commit_log.specs.declared.request.Request.{Request};
 ghost use Rattle.session_outbox.specs.Requests.{written};
-ghost use Rattle.session_outbox.specs.Current.{InStep, IsCurrent, IsOwnWrite, IsRightOrStale, MaySettle, NoUpgrades, NoneAborted, OthersOrSame, OthersSince, OthersWrite, Passes, RightAt, Takes, Tells, commits_in, is_taking, names_invalid};
+ghost use Rattle.session_outbox.specs.Current.{InStep, IsCurrent, IsOwnWrite, IsRightOrStale, NoneAborted, OthersOrSame, OthersSince, OthersWrite, Passes, RightAt, Takes, Tells, commits_in, is_taking, names_invalid};
 ghost use Rattle.session_outbox.specs.History.{Base, IsCommitted, Standing, commit_of, objects_at, stands, state, writers};
+ghost use Rattle.session_outbox.specs.Outcomes.{MaySettle};
 ghost use Rattle.session_outbox.specs.Messages.{KeepsOrder, WaitsByPlace};
-ghost use Rattle.session_outbox.specs.Session.{Notice, Page, Session, acked_after, bound, meet, session, upto_of};
+ghost use Rattle.session_outbox.specs.Session.{Notice, Page, Session, acked_after, bound, meet, session, session_lives, upto_of};
 ghost use Rattle.session_outbox.specs.Sound.{sound};
 ghost use Rattle.session_outbox.specs.declared.mark.Mark.TheVariants as the;
 ghost use Rattle.session_outbox.specs.declared.mark.Mark.{Mark};
@@ -37,7 +38,7 @@ pub fn messages_are_in_order()
 /// sessions alone have written since, is right now or is in the invalid set.
 pub fn copies_are_current()
     ensures { (b : Base) (H : List Entry) (s : ℕ) (v : Session) (committed : Ts → Bool) (x : Oref) (o : Obj) →
-        v.live ≡ true → InStep v → IsCurrent b H s v committed x o → IsRightOrStale b H s v committed x o }
+        session_lives v ≡ true → InStep v → IsCurrent b H s v committed x o → IsRightOrStale b H s v committed x o }
 {}
 
 /// A copy that was right at a place stays so while its client takes no message and other sessions
@@ -62,7 +63,7 @@ pub fn copies_stay_right()
 /// A live session was told of each commit by another session of an object on one of its pages, from
 /// the page's first fetch or grant on; an upgrade's commit is told as such.
 pub fn commits_are_told()
-    ensures { (b : Base) (T : List Item) (s : ℕ) (v : Session) → session b T s ≡ Some v → v.live ≡ true →
+    ensures { (b : Base) (T : List Item) (s : ℕ) (v : Session) → session b T s ≡ Some v → session_lives v ≡ true →
         (x : Oref) → All (Tells s v x) (writers b (entries T) x) }
 {}
 
@@ -71,7 +72,7 @@ pub fn commits_are_told()
 /// sessions alone have written it since.
 pub fn messages_keep_copies()
     ensures kept { (b : Base) (T : List Item) (s : ℕ) (v w : Session) (place : ℕ) (m : Notice) (x : Oref) (o : Obj) (n : ℕ) →
-        Takes b T s v w place m → names_invalid x m ≡ false → NoUpgrades (writers b (entries T) x) →
+        Takes b T s v w place m → names_invalid x m ≡ false → sound b (entries T) →
         RightAt b (entries T) s v x o n →
         RightAt b (entries (T ++ M (the.Took s place) ∷ [])) s w x o (max n (bound m)) }
     ensures brought { (b : Base) (T : List Item) (s : ℕ) (v w : Session) (place page k : ℕ) (x : Oref) (o : Obj) →
@@ -113,7 +114,7 @@ pub fn current_copies_stay()
         OthersOrSame s x o (commits_in b (entries T) i) →
         IsCurrent b (entries T) s v committed x o → IsCurrent b (entries (T ++ i ∷ [])) s w committed x o }
     ensures taken { (b : Base) (T : List Item) (s : ℕ) (v w : Session) (place : ℕ) (m : Notice) (committed : Ts → Bool) (x : Oref) (o : Obj) →
-        Takes b T s v w place m → names_invalid x m ≡ false → NoUpgrades (writers b (entries T) x) →
+        Takes b T s v w place m → names_invalid x m ≡ false → sound b (entries T) →
         IsCurrent b (entries T) s v committed x o →
         IsCurrent b (entries (T ++ M (the.Took s place) ∷ [])) s w committed x o }
     ensures brought { (b : Base) (T : List Item) (s : ℕ) (v w : Session) (place page k : ℕ) (committed : Ts → Bool) (x : Oref) (o : Obj) →

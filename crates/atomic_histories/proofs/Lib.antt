@@ -1,0 +1,4 @@
+pub mod Parts
+pub mod Grown
+pub mod Staying
+pub mod Traced

@@ -1,0 +1,4 @@
+pub mod AcrossExamples
+pub mod AtomicTest
+pub mod Growing
+pub mod Several

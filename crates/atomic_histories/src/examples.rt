@@ -1,0 +1,52 @@
+//! Small runs of two repositories (`specs/AcrossExamples.antt`): each history is sound by itself, and each
+//! clause of what two-phase commit keeps is needed.
+
+ghost use Rattle.atomic_histories.specs.AcrossExamples.{abroad, at, box, crossing, dropped, hasty, parted, unheard, z};
+ghost use Rattle.atomic_histories.specs.AtomicTest.{is_agreed, is_everywhere, is_given_up, is_known_there};
+ghost use Rattle.atomic_histories.specs.Several.{committed};
+ghost use Rattle.session_outbox.specs.Checking.{is_sound};
+ghost use Rattle.session_outbox.specs.History.{objects_at};
+ghost use Rattle.std.specs.Prelude.{Some, ◌&&◌, ◌≡◌, true, false};
+ghost use Rattle.thor_value.specs.FiniteMap.{get};
+
+/// Two transactions that cross, of which one is aborted, and a third that reads what the other wrote.
+pub fn crossing_transactions()
+    ensures sound { (is_sound (crossing.base 0) (crossing.history 0) && is_sound (crossing.base 1) (crossing.history 1)) ≡ true }
+    ensures atomic { (is_known_there crossing && is_everywhere crossing && is_agreed crossing && is_given_up crossing) ≡ true }
+    ensures first { committed crossing (at 1) ≡ true }
+    ensures second { committed crossing (at 2) ≡ false }
+    ensures third { committed crossing (at 3) ≡ true }
+{}
+
+/// What is committed elsewhere and aborted by its coordinator: another transaction has read it.
+pub fn needs_agreement()
+    ensures sound { (is_sound (parted.base 0) (parted.history 0) && is_sound (parted.base 1) (parted.history 1)) ≡ true }
+    ensures rest { (is_known_there parted && is_everywhere parted && is_given_up parted) ≡ true }
+    ensures broken { is_agreed parted ≡ false }
+    ensures met { get (objects_at (parted.base 1) (parted.history 1) 3) z ≡ Some (box 6) }
+    ensures committed { committed parted (at 1) ≡ false }
+{}
+
+/// What is aborted elsewhere and committed by its coordinator: another transaction has missed it.
+pub fn needs_giving_up()
+    ensures sound { (is_sound (dropped.base 0) (dropped.history 0) && is_sound (dropped.base 1) (dropped.history 1)) ≡ true }
+    ensures rest { (is_known_there dropped && is_everywhere dropped && is_agreed dropped) ≡ true }
+    ensures broken { is_given_up dropped ≡ false }
+    ensures met { get (objects_at (dropped.base 1) (dropped.history 1) 3) z ≡ Some (box 0) }
+    ensures committed { committed dropped (at 1) ≡ true }
+{}
+
+/// What is committed elsewhere and unknown to its coordinator.
+pub fn needs_the_coordinator()
+    ensures sound { (is_sound (unheard.base 0) (unheard.history 0) && is_sound (unheard.base 1) (unheard.history 1)) ≡ true }
+    ensures rest { (is_everywhere unheard && is_given_up unheard) ≡ true }
+    ensures broken { is_known_there unheard ≡ false }
+{}
+
+/// What committed before each participant had prepared it.
+pub fn needs_all_participants()
+    ensures sound { (is_sound (hasty.base 0) (hasty.history 0) && is_sound (hasty.base 1) (hasty.history 1)) ≡ true }
+    ensures rest { (is_known_there hasty && is_agreed hasty && is_given_up hasty) ≡ true }
+    ensures broken { is_everywhere hasty ≡ false }
+    ensures other { committed hasty (abroad 2) ≡ true }
+{}

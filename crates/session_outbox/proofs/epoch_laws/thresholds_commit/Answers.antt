@@ -1,0 +1,5 @@
+use Rattle.session_outbox.proofs.Thresholds.{thresholds}
+use Rattle.session_outbox.proofs.epoch_laws.thresholds_commit.Goals as goal
+
+pub returns : goal.returns
+returns c = thresholds

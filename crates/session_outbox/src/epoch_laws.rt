@@ -1,0 +1,30 @@
+//! What is proved of epochs and of thresholds.
+
+ghost use Rattle.commit_log.specs.declared.entry.Entry.{Entry};
+ghost use Rattle.session_outbox.specs.Epochs.{BringsOldVersions, FencesCount, TellsEpochs, ThresholdsCommit};
+ghost use Rattle.session_outbox.specs.History.{Base};
+ghost use Rattle.session_outbox.specs.Opening.{IsBase};
+ghost use Rattle.session_outbox.specs.Session.{session};
+ghost use Rattle.session_outbox.specs.Sound.{sound};
+ghost use Rattle.session_outbox.specs.Trace.{Item, entries};
+ghost use Rattle.std.specs.Option.{IfSome};
+ghost use Rattle.std.specs.Prelude.{List, ℕ};
+
+/// A request's epoch is the base's plus the upgrades before it, by place and by timestamp alike.
+pub fn fences_count()
+    ensures { (b : Base) (H : List Entry) → sound b H → FencesCount b H }
+{}
+
+/// The messages to a session tell it each epoch before what is of that epoch. So no page brings a version
+/// that its client hasn't been told of.
+pub fn epochs_are_told()
+    ensures told { (b : Base) (T : List Item) (s : ℕ) → IfSome (session b T s) (λ v. TellsEpochs b (entries T) v) }
+    ensures brought { (b : Base) (T : List Item) (s : ℕ) → IsBase b → sound b (entries T) →
+        IfSome (session b T s) (λ v. BringsOldVersions b (entries T) v) }
+{}
+
+/// The window's threshold and the greatest timestamp are those of transactions that committed, or the
+/// base's.
+pub fn thresholds_commit()
+    ensures { (b : Base) (H : List Entry) → sound b H → ThresholdsCommit b H }
+{}
