@@ -1,0 +1,5 @@
+mod Finding
+mod Marking
+mod Restoring
+mod Touching
+mod Walking

@@ -1,0 +1,4 @@
+pub mod Bounds
+pub mod Invalid
+pub mod Sets
+pub mod Undoing
