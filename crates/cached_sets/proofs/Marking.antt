@@ -1,9 +1,9 @@
 -- Marks that are taken back leave the sets as they were.
-use Rattle.cached_sets.proofs.Restoring.{remove_none, restored_new, restored_old, set_back, set_found, set_same, set_twice}
-use Rattle.cached_sets.specs.Invalid.{Invalid, Invalids, change, mark, replace}
+use Rattle.cached_sets.proofs.Restoring.{remove_none, restored_new, restored_old, set_back, set_found, set_same}
+use Rattle.cached_sets.specs.Invalid.{Invalid, Invalids, replace}
 use Rattle.cached_sets.specs.Undoing.{put_back, undo, unmark}
 use Rattle.cached_sets.specs.declared.marked.Marked.{Marked}
-use Rattle.std.proofs.Common.{◌≡◌, List, [], ◌++◌, ◌∷◌, ap, refl, sym, ◌∙◌}
+use Rattle.std.proofs.Common.{◌≡◌, List, [], ◌++◌, ◌∷◌, ap, refl, ◌∙◌}
 use Rattle.std.specs.BTreeMap.{is_at}
 use Rattle.std.specs.Ordering.{nat_cmp}
 use Rattle.std.specs.Prelude.{None, Option, Some, ℕ}

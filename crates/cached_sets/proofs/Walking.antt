@@ -1,7 +1,7 @@
 -- What is left of a walk.
 use Rattle.link_table.specs.Pairs.{behind, first, next}
-use Rattle.std.proofs.Common.{◌≡◌, Bool, List, [], ◌∷◌, ap, cond, false, nat_eq, refl, sym, true, ◌∙◌, ℕ}
-use Rattle.std.proofs.lemmas.Bool.{eq-eqb, eqb-true}
+use Rattle.std.proofs.Common.{◌≡◌, Bool, List, [], ◌∷◌, ap, cond, false, nat_eq, refl, true, ℕ}
+use Rattle.std.proofs.lemmas.Bool.{eq-eqb}
 use Rattle.std.specs.List.{AllByRecursion, IsDistinct}
 use Rattle.std.specs.Prelude.{None, Option, Some}
 

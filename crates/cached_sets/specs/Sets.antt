@@ -4,7 +4,6 @@ use Rattle.cached_sets.specs.Invalid.{Invalids, change, first_stale, from, mark,
 use Rattle.link_table.specs.Pairs as pairs
 use Rattle.link_table.specs.Pairs.{is_linked, lefts}
 use Rattle.std.specs.List.{filter, flat_map, fold}
-use Rattle.std.specs.Ordering.{nat_cmp}
 use Rattle.std.specs.Prelude.{List, Option, [], cond, map, nat_eq, not, ℕ}
 use Rattle.thor_value.specs.FiniteMap.{empty, has, insert, remove}
 use Rattle.thor_value.specs.declared.names.Oref.{Oref}

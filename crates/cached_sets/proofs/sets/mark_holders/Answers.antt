@@ -7,7 +7,7 @@ use Rattle.link_table.specs.Pairs.{lefts}
 use Rattle.std.proofs.Common.{List, [], ap, arith, false, map, nat_eq, sym, true, ◌∙◌, ◌∷◌, ◌≡◌, ℕ}
 use Rattle.std.proofs.lemmas.Bool.Decides.{nat_tests}
 use Rattle.std.proofs.lemmas.List.{append-nil}
-use Rattle.std.specs.Prelude.{None, Some}
+use Rattle.std.specs.Prelude.{Some}
 use Rattle.thor_value.specs.declared.names.Oref.{Oref}
 
 pub returns-in_err-mark-clause-undone : goal.returns-in_err-mark-clause-undone

@@ -6,7 +6,7 @@ use Rattle.cached_sets.specs.Undoing.{undo}
 use Rattle.link_table.specs.Pairs.{lefts}
 use Rattle.std.proofs.Common.{length, map, nat_eq, ◌≡◌}
 use Rattle.std.specs.List.{filter}
-use Rattle.std.specs.Prelude.{None, not}
+use Rattle.std.specs.Prelude.{not}
 
 abbrev pub invariant-loop-session : goal.invariant-loop-session
 invariant-loop-session l = record {

@@ -1,7 +1,6 @@
 use Rattle.cached_sets.proofs.Restoring.{set_none}
 use Rattle.cached_sets.proofs.invalid_set.InvalidSet.put_back.Goals as goal
 use Rattle.cached_sets.specs.Invalid.{Invalid}
-use Rattle.cached_sets.specs.Undoing.{put_back}
 use Rattle.std.proofs.Common.{List, ap, sym, ◌∙◌, ◌≡◌, ℕ}
 use Rattle.std.specs.BTreeMap.{is_at}
 use Rattle.std.specs.Option.{option_copied_mut}

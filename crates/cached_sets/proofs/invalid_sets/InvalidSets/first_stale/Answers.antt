@@ -1,10 +1,10 @@
 use Rattle.cached_sets.proofs.Finding.{nothing}
 use Rattle.cached_sets.proofs.invalid_sets.InvalidSets.first_stale.Goals as goal
-use Rattle.cached_sets.specs.Invalid.{Invalids, first_stale}
+use Rattle.cached_sets.specs.Invalid.{Invalids}
 use Rattle.std.proofs.Common.{ap, sym, ◌∙◌, ◌≡◌}
-use Rattle.std.specs.Option.{option_copied, unwrap_or}
+use Rattle.std.specs.Option.{option_copied}
 use Rattle.std.specs.Prelude.{None}
-use Rattle.thor_value.specs.FiniteMap.{empty, get}
+use Rattle.thor_value.specs.FiniteMap.{get}
 
 pub returns-in-None : goal.returns-in-None
 returns-in-None c =

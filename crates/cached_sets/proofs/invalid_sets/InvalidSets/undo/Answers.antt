@@ -4,7 +4,7 @@ use Rattle.cached_sets.specs.Invalid.{Invalid, Invalids, changed, replace}
 use Rattle.cached_sets.specs.Undoing.{put_back, undo, unmark}
 use Rattle.std.proofs.Common.{List, ap, sym, ◌∙◌, ◌≡◌, ℕ}
 use Rattle.std.specs.Option.{option_copied_mut}
-use Rattle.std.specs.Prelude.{None, Option, Some}
+use Rattle.std.specs.Prelude.{None, Some}
 use Rattle.thor_value.specs.FiniteMap.{get}
 
 pub loop-mark-preserved-in-Some-get_mut : goal.loop-mark-preserved-in-Some-get_mut

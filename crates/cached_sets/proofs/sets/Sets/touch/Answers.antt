@@ -2,7 +2,7 @@ use Rattle.cached_sets.proofs.Touching.{on_ok, touches_from}
 use Rattle.cached_sets.proofs.sets.Sets.touch.Goals as goal
 use Rattle.cached_sets.specs.Invalid.{Invalids}
 use Rattle.cached_sets.specs.Sets.{Sets, marked, touches}
-use Rattle.std.proofs.Common.{List, [], ap, drop, sym, ◌+◌, ◌∙◌, ◌∷◌, ◌≡◌, ℕ}
+use Rattle.std.proofs.Common.{List, [], ap, drop, sym, ◌+◌, ◌∙◌, ◌∷◌, ℕ}
 use Rattle.std.specs.Map.{keys_of}
 use Rattle.thor_value.specs.declared.names.Oref.{Oref}
 use Rattle.thor_value.specs.declared.values.Obj.{Obj}
