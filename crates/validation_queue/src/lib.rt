@@ -12,5 +12,5 @@ mod queue;
 
 pub use clash::Clash;
 pub use member::Member;
-pub use name_set::{NameSet, is_in_order};
+pub use name_set::{NameSet, is_in_order, is_one_of};
 pub use queue::Queue;
