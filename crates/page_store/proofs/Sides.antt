@@ -117,3 +117,7 @@ module _ (disk put : List ℕ) (page side : ℕ) (contents : Contents) (number :
 
 pub same_bytes : (a b : List ℕ) → Some a ≡ Some b → a ≡ b
 same_bytes a b is = cc
+
+pub keeps_outside : (sides : List (ℕ × ℕ)) (page side : ℕ) (disk image : List ℕ) → SidesFit sides → ReachesSides sides disk → side ≡ next_side (side_in_use sides page) → Outside (place_of page side) page_size disk image → KeepsSides sides disk image
+keeps_outside sides page side disk image fit reaches is outside =
+    keeps_sides sides page disk image fit reaches (subst (λ (s : ℕ). Outside (place_of page s) page_size disk image) is outside)

@@ -150,6 +150,7 @@ impl PageStore {
         ensures side { IfOk result (λ side. side ≡ next_side (side_in_use self.old.sides page.now.number)) }
         ensures written { IfOk result (λ side. WhereTold (P.disks parts.new) 2 (λ disk. Spells (side_bytes disk page.now.number side) page.now.number page.now)) }
         ensures content { IfOk result (λ side. WhereTold (P.disks parts.old) 2 (λ disk. (P.disks parts.new).content 2 ≡ Some (written disk (place_of page.now.number side) (page_bytes page.now)))) }
+        ensures kept { OnOk result (WhereTold (P.disks parts.old) 2 (λ before. WhereTold (P.disks parts.new) 2 (λ after. KeepsSides self.old.sides before after))) }
         ensures settled { OnOk result (IsSettled (P.disks parts.new) 2) }
         ensures agrees { OnOk result (WhereTold (P.disks parts.new) 2 (Agrees self.new)) }
         ensures sides { self.new.sides ≡ self.old.sides }

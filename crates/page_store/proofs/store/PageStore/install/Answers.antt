@@ -5,7 +5,7 @@ use Rattle.page_format.specs.Pages.{page_size}
 use Rattle.page_store.specs.Objects.{Spells}
 use Rattle.page_store.specs.Sides.{KeepsSides, place_of, side_bytes}
 use Rattle.page_store.specs.Store.{Store, Agrees}
-use Rattle.page_store.proofs.Sides.{keeps_none, keeps_torn, told_before, spells_written, outside_written, same_bytes}
+use Rattle.page_store.proofs.Sides.{keeps_none, keeps_torn, told_before, spells_written, outside_written, same_bytes, keeps_outside}
 use Rattle.page_store.proofs.Stores.{staging, staged_store, agrees_staging}
 use Rattle.page_store.proofs.store.PageStore.install.Goals as goal
 
@@ -50,3 +50,13 @@ returns-clause-agrees g c = λ final now.
     (spells_written was.0 c.as_slice.result.now page.number c.in_ok-side.side page refl put c.requires.objects) in
     subst (λ (s : Store). Agrees s final) (staged_store c.args.self.now c.stage.new.self page c.in_ok-side.side c.stage.ensures.sides c.in_ok-side.ensures.held c.in_ok-side.ensures.staged)
     (subst (λ (l : List ℕ). Agrees (staging c.args.self.now page c.in_ok-side.side) l) (sym same) agrees)
+
+pub returns-clause-kept : goal.returns-clause-kept
+returns-clause-kept g c = λ before told final now.
+    let page = c.args.page.now in
+    let image = written before (place_of page.number c.in_ok-side.side) c.as_slice.result.now in
+    let content = rw c.number.ensures at (c.in_ok-write_side.ensures.content before told) in
+    let same = same_bytes final image (sym now ∙ content) in
+    let out = outside_written before c.as_slice.result.now page.number c.in_ok-side.side page refl (c.as_slice.ensures ∙ c.in_ok-side.ensures.bytes) c.requires.objects in
+    subst (λ (l : List ℕ). KeepsSides c.args.self.now.sides before l) (sym same)
+    (keeps_outside c.args.self.now.sides page.number c.in_ok-side.side before image c.stage.ensures.fit (c.requires.agrees before told).reaches c.in_ok-side.ensures.side out)
