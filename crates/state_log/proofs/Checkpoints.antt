@@ -6,9 +6,10 @@ use Rattle.log_frame.proofs.LogAppends.{same_log, told_on}
 use Rattle.log_bytes.specs.declared.state.State.{State}
 use Rattle.log_bytes.specs.Checkpoint.{state_format}
 use Rattle.log_bytes.specs.Format.{value_of}
-use Rattle.state_log.specs.Recovered.{sequence_end, stands, state_in}
+use Rattle.state_log.specs.Recovered.{chosen, sequence_end, stands, state_in}
+use Rattle.std.specs.Option.{option_and_then}
 use Rattle.disk_trait.specs.AllDisks.{AllSettled, LeavesAll, MayLeaveAll, TellsAll}
-use Rattle.state_log.specs.Holds.{Under, Holding, Holds, Says, beside}
+use Rattle.state_log.specs.Holds.{SaysNothingOr, Under, Holding, Holds, Says, beside}
 use Rattle.disk_trait.proofs.Several.{all_of_one, all_settled, all_none}
 use Rattle.state_log.proofs.Holding.{stands_of, is_other, is_log, holds_says, state_first}
 
@@ -78,3 +79,45 @@ holds_at old new place now' s head disk sequence here next below holds spelled a
     (subst (λ (n : ℕ). WhereTold new n (Agrees now')) here agrees)
     (subst (λ (q : ℕ). WhereTold old (beside place.disk) (λ bytes. WhereTold new (beside place.disk) (λ final. Stands final (new_log q head)))) next
     (subst (λ (n : ℕ). WhereTold old n (λ bytes. WhereTold new n (λ final. Stands final (new_log sequence head)))) here formatted))
+
+-- ---- the first log
+
+none_open : (images : ℕ → List ℕ) → read_log (images 0) ≡ None → read_log (images 1) ≡ None → stands images ≡ None
+none_open images a b = ap (λ (x : Option (Result Opened ℕ)). option_and_then state_in (chosen x (read_log (images 1)))) a ∙ ap (λ (y : Option (Result Opened ℕ)). option_and_then state_in (chosen None y)) b
+
+-- before the first call
+pub fresh_says : (disks : Disks) (s : State) → AllSettled disks → TellsAll disks → WhereTold disks 0 (λ bytes. read_log bytes ≡ None) → WhereTold disks 1 (λ other. read_log other ≡ None) → LeavesAll disks disks (SaysNothingOr s)
+fresh_says disks s settled tells first second = all_none disks (SaysNothingOr s) (λ images left.
+    let log = tells 0 (omega arith) in
+    let other = tells 1 (omega arith) in
+    inl (none_open images (ap read_log (settled 0 (omega arith) log.0 log.1 (images 0) (left 0 (omega arith))) ∙ first log.0 log.1) (ap read_log (settled 1 (omega arith) other.0 other.1 (images 1) (left 1 (omega arith))) ∙ second other.0 other.1)))
+
+-- each image of all disks, while a first log is put on disk 0
+pub format_says : (old new : Disks) (s : State) (head : List ℕ) → value_of state_format head ≡ Some s → AllSettled old → TellsAll old → WhereTold old 0 (λ bytes. read_log bytes ≡ None) → WhereTold old 1 (λ other. read_log other ≡ None) → WhereTold old 0 (λ bytes. Leaves old new 0 (IsOldOrNew bytes (new_log 1 head))) → LeavesAll old new (SaysNothingOr s)
+format_says old new s head spelled settled tells first second any =
+    let log = tells 0 (omega arith) in
+    let other = tells 1 (omega arith) in
+    all_of_one old new 0 (IsOldOrNew log.0 (new_log 1 head)) (SaysNothingOr s) (omega arith) (any log.0 log.1)
+      (λ images others this.
+        let stays : images 1 ≡ other.0 = settled 1 (omega arith) other.0 other.1 (images 1) (others 1 (omega arith) (λ same. cc)) in
+        let shut : read_log (images 1) ≡ None = ap read_log stays ∙ second other.0 other.1 in
+        elim this [
+          | inl old_is ↦ inl (none_open images (ap read_log old_is ∙ first log.0 log.1) shut)
+          | inr shut_or_new ↦ elim shut_or_new [
+            | inl none ↦ inl (none_open images none shut)
+            | inr is_new ↦ inr (stands_of 0 images (new_log 1 head) s (omega arith) is_new (inl shut) (state_first 1 head s (omega arith) spelled))
+          ]
+        ])
+
+-- a first log beside a disk that has none
+pub format_holds : (old new : Disks) (now' : Place) (s : State) (head : List ℕ) → value_of state_format head ≡ Some s → AllSettled old → WhereTold old 1 (λ other. read_log other ≡ None) → OnDisk old new 0 → IsSettled new 0 → now'.disk ≡ 0 → WhereTold new 0 (Agrees now') → WhereTold old 0 (λ bytes. WhereTold new 0 (λ final. Stands final (new_log 1 head))) → Holds new now' s
+format_holds old new now' s head spelled before fresh alone settled on agrees formatted = record {
+  within = omega (arith, on);
+  settled = all_settled old new 0 alone before settled;
+  agrees = subst (λ (n : ℕ). WhereTold new n (Agrees now')) (sym on) agrees;
+  told = subst (λ (n : ℕ). (log other : List ℕ) → new.content n ≡ Some log → new.content (beside n) ≡ Some other → (opened : Opened) → Stands log opened → Holding n opened s other) (sym on)
+    (λ log other told beside_told opened stood.
+      let was = told_on (new.content 0) (old.content 0) log (sym alone.told) told in
+      let is : new_log 1 head ≡ opened = same_log log (new_log 1 head) opened (formatted was.0 was.1 log told) stood in
+      subst (λ (o : Opened). Holding 0 o s other) is (record { under = inl (fresh other (sym (alone.others 1 (λ same. cc)) ∙ beside_told)); state = state_first 1 head s (omega arith) spelled }));
+}

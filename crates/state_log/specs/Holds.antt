@@ -35,3 +35,7 @@ Says s images = stands images ≡ Some s
 -- they say the state, or that behind one record more
 abbrev pub SaysOneOf : State → Body → (ℕ → List ℕ) → Type 0
 SaysOneOf s body images = Says s images ⊎ Says (after s body) images
+
+-- no log is open yet, or they say the state
+abbrev pub SaysNothingOr : State → (ℕ → List ℕ) → Type 0
+SaysNothingOr s images = (stands images ≡ None) ⊎ Says s images

@@ -1,12 +1,13 @@
-ghost use Rattle.std.specs.Prelude.{◌≡◌, ◌+◌, ◌<◌, ◌^◌, ℕ, OnOk, IsErrOf};
-ghost use Rattle.disk_trait.specs.AllDisks.{GoesOn, LeavesAll, TellsAll};
-ghost use Rattle.disk_trait.specs.Disks.{Disks, Rose};
+ghost use Rattle.std.specs.Prelude.{◌≡◌, ◌+◌, ◌<◌, ◌^◌, ℕ, None, IfOk, OnOk, IsErrOf};
+ghost use Rattle.disk_trait.specs.AllDisks.{AllSettled, GoesOn, LeavesAll, TellsAll};
+ghost use Rattle.disk_trait.specs.Disks.{Disks, Rose, WhereTold};
+ghost use Rattle.log_frame.specs.Log.{read_log};
 ghost use Rattle.log_frame.specs.declared.fault.LogFault.TheVariants.{Damaged, Failed};
 ghost use Rattle.log_bytes.specs.Checkpoint.{StateFits};
 ghost use Rattle.log_bytes.specs.Grammar.{BodyFits};
 ghost use Rattle.log_bytes.specs.declared.body.Body.TheVariants.{Entry as AnEntry, Installed as AnInstalled};
 ghost use Rattle.log_bytes.specs.declared.state.State.{State as AState};
-ghost use Rattle.state_log.specs.Holds.{Holds, Says, SaysOneOf, beside};
+ghost use Rattle.state_log.specs.Holds.{Holds, Says, SaysNothingOr, SaysOneOf, beside};
 ghost use Rattle.state_log.specs.Recovered.{after, sequence_end};
 
 use commit_log::Entry;
@@ -39,6 +40,27 @@ impl CommitLog {
         ensures { result ≡ log }
     {
         CommitLog { alloc, log }
+    }
+
+    /// Puts a first log, which begins with the state, on disk 0. Neither log disk may have an open log.
+    ///
+    /// At each moment a crash leaves no open log, or the state.
+    pub fn format<P: Parts>(alloc: Global, parts: &mut P, state: &State) -> Result<CommitLog, LogFault>
+        requires fits { StateFits state.now }
+        requires settled { AllSettled (P.disks parts.old) }
+        requires first { WhereTold (P.disks parts.old) 0 (λ bytes. read_log bytes ≡ None) }
+        requires second { WhereTold (P.disks parts.old) 1 (λ bytes. read_log bytes ≡ None) }
+        ensures goes { GoesOn (P.disks parts.old) (P.disks parts.new) }
+        ensures any_moment { TellsAll (P.disks parts.old) → LeavesAll (P.disks parts.old) (P.disks parts.new) (SaysNothingOr state.now) }
+        ensures holds { IfOk result (λ log. Holds (P.disks parts.new) log state.now) }
+        ensures sequence { IfOk result (λ log. log.sequence ≡ 1) }
+        ensures disk { IfOk result (λ log. log.disk ≡ 0) }
+        ensures damaged { (place : ℕ) → IsErrOf result (Damaged place) → ⊥ }
+        ensures failed { IsErrOf result Failed → Rose ((P.disks parts.old).faults 0) ((P.disks parts.new).faults 0) }
+    {
+        let head = spell_state(alloc, state)?;
+        let log = Log::format(alloc, parts, 0, 1, head.as_slice())?;
+        Ok(CommitLog { alloc, log })
     }
 
     /// The log's sequence.
