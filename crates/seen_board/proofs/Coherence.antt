@@ -8,11 +8,18 @@ use mathlib.Core.List.{IsPrefix}
 use native.Mathlib.Decide.{ℕ_discrete}
 use Rattle.seen_board.specs.declared.knowledge.Knowledge.{Knowledge}
 use Rattle.seen_board.specs.declared.knowledge.Made.{Made}
+use Rattle.seen_board.specs.declared.knowledge.Maker.TheVariants.{Call}
 use Rattle.seen_board.specs.Clauses.{StillMay}
-use Rattle.seen_board.specs.Knowledge.{Coherent, Covered, InOrder, MayAdd, all_unowned, at, both, histories, items_of, longer_by, nothing, together, with_call, with_item}
+use Rattle.seen_board.specs.Knowledge.{Coherent, Covered, Follows, InOrder, MayAdd, all_unowned, at, both, histories, items_of, longer_by, nothing, together, with_call, with_item}
 use Rattle.seen_board.specs.Meaning.{Lasts, Meaning, stays_at}
 use Rattle.seen_board.proofs.Prefixes.{get_push}
 use Rattle.seen_board.proofs.Owned.{grown_else, grown_here, prefix_longer_by, prefix_together, together_either}
+
+pub same_client : (k i l j : ℕ) → Call k i ≡ Call l j → k ≡ l
+same_client k i l j e = cc e
+
+pub same_place : (k i l j : ℕ) → Call k i ≡ Call l j → i ≡ j
+same_place k i l j e = cc e
 
 module _ {I C : Type 0} (w : Meaning I C) where
   items_prefix : (xs ys : List (Made I)) → IsPrefix xs ys → IsPrefix (items_of xs) (items_of ys)
@@ -24,7 +31,7 @@ module _ {I C : Type 0} (w : Meaning I C) where
 
   -- what might stand next in a history still may, where the history is the same and more calls are known
   pub still_may : (g h : Knowledge I C) (r : ℕ) → at h.items r ≡ at g.items r → ((k : ℕ) → IsPrefix (at g.calls k) (at h.calls k)) → StillMay w r g h
-  still_may g h r same pre m may = subst (λ (l : List (Made I)). Covered w h r l m × InOrder w (l ++ m ∷ [])) (sym same) (covered_more g h r (at g.items r) m pre may.0, may.1)
+  still_may g h r same pre m may = subst (λ (l : List (Made I)). Covered w h r l m × Follows w l m) (sym same) (covered_more g h r (at g.items r) m pre may.0, may.1)
 
   pub nothing_coheres : (repos clients : List ℕ) → Coherent w (nothing repos clients)
   nothing_coheres repos clients = record { covered = λ r p m e. absurd (cc e); justified = λ k i c e. absurd (cc e); ordered = λ r. record { by_whom = λ p m k e. absurd (cc e); rises = λ p q m n k i j lt e. absurd (cc e) } }
@@ -53,6 +60,39 @@ module _ {I C : Type 0} (w : Meaning I C) where
             (together_either g.items h.items r);
       }
 
+  -- an item that follows keeps the order
+  in_order_more : (l : List (Made I)) (m : Made I) → InOrder w l → Follows w l m → InOrder w (l ++ m ∷ [])
+  in_order_more l m o f = record {
+    by_whom = λ p n k e shown. ⊎_elim
+        (λ (was : slice_get l p ≡ Some n). o.by_whom p n k was (shown_before p k n was shown))
+        (λ (z : (p ≡ length l) × (m ≡ n)). let t = f k (shown_last p k n z.0 z.1 shown) in (t.0, sym (ap (λ (u : Made I). u.by) z.1) ∙ t.1))
+        (get_push l m n p e);
+    rises = λ p q n u k i j lt ep eq sp sq bp bq. ⊎_elim
+        (λ (was : slice_get l q ≡ Some u).
+        let short = slice_get_within l q u was in
+        ⊎_elim
+        (λ (earlier : slice_get l p ≡ Some n). o.rises p q n u k i j lt earlier was (shown_before p k n earlier sp) (shown_before q k u was sq) bp bq)
+        (λ (z : (p ≡ length l) × (m ≡ n)). absurd (omega (arith, z.0, short, lt)))
+        (get_push l m n p ep))
+        (λ (z : (q ≡ length l) × (m ≡ u)).
+        let t = f k (shown_last q k u z.0 z.1 sq) in
+        let by_last : Call k t.0 ≡ Call k j = sym t.1 ∙ (ap (λ (v : Made I). v.by) z.1 ∙ bq) in
+        let last : t.0 ≡ j = same_place k t.0 k j by_last in
+        ⊎_elim
+        (λ (earlier : slice_get l p ≡ Some n). let less = t.2 p n i earlier (shown_before p k n earlier sp) bp in omega (arith, less, last))
+        (λ (y : (p ≡ length l) × (m ≡ n)). absurd (omega (arith, y.0, z.0, lt)))
+        (get_push l m n p ep))
+        (get_push l m u q eq);
+  }
+    where
+      shown_before : (p k : ℕ) (n : Made I) → slice_get l p ≡ Some n → w.shows (items_of (take p (l ++ m ∷ []))) n.item ≡ Some k → w.shows (items_of (take p l)) n.item ≡ Some k
+      shown_before p k n e = let lt = slice_get_within l p n e in subst (λ (x : List (Made I)). w.shows (items_of x) n.item ≡ Some k) (take-append-le p l (m ∷ []) (omega (arith, lt)))
+
+      shown_last : (p k : ℕ) (n : Made I) → p ≡ length l → m ≡ n → w.shows (items_of (take p (l ++ m ∷ []))) n.item ≡ Some k → w.shows (items_of l) m.item ≡ Some k
+      shown_last p k n at_end is shown =
+          subst (λ (x : Made I). w.shows (items_of l) x.item ≡ Some k) (sym is)
+          (subst (λ (x : List (Made I)). w.shows (items_of x) n.item ≡ Some k) (take-append-le p l (m ∷ []) (omega (arith, at_end)) ∙ take_all p l (omega (arith, at_end))) shown)
+
   -- one item more
   pub grown_coheres : Lasts w → (h : Knowledge I C) (r : ℕ) (m : Made I) → MayAdd w h r m → Coherent w h → Coherent w (with_item h r m)
   grown_coheres lasts h r m may s = record {
@@ -61,7 +101,7 @@ module _ {I C : Type 0} (w : Meaning I C) where
         (λ no. subst (λ (l : List (Made I)). slice_get l p ≡ Some n → Covered w h q (take p l) n) (sym (grown_else h.items r q m no)) (s.covered q p n));
     justified = λ k i c e. lasts (histories h) _ c (λ q. items_prefix _ _ (prefix_longer_by h.items r m q)) (s.justified k i c e);
     ordered = λ q. dite (ℕ_discrete q r)
-        (λ e. subst (λ (k : ℕ). InOrder w (at (longer_by h.items r m) k)) (sym e) (subst (InOrder w) (sym (grown_here h.items r m)) may.1))
+        (λ e. subst (λ (k : ℕ). InOrder w (at (longer_by h.items r m) k)) (sym e) (subst (InOrder w) (sym (grown_here h.items r m)) (in_order_more (at h.items r) m (s.ordered r) may.1)))
         (λ no. subst (InOrder w) (sym (grown_else h.items r q m no)) (s.ordered q));
   }
     where

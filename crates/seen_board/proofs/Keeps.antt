@@ -78,7 +78,7 @@ module _ {I C : Type 0} (w : Meaning I C) where
     -- an owner's word is the length of its list, so the exchange finds what it expects
     pub grows : (repos slots by : ℕ) (me : Me S (View I C)) (r : ℕ) (items : S → List I) (k : S) (m : Made I) (old : ℕ)
         → owns me.0.knows.items r ≡ true → IsCalm me.0 → r < repos → old ≡ length (at me.0.knows.items r) → slice_get (items k) old ≡ Some m.item → MayAdd w me.0.knows r m
-        → Allows (Consistent w repos) slots by me r (λ n. either (eqb n old) (old + 1) n) (Grew items (step slots r old (old + 1) (some k)) me)
+        → Allows (Consistent w repos) slots by me r (λ n. either (eqb n old) (old + 1) n) (Grew w items (step slots r old (old + 1) (some k)) me)
     grows repos slots by me r items k m old own calm room is there may s h wide here small =
         let v = me.0 in
         let f = h.each by v here in
@@ -107,7 +107,7 @@ module _ {I C : Type 0} (w : Meaning I C) where
                 })
                 (λ j u apart e. fits_item h.all r m j u (λ o. apart (o ∙ sym mine.0)) (h.each j u e));
           },
-          (refl, λ k' y e1 e2. let same : Some m.item ≡ Some y = sym there ∙ (ap (λ z. slice_get (items z) old) (some-injective k k' e1) ∙ e2) in let xy : m.item ≡ y = cc same in (m, xy, refl)),
+          (refl, λ k' y e1 e2. let same : Some m.item ≡ Some y = sym there ∙ (ap (λ z. slice_get (items z) old) (some-injective k k' e1) ∙ e2) in let xy : m.item ≡ y = cc same in (m, xy, refl), grown_coheres w lasts v.knows r m may f.coherent),
         )
 
     -- a step that reads a word and changes one view
@@ -123,7 +123,7 @@ module _ {I C : Type 0} (w : Meaning I C) where
 
     -- a client's own pass adds a call that what it has seen justifies
     pub sends : (repos slots by : ℕ) (me : Me S (View I C)) (k : ℕ) (c : C) → owns me.0.knows.calls k ≡ true → IsCalm me.0 → w.justified (histories me.0.knows) c
-        → Allows (Consistent w repos) slots by me 0 (λ n. n) (λ _ t. Sent k c me t)
+        → Allows (Consistent w repos) slots by me 0 (λ n. n) (λ _ t. Sent w k c me t)
     sends repos slots by me k c own calm just s h wide here small =
         let v = me.0 in
         let f = h.each by v here in
@@ -146,7 +146,7 @@ module _ {I C : Type 0} (w : Meaning I C) where
                 })
                 (λ j u apart e. fits_call h.all k c j u (λ o. apart (o ∙ sym mine.0)) (h.each j u e));
           },
-          refl,
+          (refl, sent_coheres w v.knows k c just f.coherent),
         )
 
     pub meets : (repos slots by : ℕ) (me : Me S (View I C)) (r : ℕ) → Allows (Consistent w repos) slots by me r (λ n. n) (Met (step slots r 0 0 none) me)

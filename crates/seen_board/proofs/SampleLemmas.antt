@@ -2,12 +2,11 @@
 use Rattle.std.proofs.Common.{◌≡◌, ℕ, zero, suc, ◌<◌, ◌+◌, List, [], ◌∷◌, ◌++◌, length, Option, Some, None, refl, ap, sym, ◌∙◌, subst, arith, length-append, replicate, slice_get}
 use Rattle.std.proofs.lemmas.List.{get_or-replicate, length-replicate, length-map, map-append, nil_from_length}
 use Rattle.std.proofs.lemmas.Option.{none-some, slice_get-get_or}
-use Rattle.std.specs.Option.{option_map}
 use Rattle.seen_board.specs.declared.knowledge.Knowledge.{Knowledge}
 use Rattle.seen_board.specs.declared.knowledge.Made.{Made}
 use Rattle.seen_board.specs.declared.knowledge.Maker.TheVariants.{Call, Nobody}
 use Rattle.seen_board.specs.Clauses.{Added, MakesNext, MayGrow}
-use Rattle.seen_board.specs.Knowledge.{InOrder, at, items_of}
+use Rattle.seen_board.specs.Knowledge.{at, items_of}
 use Rattle.seen_board.specs.Samples.{opened, puts}
 use Rattle.seen_board.specs.Rows.{EachOf}
 use Rattle.seen_board.proofs.Prefixes.{get_here}
@@ -31,28 +30,14 @@ opened_may n h r lt =
     let item : slice_get (replicate {A = ℕ} n 0) (length (at h.items r)) ≡ Some 0 = slice_get-get_or (replicate n 0) (length (at h.items r)) 0 here ∙ ap Some (get_or-replicate n (length (at h.items r)) 0 0 lt) in (
       record { item = 0; by = Nobody },
       item,
-      (
-        ((λ _. tt), (λ k i (e : Nobody ≡ Call k i). absurd (cc e))),
-        record {
-          by_whom = λ p m k e shown. absurd (none-some k shown);
-          rises = λ p q m m' k i j lt' e e' shown. absurd (none-some k shown);
-        },
-      ),
+      (((λ _. tt), (λ k i (e : Nobody ≡ Call k i). absurd (cc e))), λ k shown. absurd (none-some k shown)),
     )
-
-abbrev opening : Made (Option (ℕ × ℕ))
-opening = record { item = None; by = Nobody }
-
--- the item of the opening shows nobody
-shows_nobody : (p k : ℕ) (m : Made (Option (ℕ × ℕ))) → slice_get (opening ∷ []) p ≡ Some m → option_map (λ (e : ℕ × ℕ). e.0) m.item ≡ Some k → ⊥
-shows_nobody zero k m e shown = let is : opening ≡ m = cc e in none-some k (ap (λ (x : Made (Option (ℕ × ℕ))). option_map (λ (e : ℕ × ℕ). e.0) x.item) is ∙ shown)
-shows_nobody (suc p) k m e shown = none-some m e
 
 pub opening_may : (items : List (Option (ℕ × ℕ))) (h : Knowledge (Option (ℕ × ℕ)) (ℕ × ℕ × ℕ)) (r : ℕ) → items ≡ None ∷ [] → at h.items r ≡ [] → MayGrow puts items h r
 opening_may items h r is none = (
-  opening,
+  record { item = None; by = Nobody },
   (ap (λ (l : List (Made (Option (ℕ × ℕ)))). slice_get items (length l)) none ∙ ap (λ l. slice_get l 0) is),
-  (((λ _. refl), (λ k i e. absurd (cc e))), subst (λ (l : List (Made (Option (ℕ × ℕ)))). InOrder puts (l ++ opening ∷ [])) (sym none) (record { by_whom = λ p m k e shown. absurd (shows_nobody p k m e shown); rises = λ p q m n k i j lt e e' shown. absurd (shows_nobody p k m e shown) })),
+  (((λ _. refl), (λ k i (e : Nobody ≡ Call k i). absurd (cc e))), λ k shown. absurd (none-some k shown)),
 )
 
 -- a put makes its entry behind the last one

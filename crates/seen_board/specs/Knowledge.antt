@@ -90,6 +90,11 @@ module _ {I C : Type 0} where
       pub justified : (k i : ℕ) (c : C) → slice_get (at h.calls k) i ≡ Some c → w.justified (histories h) c
       pub ordered : (r : ℕ) → InOrder (at h.items r)
 
+    -- Where the item behind these shows a client, a call of that client made it, which comes behind those that made the client's items before
+    abbrev pub Follows : List (Made I) → Made I → Type 0
+    Follows l m = (k : ℕ) → w.shows (items_of l) m.item ≡ Some k
+        → (i : ℕ) × (m.by ≡ Call k i) × ((p : ℕ) (n : Made I) (j : ℕ) → slice_get l p ≡ Some n → w.shows (items_of (take p l)) n.item ≡ Some k → n.by ≡ Call k j → j < i)
+
     -- the item may stand next in the history
     abbrev pub MayAdd : Knowledge I C → ℕ → Made I → Type 0
-    MayAdd h r m = Covered h r (at h.items r) m × InOrder (at h.items r ++ m ∷ [])
+    MayAdd h r m = Covered h r (at h.items r) m × Follows (at h.items r) m

@@ -50,12 +50,12 @@ module _ {I C : Type 0} where
 
   module _ {S : Type 0} where
     -- the item that stands next in what the step says is now known
-    abbrev pub Grew : (S → List I) → Step S → Me S (View I C) → ℕ → Me S (View I C) → Type 0
-    Grew items s v n w = (w.1 ≡ v.1) × ((k : S) (x : I) → s.said ≡ some k → slice_get (items k) s.first ≡ Some x → (m : Made I) × (m.item ≡ x) × (w.0 ≡ grown v.0 s.word m))
+    abbrev pub Grew : Meaning I C → (S → List I) → Step S → Me S (View I C) → ℕ → Me S (View I C) → Type 0
+    Grew w items s v n u = (u.1 ≡ v.1) × ((k : S) (x : I) → s.said ≡ some k → slice_get (items k) s.first ≡ Some x → (m : Made I) × (m.item ≡ x) × (u.0 ≡ grown v.0 s.word m)) × Coherent w u.0.knows
 
     -- the client has one call more
-    abbrev pub Sent : ℕ → C → Me S (View I C) → Me S (View I C) → Type 0
-    Sent k c v w = w ≡ (sent v.0 k c, v.1)
+    abbrev pub Sent : Meaning I C → ℕ → C → Me S (View I C) → Me S (View I C) → Type 0
+    Sent w k c v u = (u ≡ (sent v.0 k c, v.1)) × Coherent w u.0.knows
 
     -- the history has that length, which isn't below what was seen
     abbrev pub Met : Step S → Me S (View I C) → ℕ → Me S (View I C) → Type 0

@@ -77,6 +77,7 @@ impl<N: Naming> ClientPass<N> {
         ensures items { (knowledge self.new.seat).items ≡ (knowledge self.old.seat).items }
         ensures others { (k : ℕ) → k ≢ self.old.client → calls_of self.new.seat k ≡ calls_of self.old.seat k }
         ensures sent { calls_of self.new.seat self.old.client ≡ calls_of self.old.seat self.old.client ++ call.now ∷ [] }
+        ensures coherent { Coherent N.meaning (knowledge self.new.seat) }
     {
         send_as::<N, Brand>(board, &mut self.seat, self.client, call);
     }
@@ -96,6 +97,7 @@ fn send_as<N: Naming, J: Picks<N::Call>>(
     requires justified { N.meaning.justified (histories (knowledge seat.old)) call.now }
     ensures table { seat.new.table_id ≡ seat.old.table_id }
     ensures sent { seat.new.me ≡ (sent seat.old.me.0 client call.now, seat.old.me.1) }
+    ensures coherent { Coherent N.meaning (knowledge seat.new) }
 {
     let _ = call;
     board.table.shared.load::<Sends<N, J>>(seat, 0);

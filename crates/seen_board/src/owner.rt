@@ -55,6 +55,7 @@ impl<N: Naming> Owner<N> {
         ensures calls { (knowledge self.new.seat).calls ≡ (knowledge self.old.seat).calls }
         ensures others { (r : ℕ) → r ≢ self.old.repo → history self.new.seat r ≡ history self.old.seat r }
         ensures added { Added (N.items kept.now) (history self.old.seat self.old.repo) (history self.new.seat self.old.repo) }
+        ensures coherent { Coherent N.meaning (knowledge self.new.seat) }
     {
         let word = usize::from(self.repo);
         let count = self.count;

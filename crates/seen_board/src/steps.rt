@@ -11,7 +11,7 @@ pub(crate) struct Grows<N>(PhantomData<N>);
 impl<N: Naming> Play<N::Kept, View<N::Item, N::Call>> for Grows<N> {
     ghost use Rattle.seen_board.specs.Steps.{Grew};
 
-    ghost then = { Grew N.items };
+    ghost then = { Grew N.meaning N.items };
 }
 
 /// Which client sends which call. Each send picks them: a step has no parameter of its own.
@@ -38,7 +38,7 @@ impl<N: Naming, J: Picks<N::Call>> Play<N::Kept, View<N::Item, N::Call>> for Sen
     ghost use Rattle.std.specs.Prelude.{◌≡◌, Some};
     ghost use Rattle.seen_board.specs.Steps.{Sent};
 
-    ghost then = { λ _ v _ w. (c : N.Call) → J.call ≡ Some c → Sent J.client c v w };
+    ghost then = { λ _ v _ w. (c : N.Call) → J.call ≡ Some c → Sent N.meaning J.client c v w };
 }
 
 /// The length of a history is read.

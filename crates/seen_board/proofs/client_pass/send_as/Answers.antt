@@ -1,4 +1,4 @@
-use Rattle.std.proofs.Common.{◌≡◌, Some, sym, ◌∙◌}
+use Rattle.std.proofs.Common.{◌≡◌, ℕ, Some, ap, sym, ◌∙◌}
 use Rattle.seen_board.specs.Steps.{sent}
 use Rattle.seen_board.proofs.Rows.{own_one}
 use Rattle.seen_board.proofs.Keeps.{sends}
@@ -19,6 +19,14 @@ load-requires g c =
             λ d e.
                 let both : Some said ≡ Some d = sym c.requires.picked.1 ∙ e in
                 let same : said ≡ d = cc both in
-                t.4 ∙ (λ i. (sent p.me.0 (sym c.requires.picked.0 i) (same i), p.me.1)),
+                (t.4.0 ∙ (λ i. (sent p.me.0 (sym c.requires.picked.0 i) (same i), p.me.1)), t.4.1),
           ),
     )
+
+pub returns : goal.returns
+returns g c =
+    let told = c.load.ensures.2 c.args.call.now c.requires.picked.1 in record {
+      table = c.load.ensures.0;
+      sent = told.0 ∙ ap (λ (k : ℕ). (sent c.args.seat.now.me.0 k c.args.call.now, c.args.seat.now.me.1)) c.requires.picked.0;
+      coherent = told.1;
+    }

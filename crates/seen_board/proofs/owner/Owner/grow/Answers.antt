@@ -43,4 +43,5 @@ returns g c =
       calls = ap (λ v. v.knows.calls) grew;
       others = λ q n. ap (λ v. at v.knows.items q) grew ∙ grown_else (knowledge o.seat).items o.repo q to.0 n;
       added = (to.0, c.requires.next.1 ∙ ap Some (sym to.1), more);
+      coherent = e.2.2;
     }
