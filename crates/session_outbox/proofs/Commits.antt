@@ -2,7 +2,7 @@
 use Rattle.commit_log.specs.declared.entry.Entry.TheVariants.{Life, One, Prepared, Decided, Finished, Upgraded}
 use Rattle.commit_log.specs.declared.entry.Entry.{Entry}
 use Rattle.commit_log.specs.declared.request.Request.{Request}
-use Rattle.session_outbox.specs.History.{Aborted, Base, Committed, Fate, Open, Standing, State, commit_by, commit_of, commits, commits_from, is_open, last_write, put, settle, settle_by, standing, start, state}
+use Rattle.session_outbox.specs.History.{Aborted, Base, Committed, Fate, Open, Known, State, commit_by, commit_of, commits, commits_from, is_open, last_write, put, settle, settle_by, known_in, start, state}
 use Rattle.session_outbox.specs.Laws.{MadeByCommits, with_stamps, with_texts, with_writes}
 use Rattle.session_outbox.specs.Requests.{has_written, text_of, written}
 use Rattle.std.proofs.Common.{◌++◌, ◌≡◌, ℕ, List, [], ◌∷◌, refl, ap, sym, ◌∙◌}
@@ -59,7 +59,7 @@ abbrev Made : State → List (ℕ × Request) → State → Type 0
 Made S cs T = (T.objects ≡ with_writes S.objects cs) × (T.texts ≡ with_texts S.texts cs) × (T.top ≡ with_stamps S.top cs)
 
 module _ (b : Base) where
-  by_settle : (S : State) (t : Ts) (c : Bool) (o : Option Standing) → Made S (commit_by S c o) (settle S t c o)
+  by_settle : (S : State) (t : Ts) (c : Bool) (o : Option Known) → Made S (commit_by S c o) (settle S t c o)
   by_settle S t c None = (refl, refl, refl)
   by_settle S t c (Some p) = by_fate p.fate c
     where
@@ -77,8 +77,8 @@ module _ (b : Base) where
   made S (One q) = (refl, refl, refl)
   made S (Prepared q) = (refl, refl, refl)
   made S (Upgraded q) = (refl, refl, refl)
-  made S (Decided t c) = by_settle S t c (standing b S t)
-  made S (Finished t c) = by_settle S t c (standing b S t)
+  made S (Decided t c) = by_settle S t c (known_in b S t)
+  made S (Finished t c) = by_settle S t c (known_in b S t)
 
   pub objects-put : (S : State) (e : Entry) → (put b S e).objects ≡ with_writes S.objects (commit_of b S e)
   objects-put S e = (made S e).0

@@ -10,8 +10,8 @@ use Rattle.session_outbox.proofs.Places.{Placed, came, placed}
 use Rattle.session_outbox.proofs.Serial.{upgrades_fence}
 use Rattle.session_outbox.proofs.Stamps.{at_most_itself, at_most_then, before_at_most, first_at_most, later_at_most, second_at_most}
 use Rattle.session_outbox.proofs.Steps.{FateMoves, Kept, LifeBegan, not_lost}
-use Rattle.session_outbox.specs.Covers.{Agrees, Covers}
-use Rattle.session_outbox.specs.History.{Aborted, Base, Committed, CommittedBelow, Fate, IsCommitted, Lives, Open, Standing, State, commit, is_open, is_undecided, lapse, or_lost, put, settle, settle_by, standing, start, state}
+use Rattle.session_outbox.specs.Covers.{MemberFits, Covers}
+use Rattle.session_outbox.specs.History.{Aborted, Base, Committed, CommittedBelow, Fate, IsCommitted, Lives, Open, Known, State, commit, is_open, is_undecided, lapse, or_lost, put, settle, settle_by, known_in, start, state}
 use Rattle.session_outbox.specs.Laws.{BesideUpgrade}
 use Rattle.session_outbox.specs.Requests.{is_upgrade}
 use Rattle.session_outbox.specs.Sound.{Accepts, Admits, owes, sound}
@@ -126,16 +126,16 @@ none_sorted = tt
 -- ---- the window of a state
 
 -- W covers a state in which transactions stand so, and whose greatest committed timestamp is top
-pub record Held (st : Ts → Option Standing) (top : Ts) (W : Window) : Type 0 where
+pub record Held (st : Ts → Option Known) (top : Ts) (W : Window) : Type 0 where
   pub sorted : IsSorted W.members
-  pub members : (t : Ts) (m : Member) → get W.members t ≡ Some m → (o : Standing) × (st t ≡ Some o) × (o.request ≡ m.request) × Agrees m.decided o.fate
-  pub opens : (t : Ts) (o : Standing) → st t ≡ Some o → o.fate ≡ Open → (m : Member) × (get W.members t ≡ Some m)
-  pub committed : (t : Ts) (o : Standing) → st t ≡ Some o → IsCommitted o.fate → ((m : Member) × (get W.members t ≡ Some m)) ⊎ AtMost t W.threshold
-  pub upgrades : (t : Ts) (o : Standing) → st t ≡ Some o → IsCommitted o.fate → IsTrue (is_upgrade o.request) → AtMost t W.threshold
+  pub members : (t : Ts) (m : Member) → get W.members t ≡ Some m → (o : Known) × (st t ≡ Some o) × (o.request ≡ m.request) × MemberFits m.decided o.fate
+  pub opens : (t : Ts) (o : Known) → st t ≡ Some o → o.fate ≡ Open → (m : Member) × (get W.members t ≡ Some m)
+  pub committed : (t : Ts) (o : Known) → st t ≡ Some o → IsCommitted o.fate → ((m : Member) × (get W.members t ≡ Some m)) ⊎ AtMost t W.threshold
+  pub upgrades : (t : Ts) (o : Known) → st t ≡ Some o → IsCommitted o.fate → IsTrue (is_upgrade o.request) → AtMost t W.threshold
   pub low : AtMost W.threshold top
-  pub high : (t : Ts) (o : Standing) → st t ≡ Some o → IsCommitted o.fate → AtMost t top
+  pub high : (t : Ts) (o : Known) → st t ≡ Some o → IsCommitted o.fate → AtMost t top
 
-agrees_committed : (d : Bool) (f : Fate) → d ≡ true → Agrees d f → IsCommitted f
+agrees_committed : (d : Bool) (f : Fate) → d ≡ true → MemberFits d f → IsCommitted f
 agrees_committed true Open e a = absurd a
 agrees_committed true (Committed at) e a = tt
 agrees_committed true Aborted e a = absurd a
@@ -157,22 +157,22 @@ lives_committed (Committed a) c = tt
 lives_committed Aborted c = absurd c
 
 -- How transactions stand in st, but u stands as p: `as` in a state whose map has p put in at u.
-record PutIn (st new : Ts → Option Standing) (u : Ts) (p : Standing) : Type 0 where
+record PutIn (st new : Ts → Option Known) (u : Ts) (p : Known) : Type 0 where
   here : new u ≡ Some p
   others : (t : Ts) → t ≢ u → new t ≡ st t
 
-module _ (st new : Ts → Option Standing) (top top' : Ts) (W : Window) (u : Ts) (p : Standing) (put_in : PutIn st new u p) (held : Held st top W) (rises : AtMost top top') where
-  stood_other : (t : Ts) (o : Standing) → t ≢ u → new t ≡ Some o → st t ≡ Some o
+module _ (st new : Ts → Option Known) (top top' : Ts) (W : Window) (u : Ts) (p : Known) (put_in : PutIn st new u p) (held : Held st top W) (rises : AtMost top top') where
+  stood_other : (t : Ts) (o : Known) → t ≢ u → new t ≡ Some o → st t ≡ Some o
   stood_other t o other is = sym (put_in.others t other) ∙ is
 
   -- u comes in, or is decided to commit
-  held_member : (V : Window) (d : Bool) → Roomy W V → Agrees d p.fate → (IsCommitted p.fate → IsTrue (is_upgrade p.request) → ⊥) → (IsCommitted p.fate → AtMost u top') → Held new top' (record { threshold = V.threshold; members = insert V.members u (record { decided = d; request = p.request }) })
+  held_member : (V : Window) (d : Bool) → Roomy W V → MemberFits d p.fate → (IsCommitted p.fate → IsTrue (is_upgrade p.request) → ⊥) → (IsCommitted p.fate → AtMost u top') → Held new top' (record { threshold = V.threshold; members = insert V.members u (record { decided = d; request = p.request }) })
   held_member V d r agrees plain below = record {
     sorted = IsSorted-insert ts_total V.members u _ r.sorted;
     members = λ t m is. elim (inserted_cases V.members u (record { decided = d; request = p.request }) t) [
       | inl k ↦
           let same : record { decided = d; request = p.request } ≡ m = same_Some _ m (sym k.1 ∙ is) in
-          (p, ap new k.0 ∙ put_in.here, ap (λ (x : Member). x.request) same, subst (λ (x : Member). Agrees x.decided p.fate) same agrees)
+          (p, ap new k.0 ∙ put_in.here, ap (λ (x : Member). x.request) same, subst (λ (x : Member). MemberFits x.decided p.fate) same agrees)
       | inr k ↦
           let old = held.members t m (r.was t m (sym k.1 ∙ is)) in
           (old.0, put_in.others t k.0 ∙ old.1, old.2, old.3)
@@ -187,7 +187,7 @@ module _ (st new : Ts → Option Standing) (top top' : Ts) (W : Window) (u : Ts)
             | inr y ↦
                 let z = held.members t x.0 x.1 in
                 let one : z.0 ≡ o = same_Some z.0 o (sym z.1 ∙ old) in
-                not_open o.fate at_first (subst (λ (v : Standing). IsCommitted v.fate) one (agrees_committed x.0.decided z.0.fate y.0 z.3))
+                not_open o.fate at_first (subst (λ (v : Known). IsCommitted v.fate) one (agrees_committed x.0.decided z.0.fate y.0 z.3))
           ]
     ];
     committed = λ t o is c. elim (inserted_cases V.members u (record { decided = d; request = p.request }) t) [
@@ -203,14 +203,14 @@ module _ (st new : Ts → Option Standing) (top top' : Ts) (W : Window) (u : Ts)
     upgrades = λ t o is c up. elim (key_cases t u) [
       | inl k ↦
           let one : p ≡ o = same_Some p o (sym put_in.here ∙ subst (λ v. new v ≡ Some o) k.0 is) in
-          absurd (plain (subst (λ (v : Standing). IsCommitted v.fate) (sym one) c) (subst (λ (v : Standing). IsTrue (is_upgrade v.request)) (sym one) up))
+          absurd (plain (subst (λ (v : Known). IsCommitted v.fate) (sym one) c) (subst (λ (v : Known). IsTrue (is_upgrade v.request)) (sym one) up))
       | inr k ↦ at_most_then t W.threshold V.threshold (held.upgrades t o (stood_other t o k.0 is) c up) r.higher
     ];
     low = at_most_then V.threshold top top' (r.bounded top held.low (λ t m is dec. let z = held.members t m is in held.high t z.0 z.1 (agrees_committed m.decided z.0.fate dec z.3))) rises;
     high = λ t o is c. elim (key_cases t u) [
       | inl k ↦
           let one : p ≡ o = same_Some p o (sym put_in.here ∙ subst (λ v. new v ≡ Some o) k.0 is) in
-          subst (λ v. AtMost v top') (sym k.0) (below (subst (λ (v : Standing). IsCommitted v.fate) (sym one) c))
+          subst (λ v. AtMost v top') (sym k.0) (below (subst (λ (v : Known). IsCommitted v.fate) (sym one) c))
       | inr k ↦ at_most_then t top top' (held.high t o (stood_other t o k.0 is) c) rises
     ];
   }
@@ -228,14 +228,14 @@ module _ (st new : Ts → Option Standing) (top top' : Ts) (W : Window) (u : Ts)
     opens = λ t o is at_first. elim (removed_cases W.members u t held.sorted) [
       | inl k ↦
           let one : p ≡ o = same_Some p o (sym put_in.here ∙ subst (λ v. new v ≡ Some o) k.0 is) in
-          let e : Aborted ≡ Open = sym gone ∙ ap (λ (v : Standing). v.fate) one ∙ at_first in
+          let e : Aborted ≡ Open = sym gone ∙ ap (λ (v : Known). v.fate) one ∙ at_first in
           absurd (cc)
       | inr k ↦ let x = held.opens t o (stood_other t o k.0 is) at_first in (x.0, k.1 ∙ x.1)
     ];
     committed = λ t o is c. elim (removed_cases W.members u t held.sorted) [
       | inl k ↦
           let one : p ≡ o = same_Some p o (sym put_in.here ∙ subst (λ v. new v ≡ Some o) k.0 is) in
-          absurd (gone_uncommitted o.fate (ap (λ (v : Standing). v.fate) (sym one) ∙ gone) c)
+          absurd (gone_uncommitted o.fate (ap (λ (v : Known). v.fate) (sym one) ∙ gone) c)
       | inr k ↦ elim (held.committed t o (stood_other t o k.0 is) c) [
         | inl x ↦ inl (x.0, k.1 ∙ x.1)
         | inr l ↦ inr l
@@ -244,14 +244,14 @@ module _ (st new : Ts → Option Standing) (top top' : Ts) (W : Window) (u : Ts)
     upgrades = λ t o is c up. elim (key_cases t u) [
       | inl k ↦
           let one : p ≡ o = same_Some p o (sym put_in.here ∙ subst (λ v. new v ≡ Some o) k.0 is) in
-          absurd (gone_uncommitted o.fate (ap (λ (v : Standing). v.fate) (sym one) ∙ gone) c)
+          absurd (gone_uncommitted o.fate (ap (λ (v : Known). v.fate) (sym one) ∙ gone) c)
       | inr k ↦ held.upgrades t o (stood_other t o k.0 is) c up
     ];
     low = at_most_then W.threshold top top' held.low rises;
     high = λ t o is c. elim (key_cases t u) [
       | inl k ↦
           let one : p ≡ o = same_Some p o (sym put_in.here ∙ subst (λ v. new v ≡ Some o) k.0 is) in
-          absurd (gone_uncommitted o.fate (ap (λ (v : Standing). v.fate) (sym one) ∙ gone) c)
+          absurd (gone_uncommitted o.fate (ap (λ (v : Known). v.fate) (sym one) ∙ gone) c)
       | inr k ↦ at_most_then t top top' (held.high t o (stood_other t o k.0 is) c) rises
     ];
   }
@@ -262,14 +262,14 @@ module _ (st new : Ts → Option Standing) (top top' : Ts) (W : Window) (u : Ts)
       gone_uncommitted Aborted e c = c
 
   -- u is an upgrade that commits, and all others that live have committed before it
-  held_cleared : IsCommitted p.fate → AtMost u top' → ((t : Ts) (o : Standing) → st t ≡ Some o → t ≢ u → Lives o.fate → IsCommitted o.fate × Before t u) → Held new top' (cleared u)
+  held_cleared : IsCommitted p.fate → AtMost u top' → ((t : Ts) (o : Known) → st t ≡ Some o → t ≢ u → Lives o.fate → IsCommitted o.fate × Before t u) → Held new top' (cleared u)
   held_cleared committed below fenced = record {
     sorted = none_sorted;
     members = λ t m is. (let e : None ≡ Some m = is in cc);
     opens = λ t o is at_first. elim (key_cases t u) [
       | inl k ↦
           let one : p ≡ o = same_Some p o (sym put_in.here ∙ subst (λ v. new v ≡ Some o) k.0 is) in
-          not_open o.fate at_first (subst (λ (v : Standing). IsCommitted v.fate) one committed)
+          not_open o.fate at_first (subst (λ (v : Known). IsCommitted v.fate) one committed)
       | inr k ↦ not_open o.fate at_first (fenced t o (stood_other t o k.0 is) k.0 (lives_open o.fate at_first)).0
     ];
     committed = λ t o is c. inr (elim (key_cases t u) [
@@ -307,14 +307,14 @@ committed_before n q Aborted Open m c = absurd m
 committed_before n q Aborted (Committed at) m c = absurd m
 committed_before n q Aborted Aborted m c = c
 
-agrees_open : (d : Bool) (f g : Fate) → Agrees d f → f ≡ Open → g ≡ Open → Agrees d g
-agrees_open d f g a e h = subst (Agrees d) (e ∙ sym h) a
+agrees_open : (d : Bool) (f g : Fate) → MemberFits d f → f ≡ Open → g ≡ Open → MemberFits d g
+agrees_open d f g a e h = subst (MemberFits d) (e ∙ sym h) a
 
 module _ (b : Base) where
-  put_in_state : (S : State) (u : Ts) (p : Standing) → or_lost b S u p ≡ p → PutIn (standing b S) (λ t. option_map (or_lost b S t) (get (insert S.known u p) t)) u p
+  put_in_state : (S : State) (u : Ts) (p : Known) → or_lost b S u p ≡ p → PutIn (known_in b S) (λ t. option_map (or_lost b S t) (get (insert S.known u p) t)) u p
   put_in_state S u p same = record {
     here = elim (inserted_cases S.known u p u) [
-      | inl k ↦ ap (option_map (or_lost b S u)) k.1 ∙ ap (λ (o : Standing). Some o) same
+      | inl k ↦ ap (option_map (or_lost b S u)) k.1 ∙ ap (λ (o : Known). Some o) same
       | inr k ↦ absurd (k.0 refl)
     ];
     others = λ t other. elim (inserted_cases S.known u p t) [
@@ -325,63 +325,63 @@ module _ (b : Base) where
 
   -- an undecided upgrade is behind all others that live, and they have committed
   abbrev Fenced : State → Type 0
-  Fenced S = (u : Ts) (w : Standing) → standing b S u ≡ Some w → w.fate ≡ Open → IsTrue (is_upgrade w.request)
-      → (t : Ts) (o : Standing) → standing b S t ≡ Some o → t ≢ u → Lives o.fate → IsCommitted o.fate × Before t u
+  Fenced S = (u : Ts) (w : Known) → known_in b S u ≡ Some w → w.fate ≡ Open → IsTrue (is_upgrade w.request)
+      → (t : Ts) (o : Known) → known_in b S t ≡ Some o → t ≢ u → Lives o.fate → IsCommitted o.fate × Before t u
 
-  held_begun : (S : State) (W : Window) (q : Request) → LifeBegan b S → Held (standing b S) S.top W
-      → Held (standing b (put b S (Prepared q))) S.top (enter W q false)
+  held_begun : (S : State) (W : Window) (q : Request) → LifeBegan b S → Held (known_in b S) S.top W
+      → Held (known_in b (put b S (Prepared q))) S.top (enter W q false)
   held_begun S W q began held =
-      let p : Standing = record { place = S.length; request = q; fate = Open } in
+      let p : Known = record { place = S.length; request = q; fate = Open } in
       let same : or_lost b S q.tx p ≡ p = ap (λ (x : Bool). record p { fate = lapse Open x }) (not_lost b S q.tx began) in
-      held_member (standing b S) (standing b (put b S (Prepared q))) S.top S.top W q.tx p (put_in_state S q.tx p same) held (at_most_itself S.top) (with_room W) false (roomy W held.sorted) tt (λ c up. c) (λ c. absurd c)
+      held_member (known_in b S) (known_in b (put b S (Prepared q))) S.top S.top W q.tx p (put_in_state S q.tx p same) held (at_most_itself S.top) (with_room W) false (roomy W held.sorted) tt (λ c up. c) (λ c. absurd c)
 
-  held_one : (S : State) (W : Window) (q : Request) → is_upgrade q ≡ false → Held (standing b S) S.top W
-      → Held (standing b (put b S (One q))) (later_of S.top q.tx) (enter W q true)
+  held_one : (S : State) (W : Window) (q : Request) → is_upgrade q ≡ false → Held (known_in b S) S.top W
+      → Held (known_in b (put b S (One q))) (later_of S.top q.tx) (enter W q true)
   held_one S W q plain held =
-      let p : Standing = record { place = S.length; request = q; fate = Committed S.length } in
-      held_member (standing b S) (standing b (put b S (One q))) S.top (later_of S.top q.tx) W q.tx p (put_in_state S q.tx p refl) held (first_at_most S.top q.tx) (with_room W) true (roomy W held.sorted) tt (λ c up. let e : false ≡ true = sym plain ∙ up in cc) (λ c. second_at_most S.top q.tx)
+      let p : Known = record { place = S.length; request = q; fate = Committed S.length } in
+      held_member (known_in b S) (known_in b (put b S (One q))) S.top (later_of S.top q.tx) W q.tx p (put_in_state S q.tx p refl) held (first_at_most S.top q.tx) (with_room W) true (roomy W held.sorted) tt (λ c up. let e : false ≡ true = sym plain ∙ up in cc) (λ c. second_at_most S.top q.tx)
 
-  held_upgraded : (S : State) (W : Window) (q : Request) → IsTrue (is_upgrade q) → Admits b S q → Held (standing b S) S.top W
-      → Held (standing b (put b S (Upgraded q))) (later_of S.top q.tx) (cleared q.tx)
+  held_upgraded : (S : State) (W : Window) (q : Request) → IsTrue (is_upgrade q) → Admits b S q → Held (known_in b S) S.top W
+      → Held (known_in b (put b S (Upgraded q))) (later_of S.top q.tx) (cleared q.tx)
   held_upgraded S W q upgrade admits held =
-      let p : Standing = record { place = S.length; request = q; fate = Committed S.length } in
-      held_cleared (standing b S) (standing b (put b S (Upgraded q))) S.top (later_of S.top q.tx) W q.tx p (put_in_state S q.tx p refl) held (first_at_most S.top q.tx) tt (second_at_most S.top q.tx)
+      let p : Known = record { place = S.length; request = q; fate = Committed S.length } in
+      held_cleared (known_in b S) (known_in b (put b S (Upgraded q))) S.top (later_of S.top q.tx) W q.tx p (put_in_state S q.tx p refl) held (first_at_most S.top q.tx) tt (second_at_most S.top q.tx)
       (λ t o is other lives.
       let acc : Accepts q t o = MatchOption-at_some ⊤ (Accepts q t) o is (admits.accepted t) in
       (acc lives).0 (bars-upgrade q o.request upgrade))
 
-  held_close : (S : State) (W : Window) (t : Ts) (c : Bool) (o : Option Standing) → standing b S t ≡ o → ((p : Standing) → o ≡ Some p → p.request.tx ≡ t) → Fenced S → Held (standing b S) S.top W
-      → Held (standing b (settle S t c o)) (settle S t c o).top (close W t c o)
+  held_close : (S : State) (W : Window) (t : Ts) (c : Bool) (o : Option Known) → known_in b S t ≡ o → ((p : Known) → o ≡ Some p → p.request.tx ≡ t) → Fenced S → Held (known_in b S) S.top W
+      → Held (known_in b (settle S t c o)) (settle S t c o).top (close W t c o)
   held_close S W t c None is named fenced held = held
   held_close S W t c (Some p) is named fenced held = by_fate p.fate refl c
     where
-      new : Standing
+      new : Known
       new = record { place = p.place; request = p.request; fate = Committed S.length }
 
       below : AtMost t (later_of S.top p.request.tx)
       below = subst (λ u. AtMost u (later_of S.top p.request.tx)) (named p refl) (second_at_most S.top p.request.tx)
 
-      by_kind : p.fate ≡ Open → (x : Bool) → is_upgrade p.request ≡ x → Held (standing b (commit S t p.place p.request)) (later_of S.top p.request.tx) (cond x (cleared t) (record { threshold = W.threshold; members = insert W.members t (record { decided = true; request = p.request }) }))
+      by_kind : p.fate ≡ Open → (x : Bool) → is_upgrade p.request ≡ x → Held (known_in b (commit S t p.place p.request)) (later_of S.top p.request.tx) (cond x (cleared t) (record { threshold = W.threshold; members = insert W.members t (record { decided = true; request = p.request }) }))
       by_kind at_first true upgrade =
-          held_cleared (standing b S) (standing b (commit S t p.place p.request)) S.top (later_of S.top p.request.tx) W t (record { place = p.place; request = p.request; fate = Committed S.length }) (put_in_state S t _ refl) held (first_at_most S.top p.request.tx) tt below
+          held_cleared (known_in b S) (known_in b (commit S t p.place p.request)) S.top (later_of S.top p.request.tx) W t (record { place = p.place; request = p.request; fate = Committed S.length }) (put_in_state S t _ refl) held (first_at_most S.top p.request.tx) tt below
           (fenced t p is at_first upgrade)
       by_kind at_first false k =
-          held_member (standing b S) (standing b (commit S t p.place p.request)) S.top (later_of S.top p.request.tx) W t (record { place = p.place; request = p.request; fate = Committed S.length }) (put_in_state S t _ refl) held (first_at_most S.top p.request.tx) W true (roomy_same W held.sorted) tt (λ c up. let e : false ≡ true = sym k ∙ up in cc) (λ c. below)
+          held_member (known_in b S) (known_in b (commit S t p.place p.request)) S.top (later_of S.top p.request.tx) W t (record { place = p.place; request = p.request; fate = Committed S.length }) (put_in_state S t _ refl) held (first_at_most S.top p.request.tx) W true (roomy_same W held.sorted) tt (λ c up. let e : false ≡ true = sym k ∙ up in cc) (λ c. below)
 
-      by_fate : (f : Fate) → p.fate ≡ f → (d : Bool) → Held (standing b (settle_by S t d p f)) (settle_by S t d p f).top (close_by W t d p f)
+      by_fate : (f : Fate) → p.fate ≡ f → (d : Bool) → Held (known_in b (settle_by S t d p f)) (settle_by S t d p f).top (close_by W t d p f)
       by_fate Open at_first true = by_kind at_first (is_upgrade p.request) refl
-      by_fate Open at_first false = held_aborted (standing b S) (standing b (record S { known = insert S.known t (record p { fate = Aborted }) })) S.top S.top W t (record p { fate = Aborted }) (put_in_state S t (record p { fate = Aborted }) refl) held (at_most_itself S.top) refl
+      by_fate Open at_first false = held_aborted (known_in b S) (known_in b (record S { known = insert S.known t (record p { fate = Aborted }) })) S.top S.top W t (record p { fate = Aborted }) (put_in_state S t (record p { fate = Aborted }) refl) held (at_most_itself S.top) refl
       by_fate (Committed a) at_first d = held
       by_fate Aborted at_first d = held
 
-  undecided_kept : (o : Standing) → o.fate ≡ Open → is_undecided (Some o) ≡ true
+  undecided_kept : (o : Known) → o.fate ≡ Open → is_undecided (Some o) ≡ true
   undecided_kept o e = ap is_open e
 
-  kept_undecided : (k : Option Standing) → is_undecided k ≡ true → (o : Standing) × (k ≡ Some o) × (o.fate ≡ Open)
+  kept_undecided : (k : Option Known) → is_undecided k ≡ true → (o : Known) × (k ≡ Some o) × (o.fate ≡ Open)
   kept_undecided None e = cc
   kept_undecided (Some o) e = by_fate o.fate refl e
     where
-      by_fate : (f : Fate) → o.fate ≡ f → is_open f ≡ true → (v : Standing) × (Some o ≡ Some v) × (v.fate ≡ Open)
+      by_fate : (f : Fate) → o.fate ≡ f → is_open f ≡ true → (v : Known) × (Some o ≡ Some v) × (v.fate ≡ Open)
       by_fate Open h k = (o, refl, h)
       by_fate (Committed a) h k = cc
       by_fate Aborted h k = cc
@@ -390,11 +390,11 @@ module _ (b : Base) where
   true_cond true o m e = (refl, e)
   true_cond false o m e = cc
 
-  held_life : (S : State) (W : Window) (n : ℕ) → LifeBegan b S → owes b S (Life n) → Held (standing b S) S.top W
-      → Held (standing b (put b S (Life n))) S.top (slide b S W (Life n))
+  held_life : (S : State) (W : Window) (n : ℕ) → LifeBegan b S → owes b S (Life n) → Held (known_in b S) S.top W
+      → Held (known_in b (put b S (Life n))) S.top (slide b S W (Life n))
   held_life S W n began owed held =
-      let new = standing b (put b S (Life n)) in
-      let stays = λ (t : Ts). is_undecided (standing b (put b S (Life n)) t) in
+      let new = known_in b (put b S (Life n)) in
+      let stays = λ (t : Ts). is_undecided (known_in b (put b S (Life n)) t) in
       record {
         sorted = IsSorted-keep ts_cmp W.members stays held.sorted;
         members = λ t m is.
@@ -404,7 +404,7 @@ module _ (b : Base) where
             let y = was S n began owed t x.0 x.1 in
             let one : old.0 ≡ y.0 = same_Some old.0 y.0 (sym old.1 ∙ y.1) in
             let open_old : y.0.fate ≡ Open = open_before [] S.length y.0.request y.0.fate x.0.fate y.2.2 x.2 in
-            (x.0, x.1, y.2.1 ∙ ap (λ (v : Standing). v.request) (sym one) ∙ old.2, agrees_open m.decided y.0.fate x.0.fate (subst (λ (v : Standing). Agrees m.decided v.fate) one old.3) open_old x.2);
+            (x.0, x.1, y.2.1 ∙ ap (λ (v : Known). v.request) (sym one) ∙ old.2, agrees_open m.decided y.0.fate x.0.fate (subst (λ (v : Known). MemberFits m.decided v.fate) one old.3) open_old x.2);
         opens = λ t o is at_first.
             let y = was S n began owed t o is in
             let x = held.opens t y.0 y.1 (open_before [] S.length y.0.request y.0.fate o.fate y.2.2 at_first) in
@@ -421,19 +421,19 @@ module _ (b : Base) where
             held.high t y.0 y.1 (committed_before S.length y.0.request y.0.fate o.fate y.2.2 c);
       }
     where
-      was : (S : State) (n : ℕ) → LifeBegan b S → owes b S (Life n) → (t : Ts) (o : Standing) → standing b (put b S (Life n)) t ≡ Some o → (v : Standing) × (standing b S t ≡ Some v) × Kept [] S.length v o
+      was : (S : State) (n : ℕ) → LifeBegan b S → owes b S (Life n) → (t : Ts) (o : Known) → known_in b (put b S (Life n)) t ≡ Some o → (v : Known) × (known_in b S t ≡ Some v) × Kept [] S.length v o
       was S n began owed t o is = elim (came b S (Life n) began owed t o is) [
         | inl x ↦ absurd x.1.0
         | inr x ↦ x
       ]
 
-  held_slide : (S : State) (W : Window) (e : Entry) → Placed b S → owes b S e → Fenced S → Held (standing b S) S.top W → Held (standing b (put b S e)) (put b S e).top (slide b S W e)
+  held_slide : (S : State) (W : Window) (e : Entry) → Placed b S → owes b S e → Fenced S → Held (known_in b S) S.top W → Held (known_in b (put b S e)) (put b S e).top (slide b S W e)
   held_slide S W (Life n) h o f held = held_life S W n h.began o held
   held_slide S W (One q) h o f held = held_one S W q o.2 held
   held_slide S W (Prepared q) h o f held = held_begun S W q h.began held
   held_slide S W (Upgraded q) h o f held = held_upgraded S W q o.2 o.0 held
-  held_slide S W (Decided t c) h o f held = held_close S W t c (standing b S t) refl (λ p is. (h.fits t p is).named) f held
-  held_slide S W (Finished t c) h o f held = held_close S W t c (standing b S t) refl (λ p is. (h.fits t p is).named) f held
+  held_slide S W (Decided t c) h o f held = held_close S W t c (known_in b S t) refl (λ p is. (h.fits t p is).named) f held
+  held_slide S W (Finished t c) h o f held = held_close S W t c (known_in b S t) refl (λ p is. (h.fits t p is).named) f held
 
   -- ---- the history
 
@@ -467,7 +467,7 @@ module _ (b : Base) where
   pub window-end : (H : List Entry) (e : Entry) → window b (H ++ e ∷ []) ≡ slide b (state b H) (window b H) e
   window-end H e = window_from-end (start b) (record { threshold = b.top; members = empty }) H e
 
-  held_start : Held (standing b (start b)) b.top (window b [])
+  held_start : Held (known_in b (start b)) b.top (window b [])
   held_start = record {
     sorted = none_sorted;
     members = λ t m is. (let e : None ≡ Some m = is in cc);
@@ -478,13 +478,13 @@ module _ (b : Base) where
     high = λ t o is c. (let e : None ≡ Some o = is in cc);
   }
 
-  pub held : (H : List Entry) → sound b H → Held (standing b (state b H)) (state b H).top (window b H)
-  held = by_growth b (λ H. Held (standing b (state b H)) (state b H).top (window b H)) held_start
+  pub held : (H : List Entry) → sound b H → Held (known_in b (state b H)) (state b H).top (window b H)
+  held = by_growth b (λ H. Held (known_in b (state b H)) (state b H).top (window b H)) held_start
       (λ H e sd ih ow.
       let step = held_slide (state b H) (window b H) e (placed b H sd) ow (fenced H sd) ih in
       let same : put b (state b H) e ≡ state b (H ++ e ∷ []) = sym (state-end b H e) in
-      subst (λ W. Held (standing b (state b (H ++ e ∷ []))) (state b (H ++ e ∷ [])).top W) (sym (window-end H e))
-      (subst (λ (S : State). Held (standing b S) S.top (slide b (state b H) (window b H) e)) same step))
+      subst (λ W. Held (known_in b (state b (H ++ e ∷ []))) (state b (H ++ e ∷ [])).top W) (sym (window-end H e))
+      (subst (λ (S : State). Held (known_in b S) S.top (slide b (state b H) (window b H) e)) same step))
 
   is_some_from : {X : Type 0} (o : Option X) (x : X) → o ≡ Some x → IsSome o
   is_some_from None x e = cc
@@ -494,7 +494,7 @@ module _ (b : Base) where
   covers H sd =
       let h = held H sd in
       record {
-        members = λ t m is. let x = h.members t m is in subst (λ k. IsSomeAnd k (λ o. (o.request ≡ m.request) × Agrees m.decided o.fate)) (sym x.1) (x.2, x.3);
+        members = λ t m is. let x = h.members t m is in subst (λ k. IsSomeAnd k (λ o. (o.request ≡ m.request) × MemberFits m.decided o.fate)) (sym x.1) (x.2, x.3);
         undecided = λ t o is at_first. let x = h.opens t o is at_first in is_some_from (get (window b H).members t) x.0 x.1;
         committed = λ t o is c. elim (h.committed t o is c) [
           | inl x ↦ inl (is_some_from (get (window b H).members t) x.0 x.1)

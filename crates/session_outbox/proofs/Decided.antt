@@ -6,7 +6,7 @@ use Rattle.session_outbox.proofs.FormDecided.{decides_form}
 use Rattle.session_outbox.proofs.Steps.{by_settling}
 use Rattle.session_outbox.proofs.Tests.{decides_all, decides_empty, decides_eq, decides_false, decides_if, decides_le, decides_less, decides_lt, decides_none, decides_not, decides_or, decides_some, decides_true, turned, ◌also◌}
 use Rattle.session_outbox.specs.Checking.{answers_nothing, each_known, has_participants, is_accepted, is_admitted, is_alone, is_bare_upgrade, is_committed, is_kept_by, is_live, is_new, is_owed, is_sound, is_there, is_vouched, settles_so}
-use Rattle.session_outbox.specs.History.{Aborted, Base, Committed, Fate, IsCommitted, LeftOver, Lives, Open, Standing, State, epoch_of, is_undecided, or_lost, put, settle, standing, start, state, undecided_in}
+use Rattle.session_outbox.specs.History.{Aborted, Base, Committed, Fate, IsCommitted, LeftOver, Lives, Open, Known, State, epoch_of, is_undecided, or_lost, put, settle, known_in, start, state, undecided_in}
 use Rattle.session_outbox.specs.Participants.{HasParticipants, IsAlone, IsBareUpgrade, takes_part}
 use Rattle.session_outbox.specs.Requests.{bars, has_created, has_read, has_written, is_upgrade, overwrites, written}
 use Rattle.session_outbox.specs.Sound.{Accepts, Admits, Vouches, kept_by, owes, sound}
@@ -43,7 +43,7 @@ decides_committed Open = ((λ e. cc), (λ h. absurd h))
 decides_committed (Committed at) = ((λ e. tt), (λ e. refl))
 decides_committed Aborted = ((λ e. cc), (λ h. absurd h))
 
-decides_accepted : (q : Request) (t : Ts) (o : Standing) → Decides (is_accepted q t o) (Accepts q t o)
+decides_accepted : (q : Request) (t : Ts) (o : Known) → Decides (is_accepted q t o) (Accepts q t o)
 decides_accepted q t o =
     let before = decides_less (ts_cmp t q.tx) in
     decides_if _ _ (decides_lives o.fate)
@@ -100,7 +100,7 @@ written_keys q x = sym (is_some-lookup (is_at (oref_cmp x)) (written q).pairs)
 decides_written : (test : Oref → Bool) (P : Oref → Type 0) (q : Request) → ((x : Oref) → Decides (test x) (P x)) → Decides (list_all test (keys (written q))) ((x : Oref) → IsTrue (has_written q x) → P x)
 decides_written test P q d = turned (decides_each test P (keys (written q)) d) (λ h x w. h x (written_keys q x ∙ w)) (λ h x w. h x (sym (written_keys q x) ∙ w))
 
-pub at_pair : (test : Ts → Standing → Bool) (f : Ts → Standing → Standing) (es : List (Ts × Standing)) → list_all (λ e. test e.0 (f e.0 e.1)) es ≡ true → (t : Ts) → IfSome (option_map (f t) (lookup (is_at (ts_cmp t)) es)) (λ o. test t o ≡ true)
+pub at_pair : (test : Ts → Known → Bool) (f : Ts → Known → Known) (es : List (Ts × Known)) → list_all (λ e. test e.0 (f e.0 e.1)) es ≡ true → (t : Ts) → IfSome (option_map (f t) (lookup (is_at (ts_cmp t)) es)) (λ o. test t o ≡ true)
 at_pair test f [] a t = tt
 at_pair test f (e ∷ es) a t = by_key (is_at (ts_cmp t) e.0) refl (at_pair test f es p.1 t)
   where
@@ -123,9 +123,9 @@ if_some None P Q f h = tt
 if_some (Some x) P Q f h = f x h
 
 module _ (b : Base) where
-  decides_known : (S : State) (test : Ts → Standing → Bool) (P : Ts → Standing → Type 0) → IsSorted S.known → ((t : Ts) (o : Standing) → Decides (test t o) (P t o)) → Decides (each_known b S test) ((t : Ts) → IfSome (standing b S t) (P t))
+  decides_known : (S : State) (test : Ts → Known → Bool) (P : Ts → Known → Type 0) → IsSorted S.known → ((t : Ts) (o : Known) → Decides (test t o) (P t o)) → Decides (each_known b S test) ((t : Ts) → IfSome (known_in b S t) (P t))
   decides_known S test P sorted d = (
-    (λ a t. if_some (standing b S t) (λ o. test t o ≡ true) (P t) (λ o e. (d t o).0 e) (at_pair test (or_lost b S) S.known.pairs a t)),
+    (λ a t. if_some (known_in b S t) (λ o. test t o ≡ true) (P t) (λ o e. (d t o).0 e) (at_pair test (or_lost b S) S.known.pairs a t)),
     (λ h. from_pairs (λ e. test e.0 (or_lost b S e.0 e.1)) S.known.pairs (λ e c.
         let here : get S.known e.0 ≡ Some e.1 = lookup-from_Contains (eq_by_cmp_equiv ts_total) e.0 e.1 S.known.pairs (IsDistinct-from_sorted ts_cmp _ sorted) c in
         let p : P e.0 (or_lost b S e.0 e.1) = subst (λ k. IfSome (option_map (or_lost b S e.0) k) (P e.0)) here (h e.0) in
@@ -133,7 +133,7 @@ module _ (b : Base) where
   )
 
   IsNew : State → Request → Oref → Type 0
-  IsNew S q x = IsTrue (has_created q x) → (get S.objects x ≡ None) × ((t : Ts) → IfSome (standing b S t) (λ o. has_written o.request x ≡ false))
+  IsNew S q x = IsTrue (has_created q x) → (get S.objects x ≡ None) × ((t : Ts) → IfSome (known_in b S t) (λ o. has_written o.request x ≡ false))
 
   decides_new : (S : State) (q : Request) → IsSorted S.known → (x : Oref) → Decides (is_new b S q x) (IsNew S q x)
   unfolding IsNew
@@ -170,7 +170,7 @@ module _ (b : Base) where
   decides_vouched : (S : State) (q : Request) → IsSorted S.known → Decides (is_vouched b S q) (Vouches b S q)
   unfolding IsNew
   decides_vouched S q sorted = turned
-      (decides_form q also decides_lt 0 S.length also decides_none (standing b S q.tx) also decides_none (get b.left q.tx)
+      (decides_form q also decides_lt 0 S.length also decides_none (known_in b S q.tx) also decides_none (get b.left q.tx)
       also decides_if _ _ (decides_eq q.tx.repo b.repo) (decides_eq q.tx.life S.life)
       also decides_participants q
       also decides_written (has_read q) (λ x. IsTrue (has_read q x)) q (λ x. decides_true (has_read q x))
@@ -221,14 +221,14 @@ module _ (b : Base) where
   decides_owed S (Life n) sorted = decides_eq n (S.life + 1)
   decides_owed S (One q) sorted = turned (decides_admitted S q sorted also decides_alone q also decides_false (is_upgrade q)) flat nested
   decides_owed S (Prepared q) sorted = decides_admitted S q sorted also decides_not _ (decides_empty q.others)
-  decides_owed S (Decided t c) sorted = decides_true (is_undecided (standing b S t)) also decides_eq t.repo b.repo
+  decides_owed S (Decided t c) sorted = decides_true (is_undecided (known_in b S t)) also decides_eq t.repo b.repo
   decides_owed S (Finished t c) sorted = decides_or _ _
-      (decides_true (is_undecided (standing b S t)) also decides_not _ (decides_eq t.repo b.repo))
+      (decides_true (is_undecided (known_in b S t)) also decides_not _ (decides_eq t.repo b.repo))
       (decides_lt 0 S.length also decides_settles c (get S.left t))
   decides_owed S (Upgraded q) sorted = turned (decides_admitted S q sorted also decides_alone q also decides_true (is_upgrade q)) flat nested
 
-  sorted_settle : (S : State) (t : Ts) (c : Bool) → IsSorted S.known → IsSorted (settle S t c (standing b S t)).known
-  sorted_settle S t c sorted = by_settling b (λ T. IsSorted T.known) S t c (standing b S t) sorted
+  sorted_settle : (S : State) (t : Ts) (c : Bool) → IsSorted S.known → IsSorted (settle S t c (known_in b S t)).known
+  sorted_settle S t c sorted = by_settling b (λ T. IsSorted T.known) S t c (known_in b S t) sorted
       (λ p is at_first k. IsSorted-insert ts_total S.known t (record { place = p.place; request = p.request; fate = Committed S.length }) sorted)
       (λ p is at_first. IsSorted-insert ts_total S.known t (record p { fate = Aborted }) sorted)
 

@@ -9,7 +9,7 @@ use Rattle.session_outbox.proofs.Places.{FateFits, Fits, Placed, came_end, place
 use Rattle.session_outbox.proofs.Prefixes.{fits, le_cases}
 use Rattle.session_outbox.proofs.Serial.{below_place, committed_at, committed_lives, order, writers_rise}
 use Rattle.session_outbox.proofs.Steps.{FateBegun, FateMoves}
-use Rattle.session_outbox.specs.History.{Aborted, Base, Committed, CommittedBelow, Fate, Open, Standing, State, commit, commit_by, commit_of, is_open, or_lost, put, settle, settle_by, standing, stands, state}
+use Rattle.session_outbox.specs.History.{Aborted, Base, Committed, CommittedBelow, Fate, Open, Known, State, commit, commit_by, commit_of, is_open, or_lost, put, settle, settle_by, known_in, known_by, state}
 use Rattle.session_outbox.specs.Laws.{BothWrote, ComesFrom, FateStays, ReadsLast, Stays, with_writes}
 use Rattle.session_outbox.specs.Requests.{has_written, written}
 use Rattle.session_outbox.specs.Sound.{owes, sound}
@@ -94,7 +94,7 @@ module _ (b : Base) where
   by_test S true q = inr (q, refl)
   by_test S false q = inl refl
 
-  by_standing : (S : State) (c : Bool) (o : Option Standing) → (commit_by S c o ≡ []) ⊎ ((q : Request) × (commit_by S c o ≡ (S.length, q) ∷ []))
+  by_standing : (S : State) (c : Bool) (o : Option Known) → (commit_by S c o ≡ []) ⊎ ((q : Request) × (commit_by S c o ≡ (S.length, q) ∷ []))
   by_standing S c None = inl refl
   by_standing S c (Some p) = by_test S (c && is_open p.fate) p.request
 
@@ -104,17 +104,17 @@ module _ (b : Base) where
   commit_shape S (One q) = inr (q, refl)
   commit_shape S (Prepared q) = inl refl
   commit_shape S (Upgraded q) = inr (q, refl)
-  commit_shape S (Decided t c) = by_standing S c (standing b S t)
-  commit_shape S (Finished t c) = by_standing S c (standing b S t)
+  commit_shape S (Decided t c) = by_standing S c (known_in b S t)
+  commit_shape S (Finished t c) = by_standing S c (known_in b S t)
 
   -- u stands in S with the request q, committed at n
   abbrev pub CommittedHere : State → Ts → Request → ℕ → Type 0
-  CommittedHere S u q n = (w : Standing) × (standing b S u ≡ Some w) × (w.request ≡ q) × (w.fate ≡ Committed n)
+  CommittedHere S u q n = (w : Known) × (known_in b S u ≡ Some w) × (w.request ≡ q) × (w.fate ≡ Committed n)
 
-  at_key : (S : State) (u : Ts) (p : Standing) → option_map (or_lost b S u) (get (insert S.known u p) u) ≡ Some (or_lost b S u p)
+  at_key : (S : State) (u : Ts) (p : Known) → option_map (or_lost b S u) (get (insert S.known u p) u) ≡ Some (or_lost b S u p)
   at_key S u p = ap (option_map (or_lost b S u)) (get-insert ts_total S.known u p u ∙ ap (λ o. cond (is_eq o) (Some p) (get S.known u)) (tied_itself ts_total u))
 
-  settled_here : (S : State) (t : Ts) (c : Bool) (o : Option Standing) (q : Request) → commit_by S c o ≡ (S.length, q) ∷ [] → ((p : Standing) → o ≡ Some p → p.request.tx ≡ t) → CommittedHere (settle S t c o) q.tx q S.length
+  settled_here : (S : State) (t : Ts) (c : Bool) (o : Option Known) (q : Request) → commit_by S c o ≡ (S.length, q) ∷ [] → ((p : Known) → o ≡ Some p → p.request.tx ≡ t) → CommittedHere (settle S t c o) q.tx q S.length
   settled_here S t c None q h named = cc
   settled_here S t c (Some p) q h named = by_fate p.fate c h
     where
@@ -134,19 +134,19 @@ module _ (b : Base) where
   commit_here S (Life n) q h k = cc
   commit_here S (One r) q h k =
       let same = one_commit S.length r q k in
-      let new : Standing = record { place = S.length; request = r; fate = Committed S.length } in
+      let new : Known = record { place = S.length; request = r; fate = Committed S.length } in
       subst (λ u. CommittedHere (put b S (One r)) u q S.length) (ap (λ (s : Request). s.tx) same) (new, at_key S r.tx new, same, refl)
   commit_here S (Prepared r) q h k = cc
   commit_here S (Upgraded r) q h k =
       let same = one_commit S.length r q k in
-      let new : Standing = record { place = S.length; request = r; fate = Committed S.length } in
+      let new : Known = record { place = S.length; request = r; fate = Committed S.length } in
       subst (λ u. CommittedHere (put b S (Upgraded r)) u q S.length) (ap (λ (s : Request). s.tx) same) (new, at_key S r.tx new, same, refl)
-  commit_here S (Decided t c) q h k = settled_here S t c (standing b S t) q k (λ p is. (h.fits t p is).named)
-  commit_here S (Finished t c) q h k = settled_here S t c (standing b S t) q k (λ p is. (h.fits t p is).named)
+  commit_here S (Decided t c) q h k = settled_here S t c (known_in b S t) q k (λ p is. (h.fits t p is).named)
+  commit_here S (Finished t c) q h k = settled_here S t c (known_in b S t) q k (λ p is. (h.fits t p is).named)
 
   -- a commit behind an entry is of before, or is this entry
-  pub committed_end : (H : List Entry) (e : Entry) → sound b H → owes b (state b H) e → (s : Ts) (w : Standing) (m : ℕ) → stands b (H ++ e ∷ []) s ≡ Some w → w.fate ≡ Committed m
-      → ((o : Standing) × (stands b H s ≡ Some o) × (o.fate ≡ Committed m) × (w.request ≡ o.request)) ⊎ ((m ≡ length H) × (commit_of b (state b H) e ≡ (length H, w.request) ∷ []))
+  pub committed_end : (H : List Entry) (e : Entry) → sound b H → owes b (state b H) e → (s : Ts) (w : Known) (m : ℕ) → known_by b (H ++ e ∷ []) s ≡ Some w → w.fate ≡ Committed m
+      → ((o : Known) × (known_by b H s ≡ Some o) × (o.fate ≡ Committed m) × (w.request ≡ o.request)) ⊎ ((m ≡ length H) × (commit_of b (state b H) e ≡ (length H, w.request) ∷ []))
   committed_end H e sd ow s w m is f = elim (came_end b H e sd ow s w is) [
     | inl x ↦ inr (begun_committed (commit_of b (state b H) e) (length H) m w.request w.fate x.1.3 f)
     | inr x ↦ elim (moved_committed (commit_of b (state b H) e) (length H) m x.0.request x.0.fate w.fate x.2.2 f) [
@@ -156,13 +156,13 @@ module _ (b : Base) where
   ]
 
   -- a transaction that committed below the place n had committed in the history below n
-  stood_committed : (H : List Entry) → sound b H → (n : ℕ) → n ≤ length H → (s : Ts) (w : Standing) (m : ℕ) → stands b H s ≡ Some w → w.fate ≡ Committed m → m < n
-      → (o : Standing) × (stands b (take n H) s ≡ Some o) × (o.fate ≡ Committed m) × (w.request ≡ o.request)
+  stood_committed : (H : List Entry) → sound b H → (n : ℕ) → n ≤ length H → (s : Ts) (w : Known) (m : ℕ) → known_by b H s ≡ Some w → w.fate ≡ Committed m → m < n
+      → (o : Known) × (known_by b (take n H) s ≡ Some o) × (o.fate ≡ Committed m) × (w.request ≡ o.request)
   stood_committed =
-      by_growth b (λ H. (n : ℕ) → n ≤ length H → (s : Ts) (w : Standing) (m : ℕ) → stands b H s ≡ Some w → w.fate ≡ Committed m → m < n → (o : Standing) × (stands b (take n H) s ≡ Some o) × (o.fate ≡ Committed m) × (w.request ≡ o.request))
+      by_growth b (λ H. (n : ℕ) → n ≤ length H → (s : Ts) (w : Known) (m : ℕ) → known_by b H s ≡ Some w → w.fate ≡ Committed m → m < n → (o : Known) × (known_by b (take n H) s ≡ Some o) × (o.fate ≡ Committed m) × (w.request ≡ o.request))
       (λ n h s w m is f l. cc)
       (λ H e sd ih ow n h s w m is f l.
-      let goal = λ (G : List Entry). (o : Standing) × (stands b G s ≡ Some o) × (o.fate ≡ Committed m) × (w.request ≡ o.request) in
+      let goal = λ (G : List Entry). (o : Known) × (known_by b G s ≡ Some o) × (o.fate ≡ Committed m) × (w.request ≡ o.request) in
       elim (le_cases n (length H) (subst (λ k. n ≤ k) (length-append H (e ∷ [])) h)) [
         | inl k ↦ subst goal (sym (take-append-le n H (e ∷ []) k)) (elim (committed_end H e sd ow s w m is f) [
           | inl x ↦ let y = ih n k s x.0 m x.1 x.2 l in (y.0, y.1, y.2, x.3 ∙ y.3)
@@ -252,10 +252,10 @@ module _ (b : Base) where
 
   -- ---- what a request reads
 
-  whole_again : (H : List Entry) → sound b H → (n : ℕ) (s : Ts) (o : Standing) → stands b (take n H) s ≡ Some o → (w : Standing) × (stands b H s ≡ Some w) × Stays o w
+  whole_again : (H : List Entry) → sound b H → (n : ℕ) (s : Ts) (o : Known) → known_by b (take n H) s ≡ Some o → (w : Known) × (known_by b H s ≡ Some w) × Stays o w
   whole_again H sd n s o is =
       let again = take-append-drop n H in
-      subst (λ G. (w : Standing) × (stands b G s ≡ Some w) × Stays o w) again (stays b (take n H) (drop n H) (subst (sound b) (sym again) sd) s o is)
+      subst (λ G. (w : Known) × (known_by b G s ≡ Some w) × Stays o w) again (stays b (take n H) (drop n H) (subst (sound b) (sym again) sd) s o is)
 
   pub reads_last : (H : List Entry) → sound b H → ReadsLast b H
   reads_last H sd = record {
@@ -280,15 +280,15 @@ module _ (b : Base) where
           })
           | inr f ↦
               let s : Ts = f.0 in
-              let w : Standing = f.1 in
+              let w : Known = f.1 in
               let at : ℕ = f.2 in
               let from = f.3 in
               let prefix_fits : Fits (length (take n H)) s w = fits b (take n H) (sound_take b n H sd) s w from.there in
               let at_below : at < length (take n H) = (fits_at w.place (length (take n H)) at w.fate from.fate prefix_fits.fate).1 in
               let short : length (take n H) ≡ n = length-take-le n H n_le in
               let y = whole_again H sd n s w from.there in
-              let w' : Standing = y.0 in
-              let there : stands b H s ≡ Some w' = y.1 in
+              let w' : Known = y.0 in
+              let there : known_by b H s ≡ Some w' = y.1 in
               let st : Stays w w' = y.2 in
               let fate : w'.fate ≡ Committed at = stays_committed at w.fate w'.fate from.fate st.fate in
               let wrote : IsTrue (has_written w'.request x) = subst (λ q. IsTrue (has_written q x)) (sym st.request) from.wrote in
@@ -302,8 +302,8 @@ module _ (b : Base) where
                   writes = record {
                     there = there;
                     other = λ e.
-                        let one : Some w' ≡ Some o = sym there ∙ subst (λ u. stands b H u ≡ Some o) (sym e) r.there in
-                        let place : w'.place ≡ n = ap (λ (u : Standing). u.place) (same_Some w' o one) in
+                        let one : Some w' ≡ Some o = sym there ∙ subst (λ u. known_by b H u ≡ Some o) (sym e) r.there in
+                        let place : w'.place ≡ n = ap (λ (u : Known). u.place) (same_Some w' o one) in
                         omega arith;
                     wrote = wrote;
                   };

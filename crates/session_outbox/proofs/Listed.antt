@@ -6,7 +6,7 @@ use Rattle.session_outbox.proofs.Growth.{by_growth, length-state, sound-end, sta
 use Rattle.session_outbox.proofs.LastWrite.{commit_here, commit_shape, committed_end, fits_at, one_commit, one_if, stays_committed}
 use Rattle.session_outbox.proofs.Places.{Placed, came_end, placed, stays}
 use Rattle.session_outbox.proofs.Prefixes.{fits, judged}
-use Rattle.session_outbox.specs.History.{Aborted, Base, Committed, Fate, Open, Standing, State, commit_by, commit_of, commits, commits_from, is_open, put, standing, stands, start, state}
+use Rattle.session_outbox.specs.History.{Aborted, Base, Committed, Fate, Open, Known, State, commit_by, commit_of, commits, commits_from, is_open, put, known_in, known_by, start, state}
 use Rattle.session_outbox.specs.Laws.{Asks, Commits, CommitsListed, Recorded, Stays}
 use Rattle.session_outbox.specs.Sound.{owes, sound}
 use Rattle.std.proofs.Common.{List, [], ap, arith, inl, inr, length, refl, subst, suc, sym, zero, ℕ, ◌++◌, ◌<◌, ◌≡◌, ◌∙◌, ◌∷◌, append_assoc, get_or}
@@ -53,9 +53,9 @@ module _ (b : Base) where
   entry_new : (H : List Entry) (e : Entry) (P : Entry → Type 0) (k : ℕ) → k ≡ length H → P e → IsSomeAnd (slice_get (H ++ e ∷ []) k) P
   entry_new H e P k same p = is_some_and (slice_get (H ++ e ∷ []) k) P e (ap (slice_get (H ++ e ∷ [])) same ∙ get_end H e) p
 
-  asked : (H : List Entry) → sound b H → (t : Ts) (o : Standing) → stands b H t ≡ Some o → IsSomeAnd (slice_get H o.place) (λ e. Asks e o.request)
+  asked : (H : List Entry) → sound b H → (t : Ts) (o : Known) → known_by b H t ≡ Some o → IsSomeAnd (slice_get H o.place) (λ e. Asks e o.request)
   asked =
-      by_growth b (λ H. (t : Ts) (o : Standing) → stands b H t ≡ Some o → IsSomeAnd (slice_get H o.place) (λ e. Asks e o.request))
+      by_growth b (λ H. (t : Ts) (o : Known) → known_by b H t ≡ Some o → IsSomeAnd (slice_get H o.place) (λ e. Asks e o.request))
       (λ t o is. cc)
       (λ H e sd ih ow t o is. elim (came_end b H e sd ow t o is) [
         | inl x ↦ entry_new H e (λ f. Asks f o.request) o.place x.1.2 x.1.0
@@ -66,7 +66,7 @@ module _ (b : Base) where
             entry_stays H e (λ f. Asks f o.request) o.place (omega arith) old
       ])
 
-  commits_settled : (S : State) (u : Ts) (c : Bool) (o : Option Standing) (q : Request) → commit_by S c o ≡ (S.length, q) ∷ [] → ((p : Standing) → o ≡ Some p → p.request.tx ≡ u) → (u ≡ q.tx) × (c ≡ true)
+  commits_settled : (S : State) (u : Ts) (c : Bool) (o : Option Known) (q : Request) → commit_by S c o ≡ (S.length, q) ∷ [] → ((p : Known) → o ≡ Some p → p.request.tx ≡ u) → (u ≡ q.tx) × (c ≡ true)
   commits_settled S u c None q k named = cc
   commits_settled S u c (Some p) q k named = by_fate p.fate c k
     where
@@ -84,12 +84,12 @@ module _ (b : Base) where
   commits_it S (One r) q h k = ap (λ (s : Request). s.tx) (one_commit S.length r q k)
   commits_it S (Prepared r) q h k = cc
   commits_it S (Upgraded r) q h k = ap (λ (s : Request). s.tx) (one_commit S.length r q k)
-  commits_it S (Decided u c) q h k = commits_settled S u c (standing b S u) q k (λ p is. (h.fits u p is).named)
-  commits_it S (Finished u c) q h k = commits_settled S u c (standing b S u) q k (λ p is. (h.fits u p is).named)
+  commits_it S (Decided u c) q h k = commits_settled S u c (known_in b S u) q k (λ p is. (h.fits u p is).named)
+  commits_it S (Finished u c) q h k = commits_settled S u c (known_in b S u) q k (λ p is. (h.fits u p is).named)
 
-  committed_by : (H : List Entry) → sound b H → (t : Ts) (o : Standing) (m : ℕ) → stands b H t ≡ Some o → o.fate ≡ Committed m → IsSomeAnd (slice_get H m) (λ e. Commits e t)
+  committed_by : (H : List Entry) → sound b H → (t : Ts) (o : Known) (m : ℕ) → known_by b H t ≡ Some o → o.fate ≡ Committed m → IsSomeAnd (slice_get H m) (λ e. Commits e t)
   committed_by =
-      by_growth b (λ H. (t : Ts) (o : Standing) (m : ℕ) → stands b H t ≡ Some o → o.fate ≡ Committed m → IsSomeAnd (slice_get H m) (λ e. Commits e t))
+      by_growth b (λ H. (t : Ts) (o : Known) (m : ℕ) → known_by b H t ≡ Some o → o.fate ≡ Committed m → IsSomeAnd (slice_get H m) (λ e. Commits e t))
       (λ t o m is f. cc)
       (λ H e sd ih ow t o m is f. elim (committed_end b H e sd ow t o m is f) [
         | inl x ↦
@@ -100,7 +100,7 @@ module _ (b : Base) where
             entry_new H e (λ g. Commits g t) m x.0 (subst (Commits e) (fits b (H ++ e ∷ []) (sound-end b H e sd ow) t o is).named c)
       ])
 
-  pub recorded : (H : List Entry) → sound b H → (t : Ts) (o : Standing) → stands b H t ≡ Some o → Recorded b H t o
+  pub recorded : (H : List Entry) → sound b H → (t : Ts) (o : Known) → known_by b H t ≡ Some o → Recorded b H t o
   recorded H sd t o is =
       let f = fits b H sd t o is in
       record {
@@ -133,9 +133,9 @@ module _ (b : Base) where
     | inr one ↦ inr (one.0, subst (λ k. commit_of b (state b H) e ≡ (k, one.0) ∷ []) (length-state b H) one.1)
   ]
 
-  listed : (H : List Entry) → sound b H → (t : Ts) (o : Standing) (m : ℕ) → stands b H t ≡ Some o → o.fate ≡ Committed m → Contains (commits b H) (m, o.request)
+  listed : (H : List Entry) → sound b H → (t : Ts) (o : Known) (m : ℕ) → known_by b H t ≡ Some o → o.fate ≡ Committed m → Contains (commits b H) (m, o.request)
   listed =
-      by_growth b (λ H. (t : Ts) (o : Standing) (m : ℕ) → stands b H t ≡ Some o → o.fate ≡ Committed m → Contains (commits b H) (m, o.request))
+      by_growth b (λ H. (t : Ts) (o : Known) (m : ℕ) → known_by b H t ≡ Some o → o.fate ≡ Committed m → Contains (commits b H) (m, o.request))
       (λ t o m is f. cc)
       (λ H e sd ih ow t o m is f. elim (committed_end b H e sd ow t o m is f) [
         | inl x ↦
@@ -147,14 +147,14 @@ module _ (b : Base) where
       ])
 
   abbrev StandsSo : List Entry → ℕ × Request → Type 0
-  StandsSo H c = IsSomeAnd (stands b H c.1.tx) (λ o. (o.request ≡ c.1) × (o.fate ≡ Committed c.0))
+  StandsSo H c = IsSomeAnd (known_by b H c.1.tx) (λ o. (o.request ≡ c.1) × (o.fate ≡ Committed c.0))
 
   stands_still : (H : List Entry) (e : Entry) → sound b H → owes b (state b H) e → (c : ℕ × Request) → StandsSo H c → StandsSo (H ++ e ∷ []) c
   stands_still H e sd ow c h =
-      let x = some_and (stands b H c.1.tx) (λ o. (o.request ≡ c.1) × (o.fate ≡ Committed c.0)) h in
+      let x = some_and (known_by b H c.1.tx) (λ o. (o.request ≡ c.1) × (o.fate ≡ Committed c.0)) h in
       let y = stays b H (e ∷ []) (sound-end b H e sd ow) c.1.tx x.0 x.1 in
       let st : Stays x.0 y.0 = y.2 in
-      is_some_and (stands b (H ++ e ∷ []) c.1.tx) (λ o. (o.request ≡ c.1) × (o.fate ≡ Committed c.0)) y.0 y.1 (st.request ∙ x.2.0, stays_committed c.0 x.0.fate y.0.fate x.2.1 st.fate)
+      is_some_and (known_by b (H ++ e ∷ []) c.1.tx) (λ o. (o.request ≡ c.1) × (o.fate ≡ Committed c.0)) y.0 y.1 (st.request ∙ x.2.0, stays_committed c.0 x.0.fate y.0.fate x.2.1 st.fate)
 
   pub stand : (H : List Entry) → sound b H → (c : ℕ × Request) → Contains (commits b H) c → StandsSo H c
   stand =
@@ -167,16 +167,16 @@ module _ (b : Base) where
           | inr same ↦
               let n = length-state b H in
               let here = commit_here b (state b H) e one.0 (placed b H sd) (subst (λ k. commit_of b (state b H) e ≡ (k, one.0) ∷ []) (sym n) one.1) in
-              let P = λ (o : Standing). (o.request ≡ one.0) × (o.fate ≡ Committed (length H)) in
-              let at_end : standing b (state b (H ++ e ∷ [])) one.0.tx ≡ Some here.0 = ap (λ S. standing b S one.0.tx) (state-end b H e) ∙ here.1 in
+              let P = λ (o : Known). (o.request ≡ one.0) × (o.fate ≡ Committed (length H)) in
+              let at_end : known_in b (state b (H ++ e ∷ [])) one.0.tx ≡ Some here.0 = ap (λ S. known_in b S one.0.tx) (state-end b H e) ∙ here.1 in
               let f : here.0.fate ≡ Committed (length H) = here.3 ∙ ap Committed n in
-              subst (StandsSo (H ++ e ∷ [])) same (is_some_and (stands b (H ++ e ∷ []) one.0.tx) P here.0 at_end (here.2, f))
+              subst (StandsSo (H ++ e ∷ [])) same (is_some_and (known_by b (H ++ e ∷ []) one.0.tx) P here.0 at_end (here.2, f))
         ]
       ])
 
   place_below : (H : List Entry) → sound b H → (c : ℕ × Request) → Contains (commits b H) c → c.0 < length H
   place_below H sd c h =
-      let x = some_and (stands b H c.1.tx) (λ o. (o.request ≡ c.1) × (o.fate ≡ Committed c.0)) (stand H sd c h) in
+      let x = some_and (known_by b H c.1.tx) (λ o. (o.request ≡ c.1) × (o.fate ≡ Committed c.0)) (stand H sd c h) in
       (fits_at x.0.place (length H) c.0 x.0.fate x.2.1 (fits b H sd c.1.tx x.0 x.1).fate).1
 
   rise : (H : List Entry) → sound b H → AllPairs (λ c d. c.0 < d.0) (commits b H)

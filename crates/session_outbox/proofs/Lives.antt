@@ -4,7 +4,7 @@ use Rattle.commit_log.specs.declared.entry.Entry.{Entry}
 use Rattle.session_outbox.proofs.Growth.{by_growth, state-end}
 use Rattle.session_outbox.proofs.Listed.{end_cases}
 use Rattle.session_outbox.proofs.Steps.{by_settling}
-use Rattle.session_outbox.specs.History.{Base, State, is_life, put, settle, standing, start, state}
+use Rattle.session_outbox.specs.History.{Base, State, is_life, put, settle, known_in, start, state}
 use Rattle.session_outbox.specs.Laws.{LivesFollow}
 use Rattle.session_outbox.specs.Sound.{owes, sound}
 use Rattle.std.proofs.Common.{List, [], ap, arith, cond, inl, inr, length, refl, subst, sym, take, ℕ, ◌+◌, ◌++◌, ◌<◌, ◌≡◌, ◌≤◌, ◌∙◌, ◌∷◌}
@@ -16,8 +16,8 @@ use Rattle.std.specs.Prelude.{Bool, Some, false, true}
 use Rattle.thor_value.specs.declared.names.Ts.{Ts}
 
 -- a Life is the only entry that changes the life
-life-settle : (b : Base) (S : State) (t : Ts) (c : Bool) → (settle S t c (standing b S t)).life ≡ S.life
-life-settle b S t c = by_settling b (λ T. T.life ≡ S.life) S t c (standing b S t) refl (λ p is o k. refl) (λ p is o. refl)
+life-settle : (b : Base) (S : State) (t : Ts) (c : Bool) → (settle S t c (known_in b S t)).life ≡ S.life
+life-settle b S t c = by_settling b (λ T. T.life ≡ S.life) S t c (known_in b S t) refl (λ p is o k. refl) (λ p is o. refl)
 
 life-put : (b : Base) (S : State) (e : Entry) → owes b S e → (put b S e).life ≡ S.life + cond (is_life e) 1 0
 life-put b S (Life n) o = o

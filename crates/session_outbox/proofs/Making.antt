@@ -5,7 +5,7 @@ use Rattle.session_outbox.proofs.Decided.{sorted_state}
 use Rattle.session_outbox.proofs.Growth.{by_growth, state-end}
 use Rattle.session_outbox.proofs.Listed.{end_cases, get_before, get_end}
 use Rattle.session_outbox.proofs.Steps.{by_settling}
-use Rattle.session_outbox.specs.History.{Base, State, put, settle, standing, state}
+use Rattle.session_outbox.specs.History.{Base, State, put, settle, known_in, state}
 use Rattle.session_outbox.specs.Outcomes.{EntriesMake, alone_at, last_alone}
 use Rattle.session_outbox.specs.Sound.{owes, sound}
 use Rattle.std.proofs.Common.{Bool, List, [], ap, eq-eqb, false, inl, inr, length, refl, subst, sym, true, ℕ, ◌++◌, ◌≡◌, ◌↔◌, ◌∙◌, ◌∷◌}
@@ -49,8 +49,8 @@ in-set m u t = by (eq_by_cmp ts_cmp t u) refl
     )
 
 module _ (b : Base) where
-  kept-settle : (S : State) (t : Ts) (c : Bool) → (settle S t c (standing b S t)).kept ≡ S.kept
-  kept-settle S t c = by_settling b (λ T. T.kept ≡ S.kept) S t c (standing b S t) refl (λ p is o k. refl) (λ p is o. refl)
+  kept-settle : (S : State) (t : Ts) (c : Bool) → (settle S t c (known_in b S t)).kept ≡ S.kept
+  kept-settle S t c = by_settling b (λ T. T.kept ≡ S.kept) S t c (known_in b S t) refl (λ p is o k. refl) (λ p is o. refl)
 
   -- one entry adds the decision that it is
   kept-put : (S : State) (e : Entry) (t : Ts) → owes b S e → IsSome (get (put b S e).kept t) ↔ (IsSome (get S.kept t) ⊎ IsKeeping e t)
@@ -92,8 +92,8 @@ module _ (b : Base) where
 
   -- ---- the last single commits
 
-  alone-settle : (S : State) (t : Ts) (c : Bool) → (settle S t c (standing b S t)).alone ≡ S.alone
-  alone-settle S t c = by_settling b (λ T. T.alone ≡ S.alone) S t c (standing b S t) refl (λ p is o k. refl) (λ p is o. refl)
+  alone-settle : (S : State) (t : Ts) (c : Bool) → (settle S t c (known_in b S t)).alone ≡ S.alone
+  alone-settle S t c = by_settling b (λ T. T.alone ≡ S.alone) S t c (known_in b S t) refl (λ p is o k. refl) (λ p is o. refl)
 
   new-alone : (m : Map nat_cmp Ts) (d c : ℕ) (t : Ts) → get (insert m d t) c ≡ option_or (cond (nat_eq d c) (Some t) None) (get m c)
   new-alone m d c t = get-insert nat_cmp_total m d t c ∙ by (eq_by_cmp nat_cmp c d) refl (nat_eq d c) refl

@@ -3,7 +3,7 @@ use Rattle.session_outbox.proofs.Decided.{at_pair, decides_lives}
 use Rattle.session_outbox.proofs.Tests.{decides_empty, decides_if}
 use Rattle.session_outbox.specs.Checking.{if_then, is_empty, is_live}
 use Rattle.session_outbox.specs.Examples.{home, mended}
-use Rattle.session_outbox.specs.History.{Standing, or_lost, stands, state}
+use Rattle.session_outbox.specs.History.{Known, or_lost, known_by, state}
 use Rattle.session_outbox.specs.Order.{HasOrder, ReadsFrom}
 use Rattle.std.proofs.Common.{List, [], refl, subst, ◌≡◌}
 use Rattle.std.proofs.lemmas.Option.{MatchOption-at_some}
@@ -15,10 +15,10 @@ use Rattle.thor_value.specs.declared.names.Oref.{Oref}
 use Rattle.thor_value.specs.declared.names.Ts.{Ts}
 use Rattle.thor_value.specs.declared.values.Obj.{Obj}
 
-quiet : Ts → Standing → Bool
+quiet : Ts → Known → Bool
 quiet s w = if_then (is_live w.fate) (is_empty w.request.writes)
 
-all_quiet : (s : Ts) (w : Standing) → stands home mended s ≡ Some w → quiet s w ≡ true
+all_quiet : (s : Ts) (w : Known) → known_by home mended s ≡ Some w → quiet s w ≡ true
 unfolding quiet
 all_quiet s w is = MatchOption-at_some ⊤ (λ o. quiet s o ≡ true) w is (at_pair quiet (or_lost home (state home mended)) (state home mended).known.pairs refl s)
 
@@ -28,7 +28,7 @@ none_there x h = cc
 none_written : (x : Oref) (ws : List (Oref × Obj)) → ws ≡ [] → IsTrue (has (overwrite {R = oref_cmp} empty ws) x) → ⊥
 none_written x ws e h = none_there x (subst (λ (vs : List (Oref × Obj)). IsTrue (has (overwrite {R = oref_cmp} empty vs) x)) e h)
 
-nothing_written : {A : Type 0} (t s : Ts) (o w : Standing) (x : Oref) → ReadsFrom home mended t s o w x → A
+nothing_written : {A : Type 0} (t s : Ts) (o w : Known) (x : Oref) → ReadsFrom home mended t s o w x → A
 unfolding quiet
 nothing_written t s o w x r =
     let none : w.request.writes ≡ [] = (decides_if _ _ (decides_lives w.fate) (decides_empty w.request.writes)).0 (all_quiet s w r.writer) r.writer_lives in

@@ -11,7 +11,7 @@ use Rattle.session_outbox.proofs.Sessions.{session-end}
 use Rattle.session_outbox.proofs.Traces.{entries-append}
 use Rattle.session_outbox.proofs.Undecided.{current-grown, pages-grown}
 use Rattle.session_outbox.specs.Calls.{last_session}
-use Rattle.session_outbox.specs.Current.{InStep, NoneAborted, Passes, commits_in, is_taking}
+use Rattle.session_outbox.specs.Current.{InStep, NoneAborted, PassesItem, commits_in, is_taking}
 use Rattle.session_outbox.specs.Exact.{ItemIsExact, exact}
 use Rattle.session_outbox.specs.Gaps.{AreCurrent, ByOthers, GrowsByOthers, StaysOrEnds, client_in, commits_behind, maker}
 use Rattle.session_outbox.specs.History.{Base, state}
@@ -170,7 +170,7 @@ module _ (b : Base) where
           none-aborted-back (entries U) (entries more) committed (subst (sound b) after owed)
           (subst (λ (H : List Entry). NoneAborted b H committed) after (subst (λ (V : List Item). NoneAborted b (entries V) committed) (sym again) g.none_aborted))
 
-      passes : Passes b T i s v w
+      passes : PassesItem b T i s v w
       passes = record { before = g.before; live = g.live; quiet = still; after = here }
 
       later : Later v w

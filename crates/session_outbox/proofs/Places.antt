@@ -4,7 +4,7 @@ use Rattle.commit_log.specs.declared.entry.Entry.{Entry}
 use Rattle.commit_log.specs.declared.request.Request.{Request}
 use Rattle.session_outbox.proofs.Growth.{by_growth, kept_by-parts, length-state, sound-beginning, state-append, state-end}
 use Rattle.session_outbox.proofs.Steps.{Begun, FateBegun, FateMoves, Kept, LifeBegan, Moved, life_began, moved, onward, origin}
-use Rattle.session_outbox.specs.History.{Base, Fate, Standing, State, Open, Committed, Aborted, commit_of, put, standing, stands, start, state}
+use Rattle.session_outbox.specs.History.{Base, Fate, Known, State, Open, Committed, Aborted, commit_of, put, known_in, known_by, start, state}
 use Rattle.session_outbox.specs.Laws.{Asks, FateStays, Stays}
 use Rattle.session_outbox.specs.Sound.{Admits, kept_by, owes, sound}
 use Rattle.std.proofs.Common.{◌≡◌, ◌≤◌, ◌<◌, ℕ, ◌+◌, List, [], ◌∷◌, ◌++◌, length, take, drop, refl, ap, sym, ◌∙◌, subst, arith, inl, inr}
@@ -22,7 +22,7 @@ FateFits p n (Committed at) = (p ≤ at) × (at < n)
 FateFits p n Aborted = Unit {0}
 
 -- t stands as o where there are n entries
-pub record Fits (n : ℕ) (t : Ts) (o : Standing) : Type 0 where
+pub record Fits (n : ℕ) (t : Ts) (o : Known) : Type 0 where
   pub below : o.place < n
   pub named : o.request.tx ≡ t
   pub fate : FateFits o.place n o.fate
@@ -70,16 +70,16 @@ fate_then Aborted Aborted (Committed d) x y = y
 fate_then Aborted Open h x y = absurd x
 fate_then Aborted (Committed c) h x y = absurd x
 
-pub stays_same : (o : Standing) → Stays o o
+pub stays_same : (o : Known) → Stays o o
 stays_same o = record { place = refl; request = refl; fate = fate_same o.fate }
 
-pub stays_then : (o w v : Standing) → Stays o w → Stays w v → Stays o v
+pub stays_then : (o w v : Known) → Stays o w → Stays w v → Stays o v
 stays_then o w v x y = record { place = y.place ∙ x.place; request = y.request ∙ x.request; fate = fate_then o.fate w.fate v.fate x.fate y.fate }
 
-pub stays_kept : (cs : List (ℕ × Request)) (n : ℕ) (o w : Standing) → Kept cs n o w → Stays o w
+pub stays_kept : (cs : List (ℕ × Request)) (n : ℕ) (o w : Known) → Kept cs n o w → Stays o w
 stays_kept cs n o w k = record { place = k.0; request = k.1; fate = fate_stays cs n o.request o.fate w.fate k.2 }
 
-pub fits_kept : (cs : List (ℕ × Request)) (n : ℕ) (t : Ts) (o w : Standing) → Kept cs n o w → Fits n t o → Fits (n + 1) t w
+pub fits_kept : (cs : List (ℕ × Request)) (n : ℕ) (t : Ts) (o w : Known) → Kept cs n o w → Fits n t o → Fits (n + 1) t w
 fits_kept cs n t o w k h =
     let below : o.place < n = h.below in
     let here : w.place ≡ o.place = k.0 in
@@ -89,7 +89,7 @@ fits_kept cs n t o w k h =
       fate = subst (λ p. FateFits p (n + 1) w.fate) (sym here) (fits_moved cs o.place n o.request o.fate w.fate below k.2 h.fate);
     }
 
-pub fits_new : (e : Entry) (cs : List (ℕ × Request)) (n : ℕ) (t : Ts) (w : Standing) → Begun e cs n t w → Fits (n + 1) t w
+pub fits_new : (e : Entry) (cs : List (ℕ × Request)) (n : ℕ) (t : Ts) (w : Known) → Begun e cs n t w → Fits (n + 1) t w
 fits_new e cs n t w k =
     let here : w.place ≡ n = k.2 in
     record {
@@ -119,17 +119,17 @@ admitted b S (Upgraded r) q x o = subst (Admits b S) x o.0
 module _ (b : Base) where
   pub record Placed (S : State) : Type 0 where
     pub began : LifeBegan b S
-    pub fits : (t : Ts) (o : Standing) → standing b S t ≡ Some o → Fits S.length t o
+    pub fits : (t : Ts) (o : Known) → known_in b S t ≡ Some o → Fits S.length t o
 
   -- where t came from, if it stands behind the entry e
-  pub came : (S : State) (e : Entry) → LifeBegan b S → owes b S e → (t : Ts) (w : Standing) → standing b (put b S e) t ≡ Some w
-      → ((standing b S t ≡ None) × Begun e (commit_of b S e) S.length t w) ⊎ ((o : Standing) × (standing b S t ≡ Some o) × Kept (commit_of b S e) S.length o w)
-  came S e h o t w is = origin e (commit_of b S e) S.length t (standing b S t) w (subst (Moved e (commit_of b S e) S.length t (standing b S t)) is (moved b S e h o t))
+  pub came : (S : State) (e : Entry) → LifeBegan b S → owes b S e → (t : Ts) (w : Known) → known_in b (put b S e) t ≡ Some w
+      → ((known_in b S t ≡ None) × Begun e (commit_of b S e) S.length t w) ⊎ ((o : Known) × (known_in b S t ≡ Some o) × Kept (commit_of b S e) S.length o w)
+  came S e h o t w is = origin e (commit_of b S e) S.length t (known_in b S t) w (subst (Moved e (commit_of b S e) S.length t (known_in b S t)) is (moved b S e h o t))
 
   -- how t stands behind the entry e, if it stood before it
-  pub goes : (S : State) (e : Entry) → LifeBegan b S → owes b S e → (t : Ts) (o : Standing) → standing b S t ≡ Some o
-      → (w : Standing) × (standing b (put b S e) t ≡ Some w) × Kept (commit_of b S e) S.length o w
-  goes S e h d t o is = onward e (commit_of b S e) S.length t o (standing b (put b S e) t) (subst (λ k. Moved e (commit_of b S e) S.length t k (standing b (put b S e) t)) is (moved b S e h d t))
+  pub goes : (S : State) (e : Entry) → LifeBegan b S → owes b S e → (t : Ts) (o : Known) → known_in b S t ≡ Some o
+      → (w : Known) × (known_in b (put b S e) t ≡ Some w) × Kept (commit_of b S e) S.length o w
+  goes S e h d t o is = onward e (commit_of b S e) S.length t o (known_in b (put b S e) t) (subst (λ k. Moved e (commit_of b S e) S.length t k (known_in b (put b S e) t)) is (moved b S e h d t))
 
   placed_put : (S : State) (e : Entry) → owes b S e → Placed S → Placed (put b S e)
   placed_put S e o h = record {
@@ -147,17 +147,17 @@ module _ (b : Base) where
   placed = by_growth b (λ H. Placed (state b H)) placed_start (λ H e s p o. subst Placed (sym (state-end b H e)) (placed_put (state b H) e o p))
 
   -- the same of a history
-  pub came_end : (H : List Entry) (e : Entry) → sound b H → owes b (state b H) e → (t : Ts) (w : Standing) → stands b (H ++ e ∷ []) t ≡ Some w
-      → ((stands b H t ≡ None) × Begun e (commit_of b (state b H) e) (length H) t w) ⊎ ((o : Standing) × (stands b H t ≡ Some o) × Kept (commit_of b (state b H) e) (length H) o w)
+  pub came_end : (H : List Entry) (e : Entry) → sound b H → owes b (state b H) e → (t : Ts) (w : Known) → known_by b (H ++ e ∷ []) t ≡ Some w
+      → ((known_by b H t ≡ None) × Begun e (commit_of b (state b H) e) (length H) t w) ⊎ ((o : Known) × (known_by b H t ≡ Some o) × Kept (commit_of b (state b H) e) (length H) o w)
   came_end H e s o t w is =
-      let is' : standing b (put b (state b H) e) t ≡ Some w = subst (λ S. standing b S t ≡ Some w) (state-end b H e) is in
-      subst (λ n. ((stands b H t ≡ None) × Begun e (commit_of b (state b H) e) n t w) ⊎ ((v : Standing) × (stands b H t ≡ Some v) × Kept (commit_of b (state b H) e) n v w)) (length-state b H)
+      let is' : known_in b (put b (state b H) e) t ≡ Some w = subst (λ S. known_in b S t ≡ Some w) (state-end b H e) is in
+      subst (λ n. ((known_by b H t ≡ None) × Begun e (commit_of b (state b H) e) n t w) ⊎ ((v : Known) × (known_by b H t ≡ Some v) × Kept (commit_of b (state b H) e) n v w)) (length-state b H)
       (came (state b H) e (placed H s).began o t w is')
 
   -- ---- what stays
 
-  stays_on : (S : State) → Placed S → (more : List Entry) → kept_by b S more → (t : Ts) (o : Standing) → standing b S t ≡ Some o
-      → (w : Standing) × (standing b (fold (put b) S more) t ≡ Some w) × Stays o w
+  stays_on : (S : State) → Placed S → (more : List Entry) → kept_by b S more → (t : Ts) (o : Known) → known_in b S t ≡ Some o
+      → (w : Known) × (known_in b (fold (put b) S more) t ≡ Some w) × Stays o w
   stays_on S h [] k t o is = (o, is, stays_same o)
   stays_on S h (e ∷ more) k t o is =
       let x = goes S e h.began k.0 t o is in
@@ -165,11 +165,11 @@ module _ (b : Base) where
       (y.0, y.1, stays_then o x.0 y.0 (stays_kept (commit_of b S e) S.length o x.0 x.2) y.2)
 
   -- a transaction that stands in a history stands in each longer one
-  pub stays : (H more : List Entry) → sound b (H ++ more) → (t : Ts) (o : Standing) → stands b H t ≡ Some o
-      → (w : Standing) × (stands b (H ++ more) t ≡ Some w) × Stays o w
+  pub stays : (H more : List Entry) → sound b (H ++ more) → (t : Ts) (o : Known) → known_by b H t ≡ Some o
+      → (w : Known) × (known_by b (H ++ more) t ≡ Some w) × Stays o w
   stays H more s t o is =
       let p = kept_by-parts b (start b) H more s in
-      subst (λ S. (w : Standing) × (standing b S t ≡ Some w) × Stays o w) (sym (state-append b H more)) (stays_on (state b H) (placed H p.0) more p.1 t o is)
+      subst (λ S. (w : Known) × (known_in b S t ≡ Some w) × Stays o w) (sym (state-append b H more)) (stays_on (state b H) (placed H p.0) more p.1 t o is)
 
   -- ---- what was at a place
 

@@ -3,7 +3,7 @@ use Rattle.commit_log.specs.declared.entry.Entry.{Entry}
 use Rattle.commit_log.specs.declared.request.Request.{Request}
 use Rattle.session_outbox.proofs.Growth.{by_growth, length-state}
 use Rattle.session_outbox.proofs.Places.{Fits, admitted, came_end, one_request, placed, stays_kept, stays_same, stays_then}
-use Rattle.session_outbox.specs.History.{Base, Standing, commit_of, stands, state}
+use Rattle.session_outbox.specs.History.{Base, Known, commit_of, known_by, state}
 use Rattle.session_outbox.specs.Laws.{Stays}
 use Rattle.session_outbox.specs.Sound.{Admits, sound}
 use Rattle.std.proofs.Common.{◌≡◌, ◌≤◌, ◌<◌, ℕ, ◌+◌, List, [], ◌∷◌, ◌++◌, length, take, ap, sym, ◌∙◌, subst, arith, inl, inr}
@@ -17,13 +17,13 @@ le_cases m n h = grind arith
 
 module _ (b : Base) where
   -- a transaction stands at a place of the history, under its own name, and commits behind it
-  pub fits : (H : List Entry) → sound b H → (t : Ts) (o : Standing) → stands b H t ≡ Some o → Fits (length H) t o
+  pub fits : (H : List Entry) → sound b H → (t : Ts) (o : Known) → known_by b H t ≡ Some o → Fits (length H) t o
   fits H s t o is = subst (λ n. Fits n t o) (length-state b H) ((placed b H s).fits t o is)
 
   -- two transactions don't stand at one place
-  pub one_at_a_place : (H : List Entry) → sound b H → (s t : Ts) (o w : Standing) → stands b H s ≡ Some o → stands b H t ≡ Some w → o.place ≡ w.place → s ≡ t
+  pub one_at_a_place : (H : List Entry) → sound b H → (s t : Ts) (o w : Known) → known_by b H s ≡ Some o → known_by b H t ≡ Some w → o.place ≡ w.place → s ≡ t
   one_at_a_place =
-      by_growth b (λ H. (s t : Ts) (o w : Standing) → stands b H s ≡ Some o → stands b H t ≡ Some w → o.place ≡ w.place → s ≡ t)
+      by_growth b (λ H. (s t : Ts) (o w : Known) → known_by b H s ≡ Some o → known_by b H t ≡ Some w → o.place ≡ w.place → s ≡ t)
       (λ s t o w is it same. cc)
       (λ H e sd ih ow s t o w is it same.
       elim (came_end b H e sd ow s o is) [
@@ -37,13 +37,13 @@ module _ (b : Base) where
         ]
       ])
     where
-      apart : {A : Type 0} (H : List Entry) (sd : sound b H) (t : Ts) (o : Standing) (is : stands b H t ≡ Some o) (w : Standing) (k : w.place ≡ o.place) (v : Standing) → v.place ≡ length H → v.place ≡ w.place → A
+      apart : {A : Type 0} (H : List Entry) (sd : sound b H) (t : Ts) (o : Known) (is : known_by b H t ≡ Some o) (w : Known) (k : w.place ≡ o.place) (v : Known) → v.place ≡ length H → v.place ≡ w.place → A
       apart H sd t o is w k v at same = let l : o.place < length H = (fits H sd t o is).below in absurd (omega arith)
 
   -- the request of a transaction owed what it owed to the history below it
-  pub judged : (H : List Entry) → sound b H → (t : Ts) (o : Standing) → stands b H t ≡ Some o → Admits b (state b (take o.place H)) o.request
+  pub judged : (H : List Entry) → sound b H → (t : Ts) (o : Known) → known_by b H t ≡ Some o → Admits b (state b (take o.place H)) o.request
   judged =
-      by_growth b (λ H. (t : Ts) (o : Standing) → stands b H t ≡ Some o → Admits b (state b (take o.place H)) o.request)
+      by_growth b (λ H. (t : Ts) (o : Known) → known_by b H t ≡ Some o → Admits b (state b (take o.place H)) o.request)
       (λ t o is. cc)
       (λ H e sd ih ow t o is.
       elim (came_end b H e sd ow t o is) [
@@ -59,15 +59,15 @@ module _ (b : Base) where
       ])
 
   -- a transaction that stands below the place n stood in the history below n
-  pub stood : (H : List Entry) → sound b H → (n : ℕ) → n ≤ length H → (t : Ts) (w : Standing) → stands b H t ≡ Some w → w.place < n
-      → (o : Standing) × (stands b (take n H) t ≡ Some o) × Stays o w
+  pub stood : (H : List Entry) → sound b H → (n : ℕ) → n ≤ length H → (t : Ts) (w : Known) → known_by b H t ≡ Some w → w.place < n
+      → (o : Known) × (known_by b (take n H) t ≡ Some o) × Stays o w
   stood =
-      by_growth b (λ H. (n : ℕ) → n ≤ length H → (t : Ts) (w : Standing) → stands b H t ≡ Some w → w.place < n → (o : Standing) × (stands b (take n H) t ≡ Some o) × Stays o w)
+      by_growth b (λ H. (n : ℕ) → n ≤ length H → (t : Ts) (w : Known) → known_by b H t ≡ Some w → w.place < n → (o : Known) × (known_by b (take n H) t ≡ Some o) × Stays o w)
       (λ n h t w is l. cc)
       (λ H e sd ih ow n h t w is l.
       elim (le_cases n (length H) (subst (λ m. n ≤ m) (length-append H (e ∷ [])) h)) [
         | inl m ↦
-            let goal = λ (G : List Entry). (o : Standing) × (stands b G t ≡ Some o) × Stays o w in
+            let goal = λ (G : List Entry). (o : Known) × (known_by b G t ≡ Some o) × Stays o w in
             subst goal (sym (take-append-le n H (e ∷ []) m)) (elim (came_end b H e sd ow t w is) [
               | inl x ↦ let at : w.place ≡ length H = x.1.2 in absurd (omega arith)
               | inr x ↦
@@ -77,5 +77,5 @@ module _ (b : Base) where
             ])
         | inr m ↦
             let whole : take n (H ++ e ∷ []) ≡ H ++ e ∷ [] = ap (λ k. take k (H ++ e ∷ [])) (m ∙ sym (length-append H (e ∷ []))) ∙ take-length (H ++ e ∷ []) in
-            (w, subst (λ G. stands b G t ≡ Some w) (sym whole) is, stays_same w)
+            (w, subst (λ G. known_by b G t ≡ Some w) (sym whole) is, stays_same w)
       ])

@@ -6,8 +6,8 @@ use Rattle.session_outbox.proofs.Covered.{Held, found_first, held, window-end}
 use Rattle.session_outbox.proofs.Decided.{sorted_state}
 use Rattle.session_outbox.proofs.Growth.{by_growth, sound-end}
 use Rattle.session_outbox.proofs.Validated.{unless_some}
-use Rattle.session_outbox.specs.Covers.{Agrees, HasRoom}
-use Rattle.session_outbox.specs.History.{Aborted, Base, Committed, Fate, Open, Standing, State, is_open, is_undecided, or_lost, put, standing, state, undecided_in}
+use Rattle.session_outbox.specs.Covers.{MemberFits, HasRoom}
+use Rattle.session_outbox.specs.History.{Aborted, Base, Committed, Fate, Open, Known, State, is_open, is_undecided, or_lost, put, known_in, state, undecided_in}
 use Rattle.session_outbox.specs.Requests.{is_upgrade}
 use Rattle.session_outbox.specs.Sound.{owes, sound}
 use Rattle.session_outbox.specs.Verdict.{full_of_undecided}
@@ -92,19 +92,19 @@ both_true : (x y : Bool) → cond x y false ≡ true → (x ≡ true) × (y ≡ 
 both_true true y h = (refl, h)
 both_true false y h = cc
 
-open_waits : (d : Bool) (f : Fate) → f ≡ Open → Agrees d f → not d ≡ true
+open_waits : (d : Bool) (f : Fate) → f ≡ Open → MemberFits d f → not d ≡ true
 open_waits true Open e a = absurd a
 open_waits true (Committed at) e a = cc
 open_waits true Aborted e a = cc
 open_waits false f e a = refl
 
-waits_open : (d : Bool) (f : Fate) → not d ≡ true → Agrees d f → is_open f ≡ true
+waits_open : (d : Bool) (f : Fate) → not d ≡ true → MemberFits d f → is_open f ≡ true
 waits_open true f e a = cc
 waits_open false Open e a = refl
 waits_open false (Committed at) e a = absurd a
 waits_open false Aborted e a = absurd a
 
-undecided_there : (k : Option Standing) → is_undecided k ≡ true → (o : Standing) × (k ≡ Some o) × (o.fate ≡ Open)
+undecided_there : (k : Option Known) → is_undecided k ≡ true → (o : Known) × (k ≡ Some o) × (o.fate ≡ Open)
 undecided_there None h = cc
 undecided_there (Some o) h = (o, refl, by o.fate h)
   where
@@ -131,7 +131,7 @@ none_first (e ∷ es) t m h is = by e.1.decided refl h (none_first es t m)
     by true d k rest = cc
     by false d k rest = at (is_at (ts_cmp t) e.0) (ap not d) (rest k) is
 
-module _ (b : Base) (S : State) (W : Window) (top : Ts) (h : Held (standing b S) top W) (sorted : IsSorted S.known) where
+module _ (b : Base) (S : State) (W : Window) (top : Ts) (h : Held (known_in b S) top W) (sorted : IsSorted S.known) where
   waiting_sorted : IsSorted (waiting W)
   unfolding waiting
   waiting_sorted = IsSorted-keep ts_cmp W.members (λ t. waits (get W.members t)) h.sorted
@@ -143,12 +143,12 @@ module _ (b : Base) (S : State) (W : Window) (top : Ts) (h : Held (standing b S)
   undecided_waits : (t : Ts) → has (undecided_in b S) t ≡ true → has (waiting W) t ≡ true
   unfolding waiting waits
   undecided_waits t k =
-      let p = both_true (is_undecided (standing b S t)) (has S.known t) (sym (has_kept S.known (λ u. is_undecided (standing b S u)) t) ∙ k) in
-      let o = undecided_there (standing b S t) p.0 in
+      let p = both_true (is_undecided (known_in b S t)) (has S.known t) (sym (has_kept S.known (λ u. is_undecided (known_in b S u)) t) ∙ k) in
+      let o = undecided_there (known_in b S t) p.0 in
       let m = h.opens t o.0 o.1 o.2 in
       let s = h.members t m.0 m.1 in
       let one : s.0 ≡ o.0 = same_Some s.0 o.0 (sym s.1 ∙ o.1) in
-      let agrees : Agrees m.0.decided o.0.fate = subst (λ (v : Standing). Agrees m.0.decided v.fate) one s.3 in
+      let agrees : MemberFits m.0.decided o.0.fate = subst (λ (v : Known). MemberFits m.0.decided v.fate) one s.3 in
       has_kept W.members (λ u. waits (get W.members u)) t
       ∙ ap (λ x. cond (waits x) (is_some x) false) m.1
       ∙ ap (λ x. cond x true false) (open_waits m.0.decided o.0.fate o.2 agrees)
@@ -157,17 +157,17 @@ module _ (b : Base) (S : State) (W : Window) (top : Ts) (h : Held (standing b S)
   waiting_undecided t k =
       let m = waits_there (get W.members t) (has_waiting t k).0 in
       let s = h.members t m.0 m.1 in
-      let open' : is_undecided (standing b S t) ≡ true = ap is_undecided s.1 ∙ waits_open m.0.decided s.0.fate m.2 s.3 in
-      has_kept S.known (λ u. is_undecided (standing b S u)) t
+      let open' : is_undecided (known_in b S t) ≡ true = ap is_undecided s.1 ∙ waits_open m.0.decided s.0.fate m.2 s.3 in
+      has_kept S.known (λ u. is_undecided (known_in b S u)) t
       ∙ ap (λ x. cond x (has S.known t) false) open'
       ∙ known (get S.known t) s.0 s.1
     where
-      known : (k : Option Standing) (v : Standing) → option_map (or_lost b S t) k ≡ Some v → is_some k ≡ true
+      known : (k : Option Known) (v : Known) → option_map (or_lost b S t) k ≡ Some v → is_some k ≡ true
       known None v e = cc
       known (Some p) v e = refl
 
   fewer : len (undecided_in b S) ≤ len (waiting W)
-  fewer = len_within (undecided_in b S) (waiting W) (IsSorted-keep ts_cmp S.known (λ t. is_undecided (standing b S t)) sorted) undecided_waits
+  fewer = len_within (undecided_in b S) (waiting W) (IsSorted-keep ts_cmp S.known (λ t. is_undecided (known_in b S t)) sorted) undecided_waits
 
   waiting_fewer : len (waiting W) ≤ len (undecided_in b S)
   waiting_fewer = len_within (waiting W) (undecided_in b S) waiting_sorted waiting_undecided
@@ -237,7 +237,7 @@ module _ (b : Base) (S : State) (W : Window) (top : Ts) (h : Held (standing b S)
 
   -- ---- one more entry
 
-  closed_fits : (t : Ts) (c : Bool) (o : Standing) → standing b S t ≡ Some o → IsSorted (close_by W t c o o.fate).members → len W.members ≤ room_for → len (close_by W t c o o.fate).members ≤ room_for
+  closed_fits : (t : Ts) (c : Bool) (o : Known) → known_in b S t ≡ Some o → IsSorted (close_by W t c o o.fate).members → len W.members ≤ room_for → len (close_by W t c o o.fate).members ≤ room_for
   closed_fits t c o is sorted' l = by o.fate refl c sorted'
     where
       member : o.fate ≡ Open → has W.members t ≡ true
@@ -268,7 +268,7 @@ module _ (b : Base) (S : State) (W : Window) (top : Ts) (h : Held (standing b S)
       by (Committed at) e d s = l
       by Aborted e d s = l
 
-  close_fits : (t : Ts) (c : Bool) → (o : Option Standing) → standing b S t ≡ o → IsSorted (close W t c o).members → len W.members ≤ room_for → len (close W t c o).members ≤ room_for
+  close_fits : (t : Ts) (c : Bool) → (o : Option Known) → known_in b S t ≡ o → IsSorted (close W t c o).members → len W.members ≤ room_for → len (close W t c o).members ≤ room_for
   close_fits t c None is s l = l
   close_fits t c (Some o) is s l = closed_fits t c o is s l
 
@@ -280,13 +280,13 @@ module _ (b : Base) (S : State) (W : Window) (top : Ts) (h : Held (standing b S)
 
   slide_fits : (e : Entry) → owes b S e → IsSorted (slide b S W e).members → len W.members ≤ room_for → len (slide b S W e).members ≤ room_for
   slide_fits (Life n) ow s l =
-      let test = λ (t : Ts). is_undecided (standing b (put b S (Life n)) t) in
+      let test = λ (t : Ts). is_undecided (known_in b (put b S (Life n)) t) in
       let k : len (keep W.members test) ≤ len W.members = len_within (keep W.members test) W.members s (λ t g. (both_true (test t) (has W.members t) (sym (has_kept W.members test t) ∙ g)).1) in
       omega arith
   slide_fits (One q) ow s l = entered_fits q true ow.0.room s l
   slide_fits (Prepared q) ow s l = entered_fits q false ow.0.room s l
-  slide_fits (Decided t c) ow s l = close_fits t c (standing b S t) refl s l
-  slide_fits (Finished t c) ow s l = close_fits t c (standing b S t) refl s l
+  slide_fits (Decided t c) ow s l = close_fits t c (known_in b S t) refl s l
+  slide_fits (Finished t c) ow s l = close_fits t c (known_in b S t) refl s l
   slide_fits (Upgraded q) ow s l = omega arith
 
 -- ---- histories

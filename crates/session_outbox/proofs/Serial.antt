@@ -5,7 +5,7 @@ use Rattle.commit_log.specs.declared.request.Request.{Request}
 use Rattle.session_outbox.proofs.Meeting.{bars-behind_upgrade, bars-reads, bars-upgrade, in_order, not_both_ways, not_same, overwrites-reads, three_ways}
 use Rattle.session_outbox.proofs.Places.{FateFits, sound_take}
 use Rattle.session_outbox.proofs.Prefixes.{fits, judged, one_at_a_place, stood}
-use Rattle.session_outbox.specs.History.{Aborted, Base, Committed, CommittedBelow, Fate, IsCommitted, Lives, Open, Standing, stands}
+use Rattle.session_outbox.specs.History.{Aborted, Base, Committed, CommittedBelow, Fate, IsCommitted, Lives, Open, Known, known_by}
 use Rattle.session_outbox.specs.Laws.{BothWrote, CreatedOnce, Creates, FateStays, Stays, UpgradesFence, WritersRise}
 use Rattle.session_outbox.specs.Order.{HasOrder}
 use Rattle.session_outbox.specs.Requests.{bars, has_read, has_written, overwrites}
@@ -65,7 +65,7 @@ not_written false h = refl
 
 module _ (b : Base) (H : List Entry) (sd : sound b H) where
   -- what a transaction owed to another whose request stands below its own, as it is now
-  pub behind : (t s : Ts) (o w : Standing) → stands b H t ≡ Some o → stands b H s ≡ Some w → Lives w.fate → w.place < o.place
+  pub behind : (t s : Ts) (o w : Known) → known_by b H t ≡ Some o → known_by b H s ≡ Some w → Lives w.fate → w.place < o.place
       → (IsTrue (bars o.request w.request) → CommittedBelow o.place w.fate × Before s t) × (IsTrue (overwrites o.request w.request) → Before s t)
   behind t s o w it is lives l =
       let fo = fits b H sd t o it in
@@ -98,10 +98,10 @@ module _ (b : Base) (H : List Entry) (sd : sound b H) where
   }
 
   -- a transaction read what it wrote
-  read_too : (t : Ts) (o : Standing) (x : Oref) → stands b H t ≡ Some o → IsTrue (has_written o.request x) → IsTrue (has_read o.request x)
+  read_too : (t : Ts) (o : Known) (x : Oref) → known_by b H t ≡ Some o → IsTrue (has_written o.request x) → IsTrue (has_read o.request x)
   read_too t o x it w = (judged b H sd t o it).vouched.within x w
 
-  earlier_settled : (s t : Ts) (w o : Standing) (x : Oref) → BothWrote b H s t w o x → Before s t → CommittedBelow o.place w.fate
+  earlier_settled : (s t : Ts) (w o : Known) (x : Oref) → BothWrote b H s t w o x → Before s t → CommittedBelow o.place w.fate
   earlier_settled s t w o x r e = order.settled t s o w x (record {
     reader = r.second;
     writer = r.first;
@@ -112,7 +112,7 @@ module _ (b : Base) (H : List Entry) (sd : sound b H) where
     wrote = r.first_wrote;
   }) e
 
-  turned : (s t : Ts) (w o : Standing) (x : Oref) → BothWrote b H s t w o x → BothWrote b H t s o w x
+  turned : (s t : Ts) (w o : Known) (x : Oref) → BothWrote b H s t w o x → BothWrote b H t s o w x
   turned s t w o x r = record {
     first = r.second;
     second = r.first;
@@ -123,7 +123,7 @@ module _ (b : Base) (H : List Entry) (sd : sound b H) where
   }
 
   -- a commit at n stands behind a commit below its request
-  commits_rise : (s t : Ts) (w o : Standing) (x : Oref) → BothWrote b H s t w o x → (m n : ℕ) → w.fate ≡ Committed m → o.fate ≡ Committed n → Before s t → m < n
+  commits_rise : (s t : Ts) (w o : Known) (x : Oref) → BothWrote b H s t w o x → (m n : ℕ) → w.fate ≡ Committed m → o.fate ≡ Committed n → Before s t → m < n
   commits_rise s t w o x r m n fm fn e =
       let l : m < o.place = committed_at o.place m w.fate fm (earlier_settled s t w o x r e) in
       let fit : FateFits o.place (length H) (Committed n) = subst (FateFits o.place (length H)) fn (fits b H sd t o r.second).fate in
@@ -139,8 +139,8 @@ module _ (b : Base) (H : List Entry) (sd : sound b H) where
         | inl e ↦ e
         | inr h ↦ elim h [
           | inl same ↦
-              let both : Some w ≡ Some o = sym r.first ∙ subst (λ u. stands b H u ≡ Some o) (sym same) r.second in
-              let one : Committed m ≡ Committed n = sym fm ∙ ap (λ (u : Standing). u.fate) (same_Some w o both) ∙ fn in
+              let both : Some w ≡ Some o = sym r.first ∙ subst (λ u. known_by b H u ≡ Some o) (sym same) r.second in
+              let one : Committed m ≡ Committed n = sym fm ∙ ap (λ (u : Known). u.fate) (same_Some w o both) ∙ fn in
               let e : m ≡ n = cc in
               absurd (omega arith)
           | inr e ↦ let k : n < m = commits_rise t s o w x (turned s t w o x r) n m fn fm e in absurd (omega arith)
@@ -157,14 +157,14 @@ module _ (b : Base) (H : List Entry) (sd : sound b H) where
     open_last = λ s t w o x r fw fo. elim (in_order s t) [
       | inl e ↦ e
       | inr h ↦ elim h [
-        | inl same ↦ absurd (apart_fates w.fate fw (ap (λ (u : Standing). u.fate) (same_Some w o (sym r.first ∙ subst (λ u. stands b H u ≡ Some o) (sym same) r.second)) ∙ fo))
+        | inl same ↦ absurd (apart_fates w.fate fw (ap (λ (u : Known). u.fate) (same_Some w o (sym r.first ∙ subst (λ u. known_by b H u ≡ Some o) (sym same) r.second)) ∙ fo))
         | inr e ↦ absurd (open_uncommitted w.place o.fate fo (earlier_settled t s o w x (turned s t w o x r) e))
       ]
     ];
   }
 
   -- two transactions of which one is an upgrade, either way round
-  fence : (s t : Ts) (w o : Standing) → stands b H s ≡ Some w → stands b H t ≡ Some o → s ≢ t → Lives w.fate → Lives o.fate
+  fence : (s t : Ts) (w o : Known) → known_by b H s ≡ Some w → known_by b H t ≡ Some o → s ≢ t → Lives w.fate → Lives o.fate
       → IsTrue (bars w.request o.request) → IsTrue (bars o.request w.request) → Before s t ↔ CommittedBelow o.place w.fate
   fence s t w o is it other lw lo bw bo = (
     (λ e. elim (three_ways w.place o.place) [
@@ -183,7 +183,7 @@ module _ (b : Base) (H : List Entry) (sd : sound b H) where
     after = λ u t w o r. fence u t w o r.upgrade r.there (λ e. r.other (sym e)) r.upgrade_lives r.other_lives (bars-upgrade w.request o.request r.is) (bars-behind_upgrade o.request w.request r.is);
   }
 
-  first_in_place : (t s : Ts) (o w : Standing) (x : Oref) → Creates b H t o x → stands b H s ≡ Some w → w.place < o.place → has_written w.request x ≡ false
+  first_in_place : (t s : Ts) (o w : Known) (x : Oref) → Creates b H t o x → known_by b H s ≡ Some w → w.place < o.place → has_written w.request x ≡ false
   first_in_place t s o w x r is l =
       let p : o.place < length H = (fits b H sd t o r.there).below in
       let y = stood b H sd o.place (omega arith) s w is l in

@@ -5,7 +5,7 @@ use Rattle.commit_log.specs.declared.request.Request.{Request}
 use Rattle.session_outbox.proofs.Growth.{state-end}
 use Rattle.session_outbox.proofs.Places.{goes, placed}
 use Rattle.session_outbox.proofs.Steps.{FateMoves, LifeBegan, by_settling}
-use Rattle.session_outbox.specs.History.{Aborted, Base, Committed, Fate, IsCommitted, Open, Standing, State, lapse, or_lost, put, settle, settle_by, standing, stands, state}
+use Rattle.session_outbox.specs.History.{Aborted, Base, Committed, Fate, IsCommitted, Open, Known, State, lapse, or_lost, put, settle, settle_by, known_in, known_by, state}
 use Rattle.session_outbox.specs.Outcomes.{Causes, Ended, MaySettle}
 use Rattle.session_outbox.specs.Sound.{owes, sound}
 use Rattle.std.proofs.Common.{Bool, List, [], ap, arith, cond, false, inl, inr, refl, subst, sym, true, ℕ, ◌++◌, ◌≡◌, ◌≢◌, ◌∙◌, ◌∷◌}
@@ -53,27 +53,27 @@ same-ts t u = by (eq_by_cmp ts_cmp t u) refl
     by false h = inr (λ e. let k : eq_by_cmp ts_cmp t u ≡ true = subst (λ (v : Ts). eq_by_cmp ts_cmp t v ≡ true) e (ap is_eq (tied_itself ts_total t)) in cc)
 
 module _ (b : Base) where
-  elsewhere : (S : State) (u t : Ts) (p : Standing) → ¬ (t ≡ u) → option_map (or_lost b S t) (get (insert S.known u p) t) ≡ standing b S t
+  elsewhere : (S : State) (u t : Ts) (p : Known) → ¬ (t ≡ u) → option_map (or_lost b S t) (get (insert S.known u p) t) ≡ known_in b S t
   elsewhere S u t p h = ap (option_map (or_lost b S t)) (get-insert ts_total S.known u p t ∙ ap (λ (same : Bool). cond same (Some p) (get S.known t)) (other-key t u h))
 
-  new-apart : (S : State) (u t : Ts) (p : Standing) → standing b S u ≡ None → standing b S t ≡ Some p → ¬ (t ≡ u)
-  new-apart S u t p none is e = let f : Some p ≡ None = sym is ∙ ap (standing b S) e ∙ none in cc
+  new-apart : (S : State) (u t : Ts) (p : Known) → known_in b S u ≡ None → known_in b S t ≡ Some p → ¬ (t ≡ u)
+  new-apart S u t p none is e = let f : Some p ≡ None = sym is ∙ ap (known_in b S) e ∙ none in cc
 
-  settled-other : (S : State) (u t : Ts) (c : Bool) → ¬ (t ≡ u) → standing b (settle S u c (standing b S u)) t ≡ standing b S t
+  settled-other : (S : State) (u t : Ts) (c : Bool) → ¬ (t ≡ u) → known_in b (settle S u c (known_in b S u)) t ≡ known_in b S t
   settled-other S u t c h =
-      by_settling b (λ Z. standing b Z t ≡ standing b S t) S u c (standing b S u) refl
+      by_settling b (λ Z. known_in b Z t ≡ known_in b S t) S u c (known_in b S u) refl
       (λ p is at_first k. elsewhere S u t (record { place = p.place; request = p.request; fate = Committed S.length }) h)
       (λ p is at_first. elsewhere S u t (record p { fate = Aborted }) h)
 
-  life-other : (S : State) (n : ℕ) (t : Ts) → ¬ (t.repo ≡ b.repo) → standing b (put b S (Life n)) t ≡ standing b S t
+  life-other : (S : State) (n : ℕ) (t : Ts) → ¬ (t.repo ≡ b.repo) → known_in b (put b S (Life n)) t ≡ known_in b S t
   life-other S n t h = by (get S.known t)
     where
-      by : (k : Option Standing) → option_map (or_lost b (put b S (Life n)) t) k ≡ option_map (or_lost b S t) k
+      by : (k : Option Known) → option_map (or_lost b (put b S (Life n)) t) k ≡ option_map (or_lost b S t) k
       by None = refl
       by (Some p) = ap (λ (l : Bool). Some (record p { fate = lapse p.fate l })) (neither (nat_eq t.repo b.repo) (nat_lt p.place S.length) (nat_lt p.place S.last_life) (other-number t.repo b.repo h))
 
   -- it leaves the transaction as it stands
-  pub stands-still : (S : State) (e : Entry) (t : Ts) (p : Standing) → owes b S e → ¬ MaySettle b t e → standing b S t ≡ Some p → standing b (put b S e) t ≡ Some p
+  pub stands-still : (S : State) (e : Entry) (t : Ts) (p : Known) → owes b S e → ¬ MaySettle b t e → known_in b S t ≡ Some p → known_in b (put b S e) t ≡ Some p
   stands-still S (Life n) t p o h is = life-other S n t h ∙ is
   stands-still S (One q) t p o h is = elsewhere S q.tx t (record { place = S.length; request = q; fate = Committed S.length }) (new-apart S q.tx t p o.0.vouched.once is) ∙ is
   stands-still S (Prepared q) t p o h is = elsewhere S q.tx t (record { place = S.length; request = q; fate = Open }) (new-apart S q.tx t p o.0.vouched.once is) ∙ is
@@ -81,25 +81,25 @@ module _ (b : Base) where
   stands-still S (Decided u c) t p o h is = settled-other S u t c (λ e. h (sym e)) ∙ is
   stands-still S (Finished u c) t p o h is = settled-other S u t c (λ e. h (sym e)) ∙ is
 
-  pub at-key : (S : State) (u : Ts) (p : Standing) → option_map (or_lost b S u) (get (insert S.known u p) u) ≡ Some (or_lost b S u p)
+  pub at-key : (S : State) (u : Ts) (p : Known) → option_map (or_lost b S u) (get (insert S.known u p) u) ≡ Some (or_lost b S u p)
   at-key S u p = ap (option_map (or_lost b S u)) (get-insert ts_total S.known u p u ∙ ap (λ o. cond (is_eq o) (Some p) (get S.known u)) (tied_itself ts_total u))
 
-  same-fate : (p : Option Standing) (o w : Standing) → p ≡ Some o → p ≡ Some w → w.fate ≡ o.fate
-  same-fate p o w is it = ap (λ (v : Standing). v.fate) (same_Some w o (sym it ∙ is))
+  same-fate : (p : Option Known) (o w : Known) → p ≡ Some o → p ≡ Some w → w.fate ≡ o.fate
+  same-fate p o w is it = ap (λ (v : Known). v.fate) (same_Some w o (sym it ∙ is))
 
   -- the transaction that is settled
-  pub settled-self : (S : State) (u : Ts) (c : Bool) (o w : Standing) → standing b S u ≡ Some o → standing b (settle S u c (Some o)) u ≡ Some w → (w.fate ≡ o.fate) ⊎ Ended c w.fate
+  pub settled-self : (S : State) (u : Ts) (c : Bool) (o w : Known) → known_in b S u ≡ Some o → known_in b (settle S u c (Some o)) u ≡ Some w → (w.fate ≡ o.fate) ⊎ Ended c w.fate
   settled-self S u c o w is it = by o.fate refl c it
     where
-      by : (f : Fate) → o.fate ≡ f → (d : Bool) → standing b (settle_by S u d o f) u ≡ Some w → (w.fate ≡ o.fate) ⊎ Ended d w.fate
+      by : (f : Fate) → o.fate ≡ f → (d : Bool) → known_in b (settle_by S u d o f) u ≡ Some w → (w.fate ≡ o.fate) ⊎ Ended d w.fate
       by Open e true k =
-          let new : Standing = record { place = o.place; request = o.request; fate = Committed S.length } in
-          inr (subst (λ (v : Standing). IsCommitted v.fate) (same_Some new w (sym (at-key S u new) ∙ k)) tt)
+          let new : Known = record { place = o.place; request = o.request; fate = Committed S.length } in
+          inr (subst (λ (v : Known). IsCommitted v.fate) (same_Some new w (sym (at-key S u new) ∙ k)) tt)
       by Open e false k =
-          let new : Standing = record o { fate = Aborted } in
-          inr (sym (ap (λ (v : Standing). v.fate) (same_Some new w (sym (at-key S u new) ∙ k))))
-      by (Committed at) e d k = inl (same-fate (standing b S u) o w is k)
-      by Aborted e d k = inl (same-fate (standing b S u) o w is k)
+          let new : Known = record o { fate = Aborted } in
+          inr (sym (ap (λ (v : Known). v.fate) (same_Some new w (sym (at-key S u new) ∙ k))))
+      by (Committed at) e d k = inl (same-fate (known_in b S u) o w is k)
+      by Aborted e d k = inl (same-fate (known_in b S u) o w is k)
 
   by-life : (S : State) (n : ℕ) (q : Request) (t : Ts) (f g : Fate) → FateMoves [] S.length q f g → t.repo ≡ b.repo → (g ≡ f) ⊎ ((t.repo ≡ b.repo) × (g ≡ Aborted))
   by-life S n q t Open Open m h = inl refl
@@ -116,38 +116,38 @@ module _ (b : Base) where
       by Aborted x = inl refl
 
   -- behind an entry a transaction stands as it did, or the entry ended it
-  caused : (S : State) (e : Entry) (t : Ts) (o w : Standing) → LifeBegan b S → owes b S e → standing b S t ≡ Some o → standing b (put b S e) t ≡ Some w → (w.fate ≡ o.fate) ⊎ Causes b e t w.fate
+  caused : (S : State) (e : Entry) (t : Ts) (o w : Known) → LifeBegan b S → owes b S e → known_in b S t ≡ Some o → known_in b (put b S e) t ≡ Some w → (w.fate ≡ o.fate) ⊎ Causes b e t w.fate
   caused S (Life n) t o w l ow is it = elim (eqb_tells t.repo b.repo) [
     | inl same ↦
         let g = goes b S (Life n) l ow t o is in
         let one : g.0 ≡ w = same_Some g.0 w (sym g.1 ∙ it) in
-        by-life S n o.request t o.fate w.fate (subst (λ (v : Standing). FateMoves [] S.length o.request o.fate v.fate) one g.2.2) same.1
-    | inr apart ↦ inl (same-fate (standing b (put b S (Life n)) t) o w (stands-still S (Life n) t o ow apart.1 is) it)
+        by-life S n o.request t o.fate w.fate (subst (λ (v : Known). FateMoves [] S.length o.request o.fate v.fate) one g.2.2) same.1
+    | inr apart ↦ inl (same-fate (known_in b (put b S (Life n)) t) o w (stands-still S (Life n) t o ow apart.1 is) it)
   ]
-  caused S (One q) t o w l ow is it = inl (same-fate (standing b (put b S (One q)) t) o w (stands-still S (One q) t o ow (λ h. h) is) it)
-  caused S (Prepared q) t o w l ow is it = inl (same-fate (standing b (put b S (Prepared q)) t) o w (stands-still S (Prepared q) t o ow (λ h. h) is) it)
-  caused S (Upgraded q) t o w l ow is it = inl (same-fate (standing b (put b S (Upgraded q)) t) o w (stands-still S (Upgraded q) t o ow (λ h. h) is) it)
+  caused S (One q) t o w l ow is it = inl (same-fate (known_in b (put b S (One q)) t) o w (stands-still S (One q) t o ow (λ h. h) is) it)
+  caused S (Prepared q) t o w l ow is it = inl (same-fate (known_in b (put b S (Prepared q)) t) o w (stands-still S (Prepared q) t o ow (λ h. h) is) it)
+  caused S (Upgraded q) t o w l ow is it = inl (same-fate (known_in b (put b S (Upgraded q)) t) o w (stands-still S (Upgraded q) t o ow (λ h. h) is) it)
   caused S (Decided u c) t o w l ow is it = elim (same-ts u t) [
     | inl same ↦
-        let is' : standing b S u ≡ Some o = subst (λ (v : Ts). standing b S v ≡ Some o) (sym same) is in
-        let it' : standing b (settle S u c (standing b S u)) u ≡ Some w = subst (λ (v : Ts). standing b (settle S u c (standing b S u)) v ≡ Some w) (sym same) it in
-        elim (settled-self S u c o w is' (subst (λ (k : Option Standing). standing b (settle S u c k) u ≡ Some w) is' it')) [
+        let is' : known_in b S u ≡ Some o = subst (λ (v : Ts). known_in b S v ≡ Some o) (sym same) is in
+        let it' : known_in b (settle S u c (known_in b S u)) u ≡ Some w = subst (λ (v : Ts). known_in b (settle S u c (known_in b S u)) v ≡ Some w) (sym same) it in
+        elim (settled-self S u c o w is' (subst (λ (k : Option Known). known_in b (settle S u c k) u ≡ Some w) is' it')) [
           | inl k ↦ inl k
           | inr k ↦ inr (same, k)
         ]
-    | inr apart ↦ inl (same-fate (standing b (put b S (Decided u c)) t) o w (stands-still S (Decided u c) t o ow apart is) it)
+    | inr apart ↦ inl (same-fate (known_in b (put b S (Decided u c)) t) o w (stands-still S (Decided u c) t o ow apart is) it)
   ]
   caused S (Finished u c) t o w l ow is it = elim (same-ts u t) [
     | inl same ↦
-        let is' : standing b S u ≡ Some o = subst (λ (v : Ts). standing b S v ≡ Some o) (sym same) is in
-        let it' : standing b (settle S u c (standing b S u)) u ≡ Some w = subst (λ (v : Ts). standing b (settle S u c (standing b S u)) v ≡ Some w) (sym same) it in
-        elim (settled-self S u c o w is' (subst (λ (k : Option Standing). standing b (settle S u c k) u ≡ Some w) is' it')) [
+        let is' : known_in b S u ≡ Some o = subst (λ (v : Ts). known_in b S v ≡ Some o) (sym same) is in
+        let it' : known_in b (settle S u c (known_in b S u)) u ≡ Some w = subst (λ (v : Ts). known_in b (settle S u c (known_in b S u)) v ≡ Some w) (sym same) it in
+        elim (settled-self S u c o w is' (subst (λ (k : Option Known). known_in b (settle S u c k) u ≡ Some w) is' it')) [
           | inl k ↦ inl k
           | inr k ↦ inr (same, k)
         ]
-    | inr apart ↦ inl (same-fate (standing b (put b S (Finished u c)) t) o w (stands-still S (Finished u c) t o ow apart is) it)
+    | inr apart ↦ inl (same-fate (known_in b (put b S (Finished u c)) t) o w (stands-still S (Finished u c) t o ow apart is) it)
   ]
 
   -- the same of a history
-  pub caused-end : (H : List Entry) (e : Entry) → sound b H → owes b (state b H) e → (t : Ts) (o w : Standing) → stands b H t ≡ Some o → stands b (H ++ e ∷ []) t ≡ Some w → (w.fate ≡ o.fate) ⊎ Causes b e t w.fate
-  caused-end H e sd ow t o w is it = caused (state b H) e t o w (placed b H sd).began ow is (subst (λ (S : State). standing b S t ≡ Some w) (state-end b H e) it)
+  pub caused-end : (H : List Entry) (e : Entry) → sound b H → owes b (state b H) e → (t : Ts) (o w : Known) → known_by b H t ≡ Some o → known_by b (H ++ e ∷ []) t ≡ Some w → (w.fate ≡ o.fate) ⊎ Causes b e t w.fate
+  caused-end H e sd ow t o w is it = caused (state b H) e t o w (placed b H sd).began ow is (subst (λ (S : State). known_in b S t ≡ Some w) (state-end b H e) it)

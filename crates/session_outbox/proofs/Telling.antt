@@ -8,7 +8,7 @@ use Rattle.session_outbox.proofs.Places.{Placed, came_end, placed, stays}
 use Rattle.session_outbox.proofs.Prefixes.{fits, judged}
 use Rattle.session_outbox.proofs.Settling.{at-key, caused-end}
 use Rattle.session_outbox.proofs.Steps.{FateBegun, by_settling}
-use Rattle.session_outbox.specs.History.{Aborted, Base, Committed, Fate, LeftOver, Open, Standing, State, is_open, is_undecided, put, settle, settle_by, standing, stands, state}
+use Rattle.session_outbox.specs.History.{Aborted, Base, Committed, Fate, LeftOver, Open, Known, State, is_open, is_undecided, put, settle, settle_by, known_in, known_by, state}
 use Rattle.session_outbox.specs.Laws.{Asks, FateStays, Stays}
 use Rattle.session_outbox.specs.Outcomes.{Causes, EntriesTell, IsSettled, SettledAt, Settles}
 use Rattle.session_outbox.specs.Sound.{owes, sound}
@@ -52,8 +52,8 @@ none_some (Some x) e h = cc
 module _ (b : Base) where
   -- ---- what earlier runs left
 
-  less : (S : State) (t : Ts) (c : Bool) → (settle S t c (standing b S t)).left ≡ S.left
-  less S t c = by_settling b (λ T. T.left ≡ S.left) S t c (standing b S t) refl (λ p is o k. refl) (λ p is o. refl)
+  less : (S : State) (t : Ts) (c : Bool) → (settle S t c (known_in b S t)).left ≡ S.left
+  less S t c = by_settling b (λ T. T.left ≡ S.left) S t c (known_in b S t) refl (λ p is o k. refl) (λ p is o. refl)
 
   -- what is still to be settled was so before
   left-put : (S : State) (e : Entry) (t : Ts) (l : LeftOver) → get (put b S e).left t ≡ Some l → get S.left t ≡ Some l
@@ -76,30 +76,30 @@ module _ (b : Base) where
   left-from = by_growth b (λ H. (t : Ts) (l : LeftOver) → get (state b H).left t ≡ Some l → get b.left t ≡ Some l) (λ t l h. h)
       (λ H e sd ih ow t l h. ih t l (left-put (state b H) e t l (subst (λ S. get S.left t ≡ Some l) (state-end b H e) h)))
 
-  pub known-unleft : (H : List Entry) → sound b H → (t : Ts) (o : Standing) → stands b H t ≡ Some o → get b.left t ≡ None
+  pub known-unleft : (H : List Entry) → sound b H → (t : Ts) (o : Known) → known_by b H t ≡ Some o → get b.left t ≡ None
   known-unleft H sd t o is = subst (λ u. get b.left u ≡ None) (fits b H sd t o is).named (judged b H sd t o is).vouched.unleft
 
-  left-unknown : (H : List Entry) → sound b H → (t : Ts) → IsSome (get b.left t) → stands b H t ≡ None
-  left-unknown H sd t left = by (stands b H t) refl
+  left-unknown : (H : List Entry) → sound b H → (t : Ts) → IsSome (get b.left t) → known_by b H t ≡ None
+  left-unknown H sd t left = by (known_by b H t) refl
     where
-      by : (o : Option Standing) → stands b H t ≡ o → stands b H t ≡ None
+      by : (o : Option Known) → known_by b H t ≡ o → known_by b H t ≡ None
       by None e = e
       by (Some o) e = none_some (get b.left t) (known-unleft H sd t o e) left
 
   -- ---- requests
 
   AskedAt : List Entry → ℕ → Request → Type 0
-  AskedAt H m q = IsSomeAnd (stands b H q.tx) (λ o. (o.place ≡ m) × (o.request ≡ q))
+  AskedAt H m q = IsSomeAnd (known_by b H q.tx) (λ o. (o.place ≡ m) × (o.request ≡ q))
 
-  asked-new : (S : State) (e : Entry) (q : Request) → Asks e q → IsSomeAnd (standing b (put b S e) q.tx) (λ o. (o.place ≡ S.length) × (o.request ≡ q))
+  asked-new : (S : State) (e : Entry) (q : Request) → Asks e q → IsSomeAnd (known_in b (put b S e) q.tx) (λ o. (o.place ≡ S.length) × (o.request ≡ q))
   asked-new S (Life n) q x = absurd x
-  asked-new S (One r) q x = subst (λ p. IsSomeAnd (standing b (put b S (One r)) p.tx) (λ o. (o.place ≡ S.length) × (o.request ≡ p))) x
+  asked-new S (One r) q x = subst (λ p. IsSomeAnd (known_in b (put b S (One r)) p.tx) (λ o. (o.place ≡ S.length) × (o.request ≡ p))) x
       (is_some_and _ (λ o. (o.place ≡ S.length) × (o.request ≡ r)) _ (at-key b S r.tx (record { place = S.length; request = r; fate = Committed S.length })) (refl, refl))
-  asked-new S (Prepared r) q x = subst (λ p. IsSomeAnd (standing b (put b S (Prepared r)) p.tx) (λ o. (o.place ≡ S.length) × (o.request ≡ p))) x
+  asked-new S (Prepared r) q x = subst (λ p. IsSomeAnd (known_in b (put b S (Prepared r)) p.tx) (λ o. (o.place ≡ S.length) × (o.request ≡ p))) x
       (is_some_and _ (λ o. (o.place ≡ S.length) × (o.request ≡ r)) _ (at-key b S r.tx (record { place = S.length; request = r; fate = Open })) (refl, refl))
   asked-new S (Decided t c) q x = absurd x
   asked-new S (Finished t c) q x = absurd x
-  asked-new S (Upgraded r) q x = subst (λ p. IsSomeAnd (standing b (put b S (Upgraded r)) p.tx) (λ o. (o.place ≡ S.length) × (o.request ≡ p))) x
+  asked-new S (Upgraded r) q x = subst (λ p. IsSomeAnd (known_in b (put b S (Upgraded r)) p.tx) (λ o. (o.place ≡ S.length) × (o.request ≡ p))) x
       (is_some_and _ (λ o. (o.place ≡ S.length) × (o.request ≡ r)) _ (at-key b S r.tx (record { place = S.length; request = r; fate = Committed S.length })) (refl, refl))
 
   asked : (H : List Entry) → sound b H → (m : ℕ) (e : Entry) (q : Request) → slice_get H m ≡ Some e → Asks e q → AskedAt H m q
@@ -107,29 +107,29 @@ module _ (b : Base) where
   asked = by_growth b (λ H. (m : ℕ) (e : Entry) (q : Request) → slice_get H m ≡ Some e → Asks e q → AskedAt H m q) (λ m e q is x. cc)
       (λ H f sd ih ow m e q is x. elim (end_cases H f e m is) [
         | inl k ↦
-            let y = some_and (stands b H q.tx) (λ o. (o.place ≡ m) × (o.request ≡ q)) (ih m e q k.1 x) in
+            let y = some_and (known_by b H q.tx) (λ o. (o.place ≡ m) × (o.request ≡ q)) (ih m e q k.1 x) in
             let z = stays b H (f ∷ []) (sound-end b H f sd ow) q.tx y.0 y.1 in
             let st : Stays y.0 z.0 = z.2 in
-            is_some_and (stands b (H ++ f ∷ []) q.tx) (λ o. (o.place ≡ m) × (o.request ≡ q)) z.0 z.1 (st.place ∙ y.2.0, st.request ∙ y.2.1)
+            is_some_and (known_by b (H ++ f ∷ []) q.tx) (λ o. (o.place ≡ m) × (o.request ≡ q)) z.0 z.1 (st.place ∙ y.2.0, st.request ∙ y.2.1)
         | inr k ↦
-            let here : IsSomeAnd (standing b (put b (state b H) f) q.tx) (λ o. (o.place ≡ (state b H).length) × (o.request ≡ q)) = asked-new (state b H) f q (subst (λ g. Asks g q) k.1 x) in
-            let there : IsSomeAnd (stands b (H ++ f ∷ []) q.tx) (λ o. (o.place ≡ (state b H).length) × (o.request ≡ q)) = subst (λ S. IsSomeAnd (standing b S q.tx) (λ o. (o.place ≡ (state b H).length) × (o.request ≡ q))) (sym (state-end b H f)) here in
-            subst (λ n. IsSomeAnd (stands b (H ++ f ∷ []) q.tx) (λ o. (o.place ≡ n) × (o.request ≡ q))) (length-state b H ∙ sym k.0) there
+            let here : IsSomeAnd (known_in b (put b (state b H) f) q.tx) (λ o. (o.place ≡ (state b H).length) × (o.request ≡ q)) = asked-new (state b H) f q (subst (λ g. Asks g q) k.1 x) in
+            let there : IsSomeAnd (known_by b (H ++ f ∷ []) q.tx) (λ o. (o.place ≡ (state b H).length) × (o.request ≡ q)) = subst (λ S. IsSomeAnd (known_in b S q.tx) (λ o. (o.place ≡ (state b H).length) × (o.request ≡ q))) (sym (state-end b H f)) here in
+            subst (λ n. IsSomeAnd (known_by b (H ++ f ∷ []) q.tx) (λ o. (o.place ≡ n) × (o.request ≡ q))) (length-state b H ∙ sym k.0) there
       ])
 
   -- ---- decisions
 
   -- an undecided transaction that is settled so
-  settled-so : (S : State) (t : Ts) (c : Bool) (o : Standing) → standing b S t ≡ Some o → o.fate ≡ Open → IsSomeAnd (standing b (settle S t c (Some o)) t) (λ w. (w.place ≡ o.place) × SettledAt S.length c w.fate)
+  settled-so : (S : State) (t : Ts) (c : Bool) (o : Known) → known_in b S t ≡ Some o → o.fate ≡ Open → IsSomeAnd (known_in b (settle S t c (Some o)) t) (λ w. (w.place ≡ o.place) × SettledAt S.length c w.fate)
   settled-so S t c o is undecided = by o.fate undecided c
     where
-      by : (f : Fate) → f ≡ Open → (d : Bool) → IsSomeAnd (standing b (settle_by S t d o f) t) (λ w. (w.place ≡ o.place) × SettledAt S.length d w.fate)
+      by : (f : Fate) → f ≡ Open → (d : Bool) → IsSomeAnd (known_in b (settle_by S t d o f) t) (λ w. (w.place ≡ o.place) × SettledAt S.length d w.fate)
       by Open e true = is_some_and _ (λ w. (w.place ≡ o.place) × SettledAt S.length true w.fate) _ (at-key b S t (record { place = o.place; request = o.request; fate = Committed S.length })) (refl, refl)
       by Open e false = is_some_and _ (λ w. (w.place ≡ o.place) × SettledAt S.length false w.fate) _ (at-key b S t (record o { fate = Aborted })) (refl, refl)
       by (Committed a) e d = cc
       by Aborted e d = cc
 
-  undecided-there : (k : Option Standing) → is_undecided k ≡ true → (o : Standing) × (k ≡ Some o) × (o.fate ≡ Open)
+  undecided-there : (k : Option Known) → is_undecided k ≡ true → (o : Known) × (k ≡ Some o) × (o.fate ≡ Open)
   undecided-there None h = cc
   undecided-there (Some o) h = (o, refl, by o.fate h)
     where
@@ -138,19 +138,19 @@ module _ (b : Base) where
       by (Committed a) e = cc
       by Aborted e = cc
 
-  settled-new : (S : State) (t : Ts) (c : Bool) → Placed b S → is_undecided (standing b S t) ≡ true → IsSomeAnd (standing b (settle S t c (standing b S t)) t) (λ w. (w.place < S.length) × SettledAt S.length c w.fate)
+  settled-new : (S : State) (t : Ts) (c : Bool) → Placed b S → is_undecided (known_in b S t) ≡ true → IsSomeAnd (known_in b (settle S t c (known_in b S t)) t) (λ w. (w.place < S.length) × SettledAt S.length c w.fate)
   settled-new S t c h u =
-      let y = undecided-there (standing b S t) u in
+      let y = undecided-there (known_in b S t) u in
       let low : y.0.place < S.length = (h.fits t y.0 y.1).below in
-      let o : Standing = y.0 in
-      let z = some_and (standing b (settle S t c (Some o)) t) (λ w. (w.place ≡ o.place) × SettledAt S.length c w.fate) (settled-so S t c o y.1 y.2) in
-      let w : Standing = z.0 in
+      let o : Known = y.0 in
+      let z = some_and (known_in b (settle S t c (Some o)) t) (λ w. (w.place ≡ o.place) × SettledAt S.length c w.fate) (settled-so S t c o y.1 y.2) in
+      let w : Known = z.0 in
       let at : w.place ≡ o.place = z.2.0 in
-      subst (λ k. IsSomeAnd (standing b (settle S t c k) t) (λ v. (v.place < S.length) × SettledAt S.length c v.fate)) (sym y.1)
+      subst (λ k. IsSomeAnd (known_in b (settle S t c k) t) (λ v. (v.place < S.length) × SettledAt S.length c v.fate)) (sym y.1)
       (is_some_and _ (λ v. (v.place < S.length) × SettledAt S.length c v.fate) w z.1 (omega arith, z.2.1))
 
   SettledNew : State → Entry → Ts → Bool → Type 0
-  SettledNew S e t c = IsSomeAnd (standing b (put b S e) t) (λ o. (o.place < S.length) × SettledAt S.length c o.fate) ⊎ IsSome (get b.left t)
+  SettledNew S e t c = IsSomeAnd (known_in b (put b S e) t) (λ o. (o.place < S.length) × SettledAt S.length c o.fate) ⊎ IsSome (get b.left t)
 
   settles-new : (S : State) (e : Entry) (t : Ts) (c : Bool) → Placed b S → owes b S e → ((l : LeftOver) → get S.left t ≡ Some l → get b.left t ≡ Some l) → Settles e t c → SettledNew S e t c
   unfolding SettledNew
@@ -159,11 +159,11 @@ module _ (b : Base) where
   settles-new S (Prepared q) t c h ow from x = absurd x
   settles-new S (Upgraded q) t c h ow from x = absurd x
   settles-new S (Decided u d) t c h ow from x =
-      inl (subst (λ v. IsSomeAnd (standing b (put b S (Decided u d)) v) (λ o. (o.place < S.length) × SettledAt S.length c o.fate)) x.0
-      (subst (λ k. IsSomeAnd (standing b (put b S (Decided u d)) u) (λ o. (o.place < S.length) × SettledAt S.length k o.fate)) x.1 (settled-new S u d h ow.0)))
+      inl (subst (λ v. IsSomeAnd (known_in b (put b S (Decided u d)) v) (λ o. (o.place < S.length) × SettledAt S.length c o.fate)) x.0
+      (subst (λ k. IsSomeAnd (known_in b (put b S (Decided u d)) u) (λ o. (o.place < S.length) × SettledAt S.length k o.fate)) x.1 (settled-new S u d h ow.0)))
   settles-new S (Finished u d) t c h (inl ow) from x =
-      inl (subst (λ v. IsSomeAnd (standing b (put b S (Finished u d)) v) (λ o. (o.place < S.length) × SettledAt S.length c o.fate)) x.0
-      (subst (λ k. IsSomeAnd (standing b (put b S (Finished u d)) u) (λ o. (o.place < S.length) × SettledAt S.length k o.fate)) x.1 (settled-new S u d h ow.0)))
+      inl (subst (λ v. IsSomeAnd (known_in b (put b S (Finished u d)) v) (λ o. (o.place < S.length) × SettledAt S.length c o.fate)) x.0
+      (subst (λ k. IsSomeAnd (known_in b (put b S (Finished u d)) u) (λ o. (o.place < S.length) × SettledAt S.length k o.fate)) x.1 (settled-new S u d h ow.0)))
   settles-new S (Finished u d) t c h (inr ow) from x =
       let y = some_and (get S.left u) (λ l. l.commits ≡ d) ow.1 in
       inr (ap is_some (from y.0 (subst (λ v. get S.left v ≡ Some y.0) x.0 y.1)))
@@ -176,12 +176,12 @@ module _ (b : Base) where
       elim (end_cases H f e m is) [
         | inl k ↦ elim (ih m e t c k.1 x) [
           | inl stood ↦
-              let y = some_and (stands b H t) (λ o. (o.place < m) × SettledAt m c o.fate) stood in
+              let y = some_and (known_by b H t) (λ o. (o.place < m) × SettledAt m c o.fate) stood in
               let z = stays b H (f ∷ []) sd' t y.0 y.1 in
               let st : Stays y.0 z.0 = z.2 in
               let low : y.0.place < m = y.2.0 in
               let at : z.0.place ≡ y.0.place = st.place in
-              inl (is_some_and (stands b (H ++ f ∷ []) t) (λ o. (o.place < m) × SettledAt m c o.fate) z.0 z.1 (omega arith, settled_stays m c y.0.fate z.0.fate y.2.1 st.fate))
+              inl (is_some_and (known_by b (H ++ f ∷ []) t) (λ o. (o.place < m) × SettledAt m c o.fate) z.0 z.1 (omega arith, settled_stays m c y.0.fate z.0.fate y.2.1 st.fate))
           | inr left ↦ inr (left.0, left-unknown (H ++ f ∷ []) sd' t left.0)
         ]
         | inr k ↦ at_end H f sd ow sd' m t c k.0 (subst (λ g. Settles g t c) k.1 x)
@@ -190,17 +190,17 @@ module _ (b : Base) where
       at_end : (H : List Entry) (f : Entry) → sound b H → owes b (state b H) f → sound b (H ++ f ∷ []) → (m : ℕ) (t : Ts) (c : Bool) → m ≡ length H → Settles f t c → IsSettled b (H ++ f ∷ []) t m c
       at_end H f sd ow sd' m t c at x = elim (settles-new (state b H) f t c (placed b H sd) ow (left-from H sd t) x) [
         | inl new ↦
-            let there : IsSomeAnd (stands b (H ++ f ∷ []) t) (λ o. (o.place < (state b H).length) × SettledAt (state b H).length c o.fate) = subst (λ S. IsSomeAnd (standing b S t) (λ o. (o.place < (state b H).length) × SettledAt (state b H).length c o.fate)) (sym (state-end b H f)) new in
-            inl (subst (λ n. IsSomeAnd (stands b (H ++ f ∷ []) t) (λ o. (o.place < n) × SettledAt n c o.fate)) (length-state b H ∙ sym at) there)
+            let there : IsSomeAnd (known_by b (H ++ f ∷ []) t) (λ o. (o.place < (state b H).length) × SettledAt (state b H).length c o.fate) = subst (λ S. IsSomeAnd (known_in b S t) (λ o. (o.place < (state b H).length) × SettledAt (state b H).length c o.fate)) (sym (state-end b H f)) new in
+            inl (subst (λ n. IsSomeAnd (known_by b (H ++ f ∷ []) t) (λ o. (o.place < n) × SettledAt n c o.fate)) (length-state b H ∙ sym at) there)
         | inr left ↦ inr (left, left-unknown (H ++ f ∷ []) sd' t left)
       ]
 
   -- ---- once
 
   -- what is settled isn't undecided
-  decided : (H : List Entry) (t : Ts) (m : ℕ) (c : Bool) → IsSettled b H t m c → is_undecided (stands b H t) ≡ false
+  decided : (H : List Entry) (t : Ts) (m : ℕ) (c : Bool) → IsSettled b H t m c → is_undecided (known_by b H t) ≡ false
   decided H t m c (inl stood) =
-      let y = some_and (stands b H t) (λ o. (o.place < m) × SettledAt m c o.fate) stood in
+      let y = some_and (known_by b H t) (λ o. (o.place < m) × SettledAt m c o.fate) stood in
       ap is_undecided y.1 ∙ not_open m c y.0.fate y.2.1
   decided H t m c (inr left) = ap is_undecided left.1
 
@@ -220,11 +220,11 @@ module _ (b : Base) where
           by None e = e
           by (Some l) e = let k = left-put S f t l e in cc
 
-      unleft : (H : List Entry) → sound b H → (t : Ts) → is_undecided (stands b H t) ≡ true → get (state b H).left t ≡ None
+      unleft : (H : List Entry) → sound b H → (t : Ts) → is_undecided (known_by b H t) ≡ true → get (state b H).left t ≡ None
       unleft H sd t u = by (get (state b H).left t) refl
         where
-          y : (o : Standing) × (stands b H t ≡ Some o) × (o.fate ≡ Open)
-          y = undecided-there (stands b H t) u
+          y : (o : Known) × (known_by b H t ≡ Some o) × (o.fate ≡ Open)
+          y = undecided-there (known_by b H t) u
 
           by : (o : Option LeftOver) → get (state b H).left t ≡ o → get (state b H).left t ≡ None
           by None e = e
@@ -239,18 +239,18 @@ module _ (b : Base) where
       ended H (Finished u d) sd ow t c x = subst (λ v. get (put b (state b H) (Finished u d)).left v ≡ None) x.0 (left-finished (state b H) u d)
 
   -- an entry that settles t comes where t is undecided or left
-  waits : (S : State) (e : Entry) (t : Ts) (c : Bool) → owes b S e → Settles e t c → (is_undecided (standing b S t) ≡ true) ⊎ IsSome (get S.left t)
+  waits : (S : State) (e : Entry) (t : Ts) (c : Bool) → owes b S e → Settles e t c → (is_undecided (known_in b S t) ≡ true) ⊎ IsSome (get S.left t)
   waits S (Life n) t c ow x = absurd x
   waits S (One q) t c ow x = absurd x
   waits S (Prepared q) t c ow x = absurd x
   waits S (Upgraded q) t c ow x = absurd x
-  waits S (Decided u d) t c ow x = inl (subst (λ v. is_undecided (standing b S v) ≡ true) x.0 ow.0)
-  waits S (Finished u d) t c (inl ow) x = inl (subst (λ v. is_undecided (standing b S v) ≡ true) x.0 ow.0)
+  waits S (Decided u d) t c ow x = inl (subst (λ v. is_undecided (known_in b S v) ≡ true) x.0 ow.0)
+  waits S (Finished u d) t c (inl ow) x = inl (subst (λ v. is_undecided (known_in b S v) ≡ true) x.0 ow.0)
   waits S (Finished u d) t c (inr ow) x = inr (subst (λ v. IsSome (get S.left v)) x.0 (let y = some_and (get S.left u) (λ l. l.commits ≡ d) ow.1 in ap is_some y.1))
 
   no_more : {A : Type 0} (H : List Entry) (f : Entry) → sound b H → owes b (state b H) f → (m : ℕ) (e : Entry) (t : Ts) (c k : Bool) → slice_get H m ≡ Some e → Settles e t c → Settles f t k → A
   no_more H f sd ow m e t c k is x y = elim (waits (state b H) f t k ow y) [
-    | inl undecided ↦ let no = decided H t m c (settled H sd m e t c is x) in let yes : is_undecided (stands b H t) ≡ true = undecided in cc
+    | inl undecided ↦ let no = decided H t m c (settled H sd m e t c is x) in let yes : is_undecided (known_by b H t) ≡ true = undecided in cc
     | inr left ↦ none_some (get (state b H).left t) (over H sd m e t c is x) left
   ]
 
@@ -269,12 +269,12 @@ module _ (b : Base) where
 
   -- ---- who was aborted
 
-  aborted : (H : List Entry) → sound b H → (t : Ts) (o : Standing) → stands b H t ≡ Some o → o.fate ≡ Aborted → (m : ℕ) × (o.place < m) × IsSomeAnd (slice_get H m) (λ e. Causes b e t Aborted)
-  aborted = by_growth b (λ H. (t : Ts) (o : Standing) → stands b H t ≡ Some o → o.fate ≡ Aborted → (m : ℕ) × (o.place < m) × IsSomeAnd (slice_get H m) (λ e. Causes b e t Aborted)) (λ t o is x. cc)
+  aborted : (H : List Entry) → sound b H → (t : Ts) (o : Known) → known_by b H t ≡ Some o → o.fate ≡ Aborted → (m : ℕ) × (o.place < m) × IsSomeAnd (slice_get H m) (λ e. Causes b e t Aborted)
+  aborted = by_growth b (λ H. (t : Ts) (o : Known) → known_by b H t ≡ Some o → o.fate ≡ Aborted → (m : ℕ) × (o.place < m) × IsSomeAnd (slice_get H m) (λ e. Causes b e t Aborted)) (λ t o is x. cc)
       (λ H f sd ih ow t o is x. elim (came_end b H f sd ow t o is) [
         | inl new ↦ absurd (begun_lives (length H) o.request _ o.fate new.1.3 x)
         | inr old ↦
-            let v : Standing = old.0 in
+            let v : Known = old.0 in
             let at : o.place ≡ v.place = old.2.0 in
             let low : v.place < length H = (fits b H sd t v old.1).below in
             elim (caused-end b H f sd ow t v o old.1 is) [

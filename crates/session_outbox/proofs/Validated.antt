@@ -5,8 +5,8 @@ use Rattle.session_outbox.proofs.Covered.{held}
 use Rattle.session_outbox.proofs.Stamps.{at_most_itself, at_most_then, first_at_most, second_at_most}
 use Rattle.session_outbox.proofs.Decided.{written_keys}
 use Rattle.session_outbox.proofs.Meeting.{in_order, not_both_ways, or_cases, or_first, or_second}
-use Rattle.session_outbox.specs.Covers.{Agrees}
-use Rattle.session_outbox.specs.History.{Aborted, Base, Committed, Fate, IsCommitted, Lives, Open, Standing, State, epoch_of, stands, state}
+use Rattle.session_outbox.specs.Covers.{MemberFits}
+use Rattle.session_outbox.specs.History.{Aborted, Base, Committed, Fate, IsCommitted, Lives, Open, Known, State, epoch_of, known_by, state}
 use Rattle.session_outbox.specs.Requests.{bars, has_read, has_written, is_upgrade, overwrites, reads_of, written}
 use Rattle.session_outbox.specs.Sound.{Accepts, sound}
 use Rattle.session_outbox.specs.Verdict.{bar, behind, blocks, comes_earlier, comes_later, first_refusal, least_name, names_of, passing, reads_from, too_old, writes_over}
@@ -180,7 +180,7 @@ less_is Greater e = cc
 is_before_true : (t u : Ts) → Before t u → is_before t u ≡ true
 is_before_true t u e = ap is_lt e
 
-undecided_is : (d : Bool) (f : Fate) → Agrees d f → f ≡ Open → d ≡ false
+undecided_is : (d : Bool) (f : Fate) → MemberFits d f → f ≡ Open → d ≡ false
 undecided_is true Open a e = absurd a
 undecided_is true (Committed at) a e = cc
 undecided_is true Aborted a e = absurd a
@@ -211,10 +211,10 @@ nothing_holds S W stale full q none =
     let p5 = neither (first_some (comes_later q) es) full p4.1 in
     record { blocked = p0.0; epoch = p1.0; old = p2.0; copies = p3.0; earlier = p4.0; later = p5.0; limits = p5.1 }
 
-module _ (b : Base) (H : List Entry) (sd : sound b H) (q : Request) (stale full : Option Refusal) (once : stands b H q.tx ≡ None)
+module _ (b : Base) (H : List Entry) (sd : sound b H) (q : Request) (stale full : Option Refusal) (once : known_by b H q.tx ≡ None)
     (passed : first_refusal (state b H) (window b H) stale full q ≡ None) where
-  not_here : {A : Type 0} (t : Ts) (o : Standing) → stands b H t ≡ Some o → t ≡ q.tx → A
-  not_here t o is same = let e : None ≡ Some o = sym once ∙ subst (λ u. stands b H u ≡ Some o) same is in cc
+  not_here : {A : Type 0} (t : Ts) (o : Known) → known_by b H t ≡ Some o → t ≡ q.tx → A
+  not_here t o is same = let e : None ≡ Some o = sym once ∙ subst (λ u. known_by b H u ≡ Some o) same is in cc
 
   -- the parts of the verdict
   Parts : Type 0
@@ -267,16 +267,16 @@ module _ (b : Base) (H : List Entry) (sd : sound b H) (q : Request) (stale full 
       and_second (not m.decided) (is_upgrade q || is_upgrade m.request) e (ap not unmade)
 
   -- the member of an undecided transaction
-  member : (t : Ts) (o : Standing) → stands b H t ≡ Some o → o.fate ≡ Open → (m : Member) × (get (window b H).members t ≡ Some m) × (m.request ≡ o.request) × (m.decided ≡ false)
+  member : (t : Ts) (o : Known) → known_by b H t ≡ Some o → o.fate ≡ Open → (m : Member) × (get (window b H).members t ≡ Some m) × (m.request ≡ o.request) × (m.decided ≡ false)
   member t o is at_first =
       let h = held b H sd in
       let x = h.opens t o is at_first in
       let y = h.members t x.0 x.1 in
       let one : y.0 ≡ o = same_Some y.0 o (sym y.1 ∙ is) in
-      let f : y.0.fate ≡ Open = ap (λ (v : Standing). v.fate) one ∙ at_first in
-      (x.0, x.1, sym y.2 ∙ ap (λ (v : Standing). v.request) one, undecided_is x.0.decided y.0.fate y.3 f)
+      let f : y.0.fate ≡ Open = ap (λ (v : Known). v.fate) one ∙ at_first in
+      (x.0, x.1, sym y.2 ∙ ap (λ (v : Known). v.request) one, undecided_is x.0.decided y.0.fate y.3 f)
 
-  accepts_open : (t : Ts) (o : Standing) → stands b H t ≡ Some o → o.fate ≡ Open → Accepts q t o
+  accepts_open : (t : Ts) (o : Known) → known_by b H t ≡ Some o → o.fate ≡ Open → Accepts q t o
   accepts_open t o is at_first lives =
       let x = member t o is at_first in
       let m = x.0 in
@@ -297,7 +297,7 @@ module _ (b : Base) (H : List Entry) (sd : sound b H) (q : Request) (stale full 
         ]
       ]
 
-  accepts_committed : (t : Ts) (o : Standing) → stands b H t ≡ Some o → IsCommitted o.fate → Accepts q t o
+  accepts_committed : (t : Ts) (o : Known) → known_by b H t ≡ Some o → IsCommitted o.fate → Accepts q t o
   accepts_committed t o is c lives = elim (in_order t q.tx) [
     | inl e ↦ ((λ h. (c, e)), (λ h. e))
     | inr k ↦ elim k [
@@ -310,7 +310,7 @@ module _ (b : Base) (H : List Entry) (sd : sound b H) (q : Request) (stale full 
                 let m = x.0 in
                 let y = h.members t m x.1 in
                 let one : y.0 ≡ o = same_Some y.0 o (sym y.1 ∙ is) in
-                let same : m.request ≡ o.request = sym y.2 ∙ ap (λ (v : Standing). v.request) one in
+                let same : m.request ≡ o.request = sym y.2 ∙ ap (λ (v : Known). v.request) one in
                 let both = not_later t m x.1 e in
                 let reads : reads_of q o.request ≡ false = subst (λ r. reads_of q r ≡ false) same both.0 in
                 let over : overwrites q o.request ≡ false = subst (λ r. overwrites q r ≡ false) same both.1 in (
@@ -328,7 +328,7 @@ module _ (b : Base) (H : List Entry) (sd : sound b H) (q : Request) (stale full 
     ]
   ]
 
-  accepts : (t : Ts) (o : Standing) → stands b H t ≡ Some o → Accepts q t o
+  accepts : (t : Ts) (o : Known) → known_by b H t ≡ Some o → Accepts q t o
   accepts t o is = by_fate o.fate refl
     where
       by_fate : (f : Fate) → o.fate ≡ f → Accepts q t o
@@ -341,7 +341,7 @@ if_some None P h = tt
 if_some (Some x) P h = h x refl
 
 -- what isn't refused is accepted
-pub validated : (b : Base) (H : List Entry) (q : Request) (stale full : Option Refusal) → sound b H → stands b H q.tx ≡ None → first_refusal (state b H) (window b H) stale full q ≡ None
-    → (q.epoch ≡ epoch_of (state b H)) × ((t : Ts) → IfSome (stands b H t) (Accepts q t))
+pub validated : (b : Base) (H : List Entry) (q : Request) (stale full : Option Refusal) → sound b H → known_by b H q.tx ≡ None → first_refusal (state b H) (window b H) stale full q ≡ None
+    → (q.epoch ≡ epoch_of (state b H)) × ((t : Ts) → IfSome (known_by b H t) (Accepts q t))
 validated b H q stale full sd once passed =
-    (current b H sd q stale full once passed, (λ t. if_some (stands b H t) (Accepts q t) (λ o is. accepts b H sd q stale full once passed t o is)))
+    (current b H sd q stale full once passed, (λ t. if_some (known_by b H t) (Accepts q t) (λ o is. accepts b H sd q stale full once passed t o is)))

@@ -11,7 +11,7 @@ use Rattle.session_outbox.proofs.Making.{alone-put}
 use Rattle.session_outbox.proofs.Places.{placed}
 use Rattle.session_outbox.proofs.Prefixes.{judged}
 use Rattle.session_outbox.proofs.Stamps.{at_most_then, first_at_most, second_at_most}
-use Rattle.session_outbox.specs.History.{Base, Committed, Standing, State, commit_of, commits, epoch_of, put, stands, start, state, writers}
+use Rattle.session_outbox.specs.History.{Base, Committed, Known, State, commit_of, commits, epoch_of, put, known_by, start, state, writers}
 use Rattle.session_outbox.specs.Laws.{KeepsBase, NoUpgrades, UpgradesAreBare, with_stamps, with_texts, with_writes}
 use Rattle.session_outbox.specs.Opening.{IsAtBase, IsBase}
 use Rattle.session_outbox.specs.Outcomes.{alone_at}
@@ -74,14 +74,14 @@ write_at P (w ∷ ws) m x o h old e = write_at P ws (insert m w.0 w.1) x o h.1 n
 -- ---- upgrades
 
 module _ (b : Base) where
-  bare : (H : List Entry) → sound b H → (t : Ts) (o : Standing) → stands b H t ≡ Some o → IsTrue (is_upgrade o.request) → IsBareUpgrade b o.request
+  bare : (H : List Entry) → sound b H → (t : Ts) (o : Known) → known_by b H t ≡ Some o → IsTrue (is_upgrade o.request) → IsBareUpgrade b o.request
   bare H sd t o is up = (judged b H sd t o is).vouched.upgrades up
 
   writes_nothing : (H : List Entry) → sound b H → (c : ℕ × Request) → Contains (commits b H) c → (x : Oref) → has_written c.1 x ≡ true → is_upgrade c.1 ≡ false
   writes_nothing H sd c i x w = by (is_upgrade c.1) refl
     where
-      s : (o : Standing) × (stands b H c.1.tx ≡ Some o) × ((o.request ≡ c.1) × (o.fate ≡ Committed c.0))
-      s = some_and (stands b H c.1.tx) (λ o. (o.request ≡ c.1) × (o.fate ≡ Committed c.0)) (stand b H sd c i)
+      s : (o : Known) × (known_by b H c.1.tx ≡ Some o) × ((o.request ≡ c.1) × (o.fate ≡ Committed c.0))
+      s = some_and (known_by b H c.1.tx) (λ o. (o.request ≡ c.1) × (o.fate ≡ Committed c.0)) (stand b H sd c i)
 
       by : (u : Bool) → is_upgrade c.1 ≡ u → is_upgrade c.1 ≡ false
       by false e = e
@@ -157,7 +157,7 @@ module _ (b : Base) where
       → (n : ℕ) × Admits b (state b (take n (H ++ e ∷ []))) q
   committed H e q sd ow is =
       let h = commit_here b (state b H) e q (placed b H sd) is in
-      let there : stands b (H ++ e ∷ []) q.tx ≡ Some h.0 = subst (λ (S : State). Rattle.session_outbox.specs.History.standing b S q.tx ≡ Some h.0) (sym (state-end b H e)) h.1 in
+      let there : known_by b (H ++ e ∷ []) q.tx ≡ Some h.0 = subst (λ (S : State). Rattle.session_outbox.specs.History.known_in b S q.tx ≡ Some h.0) (sym (state-end b H e)) h.1 in
       (h.0.place, subst (λ (r : Request). Admits b (state b (take h.0.place (H ++ e ∷ []))) r) h.2 (judged b (H ++ e ∷ []) (sound-end b H e sd ow) q.tx h.0 there))
 
   -- an object behind one more entry is one of the writes of what it commits, or was there

@@ -3,7 +3,7 @@
 use Rattle.commit_log.specs.declared.entry.Entry.TheVariants.{Decided, Finished, Life, One, Prepared, Upgraded}
 use Rattle.commit_log.specs.declared.entry.Entry.{Entry}
 use Rattle.commit_log.specs.declared.request.Request.{Request}
-use Rattle.session_outbox.specs.History.{Aborted, Base, Committed, Fate, LeftOver, Open, Standing, State, epoch_of, is_undecided, or_lost, put, standing, start, undecided_in}
+use Rattle.session_outbox.specs.History.{Aborted, Base, Committed, Fate, LeftOver, Open, Known, State, epoch_of, is_undecided, or_lost, put, known_in, start, undecided_in}
 use Rattle.session_outbox.specs.FormChecking.{is_well_formed}
 use Rattle.session_outbox.specs.Participants.{takes_part}
 use Rattle.session_outbox.specs.Requests.{bars, has_created, has_read, has_written, is_upgrade, overwrites, written}
@@ -37,11 +37,11 @@ is_empty [] = true
 is_empty (x ∷ xs) = false
 
 -- whether q can come behind t, which stands as o
-abbrev pub is_accepted : Request → Ts → Standing → Bool
+abbrev pub is_accepted : Request → Ts → Known → Bool
 is_accepted q t o = if_then (is_live o.fate) (if_then (bars q o.request) (is_committed o.fate && is_before t q.tx) && if_then (overwrites q o.request) (is_before t q.tx))
 
 -- whether the test holds of each transaction that is known, as it stands
-abbrev pub each_known : Base → State → (Ts → Standing → Bool) → Bool
+abbrev pub each_known : Base → State → (Ts → Known → Bool) → Bool
 each_known b S test = list_all (λ e. test e.0 (or_lost b S e.0 e.1)) S.known.pairs
 
 -- whether x, if q created and wrote it, isn't there and was written by nobody
@@ -72,7 +72,7 @@ is_bare_upgrade b q =
 -- whether the sender of q can vouch for it
 abbrev pub is_vouched : Base → State → Request → Bool
 is_vouched b S q =
-    is_well_formed q && nat_lt 0 S.length && is_none (standing b S q.tx) && is_none (get b.left q.tx)
+    is_well_formed q && nat_lt 0 S.length && is_none (known_in b S q.tx) && is_none (get b.left q.tx)
     && if_then (nat_eq q.tx.repo b.repo) (nat_eq q.tx.life S.life)
     && has_participants b q
     && list_all (has_read q) (keys (written q))
@@ -103,8 +103,8 @@ abbrev pub is_owed : Base → State → Entry → Bool
 is_owed b S (Life n) = nat_eq n (S.life + 1)
 is_owed b S (One q) = is_admitted b S q && is_alone b q && not (is_upgrade q)
 is_owed b S (Prepared q) = is_admitted b S q && not (is_empty q.others)
-is_owed b S (Decided t c) = is_undecided (standing b S t) && nat_eq t.repo b.repo
-is_owed b S (Finished t c) = (is_undecided (standing b S t) && not (nat_eq t.repo b.repo)) || is_left_so S t c
+is_owed b S (Decided t c) = is_undecided (known_in b S t) && nat_eq t.repo b.repo
+is_owed b S (Finished t c) = (is_undecided (known_in b S t) && not (nat_eq t.repo b.repo)) || is_left_so S t c
 is_owed b S (Upgraded q) = is_admitted b S q && is_alone b q && is_upgrade q
 
 abbrev pub is_kept_by : Base → State → List Entry → Bool

@@ -5,7 +5,7 @@ use Rattle.commit_log.specs.declared.entry.Entry.TheVariants.{Decided, Finished,
 use Rattle.commit_log.specs.declared.entry.Entry.{Entry}
 use Rattle.commit_log.specs.declared.request.Request.{Request}
 use Rattle.session_outbox.specs.Calls.{drawn_time, last_drawn, last_session, next_page, was_granted}
-use Rattle.session_outbox.specs.History.{Base, stands, state}
+use Rattle.session_outbox.specs.History.{Base, known_by, state}
 use Rattle.session_outbox.specs.Requests.{has_created, has_written}
 use Rattle.session_outbox.specs.Session.{Session, place_of, session, session_ended, session_lives}
 use Rattle.session_outbox.specs.Trace.{E, Item, M, entries}
@@ -59,7 +59,7 @@ abbrev pub EntryIsExact : Base → List Item → Entry → Type 0
 EntryIsExact b T (Life n) = Unit {0}
 EntryIsExact b T (One q) = ComesFromSession b T q
 EntryIsExact b T (Prepared q) = ComesFromSession b T q
-EntryIsExact b T (Decided t c) = IsSomeAnd (stands b (entries T) t) (λ o. IsSomeAnd (session b T o.request.session) (λ v. session_ended v ≡ false))
+EntryIsExact b T (Decided t c) = IsSomeAnd (known_by b (entries T) t) (λ o. IsSomeAnd (session b T o.request.session) (λ v. session_ended v ≡ false))
 EntryIsExact b T (Finished t c) = Unit {0}
 EntryIsExact b T (Upgraded q) = ComesFromSession b T q
 

@@ -63,7 +63,7 @@ pub data Fate : Type 0 where
 
 -- How a transaction stands at a repository: the place of its request there, the request, and what
 -- became of it.
-pub record Standing : Type 0 where
+pub record Known : Type 0 where
   pub place : ℕ
   pub request : Request
   pub fate : Fate
@@ -101,7 +101,7 @@ pub record State : Type 0 where
   -- the objects, with the writes of the commits
   pub objects : Map oref_cmp Obj
   -- the transactions whose requests are here. A Life changes none of them: see `standing`
-  pub known : Map ts_cmp Standing
+  pub known : Map ts_cmp Known
   -- the greatest timestamp of a transaction that committed here, earlier runs included
   pub top : Ts
   -- the texts of the installed upgrades, in order
@@ -152,13 +152,13 @@ abbrev pub is_lost : Base → State → Ts → ℕ → Bool
 is_lost b S t p = nat_eq t.repo b.repo && nat_lt p S.last_life
 
 -- o, but aborted where t is lost
-abbrev pub or_lost : Base → State → Ts → Standing → Standing
+abbrev pub or_lost : Base → State → Ts → Known → Known
 or_lost b S t o = record o { fate = lapse o.fate (is_lost b S t o.place) }
 
 -- How the transaction t stands, or None where its request isn't here. One that this repository
 -- coordinates and hadn't decided is aborted by a Life.
-abbrev pub standing : Base → State → Ts → Option Standing
-standing b S t = option_map (or_lost b S t) (get S.known t)
+abbrev pub known_in : Base → State → Ts → Option Known
+known_in b S t = option_map (or_lost b S t) (get S.known t)
 
 -- t, whose request q stands at p, commits at the next place: its writes count from there on
 abbrev pub commit : State → Ts → ℕ → Request → State
@@ -169,24 +169,24 @@ commit S t p q = record S {
   texts = S.texts ++ text_of q.kind;
 }
 
-abbrev pub settle_by : State → Ts → Bool → Standing → Fate → State
+abbrev pub settle_by : State → Ts → Bool → Known → Fate → State
 settle_by S t c o Open = cond c (commit S t o.place o.request) (record S { known = insert S.known t (record o { fate = Aborted }) })
 settle_by S t c o (Committed at) = S
 settle_by S t c o Aborted = S
 
 -- t, which stands so, is decided: an undecided one commits or is aborted, and another stays as it is
-abbrev pub settle : State → Ts → Bool → Option Standing → State
+abbrev pub settle : State → Ts → Bool → Option Known → State
 settle S t c None = S
 settle S t c (Some o) = settle_by S t c o o.fate
 
 -- whether a transaction that stands so is undecided
-abbrev pub is_undecided : Option Standing → Bool
+abbrev pub is_undecided : Option Known → Bool
 is_undecided None = false
 is_undecided (Some o) = is_open o.fate
 
 -- the transactions that are undecided
-abbrev pub undecided_in : Base → State → Map ts_cmp Standing
-undecided_in b S = keep S.known (λ t. is_undecided (standing b S t))
+abbrev pub undecided_in : Base → State → Map ts_cmp Known
+undecided_in b S = keep S.known (λ t. is_undecided (known_in b S t))
 
 -- what an entry changes, but for the number of entries
 abbrev pub change : Base → State → Entry → State
@@ -194,8 +194,8 @@ change b S (Life n) = record S { life = n; last_life = S.length }
 change b S (Prepared q) = record S { known = insert S.known q.tx (record { place = S.length; request = q; fate = Open }) }
 change b S (One q) = record (commit S q.tx S.length q) { alone = insert S.alone q.who.client q.tx }
 change b S (Upgraded q) = record (commit S q.tx S.length q) { alone = insert S.alone q.who.client q.tx }
-change b S (Decided t c) = record (settle S t c (standing b S t)) { kept = cond (c && is_undecided (standing b S t)) (add S.kept t) S.kept }
-change b S (Finished t c) = record (settle S t c (standing b S t)) { left = keep S.left (λ u. not (same_ts u t)) }
+change b S (Decided t c) = record (settle S t c (known_in b S t)) { kept = cond (c && is_undecided (known_in b S t)) (add S.kept t) S.kept }
+change b S (Finished t c) = record (settle S t c (known_in b S t)) { left = keep S.left (λ u. not (same_ts u t)) }
 
 -- the state behind one more entry
 abbrev pub put : Base → State → Entry → State
@@ -206,14 +206,14 @@ abbrev pub state : Base → List Entry → State
 state b H = fold (put b) (start b) H
 
 -- how t stands behind all entries
-abbrev pub stands : Base → List Entry → Ts → Option Standing
-stands b H t = standing b (state b H) t
+abbrev pub known_by : Base → List Entry → Ts → Option Known
+known_by b H t = known_in b (state b H) t
 
 -- the objects at the place n: with the commits below it
 abbrev pub objects_at : Base → List Entry → ℕ → Map oref_cmp Obj
 objects_at b H n = (state b (take n H)).objects
 
-abbrev pub commit_by : State → Bool → Option Standing → List (ℕ × Request)
+abbrev pub commit_by : State → Bool → Option Known → List (ℕ × Request)
 commit_by S c None = []
 commit_by S c (Some o) = cond (c && is_open o.fate) ((S.length, o.request) ∷ []) []
 
@@ -223,8 +223,8 @@ commit_of b S (Life n) = []
 commit_of b S (Prepared q) = []
 commit_of b S (One q) = (S.length, q) ∷ []
 commit_of b S (Upgraded q) = (S.length, q) ∷ []
-commit_of b S (Decided t c) = commit_by S c (standing b S t)
-commit_of b S (Finished t c) = commit_by S c (standing b S t)
+commit_of b S (Decided t c) = commit_by S c (known_in b S t)
+commit_of b S (Finished t c) = commit_by S c (known_in b S t)
 
 abbrev pub commits_from : Base → State → List Entry → List (ℕ × Request)
 commits_from b S [] = []

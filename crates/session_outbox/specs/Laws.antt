@@ -3,7 +3,7 @@
 use Rattle.commit_log.specs.declared.entry.Entry.TheVariants.{Decided, Finished, Life, One, Prepared, Upgraded}
 use Rattle.commit_log.specs.declared.entry.Entry.{Entry}
 use Rattle.commit_log.specs.declared.request.Request.{Request}
-use Rattle.session_outbox.specs.History.{Aborted, Base, Committed, CommittedBelow, Fate, IsCommitted, Lives, Open, Standing, commits, epoch_of, is_life, last_write, objects_at, stands, state, writers}
+use Rattle.session_outbox.specs.History.{Aborted, Base, Committed, CommittedBelow, Fate, IsCommitted, Lives, Open, Known, commits, epoch_of, is_life, last_write, objects_at, known_by, state, writers}
 use Rattle.session_outbox.specs.Participants.{IsBareUpgrade, takes_part}
 use Rattle.session_outbox.specs.Requests.{has_created, has_read, has_written, is_upgrade, text_of, written}
 use Rattle.session_outbox.specs.Sound.{Admits, owes, sound}
@@ -28,7 +28,7 @@ FateStays Aborted Aborted = Unit {0}
 
 -- How a transaction stands, o, and how it stands later, w: its request keeps its place, and a commit
 -- or an abort is final.
-pub record Stays (o w : Standing) : Type 0 where
+pub record Stays (o w : Known) : Type 0 where
   pub place : w.place ≡ o.place
   pub request : w.request ≡ o.request
   pub fate : FateStays o.fate w.fate
@@ -52,7 +52,7 @@ Commits (Finished u c) t = (u ≡ t) × (c ≡ true)
 Commits (Upgraded q) t = q.tx ≡ t
 
 -- A transaction t that stands in H as o.
-pub record Recorded (b : Base) (H : List Entry) (t : Ts) (o : Standing) : Type 0 where
+pub record Recorded (b : Base) (H : List Entry) (t : Ts) (o : Known) : Type 0 where
   -- its place is one of the history's, and that entry is its request
   pub below : o.place < length H
   pub named : o.request.tx ≡ t
@@ -65,8 +65,8 @@ pub record Recorded (b : Base) (H : List Entry) (t : Ts) (o : Standing) : Type 0
 -- The commits of a history are those of the transactions that stand committed, by rising places.
 pub record CommitsListed (b : Base) (H : List Entry) : Type 0 where
   pub rise : AllPairs (λ c d. c.0 < d.0) (commits b H)
-  pub listed : (t : Ts) (o : Standing) (m : ℕ) → stands b H t ≡ Some o → o.fate ≡ Committed m → Contains (commits b H) (m, o.request)
-  pub stand : (c : ℕ × Request) → Contains (commits b H) c → IsSomeAnd (stands b H c.1.tx) (λ o. (o.request ≡ c.1) × (o.fate ≡ Committed c.0))
+  pub listed : (t : Ts) (o : Known) (m : ℕ) → known_by b H t ≡ Some o → o.fate ≡ Committed m → Contains (commits b H) (m, o.request)
+  pub stand : (c : ℕ × Request) → Contains (commits b H) c → IsSomeAnd (known_by b H c.1.tx) (λ o. (o.request ≡ c.1) × (o.fate ≡ Committed c.0))
 
 -- a list of commits, applied to objects, to the texts of upgrades, and to the greatest timestamp
 abbrev pub with_writes : Map oref_cmp Obj → List (ℕ × Request) → Map oref_cmp Obj
@@ -90,60 +90,60 @@ pub record MadeByCommits (b : Base) (H : List Entry) : Type 0 where
 -- What t reads of x where it stands in H as o and isn't aborted: of the other transactions that wrote
 -- x, those that committed below its request are those before it by timestamp, and the object is as
 -- the last of them left it.
-pub record Reads (b : Base) (H : List Entry) (t : Ts) (o : Standing) (x : Oref) : Type 0 where
-  pub there : stands b H t ≡ Some o
+pub record ReadsObject (b : Base) (H : List Entry) (t : Ts) (o : Known) (x : Oref) : Type 0 where
+  pub there : known_by b H t ≡ Some o
   pub lives : Lives o.fate
   pub read : IsTrue (has_read o.request x)
 
 -- another transaction s that wrote x stands in H as w
-pub record Writes (b : Base) (H : List Entry) (t s : Ts) (w : Standing) (x : Oref) : Type 0 where
-  pub there : stands b H s ≡ Some w
+pub record WritesObject (b : Base) (H : List Entry) (t s : Ts) (w : Known) (x : Oref) : Type 0 where
+  pub there : known_by b H s ≡ Some w
   pub other : s ≢ t
   pub wrote : IsTrue (has_written w.request x)
 
 -- no other transaction that wrote x committed below the place of t, and the object is the base's
-pub record NoneWrote (b : Base) (H : List Entry) (t : Ts) (o : Standing) (x : Oref) : Type 0 where
-  pub none : (s : Ts) (w : Standing) → Writes b H t s w x → ¬ CommittedBelow o.place w.fate
+pub record NoneWrote (b : Base) (H : List Entry) (t : Ts) (o : Known) (x : Oref) : Type 0 where
+  pub none : (s : Ts) (w : Known) → WritesObject b H t s w x → ¬ CommittedBelow o.place w.fate
   pub value : get (objects_at b H o.place) x ≡ get b.objects x
 
 -- s wrote x and committed below the place of t, each other one that did so is before s, and the
 -- object is as s wrote it
-pub record LastWrote (b : Base) (H : List Entry) (t : Ts) (o : Standing) (x : Oref) (s : Ts) (w : Standing) : Type 0 where
-  pub writes : Writes b H t s w x
+pub record LastWrote (b : Base) (H : List Entry) (t : Ts) (o : Known) (x : Oref) (s : Ts) (w : Known) : Type 0 where
+  pub writes : WritesObject b H t s w x
   pub committed : CommittedBelow o.place w.fate
-  pub last : (r : Ts) (v : Standing) → Writes b H t r v x → CommittedBelow o.place v.fate → r ≢ s → Before r s
+  pub last : (r : Ts) (v : Known) → WritesObject b H t r v x → CommittedBelow o.place v.fate → r ≢ s → Before r s
   pub value : get (objects_at b H o.place) x ≡ get (written w.request) x
 
 -- What a transaction read is the write of the last transaction before it by timestamp that isn't
 -- aborted.
 pub record ReadsLast (b : Base) (H : List Entry) : Type 0 where
   -- among the others that wrote x, those that committed below are those before it
-  pub same : (t s : Ts) (o w : Standing) (x : Oref) → Reads b H t o x → Writes b H t s w x → CommittedBelow o.place w.fate ↔ (Lives w.fate × Before s t)
+  pub same : (t s : Ts) (o w : Known) (x : Oref) → ReadsObject b H t o x → WritesObject b H t s w x → CommittedBelow o.place w.fate ↔ (Lives w.fate × Before s t)
   -- none did, or the last one's write is what stands there
-  pub value : (t : Ts) (o : Standing) (x : Oref) → Reads b H t o x → NoneWrote b H t o x ⊎ ((s : Ts) × (w : Standing) × LastWrote b H t o x s w)
+  pub value : (t : Ts) (o : Known) (x : Oref) → ReadsObject b H t o x → NoneWrote b H t o x ⊎ ((s : Ts) × (w : Known) × LastWrote b H t o x s w)
 
 -- no transaction that wrote x has committed, and the object is the base's
 pub record Unwritten (b : Base) (H : List Entry) (x : Oref) : Type 0 where
-  pub none : (s : Ts) (w : Standing) (m : ℕ) → stands b H s ≡ Some w → w.fate ≡ Committed m → IsTrue (has_written w.request x) → ⊥
+  pub none : (s : Ts) (w : Known) (m : ℕ) → known_by b H s ≡ Some w → w.fate ≡ Committed m → IsTrue (has_written w.request x) → ⊥
   pub value : get (state b H).objects x ≡ get b.objects x
 
 -- s wrote x and committed at the place m, none that wrote x committed behind it, and the object is as s
 -- wrote it
-pub record WrittenLast (b : Base) (H : List Entry) (x : Oref) (s : Ts) (w : Standing) (m : ℕ) : Type 0 where
-  pub there : stands b H s ≡ Some w
+pub record WrittenLast (b : Base) (H : List Entry) (x : Oref) (s : Ts) (w : Known) (m : ℕ) : Type 0 where
+  pub there : known_by b H s ≡ Some w
   pub fate : w.fate ≡ Committed m
   pub wrote : IsTrue (has_written w.request x)
   pub value : get (state b H).objects x ≡ get (written w.request) x
-  pub last : (r : Ts) (v : Standing) (n : ℕ) → stands b H r ≡ Some v → v.fate ≡ Committed n → IsTrue (has_written v.request x) → n ≤ m
+  pub last : (r : Ts) (v : Known) (n : ℕ) → known_by b H r ≡ Some v → v.fate ≡ Committed n → IsTrue (has_written v.request x) → n ≤ m
 
 -- where the object x comes from at the end of a history
 abbrev pub ComesFrom : Base → List Entry → Oref → Type 0
-ComesFrom b H x = Unwritten b H x ⊎ ((s : Ts) × (w : Standing) × (m : ℕ) × WrittenLast b H x s w m)
+ComesFrom b H x = Unwritten b H x ⊎ ((s : Ts) × (w : Known) × (m : ℕ) × WrittenLast b H x s w m)
 
 -- The transactions s and t stand in H as w and o, neither is aborted, and both wrote x.
-pub record BothWrote (b : Base) (H : List Entry) (s t : Ts) (w o : Standing) (x : Oref) : Type 0 where
-  pub first : stands b H s ≡ Some w
-  pub second : stands b H t ≡ Some o
+pub record BothWrote (b : Base) (H : List Entry) (s t : Ts) (w o : Known) (x : Oref) : Type 0 where
+  pub first : known_by b H s ≡ Some w
+  pub second : known_by b H t ≡ Some o
   pub first_lives : Lives w.fate
   pub second_lives : Lives o.fate
   pub first_wrote : IsTrue (has_written w.request x)
@@ -153,19 +153,19 @@ pub record BothWrote (b : Base) (H : List Entry) (s t : Ts) (w o : Standing) (x 
 -- timestamp.
 pub record WritersRise (b : Base) (H : List Entry) : Type 0 where
   -- the earlier one committed below the request of the later one
-  pub settled : (s t : Ts) (w o : Standing) (x : Oref) → BothWrote b H s t w o x → Before s t → CommittedBelow o.place w.fate
+  pub settled : (s t : Ts) (w o : Known) (x : Oref) → BothWrote b H s t w o x → Before s t → CommittedBelow o.place w.fate
   -- two commits stand in the order of their timestamps
-  pub rise : (s t : Ts) (w o : Standing) (x : Oref) → BothWrote b H s t w o x → (m n : ℕ) → w.fate ≡ Committed m → o.fate ≡ Committed n → Before s t ↔ (m < n)
+  pub rise : (s t : Ts) (w o : Known) (x : Oref) → BothWrote b H s t w o x → (m n : ℕ) → w.fate ≡ Committed m → o.fate ≡ Committed n → Before s t ↔ (m < n)
   -- at most one is undecided
-  pub one_open : (s t : Ts) (w o : Standing) (x : Oref) → BothWrote b H s t w o x → w.fate ≡ Open → o.fate ≡ Open → s ≡ t
+  pub one_open : (s t : Ts) (w o : Known) (x : Oref) → BothWrote b H s t w o x → w.fate ≡ Open → o.fate ≡ Open → s ≡ t
   -- and it comes after each that committed
-  pub open_last : (s t : Ts) (w o : Standing) (x : Oref) → BothWrote b H s t w o x → IsCommitted w.fate → o.fate ≡ Open → Before s t
+  pub open_last : (s t : Ts) (w o : Known) (x : Oref) → BothWrote b H s t w o x → IsCommitted w.fate → o.fate ≡ Open → Before s t
 
 -- The upgrade u and another transaction t stand in H as w and o, and neither is aborted.
-pub record BesideUpgrade (b : Base) (H : List Entry) (u t : Ts) (w o : Standing) : Type 0 where
-  pub upgrade : stands b H u ≡ Some w
+pub record BesideUpgrade (b : Base) (H : List Entry) (u t : Ts) (w o : Known) : Type 0 where
+  pub upgrade : known_by b H u ≡ Some w
   pub is : IsTrue (is_upgrade w.request)
-  pub there : stands b H t ≡ Some o
+  pub there : known_by b H t ≡ Some o
   pub other : t ≢ u
   pub upgrade_lives : Lives w.fate
   pub other_lives : Lives o.fate
@@ -173,23 +173,23 @@ pub record BesideUpgrade (b : Base) (H : List Entry) (u t : Ts) (w o : Standing)
 -- An upgrade is a fence: what is before it by timestamp committed below it, and what is after it by
 -- timestamp came when it had committed.
 pub record UpgradesFence (b : Base) (H : List Entry) : Type 0 where
-  pub before : (u t : Ts) (w o : Standing) → BesideUpgrade b H u t w o → Before t u ↔ CommittedBelow w.place o.fate
-  pub after : (u t : Ts) (w o : Standing) → BesideUpgrade b H u t w o → Before u t ↔ CommittedBelow o.place w.fate
+  pub before : (u t : Ts) (w o : Known) → BesideUpgrade b H u t w o → Before t u ↔ CommittedBelow w.place o.fate
+  pub after : (u t : Ts) (w o : Known) → BesideUpgrade b H u t w o → Before u t ↔ CommittedBelow o.place w.fate
 
 -- In H the transaction t stands as o, and it created x.
-pub record Creates (b : Base) (H : List Entry) (t : Ts) (o : Standing) (x : Oref) : Type 0 where
-  pub there : stands b H t ≡ Some o
+pub record Creates (b : Base) (H : List Entry) (t : Ts) (o : Known) (x : Oref) : Type 0 where
+  pub there : known_by b H t ≡ Some o
   pub fresh : IsTrue (has_created o.request x)
   pub wrote : IsTrue (has_written o.request x)
 
 -- A created object is new.
 pub record CreatedOnce (b : Base) (H : List Entry) : Type 0 where
   -- it wasn't there
-  pub unused : (t : Ts) (o : Standing) (x : Oref) → Creates b H t o x → get (objects_at b H o.place) x ≡ None
+  pub unused : (t : Ts) (o : Known) (x : Oref) → Creates b H t o x → get (objects_at b H o.place) x ≡ None
   -- no request below wrote it
-  pub first_by_place : (t s : Ts) (o w : Standing) (x : Oref) → Creates b H t o x → stands b H s ≡ Some w → w.place < o.place → has_written w.request x ≡ false
+  pub first_by_place : (t s : Ts) (o w : Known) (x : Oref) → Creates b H t o x → known_by b H s ≡ Some w → w.place < o.place → has_written w.request x ≡ false
   -- nor did a transaction with a lesser timestamp, where neither is aborted
-  pub first_by_time : (t s : Ts) (o w : Standing) (x : Oref) → Creates b H t o x → Lives o.fate → stands b H s ≡ Some w → Lives w.fate → Before s t → has_written w.request x ≡ false
+  pub first_by_time : (t s : Ts) (o w : Known) (x : Oref) → Creates b H t o x → Lives o.fate → known_by b H s ≡ Some w → Lives w.fate → Before s t → has_written w.request x ≡ false
 
 -- The entry e owes nothing to the history H, which stays sound with it.
 abbrev pub Continues : Base → List Entry → Entry → Type 0
@@ -209,8 +209,8 @@ NoUpgrades cs = All (λ c. is_upgrade c.1 ≡ false) cs
 -- What holds of the upgrades of a history.
 pub record UpgradesAreBare (b : Base) (H : List Entry) : Type 0 where
   -- one that stands changes no object, and all repositories take part in it
-  pub bare : (t : Ts) (o : Standing) → stands b H t ≡ Some o → IsTrue (is_upgrade o.request) → IsBareUpgrade b o.request
-  pub wide : (t : Ts) (o : Standing) (n : ℕ) → stands b H t ≡ Some o → IsTrue (is_upgrade o.request) → n < b.repos → IsTrue (takes_part b.repo o.request n)
+  pub bare : (t : Ts) (o : Known) → known_by b H t ≡ Some o → IsTrue (is_upgrade o.request) → IsBareUpgrade b o.request
+  pub wide : (t : Ts) (o : Known) (n : ℕ) → known_by b H t ≡ Some o → IsTrue (is_upgrade o.request) → n < b.repos → IsTrue (takes_part b.repo o.request n)
   -- so none is among those that wrote an object
   pub plain : (x : Oref) → NoUpgrades (writers b H x)
   -- and one that commits at once does so where this repository is all there is

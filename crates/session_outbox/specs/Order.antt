@@ -1,7 +1,7 @@
 -- Local order: the condition on one repository's history that makes the histories of all of them one
 -- serial history in the order of the timestamps.
 use Rattle.commit_log.specs.declared.entry.Entry.{Entry}
-use Rattle.session_outbox.specs.History.{Base, CommittedBelow, Lives, Standing, stands}
+use Rattle.session_outbox.specs.History.{Base, CommittedBelow, Lives, Known, known_by}
 use Rattle.session_outbox.specs.Requests.{has_read, has_written}
 use Rattle.std.specs.Prelude.{◌≡◌, ◌≢◌, IsTrue, List, Some, ◌<◌}
 use Rattle.thor_value.specs.Names.{Before}
@@ -10,9 +10,9 @@ use Rattle.thor_value.specs.declared.names.Ts.{Ts}
 
 -- In H the transaction t stands as o and the other transaction s as w, neither is aborted, and s
 -- wrote the object x, which t read.
-pub record ReadsFrom (b : Base) (H : List Entry) (t s : Ts) (o w : Standing) (x : Oref) : Type 0 where
-  pub reader : stands b H t ≡ Some o
-  pub writer : stands b H s ≡ Some w
+pub record ReadsFrom (b : Base) (H : List Entry) (t s : Ts) (o w : Known) (x : Oref) : Type 0 where
+  pub reader : known_by b H t ≡ Some o
+  pub writer : known_by b H s ≡ Some w
   pub other : s ≢ t
   pub reader_lives : Lives o.fate
   pub writer_lives : Lives w.fate
@@ -23,6 +23,6 @@ pub record ReadsFrom (b : Base) (H : List Entry) (t s : Ts) (o w : Standing) (x 
 -- neither is aborted, then
 pub record HasOrder (b : Base) (H : List Entry) : Type 0 where
   -- if the request of s stands below that of t, s is before t
-  pub rises : (t s : Ts) (o w : Standing) (x : Oref) → ReadsFrom b H t s o w x → w.place < o.place → Before s t
+  pub rises : (t s : Ts) (o w : Known) (x : Oref) → ReadsFrom b H t s o w x → w.place < o.place → Before s t
   -- if s is before t, it committed below the request of t
-  pub settled : (t s : Ts) (o w : Standing) (x : Oref) → ReadsFrom b H t s o w x → Before s t → CommittedBelow o.place w.fate
+  pub settled : (t s : Ts) (o w : Known) (x : Oref) → ReadsFrom b H t s o w x → Before s t → CommittedBelow o.place w.fate

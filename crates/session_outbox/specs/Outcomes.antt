@@ -3,7 +3,7 @@
 use Rattle.commit_log.specs.declared.entry.Entry.TheVariants.{Decided, Finished, Life, One, Prepared, Upgraded}
 use Rattle.commit_log.specs.declared.entry.Entry.{Entry}
 use Rattle.commit_log.specs.declared.request.Request.{Request}
-use Rattle.session_outbox.specs.History.{Aborted, Base, Committed, Fate, IsCommitted, Standing, stands, state}
+use Rattle.session_outbox.specs.History.{Aborted, Base, Committed, Fate, IsCommitted, Known, known_by, state}
 use Rattle.session_outbox.specs.Laws.{Asks}
 use Rattle.std.specs.List.{fold, slice_get}
 use Rattle.std.specs.Option.{IsSome, IsSomeAnd, option_or}
@@ -52,20 +52,20 @@ SettledAt m false f = f ≡ Aborted
 
 -- t is settled so, by the entry at the place m; or an earlier run left it, and nothing of it stands here
 abbrev pub IsSettled : Base → List Entry → Ts → ℕ → Bool → Type 0
-IsSettled b H t m c = IsSomeAnd (stands b H t) (λ o. (o.place < m) × SettledAt m c o.fate) ⊎ (IsSome (get b.left t) × (stands b H t ≡ None))
+IsSettled b H t m c = IsSomeAnd (known_by b H t) (λ o. (o.place < m) × SettledAt m c o.fate) ⊎ (IsSome (get b.left t) × (known_by b H t ≡ None))
 
 -- What the entries of a history say of its transactions.
 pub record EntriesTell (b : Base) (H : List Entry) : Type 0 where
   -- a request's transaction stands at its place
-  pub asked : (m : ℕ) (e : Entry) (q : Request) → slice_get H m ≡ Some e → Asks e q → IsSomeAnd (stands b H q.tx) (λ o. (o.place ≡ m) × (o.request ≡ q))
+  pub asked : (m : ℕ) (e : Entry) (q : Request) → slice_get H m ≡ Some e → Asks e q → IsSomeAnd (known_by b H q.tx) (λ o. (o.place ≡ m) × (o.request ≡ q))
   -- what a decision settles ends so, and so does what is learned of it
   pub settled : (m : ℕ) (e : Entry) (t : Ts) (c : Bool) → slice_get H m ≡ Some e → Settles e t c → IsSettled b H t m c
   -- a transaction is settled by one entry at most
   pub once : (m n : ℕ) (e d : Entry) (t : Ts) (c k : Bool) → slice_get H m ≡ Some e → Settles e t c → slice_get H n ≡ Some d → Settles d t k → m ≡ n
   -- a transaction that was aborted was so by an entry behind its request
-  pub aborted : (t : Ts) (o : Standing) → stands b H t ≡ Some o → o.fate ≡ Aborted → (m : ℕ) × (o.place < m) × IsSomeAnd (slice_get H m) (λ e. Causes b e t Aborted)
+  pub aborted : (t : Ts) (o : Known) → known_by b H t ≡ Some o → o.fate ≡ Aborted → (m : ℕ) × (o.place < m) × IsSomeAnd (slice_get H m) (λ e. Causes b e t Aborted)
   -- what an earlier run left has no request here
-  pub left : (t : Ts) → IsSome (get b.left t) → stands b H t ≡ None
+  pub left : (t : Ts) → IsSome (get b.left t) → known_by b H t ≡ None
 
 -- the transaction of the client c that the entry commits with no other participant
 abbrev pub alone_at : ℕ → Entry → Option Ts

@@ -3,7 +3,7 @@
 use Rattle.commit_log.specs.declared.entry.Entry.TheVariants.{Decided, Finished, Life, One, Prepared, Upgraded}
 use Rattle.commit_log.specs.declared.entry.Entry.{Entry}
 use Rattle.commit_log.specs.declared.request.Request.{Request}
-use Rattle.session_outbox.specs.History.{Aborted, Base, Committed, Fate, Open, Standing, State, is_undecided, put, standing}
+use Rattle.session_outbox.specs.History.{Aborted, Base, Committed, Fate, Open, Known, State, is_undecided, put, known_in}
 use Rattle.session_outbox.specs.Requests.{is_upgrade}
 use Rattle.session_outbox.specs.Window.{Member, Window}
 use Rattle.session_outbox.specs.declared.refusal.Refusal.TheVariants as refused
@@ -68,15 +68,15 @@ close_queue_by Q t c q (Committed at) = Q
 close_queue_by Q t c q Aborted = Q
 
 -- t, which stands so, is decided
-abbrev pub close_queue : Contents → Ts → Bool → Option Standing → Contents
+abbrev pub close_queue : Contents → Ts → Bool → Option Known → Contents
 close_queue Q t c None = Q
 close_queue Q t c (Some o) = close_queue_by Q t c o.request o.fate
 
 -- the queue behind one more entry, where S is the state before it
 abbrev pub slide_queue : Base → State → Contents → Entry → Contents
-slide_queue b S Q (Life n) = record { threshold = S.top; members = keep Q.members (λ t. is_undecided (standing b (put b S (Life n)) t)) }
+slide_queue b S Q (Life n) = record { threshold = S.top; members = keep Q.members (λ t. is_undecided (known_in b (put b S (Life n)) t)) }
 slide_queue b S Q (One q) = queue.enter Q (transaction_of q) true
 slide_queue b S Q (Prepared q) = queue.enter Q (transaction_of q) false
-slide_queue b S Q (Decided t c) = close_queue Q t c (standing b S t)
-slide_queue b S Q (Finished t c) = close_queue Q t c (standing b S t)
+slide_queue b S Q (Decided t c) = close_queue Q t c (known_in b S t)
+slide_queue b S Q (Finished t c) = close_queue Q t c (known_in b S t)
 slide_queue b S Q (Upgraded q) = queue.cleared q.tx

@@ -5,7 +5,7 @@ use Rattle.commit_log.specs.RequestForm.{IsWellFormed}
 use Rattle.commit_log.specs.declared.entry.Entry.TheVariants.{Life, One, Prepared, Decided, Finished, Upgraded}
 use Rattle.commit_log.specs.declared.entry.Entry.{Entry}
 use Rattle.commit_log.specs.declared.request.Request.{Request}
-use Rattle.session_outbox.specs.History.{Base, IsCommitted, Lives, Standing, State, epoch_of, is_undecided, put, standing, start, undecided_in}
+use Rattle.session_outbox.specs.History.{Base, IsCommitted, Lives, Known, State, epoch_of, is_undecided, put, known_in, start, undecided_in}
 use Rattle.session_outbox.specs.Participants.{HasParticipants, IsAlone, IsBareUpgrade, IsShared}
 use Rattle.session_outbox.specs.Requests.{bars, has_created, has_read, has_written, is_upgrade, overwrites}
 use Rattle.std.specs.List.{AllByRecursion}
@@ -21,7 +21,7 @@ use Rattle.validation_queue.specs.Contents.{room_for}
 -- upgrade, t has committed and is before q. Where q wrote what t read, t is before q. (Backward
 -- validation in timestamp order: Adya and others, SIGMOD 1995. Writers read what they write, so two
 -- writers of one object meet too.)
-abbrev pub Accepts : Request → Ts → Standing → Type 0
+abbrev pub Accepts : Request → Ts → Known → Type 0
 Accepts q t o = Lives o.fate → (IsTrue (bars q o.request) → IsCommitted o.fate × Before t q.tx) × (IsTrue (overwrites q o.request) → Before t q.tx)
 
 -- What the sender of a request q vouches for, where its repository is in the state S: a repository
@@ -31,7 +31,7 @@ pub record Vouches (b : Base) (S : State) (q : Request) : Type 0 where
   -- it comes behind the Life of the opening
   pub begun : 0 < S.length
   -- it comes once in this run, and its transaction isn't one that an earlier run left prepared
-  pub once : standing b S q.tx ≡ None
+  pub once : known_in b S q.tx ≡ None
   pub unleft : get b.left q.tx ≡ None
   -- where this repository coordinates it, it is a transaction of the present life
   pub alive : q.tx.repo ≡ b.repo → q.tx.life ≡ S.life
@@ -47,7 +47,7 @@ pub record Vouches (b : Base) (S : State) (q : Request) : Type 0 where
   pub known : IsTrue b.tells → (x : Oref) → IsTrue (has_written q x) → has_created q x ≡ false → IsSome (get S.objects x)
   -- the objects that it created aren't there, and no transaction has written them
   pub unused : (x : Oref) → IsTrue (has_created q x) → IsTrue (has_written q x) → get S.objects x ≡ None
-  pub unwritten : (x : Oref) → IsTrue (has_created q x) → IsTrue (has_written q x) → (t : Ts) → IfSome (standing b S t) (λ o. has_written o.request x ≡ false)
+  pub unwritten : (x : Oref) → IsTrue (has_created q x) → IsTrue (has_written q x) → (t : Ts) → IfSome (known_in b S t) (λ o. has_written o.request x ≡ false)
 
 -- What a request q owes to the state S that it meets.
 pub record Admits (b : Base) (S : State) (q : Request) : Type 0 where
@@ -56,7 +56,7 @@ pub record Admits (b : Base) (S : State) (q : Request) : Type 0 where
   -- its client has seen the upgrades that are installed, and no others
   pub current : q.epoch ≡ epoch_of S
   -- it can come behind each transaction that is here
-  pub accepted : (t : Ts) → IfSome (standing b S t) (Accepts q t)
+  pub accepted : (t : Ts) → IfSome (known_in b S t) (Accepts q t)
   -- a queue of the undecided ones has room for it
   pub room : len (undecided_in b S) < room_for
 
@@ -71,8 +71,8 @@ abbrev pub owes : Base → State → Entry → Type 0
 owes b S (Life n) = n ≡ S.life + 1
 owes b S (One q) = Admits b S q × IsAlone b q × (is_upgrade q ≡ false)
 owes b S (Prepared q) = Admits b S q × IsShared q
-owes b S (Decided t c) = IsTrue (is_undecided (standing b S t)) × (t.repo ≡ b.repo)
-owes b S (Finished t c) = (IsTrue (is_undecided (standing b S t)) × (t.repo ≢ b.repo)) ⊎ IsLeftSo S t c
+owes b S (Decided t c) = IsTrue (is_undecided (known_in b S t)) × (t.repo ≡ b.repo)
+owes b S (Finished t c) = (IsTrue (is_undecided (known_in b S t)) × (t.repo ≢ b.repo)) ⊎ IsLeftSo S t c
 owes b S (Upgraded q) = Admits b S q × IsAlone b q × (is_upgrade q ≡ true)
 
 -- each of the entries owes what it owes to the state at its place, the first to S

@@ -5,7 +5,7 @@
 use Rattle.commit_log.specs.declared.entry.Entry.TheVariants.{Decided, Finished, Life, One, Prepared, Upgraded}
 use Rattle.commit_log.specs.declared.entry.Entry.{Entry}
 use Rattle.commit_log.specs.declared.request.Request.{Request}
-use Rattle.session_outbox.specs.History.{Aborted, Base, Committed, Fate, Open, Standing, State, is_undecided, put, standing, start}
+use Rattle.session_outbox.specs.History.{Aborted, Base, Committed, Fate, Open, Known, State, is_undecided, put, known_in, start}
 use Rattle.session_outbox.specs.Requests.{is_upgrade}
 use Rattle.std.specs.Prelude.{Bool, List, None, Option, Some, [], cond, false, nat_le, true, ◌∷◌}
 use Rattle.thor_value.specs.FiniteMap.{Map, empty, insert, keep, len, remove}
@@ -53,13 +53,13 @@ decide W t q = cond (is_upgrade q) (cleared t) (record { threshold = W.threshold
 abbrev pub leave : Window → Ts → Window
 leave W t = record { threshold = W.threshold; members = remove W.members t }
 
-abbrev pub close_by : Window → Ts → Bool → Standing → Fate → Window
+abbrev pub close_by : Window → Ts → Bool → Known → Fate → Window
 close_by W t c o Open = cond c (decide W t o.request) (leave W t)
 close_by W t c o (Committed at) = W
 close_by W t c o Aborted = W
 
 -- t, which stands so, is decided
-abbrev pub close : Window → Ts → Bool → Option Standing → Window
+abbrev pub close : Window → Ts → Bool → Option Known → Window
 close W t c None = W
 close W t c (Some o) = close_by W t c o o.fate
 
@@ -69,11 +69,11 @@ restarted top W test = record { threshold = top; members = keep W.members test }
 
 -- the window behind one more entry, where S is the state before it
 abbrev pub slide : Base → State → Window → Entry → Window
-slide b S W (Life n) = restarted S.top W (λ t. is_undecided (standing b (put b S (Life n)) t))
+slide b S W (Life n) = restarted S.top W (λ t. is_undecided (known_in b (put b S (Life n)) t))
 slide b S W (One q) = enter W q true
 slide b S W (Prepared q) = enter W q false
-slide b S W (Decided t c) = close W t c (standing b S t)
-slide b S W (Finished t c) = close W t c (standing b S t)
+slide b S W (Decided t c) = close W t c (known_in b S t)
+slide b S W (Finished t c) = close W t c (known_in b S t)
 slide b S W (Upgraded q) = cleared q.tx
 
 abbrev pub window_from : Base → State → Window → List Entry → Window

@@ -3,7 +3,7 @@
 ghost use Rattle.commit_log.specs.declared.request.Request.{Request};
 ghost use Rattle.session_outbox.specs.Acceptance.{WasAccepted};
 ghost use Rattle.session_outbox.specs.Current.{IsRightOrStale};
-ghost use Rattle.session_outbox.specs.History.{Base, stands, state};
+ghost use Rattle.session_outbox.specs.History.{Base, known_by, state};
 ghost use Rattle.session_outbox.specs.Requests.{has_read};
 ghost use Rattle.session_outbox.specs.Session.{Session, session, upto_of};
 ghost use Rattle.session_outbox.specs.Sound.{sound};
@@ -20,7 +20,7 @@ ghost use Rattle.thor_value.specs.declared.values.Obj.{Obj};
 /// is what stands there, where its client acknowledged no more than it knew.
 pub fn accepted_requests_are_current()
     ensures found { (b : Base) (T : List Item) (s : ℕ) (q : Request) → sound b (entries T) →
-        stands b (entries T) q.tx ≡ None → verdict b T s q ≡ None →
+        known_by b (entries T) q.tx ≡ None → verdict b T s q ≡ None →
         (v : Session) × WasAccepted b T s q v }
     ensures copies { (b : Base) (T : List Item) (s : ℕ) (q : Request) (v : Session) (committed : Ts → Bool)
         (x : Oref) (o : Obj) → WasAccepted b T s q v → q.upto ≤ upto_of v → has_read q x ≡ true →

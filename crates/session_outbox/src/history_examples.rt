@@ -2,7 +2,7 @@
 
 ghost use Rattle.session_outbox.specs.Checking.{is_sound};
 ghost use Rattle.session_outbox.specs.Examples.{again, answer_to, at, away, before_upgrade, beside_itself, blind_writers, box, coordinated_above, coordinated_outside, created, created_twice, decided_late, decided_when_lost, earlier, far, finished_at_home, home, kept_marks, later_read, later_write, left_behind, left_over, left_prepared, lost_by_life, mended, only, other_life, other_version, out_of_order, out_of_range, outlives, prepared_alone, prepared_anew, reading_upgraded, reading_x, same_life, setting_x, settled_by_opening, settled_twice, skipped_life, two_commits, upgrade_in_haste, upgrade_that_writes, upgraded, upgraded_alone, upgraded_by_one, upgrading, with_nobody, without_life, writes_nowhere, x, y, z};
-ghost use Rattle.session_outbox.specs.History.{Aborted, Committed, Open, epoch_of, objects_at, stands, state};
+ghost use Rattle.session_outbox.specs.History.{Aborted, Committed, Open, epoch_of, objects_at, known_by, state};
 ghost use Rattle.session_outbox.specs.Opening.{IsBase};
 ghost use Rattle.session_outbox.specs.Order.{HasOrder};
 ghost use Rattle.session_outbox.specs.Trace.{entries, items};
@@ -94,13 +94,13 @@ pub fn value_examples()
 
 /// How transactions stand.
 pub fn standing_examples()
-    ensures undecided { option_map (λ o. o.fate) (stands home (take 3 decided_late) (at 1)) ≡ Some Open }
-    ensures decided { option_map (λ o. o.fate) (stands home decided_late (at 1)) ≡ Some (Committed 3) }
-    ensures place { option_map (λ o. o.place) (stands home decided_late (at 1)) ≡ Some 1 }
-    ensures lost { option_map (λ o. o.fate) (stands home lost_by_life (at 1)) ≡ Some Aborted }
-    ensures outlives { option_map (λ o. o.fate) (stands away (take 3 outlives) (at 1)) ≡ Some Open }
-    ensures finished { option_map (λ o. o.fate) (stands away outlives (at 1)) ≡ Some (Committed 3) }
-    ensures unknown { stands home two_commits (at 4) ≡ None }
+    ensures undecided { option_map (λ o. o.fate) (known_by home (take 3 decided_late) (at 1)) ≡ Some Open }
+    ensures decided { option_map (λ o. o.fate) (known_by home decided_late (at 1)) ≡ Some (Committed 3) }
+    ensures place { option_map (λ o. o.place) (known_by home decided_late (at 1)) ≡ Some 1 }
+    ensures lost { option_map (λ o. o.fate) (known_by home lost_by_life (at 1)) ≡ Some Aborted }
+    ensures outlives { option_map (λ o. o.fate) (known_by away (take 3 outlives) (at 1)) ≡ Some Open }
+    ensures finished { option_map (λ o. o.fate) (known_by away outlives (at 1)) ≡ Some (Committed 3) }
+    ensures unknown { known_by home two_commits (at 4) ≡ None }
     ensures epoch { epoch_of (state home upgraded) ≡ 1 }
 {}
 

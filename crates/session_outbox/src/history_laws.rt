@@ -7,7 +7,7 @@ ghost use Rattle.commit_log.specs.declared.entry.Entry.{Entry};
 ghost use Rattle.commit_log.specs.declared.request.Request.{Request};
 ghost use Rattle.session_outbox.specs.Checking.{is_sound};
 ghost use Rattle.session_outbox.specs.Covers.{Covers, HasRoom};
-ghost use Rattle.session_outbox.specs.History.{Base, Standing, Open, commit_of, commits, epoch_of, objects_at, put, stands, state};
+ghost use Rattle.session_outbox.specs.History.{Base, Known, Open, commit_of, commits, epoch_of, objects_at, put, known_by, state};
 ghost use Rattle.session_outbox.specs.Laws.{ComesFrom, CommitsListed, Continues, CreatedOnce, KeepsBase, LivesFollow, MadeByCommits, ReadsLast, Recorded, Stays, UpgradesAreBare, UpgradesFence, WritersRise};
 ghost use Rattle.session_outbox.specs.Opening.{IsBase};
 ghost use Rattle.session_outbox.specs.Order.{HasOrder};
@@ -64,22 +64,22 @@ pub fn histories_are_checked()
 /// leaves none undecided that this repository coordinates.
 pub fn outcomes_are_final()
     ensures stays { (b : Base) (H more : List Entry) → sound b (H ++ more) → (t : Ts) →
-        IfSome (stands b H t) (λ o. IsSomeAnd (stands b (H ++ more) t) (λ w. Stays o w)) }
+        IfSome (known_by b H t) (λ o. IsSomeAnd (known_by b (H ++ more) t) (λ w. Stays o w)) }
     ensures stood { (b : Base) (H : List Entry) → sound b H → (n : ℕ) → n ≤ length H →
-        (t : Ts) (w : Standing) → stands b H t ≡ Some w → w.place < n →
-        IsSomeAnd (stands b (take n H) t) (λ o. Stays o w) }
+        (t : Ts) (w : Known) → known_by b H t ≡ Some w → w.place < n →
+        IsSomeAnd (known_by b (take n H) t) (λ o. Stays o w) }
     ensures life { (b : Base) (H : List Entry) (n : ℕ) → sound b (H ++ Life n ∷ []) →
-        (t : Ts) (o : Standing) → stands b (H ++ Life n ∷ []) t ≡ Some o → t.repo ≡ b.repo →
+        (t : Ts) (o : Known) → known_by b (H ++ Life n ∷ []) t ≡ Some o → t.repo ≡ b.repo →
         o.fate ≢ Open }
 {}
 
 /// A transaction's request is the entry at its place and owed what it owed to the history below; two
 /// transactions stand at two places; the commits are those of the transactions that stand committed.
 pub fn requests_are_recorded()
-    ensures recorded { (b : Base) (H : List Entry) → sound b H → (t : Ts) (o : Standing) →
-        stands b H t ≡ Some o → Recorded b H t o }
-    ensures apart { (b : Base) (H : List Entry) → sound b H → (s t : Ts) (o w : Standing) →
-        stands b H s ≡ Some o → stands b H t ≡ Some w → o.place ≡ w.place → s ≡ t }
+    ensures recorded { (b : Base) (H : List Entry) → sound b H → (t : Ts) (o : Known) →
+        known_by b H t ≡ Some o → Recorded b H t o }
+    ensures apart { (b : Base) (H : List Entry) → sound b H → (s t : Ts) (o w : Known) →
+        known_by b H s ≡ Some o → known_by b H t ≡ Some w → o.place ≡ w.place → s ≡ t }
     ensures commits { (b : Base) (H : List Entry) → sound b H → CommitsListed b H }
 {}
 
@@ -151,9 +151,9 @@ pub fn windows_cover()
 /// its entry.
 pub fn verdicts_are_sound()
     ensures accepts { (b : Base) (H : List Entry) (q : Request) (stale full : Option Refusal) →
-        sound b H → stands b H q.tx ≡ None →
+        sound b H → known_by b H q.tx ≡ None →
         first_refusal (state b H) (window b H) stale full q ≡ None →
-        (q.epoch ≡ epoch_of (state b H)) × ((t : Ts) → IfSome (stands b H t) (Accepts q t)) }
+        (q.epoch ≡ epoch_of (state b H)) × ((t : Ts) → IfSome (known_by b H t) (Accepts q t)) }
     ensures prepared { (b : Base) (T : List Item) (s : ℕ) (q : Request) → sound b (entries T) →
         Vouches b (state b (entries T)) q → IsShared q → verdict b T s q ≡ None →
         Continues b (entries T) (Prepared q) }

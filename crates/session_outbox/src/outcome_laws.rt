@@ -1,7 +1,7 @@
 //! What is proved of entries and outcomes, both ways.
 
 ghost use Rattle.commit_log.specs.declared.entry.Entry.{Entry};
-ghost use Rattle.session_outbox.specs.History.{Base, Standing, stands};
+ghost use Rattle.session_outbox.specs.History.{Base, Known, known_by};
 ghost use Rattle.session_outbox.specs.Outcomes.{Causes, EntriesMake, EntriesTell};
 ghost use Rattle.session_outbox.specs.Sound.{sound};
 ghost use Rattle.std.specs.Prelude.{List, Some, [], ◌∷◌, ◌++◌, ◌≡◌, ◌⊎◌};
@@ -9,8 +9,8 @@ ghost use Rattle.thor_value.specs.declared.names.Ts.{Ts};
 
 /// Behind one more entry a transaction has the outcome that it had, or the entry gave it this one.
 pub fn entries_settle()
-    ensures { (b : Base) (H : List Entry) (e : Entry) → sound b (H ++ e ∷ []) → (t : Ts) (o w : Standing) →
-        stands b H t ≡ Some o → stands b (H ++ e ∷ []) t ≡ Some w →
+    ensures { (b : Base) (H : List Entry) (e : Entry) → sound b (H ++ e ∷ []) → (t : Ts) (o w : Known) →
+        known_by b H t ≡ Some o → known_by b (H ++ e ∷ []) t ≡ Some w →
         (w.fate ≡ o.fate) ⊎ Causes b e t w.fate }
 {}
 
