@@ -2,15 +2,15 @@
 use Rattle.commit_log.specs.declared.entry.Entry.TheVariants.{Decided, Finished, Life, One, Prepared, Upgraded}
 use Rattle.commit_log.specs.declared.entry.Entry.{Entry}
 use Rattle.commit_log.specs.declared.request.Request.{Request}
-use Rattle.session_outbox.proofs.Growth.{sound-end}
-use Rattle.session_outbox.proofs.Places.{came_end, stays, stays_kept, stays_same}
-use Rattle.session_outbox.proofs.Settling.{caused-end}
-use Rattle.session_outbox.proofs.Steps.{FateBegun}
-use Rattle.session_outbox.specs.History.{Aborted, Base, Committed, Fate, IsCommitted, Open, Known, commit_of, known_by, state}
-use Rattle.session_outbox.specs.Laws.{Asks, FateStays, Stays}
-use Rattle.session_outbox.specs.Outcomes.{Causes}
-use Rattle.session_outbox.specs.Participants.{IsAlone, takes_part}
-use Rattle.session_outbox.specs.Sound.{owes, sound}
+use Rattle.local_history.proofs.Growth.{sound-end}
+use Rattle.local_history.proofs.Places.{came_end, stays, stays_kept, stays_same}
+use Rattle.local_history.proofs.Settling.{caused-end}
+use Rattle.local_history.proofs.Steps.{FateBegun}
+use Rattle.local_history.specs.History.{Aborted, Base, Committed, Fate, IsCommitted, Open, Known, commit_of, known_by, state}
+use Rattle.local_history.specs.Laws.{Asks, FateStays, Stays}
+use Rattle.local_history.specs.Outcomes.{Causes}
+use Rattle.local_history.specs.Participants.{IsAlone, takes_part}
+use Rattle.local_history.specs.Sound.{owes, sound}
 use Rattle.atomic_histories.proofs.Parts.{not_both, some-none}
 use Rattle.atomic_histories.specs.Growing.{Continues, MayCome, grown}
 use Rattle.atomic_histories.specs.Several.{Alike, AreAlike, AreSound, HasCommitted, IsAtomic, Several, part}

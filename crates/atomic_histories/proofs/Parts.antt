@@ -2,13 +2,13 @@
 use Rattle.atomic_histories.specs.Several.{AllParts, AreSound, CoordinatorsAreLeast, HasCommitted, IsAtomic, Several, UpgradesAreEverywhere, committed, is_committed_part, part}
 use Rattle.commit_log.specs.declared.entry.Entry.{Entry}
 use Rattle.session_outbox.proofs.Outlived.{none-aborted-back}
-use Rattle.session_outbox.proofs.Prefixes.{fits, judged}
-use Rattle.session_outbox.proofs.Vouched.{upgrades}
-use Rattle.session_outbox.specs.Checking.{is_committed}
+use Rattle.local_history.proofs.Prefixes.{fits, judged}
+use Rattle.local_history.proofs.Vouched.{upgrades}
+use Rattle.local_history.specs.Checking.{is_committed}
 use Rattle.session_outbox.specs.Current.{NoneAborted}
-use Rattle.session_outbox.specs.History.{Aborted, Committed, Fate, IsCommitted, Lives, Open, Known, known_by}
-use Rattle.session_outbox.specs.Participants.{takes_part}
-use Rattle.session_outbox.specs.Sound.{sound}
+use Rattle.local_history.specs.History.{Aborted, Committed, Fate, IsCommitted, Lives, Open, Known, known_by}
+use Rattle.local_history.specs.Participants.{takes_part}
+use Rattle.local_history.specs.Sound.{sound}
 use Rattle.std.proofs.Common.{Bool, List, [], ap, arith, false, inl, inr, refl, subst, sym, true, ℕ, ◌++◌, ◌<◌, ◌≡◌, ◌≤◌, ◌∙◌, ◌∷◌}
 use Rattle.std.proofs.lemmas.Bool.{eqb-true}
 use Rattle.std.specs.List.{AllByRecursion, list_any}

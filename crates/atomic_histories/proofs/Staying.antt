@@ -2,8 +2,8 @@
 use Rattle.commit_log.specs.declared.entry.Entry.TheVariants.{Decided, Finished, Life, One, Prepared, Upgraded}
 use Rattle.commit_log.specs.declared.entry.Entry.{Entry}
 use Rattle.commit_log.specs.declared.request.Request.{Request}
-use Rattle.session_outbox.specs.History.{Base, known_by}
-use Rattle.session_outbox.specs.Participants.{takes_part}
+use Rattle.local_history.specs.History.{Base, known_by}
+use Rattle.local_history.specs.Participants.{takes_part}
 use Rattle.atomic_histories.proofs.Grown.{aborted-stays, committed-stays, onward}
 use Rattle.atomic_histories.specs.Growing.{Continues, MayCome, MayDecide, MayFinish, grown, opened_at}
 use Rattle.atomic_histories.specs.Several.{Alike, AreAlike, AreSound, IsAtomic, Several, part}

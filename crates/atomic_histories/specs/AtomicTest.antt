@@ -1,8 +1,8 @@
 -- Two-phase commit as a computation: each clause of IsAtomic as a test that goes over what is known.
-use Rattle.session_outbox.specs.Checking.{if_then, is_committed}
-use Rattle.session_outbox.specs.History.{Aborted, Committed, Fate, Open, Known, or_lost, state}
+use Rattle.local_history.specs.Checking.{if_then, is_committed}
+use Rattle.local_history.specs.History.{Aborted, Committed, Fate, Open, Known, or_lost, state}
 use Rattle.atomic_histories.specs.Several.{Several, committed, part}
-use Rattle.session_outbox.specs.Participants.{takes_part}
+use Rattle.local_history.specs.Participants.{takes_part}
 use Rattle.std.specs.List.{list_all, range_with_len}
 use Rattle.std.specs.Option.{is_some}
 use Rattle.std.specs.Prelude.{Bool, None, Option, Some, false, true, ℕ}

@@ -1,9 +1,9 @@
 -- One more entry at one of the repositories, and what its call knows of the others.
 use Rattle.commit_log.specs.declared.entry.Entry.TheVariants.{Decided, Finished, Life, One, Prepared, Upgraded}
 use Rattle.commit_log.specs.declared.entry.Entry.{Entry}
-use Rattle.session_outbox.specs.History.{Aborted, Base, Known, state}
-use Rattle.session_outbox.specs.Participants.{takes_part}
-use Rattle.session_outbox.specs.Sound.{owes}
+use Rattle.local_history.specs.History.{Aborted, Base, Known, state}
+use Rattle.local_history.specs.Participants.{takes_part}
+use Rattle.local_history.specs.Sound.{owes}
 use Rattle.atomic_histories.specs.Several.{AreAlike, HasCommitted, Several, part}
 use Rattle.std.specs.Prelude.{Bool, None, Some, [], cond, false, nat_eq, true, ℕ, ◌++◌, ◌<◌, ◌≡◌, ◌∷◌, ◌⊎◌}
 use Rattle.thor_value.specs.declared.names.Ts.{Ts}

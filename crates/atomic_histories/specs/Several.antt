@@ -2,11 +2,11 @@
 -- two-phase commit keeps.
 use Rattle.commit_log.specs.declared.entry.Entry.{Entry}
 use Rattle.commit_log.specs.declared.request.Request.{Request}
-use Rattle.session_outbox.specs.Checking.{is_committed}
-use Rattle.session_outbox.specs.History.{Aborted, Base, IsCommitted, Lives, Known, known_by}
-use Rattle.session_outbox.specs.Participants.{takes_part}
-use Rattle.session_outbox.specs.Requests.{is_upgrade}
-use Rattle.session_outbox.specs.Sound.{sound}
+use Rattle.local_history.specs.Checking.{is_committed}
+use Rattle.local_history.specs.History.{Aborted, Base, IsCommitted, Lives, Known, known_by}
+use Rattle.local_history.specs.Participants.{takes_part}
+use Rattle.local_history.specs.Requests.{is_upgrade}
+use Rattle.local_history.specs.Sound.{sound}
 use Rattle.session_outbox.specs.Trace.{Item, entries}
 use Rattle.std.specs.Prelude.{Bool, List, None, Option, Some, [], cond, false, nat_eq, true, ℕ, ◌++◌, ◌<◌, ◌∷◌, ◌≡◌, ◌≤◌}
 use Rattle.thor_value.specs.declared.names.Ts.{Ts}

@@ -4,7 +4,7 @@ ghost use Rattle.atomic_histories.specs.Growing.{Continues, MayCome, grown, open
 ghost use Rattle.atomic_histories.specs.Several.{Alike, AllParts, AreSound, CoordinatorsAreLeast, HasCommitted, IsAtomic, Repositories, Several, UpgradesAreEverywhere, committed, histories, with_item};
 ghost use Rattle.commit_log.specs.declared.entry.Entry.{Entry};
 ghost use Rattle.session_outbox.specs.Current.{NoneAborted};
-ghost use Rattle.session_outbox.specs.History.{Base, Known};
+ghost use Rattle.local_history.specs.History.{Base, Known};
 ghost use Rattle.session_outbox.specs.Trace.{E, M};
 ghost use Rattle.session_outbox.specs.declared.mark.Mark.{Mark};
 ghost use Rattle.std.specs.Prelude.{List, true, ℕ, ◌++◌, ◌<◌, ◌≡◌, ◌≢◌};

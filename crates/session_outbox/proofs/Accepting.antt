@@ -1,21 +1,22 @@
 -- What a request that was accepted found, and that its copies are right.
 use Rattle.commit_log.specs.declared.request.Request.{Request}
 use Rattle.session_outbox.proofs.Accepted.{passed}
-use Rattle.session_outbox.proofs.Clashing.{in_set}
-use Rattle.session_outbox.proofs.Covered.{lives_open}
-use Rattle.session_outbox.proofs.Meeting.{any_at, or_cases, or_second}
-use Rattle.session_outbox.proofs.Validated.{neither, nothing_holds, unless_some, validated}
+use Rattle.validation_window.proofs.Clashing.{in_set}
+use Rattle.validation_window.proofs.Covered.{lives_open}
+use Rattle.local_history.proofs.Meeting.{any_at, or_cases, or_second}
+use Rattle.validation_window.proofs.Validated.{neither, nothing_holds, unless_some, validated}
 use Rattle.session_outbox.specs.Acceptance.{WasAccepted}
 use Rattle.session_outbox.specs.Current.{IsRightOrStale}
-use Rattle.session_outbox.specs.History.{Base, IsCommitted, Open, Known, known_by, state}
-use Rattle.session_outbox.specs.Requests.{has_read, has_written, is_upgrade, reads_of, written}
+use Rattle.local_history.specs.History.{Base, IsCommitted, Open, Known, known_by, state}
+use Rattle.local_history.specs.Requests.{has_read, has_written, is_upgrade, reads_of, written}
 use Rattle.session_outbox.specs.Session.{Session, invalid, session, upto_of}
-use Rattle.session_outbox.specs.Sound.{Accepts, sound}
+use Rattle.local_history.specs.Sound.{Accepts, sound}
 use Rattle.session_outbox.specs.Trace.{Item, entries}
-use Rattle.session_outbox.specs.Verdict.{bytes_of, full, full_of_undecided, full_of_writes, set_of, stale, stale_from, verdict}
-use Rattle.session_outbox.specs.Window.{first_decided, window}
-use Rattle.session_outbox.specs.declared.refusal.Refusal.TheVariants as refused
-use Rattle.session_outbox.specs.declared.refusal.Refusal.{Refusal}
+use Rattle.validation_window.specs.Refusals.{bytes_of, full, full_of_undecided, full_of_writes, set_of}
+use Rattle.session_outbox.specs.Verdict.{stale, stale_from, verdict}
+use Rattle.validation_window.specs.Window.{first_decided, window}
+use Rattle.validation_window.specs.declared.refusal.Refusal.TheVariants as refused
+use Rattle.validation_window.specs.declared.refusal.Refusal.{Refusal}
 use Rattle.std.proofs.Common.{List, [], ap, arith, inl, inr, refl, subst, sym, ◌≡◌, ◌∙◌, ◌∷◌}
 use Rattle.std.proofs.lemmas.Bool.{leb-false, ltb-false}
 use Rattle.std.proofs.lemmas.Map.Made.{is_some-lookup}

@@ -3,19 +3,19 @@ use Rattle.commit_log.specs.declared.entry.Entry.{Entry}
 use Rattle.commit_log.specs.declared.request.Kind.TheVariants.{App, Transform, Upgrade}
 use Rattle.commit_log.specs.declared.request.Kind.{Kind}
 use Rattle.commit_log.specs.declared.request.Request.{Request}
-use Rattle.session_outbox.proofs.Below.{commits-take}
-use Rattle.session_outbox.proofs.Commits.{made_by_commits}
-use Rattle.session_outbox.proofs.Decided.{shifted}
-use Rattle.session_outbox.proofs.Listed.{some_and, stand}
-use Rattle.session_outbox.proofs.Places.{FateFits}
-use Rattle.session_outbox.proofs.Prefixes.{fits, judged}
-use Rattle.session_outbox.proofs.Serial.{upgrades_fence}
-use Rattle.session_outbox.proofs.Settling.{same-ts}
+use Rattle.local_history.proofs.Below.{commits-take}
+use Rattle.local_history.proofs.Commits.{made_by_commits}
+use Rattle.local_history.proofs.Decided.{shifted}
+use Rattle.local_history.proofs.Listed.{some_and, stand}
+use Rattle.local_history.proofs.Places.{FateFits}
+use Rattle.local_history.proofs.Prefixes.{fits, judged}
+use Rattle.local_history.proofs.Serial.{upgrades_fence}
+use Rattle.local_history.proofs.Settling.{same-ts}
 use Rattle.session_outbox.specs.Epochs.{FencesCount}
-use Rattle.session_outbox.specs.History.{Base, Committed, CommittedBelow, Lives, Known, commits, epoch_of, known_by, state}
-use Rattle.session_outbox.specs.Laws.{BesideUpgrade, with_texts}
-use Rattle.session_outbox.specs.Requests.{is_upgrade, is_upgrade_kind, text_of}
-use Rattle.session_outbox.specs.Sound.{sound}
+use Rattle.local_history.specs.History.{Base, Committed, CommittedBelow, Lives, Known, commits, epoch_of, known_by, state}
+use Rattle.local_history.specs.Laws.{BesideUpgrade, with_texts}
+use Rattle.local_history.specs.Requests.{is_upgrade, is_upgrade_kind, text_of}
+use Rattle.local_history.specs.Sound.{sound}
 use Rattle.std.proofs.Common.{Bool, List, [], ap, arith, cond, false, inl, inr, length, refl, subst, sym, take, true, ℕ, ◌+◌, ◌++◌, ◌<◌, ◌≡◌, ◌≢◌, ◌≤◌, ◌∙◌, ◌∷◌}
 use Rattle.std.proofs.lemmas.Bool.{lt-ltb, ltb-true}
 use Rattle.std.proofs.lemmas.List.{length-append}

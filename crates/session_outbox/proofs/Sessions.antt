@@ -1,9 +1,9 @@
 -- Sessions grow by one step of their fold, and what they are sent comes in the order of its places.
 use Rattle.commit_log.specs.declared.request.Request.{Request}
-use Rattle.session_outbox.proofs.Growth.{length-state}
-use Rattle.session_outbox.specs.History.{Base, State, commit_of, epoch_of, put, start, state}
+use Rattle.local_history.proofs.Growth.{length-state}
+use Rattle.local_history.specs.History.{Base, State, commit_of, epoch_of, put, start, state}
 use Rattle.session_outbox.specs.Messages.{InOrder, KeepsOrder, WaitsByPlace}
-use Rattle.session_outbox.specs.Requests.{is_upgrade, written}
+use Rattle.local_history.specs.Requests.{is_upgrade, written}
 use Rattle.session_outbox.specs.Session.{Grant, Invalid, Notice, Page, Session, Upgrade, begun, bound, invalid_of, is_silent, meet, move, moved, notice, or_retired, pass, place_of, push, rested, retired, session, session_from, session_lives, told, told_of, upto_of}
 use Rattle.session_outbox.specs.Trace.{E, Item, M, entries}
 use Rattle.session_outbox.specs.declared.mark.Mark.TheVariants as the

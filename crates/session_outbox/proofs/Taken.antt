@@ -1,21 +1,21 @@
 -- What a client's copies are behind a message that it takes.
 use Rattle.commit_log.specs.declared.entry.Entry.{Entry}
 use Rattle.commit_log.specs.declared.request.Request.{Request}
-use Rattle.session_outbox.proofs.Commits.{made_by_commits}
+use Rattle.local_history.proofs.Commits.{made_by_commits}
 use Rattle.session_outbox.proofs.Copies.{writers-take}
-use Rattle.session_outbox.proofs.Growth.{length-state}
+use Rattle.local_history.proofs.Growth.{length-state}
 use Rattle.session_outbox.proofs.Kept.{Extends, pages-extend}
 use Rattle.session_outbox.proofs.Sessions.{at-most-last, bound-at, keeps-order, session-end, waits-by-place}
 use Rattle.session_outbox.proofs.Told.{Begins, Went, all-both, all-told, at_end, came, pages-old, went}
-use Rattle.session_outbox.proofs.Vouched.{plain}
+use Rattle.local_history.proofs.Vouched.{plain}
 use Rattle.session_outbox.proofs.Traces.{entries-append}
 use Rattle.session_outbox.specs.Current.{InStep, IsTold, OthersSince, RightAt, Takes, WasToldOf, names_invalid}
-use Rattle.session_outbox.specs.History.{Base, State, commit_of, epoch_of, last_write, objects_at, state, writers}
+use Rattle.local_history.specs.History.{Base, State, commit_of, epoch_of, last_write, objects_at, state, writers}
 use Rattle.session_outbox.specs.Messages.{InOrder, KeepsOrder, WaitsByPlace}
-use Rattle.session_outbox.specs.Laws.{NoUpgrades}
-use Rattle.session_outbox.specs.Requests.{is_upgrade, written}
+use Rattle.local_history.specs.Laws.{NoUpgrades}
+use Rattle.local_history.specs.Requests.{is_upgrade, written}
 use Rattle.session_outbox.specs.Session.{Grant, Invalid, Live, Notice, Page, Retired, Session, Stage, Upgrade, bound, cache, invalid_of, is_silent, meet, move, moved, notice, or_retired, pages_after, place_of, push, rested, retired, session, session_lives, told_of, upto_of}
-use Rattle.session_outbox.specs.Sound.{sound}
+use Rattle.local_history.specs.Sound.{sound}
 use Rattle.session_outbox.specs.Trace.{E, Item, M, entries}
 use Rattle.session_outbox.specs.declared.mark.Mark.TheVariants as the
 use Rattle.session_outbox.specs.declared.mark.Mark.{Mark}

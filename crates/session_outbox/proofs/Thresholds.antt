@@ -2,19 +2,19 @@
 use Rattle.commit_log.specs.declared.entry.Entry.TheVariants.{Decided, Finished, Life, One, Prepared, Upgraded}
 use Rattle.commit_log.specs.declared.entry.Entry.{Entry}
 use Rattle.commit_log.specs.declared.request.Request.{Request}
-use Rattle.session_outbox.proofs.Commits.{made}
-use Rattle.session_outbox.proofs.Covered.{found_first, held, window-end}
-use Rattle.session_outbox.proofs.Growth.{by_growth, sound-end, state-end}
-use Rattle.session_outbox.proofs.LastWrite.{commit_here, commit_shape}
-use Rattle.session_outbox.proofs.Listed.{is_some_and, some_and}
-use Rattle.session_outbox.proofs.Places.{placed, stays}
-use Rattle.session_outbox.specs.Covers.{MemberFits}
+use Rattle.local_history.proofs.Commits.{made}
+use Rattle.validation_window.proofs.Covered.{found_first, held, window-end}
+use Rattle.local_history.proofs.Growth.{by_growth, sound-end, state-end}
+use Rattle.local_history.proofs.LastWrite.{commit_here, commit_shape}
+use Rattle.local_history.proofs.Listed.{is_some_and, some_and}
+use Rattle.local_history.proofs.Places.{placed, stays}
+use Rattle.validation_window.specs.Covers.{MemberFits}
 use Rattle.session_outbox.specs.Epochs.{IsOfCommit, ThresholdsCommit}
-use Rattle.session_outbox.specs.History.{Aborted, Base, Committed, Fate, IsCommitted, Open, Known, State, commit_by, commit_of, is_open, known_in, known_by, state}
-use Rattle.session_outbox.specs.Laws.{FateStays, Stays, with_stamps}
-use Rattle.session_outbox.specs.Requests.{is_upgrade}
-use Rattle.session_outbox.specs.Sound.{sound}
-use Rattle.session_outbox.specs.Window.{Window, cleared, close, close_by, first_decided, slide, window, with_room, without}
+use Rattle.local_history.specs.History.{Aborted, Base, Committed, Fate, IsCommitted, Open, Known, State, commit_by, commit_of, is_open, known_in, known_by, state}
+use Rattle.local_history.specs.Laws.{FateStays, Stays, with_stamps}
+use Rattle.local_history.specs.Requests.{is_upgrade}
+use Rattle.local_history.specs.Sound.{sound}
+use Rattle.validation_window.specs.Window.{Window, cleared, close, close_by, first_decided, slide, window, with_room, without}
 use Rattle.std.proofs.Common.{Bool, List, [], ap, cond, false, inl, inr, refl, subst, sym, true, ◌++◌, ◌≡◌, ◌∙◌, ◌∷◌}
 use Rattle.std.proofs.lemmas.Cmp.{eq_by_cmp_equiv}
 use Rattle.std.proofs.lemmas.Map.Keys.{IsDistinct-from_sorted}

@@ -1,16 +1,16 @@
 -- A live session was told of each commit of an object on one of its pages by another session.
 use Rattle.commit_log.specs.declared.entry.Entry.{Entry}
 use Rattle.commit_log.specs.declared.request.Request.{Request}
-use Rattle.session_outbox.proofs.Below.{within}
-use Rattle.session_outbox.proofs.Growth.{length-state}
+use Rattle.local_history.proofs.Below.{within}
+use Rattle.local_history.proofs.Growth.{length-state}
 use Rattle.session_outbox.proofs.Kept.{writers-end}
-use Rattle.session_outbox.proofs.LastWrite.{commit_shape}
-use Rattle.session_outbox.proofs.Listed.{get_end}
+use Rattle.local_history.proofs.LastWrite.{commit_shape}
+use Rattle.local_history.proofs.Listed.{get_end}
 use Rattle.session_outbox.proofs.Sessions.{session-end}
 use Rattle.session_outbox.proofs.Traces.{entries-append}
 use Rattle.session_outbox.specs.Current.{IsTold, WasToldOf}
-use Rattle.session_outbox.specs.History.{Base, State, commit_of, commits, epoch_of, start, state, writers}
-use Rattle.session_outbox.specs.Requests.{has_written, is_upgrade, written}
+use Rattle.local_history.specs.History.{Base, State, commit_of, commits, epoch_of, start, state, writers}
+use Rattle.local_history.specs.Requests.{has_written, is_upgrade, written}
 use Rattle.session_outbox.specs.Session.{Ended, Invalid, Notice, Session, Upgrade, begun, cache, invalid_of, is_live, is_silent, lives_on, meet, move, moved, notice, or_retired, pages_after, push, rested, retired, session, session_lives, told, told_of}
 use Rattle.session_outbox.specs.Trace.{E, Item, M, entries}
 use Rattle.session_outbox.specs.declared.mark.Mark.TheVariants as the

@@ -1,21 +1,21 @@
 -- A write of a session's own stays current while its transaction is undecided, and behind its commit.
 use Rattle.commit_log.specs.declared.entry.Entry.{Entry}
 use Rattle.commit_log.specs.declared.request.Request.{Request}
-use Rattle.session_outbox.proofs.Growth.{length-state, owed-end, sound-beginning, state-end}
+use Rattle.local_history.proofs.Growth.{length-state, owed-end, sound-beginning, state-end}
 use Rattle.session_outbox.proofs.Kept.{Extends, next, pages-extend, right-kept}
-use Rattle.session_outbox.proofs.LastWrite.{commit_shape}
+use Rattle.local_history.proofs.LastWrite.{commit_shape}
 use Rattle.session_outbox.proofs.Own.{own-right}
-use Rattle.session_outbox.proofs.Places.{goes, placed}
-use Rattle.session_outbox.proofs.Settling.{stands-still}
-use Rattle.session_outbox.proofs.Steps.{FateMoves, Kept}
+use Rattle.local_history.proofs.Places.{goes, placed}
+use Rattle.local_history.proofs.Settling.{stands-still}
+use Rattle.local_history.proofs.Steps.{FateMoves, Kept}
 use Rattle.session_outbox.proofs.Taken.{after-mark, keeps-pages, page-taken, right-taken, took}
 use Rattle.session_outbox.proofs.Traces.{entries-append}
 use Rattle.session_outbox.specs.Current.{InStep, IsCurrent, IsOwnWrite, NoneAborted, OthersOrSame, OthersSince, OthersWrite, PassesItem, RightAt, Takes, commits_in, names_invalid}
-use Rattle.session_outbox.specs.History.{Aborted, Base, Committed, Fate, IsCommitted, Lives, Open, Known, State, commit_of, objects_at, put, known_in, known_by, state, writers}
-use Rattle.session_outbox.specs.Outcomes.{MaySettle}
-use Rattle.session_outbox.specs.Requests.{has_written, written}
+use Rattle.local_history.specs.History.{Aborted, Base, Committed, Fate, IsCommitted, Lives, Open, Known, State, commit_of, objects_at, put, known_in, known_by, state, writers}
+use Rattle.local_history.specs.Outcomes.{MaySettle}
+use Rattle.local_history.specs.Requests.{has_written, written}
 use Rattle.session_outbox.specs.Session.{Notice, Page, Session, is_silent, move, moved, or_retired, rested, retired, session, session_lives}
-use Rattle.session_outbox.specs.Sound.{sound}
+use Rattle.local_history.specs.Sound.{sound}
 use Rattle.session_outbox.specs.Trace.{E, Item, M, entries}
 use Rattle.session_outbox.specs.declared.mark.Mark.TheVariants as the
 use Rattle.session_outbox.specs.declared.mark.Mark.{Mark}

@@ -1,11 +1,11 @@
 -- What is known of a request that the verdict accepted.
 use Rattle.commit_log.specs.declared.request.Request.{Request}
-use Rattle.session_outbox.specs.History.{Base, Open, Known, known_by}
-use Rattle.session_outbox.specs.Requests.{has_read, reads_of}
+use Rattle.local_history.specs.History.{Base, Open, Known, known_by}
+use Rattle.local_history.specs.Requests.{has_read, reads_of}
 use Rattle.session_outbox.specs.Session.{Session, invalid, session, session_lives}
 use Rattle.session_outbox.specs.Trace.{Item, entries}
-use Rattle.session_outbox.specs.Verdict.{bytes_of}
-use Rattle.session_outbox.specs.Window.{first_decided, window}
+use Rattle.validation_window.specs.Refusals.{bytes_of}
+use Rattle.validation_window.specs.Window.{first_decided, window}
 use Rattle.std.specs.Option.{IfSome, IsSome}
 use Rattle.std.specs.Prelude.{List, Some, false, true, ℕ, ◌<◌, ◌≡◌, ◌≤◌, ◌⊎◌}
 use Rattle.thor_value.specs.FiniteMap.{len}

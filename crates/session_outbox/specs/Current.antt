@@ -4,8 +4,8 @@
 -- one that each growth of the history and each message keep.)
 use Rattle.commit_log.specs.declared.entry.Entry.{Entry}
 use Rattle.commit_log.specs.declared.request.Request.{Request}
-use Rattle.session_outbox.specs.History.{Base, Lives, Open, Known, commit_of, objects_at, known_by, state, writers}
-use Rattle.session_outbox.specs.Requests.{has_written, is_upgrade, written}
+use Rattle.local_history.specs.History.{Base, Lives, Open, Known, commit_of, objects_at, known_by, state, writers}
+use Rattle.local_history.specs.Requests.{has_written, is_upgrade, written}
 use Rattle.session_outbox.specs.Session.{Grant, Invalid, Notice, Page, Session, Upgrade, invalid, session, session_lives, upto_of}
 use Rattle.session_outbox.specs.Trace.{E, Item, M}
 use Rattle.session_outbox.specs.declared.mark.Mark.TheVariants as the

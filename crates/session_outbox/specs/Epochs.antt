@@ -1,10 +1,10 @@
 -- How many upgrades are installed: counted in a history, and told by the messages to a session.
 use Rattle.commit_log.specs.declared.entry.Entry.{Entry}
 use Rattle.commit_log.specs.declared.request.Request.{Request}
-use Rattle.session_outbox.specs.History.{Base, IsCommitted, Lives, Known, commits, epoch_of, objects_at, known_by, state}
-use Rattle.session_outbox.specs.Requests.{is_upgrade}
+use Rattle.local_history.specs.History.{Base, IsCommitted, Lives, Known, commits, epoch_of, objects_at, known_by, state}
+use Rattle.local_history.specs.Requests.{is_upgrade}
 use Rattle.session_outbox.specs.Session.{Grant, Invalid, Notice, Page, Session, Upgrade, place_of, session_lives}
-use Rattle.session_outbox.specs.Window.{window}
+use Rattle.validation_window.specs.Window.{window}
 use Rattle.std.specs.List.{filter, fold, slice_get}
 use Rattle.std.specs.Option.{IsSomeAnd}
 use Rattle.std.specs.Prelude.{List, Some, length, nat_lt, take, true, ℕ, ◌&&◌, ◌+◌, ◌≡◌, ◌≤◌, ◌⊎◌}

@@ -5,15 +5,15 @@ use Rattle.commit_log.specs.declared.entry.Entry.TheVariants.{Decided, Finished,
 use Rattle.commit_log.specs.declared.entry.Entry.{Entry}
 use Rattle.commit_log.specs.declared.request.Request.{Request}
 use Rattle.session_outbox.specs.Calls.{drawn_time, last_drawn, last_session, next_page, was_granted}
-use Rattle.session_outbox.specs.History.{Base, known_by, state}
-use Rattle.session_outbox.specs.Requests.{has_created, has_written}
+use Rattle.local_history.specs.History.{Base, known_by, state}
+use Rattle.local_history.specs.Requests.{has_created, has_written}
 use Rattle.session_outbox.specs.Session.{Session, place_of, session, session_ended, session_lives}
 use Rattle.session_outbox.specs.Trace.{E, Item, M, entries}
 use Rattle.session_outbox.specs.Verdict.{verdict}
 use Rattle.session_outbox.specs.declared.mark.Mark.TheVariants as the
 use Rattle.session_outbox.specs.declared.mark.Mark.{Mark}
-use Rattle.session_outbox.specs.declared.refusal.Refusal.TheVariants as refused
-use Rattle.session_outbox.specs.declared.refusal.Refusal.{Refusal}
+use Rattle.validation_window.specs.declared.refusal.Refusal.TheVariants as refused
+use Rattle.validation_window.specs.declared.refusal.Refusal.{Refusal}
 use Rattle.std.specs.List.{slice_get}
 use Rattle.std.specs.Option.{IsSomeAnd}
 use Rattle.std.specs.Prelude.{IsTrue, List, None, Option, Some, [], false, length, true, ℕ, ◌++◌, ◌<◌, ◌^◌, ◌∷◌, ◌≡◌, ◌≤◌}

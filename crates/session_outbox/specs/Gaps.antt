@@ -3,9 +3,9 @@ use Rattle.commit_log.specs.declared.entry.Entry.TheVariants.{Decided, Finished,
 use Rattle.commit_log.specs.declared.request.Request.{Request}
 use Rattle.session_outbox.specs.Current.{InStep, IsCurrent, NoneAborted, OthersOrSame, commits_in}
 use Rattle.session_outbox.specs.Exact.{exact}
-use Rattle.session_outbox.specs.History.{Base, known_by}
+use Rattle.local_history.specs.History.{Base, known_by}
 use Rattle.session_outbox.specs.Session.{Session, session, session_lives, upto_of}
-use Rattle.session_outbox.specs.Sound.{sound}
+use Rattle.local_history.specs.Sound.{sound}
 use Rattle.session_outbox.specs.Trace.{E, Item, M, entries}
 use Rattle.session_outbox.specs.declared.mark.Mark.TheVariants as the
 use Rattle.std.specs.Option.{option_and_then, option_map}

@@ -1,7 +1,7 @@
 -- What is proved of the sessions of a trace, as one statement.
 use Rattle.commit_log.specs.declared.entry.Entry.TheVariants.{Life}
 use Rattle.session_outbox.specs.Calls.{last_session}
-use Rattle.session_outbox.specs.History.{Base}
+use Rattle.local_history.specs.History.{Base}
 use Rattle.session_outbox.specs.Session.{Session, session, session_lives}
 use Rattle.session_outbox.specs.Trace.{Item, M, entries}
 use Rattle.session_outbox.specs.declared.mark.Mark.TheVariants as the

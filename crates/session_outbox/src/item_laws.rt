@@ -2,7 +2,7 @@
 
 ghost use Rattle.session_outbox.specs.Calls.{last_session, next_page, was_granted};
 ghost use Rattle.session_outbox.specs.Exact.{ItemIsExact, exact};
-ghost use Rattle.session_outbox.specs.History.{Base};
+ghost use Rattle.local_history.specs.History.{Base};
 ghost use Rattle.session_outbox.specs.Session.{Session, session};
 ghost use Rattle.session_outbox.specs.Sessions.{SessionsAreNumbered};
 ghost use Rattle.session_outbox.specs.Trace.{Item};

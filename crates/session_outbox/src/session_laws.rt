@@ -2,13 +2,13 @@
 
 ghost use Rattle.commit_log.specs.declared.entry.Entry.{Entry};
 ghost use Rattle.commit_log.specs.declared.request.Request.{Request};
-ghost use Rattle.session_outbox.specs.Requests.{written};
+ghost use Rattle.local_history.specs.Requests.{written};
 ghost use Rattle.session_outbox.specs.Current.{InStep, IsCurrent, IsOwnWrite, IsRightOrStale, NoneAborted, OthersOrSame, OthersSince, OthersWrite, PassesItem, RightAt, Takes, WasToldOf, commits_in, is_taking, names_invalid};
-ghost use Rattle.session_outbox.specs.History.{Base, IsCommitted, Known, commit_of, objects_at, known_by, state, writers};
-ghost use Rattle.session_outbox.specs.Outcomes.{MaySettle};
+ghost use Rattle.local_history.specs.History.{Base, IsCommitted, Known, commit_of, objects_at, known_by, state, writers};
+ghost use Rattle.local_history.specs.Outcomes.{MaySettle};
 ghost use Rattle.session_outbox.specs.Messages.{KeepsOrder, WaitsByPlace};
 ghost use Rattle.session_outbox.specs.Session.{Notice, Page, Session, acked_after, bound, meet, session, session_lives, upto_of};
-ghost use Rattle.session_outbox.specs.Sound.{sound};
+ghost use Rattle.local_history.specs.Sound.{sound};
 ghost use Rattle.session_outbox.specs.declared.mark.Mark.TheVariants as the;
 ghost use Rattle.session_outbox.specs.declared.mark.Mark.{Mark};
 ghost use Rattle.session_outbox.specs.Trace.{E, Item, M, entries};
