@@ -19,7 +19,7 @@ use Rattle.thor_value.specs.declared.names.Ts.{Ts}
 life-settle : (b : Base) (S : State) (t : Ts) (c : Bool) → (settle S t c (known_in b S t)).life ≡ S.life
 life-settle b S t c = by_settling b (λ T. T.life ≡ S.life) S t c (known_in b S t) refl (λ p is o k. refl) (λ p is o. refl)
 
-life-put : (b : Base) (S : State) (e : Entry) → owes b S e → (put b S e).life ≡ S.life + cond (is_life e) 1 0
+pub life-put : (b : Base) (S : State) (e : Entry) → owes b S e → (put b S e).life ≡ S.life + cond (is_life e) 1 0
 life-put b S (Life n) o = o
 life-put b S (One q) o = omega arith
 life-put b S (Prepared q) o = omega arith

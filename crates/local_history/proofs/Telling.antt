@@ -138,7 +138,7 @@ module _ (b : Base) where
       by (Committed a) e = cc
       by Aborted e = cc
 
-  settled-new : (S : State) (t : Ts) (c : Bool) → Placed b S → is_undecided (known_in b S t) ≡ true → IsSomeAnd (known_in b (settle S t c (known_in b S t)) t) (λ w. (w.place < S.length) × SettledAt S.length c w.fate)
+  pub settled-new : (S : State) (t : Ts) (c : Bool) → Placed b S → is_undecided (known_in b S t) ≡ true → IsSomeAnd (known_in b (settle S t c (known_in b S t)) t) (λ w. (w.place < S.length) × SettledAt S.length c w.fate)
   settled-new S t c h u =
       let y = undecided-there (known_in b S t) u in
       let low : y.0.place < S.length = (h.fits t y.0 y.1).below in

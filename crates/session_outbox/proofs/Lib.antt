@@ -9,6 +9,8 @@ pub mod Taken
 pub mod Own
 pub mod Undecided
 pub mod Exactness
+pub mod Answered
+pub mod Drawn
 pub mod Outlived
 pub mod Fences
 pub mod EpochsTold

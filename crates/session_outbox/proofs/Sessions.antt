@@ -18,10 +18,10 @@ use Rattle.thor_value.specs.declared.names.Oref.{Oref}
 -- ---- one more item
 
 -- the state behind some items
-abbrev passed : Base → State → List Item → State
+abbrev pub passed : Base → State → List Item → State
 passed b S is = fold (pass b) S is
 
-passed-entries : (b : Base) (S : State) (is : List Item) → passed b S is ≡ fold (put b) S (entries is)
+pub passed-entries : (b : Base) (S : State) (is : List Item) → passed b S is ≡ fold (put b) S (entries is)
 passed-entries b S [] = refl
 passed-entries b S (E e ∷ is) = passed-entries b (put b S e) is
 passed-entries b S (M m ∷ is) = passed-entries b S is

@@ -21,7 +21,10 @@ pub use answer_examples::{
 pub use epoch_laws::{epochs_are_told, fences_count, thresholds_commit};
 pub use gap_laws::copies_outlive_others;
 pub use item_examples::{call_examples, exact_examples, growth_examples, inexact_examples};
-pub use item_laws::{exact_traces_grow, next_numbers_rise, sessions_are_numbered};
+pub use item_laws::{
+    accepted_requests_continue, answers_agree, exact_traces_grow, next_numbers_rise,
+    sessions_are_numbered, stamps_are_drawn_once,
+};
 pub use mark::Mark;
 pub use session_laws::{
     commits_are_told, copies_are_current, copies_stay_right, current_copies_stay,
