@@ -51,7 +51,7 @@ in_range P n i h l = let e : get_or (range_with_len 0 n) i 0 ≡ 0 + i = get_or-
     plain_sum e = omega arith
 
 -- what a map has at x, of a list of pairs
-pair_at : (P : Oref × Obj → Type 0) (es : List (Oref × Obj)) (x : Oref) (o : Obj) → AllByRecursion P es → get {R = oref_cmp} (record { pairs = es }) x ≡ Some o → P (x, o)
+pub pair_at : (P : Oref × Obj → Type 0) (es : List (Oref × Obj)) (x : Oref) (o : Obj) → AllByRecursion P es → get {R = oref_cmp} (record { pairs = es }) x ≡ Some o → P (x, o)
 pair_at P [] x o h e = cc
 pair_at P (p ∷ es) x o h e = by (pair_at P es x o h.1) (eq_by_cmp oref_cmp x p.0) refl e
   where
@@ -161,7 +161,7 @@ module _ (b : Base) where
       (h.0.place, subst (λ (r : Request). Admits b (state b (take h.0.place (H ++ e ∷ []))) r) h.2 (judged b (H ++ e ∷ []) (sound-end b H e sd ow) q.tx h.0 there))
 
   -- an object behind one more entry is one of the writes of what it commits, or was there
-  object_end : (H : List Entry) (e : Entry) (x : Oref) (o : Obj) → get (state b (H ++ e ∷ [])).objects x ≡ Some o
+  pub object_end : (H : List Entry) (e : Entry) (x : Oref) (o : Obj) → get (state b (H ++ e ∷ [])).objects x ≡ Some o
       → (get (state b H).objects x ≡ Some o) ⊎ ((q : Request) × (commit_of b (state b H) e ≡ ((state b H).length, q) ∷ []) × (get (written q) x ≡ Some o))
   object_end H e x o is = elim (commit_shape b (state b H) e) [
     | inl none ↦ inl (sym (ap (λ cs. get (with_writes (state b H).objects cs) x) none) ∙ there)

@@ -11,6 +11,7 @@ pub mod Undecided
 pub mod Exactness
 pub mod Answered
 pub mod Drawn
+pub mod Paged
 pub mod Outlived
 pub mod Fences
 pub mod EpochsTold

@@ -79,9 +79,9 @@ CallIsRefused b T s (refused.Stopped r) = ⊥
 CallIsRefused b T s (refused.Damaged r k) = ⊥
 CallIsRefused b T s refused.NoMemory = ⊥
 
--- a request is refused by the verdict, and a draw or a grant by its rule
+-- a request of the session is refused by the verdict, and a draw or a grant by its rule
 abbrev pub RefusalIsExact : Base → List Item → ℕ → Option Request → Refusal → Type 0
-RefusalIsExact b T s (Some q) r = verdict b T s q ≡ Some r
+RefusalIsExact b T s (Some q) r = (q.session ≡ s) × (verdict b T s q ≡ Some r)
 RefusalIsExact b T s None r = CallIsRefused b T s r
 
 -- What a mark owes to the trace before it.

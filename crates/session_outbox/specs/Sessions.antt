@@ -1,16 +1,19 @@
 -- What is proved of the sessions of a trace, and of what is answered about transactions.
 use Rattle.commit_log.specs.declared.entry.Entry.TheVariants.{Life}
-use Rattle.session_outbox.specs.Calls.{Settled, Undecided, asked, is_kept, last_session}
-use Rattle.local_history.specs.History.{Base, IsCommitted, is_undecided, known_by}
+use Rattle.session_outbox.specs.Calls.{Settled, Undecided, asked, is_kept, last_session, next_page}
+use Rattle.local_history.specs.History.{Base, IsCommitted, Known, is_undecided, known_by, state}
+use Rattle.local_history.specs.Requests.{has_written}
 use Rattle.session_outbox.specs.Session.{Session, session, session_lives}
 use Rattle.session_outbox.specs.Trace.{Item, M, entries}
 use Rattle.session_outbox.specs.declared.mark.Mark.TheVariants as the
 use Rattle.std.specs.List.{list_any, slice_get}
 use Rattle.std.specs.Option.{IsSomeAnd}
 use Rattle.std.specs.Prelude.{IsTrue, List, None, Some, false, length, true, ℕ, ◌<◌, ◌↔◌, ◌≡◌, ◌≤◌, ◌⊎◌}
-use Rattle.thor_value.specs.FiniteMap.{values}
+use Rattle.thor_value.specs.FiniteMap.{get, values}
 use Rattle.thor_value.specs.Names.{same_ts}
+use Rattle.thor_value.specs.declared.names.Oref.{Oref}
 use Rattle.thor_value.specs.declared.names.Ts.{Ts}
+use Rattle.thor_value.specs.declared.values.Obj.{Obj}
 
 -- The sessions of a trace.
 pub record SessionsAreNumbered (b : Base) (T : List Item) : Type 0 where
@@ -32,3 +35,9 @@ pub record AnswersAgree (b : Base) (T : List Item) (t : Ts) : Type 0 where
   pub committed : asked b T t ≡ Settled true → IsSomeAnd (known_by b (entries T) t) (λ o. IsCommitted o.fate) ⊎ IsTrue (list_any (same_ts t) (values b.alone))
   -- aborted never where it committed here and its decision is kept
   pub aborted : asked b T t ≡ Settled false → is_kept b T t ≡ false
+
+-- The pages of what a trace comes to were granted: they are below the next page.
+pub record PagesAreGranted (b : Base) (T : List Item) : Type 0 where
+  pub objects : (x : Oref) (o : Obj) → get (state b (entries T)).objects x ≡ Some o → x.page < next_page b T
+  -- also those of what an undecided transaction wrote
+  pub written : (t : Ts) (o : Known) (x : Oref) → known_by b (entries T) t ≡ Some o → has_written o.request x ≡ true → x.page < next_page b T

@@ -3,12 +3,13 @@
 ghost use Rattle.commit_log.specs.declared.entry.Entry.TheVariants.{One, Prepared, Upgraded};
 ghost use Rattle.commit_log.specs.declared.request.Request.{Request};
 ghost use Rattle.local_history.specs.History.{Base, state};
+ghost use Rattle.local_history.specs.Opening.{IsBase};
 ghost use Rattle.local_history.specs.Participants.{IsAlone, IsShared};
 ghost use Rattle.local_history.specs.Requests.{is_upgrade};
 ghost use Rattle.local_history.specs.Sound.{Vouches, sound};
 ghost use Rattle.session_outbox.specs.Calls.{last_session, next_page, was_granted};
 ghost use Rattle.session_outbox.specs.Exact.{ComesFromSession, ItemIsExact, exact};
-ghost use Rattle.session_outbox.specs.Sessions.{AnswersAgree, SessionsAreNumbered};
+ghost use Rattle.session_outbox.specs.Sessions.{AnswersAgree, PagesAreGranted, SessionsAreNumbered};
 ghost use Rattle.session_outbox.specs.Trace.{E, Item, M, entries};
 ghost use Rattle.session_outbox.specs.declared.mark.Mark.TheVariants as the;
 ghost use Rattle.std.specs.List.{slice_get};
@@ -34,6 +35,13 @@ pub fn next_numbers_rise()
     ensures pages { (b : Base) (T more : List Item) → next_page b T ≤ next_page b (T ++ more) }
     ensures base { (b : Base) (T : List Item) → b.next_page ≤ next_page b T }
     ensures granted { (b : Base) (T : List Item) (s page : ℕ) → IsTrue (was_granted T s page) → page < next_page b T }
+{}
+
+/// Where a page brings what is there, each object that stands or was written is on a page below the next
+/// one.
+pub fn pages_are_granted()
+    ensures { (b : Base) (T : List Item) → IsBase b → IsTrue b.tells → sound b (entries T) → exact b T →
+        PagesAreGranted b T }
 {}
 
 /// A timestamp is drawn once.
