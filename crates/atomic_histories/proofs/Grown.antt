@@ -2,15 +2,15 @@
 use Rattle.commit_log.specs.declared.entry.Entry.TheVariants.{Decided, Finished, Life, One, Prepared, Upgraded}
 use Rattle.commit_log.specs.declared.entry.Entry.{Entry}
 use Rattle.commit_log.specs.declared.request.Request.{Request}
-use Rattle.session_outbox.proofs.Growth.{sound-end}
-use Rattle.session_outbox.proofs.Places.{came_end, stays, stays_kept, stays_same}
-use Rattle.session_outbox.proofs.Settling.{caused-end}
-use Rattle.session_outbox.proofs.Steps.{FateBegun}
-use Rattle.session_outbox.specs.History.{Aborted, Base, Committed, Fate, IsCommitted, Open, Standing, commit_of, stands, state}
-use Rattle.session_outbox.specs.Laws.{Asks, FateStays, Stays}
-use Rattle.session_outbox.specs.Outcomes.{Causes}
-use Rattle.session_outbox.specs.Participants.{IsAlone, takes_part}
-use Rattle.session_outbox.specs.Sound.{owes, sound}
+use Rattle.local_history.proofs.Growth.{sound-end}
+use Rattle.local_history.proofs.Places.{came_end, stays, stays_kept, stays_same}
+use Rattle.local_history.proofs.Settling.{caused-end}
+use Rattle.local_history.proofs.Steps.{FateBegun}
+use Rattle.local_history.specs.History.{Aborted, Base, Committed, Fate, IsCommitted, Open, Known, commit_of, known_by, state}
+use Rattle.local_history.specs.Laws.{Asks, FateStays, Stays}
+use Rattle.local_history.specs.Outcomes.{Causes}
+use Rattle.local_history.specs.Participants.{IsAlone, takes_part}
+use Rattle.local_history.specs.Sound.{owes, sound}
 use Rattle.atomic_histories.proofs.Parts.{not_both, some-none}
 use Rattle.atomic_histories.specs.Growing.{Continues, MayCome, grown}
 use Rattle.atomic_histories.specs.Several.{Alike, AreAlike, AreSound, HasCommitted, IsAtomic, Several, part}
@@ -58,7 +58,7 @@ begun-alone b H (Upgraded p) n q ow asks is = subst (IsAlone b) asks ow.1
 
 module _ (S : Several) (r : ℕ) (e : Entry) (sd : AreSound S) (go : Continues S r e) where
   -- w is the request of the entry, which is r's
-  pub record New (n : ℕ) (t : Ts) (w : Standing) : Type 0 where
+  pub record New (n : ℕ) (t : Ts) (w : Known) : Type 0 where
     pub at : n ≡ r
     pub none : part S n t ≡ None
     pub asks : Asks e w.request
@@ -66,8 +66,8 @@ module _ (S : Several) (r : ℕ) (e : Entry) (sd : AreSound S) (go : Continues S
     pub fate : FateBegun (commit_of (S.base n) (state (S.base n) (S.history n)) e) (length (S.history n)) w.request w.fate
 
   -- w stood there, and its fate is as it was or is what the entry made it
-  pub record Old (n : ℕ) (t : Ts) (w : Standing) : Type 0 where
-    pub o : Standing
+  pub record Old (n : ℕ) (t : Ts) (w : Known) : Type 0 where
+    pub o : Known
     pub there : part S n t ≡ Some o
     pub stays : Stays o w
     pub cause : (w.fate ≡ o.fate) ⊎ ((n ≡ r) × Causes (S.base n) e t w.fate)
@@ -75,10 +75,10 @@ module _ (S : Several) (r : ℕ) (e : Entry) (sd : AreSound S) (go : Continues S
   owed-at : (n : ℕ) → n ≡ r → owes (S.base n) (state (S.base n) (S.history n)) e
   owed-at n same = subst (λ k. owes (S.base k) (state (S.base k) (S.history k)) e) (sym same) go.owed
 
-  pub back : (n : ℕ) (t : Ts) (w : Standing) → part (grown S r e) n t ≡ Some w → New n t w ⊎ Old n t w
+  pub back : (n : ℕ) (t : Ts) (w : Known) → part (grown S r e) n t ≡ Some w → New n t w ⊎ Old n t w
   back n t w is = by (nat_eq n r) refl is
     where
-      by : (k : Bool) → nat_eq n r ≡ k → stands (S.base n) (cond k (S.history n ++ e ∷ []) (S.history n)) t ≡ Some w → New n t w ⊎ Old n t w
+      by : (k : Bool) → nat_eq n r ≡ k → known_by (S.base n) (cond k (S.history n ++ e ∷ []) (S.history n)) t ≡ Some w → New n t w ⊎ Old n t w
       by true h k =
           let same : n ≡ r = eqb-true n r h in
           elim (came_end (S.base n) (S.history n) e (sd.each n) (owed-at n same) t w k) [
@@ -92,15 +92,15 @@ module _ (S : Several) (r : ℕ) (e : Entry) (sd : AreSound S) (go : Continues S
           ]
       by false h k = inr (record { o = w; there = k; stays = stays_same w; cause = inl refl })
 
-  pub onward : (n : ℕ) (t : Ts) (o : Standing) → part S n t ≡ Some o → (w : Standing) × (part (grown S r e) n t ≡ Some w) × Stays o w
+  pub onward : (n : ℕ) (t : Ts) (o : Known) → part S n t ≡ Some o → (w : Known) × (part (grown S r e) n t ≡ Some w) × Stays o w
   onward n t o is = by (nat_eq n r) refl
     where
-      by : (k : Bool) → nat_eq n r ≡ k → (w : Standing) × (stands (S.base n) (cond k (S.history n ++ e ∷ []) (S.history n)) t ≡ Some w) × Stays o w
+      by : (k : Bool) → nat_eq n r ≡ k → (w : Known) × (known_by (S.base n) (cond k (S.history n ++ e ∷ []) (S.history n)) t ≡ Some w) × Stays o w
       by true h = stays (S.base n) (S.history n) (e ∷ []) (sound-end (S.base n) (S.history n) e (sd.each n) (owed-at n (eqb-true n r h))) t o is
       by false h = (o, is, stays_same o)
 
   -- what stands here is what stands at the coordinator, where that is here
-  here-too : (P : Standing → Type 0) (n : ℕ) (t : Ts) (o w : Standing) → t.repo ≡ n → part (grown S r e) n t ≡ Some o → part (grown S r e) t.repo t ≡ Some w → P o → P w
+  here-too : (P : Known → Type 0) (n : ℕ) (t : Ts) (o w : Known) → t.repo ≡ n → part (grown S r e) n t ≡ Some o → part (grown S r e) t.repo t ≡ Some w → P o → P w
   here-too P n t o w same is it p = subst P (same_Some o w (sym (subst (λ k. part (grown S r e) k t ≡ Some o) (sym same) is) ∙ it)) p
 
   own-base : (n : ℕ) (t : Ts) → n ≡ r → t.repo ≡ (S.base n).repo → t.repo ≡ n
@@ -125,10 +125,10 @@ module _ (S : Several) (r : ℕ) (e : Entry) (sd : AreSound S) (go : Continues S
 
   module _ (at : IsAtomic S) where
     -- the coordinator of a new request is here, or knows it
-    coordinator : (n : ℕ) (t : Ts) (w : Standing) → New n t w → (t.repo ≡ n) ⊎ ((v : Standing) × (part S t.repo t ≡ Some v))
+    coordinator : (n : ℕ) (t : Ts) (w : Known) → New n t w → (t.repo ≡ n) ⊎ ((v : Known) × (part S t.repo t ≡ Some v))
     coordinator n t w new = by e go.may (owed-at n new.at) new.asks
       where
-        by : (d : Entry) → MayCome S r d → owes (S.base n) (state (S.base n) (S.history n)) d → Asks d w.request → (t.repo ≡ n) ⊎ ((v : Standing) × (part S t.repo t ≡ Some v))
+        by : (d : Entry) → MayCome S r d → owes (S.base n) (state (S.base n) (S.history n)) d → Asks d w.request → (t.repo ≡ n) ⊎ ((v : Known) × (part S t.repo t ≡ Some v))
         by (Life k) may ow asks = absurd asks
         by (One p) may ow asks = inl (own-base n t new.at (ap (λ (u : Ts). u.repo) (sym (ap (λ (q : Request). q.tx) asks ∙ new.named)) ∙ ow.1.1))
         by (Prepared p) (inl may) ow asks = inl (ap (λ (u : Ts). u.repo) (sym (ap (λ (q : Request). q.tx) asks ∙ new.named)) ∙ may ∙ sym new.at)
@@ -137,7 +137,7 @@ module _ (S : Several) (r : ℕ) (e : Entry) (sd : AreSound S) (go : Continues S
         by (Finished u c) may ow asks = absurd asks
         by (Upgraded p) may ow asks = inl (own-base n t new.at (ap (λ (u : Ts). u.repo) (sym (ap (λ (q : Request). q.tx) asks ∙ new.named)) ∙ ow.1.1))
 
-    known-grown : (n : ℕ) (t : Ts) (w : Standing) → part (grown S r e) n t ≡ Some w → (v : Standing) × (part (grown S r e) t.repo t ≡ Some v)
+    known-grown : (n : ℕ) (t : Ts) (w : Known) → part (grown S r e) n t ≡ Some w → (v : Known) × (part (grown S r e) t.repo t ≡ Some v)
     known-grown n t w is = elim (back n t w is) [
       | inl new ↦ elim (coordinator n t w new) [
         | inl same ↦ (w, subst (λ k. part (grown S r e) k t ≡ Some w) (sym same) is)
@@ -147,19 +147,19 @@ module _ (S : Several) (r : ℕ) (e : Entry) (sd : AreSound S) (go : Continues S
     ]
 
     -- one that committed at once is alone there
-    alone : (n : ℕ) (t : Ts) (w : Standing) → New n t w → IsCommitted w.fate → IsAlone (S.base n) w.request
+    alone : (n : ℕ) (t : Ts) (w : Known) → New n t w → IsCommitted w.fate → IsAlone (S.base n) w.request
     alone n t w new c = begun-alone (S.base n) (S.history n) e (length (S.history n)) w.request (owed-at n new.at) new.asks (begun-commits (commit_of (S.base n) (state (S.base n) (S.history n)) e) (length (S.history n)) w.request w.fate new.fate c)
 
-    alone-here : (n : ℕ) (t : Ts) (w : Standing) → New n t w → IsCommitted w.fate → t.repo ≡ n
+    alone-here : (n : ℕ) (t : Ts) (w : Known) → New n t w → IsCommitted w.fate → t.repo ≡ n
     alone-here n t w new c = own-base n t new.at (ap (λ (u : Ts). u.repo) (sym new.named) ∙ (alone n t w new c).1)
 
     -- what the entry made committed had committed, or is decided here
-    made-committed : (n : ℕ) (t : Ts) (o w : Standing) → n ≡ r → part S n t ≡ Some o → Causes (S.base n) e t w.fate → IsCommitted w.fate
-        → ((t.repo ≡ n) × ((m : ℕ) → takes_part n o.request m ≡ true → (v : Standing) × (part S m t ≡ Some v))) ⊎ ((v : Standing) × HasCommitted S t v)
+    made-committed : (n : ℕ) (t : Ts) (o w : Known) → n ≡ r → part S n t ≡ Some o → Causes (S.base n) e t w.fate → IsCommitted w.fate
+        → ((t.repo ≡ n) × ((m : ℕ) → takes_part n o.request m ≡ true → (v : Known) × (part S m t ≡ Some v))) ⊎ ((v : Known) × HasCommitted S t v)
     made-committed n t o w same is cause c = by e go.may (owed-at n same) cause
       where
         by : (d : Entry) → MayCome S r d → owes (S.base n) (state (S.base n) (S.history n)) d → Causes (S.base n) d t w.fate
-            → ((t.repo ≡ n) × ((m : ℕ) → takes_part n o.request m ≡ true → (v : Standing) × (part S m t ≡ Some v))) ⊎ ((v : Standing) × HasCommitted S t v)
+            → ((t.repo ≡ n) × ((m : ℕ) → takes_part n o.request m ≡ true → (v : Known) × (part S m t ≡ Some v))) ⊎ ((v : Known) × HasCommitted S t v)
         by (Life k) may ow h = absurd (not_both w.fate c h.1)
         by (One p) may ow h = absurd h
         by (Prepared p) may ow h = absurd h
@@ -167,15 +167,15 @@ module _ (S : Several) (r : ℕ) (e : Entry) (sd : AreSound S) (go : Continues S
           own-base n t same (subst (λ (v : Ts). v.repo ≡ (S.base n).repo) h.0 ow.1),
           λ m takes.
               let there : part S r u ≡ Some o = subst (λ (v : Ts). part S r v ≡ Some o) (sym h.0) (subst (λ k. part S k t ≡ Some o) same is) in
-              subst (λ (v : Ts). (x : Standing) × (part S m v ≡ Some x)) h.0 (may.2 m (subst (λ (v : Standing). takes_part r v.request m ≡ true) (same_Some o may.0 (sym there ∙ may.1)) (subst (λ k. takes_part k o.request m ≡ true) same takes))),
+              subst (λ (v : Ts). (x : Known) × (part S m v ≡ Some x)) h.0 (may.2 m (subst (λ (v : Known). takes_part r v.request m ≡ true) (same_Some o may.0 (sym there ∙ may.1)) (subst (λ k. takes_part k o.request m ≡ true) same takes))),
         )
         by (Decided u false) may ow h = absurd (not_both w.fate c h.1)
         by (Finished u d) (inl none) ow h = some-none o (sym (subst (λ (v : Ts). part S r v ≡ None) h.0 none) ∙ subst (λ k. part S k t ≡ Some o) same is)
-        by (Finished u true) (inr may) ow h = inr (subst (λ (v : Ts). (x : Standing) × HasCommitted S v x) h.0 may)
+        by (Finished u true) (inr may) ow h = inr (subst (λ (v : Ts). (x : Known) × HasCommitted S v x) h.0 may)
         by (Finished u false) (inr may) ow h = absurd (not_both w.fate c h.1)
         by (Upgraded p) may ow h = absurd h
 
-    everywhere-grown : (n : ℕ) (t : Ts) (w : Standing) → HasCommitted (grown S r e) t w → takes_part t.repo w.request n ≡ true → (o : Standing) × (part (grown S r e) n t ≡ Some o)
+    everywhere-grown : (n : ℕ) (t : Ts) (w : Known) → HasCommitted (grown S r e) t w → takes_part t.repo w.request n ≡ true → (o : Known) × (part (grown S r e) n t ≡ Some o)
     everywhere-grown n t w h takes = elim (back t.repo t w h.there) [
       | inl new ↦
           let others : w.request.others ≡ [] = (alone t.repo t w new h.commits).0 in
@@ -183,7 +183,7 @@ module _ (S : Several) (r : ℕ) (e : Entry) (sd : AreSound S) (go : Continues S
           (w, subst (λ k. part (grown S r e) k t ≡ Some w) (sym (eqb-true n t.repo (or-false (nat_eq n t.repo) only))) h.there)
       | inr old ↦
           let takes' : takes_part t.repo old.o.request n ≡ true = subst (λ (q : Request). takes_part t.repo q n ≡ true) old.stays.request takes in
-          let had : (o : Standing) × (part S n t ≡ Some o) = by old takes' old.cause in
+          let had : (o : Known) × (part S n t ≡ Some o) = by old takes' old.cause in
           let g = onward n t had.0 had.1 in
           (g.0, g.1)
     ]
@@ -192,22 +192,22 @@ module _ (S : Several) (r : ℕ) (e : Entry) (sd : AreSound S) (go : Continues S
         or-false true k = refl
         or-false false k = k
 
-        by : (old : Old t.repo t w) → takes_part t.repo old.o.request n ≡ true → (w.fate ≡ old.o.fate) ⊎ ((t.repo ≡ r) × Causes (S.base t.repo) e t w.fate) → (o : Standing) × (part S n t ≡ Some o)
+        by : (old : Old t.repo t w) → takes_part t.repo old.o.request n ≡ true → (w.fate ≡ old.o.fate) ⊎ ((t.repo ≡ r) × Causes (S.base t.repo) e t w.fate) → (o : Known) × (part S n t ≡ Some o)
         by old takes' (inl same) = at.everywhere n t old.o (record { there = old.there; commits = subst IsCommitted same h.commits }) takes'
         by old takes' (inr cause) = elim (made-committed t.repo t old.o w cause.0 old.there cause.1 h.commits) [
           | inl decided ↦ decided.1 n takes'
-          | inr done ↦ at.everywhere n t done.0 done.1 (subst (λ (v : Standing). takes_part t.repo v.request n ≡ true) (same_Some old.o done.0 (sym old.there ∙ done.1.there)) takes')
+          | inr done ↦ at.everywhere n t done.0 done.1 (subst (λ (v : Known). takes_part t.repo v.request n ≡ true) (same_Some old.o done.0 (sym old.there ∙ done.1.there)) takes')
         ]
 
     -- what had committed has
-    committed-on : (t : Ts) (v w : Standing) → HasCommitted S t v → part (grown S r e) t.repo t ≡ Some w → IsCommitted w.fate
+    committed-on : (t : Ts) (v w : Known) → HasCommitted S t v → part (grown S r e) t.repo t ≡ Some w → IsCommitted w.fate
     committed-on t v w h it =
         let g = onward t.repo t v h.there in
-        subst (λ (x : Standing). IsCommitted x.fate) (same_Some g.0 w (sym g.1 ∙ it)) (committed-stays v.fate g.0.fate h.commits g.2.fate)
+        subst (λ (x : Known). IsCommitted x.fate) (same_Some g.0 w (sym g.1 ∙ it)) (committed-stays v.fate g.0.fate h.commits g.2.fate)
 
-    agreed-grown : (n : ℕ) (t : Ts) (o w : Standing) → part (grown S r e) n t ≡ Some o → IsCommitted o.fate → part (grown S r e) t.repo t ≡ Some w → IsCommitted w.fate
+    agreed-grown : (n : ℕ) (t : Ts) (o w : Known) → part (grown S r e) n t ≡ Some o → IsCommitted o.fate → part (grown S r e) t.repo t ≡ Some w → IsCommitted w.fate
     agreed-grown n t o w is c it = elim (back n t o is) [
-      | inl new ↦ here-too (λ (x : Standing). IsCommitted x.fate) n t o w (alone-here n t o new c) is it c
+      | inl new ↦ here-too (λ (x : Known). IsCommitted x.fate) n t o w (alone-here n t o new c) is it c
       | inr old ↦ by old old.cause
     ]
       where
@@ -216,39 +216,39 @@ module _ (S : Several) (r : ℕ) (e : Entry) (sd : AreSound S) (go : Continues S
             let k = at.known n t old.o old.there in
             committed-on t k.0 w (record { there = k.1; commits = at.agreed n t old.o k.0 old.there (subst IsCommitted same c) k.1 }) it
         by old (inr cause) = elim (made-committed n t old.o o cause.0 old.there cause.1 c) [
-          | inl decided ↦ here-too (λ (x : Standing). IsCommitted x.fate) n t o w decided.0 is it c
+          | inl decided ↦ here-too (λ (x : Known). IsCommitted x.fate) n t o w decided.0 is it c
           | inr done ↦ committed-on t done.0 w done.1 it
         ]
 
     -- what the entry aborted is aborted at its coordinator, or its coordinator is here
-    made-aborted : (n : ℕ) (t : Ts) (o w : Standing) → n ≡ r → part S n t ≡ Some o → Causes (S.base n) e t w.fate → w.fate ≡ Aborted → (t.repo ≡ n) ⊎ ((v : Standing) → part S t.repo t ≡ Some v → v.fate ≡ Aborted)
+    made-aborted : (n : ℕ) (t : Ts) (o w : Known) → n ≡ r → part S n t ≡ Some o → Causes (S.base n) e t w.fate → w.fate ≡ Aborted → (t.repo ≡ n) ⊎ ((v : Known) → part S t.repo t ≡ Some v → v.fate ≡ Aborted)
     made-aborted n t o w same is cause a = by e go.may (owed-at n same) cause
       where
-        by : (d : Entry) → MayCome S r d → owes (S.base n) (state (S.base n) (S.history n)) d → Causes (S.base n) d t w.fate → (t.repo ≡ n) ⊎ ((v : Standing) → part S t.repo t ≡ Some v → v.fate ≡ Aborted)
+        by : (d : Entry) → MayCome S r d → owes (S.base n) (state (S.base n) (S.history n)) d → Causes (S.base n) d t w.fate → (t.repo ≡ n) ⊎ ((v : Known) → part S t.repo t ≡ Some v → v.fate ≡ Aborted)
         by (Life k) may ow h = inl (own-base n t same h.0)
         by (One p) may ow h = absurd h
         by (Prepared p) may ow h = absurd h
         by (Decided u c) may ow h = inl (own-base n t same (subst (λ (v : Ts). v.repo ≡ (S.base n).repo) h.0 ow.1))
         by (Finished u d) (inl none) ow h = some-none o (sym (subst (λ (v : Ts). part S r v ≡ None) h.0 none) ∙ subst (λ k. part S k t ≡ Some o) same is)
         by (Finished u true) (inr may) ow h = absurd (not_both w.fate h.1 a)
-        by (Finished u false) (inr may) ow h = inr (λ v there. ap (λ (x : Standing). x.fate) (same_Some v may.0 (sym there ∙ subst (λ (x : Ts). part S x.repo x ≡ Some may.0) h.0 may.1)) ∙ may.2)
+        by (Finished u false) (inr may) ow h = inr (λ v there. ap (λ (x : Known). x.fate) (same_Some v may.0 (sym there ∙ subst (λ (x : Ts). part S x.repo x ≡ Some may.0) h.0 may.1)) ∙ may.2)
         by (Upgraded p) may ow h = absurd h
 
-    given-up-grown : (n : ℕ) (t : Ts) (o w : Standing) → part (grown S r e) n t ≡ Some o → o.fate ≡ Aborted → part (grown S r e) t.repo t ≡ Some w → w.fate ≡ Aborted
+    given-up-grown : (n : ℕ) (t : Ts) (o w : Known) → part (grown S r e) n t ≡ Some o → o.fate ≡ Aborted → part (grown S r e) t.repo t ≡ Some w → w.fate ≡ Aborted
     given-up-grown n t o w is a it = elim (back n t o is) [
       | inl new ↦ absurd (not-begun-aborted (commit_of (S.base n) (state (S.base n) (S.history n)) e) (length (S.history n)) o.request o.fate new.fate a)
       | inr old ↦ by old old.cause
     ]
       where
-        on : (v : Standing) → part S t.repo t ≡ Some v → v.fate ≡ Aborted → w.fate ≡ Aborted
+        on : (v : Known) → part S t.repo t ≡ Some v → v.fate ≡ Aborted → w.fate ≡ Aborted
         on v there x =
             let g = onward t.repo t v there in
-            ap (λ (y : Standing). y.fate) (same_Some w g.0 (sym it ∙ g.1)) ∙ aborted-stays v.fate g.0.fate x g.2.fate
+            ap (λ (y : Known). y.fate) (same_Some w g.0 (sym it ∙ g.1)) ∙ aborted-stays v.fate g.0.fate x g.2.fate
 
         by : (old : Old n t o) → (o.fate ≡ old.o.fate) ⊎ ((n ≡ r) × Causes (S.base n) e t o.fate) → w.fate ≡ Aborted
         by old (inl same) = let k = at.known n t old.o old.there in on k.0 k.1 (at.given_up n t old.o k.0 old.there (sym same ∙ a) k.1)
         by old (inr cause) = elim (made-aborted n t old.o o cause.0 old.there cause.1 a) [
-          | inl same ↦ here-too (λ (x : Standing). x.fate ≡ Aborted) n t o w same is it a
+          | inl same ↦ here-too (λ (x : Known). x.fate ≡ Aborted) n t o w same is it a
           | inr told ↦ let k = at.known n t old.o old.there in on k.0 k.1 (told k.0 k.1)
         ]
 
@@ -262,10 +262,10 @@ module _ (S : Several) (r : ℕ) (e : Entry) (sd : AreSound S) (go : Continues S
     alike-itself n q = record { who = refl; kind = refl; fresh = refl; answer = refl; participants = λ m. refl }
 
     -- the coordinator knew nothing of it, and no other did
-    not-before : {A : Type 0} (n : ℕ) (t : Ts) (w o : Standing) → New t.repo t w → part S n t ≡ Some o → A
+    not-before : {A : Type 0} (n : ℕ) (t : Ts) (w o : Known) → New t.repo t w → part S n t ≡ Some o → A
     not-before n t w o new is = let k = at.known n t o is in some-none k.0 (sym new.none ∙ k.1)
 
-    new-alike : (n : ℕ) (t : Ts) (o v : Standing) → New n t o → part S t.repo t ≡ Some v → AreAlike n o.request t.repo v.request
+    new-alike : (n : ℕ) (t : Ts) (o v : Known) → New n t o → part S t.repo t ≡ Some v → AreAlike n o.request t.repo v.request
     new-alike n t o v new there = by e go.may (owed-at n new.at) new.asks
       where
         elsewhere : {A : Type 0} → t.repo ≡ n → A
@@ -283,16 +283,16 @@ module _ (S : Several) (r : ℕ) (e : Entry) (sd : AreSound S) (go : Continues S
             let one : may.0 ≡ v = same_Some may.0 v (sym known ∙ there) in
             let a : AreAlike r p t.repo may.0.request = subst (λ (u : Ts). AreAlike r p u.repo may.0.request) (named p asks) may.2 in
             let b : AreAlike n p t.repo may.0.request = subst (λ k. AreAlike k p t.repo may.0.request) (sym new.at) a in
-            subst (λ (q : Request). AreAlike n q t.repo v.request) asks (subst (λ (x : Standing). AreAlike n p t.repo x.request) one b)
+            subst (λ (q : Request). AreAlike n q t.repo v.request) asks (subst (λ (x : Known). AreAlike n p t.repo x.request) one b)
         by (Decided u c) may ow asks = absurd asks
         by (Finished u c) may ow asks = absurd asks
         by (Upgraded p) may ow asks = elsewhere (own-base n t new.at (ap (λ (u : Ts). u.repo) (sym (named p asks)) ∙ ow.1.1))
 
-    alike-both : (n : ℕ) (t : Ts) (o w : Standing) → part (grown S r e) n t ≡ Some o → part (grown S r e) t.repo t ≡ Some w → New n t o ⊎ Old n t o → New t.repo t w ⊎ Old t.repo t w → AreAlike n o.request t.repo w.request
+    alike-both : (n : ℕ) (t : Ts) (o w : Known) → part (grown S r e) n t ≡ Some o → part (grown S r e) t.repo t ≡ Some w → New n t o ⊎ Old n t o → New t.repo t w ⊎ Old t.repo t w → AreAlike n o.request t.repo w.request
     alike-both n t o w is it (inl new) (inl first) =
         let same : n ≡ t.repo = new.at ∙ sym first.at in
         let one : o ≡ w = same_Some o w (sym (subst (λ k. part (grown S r e) k t ≡ Some o) same is) ∙ it) in
-        subst (λ k. AreAlike k o.request t.repo w.request) (sym same) (subst (λ (x : Standing). AreAlike t.repo x.request t.repo w.request) (sym one) (alike-itself t.repo w.request))
+        subst (λ k. AreAlike k o.request t.repo w.request) (sym same) (subst (λ (x : Known). AreAlike t.repo x.request t.repo w.request) (sym one) (alike-itself t.repo w.request))
     alike-both n t o w is it (inl new) (inr old) = subst (λ (q : Request). AreAlike n o.request t.repo q) (sym old.stays.request) (new-alike n t o old.o new old.there)
     alike-both n t o w is it (inr old) (inl first) = not-before n t w old.o first old.there
     alike-both n t o w is it (inr old) (inr before) =
@@ -302,7 +302,7 @@ module _ (S : Several) (r : ℕ) (e : Entry) (sd : AreSound S) (go : Continues S
     alike-grown n t o w is it = alike-both n t o w is it (back n t o is) (back t.repo t w it)
 
   -- what has committed stays so
-  pub committed-grown : (t : Ts) (w : Standing) → HasCommitted S t w → (v : Standing) × HasCommitted (grown S r e) t v × (v.request ≡ w.request)
+  pub committed-grown : (t : Ts) (w : Known) → HasCommitted S t w → (v : Known) × HasCommitted (grown S r e) t v × (v.request ≡ w.request)
   committed-grown t w h =
       let g = onward t.repo t w h.there in
       (g.0, record { there = g.1; commits = committed-stays w.fate g.0.fate h.commits g.2.fate }, g.2.request)

@@ -2,20 +2,20 @@
 use Rattle.atomic_histories.specs.Several.{AllParts, AreSound, CoordinatorsAreLeast, HasCommitted, IsAtomic, Several, UpgradesAreEverywhere, committed, is_committed_part, part}
 use Rattle.commit_log.specs.declared.entry.Entry.{Entry}
 use Rattle.session_outbox.proofs.Outlived.{none-aborted-back}
-use Rattle.session_outbox.proofs.Prefixes.{fits, judged}
-use Rattle.session_outbox.proofs.Vouched.{upgrades}
-use Rattle.session_outbox.specs.Checking.{is_committed}
+use Rattle.local_history.proofs.Prefixes.{fits, judged}
+use Rattle.local_history.proofs.Vouched.{upgrades}
+use Rattle.local_history.specs.Checking.{is_committed}
 use Rattle.session_outbox.specs.Current.{NoneAborted}
-use Rattle.session_outbox.specs.History.{Aborted, Committed, Fate, IsCommitted, Lives, Open, Standing, stands}
-use Rattle.session_outbox.specs.Participants.{takes_part}
-use Rattle.session_outbox.specs.Sound.{sound}
+use Rattle.local_history.specs.History.{Aborted, Committed, Fate, IsCommitted, Lives, Open, Known, known_by}
+use Rattle.local_history.specs.Participants.{takes_part}
+use Rattle.local_history.specs.Sound.{sound}
 use Rattle.std.proofs.Common.{Bool, List, [], ap, arith, false, inl, inr, refl, subst, sym, true, ℕ, ◌++◌, ◌<◌, ◌≡◌, ◌≤◌, ◌∙◌, ◌∷◌}
 use Rattle.std.proofs.lemmas.Bool.{eqb-true}
 use Rattle.std.specs.List.{AllByRecursion, list_any}
 use Rattle.std.specs.Prelude.{None, Option, Some, nat_eq, ◌||◌, ◌⊎◌}
 use Rattle.thor_value.specs.declared.names.Ts.{Ts}
 
-pub some-none : {A : Type 0} (x : Standing) → ◌≡◌ {A = Option Standing} None (Some x) → A
+pub some-none : {A : Type 0} (x : Known) → ◌≡◌ {A = Option Known} None (Some x) → A
 some-none x e = cc
 
 lives_or : (f : Fate) → (f ≡ Aborted → ⊥) → Lives f
@@ -42,19 +42,19 @@ low-or-high : (m n : ℕ) → (m < n) ⊎ (n ≤ m)
 low-or-high m n = grind arith
 
 -- the test finds what has committed
-pub has-committed : (S : Several) (t : Ts) → committed S t ≡ true → (w : Standing) × HasCommitted S t w
+pub has-committed : (S : Several) (t : Ts) → committed S t ≡ true → (w : Known) × HasCommitted S t w
 has-committed S t e = by (part S t.repo t) refl e
   where
-    by : (o : Option Standing) → part S t.repo t ≡ o → is_committed_part o ≡ true → (w : Standing) × HasCommitted S t w
+    by : (o : Option Known) → part S t.repo t ≡ o → is_committed_part o ≡ true → (w : Known) × HasCommitted S t w
     by None is k = cc
     by (Some w) is k = (w, record { there = is; commits = committed_is w.fate k })
 
-pub committed-from : (S : Several) (t : Ts) (w : Standing) → HasCommitted S t w → committed S t ≡ true
+pub committed-from : (S : Several) (t : Ts) (w : Known) → HasCommitted S t w → committed S t ≡ true
 committed-from S t w h = ap is_committed_part h.there ∙ is_committed-from w.fate h.commits
 
 module _ (S : Several) (at : IsAtomic S) where
   -- a part of what committed isn't aborted
-  pub part_lives : (r : ℕ) (t : Ts) (w o : Standing) → HasCommitted S t w → part S r t ≡ Some o → Lives o.fate
+  pub part_lives : (r : ℕ) (t : Ts) (w o : Known) → HasCommitted S t w → part S r t ≡ Some o → Lives o.fate
   part_lives r t w o h is = lives_or o.fate (λ e. not_both w.fate h.commits (at.given_up r t o w is e h.there))
 
   pub all_parts : AllParts S
@@ -72,10 +72,10 @@ module _ (S : Several) (at : IsAtomic S) where
 
 module _ (S : Several) (sd : AreSound S) where
   -- where something stands there is a repository
-  there : (r : ℕ) (t : Ts) (o : Standing) → part S r t ≡ Some o → r < S.repos
+  there : (r : ℕ) (t : Ts) (o : Known) → part S r t ≡ Some o → r < S.repos
   there r t o is = elim (low-or-high r S.repos) [
     | inl l ↦ l
-    | inr l ↦ some-none o (subst (λ (H : List Entry). stands (S.base r) H t ≡ Some o) (sd.outside r l) is)
+    | inr l ↦ some-none o (subst (λ (H : List Entry). known_by (S.base r) H t ≡ Some o) (sd.outside r l) is)
   ]
 
   any_at : (P : ℕ → Type 0) (ns : List ℕ) (n : ℕ) → AllByRecursion P ns → list_any (nat_eq n) ns ≡ true → P n

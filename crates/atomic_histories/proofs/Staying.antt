@@ -2,8 +2,8 @@
 use Rattle.commit_log.specs.declared.entry.Entry.TheVariants.{Decided, Finished, Life, One, Prepared, Upgraded}
 use Rattle.commit_log.specs.declared.entry.Entry.{Entry}
 use Rattle.commit_log.specs.declared.request.Request.{Request}
-use Rattle.session_outbox.specs.History.{Base, stands}
-use Rattle.session_outbox.specs.Participants.{takes_part}
+use Rattle.local_history.specs.History.{Base, known_by}
+use Rattle.local_history.specs.Participants.{takes_part}
 use Rattle.atomic_histories.proofs.Grown.{aborted-stays, committed-stays, onward}
 use Rattle.atomic_histories.specs.Growing.{Continues, MayCome, MayDecide, MayFinish, grown, opened_at}
 use Rattle.atomic_histories.specs.Several.{Alike, AreAlike, AreSound, IsAtomic, Several, part}
@@ -17,7 +17,7 @@ module _ (S : Several) (n : ℕ) (d : Entry) (sd : AreSound S) (go : Continues S
   elsewhere : (r : ℕ) (t : Ts) → r ≢ n → part (grown S n d) r t ≡ part S r t
   elsewhere r t other = by (nat_eq r n) refl
     where
-      by : (k : Bool) → nat_eq r n ≡ k → stands (S.base r) (cond k (S.history r ++ d ∷ []) (S.history r)) t ≡ stands (S.base r) (S.history r) t
+      by : (k : Bool) → nat_eq r n ≡ k → known_by (S.base r) (cond k (S.history r ++ d ∷ []) (S.history r)) t ≡ known_by (S.base r) (S.history r) t
       by true h = absurd (other (eqb-true r n h))
       by false h = refl
 

@@ -5,7 +5,7 @@ use Rattle.commit_log.specs.declared.entry.Entry.TheVariants.{Decided, Finished,
 use Rattle.commit_log.specs.declared.entry.Entry.{Entry}
 use Rattle.commit_log.specs.declared.request.Kind.TheVariants.{App}
 use Rattle.commit_log.specs.declared.request.Request.{Request}
-use Rattle.session_outbox.specs.History.{Base}
+use Rattle.local_history.specs.History.{Base}
 use Rattle.std.specs.Prelude.{List, None, [], false, pos, suc, true, zero, ℕ, ◌∷◌}
 use Rattle.thor_value.specs.FiniteMap.{empty, overwrite}
 use Rattle.thor_value.specs.Names.{zero_ts}

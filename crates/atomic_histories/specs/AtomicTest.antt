@@ -1,8 +1,8 @@
 -- Two-phase commit as a computation: each clause of IsAtomic as a test that goes over what is known.
-use Rattle.session_outbox.specs.Checking.{if_then, is_committed}
-use Rattle.session_outbox.specs.History.{Aborted, Committed, Fate, Open, Standing, or_lost, state}
+use Rattle.local_history.specs.Checking.{if_then, is_committed}
+use Rattle.local_history.specs.History.{Aborted, Committed, Fate, Open, Known, or_lost, state}
 use Rattle.atomic_histories.specs.Several.{Several, committed, part}
-use Rattle.session_outbox.specs.Participants.{takes_part}
+use Rattle.local_history.specs.Participants.{takes_part}
 use Rattle.std.specs.List.{list_all, range_with_len}
 use Rattle.std.specs.Option.{is_some}
 use Rattle.std.specs.Prelude.{Bool, None, Option, Some, false, true, ℕ}
@@ -13,12 +13,12 @@ is_aborted Open = false
 is_aborted (Committed at) = false
 is_aborted Aborted = true
 
-abbrev pub is_aborted_part : Option Standing → Bool
+abbrev pub is_aborted_part : Option Known → Bool
 is_aborted_part None = false
 is_aborted_part (Some o) = is_aborted o.fate
 
 -- whether the test holds of each transaction at each repository, as it stands there
-abbrev pub each_part : Several → (ℕ → Ts → Standing → Bool) → Bool
+abbrev pub each_part : Several → (ℕ → Ts → Known → Bool) → Bool
 each_part S test = list_all (λ r. list_all (λ e. test r e.0 (or_lost (S.base r) (state (S.base r) (S.history r)) e.0 e.1)) (state (S.base r) (S.history r)).known.pairs) (range_with_len 0 S.repos)
 
 abbrev pub is_known_there : Several → Bool

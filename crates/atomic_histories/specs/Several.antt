@@ -2,11 +2,11 @@
 -- two-phase commit keeps.
 use Rattle.commit_log.specs.declared.entry.Entry.{Entry}
 use Rattle.commit_log.specs.declared.request.Request.{Request}
-use Rattle.session_outbox.specs.Checking.{is_committed}
-use Rattle.session_outbox.specs.History.{Aborted, Base, IsCommitted, Lives, Standing, stands}
-use Rattle.session_outbox.specs.Participants.{takes_part}
-use Rattle.session_outbox.specs.Requests.{is_upgrade}
-use Rattle.session_outbox.specs.Sound.{sound}
+use Rattle.local_history.specs.Checking.{is_committed}
+use Rattle.local_history.specs.History.{Aborted, Base, IsCommitted, Lives, Known, known_by}
+use Rattle.local_history.specs.Participants.{takes_part}
+use Rattle.local_history.specs.Requests.{is_upgrade}
+use Rattle.local_history.specs.Sound.{sound}
 use Rattle.session_outbox.specs.Trace.{Item, entries}
 use Rattle.std.specs.Prelude.{Bool, List, None, Option, Some, [], cond, false, nat_eq, true, ℕ, ◌++◌, ◌<◌, ◌∷◌, ◌≡◌, ◌≤◌}
 use Rattle.thor_value.specs.declared.names.Ts.{Ts}
@@ -18,10 +18,10 @@ pub record Several : Type 0 where
   pub history : ℕ → List Entry
 
 -- how t stands at the repository r
-abbrev pub part : Several → ℕ → Ts → Option Standing
-part S r t = stands (S.base r) (S.history r) t
+abbrev pub part : Several → ℕ → Ts → Option Known
+part S r t = known_by (S.base r) (S.history r) t
 
-abbrev pub is_committed_part : Option Standing → Bool
+abbrev pub is_committed_part : Option Known → Bool
 is_committed_part None = false
 is_committed_part (Some o) = is_committed o.fate
 
@@ -30,7 +30,7 @@ abbrev pub committed : Several → Ts → Bool
 committed S t = is_committed_part (part S t.repo t)
 
 -- t has committed, and stands so at its coordinator
-pub record HasCommitted (S : Several) (t : Ts) (w : Standing) : Type 0 where
+pub record HasCommitted (S : Several) (t : Ts) (w : Known) : Type 0 where
   pub there : part S t.repo t ≡ Some w
   pub commits : IsCommitted w.fate
 
@@ -45,13 +45,13 @@ pub record AreSound (S : Several) : Type 0 where
 -- What two-phase commit keeps.
 pub record IsAtomic (S : Several) : Type 0 where
   -- what is known anywhere is known at its coordinator
-  pub known : (r : ℕ) (t : Ts) (o : Standing) → part S r t ≡ Some o → (w : Standing) × (part S t.repo t ≡ Some w)
+  pub known : (r : ℕ) (t : Ts) (o : Known) → part S r t ≡ Some o → (w : Known) × (part S t.repo t ≡ Some w)
   -- what committed is known at each participant
-  pub everywhere : (r : ℕ) (t : Ts) (w : Standing) → HasCommitted S t w → takes_part t.repo w.request r ≡ true → (o : Standing) × (part S r t ≡ Some o)
+  pub everywhere : (r : ℕ) (t : Ts) (w : Known) → HasCommitted S t w → takes_part t.repo w.request r ≡ true → (o : Known) × (part S r t ≡ Some o)
   -- what is committed anywhere committed at its coordinator
-  pub agreed : (r : ℕ) (t : Ts) (o w : Standing) → part S r t ≡ Some o → IsCommitted o.fate → part S t.repo t ≡ Some w → IsCommitted w.fate
+  pub agreed : (r : ℕ) (t : Ts) (o w : Known) → part S r t ≡ Some o → IsCommitted o.fate → part S t.repo t ≡ Some w → IsCommitted w.fate
   -- what is aborted anywhere is aborted at its coordinator
-  pub given_up : (r : ℕ) (t : Ts) (o w : Standing) → part S r t ≡ Some o → o.fate ≡ Aborted → part S t.repo t ≡ Some w → w.fate ≡ Aborted
+  pub given_up : (r : ℕ) (t : Ts) (o w : Known) → part S r t ≡ Some o → o.fate ≡ Aborted → part S t.repo t ≡ Some w → w.fate ≡ Aborted
 
 -- The request q at the repository r is of the same transaction as p at n.
 pub record AreAlike (r : ℕ) (q : Request) (n : ℕ) (p : Request) : Type 0 where
@@ -63,21 +63,21 @@ pub record AreAlike (r : ℕ) (q : Request) (n : ℕ) (p : Request) : Type 0 whe
 
 -- The requests of a transaction are alike at all repositories.
 abbrev pub Alike : Several → Type 0
-Alike S = (r : ℕ) (t : Ts) (o w : Standing) → part S r t ≡ Some o → part S t.repo t ≡ Some w → AreAlike r o.request t.repo w.request
+Alike S = (r : ℕ) (t : Ts) (o w : Known) → part S r t ≡ Some o → part S t.repo t ≡ Some w → AreAlike r o.request t.repo w.request
 
 -- ---- what follows
 
 -- A transaction that has committed is undecided or committed at each participant, and aborted at none.
 abbrev pub AllParts : Several → Type 0
-AllParts S = (r : ℕ) (t : Ts) (w : Standing) → HasCommitted S t w → takes_part t.repo w.request r ≡ true → (o : Standing) × (part S r t ≡ Some o) × Lives o.fate
+AllParts S = (r : ℕ) (t : Ts) (w : Known) → HasCommitted S t w → takes_part t.repo w.request r ≡ true → (o : Known) × (part S r t ≡ Some o) × Lives o.fate
 
 -- The least of a transaction's participants coordinates it.
 abbrev pub CoordinatorsAreLeast : Several → Type 0
-CoordinatorsAreLeast S = (t : Ts) (w : Standing) → part S t.repo t ≡ Some w → (n : ℕ) → takes_part t.repo w.request n ≡ true → t.repo ≤ n
+CoordinatorsAreLeast S = (t : Ts) (w : Known) → part S t.repo t ≡ Some w → (n : ℕ) → takes_part t.repo w.request n ≡ true → t.repo ≤ n
 
 -- All repositories take part in an upgrade that stands anywhere.
 abbrev pub UpgradesAreEverywhere : Several → Type 0
-UpgradesAreEverywhere S = (r : ℕ) (t : Ts) (o : Standing) → part S r t ≡ Some o → is_upgrade o.request ≡ true → (n : ℕ) → n < S.repos → takes_part r o.request n ≡ true
+UpgradesAreEverywhere S = (r : ℕ) (t : Ts) (o : Known) → part S r t ≡ Some o → is_upgrade o.request ≡ true → (n : ℕ) → n < S.repos → takes_part r o.request n ≡ true
 
 -- ---- repositories with their traces
 

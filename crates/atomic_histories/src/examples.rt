@@ -4,8 +4,8 @@
 ghost use Rattle.atomic_histories.specs.AcrossExamples.{abroad, at, box, crossing, dropped, hasty, parted, unheard, z};
 ghost use Rattle.atomic_histories.specs.AtomicTest.{is_agreed, is_everywhere, is_given_up, is_known_there};
 ghost use Rattle.atomic_histories.specs.Several.{committed};
-ghost use Rattle.session_outbox.specs.Checking.{is_sound};
-ghost use Rattle.session_outbox.specs.History.{objects_at};
+ghost use Rattle.local_history.specs.Checking.{is_sound};
+ghost use Rattle.local_history.specs.History.{objects_at};
 ghost use Rattle.std.specs.Prelude.{Some, ◌&&◌, ◌≡◌, true, false};
 ghost use Rattle.thor_value.specs.FiniteMap.{get};
 

@@ -4,7 +4,7 @@ ghost use Rattle.atomic_histories.specs.Growing.{Continues, MayCome, grown, open
 ghost use Rattle.atomic_histories.specs.Several.{Alike, AllParts, AreSound, CoordinatorsAreLeast, HasCommitted, IsAtomic, Repositories, Several, UpgradesAreEverywhere, committed, histories, with_item};
 ghost use Rattle.commit_log.specs.declared.entry.Entry.{Entry};
 ghost use Rattle.session_outbox.specs.Current.{NoneAborted};
-ghost use Rattle.session_outbox.specs.History.{Base, Standing};
+ghost use Rattle.local_history.specs.History.{Base, Known};
 ghost use Rattle.session_outbox.specs.Trace.{E, M};
 ghost use Rattle.session_outbox.specs.declared.mark.Mark.{Mark};
 ghost use Rattle.std.specs.Prelude.{List, true, ℕ, ◌++◌, ◌<◌, ◌≡◌, ◌≢◌};
@@ -21,8 +21,8 @@ pub fn committed_parts_live()
 
 /// Whether a transaction has committed is a test, and stays true.
 pub fn commits_stay()
-    ensures tells { (S : Several) (t : Ts) → committed S t ≡ true → (w : Standing) × HasCommitted S t w }
-    ensures told { (S : Several) (t : Ts) (w : Standing) → HasCommitted S t w → committed S t ≡ true }
+    ensures tells { (S : Several) (t : Ts) → committed S t ≡ true → (w : Known) × HasCommitted S t w }
+    ensures told { (S : Several) (t : Ts) (w : Known) → HasCommitted S t w → committed S t ≡ true }
     ensures stays { (S : Several) (r : ℕ) (e : Entry) → AreSound S → Continues S r e → (t : Ts) →
         committed S t ≡ true → committed (grown S r e) t ≡ true }
 {}

@@ -2,19 +2,20 @@
 use Rattle.commit_log.specs.declared.entry.Entry.TheVariants.{One, Prepared, Upgraded}
 use Rattle.commit_log.specs.declared.entry.Entry.{Entry}
 use Rattle.commit_log.specs.declared.request.Request.{Request}
-use Rattle.session_outbox.proofs.Growth.{sound-end}
-use Rattle.session_outbox.proofs.Room.{room_left}
-use Rattle.session_outbox.proofs.Validated.{neither, nothing_holds, validated}
-use Rattle.session_outbox.specs.History.{Base, state}
-use Rattle.session_outbox.specs.Laws.{Continues}
-use Rattle.session_outbox.specs.Participants.{IsAlone, IsShared}
-use Rattle.session_outbox.specs.Requests.{is_upgrade}
+use Rattle.local_history.proofs.Growth.{sound-end}
+use Rattle.validation_window.proofs.Room.{room_left}
+use Rattle.validation_window.proofs.Validated.{neither, nothing_holds, validated}
+use Rattle.local_history.specs.History.{Base, state}
+use Rattle.local_history.specs.Laws.{Continues}
+use Rattle.local_history.specs.Participants.{IsAlone, IsShared}
+use Rattle.local_history.specs.Requests.{is_upgrade}
 use Rattle.session_outbox.specs.Session.{Session, session, session_lives}
-use Rattle.session_outbox.specs.Sound.{Admits, Vouches, owes, sound}
+use Rattle.local_history.specs.Sound.{Admits, Vouches, owes, sound}
 use Rattle.session_outbox.specs.Trace.{Item, entries}
-use Rattle.session_outbox.specs.Verdict.{first_refusal, full, stale, verdict, verdict_by}
-use Rattle.session_outbox.specs.Window.{window}
-use Rattle.session_outbox.specs.declared.refusal.Refusal.{Refusal}
+use Rattle.validation_window.specs.Refusals.{first_refusal, full}
+use Rattle.session_outbox.specs.Verdict.{stale, verdict, verdict_by}
+use Rattle.validation_window.specs.Window.{window}
+use Rattle.validation_window.specs.declared.refusal.Refusal.{Refusal}
 use Rattle.std.proofs.Common.{List, cond, refl, ◌≡◌}
 use Rattle.std.specs.Prelude.{Bool, None, Option, Some, false, true, ℕ}
 

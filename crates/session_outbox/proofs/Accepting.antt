@@ -1,21 +1,22 @@
 -- What a request that was accepted found, and that its copies are right.
 use Rattle.commit_log.specs.declared.request.Request.{Request}
 use Rattle.session_outbox.proofs.Accepted.{passed}
-use Rattle.session_outbox.proofs.Clashing.{in_set}
-use Rattle.session_outbox.proofs.Covered.{lives_open}
-use Rattle.session_outbox.proofs.Meeting.{any_at, or_cases, or_second}
-use Rattle.session_outbox.proofs.Validated.{neither, nothing_holds, unless_some, validated}
+use Rattle.validation_window.proofs.Clashing.{in_set}
+use Rattle.validation_window.proofs.Covered.{lives_open}
+use Rattle.local_history.proofs.Meeting.{any_at, or_cases, or_second}
+use Rattle.validation_window.proofs.Validated.{neither, nothing_holds, unless_some, validated}
 use Rattle.session_outbox.specs.Acceptance.{WasAccepted}
 use Rattle.session_outbox.specs.Current.{IsRightOrStale}
-use Rattle.session_outbox.specs.History.{Base, IsCommitted, Open, Standing, stands, state}
-use Rattle.session_outbox.specs.Requests.{has_read, has_written, is_upgrade, reads_of, written}
+use Rattle.local_history.specs.History.{Base, IsCommitted, Open, Known, known_by, state}
+use Rattle.local_history.specs.Requests.{has_read, has_written, is_upgrade, reads_of, written}
 use Rattle.session_outbox.specs.Session.{Session, invalid, session, upto_of}
-use Rattle.session_outbox.specs.Sound.{Accepts, sound}
+use Rattle.local_history.specs.Sound.{Accepts, sound}
 use Rattle.session_outbox.specs.Trace.{Item, entries}
-use Rattle.session_outbox.specs.Verdict.{bytes_of, full, full_of_undecided, full_of_writes, set_of, stale, stale_from, verdict}
-use Rattle.session_outbox.specs.Window.{first_decided, window}
-use Rattle.session_outbox.specs.declared.refusal.Refusal.TheVariants as refused
-use Rattle.session_outbox.specs.declared.refusal.Refusal.{Refusal}
+use Rattle.validation_window.specs.Refusals.{bytes_of, full, full_of_undecided, full_of_writes, set_of}
+use Rattle.session_outbox.specs.Verdict.{stale, stale_from, verdict}
+use Rattle.validation_window.specs.Window.{first_decided, window}
+use Rattle.validation_window.specs.declared.refusal.Refusal.TheVariants as refused
+use Rattle.validation_window.specs.declared.refusal.Refusal.{Refusal}
 use Rattle.std.proofs.Common.{List, [], ap, arith, inl, inr, refl, subst, sym, ◌≡◌, ◌∙◌, ◌∷◌}
 use Rattle.std.proofs.lemmas.Bool.{leb-false, ltb-false}
 use Rattle.std.proofs.lemmas.Map.Made.{is_some-lookup}
@@ -59,7 +60,7 @@ room_by true true n o e f h = cc
 room_by true false n None e f h = cc
 room_by true false n (Some t) e f h = inr refl
 
-not_committed : (o : Standing) → o.fate ≡ Open → IsCommitted o.fate → ⊥
+not_committed : (o : Known) → o.fate ≡ Open → IsCommitted o.fate → ⊥
 not_committed o e c = subst IsCommitted e c
 
 unread : (x : Bool) → (x ≡ true → ⊥) → x ≡ false
@@ -68,7 +69,7 @@ unread false h = refl
 
 -- ---- what was found
 
-module _ (b : Base) (T : List Item) (s : ℕ) (q : Request) (sd : sound b (entries T)) (once : stands b (entries T) q.tx ≡ None) (accepted : verdict b T s q ≡ None) where
+module _ (b : Base) (T : List Item) (s : ℕ) (q : Request) (sd : sound b (entries T)) (once : known_by b (entries T) q.tx ≡ None) (accepted : verdict b T s q ≡ None) where
   pub found : (v : Session) × WasAccepted b T s q v
   found =
       let H = entries T in
@@ -89,10 +90,10 @@ module _ (b : Base) (T : List Item) (s : ℕ) (q : Request) (sd : sound b (entri
         },
       )
     where
-      read_open : (t : Ts) (o : Standing) → o.fate ≡ Open → Accepts q t o → reads_of q o.request ≡ true → ⊥
+      read_open : (t : Ts) (o : Known) → o.fate ≡ Open → Accepts q t o → reads_of q o.request ≡ true → ⊥
       read_open t o e h r = not_committed o e ((h (lives_open o.fate e)).0 (or_second (is_upgrade q || is_upgrade o.request) (reads_of q o.request) r)).0
 
-      open_unread : (t : Ts) (o : Standing) → stands b (entries T) t ≡ Some o → o.fate ≡ Open → IfSome (stands b (entries T) t) (Accepts q t) → reads_of q o.request ≡ true → ⊥
+      open_unread : (t : Ts) (o : Known) → known_by b (entries T) t ≡ Some o → o.fate ≡ Open → IfSome (known_by b (entries T) t) (Accepts q t) → reads_of q o.request ≡ true → ⊥
       open_unread t o is e h r = read_open t o e (MatchOption-at_some ⊤ (Accepts q t) o is h) r
 
 -- ---- copies

@@ -1,11 +1,11 @@
 -- A copy that was right at a place is right or in the invalid set, and stays so while others act.
 use Rattle.commit_log.specs.declared.entry.Entry.{Entry}
 use Rattle.commit_log.specs.declared.request.Request.{Request}
-use Rattle.session_outbox.proofs.Below.{commits-take}
-use Rattle.session_outbox.proofs.Commits.{made_by_commits}
+use Rattle.local_history.proofs.Below.{commits-take}
+use Rattle.local_history.proofs.Commits.{made_by_commits}
 use Rattle.session_outbox.specs.Current.{InStep, IsCurrent, IsRightOrStale, OthersSince, RightAt}
-use Rattle.session_outbox.specs.History.{Base, commits, last_write, objects_at, state, writers}
-use Rattle.session_outbox.specs.Requests.{has_written, written}
+use Rattle.local_history.specs.History.{Base, commits, last_write, objects_at, state, writers}
+use Rattle.local_history.specs.Requests.{has_written, written}
 use Rattle.session_outbox.specs.Session.{Session, invalid, invalid_in, last_other, session_lives, upto_of}
 use Rattle.std.proofs.Common.{Bool, List, [], ap, arith, cond, false, inl, inr, length, refl, subst, sym, take, true, ℕ, ◌≡◌, ◌≤◌, ◌∙◌, ◌∷◌}
 use Rattle.std.proofs.lemmas.Bool.Decides.{nat_tests}

@@ -3,24 +3,24 @@ use Rattle.commit_log.specs.declared.entry.Entry.{Entry}
 use Rattle.commit_log.specs.declared.request.Kind.TheVariants.{App, Transform, Upgrade as Upgrading}
 use Rattle.commit_log.specs.declared.request.Kind.{Kind}
 use Rattle.commit_log.specs.declared.request.Request.{Request}
-use Rattle.session_outbox.proofs.Commits.{made}
+use Rattle.local_history.proofs.Commits.{made}
 use Rattle.session_outbox.proofs.Exactness.{by_each_item, came-end, move-began}
-use Rattle.session_outbox.proofs.Growth.{length-state, state-end}
-use Rattle.session_outbox.proofs.LastWrite.{commit_shape}
-use Rattle.session_outbox.proofs.Listed.{end_cases}
-use Rattle.session_outbox.proofs.Places.{sound_take}
+use Rattle.local_history.proofs.Growth.{length-state, state-end}
+use Rattle.local_history.proofs.LastWrite.{commit_shape}
+use Rattle.local_history.proofs.Listed.{end_cases}
+use Rattle.local_history.proofs.Places.{sound_take}
 use Rattle.session_outbox.proofs.Sessions.{at-most-last, keeps-order}
 use Rattle.session_outbox.proofs.Taken.{after-mark}
 use Rattle.session_outbox.proofs.Traces.{entries-append}
-use Rattle.session_outbox.proofs.Vouched.{keeps}
+use Rattle.local_history.proofs.Vouched.{keeps}
 use Rattle.session_outbox.specs.Epochs.{BringsOldVersions, TellsEpochs, epoch_after, epoch_told, first_epoch}
-use Rattle.session_outbox.specs.History.{Base, State, epoch_of, put, state}
-use Rattle.session_outbox.specs.Laws.{with_texts}
+use Rattle.local_history.specs.History.{Base, State, epoch_of, put, state}
+use Rattle.local_history.specs.Laws.{with_texts}
 use Rattle.session_outbox.specs.Messages.{KeepsOrder}
-use Rattle.session_outbox.specs.Opening.{IsBase}
-use Rattle.session_outbox.specs.Requests.{is_upgrade, is_upgrade_kind, text_of, written}
+use Rattle.local_history.specs.Opening.{IsBase}
+use Rattle.local_history.specs.Requests.{is_upgrade, is_upgrade_kind, text_of, written}
 use Rattle.session_outbox.specs.Session.{Ended, Grant, Invalid, Notice, Page, Session, Upgrade, begun, bound, invalid_of, is_live, is_silent, lives_on, move, moved, notice, or_retired, pass, place_of, push, rested, retired, session, session_lives, told, told_of}
-use Rattle.session_outbox.specs.Sound.{sound}
+use Rattle.local_history.specs.Sound.{sound}
 use Rattle.session_outbox.specs.Trace.{E, Item, M, entries}
 use Rattle.session_outbox.specs.declared.mark.Mark.TheVariants as the
 use Rattle.std.proofs.Common.{Bool, List, [], ap, arith, cond, false, inl, inr, length, refl, subst, suc, sym, take, true, zero, ℕ, ◌+◌, ◌++◌, ◌<◌, ◌≡◌, ◌≤◌, ◌∙◌, ◌∷◌}

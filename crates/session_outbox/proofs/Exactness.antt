@@ -1,14 +1,14 @@
 -- Exact traces: how they grow, and their sessions.
 use Rattle.commit_log.specs.declared.entry.Entry.TheVariants.{Life}
 use Rattle.commit_log.specs.declared.entry.Entry.{Entry}
-use Rattle.session_outbox.proofs.Growth.{length-state}
-use Rattle.session_outbox.proofs.Listed.{end_cases}
+use Rattle.local_history.proofs.Growth.{length-state}
+use Rattle.local_history.proofs.Listed.{end_cases}
 use Rattle.session_outbox.proofs.Sessions.{session-end}
 use Rattle.session_outbox.proofs.Taken.{after-mark}
 use Rattle.session_outbox.proofs.Traces.{entries-append}
 use Rattle.session_outbox.specs.Calls.{connected_at, granted_at, grants, last_session, next_page, was_granted}
 use Rattle.session_outbox.specs.Exact.{ItemIsExact, exact, exact_from}
-use Rattle.session_outbox.specs.History.{Base, State, state}
+use Rattle.local_history.specs.History.{Base, State, state}
 use Rattle.session_outbox.specs.Session.{Ended, Live, Session, begun, is_live, is_silent, lives_on, meet, move, moved, or_retired, rested, retired, session, session_lives}
 use Rattle.session_outbox.specs.Sessions.{SessionsAreNumbered}
 use Rattle.session_outbox.specs.Trace.{E, Item, M, entries}

@@ -3,19 +3,19 @@ use Rattle.commit_log.specs.declared.entry.Entry.{Entry}
 use Rattle.commit_log.specs.declared.request.Kind.TheVariants.{App, Transform, Upgrade}
 use Rattle.commit_log.specs.declared.request.Kind.{Kind}
 use Rattle.commit_log.specs.declared.request.Request.{Request}
-use Rattle.session_outbox.proofs.Below.{commits-take}
-use Rattle.session_outbox.proofs.Commits.{made_by_commits}
-use Rattle.session_outbox.proofs.Decided.{shifted}
-use Rattle.session_outbox.proofs.Listed.{some_and, stand}
-use Rattle.session_outbox.proofs.Places.{FateFits}
-use Rattle.session_outbox.proofs.Prefixes.{fits, judged}
-use Rattle.session_outbox.proofs.Serial.{upgrades_fence}
-use Rattle.session_outbox.proofs.Settling.{same-ts}
+use Rattle.local_history.proofs.Below.{commits-take}
+use Rattle.local_history.proofs.Commits.{made_by_commits}
+use Rattle.local_history.proofs.Decided.{shifted}
+use Rattle.local_history.proofs.Listed.{some_and, stand}
+use Rattle.local_history.proofs.Places.{FateFits}
+use Rattle.local_history.proofs.Prefixes.{fits, judged}
+use Rattle.local_history.proofs.Serial.{upgrades_fence}
+use Rattle.local_history.proofs.Settling.{same-ts}
 use Rattle.session_outbox.specs.Epochs.{FencesCount}
-use Rattle.session_outbox.specs.History.{Base, Committed, CommittedBelow, Lives, Standing, commits, epoch_of, stands, state}
-use Rattle.session_outbox.specs.Laws.{BesideUpgrade, with_texts}
-use Rattle.session_outbox.specs.Requests.{is_upgrade, is_upgrade_kind, text_of}
-use Rattle.session_outbox.specs.Sound.{sound}
+use Rattle.local_history.specs.History.{Base, Committed, CommittedBelow, Lives, Known, commits, epoch_of, known_by, state}
+use Rattle.local_history.specs.Laws.{BesideUpgrade, with_texts}
+use Rattle.local_history.specs.Requests.{is_upgrade, is_upgrade_kind, text_of}
+use Rattle.local_history.specs.Sound.{sound}
 use Rattle.std.proofs.Common.{Bool, List, [], ap, arith, cond, false, inl, inr, length, refl, subst, sym, take, true, ℕ, ◌+◌, ◌++◌, ◌<◌, ◌≡◌, ◌≢◌, ◌≤◌, ◌∙◌, ◌∷◌}
 use Rattle.std.proofs.lemmas.Bool.{lt-ltb, ltb-true}
 use Rattle.std.proofs.lemmas.List.{length-append}
@@ -86,7 +86,7 @@ module _ (b : Base) where
   now : (H : List Entry) → epoch_of (state b H) ≡ length b.texts + length (filter (λ c. is_upgrade c.1) (commits b H))
   now H = ap length (made_by_commits b H).texts ∙ counted b.texts (commits b H)
 
-  below : (H : List Entry) → sound b H → (t : Ts) (o : Standing) → stands b H t ≡ Some o → o.request.epoch ≡ length b.texts + length (filter (λ c. is_upgrade c.1 && nat_lt c.0 o.place) (commits b H))
+  below : (H : List Entry) → sound b H → (t : Ts) (o : Known) → known_by b H t ≡ Some o → o.request.epoch ≡ length b.texts + length (filter (λ c. is_upgrade c.1 && nat_lt c.0 o.place) (commits b H))
   below H sd t o is =
       let low : o.place < length H = (fits b H sd t o is).below in
       let le : o.place ≤ length H = omega arith in
@@ -95,18 +95,18 @@ module _ (b : Base) where
       ∙ ap (λ cs. length b.texts + length cs) (filter_both (λ c. is_upgrade c.1) (λ c. nat_lt c.0 o.place) (commits b H))
 
   -- an upgrade's commit is below the place of t exactly where it is before t
-  alike : (H : List Entry) → sound b H → (t : Ts) (o : Standing) → stands b H t ≡ Some o → Lives o.fate → (c : ℕ × Request) → Contains (commits b H) c → (is_upgrade c.1 && nat_lt c.0 o.place) ≡ (is_upgrade c.1 && is_before c.1.tx t)
+  alike : (H : List Entry) → sound b H → (t : Ts) (o : Known) → known_by b H t ≡ Some o → Lives o.fate → (c : ℕ × Request) → Contains (commits b H) c → (is_upgrade c.1 && nat_lt c.0 o.place) ≡ (is_upgrade c.1 && is_before c.1.tx t)
   alike H sd t o is lives c i = by (is_upgrade c.1) refl
     where
-      s : (w : Standing) × (stands b H c.1.tx ≡ Some w) × ((w.request ≡ c.1) × (w.fate ≡ Committed c.0))
-      s = some_and (stands b H c.1.tx) (λ w. (w.request ≡ c.1) × (w.fate ≡ Committed c.0)) (stand b H sd c i)
+      s : (w : Known) × (known_by b H c.1.tx ≡ Some w) × ((w.request ≡ c.1) × (w.fate ≡ Committed c.0))
+      s = some_and (known_by b H c.1.tx) (λ w. (w.request ≡ c.1) × (w.fate ≡ Committed c.0)) (stand b H sd c i)
 
       itself : c.1.tx ≡ t → nat_lt c.0 o.place ≡ is_before c.1.tx t
       itself e =
-          let one : s.0 ≡ o = same_Some s.0 o (sym s.1 ∙ subst (λ u. stands b H u ≡ Some o) (sym e) is) in
+          let one : s.0 ≡ o = same_Some s.0 o (sym s.1 ∙ subst (λ u. known_by b H u ≡ Some o) (sym e) is) in
           let f = subst (λ g. FateFits s.0.place (length H) g) s.2.1 (fits b H sd c.1.tx s.0 s.1).fate in
           let le : s.0.place ≤ c.0 = f.0 in
-          let at : s.0.place ≡ o.place = ap (λ (w : Standing). w.place) one in
+          let at : s.0.place ≡ o.place = ap (λ (w : Known). w.place) one in
           tests_alike (nat_lt c.0 o.place) (is_before c.1.tx t)
           (λ l. absurd (let k = ltb-true c.0 o.place l in omega arith))
           (λ l. absurd (not_before_itself t (subst (λ u. Before u t) e (before_less (ts_cmp c.1.tx t) l))))

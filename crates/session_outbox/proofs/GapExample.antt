@@ -1,13 +1,13 @@
 -- The example of growth by others: all that the law asks.
 use Rattle.commit_log.specs.declared.request.Request.{Request}
-use Rattle.session_outbox.proofs.Decided.{decides_sound}
+use Rattle.local_history.proofs.Decided.{decides_sound}
 use Rattle.session_outbox.specs.Current.{IsCurrent, OthersSince, RightAt}
 use Rattle.session_outbox.specs.Exact.{exact}
 use Rattle.session_outbox.specs.ExactExamples.{copy_of_x, fetched, nothing_committed, since_fetched}
-use Rattle.session_outbox.specs.Examples.{box, home, reading_x, setting_x, x}
+use Rattle.local_history.specs.Examples.{box, home, reading_x, setting_x, x}
 use Rattle.session_outbox.specs.Gaps.{AreCurrent, GrowsByOthers}
-use Rattle.session_outbox.specs.History.{writers}
-use Rattle.session_outbox.specs.Requests.{has_written, written}
+use Rattle.local_history.specs.History.{writers}
+use Rattle.local_history.specs.Requests.{has_written, written}
 use Rattle.session_outbox.specs.Session.{session}
 use Rattle.session_outbox.specs.Trace.{entries}
 use Rattle.std.proofs.Common.{rules, Bool, [], arith, cond, false, inl, refl, subst, sym, true, ℕ, ◌++◌, ◌≡◌, ◌≤◌, ◌∷◌}

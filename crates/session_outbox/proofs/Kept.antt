@@ -1,13 +1,13 @@
 -- What a client knows and has of its session stays while it takes no message, and so do its copies.
 use Rattle.commit_log.specs.declared.entry.Entry.{Entry}
 use Rattle.commit_log.specs.declared.request.Request.{Request}
-use Rattle.session_outbox.proofs.Growth.{objects_at-append}
-use Rattle.session_outbox.proofs.Listed.{commits-end}
+use Rattle.local_history.proofs.Growth.{objects_at-append}
+use Rattle.local_history.proofs.Listed.{commits-end}
 use Rattle.session_outbox.proofs.Sessions.{session-end}
 use Rattle.session_outbox.proofs.Traces.{entries-append}
 use Rattle.session_outbox.specs.Current.{InStep, OthersSince, OthersWrite, RightAt, commits_in, is_taking}
-use Rattle.session_outbox.specs.History.{Base, State, commit_of, commits, state, writers}
-use Rattle.session_outbox.specs.Requests.{has_written}
+use Rattle.local_history.specs.History.{Base, State, commit_of, commits, state, writers}
+use Rattle.local_history.specs.Requests.{has_written}
 use Rattle.session_outbox.specs.Session.{Notice, Session, acked_after, begun, bound, cache, is_silent, meet, move, moved, notice, or_retired, pages_after, push, rested, retired, session, session_lives, taken_after, upto_of}
 use Rattle.session_outbox.specs.Trace.{E, Item, M, entries}
 use Rattle.session_outbox.specs.declared.mark.Mark.TheVariants as the

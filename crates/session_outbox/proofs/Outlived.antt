@@ -3,22 +3,22 @@ use Rattle.commit_log.specs.declared.entry.Entry.TheVariants.{Decided, Finished,
 use Rattle.commit_log.specs.declared.entry.Entry.{Entry}
 use Rattle.commit_log.specs.declared.request.Request.{Request}
 use Rattle.session_outbox.proofs.Exactness.{exact-beginning, exact-owed, known, move-began, move-lives}
-use Rattle.session_outbox.proofs.Growth.{sound-beginning}
+use Rattle.local_history.proofs.Growth.{sound-beginning}
 use Rattle.session_outbox.proofs.Kept.{Later, meet-moves, move-later, step-kept}
-use Rattle.session_outbox.proofs.Places.{stays}
-use Rattle.session_outbox.proofs.Serial.{lives_back}
+use Rattle.local_history.proofs.Places.{stays}
+use Rattle.local_history.proofs.Serial.{lives_back}
 use Rattle.session_outbox.proofs.Sessions.{session-end}
 use Rattle.session_outbox.proofs.Traces.{entries-append}
 use Rattle.session_outbox.proofs.Undecided.{current-grown, pages-grown}
 use Rattle.session_outbox.specs.Calls.{last_session}
-use Rattle.session_outbox.specs.Current.{InStep, NoneAborted, Passes, commits_in, is_taking}
+use Rattle.session_outbox.specs.Current.{InStep, NoneAborted, PassesItem, commits_in, is_taking}
 use Rattle.session_outbox.specs.Exact.{ItemIsExact, exact}
 use Rattle.session_outbox.specs.Gaps.{AreCurrent, ByOthers, GrowsByOthers, StaysOrEnds, client_in, commits_behind, maker}
-use Rattle.session_outbox.specs.History.{Base, state}
-use Rattle.session_outbox.specs.Laws.{Stays}
-use Rattle.session_outbox.specs.Requests.{has_written, written}
+use Rattle.local_history.specs.History.{Base, state}
+use Rattle.local_history.specs.Laws.{Stays}
+use Rattle.local_history.specs.Requests.{has_written, written}
 use Rattle.session_outbox.specs.Session.{Session, acked_after, meet, move, session, session_lives, upto_of}
-use Rattle.session_outbox.specs.Sound.{sound}
+use Rattle.local_history.specs.Sound.{sound}
 use Rattle.session_outbox.specs.Trace.{E, Item, M, entries}
 use Rattle.session_outbox.specs.declared.mark.Mark.TheVariants as the
 use Rattle.std.proofs.Common.{Bool, List, [], ap, append_assoc, arith, cond, false, inl, inr, max, refl, subst, sym, true, ℕ, ◌++◌, ◌<◌, ◌≡◌, ◌≢◌, ◌≤◌, ◌∙◌, ◌∷◌}
@@ -170,7 +170,7 @@ module _ (b : Base) where
           none-aborted-back (entries U) (entries more) committed (subst (sound b) after owed)
           (subst (λ (H : List Entry). NoneAborted b H committed) after (subst (λ (V : List Item). NoneAborted b (entries V) committed) (sym again) g.none_aborted))
 
-      passes : Passes b T i s v w
+      passes : PassesItem b T i s v w
       passes = record { before = g.before; live = g.live; quiet = still; after = here }
 
       later : Later v w

@@ -1,17 +1,17 @@
 -- What a transaction wrote is right behind its commit, also for the session that wrote it.
 use Rattle.commit_log.specs.declared.entry.Entry.{Entry}
 use Rattle.commit_log.specs.declared.request.Request.{Request}
-use Rattle.session_outbox.proofs.Commits.{get-overwrite, objects-put}
-use Rattle.session_outbox.proofs.Growth.{state-end}
+use Rattle.local_history.proofs.Commits.{get-overwrite, objects-put}
+use Rattle.local_history.proofs.Growth.{state-end}
 use Rattle.session_outbox.proofs.Kept.{Later, move-later, next, some-and}
 use Rattle.session_outbox.proofs.Sessions.{keeps-order, taken-below}
 use Rattle.session_outbox.proofs.Told.{writers-below}
 use Rattle.session_outbox.proofs.Traces.{entries-append}
 use Rattle.session_outbox.specs.Current.{InStep, OthersSince, RightAt}
-use Rattle.session_outbox.specs.History.{Base, State, commit_of, objects_at, state, writers}
-use Rattle.session_outbox.specs.Laws.{with_writes}
+use Rattle.local_history.specs.History.{Base, State, commit_of, objects_at, state, writers}
+use Rattle.local_history.specs.Laws.{with_writes}
 use Rattle.session_outbox.specs.Messages.{KeepsOrder}
-use Rattle.session_outbox.specs.Requests.{written}
+use Rattle.local_history.specs.Requests.{written}
 use Rattle.session_outbox.specs.Session.{Session, move, session, upto_of}
 use Rattle.session_outbox.specs.Trace.{E, Item, entries}
 use Rattle.std.proofs.Common.{List, [], ap, arith, length, refl, subst, sym, take, ℕ, ◌+◌, ◌++◌, ◌<◌, ◌≡◌, ◌≤◌, ◌∙◌, ◌∷◌}

@@ -1,7 +1,7 @@
 -- The example of an own write: current while it is undecided here, and right behind its commit.
 use Rattle.session_outbox.specs.Current.{IsCurrent, OthersSince, RightAt}
-use Rattle.session_outbox.specs.Examples.{at, away, box, far}
-use Rattle.session_outbox.specs.History.{writers}
+use Rattle.local_history.specs.Examples.{at, away, box, far}
+use Rattle.local_history.specs.History.{writers}
 use Rattle.session_outbox.specs.Session.{session}
 use Rattle.session_outbox.specs.SessionExamples.{committed_there, own_finished, own_prepared}
 use Rattle.session_outbox.specs.Trace.{entries}

@@ -1,9 +1,9 @@
 -- Sessions grow by one step of their fold, and what they are sent comes in the order of its places.
 use Rattle.commit_log.specs.declared.request.Request.{Request}
-use Rattle.session_outbox.proofs.Growth.{length-state}
-use Rattle.session_outbox.specs.History.{Base, State, commit_of, epoch_of, put, start, state}
+use Rattle.local_history.proofs.Growth.{length-state}
+use Rattle.local_history.specs.History.{Base, State, commit_of, epoch_of, put, start, state}
 use Rattle.session_outbox.specs.Messages.{InOrder, KeepsOrder, WaitsByPlace}
-use Rattle.session_outbox.specs.Requests.{is_upgrade, written}
+use Rattle.local_history.specs.Requests.{is_upgrade, written}
 use Rattle.session_outbox.specs.Session.{Grant, Invalid, Notice, Page, Session, Upgrade, begun, bound, invalid_of, is_silent, meet, move, moved, notice, or_retired, pass, place_of, push, rested, retired, session, session_from, session_lives, told, told_of, upto_of}
 use Rattle.session_outbox.specs.Trace.{E, Item, M, entries}
 use Rattle.session_outbox.specs.declared.mark.Mark.TheVariants as the
@@ -18,10 +18,10 @@ use Rattle.thor_value.specs.declared.names.Oref.{Oref}
 -- ---- one more item
 
 -- the state behind some items
-abbrev passed : Base → State → List Item → State
+abbrev pub passed : Base → State → List Item → State
 passed b S is = fold (pass b) S is
 
-passed-entries : (b : Base) (S : State) (is : List Item) → passed b S is ≡ fold (put b) S (entries is)
+pub passed-entries : (b : Base) (S : State) (is : List Item) → passed b S is ≡ fold (put b) S (entries is)
 passed-entries b S [] = refl
 passed-entries b S (E e ∷ is) = passed-entries b (put b S e) is
 passed-entries b S (M m ∷ is) = passed-entries b S is

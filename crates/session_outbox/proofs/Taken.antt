@@ -1,21 +1,21 @@
 -- What a client's copies are behind a message that it takes.
 use Rattle.commit_log.specs.declared.entry.Entry.{Entry}
 use Rattle.commit_log.specs.declared.request.Request.{Request}
-use Rattle.session_outbox.proofs.Commits.{made_by_commits}
+use Rattle.local_history.proofs.Commits.{made_by_commits}
 use Rattle.session_outbox.proofs.Copies.{writers-take}
-use Rattle.session_outbox.proofs.Growth.{length-state}
+use Rattle.local_history.proofs.Growth.{length-state}
 use Rattle.session_outbox.proofs.Kept.{Extends, pages-extend}
 use Rattle.session_outbox.proofs.Sessions.{at-most-last, bound-at, keeps-order, session-end, waits-by-place}
 use Rattle.session_outbox.proofs.Told.{Begins, Went, all-both, all-told, at_end, came, pages-old, went}
-use Rattle.session_outbox.proofs.Vouched.{plain}
+use Rattle.local_history.proofs.Vouched.{plain}
 use Rattle.session_outbox.proofs.Traces.{entries-append}
-use Rattle.session_outbox.specs.Current.{InStep, IsTold, OthersSince, RightAt, Takes, Tells, names_invalid}
-use Rattle.session_outbox.specs.History.{Base, State, commit_of, epoch_of, last_write, objects_at, state, writers}
+use Rattle.session_outbox.specs.Current.{InStep, IsTold, OthersSince, RightAt, Takes, WasToldOf, names_invalid}
+use Rattle.local_history.specs.History.{Base, State, commit_of, epoch_of, last_write, objects_at, state, writers}
 use Rattle.session_outbox.specs.Messages.{InOrder, KeepsOrder, WaitsByPlace}
-use Rattle.session_outbox.specs.Laws.{NoUpgrades}
-use Rattle.session_outbox.specs.Requests.{is_upgrade, written}
+use Rattle.local_history.specs.Laws.{NoUpgrades}
+use Rattle.local_history.specs.Requests.{is_upgrade, written}
 use Rattle.session_outbox.specs.Session.{Grant, Invalid, Live, Notice, Page, Retired, Session, Stage, Upgrade, bound, cache, invalid_of, is_silent, meet, move, moved, notice, or_retired, pages_after, place_of, push, rested, retired, session, session_lives, told_of, upto_of}
-use Rattle.session_outbox.specs.Sound.{sound}
+use Rattle.local_history.specs.Sound.{sound}
 use Rattle.session_outbox.specs.Trace.{E, Item, M, entries}
 use Rattle.session_outbox.specs.declared.mark.Mark.TheVariants as the
 use Rattle.session_outbox.specs.declared.mark.Mark.{Mark}
@@ -141,7 +141,7 @@ module _ (b : Base) where
       → NoUpgrades (writers b (entries T) x) → RightAt b (entries T) s v x o n → All (λ c. n ≤ c.0 → bound m ≤ c.0) (writers b (entries T) x)
   none-between T s v w m x o n is live k h at unnamed plain r =
       let page = some-page (get v.pages x.page) n r.cached in
-      all-both (λ c. (n ≤ c.0 → nat_eq c.1.session s ≡ false) × (is_upgrade c.1 ≡ false)) (Tells s v x) (λ c. n ≤ c.0 → bound m ≤ c.0) (writers b (entries T) x)
+      all-both (λ c. (n ≤ c.0 → nat_eq c.1.session s ≡ false) × (is_upgrade c.1 ≡ false)) (WasToldOf s v x) (λ c. n ≤ c.0 → bound m ≤ c.0) (writers b (entries T) x)
       (λ c p t l. not-between v w m x n c.0 k h r.unknown l at unnamed (t page.0 page.1 (le-trans page.0 n c.0 page.2 l) (p.0 l) p.1))
       (all-both (λ c. n ≤ c.0 → nat_eq c.1.session s ≡ false) (λ c. is_upgrade c.1 ≡ false) (λ c. (n ≤ c.0 → nat_eq c.1.session s ≡ false) × (is_upgrade c.1 ≡ false)) (writers b (entries T) x) (λ c p q. (p, q)) r.others plain)
       (all-told b s T v is live x)

@@ -2,19 +2,19 @@
 use Rattle.commit_log.specs.declared.entry.Entry.TheVariants.{Decided, Finished, Life, One, Prepared, Upgraded}
 use Rattle.commit_log.specs.declared.entry.Entry.{Entry}
 use Rattle.commit_log.specs.declared.request.Request.{Request}
-use Rattle.session_outbox.proofs.Commits.{made}
-use Rattle.session_outbox.proofs.Covered.{found_first, held, window-end}
-use Rattle.session_outbox.proofs.Growth.{by_growth, sound-end, state-end}
-use Rattle.session_outbox.proofs.LastWrite.{commit_here, commit_shape}
-use Rattle.session_outbox.proofs.Listed.{is_some_and, some_and}
-use Rattle.session_outbox.proofs.Places.{placed, stays}
-use Rattle.session_outbox.specs.Covers.{Agrees}
+use Rattle.local_history.proofs.Commits.{made}
+use Rattle.validation_window.proofs.Covered.{found_first, held, window-end}
+use Rattle.local_history.proofs.Growth.{by_growth, sound-end, state-end}
+use Rattle.local_history.proofs.LastWrite.{commit_here, commit_shape}
+use Rattle.local_history.proofs.Listed.{is_some_and, some_and}
+use Rattle.local_history.proofs.Places.{placed, stays}
+use Rattle.validation_window.specs.Covers.{MemberFits}
 use Rattle.session_outbox.specs.Epochs.{IsOfCommit, ThresholdsCommit}
-use Rattle.session_outbox.specs.History.{Aborted, Base, Committed, Fate, IsCommitted, Open, Standing, State, commit_by, commit_of, is_open, standing, stands, state}
-use Rattle.session_outbox.specs.Laws.{FateStays, Stays, with_stamps}
-use Rattle.session_outbox.specs.Requests.{is_upgrade}
-use Rattle.session_outbox.specs.Sound.{sound}
-use Rattle.session_outbox.specs.Window.{Window, cleared, close, close_by, first_decided, slide, window, with_room, without}
+use Rattle.local_history.specs.History.{Aborted, Base, Committed, Fate, IsCommitted, Open, Known, State, commit_by, commit_of, is_open, known_in, known_by, state}
+use Rattle.local_history.specs.Laws.{FateStays, Stays, with_stamps}
+use Rattle.local_history.specs.Requests.{is_upgrade}
+use Rattle.local_history.specs.Sound.{sound}
+use Rattle.validation_window.specs.Window.{Window, cleared, close, close_by, first_decided, slide, window, with_room, without}
 use Rattle.std.proofs.Common.{Bool, List, [], ap, cond, false, inl, inr, refl, subst, sym, true, ◌++◌, ◌≡◌, ◌∙◌, ◌∷◌}
 use Rattle.std.proofs.lemmas.Cmp.{eq_by_cmp_equiv}
 use Rattle.std.proofs.lemmas.Map.Keys.{IsDistinct-from_sorted}
@@ -51,17 +51,17 @@ module _ (b : Base) where
   still : (H : List Entry) (e : Entry) → sound b (H ++ e ∷ []) → (t : Ts) → IsOfCommit b H t → IsOfCommit b (H ++ e ∷ []) t
   still H e sd t (inl base) = inl base
   still H e sd t (inr h) =
-      let y = some_and (stands b H t) (λ o. IsCommitted o.fate) h in
+      let y = some_and (known_by b H t) (λ o. IsCommitted o.fate) h in
       let z = stays b H (e ∷ []) sd t y.0 y.1 in
       let st : Stays y.0 z.0 = z.2 in
-      inr (is_some_and (stands b (H ++ e ∷ []) t) (λ o. IsCommitted o.fate) z.0 z.1 (committed_stays y.0.fate z.0.fate y.2 st.fate))
+      inr (is_some_and (known_by b (H ++ e ∷ []) t) (λ o. IsCommitted o.fate) z.0 z.1 (committed_stays y.0.fate z.0.fate y.2 st.fate))
 
   -- a transaction that the entry commits
   new : (H : List Entry) (e : Entry) (q : Request) → sound b H → commit_of b (state b H) e ≡ ((state b H).length, q) ∷ [] → IsOfCommit b (H ++ e ∷ []) q.tx
   new H e q sd is =
       let h = commit_here b (state b H) e q (placed b H sd) is in
-      let there : stands b (H ++ e ∷ []) q.tx ≡ Some h.0 = subst (λ (S : State). standing b S q.tx ≡ Some h.0) (sym (state-end b H e)) h.1 in
-      inr (is_some_and (stands b (H ++ e ∷ []) q.tx) (λ o. IsCommitted o.fate) h.0 there (subst IsCommitted (sym h.3) tt))
+      let there : known_by b (H ++ e ∷ []) q.tx ≡ Some h.0 = subst (λ (S : State). known_in b S q.tx ≡ Some h.0) (sym (state-end b H e)) h.1 in
+      inr (is_some_and (known_by b (H ++ e ∷ []) q.tx) (λ o. IsCommitted o.fate) h.0 there (subst IsCommitted (sym h.3) tt))
 
   top-step : (H : List Entry) (e : Entry) → sound b H → sound b (H ++ e ∷ []) → IsOfCommit b H (state b H).top → IsOfCommit b (H ++ e ∷ []) (state b (H ++ e ∷ [])).top
   top-step H e sd sd' ih =
@@ -76,7 +76,7 @@ module _ (b : Base) where
 
   -- ---- the window
 
-  decided_committed : (d : Bool) (f : Fate) → d ≡ true → Agrees d f → IsCommitted f
+  decided_committed : (d : Bool) (f : Fate) → d ≡ true → MemberFits d f → IsCommitted f
   decided_committed true Open e a = absurd a
   decided_committed true (Committed at) e a = tt
   decided_committed true Aborted e a = absurd a
@@ -90,7 +90,7 @@ module _ (b : Base) where
       let f = found_first W.members.pairs u e in
       let here : get W.members u ≡ Some f.0 = lookup-from_Contains (eq_by_cmp_equiv ts_total) u f.0 W.members.pairs (IsDistinct-from_sorted ts_cmp (keys_of W.members.pairs) h.sorted) f.1 in
       let s = h.members u f.0 here in
-      inr (is_some_and (stands b H u) (λ o. IsCommitted o.fate) s.0 s.1 (decided_committed f.0.decided s.0.fate f.2 s.3))
+      inr (is_some_and (known_by b H u) (λ o. IsCommitted o.fate) s.0 s.1 (decided_committed f.0.decided s.0.fate f.2 s.3))
 
   roomed : (H : List Entry) → sound b H → IsOfCommit b H (window b H).threshold → IsOfCommit b H (with_room (window b H)).threshold
   roomed H sd ih = by (nat_le room_for (len (window b H).members))
@@ -104,7 +104,7 @@ module _ (b : Base) where
       by false = ih
 
   -- what an entry settles
-  closed : (H : List Entry) (e : Entry) (t : Ts) (c : Bool) (o : Standing) → sound b H → sound b (H ++ e ∷ []) → stands b H t ≡ Some o
+  closed : (H : List Entry) (e : Entry) (t : Ts) (c : Bool) (o : Known) → sound b H → sound b (H ++ e ∷ []) → known_by b H t ≡ Some o
       → commit_of b (state b H) e ≡ commit_by (state b H) c (Some o) → IsOfCommit b H (window b H).threshold
       → IsOfCommit b (H ++ e ∷ []) (close_by (window b H) t c o o.fate).threshold
   closed H e t c o sd sd' is commit ih = by o.fate refl c refl
@@ -128,7 +128,7 @@ module _ (b : Base) where
       by Aborted k d m = old
 
   close_step : (H : List Entry) (e : Entry) (t : Ts) (c : Bool) → sound b H → sound b (H ++ e ∷ []) → IsOfCommit b H (window b H).threshold
-      → (o : Option Standing) → stands b H t ≡ o → commit_of b (state b H) e ≡ commit_by (state b H) c o
+      → (o : Option Known) → known_by b H t ≡ o → commit_of b (state b H) e ≡ commit_by (state b H) c o
       → IsOfCommit b (H ++ e ∷ []) (close (window b H) t c o).threshold
   close_step H e t c sd sd' ih None is commit = still H e sd' (window b H).threshold ih
   close_step H e t c sd sd' ih (Some o) is commit = closed H e t c o sd sd' is commit ih
@@ -137,8 +137,8 @@ module _ (b : Base) where
   slides H (Life n) sd sd' ih = still H (Life n) sd' (state b H).top (top H sd)
   slides H (One q) sd sd' ih = still H (One q) sd' (with_room (window b H)).threshold (roomed H sd ih)
   slides H (Prepared q) sd sd' ih = still H (Prepared q) sd' (with_room (window b H)).threshold (roomed H sd ih)
-  slides H (Decided t c) sd sd' ih = close_step H (Decided t c) t c sd sd' ih (stands b H t) refl refl
-  slides H (Finished t c) sd sd' ih = close_step H (Finished t c) t c sd sd' ih (stands b H t) refl refl
+  slides H (Decided t c) sd sd' ih = close_step H (Decided t c) t c sd sd' ih (known_by b H t) refl refl
+  slides H (Finished t c) sd sd' ih = close_step H (Finished t c) t c sd sd' ih (known_by b H t) refl refl
   slides H (Upgraded q) sd sd' ih = new H (Upgraded q) q sd refl
 
   threshold : (H : List Entry) → sound b H → IsOfCommit b H (window b H).threshold

@@ -1,16 +1,16 @@
 -- A live session was told of each commit of an object on one of its pages by another session.
 use Rattle.commit_log.specs.declared.entry.Entry.{Entry}
 use Rattle.commit_log.specs.declared.request.Request.{Request}
-use Rattle.session_outbox.proofs.Below.{within}
-use Rattle.session_outbox.proofs.Growth.{length-state}
+use Rattle.local_history.proofs.Below.{within}
+use Rattle.local_history.proofs.Growth.{length-state}
 use Rattle.session_outbox.proofs.Kept.{writers-end}
-use Rattle.session_outbox.proofs.LastWrite.{commit_shape}
-use Rattle.session_outbox.proofs.Listed.{get_end}
+use Rattle.local_history.proofs.LastWrite.{commit_shape}
+use Rattle.local_history.proofs.Listed.{get_end}
 use Rattle.session_outbox.proofs.Sessions.{session-end}
 use Rattle.session_outbox.proofs.Traces.{entries-append}
-use Rattle.session_outbox.specs.Current.{IsTold, Tells}
-use Rattle.session_outbox.specs.History.{Base, State, commit_of, commits, epoch_of, start, state, writers}
-use Rattle.session_outbox.specs.Requests.{has_written, is_upgrade, written}
+use Rattle.session_outbox.specs.Current.{IsTold, WasToldOf}
+use Rattle.local_history.specs.History.{Base, State, commit_of, commits, epoch_of, start, state, writers}
+use Rattle.local_history.specs.Requests.{has_written, is_upgrade, written}
 use Rattle.session_outbox.specs.Session.{Ended, Invalid, Notice, Session, Upgrade, begun, cache, invalid_of, is_live, is_silent, lives_on, meet, move, moved, notice, or_retired, pages_after, push, rested, retired, session, session_lives, told, told_of}
 use Rattle.session_outbox.specs.Trace.{E, Item, M, entries}
 use Rattle.session_outbox.specs.declared.mark.Mark.TheVariants as the
@@ -183,7 +183,7 @@ module _ (b : Base) where
       by false l g = let n : false ≡ true = sym (dead (lives_on v.client i) l) ∙ g in cc
 
   -- a commit of before
-  tells-more : (s : ℕ) (S : State) (i : Item) (v w : Session) (x : Oref) (c : ℕ × Request) → Went s S i v w → c.0 < S.length → Tells s v x c → Tells s w x c
+  tells-more : (s : ℕ) (S : State) (i : Item) (v w : Session) (x : Oref) (c : ℕ × Request) → Went s S i v w → c.0 < S.length → WasToldOf s v x c → WasToldOf s w x c
   tells-more s S i v w x c g l h p is le other plain =
       let told : IsTold v.sent x c.0 = elim (pages-old s S v.pages i x.page p (ap (λ (m : Map nat_cmp ℕ). get m x.page) (sym g.1) ∙ is)) [
         | inl old ↦ h p old le other plain
@@ -192,24 +192,24 @@ module _ (b : Base) where
       subst (λ (ms : List Notice). IsTold ms x c.0) (sym g.2) (told-more v.sent (notice b s S v.pages i) x c.0 told)
 
   -- the commit that is the item
-  tells-now : (s : ℕ) (S : State) (e : Entry) (v w : Session) (x : Oref) (q : Request) → Went s S (E e) v w → commit_of b S e ≡ (S.length, q) ∷ [] → has_written q x ≡ true → Tells s w x (S.length, q)
+  tells-now : (s : ℕ) (S : State) (e : Entry) (v w : Session) (x : Oref) (q : Request) → Went s S (E e) v w → commit_of b S e ≡ (S.length, q) ∷ [] → has_written q x ≡ true → WasToldOf s w x (S.length, q)
   tells-now s S e v w x q g is wrote p page le other plain =
       let there : get v.pages x.page ≡ Some p = ap (λ (m : Map nat_cmp ℕ). get m x.page) (sym g.1) ∙ page in
       let sent : w.sent ≡ push v.sent (told s S v.pages q) = g.2 ∙ ap (λ (cs : List (ℕ × Request)). push v.sent (told_of s S v.pages cs)) is in
       subst (λ (ms : List Notice). IsTold ms x S.length) (sym sent) (told-now s S v.pages v.sent x q p there other plain wrote)
 
-  all-now : (s : ℕ) (S : State) (e : Entry) (v w : Session) (x : Oref) → Went s S (E e) v w → All (Tells s w x) (filter (λ c. has_written c.1 x) (commit_of b S e))
+  all-now : (s : ℕ) (S : State) (e : Entry) (v w : Session) (x : Oref) → Went s S (E e) v w → All (WasToldOf s w x) (filter (λ c. has_written c.1 x) (commit_of b S e))
   all-now s S e v w x g = elim (commit_shape b S e) [
-    | inl none ↦ subst (λ (cs : List (ℕ × Request)). All (Tells s w x) (filter (λ c. has_written c.1 x) cs)) (sym none) (All-nil (Tells s w x))
-    | inr one ↦ subst (λ (cs : List (ℕ × Request)). All (Tells s w x) (filter (λ c. has_written c.1 x) cs)) (sym one.1) (by one.0 one.1 (has_written one.0 x) refl)
+    | inl none ↦ subst (λ (cs : List (ℕ × Request)). All (WasToldOf s w x) (filter (λ c. has_written c.1 x) cs)) (sym none) (All-nil (WasToldOf s w x))
+    | inr one ↦ subst (λ (cs : List (ℕ × Request)). All (WasToldOf s w x) (filter (λ c. has_written c.1 x) cs)) (sym one.1) (by one.0 one.1 (has_written one.0 x) refl)
   ]
     where
-      by : (q : Request) → commit_of b S e ≡ (S.length, q) ∷ [] → (t : Bool) → has_written q x ≡ t → All (Tells s w x) (cond t ((S.length, q) ∷ []) [])
-      by q is true wrote = All-cons (Tells s w x) (S.length, q) [] (tells-now s S e v w x q g is wrote) (All-nil (Tells s w x))
-      by q is false wrote = All-nil (Tells s w x)
+      by : (q : Request) → commit_of b S e ≡ (S.length, q) ∷ [] → (t : Bool) → has_written q x ≡ t → All (WasToldOf s w x) (cond t ((S.length, q) ∷ []) [])
+      by q is true wrote = All-cons (WasToldOf s w x) (S.length, q) [] (tells-now s S e v w x q g is wrote) (All-nil (WasToldOf s w x))
+      by q is false wrote = All-nil (WasToldOf s w x)
 
-  old-told : (s : ℕ) (S : State) (i : Item) (v w : Session) (x : Oref) (cs : List (ℕ × Request)) (n : ℕ) → n ≡ S.length → Went s S i v w → All (λ c. c.0 < n) cs → All (Tells s v x) cs → All (Tells s w x) cs
-  old-told s S i v w x cs n same g below h = all-both (λ c. c.0 < n) (Tells s v x) (Tells s w x) cs (λ c l t. tells-more s S i v w x c g (subst (λ (k : ℕ). c.0 < k) same l) t) below h
+  old-told : (s : ℕ) (S : State) (i : Item) (v w : Session) (x : Oref) (cs : List (ℕ × Request)) (n : ℕ) → n ≡ S.length → Went s S i v w → All (λ c. c.0 < n) cs → All (WasToldOf s v x) cs → All (WasToldOf s w x) cs
+  old-told s S i v w x cs n same g below h = all-both (λ c. c.0 < n) (WasToldOf s v x) (WasToldOf s w x) cs (λ c l t. tells-more s S i v w x c g (subst (λ (k : ℕ). c.0 < k) same l) t) below h
 
   -- what holds at the beginning, and behind one more item where it held before
   pub at_end : (P : List Item → Type 0) → P [] → ((T : List Item) (i : Item) → P T → P (T ++ i ∷ [])) → (T : List Item) → P T
@@ -220,30 +220,30 @@ module _ (b : Base) where
       go done (i ∷ rest) h = subst P (append_assoc done (i ∷ []) rest) (go (done ++ i ∷ []) rest (step done i h))
 
   abbrev AllTold : ℕ → List Item → Type 0
-  AllTold s T = (v : Session) → session b T s ≡ Some v → session_lives v ≡ true → (x : Oref) → All (Tells s v x) (writers b (entries T) x)
+  AllTold s T = (v : Session) → session b T s ≡ Some v → session_lives v ≡ true → (x : Oref) → All (WasToldOf s v x) (writers b (entries T) x)
 
   -- none is told of a page that isn't there
-  no-page : (s : ℕ) (w : Session) (x : Oref) (cs : List (ℕ × Request)) → w.pages ≡ empty → All (Tells s w x) cs
-  no-page s w x [] h = All-nil (Tells s w x)
-  no-page s w x (c ∷ cs) h = All-cons (Tells s w x) c cs (λ p is le other plain. let e : None ≡ Some p = sym (ap (λ (m : Map nat_cmp ℕ). get m x.page) h) ∙ is in cc) (no-page s w x cs h)
+  no-page : (s : ℕ) (w : Session) (x : Oref) (cs : List (ℕ × Request)) → w.pages ≡ empty → All (WasToldOf s w x) cs
+  no-page s w x [] h = All-nil (WasToldOf s w x)
+  no-page s w x (c ∷ cs) h = All-cons (WasToldOf s w x) c cs (λ p is le other plain. let e : None ≡ Some p = sym (ap (λ (m : Map nat_cmp ℕ). get m x.page) h) ∙ is in cc) (no-page s w x cs h)
 
-  behind : (s : ℕ) (T : List Item) (i : Item) (v w : Session) → session b T s ≡ Some v → AllTold s T → Went s (state b (entries T)) i v w → (x : Oref) → All (Tells s w x) (writers b (entries (T ++ i ∷ [])) x)
+  behind : (s : ℕ) (T : List Item) (i : Item) (v w : Session) → session b T s ≡ Some v → AllTold s T → Went s (state b (entries T)) i v w → (x : Oref) → All (WasToldOf s w x) (writers b (entries (T ++ i ∷ [])) x)
   behind s T (M m) v w is h g x =
       let e : entries (T ++ M m ∷ []) ≡ entries T = entries-append T (M m ∷ []) ∙ append-nil (entries T) in
-      subst (λ (H : List Entry). All (Tells s w x) (writers b H x)) (sym e) (old-told s (state b (entries T)) (M m) v w x (writers b (entries T) x) (length (entries T)) (sym (length-state b (entries T))) g (writers-below (entries T) x) (h v is g.0 x))
+      subst (λ (H : List Entry). All (WasToldOf s w x) (writers b H x)) (sym e) (old-told s (state b (entries T)) (M m) v w x (writers b (entries T) x) (length (entries T)) (sym (length-state b (entries T))) g (writers-below (entries T) x) (h v is g.0 x))
   behind s T (E e) v w is h g x =
       let S : State = state b (entries T) in
-      let old : All (Tells s w x) (writers b (entries T) x) = old-told s S (E e) v w x (writers b (entries T) x) (length (entries T)) (sym (length-state b (entries T))) g (writers-below (entries T) x) (h v is g.0 x) in
-      let both : All (Tells s w x) (writers b (entries T ++ e ∷ []) x) = subst (All (Tells s w x)) (sym (writers-end b (entries T) e x)) (All-append (Tells s w x) (writers b (entries T) x) (filter (λ c. has_written c.1 x) (commit_of b S e)) old (all-now s S e v w x g)) in
-      subst (λ (H : List Entry). All (Tells s w x) (writers b H x)) (sym (entries-append T (E e ∷ []))) both
+      let old : All (WasToldOf s w x) (writers b (entries T) x) = old-told s S (E e) v w x (writers b (entries T) x) (length (entries T)) (sym (length-state b (entries T))) g (writers-below (entries T) x) (h v is g.0 x) in
+      let both : All (WasToldOf s w x) (writers b (entries T ++ e ∷ []) x) = subst (All (WasToldOf s w x)) (sym (writers-end b (entries T) e x)) (All-append (WasToldOf s w x) (writers b (entries T) x) (filter (λ c. has_written c.1 x) (commit_of b S e)) old (all-now s S e v w x g)) in
+      subst (λ (H : List Entry). All (WasToldOf s w x) (writers b H x)) (sym (entries-append T (E e ∷ []))) both
 
   -- a live session was told of each commit
   pub all-told : (s : ℕ) (T : List Item) → AllTold s T
   all-told s = at_end (AllTold s) (λ v is l x. cc) (λ T i h w is l x. by T i h w l x (came s (state b (entries T)) (session b T s) i w (sym (session-end b T i s) ∙ is)))
     where
-      by : (T : List Item) (i : Item) → AllTold s T → (w : Session) → session_lives w ≡ true → (x : Oref) → Begins w ⊎ ((v : Session) × (session b T s ≡ Some v) × (w ≡ move b s (state b (entries T)) i v)) → All (Tells s w x) (writers b (entries (T ++ i ∷ [])) x)
+      by : (T : List Item) (i : Item) → AllTold s T → (w : Session) → session_lives w ≡ true → (x : Oref) → Begins w ⊎ ((v : Session) × (session b T s ≡ Some v) × (w ≡ move b s (state b (entries T)) i v)) → All (WasToldOf s w x) (writers b (entries (T ++ i ∷ [])) x)
       by T i h w l x (inl none) = no-page s w x (writers b (entries (T ++ i ∷ [])) x) none.0
       by T i h w l x (inr y) =
           let v : Session = y.0 in
           let live : session_lives (move b s (state b (entries T)) i v) ≡ true = ap (λ (z : Session). session_lives z) (sym y.2) ∙ l in
-          subst (λ (z : Session). All (Tells s z x) (writers b (entries (T ++ i ∷ [])) x)) (sym y.2) (behind s T i v (move b s (state b (entries T)) i v) y.1 h (went s (state b (entries T)) i v live) x)
+          subst (λ (z : Session). All (WasToldOf s z x) (writers b (entries (T ++ i ∷ [])) x)) (sym y.2) (behind s T i v (move b s (state b (entries T)) i v) y.1 h (went s (state b (entries T)) i v live) x)

@@ -1,6 +1,6 @@
 -- The trace that a history and its marks stand for grows as they do, and has that history.
 use Rattle.commit_log.specs.declared.entry.Entry.{Entry}
-use Rattle.session_outbox.proofs.Listed.{get_before, get_end}
+use Rattle.local_history.proofs.Listed.{get_before, get_end}
 use Rattle.session_outbox.specs.Trace.{E, Item, IsTrace, M, entries, entry_of, item_at, item_of, items, places}
 use Rattle.session_outbox.specs.declared.mark.Mark.TheVariants as the
 use Rattle.session_outbox.specs.declared.mark.Mark.{Mark}

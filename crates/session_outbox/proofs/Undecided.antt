@@ -1,21 +1,21 @@
 -- A write of a session's own stays current while its transaction is undecided, and behind its commit.
 use Rattle.commit_log.specs.declared.entry.Entry.{Entry}
 use Rattle.commit_log.specs.declared.request.Request.{Request}
-use Rattle.session_outbox.proofs.Growth.{length-state, owed-end, sound-beginning, state-end}
+use Rattle.local_history.proofs.Growth.{length-state, owed-end, sound-beginning, state-end}
 use Rattle.session_outbox.proofs.Kept.{Extends, next, pages-extend, right-kept}
-use Rattle.session_outbox.proofs.LastWrite.{commit_shape}
+use Rattle.local_history.proofs.LastWrite.{commit_shape}
 use Rattle.session_outbox.proofs.Own.{own-right}
-use Rattle.session_outbox.proofs.Places.{goes, placed}
-use Rattle.session_outbox.proofs.Settling.{stands-still}
-use Rattle.session_outbox.proofs.Steps.{FateMoves, Kept}
+use Rattle.local_history.proofs.Places.{goes, placed}
+use Rattle.local_history.proofs.Settling.{stands-still}
+use Rattle.local_history.proofs.Steps.{FateMoves, Kept}
 use Rattle.session_outbox.proofs.Taken.{after-mark, keeps-pages, page-taken, right-taken, took}
 use Rattle.session_outbox.proofs.Traces.{entries-append}
-use Rattle.session_outbox.specs.Current.{InStep, IsCurrent, IsOwnWrite, NoneAborted, OthersOrSame, OthersSince, OthersWrite, Passes, RightAt, Takes, commits_in, names_invalid}
-use Rattle.session_outbox.specs.History.{Aborted, Base, Committed, Fate, IsCommitted, Lives, Open, Standing, State, commit_of, objects_at, put, standing, stands, state, writers}
-use Rattle.session_outbox.specs.Outcomes.{MaySettle}
-use Rattle.session_outbox.specs.Requests.{has_written, written}
+use Rattle.session_outbox.specs.Current.{InStep, IsCurrent, IsOwnWrite, NoneAborted, OthersOrSame, OthersSince, OthersWrite, PassesItem, RightAt, Takes, commits_in, names_invalid}
+use Rattle.local_history.specs.History.{Aborted, Base, Committed, Fate, IsCommitted, Lives, Open, Known, State, commit_of, objects_at, put, known_in, known_by, state, writers}
+use Rattle.local_history.specs.Outcomes.{MaySettle}
+use Rattle.local_history.specs.Requests.{has_written, written}
 use Rattle.session_outbox.specs.Session.{Notice, Page, Session, is_silent, move, moved, or_retired, rested, retired, session, session_lives}
-use Rattle.session_outbox.specs.Sound.{sound}
+use Rattle.local_history.specs.Sound.{sound}
 use Rattle.session_outbox.specs.Trace.{E, Item, M, entries}
 use Rattle.session_outbox.specs.declared.mark.Mark.TheVariants as the
 use Rattle.session_outbox.specs.declared.mark.Mark.{Mark}
@@ -34,8 +34,8 @@ module _ (b : Base) where
   after-entry : (T : List Item) (e : Entry) → entries (T ++ E e ∷ []) ≡ entries T ++ e ∷ []
   after-entry T e = entries-append T (E e ∷ [])
 
-  stands-end : (T : List Item) (e : Entry) (t : Ts) → stands b (entries (T ++ E e ∷ [])) t ≡ standing b (put b (state b (entries T)) e) t
-  stands-end T e t = ap (λ (H : List Entry). stands b H t) (after-entry T e) ∙ ap (λ (S : State). standing b S t) (state-end b (entries T) e)
+  stands-end : (T : List Item) (e : Entry) (t : Ts) → known_by b (entries (T ++ E e ∷ [])) t ≡ known_in b (put b (state b (entries T)) e) t
+  stands-end T e t = ap (λ (H : List Entry). known_by b H t) (after-entry T e) ∙ ap (λ (S : State). known_in b S t) (state-end b (entries T) e)
 
   sound-there : (T : List Item) (e : Entry) → sound b (entries (T ++ E e ∷ [])) → sound b (entries T ++ e ∷ [])
   sound-there T e sd = subst (sound b) (after-entry T e) sd
@@ -43,18 +43,18 @@ module _ (b : Base) where
   -- ---- own writes
 
   -- an own write where its transaction stands as it did
-  same-own : (H G : List Entry) (s : ℕ) (committed : Ts → Bool) (x : Oref) (o : Obj) (t : Ts) (p : Standing) → stands b G t ≡ Some p → IsOwnWrite b H s committed x o t p → IsOwnWrite b G s committed x o t p
+  same-own : (H G : List Entry) (s : ℕ) (committed : Ts → Bool) (x : Oref) (o : Obj) (t : Ts) (p : Known) → known_by b G t ≡ Some p → IsOwnWrite b H s committed x o t p → IsOwnWrite b G s committed x o t p
   same-own H G s committed x o t p is h = record { there = is; open' = h.open'; own = h.own; wrote = h.wrote; settled = h.settled }
 
-  pub mark-keeps : (T : List Item) (k : Mark) (s : ℕ) (committed : Ts → Bool) (x : Oref) (o : Obj) (t : Ts) (p : Standing) → IsOwnWrite b (entries T) s committed x o t p → IsOwnWrite b (entries (T ++ M k ∷ [])) s committed x o t p
+  pub mark-keeps : (T : List Item) (k : Mark) (s : ℕ) (committed : Ts → Bool) (x : Oref) (o : Obj) (t : Ts) (p : Known) → IsOwnWrite b (entries T) s committed x o t p → IsOwnWrite b (entries (T ++ M k ∷ [])) s committed x o t p
   mark-keeps T k s committed x o t p h = subst (λ (H : List Entry). IsOwnWrite b H s committed x o t p) (sym (after-mark b T k)) h
 
-  pub entry-keeps : (T : List Item) (e : Entry) (s : ℕ) (committed : Ts → Bool) (x : Oref) (o : Obj) (t : Ts) (p : Standing) → sound b (entries (T ++ E e ∷ [])) → ¬ MaySettle b t e → IsOwnWrite b (entries T) s committed x o t p → IsOwnWrite b (entries (T ++ E e ∷ [])) s committed x o t p
+  pub entry-keeps : (T : List Item) (e : Entry) (s : ℕ) (committed : Ts → Bool) (x : Oref) (o : Obj) (t : Ts) (p : Known) → sound b (entries (T ++ E e ∷ [])) → ¬ MaySettle b t e → IsOwnWrite b (entries T) s committed x o t p → IsOwnWrite b (entries (T ++ E e ∷ [])) s committed x o t p
   entry-keeps T e s committed x o t p sd n h = same-own (entries T) (entries (T ++ E e ∷ [])) s committed x o t p (stands-end T e t ∙ stands-still b (state b (entries T)) e t p (owed-end b (entries T) e (sound-there T e sd)) n h.there) h
 
   -- how a transaction stands behind one more entry
-  goes-end : (T : List Item) (e : Entry) (t : Ts) (p : Standing) → sound b (entries (T ++ E e ∷ [])) → stands b (entries T) t ≡ Some p
-      → (q : Standing) × (stands b (entries (T ++ E e ∷ [])) t ≡ Some q) × Kept (commit_of b (state b (entries T)) e) (length (entries T)) p q
+  goes-end : (T : List Item) (e : Entry) (t : Ts) (p : Known) → sound b (entries (T ++ E e ∷ [])) → known_by b (entries T) t ≡ Some p
+      → (q : Known) × (known_by b (entries (T ++ E e ∷ [])) t ≡ Some q) × Kept (commit_of b (state b (entries T)) e) (length (entries T)) p q
   goes-end T e t p sd is =
       let H : List Entry = entries T in
       let sd' : sound b (H ++ e ∷ []) = sound-there T e sd in
@@ -73,8 +73,8 @@ module _ (b : Base) where
 
   -- ---- a transaction that was undecided, by what becomes of it
 
-  by-fate : (T : List Item) (e : Entry) (s : ℕ) (v w : Session) (committed : Ts → Bool) (x : Oref) (o : Obj) (t : Ts) (p q : Standing) → Passes b T (E e) s v w → InStep v → has v.pages x.page ≡ true
-      → IsOwnWrite b (entries T) s committed x o t p → stands b (entries (T ++ E e ∷ [])) t ≡ Some q → Kept (commit_of b (state b (entries T)) e) (length (entries T)) p q → Lives q.fate
+  by-fate : (T : List Item) (e : Entry) (s : ℕ) (v w : Session) (committed : Ts → Bool) (x : Oref) (o : Obj) (t : Ts) (p q : Known) → PassesItem b T (E e) s v w → InStep v → has v.pages x.page ≡ true
+      → IsOwnWrite b (entries T) s committed x o t p → known_by b (entries (T ++ E e ∷ [])) t ≡ Some q → Kept (commit_of b (state b (entries T)) e) (length (entries T)) p q → Lives q.fate
       → ((q.fate ≡ Open) × IsOwnWrite b (entries (T ++ E e ∷ [])) s committed x o t q) ⊎ RightAt b (entries (T ++ E e ∷ [])) s w x o (length (entries T) + 1)
   by-fate T e s v w committed x o t p q ps step page h is k lives = by p.fate q.fate h.open' refl k.2 lives
     where
@@ -103,13 +103,13 @@ module _ (b : Base) where
   not-open Aborted h e = h
 
   -- behind its commit an own write is right
-  pub own-committed : (T : List Item) (e : Entry) (s : ℕ) (v w : Session) (committed : Ts → Bool) (x : Oref) (o : Obj) (t : Ts) (p q : Standing) → Passes b T (E e) s v w → InStep v → has v.pages x.page ≡ true → sound b (entries (T ++ E e ∷ []))
-      → IsOwnWrite b (entries T) s committed x o t p → stands b (entries (T ++ E e ∷ [])) t ≡ Some q → IsCommitted q.fate → RightAt b (entries (T ++ E e ∷ [])) s w x o (length (entries T) + 1)
+  pub own-committed : (T : List Item) (e : Entry) (s : ℕ) (v w : Session) (committed : Ts → Bool) (x : Oref) (o : Obj) (t : Ts) (p q : Known) → PassesItem b T (E e) s v w → InStep v → has v.pages x.page ≡ true → sound b (entries (T ++ E e ∷ []))
+      → IsOwnWrite b (entries T) s committed x o t p → known_by b (entries (T ++ E e ∷ [])) t ≡ Some q → IsCommitted q.fate → RightAt b (entries (T ++ E e ∷ [])) s w x o (length (entries T) + 1)
   own-committed T e s v w committed x o t p q ps step page sd h is done =
       let y = goes-end T e t p sd h.there in
       let z : Some y.0 ≡ Some q = sym y.1 ∙ is in
       let same : y.0 ≡ q = cc in
-      let k : Kept (commit_of b (state b (entries T)) e) (length (entries T)) p q = subst (λ (r : Standing). Kept (commit_of b (state b (entries T)) e) (length (entries T)) p r) same y.2 in
+      let k : Kept (commit_of b (state b (entries T)) e) (length (entries T)) p q = subst (λ (r : Known). Kept (commit_of b (state b (entries T)) e) (length (entries T)) p r) same y.2 in
       elim (by-fate T e s v w committed x o t p q ps step page h is k (committed-lives q.fate done)) [
         | inl still ↦ absurd (not-open q.fate done still.0)
         | inr right ↦ right
@@ -138,7 +138,7 @@ module _ (b : Base) where
       ]
       by false e = inl (alone (λ g. let f : false ≡ true = sym e ∙ g in cc))
 
-  right-entry : (T : List Item) (e : Entry) (s : ℕ) (v w : Session) (committed : Ts → Bool) (x : Oref) (o : Obj) (m : ℕ) → Passes b T (E e) s v w → InStep v → has v.pages x.page ≡ true
+  right-entry : (T : List Item) (e : Entry) (s : ℕ) (v w : Session) (committed : Ts → Bool) (x : Oref) (o : Obj) (m : ℕ) → PassesItem b T (E e) s v w → InStep v → has v.pages x.page ≡ true
       → OthersOrSame s x o (commit_of b (state b (entries T)) e) → RightAt b (entries T) s v x o m → IsCurrent b (entries (T ++ E e ∷ [])) s w committed x o
   right-entry T e s v w committed x o m ps step page a r = elim (commit_shape b (state b (entries T)) e) [
     | inl none ↦ stays (subst (OthersWrite s x) (sym none) (All-nil (λ c. has_written c.1 x ≡ true → nat_eq c.1.session s ≡ false)))
@@ -153,7 +153,7 @@ module _ (b : Base) where
       stays : OthersWrite s x (commit_of b (state b (entries T)) e) → IsCurrent b (entries (T ++ E e ∷ [])) s w committed x o
       stays others = inl (m, right-kept b T (E e) s v w x o m ps.before ps.after step ps.quiet others r)
 
-  own-entry : (T : List Item) (e : Entry) (s : ℕ) (v w : Session) (committed : Ts → Bool) (x : Oref) (o : Obj) (t : Ts) (p : Standing) → Passes b T (E e) s v w → InStep v → has v.pages x.page ≡ true
+  own-entry : (T : List Item) (e : Entry) (s : ℕ) (v w : Session) (committed : Ts → Bool) (x : Oref) (o : Obj) (t : Ts) (p : Known) → PassesItem b T (E e) s v w → InStep v → has v.pages x.page ≡ true
       → sound b (entries (T ++ E e ∷ [])) → NoneAborted b (entries (T ++ E e ∷ [])) committed → IsOwnWrite b (entries T) s committed x o t p → IsCurrent b (entries (T ++ E e ∷ [])) s w committed x o
   own-entry T e s v w committed x o t p ps step page sd n h =
       let y = goes-end T e t p sd h.there in
@@ -163,7 +163,7 @@ module _ (b : Base) where
       ]
 
   -- a current copy stays so while its client takes no message
-  pub current-grown : (T : List Item) (i : Item) (s : ℕ) (v w : Session) (committed : Ts → Bool) (x : Oref) (o : Obj) → Passes b T i s v w → InStep v → has v.pages x.page ≡ true
+  pub current-grown : (T : List Item) (i : Item) (s : ℕ) (v w : Session) (committed : Ts → Bool) (x : Oref) (o : Obj) → PassesItem b T i s v w → InStep v → has v.pages x.page ≡ true
       → sound b (entries (T ++ i ∷ [])) → NoneAborted b (entries (T ++ i ∷ [])) committed → OthersOrSame s x o (commits_in b (entries T) i)
       → IsCurrent b (entries T) s v committed x o → IsCurrent b (entries (T ++ i ∷ [])) s w committed x o
   current-grown T (E e) s v w committed x o ps step page sd n a (inl r) = right-entry T e s v w committed x o r.0 ps step page a r.1
@@ -201,7 +201,7 @@ module _ (b : Base) where
       by None e g = cc
       by (Some c) e g = ap (λ (o : Option ℕ). is_some o) (f page c e)
 
-  pub pages-grown : (T : List Item) (i : Item) (s : ℕ) (v w : Session) (page : ℕ) → Passes b T i s v w → has v.pages page ≡ true → has w.pages page ≡ true
+  pub pages-grown : (T : List Item) (i : Item) (s : ℕ) (v w : Session) (page : ℕ) → PassesItem b T i s v w → has v.pages page ≡ true → has w.pages page ≡ true
   pages-grown T i s v w page h there =
       let S : State = state b (entries T) in
       subst (λ (z : Session). has z.pages page ≡ true) (sym (next b T i s v w h.before h.quiet h.after)) (still-there v.pages (move b s S i v).pages page (moved-pages s S i v) there)

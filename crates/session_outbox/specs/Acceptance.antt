@@ -1,11 +1,11 @@
 -- What is known of a request that the verdict accepted.
 use Rattle.commit_log.specs.declared.request.Request.{Request}
-use Rattle.session_outbox.specs.History.{Base, Open, Standing, stands}
-use Rattle.session_outbox.specs.Requests.{has_read, reads_of}
+use Rattle.local_history.specs.History.{Base, Open, Known, known_by}
+use Rattle.local_history.specs.Requests.{has_read, reads_of}
 use Rattle.session_outbox.specs.Session.{Session, invalid, session, session_lives}
 use Rattle.session_outbox.specs.Trace.{Item, entries}
-use Rattle.session_outbox.specs.Verdict.{bytes_of}
-use Rattle.session_outbox.specs.Window.{first_decided, window}
+use Rattle.validation_window.specs.Refusals.{bytes_of}
+use Rattle.validation_window.specs.Window.{first_decided, window}
 use Rattle.std.specs.Option.{IfSome, IsSome}
 use Rattle.std.specs.Prelude.{List, Some, false, true, ℕ, ◌<◌, ◌≡◌, ◌≤◌, ◌⊎◌}
 use Rattle.thor_value.specs.FiniteMap.{len}
@@ -20,7 +20,7 @@ pub record WasAccepted (b : Base) (T : List Item) (s : ℕ) (q : Request) (v : S
   -- its client had taken the messages of all that is in the invalid set of what it read
   pub known : (x : Oref) → has_read q x ≡ true → IfSome (invalid b (entries T) s v x) (λ k. k < q.upto)
   -- no undecided transaction wrote what it read
-  pub settled : (t : Ts) (o : Standing) → stands b (entries T) t ≡ Some o → o.fate ≡ Open → reads_of q o.request ≡ false
+  pub settled : (t : Ts) (o : Known) → known_by b (entries T) t ≡ Some o → o.fate ≡ Open → reads_of q o.request ≡ false
   -- the window has room for it, or a member that may leave
   pub room : (len (window b (entries T)).members < room_for) ⊎ IsSome (first_decided (window b (entries T)).members.pairs)
   -- the buffer can hold what it wrote

@@ -1,10 +1,10 @@
 -- What a trace tells to calls: the numbers that are given next, who drew a timestamp, which decisions are
 -- kept, and what a repository answers about a transaction and to a client that connects.
 use Rattle.commit_log.specs.declared.entry.Entry.TheVariants.{Life}
-use Rattle.session_outbox.specs.History.{Base, State, epoch_of, is_undecided, stands, start, state}
+use Rattle.local_history.specs.History.{Base, State, epoch_of, is_undecided, known_by, start, state}
 use Rattle.session_outbox.specs.Session.{pass}
 use Rattle.session_outbox.specs.Trace.{E, Item, M, entries}
-use Rattle.session_outbox.specs.Window.{window}
+use Rattle.validation_window.specs.Window.{window}
 use Rattle.session_outbox.specs.declared.mark.Mark.TheVariants as the
 use Rattle.std.specs.List.{fold, list_any}
 use Rattle.std.specs.Prelude.{Bool, List, None, Option, Some, [], cond, false, length, max, nat_eq, not, ℕ, ◌&&◌, ◌+◌, ◌∷◌, ◌||◌}
@@ -108,7 +108,7 @@ pub data Asked : Type 0 where
 -- What the coordinator of t answers about it: it is undecided in its present life, or its decision to
 -- commit is kept or t is a last single commit, or it is aborted.
 abbrev pub asked : Base → List Item → Ts → Asked
-asked b T t = cond (is_undecided (stands b (entries T) t) && nat_eq t.repo b.repo) Undecided (Settled (is_kept b T t || is_last_alone b T t))
+asked b T t = cond (is_undecided (known_by b (entries T) t) && nat_eq t.repo b.repo) Undecided (Settled (is_kept b T t || is_last_alone b T t))
 
 -- ---- a client that connects
 

@@ -4,8 +4,8 @@
 -- one that each growth of the history and each message keep.)
 use Rattle.commit_log.specs.declared.entry.Entry.{Entry}
 use Rattle.commit_log.specs.declared.request.Request.{Request}
-use Rattle.session_outbox.specs.History.{Base, Lives, Open, Standing, commit_of, objects_at, stands, state, writers}
-use Rattle.session_outbox.specs.Requests.{has_written, is_upgrade, written}
+use Rattle.local_history.specs.History.{Base, Lives, Open, Known, commit_of, objects_at, known_by, state, writers}
+use Rattle.local_history.specs.Requests.{has_written, is_upgrade, written}
 use Rattle.session_outbox.specs.Session.{Grant, Invalid, Notice, Page, Session, Upgrade, invalid, session, session_lives, upto_of}
 use Rattle.session_outbox.specs.Trace.{E, Item, M}
 use Rattle.session_outbox.specs.declared.mark.Mark.TheVariants as the
@@ -43,8 +43,8 @@ pub record RightAt (b : Base) (H : List Entry) (s : ℕ) (v : Session) (x : Oref
 
 -- The copy o of x is a write of the transaction t of the session s, which is undecided here and has
 -- committed at its coordinator.
-pub record IsOwnWrite (b : Base) (H : List Entry) (s : ℕ) (committed : Ts → Bool) (x : Oref) (o : Obj) (t : Ts) (w : Standing) : Type 0 where
-  pub there : stands b H t ≡ Some w
+pub record IsOwnWrite (b : Base) (H : List Entry) (s : ℕ) (committed : Ts → Bool) (x : Oref) (o : Obj) (t : Ts) (w : Known) : Type 0 where
+  pub there : known_by b H t ≡ Some w
   pub open' : w.fate ≡ Open
   pub own : w.request.session ≡ s
   pub wrote : get (written w.request) x ≡ Some o
@@ -52,7 +52,7 @@ pub record IsOwnWrite (b : Base) (H : List Entry) (s : ℕ) (committed : Ts → 
 
 -- a copy that is current: the form that is kept
 abbrev pub IsCurrent : Base → List Entry → ℕ → Session → (Ts → Bool) → Oref → Obj → Type 0
-IsCurrent b H s v committed x o = ((m : ℕ) × RightAt b H s v x o m) ⊎ ((t : Ts) × (w : Standing) × IsOwnWrite b H s committed x o t w)
+IsCurrent b H s v committed x o = ((m : ℕ) × RightAt b H s v x o m) ⊎ ((t : Ts) × (w : Known) × IsOwnWrite b H s committed x o t w)
 
 -- The three cases of a current copy: it is what stands there now, or its object is in the invalid set
 -- at a place that the client doesn't know, or it is a write of the session's own.
@@ -60,7 +60,7 @@ abbrev pub IsRightOrStale : Base → List Entry → ℕ → Session → (Ts → 
 IsRightOrStale b H s v committed x o =
     (get (state b H).objects x ≡ Some o)
     ⊎ (IsSomeAnd (invalid b H s v x) (λ k. upto_of v ≤ k)
-    ⊎ ((t : Ts) × (w : Standing) × IsOwnWrite b H s committed x o t w))
+    ⊎ ((t : Ts) × (w : Known) × IsOwnWrite b H s committed x o t w))
 
 -- whether the session s takes a message at the item, or begins at it
 abbrev pub is_taking : ℕ → Item → Bool
@@ -83,8 +83,8 @@ pub record IsTold (sent : List Notice) (x : Oref) (k : ℕ) : Type 0 where
 
 -- The session s was told of the commit c of x: where the page of x was there, and the commit is another
 -- session's and no upgrade's.
-abbrev pub Tells : ℕ → Session → Oref → ℕ × Request → Type 0
-Tells s v x c = (p : ℕ) → get v.pages x.page ≡ Some p → p ≤ c.0 → nat_eq c.1.session s ≡ false → is_upgrade c.1 ≡ false → IsTold v.sent x c.0
+abbrev pub WasToldOf : ℕ → Session → Oref → ℕ × Request → Type 0
+WasToldOf s v x c = (p : ℕ) → get v.pages x.page ≡ Some p → p ≤ c.0 → nat_eq c.1.session s ≡ false → is_upgrade c.1 ≡ false → IsTold v.sent x c.0
 
 -- the message names x as invalid
 abbrev pub names_invalid : Oref → Notice → Bool
@@ -103,7 +103,7 @@ pub record Takes (b : Base) (T : List Item) (s : ℕ) (v w : Session) (place : �
 -- ---- what growth owes to a current copy
 
 -- The session v, which is live, is w behind the item i, at which its client takes no message.
-pub record Passes (b : Base) (T : List Item) (i : Item) (s : ℕ) (v w : Session) : Type 0 where
+pub record PassesItem (b : Base) (T : List Item) (i : Item) (s : ℕ) (v w : Session) : Type 0 where
   pub before : session b T s ≡ Some v
   pub live : session_lives v ≡ true
   pub quiet : is_taking s i ≡ false
@@ -112,7 +112,7 @@ pub record Passes (b : Base) (T : List Item) (i : Item) (s : ℕ) (v w : Session
 -- No transaction that has committed at its coordinator is aborted here. (That is what two-phase commit
 -- promises.)
 abbrev pub NoneAborted : Base → List Entry → (Ts → Bool) → Type 0
-NoneAborted b H committed = (t : Ts) (w : Standing) → stands b H t ≡ Some w → committed t ≡ true → Lives w.fate
+NoneAborted b H committed = (t : Ts) (w : Known) → known_by b H t ≡ Some w → committed t ≡ true → Lives w.fate
 
 -- each of these commits that wrote x is another session's than s, or it wrote the copy o there
 abbrev pub OthersOrSame : ℕ → Oref → Obj → List (ℕ × Request) → Type 0

@@ -1,10 +1,10 @@
 -- How many upgrades are installed: counted in a history, and told by the messages to a session.
 use Rattle.commit_log.specs.declared.entry.Entry.{Entry}
 use Rattle.commit_log.specs.declared.request.Request.{Request}
-use Rattle.session_outbox.specs.History.{Base, IsCommitted, Lives, Standing, commits, epoch_of, objects_at, stands, state}
-use Rattle.session_outbox.specs.Requests.{is_upgrade}
+use Rattle.local_history.specs.History.{Base, IsCommitted, Lives, Known, commits, epoch_of, objects_at, known_by, state}
+use Rattle.local_history.specs.Requests.{is_upgrade}
 use Rattle.session_outbox.specs.Session.{Grant, Invalid, Notice, Page, Session, Upgrade, place_of, session_lives}
-use Rattle.session_outbox.specs.Window.{window}
+use Rattle.validation_window.specs.Window.{window}
 use Rattle.std.specs.List.{filter, fold, slice_get}
 use Rattle.std.specs.Option.{IsSomeAnd}
 use Rattle.std.specs.Prelude.{List, Some, length, nat_lt, take, true, ℕ, ◌&&◌, ◌+◌, ◌≡◌, ◌≤◌, ◌⊎◌}
@@ -26,8 +26,8 @@ upgrades_before t cs = length (filter (λ c. is_upgrade c.1 && is_before c.1.tx 
 -- those before it by timestamp.
 pub record FencesCount (b : Base) (H : List Entry) : Type 0 where
   pub now : epoch_of (state b H) ≡ length b.texts + length (filter (λ c. is_upgrade c.1) (commits b H))
-  pub below : (t : Ts) (o : Standing) → stands b H t ≡ Some o → o.request.epoch ≡ length b.texts + upgrades_below o.place (commits b H)
-  pub before : (t : Ts) (o : Standing) → stands b H t ≡ Some o → Lives o.fate → o.request.epoch ≡ length b.texts + upgrades_before t (commits b H)
+  pub below : (t : Ts) (o : Known) → known_by b H t ≡ Some o → o.request.epoch ≡ length b.texts + upgrades_below o.place (commits b H)
+  pub before : (t : Ts) (o : Known) → known_by b H t ≡ Some o → Lives o.fate → o.request.epoch ≡ length b.texts + upgrades_before t (commits b H)
 
 -- the epoch behind one more message
 abbrev pub epoch_after : ℕ → Notice → ℕ
@@ -59,7 +59,7 @@ BringsOldVersions b H v =
 
 -- t is the base's greatest timestamp, or that of a transaction that committed
 abbrev pub IsOfCommit : Base → List Entry → Ts → Type 0
-IsOfCommit b H t = (t ≡ b.top) ⊎ IsSomeAnd (stands b H t) (λ o. IsCommitted o.fate)
+IsOfCommit b H t = (t ≡ b.top) ⊎ IsSomeAnd (known_by b H t) (λ o. IsCommitted o.fate)
 
 -- The threshold of the window, and the greatest timestamp that committed, are such ones.
 pub record ThresholdsCommit (b : Base) (H : List Entry) : Type 0 where

@@ -5,15 +5,15 @@ use Rattle.commit_log.specs.declared.entry.Entry.TheVariants.{Decided, Finished,
 use Rattle.commit_log.specs.declared.entry.Entry.{Entry}
 use Rattle.commit_log.specs.declared.request.Request.{Request}
 use Rattle.session_outbox.specs.Calls.{drawn_time, last_drawn, last_session, next_page, was_granted}
-use Rattle.session_outbox.specs.History.{Base, stands, state}
-use Rattle.session_outbox.specs.Requests.{has_created, has_written}
+use Rattle.local_history.specs.History.{Base, known_by, state}
+use Rattle.local_history.specs.Requests.{has_created, has_written}
 use Rattle.session_outbox.specs.Session.{Session, place_of, session, session_ended, session_lives}
 use Rattle.session_outbox.specs.Trace.{E, Item, M, entries}
 use Rattle.session_outbox.specs.Verdict.{verdict}
 use Rattle.session_outbox.specs.declared.mark.Mark.TheVariants as the
 use Rattle.session_outbox.specs.declared.mark.Mark.{Mark}
-use Rattle.session_outbox.specs.declared.refusal.Refusal.TheVariants as refused
-use Rattle.session_outbox.specs.declared.refusal.Refusal.{Refusal}
+use Rattle.validation_window.specs.declared.refusal.Refusal.TheVariants as refused
+use Rattle.validation_window.specs.declared.refusal.Refusal.{Refusal}
 use Rattle.std.specs.List.{slice_get}
 use Rattle.std.specs.Option.{IsSomeAnd}
 use Rattle.std.specs.Prelude.{IsTrue, List, None, Option, Some, [], false, length, true, ℕ, ◌++◌, ◌<◌, ◌^◌, ◌∷◌, ◌≡◌, ◌≤◌}
@@ -59,7 +59,7 @@ abbrev pub EntryIsExact : Base → List Item → Entry → Type 0
 EntryIsExact b T (Life n) = Unit {0}
 EntryIsExact b T (One q) = ComesFromSession b T q
 EntryIsExact b T (Prepared q) = ComesFromSession b T q
-EntryIsExact b T (Decided t c) = IsSomeAnd (stands b (entries T) t) (λ o. IsSomeAnd (session b T o.request.session) (λ v. session_ended v ≡ false))
+EntryIsExact b T (Decided t c) = IsSomeAnd (known_by b (entries T) t) (λ o. IsSomeAnd (session b T o.request.session) (λ v. session_ended v ≡ false))
 EntryIsExact b T (Finished t c) = Unit {0}
 EntryIsExact b T (Upgraded q) = ComesFromSession b T q
 
@@ -79,9 +79,9 @@ CallIsRefused b T s (refused.Stopped r) = ⊥
 CallIsRefused b T s (refused.Damaged r k) = ⊥
 CallIsRefused b T s refused.NoMemory = ⊥
 
--- a request is refused by the verdict, and a draw or a grant by its rule
+-- a request of the session is refused by the verdict, and a draw or a grant by its rule
 abbrev pub RefusalIsExact : Base → List Item → ℕ → Option Request → Refusal → Type 0
-RefusalIsExact b T s (Some q) r = verdict b T s q ≡ Some r
+RefusalIsExact b T s (Some q) r = (q.session ≡ s) × (verdict b T s q ≡ Some r)
 RefusalIsExact b T s None r = CallIsRefused b T s r
 
 -- What a mark owes to the trace before it.

@@ -1,12 +1,12 @@
 -- Small traces on which the exactness of items is computed.
 use Rattle.commit_log.specs.declared.entry.Entry.TheVariants.{Decided, Life}
 use Rattle.commit_log.specs.declared.request.Request.{Request}
-use Rattle.session_outbox.specs.Examples.{at, box, create_z, prepare_x, reading_x, set_x, x}
+use Rattle.local_history.specs.Examples.{at, box, create_z, prepare_x, reading_x, set_x, x}
 use Rattle.session_outbox.specs.SessionExamples.{written_since}
 use Rattle.session_outbox.specs.Trace.{E, Item, M}
 use Rattle.session_outbox.specs.VerdictExamples.{second_reads}
 use Rattle.session_outbox.specs.declared.mark.Mark.TheVariants as the
-use Rattle.session_outbox.specs.declared.refusal.Refusal.TheVariants as refused
+use Rattle.validation_window.specs.declared.refusal.Refusal.TheVariants as refused
 use Rattle.std.specs.Prelude.{Bool, List, Some, [], drop, false, take, true, ◌++◌, ◌∷◌}
 use Rattle.thor_value.specs.FiniteMap.{Map, empty, insert}
 use Rattle.thor_value.specs.Names.{oref_cmp}

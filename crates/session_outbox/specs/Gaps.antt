@@ -3,9 +3,9 @@ use Rattle.commit_log.specs.declared.entry.Entry.TheVariants.{Decided, Finished,
 use Rattle.commit_log.specs.declared.request.Request.{Request}
 use Rattle.session_outbox.specs.Current.{InStep, IsCurrent, NoneAborted, OthersOrSame, commits_in}
 use Rattle.session_outbox.specs.Exact.{exact}
-use Rattle.session_outbox.specs.History.{Base, stands}
+use Rattle.local_history.specs.History.{Base, known_by}
 use Rattle.session_outbox.specs.Session.{Session, session, session_lives, upto_of}
-use Rattle.session_outbox.specs.Sound.{sound}
+use Rattle.local_history.specs.Sound.{sound}
 use Rattle.session_outbox.specs.Trace.{E, Item, M, entries}
 use Rattle.session_outbox.specs.declared.mark.Mark.TheVariants as the
 use Rattle.std.specs.Option.{option_and_then, option_map}
@@ -25,7 +25,7 @@ abbrev pub maker : Base → List Item → Item → Option ℕ
 maker b T (E (Life n)) = None
 maker b T (E (One q)) = client_in b T q.session
 maker b T (E (Prepared q)) = client_in b T q.session
-maker b T (E (Decided t c)) = option_and_then (λ o. client_in b T o.request.session) (stands b (entries T) t)
+maker b T (E (Decided t c)) = option_and_then (λ o. client_in b T o.request.session) (known_by b (entries T) t)
 maker b T (E (Finished t c)) = None
 maker b T (E (Upgraded q)) = client_in b T q.session
 maker b T (M (the.Entry place)) = None

@@ -6,8 +6,8 @@
 use Rattle.commit_log.specs.declared.entry.Entry.TheVariants.{Decided, Finished, Life, One, Prepared, Upgraded}
 use Rattle.commit_log.specs.declared.entry.Entry.{Entry}
 use Rattle.commit_log.specs.declared.request.Request.{Request}
-use Rattle.session_outbox.specs.History.{Base, State, commit_of, epoch_of, is_life, put, start, writers}
-use Rattle.session_outbox.specs.Requests.{is_upgrade, written}
+use Rattle.local_history.specs.History.{Base, State, commit_of, epoch_of, is_life, put, start, writers}
+use Rattle.local_history.specs.Requests.{is_upgrade, written}
 use Rattle.session_outbox.specs.Trace.{E, Item, M}
 use Rattle.session_outbox.specs.declared.mark.Mark.TheVariants as the
 use Rattle.std.specs.List.{filter, fold}

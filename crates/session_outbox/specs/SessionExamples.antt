@@ -1,11 +1,12 @@
 -- A small trace with two sessions, on which the definitions of sessions are computed. The transactions
 -- are of the first session; the second one reads.
 use Rattle.commit_log.specs.declared.entry.Entry.TheVariants.{Finished, Life}
-use Rattle.session_outbox.specs.Examples.{at, home, prepare_far, read_x, set_x, x}
-use Rattle.session_outbox.specs.History.{Base}
+use Rattle.local_history.specs.Examples.{at, home, prepare_far, read_x, set_x, x}
+use Rattle.local_history.specs.History.{Base}
 use Rattle.session_outbox.specs.Session.{Notice, Stage, invalid, session, upto_of, waiting}
 use Rattle.session_outbox.specs.Trace.{E, Item, M, entries}
 use Rattle.session_outbox.specs.declared.mark.Mark.TheVariants as the
+use Rattle.session_outbox.specs.declared.mark.Mark.{Mark}
 use Rattle.std.specs.Option.{option_and_then, option_map}
 use Rattle.std.specs.Prelude.{Bool, List, Option, Some, [], false, true, ℕ, ◌++◌, ◌∷◌}
 use Rattle.thor_value.specs.Names.{same_ts}
@@ -66,3 +67,8 @@ own_finished = own_prepared ++ E (Finished (at 1) true) ∷ []
 -- or it is aborted here, as no sound commit over several repositories lets it be
 abbrev pub own_aborted : List Item
 own_aborted = own_prepared ++ E (Finished (at 1) false) ∷ []
+
+-- ---- the marks beside a history
+
+abbrev pub kept_marks : List Mark
+kept_marks = the.Entry 0 ∷ the.Connected 1 1 ∷ the.Fetched 1 0 1 ∷ the.Entry 1 ∷ the.Took 1 1 ∷ the.Entry 2 ∷ the.Entry 3 ∷ []

@@ -1,12 +1,19 @@
--- What is proved of the sessions of a trace, as one statement.
+-- What is proved of the sessions of a trace, and of what is answered about transactions.
 use Rattle.commit_log.specs.declared.entry.Entry.TheVariants.{Life}
-use Rattle.session_outbox.specs.Calls.{last_session}
-use Rattle.session_outbox.specs.History.{Base}
+use Rattle.session_outbox.specs.Calls.{Settled, Undecided, asked, is_kept, last_session, next_page}
+use Rattle.local_history.specs.History.{Base, IsCommitted, Known, is_undecided, known_by, state}
+use Rattle.local_history.specs.Requests.{has_written}
 use Rattle.session_outbox.specs.Session.{Session, session, session_lives}
 use Rattle.session_outbox.specs.Trace.{Item, M, entries}
 use Rattle.session_outbox.specs.declared.mark.Mark.TheVariants as the
-use Rattle.std.specs.List.{slice_get}
-use Rattle.std.specs.Prelude.{List, None, Some, length, true, ℕ, ◌<◌, ◌≡◌, ◌≤◌}
+use Rattle.std.specs.List.{list_any, slice_get}
+use Rattle.std.specs.Option.{IsSomeAnd}
+use Rattle.std.specs.Prelude.{IsTrue, List, None, Some, false, length, true, ℕ, ◌<◌, ◌↔◌, ◌≡◌, ◌≤◌, ◌⊎◌}
+use Rattle.thor_value.specs.FiniteMap.{get, values}
+use Rattle.thor_value.specs.Names.{same_ts}
+use Rattle.thor_value.specs.declared.names.Oref.{Oref}
+use Rattle.thor_value.specs.declared.names.Ts.{Ts}
+use Rattle.thor_value.specs.declared.values.Obj.{Obj}
 
 -- The sessions of a trace.
 pub record SessionsAreNumbered (b : Base) (T : List Item) : Type 0 where
@@ -19,3 +26,18 @@ pub record SessionsAreNumbered (b : Base) (T : List Item) : Type 0 where
   pub began : (s : ℕ) (v : Session) → session b T s ≡ Some v → (0 < v.began) × (v.began ≤ length (entries T))
   -- no Life came since one began that is live
   pub lives : (s : ℕ) (v : Session) (m n : ℕ) → session b T s ≡ Some v → session_lives v ≡ true → slice_get (entries T) m ≡ Some (Life n) → m < v.began
+
+-- What a coordinator answers about a transaction t agrees with its history.
+pub record AnswersAgree (b : Base) (T : List Item) (t : Ts) : Type 0 where
+  -- undecided exactly where it is so, and this repository coordinates it
+  pub undecided : (asked b T t ≡ Undecided) ↔ ((is_undecided (known_by b (entries T) t) ≡ true) × (t.repo ≡ b.repo))
+  -- committed only where it is so, or was the base's last single commit of a client
+  pub committed : asked b T t ≡ Settled true → IsSomeAnd (known_by b (entries T) t) (λ o. IsCommitted o.fate) ⊎ IsTrue (list_any (same_ts t) (values b.alone))
+  -- aborted never where it committed here and its decision is kept
+  pub aborted : asked b T t ≡ Settled false → is_kept b T t ≡ false
+
+-- The pages of what a trace comes to were granted: they are below the next page.
+pub record PagesAreGranted (b : Base) (T : List Item) : Type 0 where
+  pub objects : (x : Oref) (o : Obj) → get (state b (entries T)).objects x ≡ Some o → x.page < next_page b T
+  -- also those of what an undecided transaction wrote
+  pub written : (t : Ts) (o : Known) (x : Oref) → known_by b (entries T) t ≡ Some o → has_written o.request x ≡ true → x.page < next_page b T

@@ -1,13 +1,13 @@
 -- Small traces and requests on which the verdict is computed. The transactions in the traces are the
 -- first session's, and the requests are the second one's.
 use Rattle.commit_log.specs.declared.request.Request.{Request}
-use Rattle.session_outbox.specs.Examples.{at, home, prepare_x, reading_x, setting_x}
-use Rattle.session_outbox.specs.History.{Base}
+use Rattle.local_history.specs.Examples.{at, home, prepare_x, reading_x, setting_x}
+use Rattle.local_history.specs.History.{Base}
 use Rattle.session_outbox.specs.SessionExamples.{acknowledged, written_since}
 use Rattle.session_outbox.specs.Trace.{E, Item}
 use Rattle.session_outbox.specs.Verdict.{verdict}
-use Rattle.session_outbox.specs.Window.{Member, Window}
-use Rattle.session_outbox.specs.declared.refusal.Refusal.{Refusal}
+use Rattle.validation_window.specs.Window.{Member, Window}
+use Rattle.validation_window.specs.declared.refusal.Refusal.{Refusal}
 use Rattle.std.specs.List.{range_with_len}
 use Rattle.std.specs.Prelude.{Bool, List, Option, [], false, map, ℕ, ◌+◌, ◌++◌, ◌∷◌}
 use Rattle.thor_value.specs.Names.{zero_ts}

@@ -1,14 +1,15 @@
 //! The verdict, computed on small traces (`specs/VerdictExamples.antt`).
 
 ghost use Rattle.commit_log.specs.declared.entry.Entry.TheVariants.{One};
-ghost use Rattle.session_outbox.specs.Checking.{is_sound};
-ghost use Rattle.session_outbox.specs.Examples.{at, home, reading_x, x};
+ghost use Rattle.local_history.specs.Checking.{is_sound};
+ghost use Rattle.local_history.specs.Examples.{at, home, reading_x, x};
 ghost use Rattle.session_outbox.specs.SessionExamples.{acknowledged, connected_anew, invalid_taken, restarted, written_since};
 ghost use Rattle.session_outbox.specs.Trace.{entries};
-ghost use Rattle.session_outbox.specs.Verdict.{bytes_of, full_of_undecided, verdict};
+ghost use Rattle.validation_window.specs.Refusals.{bytes_of, full_of_undecided};
+ghost use Rattle.session_outbox.specs.Verdict.{verdict};
 ghost use Rattle.session_outbox.specs.VerdictExamples.{advanced, answer_in, crowd, crowd_at, later_then, second_reads, second_sets, undecided_since, undecided_then, with_limit};
-ghost use Rattle.session_outbox.specs.Window.{enter, with_room};
-ghost use Rattle.session_outbox.specs.declared.refusal.Refusal.TheVariants as refused;
+ghost use Rattle.validation_window.specs.Window.{enter, with_room};
+ghost use Rattle.validation_window.specs.declared.refusal.Refusal.TheVariants as refused;
 ghost use Rattle.thor_value.specs.FiniteMap.{get, len};
 ghost use Rattle.thor_value.specs.Names.{zero_ts};
 ghost use Rattle.std.specs.Prelude.{◌≡◌, [], ◌∷◌, ◌++◌, None, Some, false, take, true};

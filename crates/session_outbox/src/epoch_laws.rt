@@ -2,10 +2,10 @@
 
 ghost use Rattle.commit_log.specs.declared.entry.Entry.{Entry};
 ghost use Rattle.session_outbox.specs.Epochs.{BringsOldVersions, FencesCount, TellsEpochs, ThresholdsCommit};
-ghost use Rattle.session_outbox.specs.History.{Base};
-ghost use Rattle.session_outbox.specs.Opening.{IsBase};
+ghost use Rattle.local_history.specs.History.{Base};
+ghost use Rattle.local_history.specs.Opening.{IsBase};
 ghost use Rattle.session_outbox.specs.Session.{session};
-ghost use Rattle.session_outbox.specs.Sound.{sound};
+ghost use Rattle.local_history.specs.Sound.{sound};
 ghost use Rattle.session_outbox.specs.Trace.{Item, entries};
 ghost use Rattle.std.specs.Option.{IfSome};
 ghost use Rattle.std.specs.Prelude.{List, ℕ};

@@ -1,7 +1,7 @@
 //! What is proved of the growth of a trace by others.
 
 ghost use Rattle.session_outbox.specs.Gaps.{GrowsByOthers, StaysOrEnds};
-ghost use Rattle.session_outbox.specs.History.{Base};
+ghost use Rattle.local_history.specs.History.{Base};
 ghost use Rattle.session_outbox.specs.Session.{Session, session};
 ghost use Rattle.session_outbox.specs.Trace.{Item};
 ghost use Rattle.std.specs.Prelude.{Bool, List, Some, ◌++◌, ℕ, ◌≡◌};

@@ -3,18 +3,18 @@
 ghost use Rattle.session_outbox.specs.Calls.{Settled, Undecided, asked, drawer, is_kept, last_drawn, next_page, next_session, welcome};
 ghost use Rattle.session_outbox.specs.Exact.{ComesFromSession, ItemIsExact, exact};
 ghost use Rattle.session_outbox.specs.ExactExamples.{borrowed, copy_of_x, creating, deciding, fetched, forgetting, nothing_committed, opened, refusing, restarted, since_fetched};
-ghost use Rattle.session_outbox.specs.Examples.{again, at, create_z, home, reading_x, upgraded, x};
+ghost use Rattle.local_history.specs.Examples.{again, at, create_z, home, reading_x, upgraded, x};
 ghost use Rattle.session_outbox.specs.Current.{Takes};
 ghost use Rattle.session_outbox.specs.Epochs.{upgrades_before};
 ghost use Rattle.session_outbox.specs.Gaps.{ByOthers, GrowsByOthers};
-ghost use Rattle.session_outbox.specs.History.{commits};
+ghost use Rattle.local_history.specs.History.{commits};
 ghost use Rattle.session_outbox.specs.Session.{Invalid, session};
 ghost use Rattle.std.specs.Option.{IsSomeAnd};
 ghost use Rattle.session_outbox.specs.SessionExamples.{connected_anew, invalid_taken, written_since};
 ghost use Rattle.session_outbox.specs.Trace.{E, M};
 ghost use Rattle.session_outbox.specs.VerdictExamples.{second_reads};
 ghost use Rattle.session_outbox.specs.declared.mark.Mark.TheVariants as the;
-ghost use Rattle.session_outbox.specs.declared.refusal.Refusal.TheVariants as refused;
+ghost use Rattle.validation_window.specs.declared.refusal.Refusal.TheVariants as refused;
 ghost use Rattle.std.specs.Prelude.{None, Some, [], ◌∷◌, ◌++◌, ◌≡◌, false, take, true};
 ghost use Rattle.thor_value.specs.Names.{zero_ts};
 

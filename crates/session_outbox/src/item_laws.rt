@@ -1,12 +1,20 @@
 //! What is proved of traces whose items are exact.
 
+ghost use Rattle.commit_log.specs.declared.entry.Entry.TheVariants.{One, Prepared, Upgraded};
+ghost use Rattle.commit_log.specs.declared.request.Request.{Request};
+ghost use Rattle.local_history.specs.History.{Base, state};
+ghost use Rattle.local_history.specs.Opening.{IsBase};
+ghost use Rattle.local_history.specs.Participants.{IsAlone, IsShared};
+ghost use Rattle.local_history.specs.Requests.{is_upgrade};
+ghost use Rattle.local_history.specs.Sound.{Vouches, sound};
 ghost use Rattle.session_outbox.specs.Calls.{last_session, next_page, was_granted};
-ghost use Rattle.session_outbox.specs.Exact.{ItemIsExact, exact};
-ghost use Rattle.session_outbox.specs.History.{Base};
-ghost use Rattle.session_outbox.specs.Session.{Session, session};
-ghost use Rattle.session_outbox.specs.Sessions.{SessionsAreNumbered};
-ghost use Rattle.session_outbox.specs.Trace.{Item};
-ghost use Rattle.std.specs.Prelude.{IsTrue, List, [], ◌∷◌, ◌++◌, ℕ, ◌≤◌, ◌<◌};
+ghost use Rattle.session_outbox.specs.Exact.{ComesFromSession, ItemIsExact, exact};
+ghost use Rattle.session_outbox.specs.Sessions.{AnswersAgree, PagesAreGranted, SessionsAreNumbered};
+ghost use Rattle.session_outbox.specs.Trace.{E, Item, M, entries};
+ghost use Rattle.session_outbox.specs.declared.mark.Mark.TheVariants as the;
+ghost use Rattle.std.specs.List.{slice_get};
+ghost use Rattle.std.specs.Prelude.{IsTrue, List, Some, [], ◌∷◌, ◌++◌, ℕ, ◌≡◌, ◌≤◌, ◌<◌, false, true};
+ghost use Rattle.thor_value.specs.declared.names.Ts.{Ts};
 
 /// A trace is exact where its beginning is and each further item owes what it owes.
 pub fn exact_traces_grow()
@@ -27,4 +35,36 @@ pub fn next_numbers_rise()
     ensures pages { (b : Base) (T more : List Item) → next_page b T ≤ next_page b (T ++ more) }
     ensures base { (b : Base) (T : List Item) → b.next_page ≤ next_page b T }
     ensures granted { (b : Base) (T : List Item) (s page : ℕ) → IsTrue (was_granted T s page) → page < next_page b T }
+{}
+
+/// Where a page brings what is there, each object that stands or was written is on a page below the next
+/// one.
+pub fn pages_are_granted()
+    ensures { (b : Base) (T : List Item) → IsBase b → IsTrue b.tells → sound b (entries T) → exact b T →
+        PagesAreGranted b T }
+{}
+
+/// A timestamp is drawn once.
+pub fn stamps_are_drawn_once()
+    ensures { (b : Base) (T : List Item) → sound b (entries T) → exact b T → (m n r s : ℕ) (t : Ts) →
+        slice_get T m ≡ Some (M (the.Drew r t)) → slice_get T n ≡ Some (M (the.Drew s t)) → m ≡ n }
+{}
+
+/// What a coordinator answers about a transaction agrees with its history.
+pub fn answers_agree()
+    ensures { (b : Base) (T : List Item) (t : Ts) → sound b (entries T) → AnswersAgree b T t }
+{}
+
+/// A request that comes from its client's live session and was accepted, and for which its sender
+/// vouches, is a sound and exact entry.
+pub fn accepted_requests_continue()
+    ensures prepared { (b : Base) (T : List Item) (q : Request) → sound b (entries T) → exact b T →
+        Vouches b (state b (entries T)) q → ComesFromSession b T q → IsShared q →
+        sound b (entries (T ++ E (Prepared q) ∷ [])) × exact b (T ++ E (Prepared q) ∷ []) }
+    ensures one { (b : Base) (T : List Item) (q : Request) → sound b (entries T) → exact b T →
+        Vouches b (state b (entries T)) q → ComesFromSession b T q → IsAlone b q → is_upgrade q ≡ false →
+        sound b (entries (T ++ E (One q) ∷ [])) × exact b (T ++ E (One q) ∷ []) }
+    ensures upgraded { (b : Base) (T : List Item) (q : Request) → sound b (entries T) → exact b T →
+        Vouches b (state b (entries T)) q → ComesFromSession b T q → IsAlone b q → is_upgrade q ≡ true →
+        sound b (entries (T ++ E (Upgraded q) ∷ [])) × exact b (T ++ E (Upgraded q) ∷ []) }
 {}

@@ -1,8 +1,8 @@
 //! What the trace of a repository has between the entries of its history.
 
-use crate::refusal::Refusal;
 use commit_log::Request;
 use thor_value::Ts;
+use validation_window::Refusal;
 
 /// One item of the trace of a repository: an entry of its history, by its place, or the mark of
 /// something that no log keeps.

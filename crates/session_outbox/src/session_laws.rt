@@ -2,13 +2,13 @@
 
 ghost use Rattle.commit_log.specs.declared.entry.Entry.{Entry};
 ghost use Rattle.commit_log.specs.declared.request.Request.{Request};
-ghost use Rattle.session_outbox.specs.Requests.{written};
-ghost use Rattle.session_outbox.specs.Current.{InStep, IsCurrent, IsOwnWrite, IsRightOrStale, NoneAborted, OthersOrSame, OthersSince, OthersWrite, Passes, RightAt, Takes, Tells, commits_in, is_taking, names_invalid};
-ghost use Rattle.session_outbox.specs.History.{Base, IsCommitted, Standing, commit_of, objects_at, stands, state, writers};
-ghost use Rattle.session_outbox.specs.Outcomes.{MaySettle};
+ghost use Rattle.local_history.specs.Requests.{written};
+ghost use Rattle.session_outbox.specs.Current.{InStep, IsCurrent, IsOwnWrite, IsRightOrStale, NoneAborted, OthersOrSame, OthersSince, OthersWrite, PassesItem, RightAt, Takes, WasToldOf, commits_in, is_taking, names_invalid};
+ghost use Rattle.local_history.specs.History.{Base, IsCommitted, Known, commit_of, objects_at, known_by, state, writers};
+ghost use Rattle.local_history.specs.Outcomes.{MaySettle};
 ghost use Rattle.session_outbox.specs.Messages.{KeepsOrder, WaitsByPlace};
 ghost use Rattle.session_outbox.specs.Session.{Notice, Page, Session, acked_after, bound, meet, session, session_lives, upto_of};
-ghost use Rattle.session_outbox.specs.Sound.{sound};
+ghost use Rattle.local_history.specs.Sound.{sound};
 ghost use Rattle.session_outbox.specs.declared.mark.Mark.TheVariants as the;
 ghost use Rattle.session_outbox.specs.declared.mark.Mark.{Mark};
 ghost use Rattle.session_outbox.specs.Trace.{E, Item, M, entries};
@@ -64,7 +64,7 @@ pub fn copies_stay_right()
 /// the page's first fetch or grant on; an upgrade's commit is told as such.
 pub fn commits_are_told()
     ensures { (b : Base) (T : List Item) (s : ℕ) (v : Session) → session b T s ≡ Some v → session_lives v ≡ true →
-        (x : Oref) → All (Tells s v x) (writers b (entries T) x) }
+        (x : Oref) → All (WasToldOf s v x) (writers b (entries T) x) }
 {}
 
 /// A copy stays right where its client takes a message that doesn't name its object: it was right at
@@ -89,14 +89,14 @@ pub fn messages_keep_copies()
 /// Where an entry aborts it, the copy is no own write any more, and nothing is said of it. A
 /// transaction that turns out to be committed at its coordinator makes no copy less current.
 pub fn own_writes_stay()
-    ensures marks { (b : Base) (T : List Item) (k : Mark) (s : ℕ) (committed : Ts → Bool) (x : Oref) (o : Obj) (t : Ts) (p : Standing) →
+    ensures marks { (b : Base) (T : List Item) (k : Mark) (s : ℕ) (committed : Ts → Bool) (x : Oref) (o : Obj) (t : Ts) (p : Known) →
         IsOwnWrite b (entries T) s committed x o t p → IsOwnWrite b (entries (T ++ M k ∷ [])) s committed x o t p }
-    ensures entries { (b : Base) (T : List Item) (e : Entry) (s : ℕ) (committed : Ts → Bool) (x : Oref) (o : Obj) (t : Ts) (p : Standing) →
+    ensures entries { (b : Base) (T : List Item) (e : Entry) (s : ℕ) (committed : Ts → Bool) (x : Oref) (o : Obj) (t : Ts) (p : Known) →
         sound b (entries (T ++ E e ∷ [])) → ¬ MaySettle b t e →
         IsOwnWrite b (entries T) s committed x o t p → IsOwnWrite b (entries (T ++ E e ∷ [])) s committed x o t p }
-    ensures committed { (b : Base) (T : List Item) (e : Entry) (s : ℕ) (v w : Session) (committed : Ts → Bool) (x : Oref) (o : Obj) (t : Ts) (p q : Standing) →
-        Passes b T (E e) s v w → InStep v → has v.pages x.page ≡ true → sound b (entries (T ++ E e ∷ [])) →
-        IsOwnWrite b (entries T) s committed x o t p → stands b (entries (T ++ E e ∷ [])) t ≡ Some q → IsCommitted q.fate →
+    ensures committed { (b : Base) (T : List Item) (e : Entry) (s : ℕ) (v w : Session) (committed : Ts → Bool) (x : Oref) (o : Obj) (t : Ts) (p q : Known) →
+        PassesItem b T (E e) s v w → InStep v → has v.pages x.page ≡ true → sound b (entries (T ++ E e ∷ [])) →
+        IsOwnWrite b (entries T) s committed x o t p → known_by b (entries (T ++ E e ∷ [])) t ≡ Some q → IsCommitted q.fate →
         RightAt b (entries (T ++ E e ∷ [])) s w x o (length (entries T) + 1) }
     ensures more { (b : Base) (H : List Entry) (s : ℕ) (v : Session) (committed more : Ts → Bool) (x : Oref) (o : Obj) →
         ((t : Ts) → committed t ≡ true → more t ≡ true) →
@@ -109,7 +109,7 @@ pub fn own_writes_stay()
 /// its object. What a page brings is current, where other sessions alone have written it since.
 pub fn current_copies_stay()
     ensures grown { (b : Base) (T : List Item) (i : Item) (s : ℕ) (v w : Session) (committed : Ts → Bool) (x : Oref) (o : Obj) →
-        Passes b T i s v w → InStep v → has v.pages x.page ≡ true →
+        PassesItem b T i s v w → InStep v → has v.pages x.page ≡ true →
         sound b (entries (T ++ i ∷ [])) → NoneAborted b (entries (T ++ i ∷ [])) committed →
         OthersOrSame s x o (commits_in b (entries T) i) →
         IsCurrent b (entries T) s v committed x o → IsCurrent b (entries (T ++ i ∷ [])) s w committed x o }
@@ -126,7 +126,7 @@ pub fn current_copies_stay()
 /// A session has the pages that it had, behind each item at which it doesn't begin.
 pub fn pages_stay()
     ensures grown { (b : Base) (T : List Item) (i : Item) (s : ℕ) (v w : Session) (page : ℕ) →
-        Passes b T i s v w → has v.pages page ≡ true → has w.pages page ≡ true }
+        PassesItem b T i s v w → has v.pages page ≡ true → has w.pages page ≡ true }
     ensures taken { (b : Base) (T : List Item) (s : ℕ) (v w : Session) (place : ℕ) (m : Notice) →
         Takes b T s v w place m → w.pages ≡ v.pages }
 {}

@@ -1,14 +1,14 @@
 //! The definitions of sessions, computed on a small trace (`specs/SessionExamples.antt`).
 
-ghost use Rattle.session_outbox.specs.Examples.{at, away, box, far, home, reading_x, set_x, x};
-ghost use Rattle.session_outbox.specs.Checking.{is_sound};
+ghost use Rattle.local_history.specs.Examples.{at, away, box, far, home, reading_x, set_x, two_commits, x};
+ghost use Rattle.local_history.specs.Checking.{is_sound};
 ghost use Rattle.session_outbox.specs.Current.{IsCurrent, RightAt};
-ghost use Rattle.session_outbox.specs.History.{Aborted, Committed, Open, objects_at, stands};
+ghost use Rattle.local_history.specs.History.{Aborted, Committed, Open, objects_at, known_by};
 ghost use Rattle.session_outbox.specs.Session.{Ended, Invalid, Live, Page, Retired, session, waiting};
-ghost use Rattle.session_outbox.specs.SessionExamples.{acknowledged, committed_there, connected_anew, hasty, invalid_taken, known_in, own_aborted, own_finished, own_prepared, restarted, stage_in, waiting_in, written_since, x_invalid_in};
-ghost use Rattle.session_outbox.specs.Trace.{E, entries};
+ghost use Rattle.session_outbox.specs.SessionExamples.{acknowledged, committed_there, connected_anew, hasty, invalid_taken, kept_marks, known_in, own_aborted, own_finished, own_prepared, restarted, stage_in, waiting_in, written_since, x_invalid_in};
+ghost use Rattle.session_outbox.specs.Trace.{E, entries, items};
 ghost use Rattle.session_outbox.specs.Verdict.{verdict};
-ghost use Rattle.session_outbox.specs.declared.refusal.Refusal.TheVariants as refused;
+ghost use Rattle.validation_window.specs.declared.refusal.Refusal.TheVariants as refused;
 ghost use Rattle.std.specs.Option.{IsSomeAnd, option_map};
 ghost use Rattle.std.specs.Prelude.{◌≡◌, [], ◌∷◌, ◌++◌, None, Some, false, take, true};
 ghost use Rattle.thor_value.specs.FiniteMap.{get};
@@ -46,11 +46,16 @@ pub fn session_life_examples()
 /// A write of a session's own: what stands here is still the old object while the transaction is
 /// undecided here, and the new one is current all the same. Behind the commit it is right.
 pub fn own_write_examples()
-    ensures undecided { option_map (λ w. w.fate) (stands away (entries own_prepared) (at 1)) ≡ Some Open }
+    ensures undecided { option_map (λ w. w.fate) (known_by away (entries own_prepared) (at 1)) ≡ Some Open }
     ensures old { get (objects_at away (entries own_prepared) 1) far ≡ Some (box 0) }
     ensures current { IsSomeAnd (session away own_prepared 1) (λ v. IsCurrent away (entries own_prepared) 1 v committed_there far (box 7)) }
-    ensures committed { option_map (λ w. w.fate) (stands away (entries own_finished) (at 1)) ≡ Some (Committed 2) }
+    ensures committed { option_map (λ w. w.fate) (known_by away (entries own_finished) (at 1)) ≡ Some (Committed 2) }
     ensures right { IsSomeAnd (session away own_finished 1) (λ v. RightAt away (entries own_finished) 1 v far (box 7) 3) }
     ensures sound { is_sound away (entries own_finished) ≡ true }
-    ensures aborted { option_map (λ w. w.fate) (stands away (entries own_aborted) (at 1)) ≡ Some Aborted }
+    ensures aborted { option_map (λ w. w.fate) (known_by away (entries own_aborted) (at 1)) ≡ Some Aborted }
+{}
+
+/// The history of a trace is its entries, and they keep their places.
+pub fn trace_example()
+    ensures { entries (items two_commits kept_marks) ≡ two_commits }
 {}

@@ -1,5 +1,5 @@
 use Rattle.session_outbox.proofs.item_examples.inexact_examples.Goals as goal
-use Rattle.session_outbox.specs.Examples.{z}
+use Rattle.local_history.specs.Examples.{z}
 use Rattle.std.proofs.Common.{false, refl, true, ◌≡◌}
 
 pub returns-clause-granted : goal.returns-clause-granted

@@ -1,0 +1,11 @@
+pub mod Checking
+pub mod Examples
+pub mod FormChecking
+pub mod History
+pub mod Laws
+pub mod Order
+pub mod Opening
+pub mod Outcomes
+pub mod Participants
+pub mod Requests
+pub mod Sound

@@ -1,5 +1,0 @@
-use Rattle.session_outbox.proofs.Vouched.{keeps}
-use Rattle.session_outbox.proofs.history_laws.bases_are_kept.Goals as goal
-
-pub returns : goal.returns
-returns c = λ b H base sd. keeps b base H sd
