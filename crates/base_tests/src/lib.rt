@@ -4,9 +4,13 @@
 #[cfg(test)]
 mod bytes;
 #[cfg(test)]
+mod logs;
+#[cfg(test)]
 mod objects;
 #[cfg(test)]
 mod pages;
+#[cfg(test)]
+mod queues;
 #[cfg(test)]
 mod streams;
 #[cfg(test)]

@@ -9,8 +9,6 @@ mod member;
 mod members;
 mod name_set;
 mod queue;
-#[cfg(test)]
-mod tests;
 
 pub use clash::Clash;
 pub use member::Member;

@@ -1,10 +1,10 @@
 //! Queues and requests in tables, each request with what stands against it.
 
-use super::*;
 use std::alloc::Global;
 use std::process::Abort;
 use std::test::*;
 use thor_value::{Obj, Oref, Orefs, Sequence, Ts, Writes};
+use validation_queue::{Clash, Queue, is_in_order};
 
 /// A transaction as a table has it: its time, and the slots of the objects that it read and of those
 /// that it wrote.
@@ -157,7 +157,7 @@ fn expect<R: Abort>(
     let writes = writes(alloc, written)?;
     assert!(rt; is_in_order(&ros, &writes));
     let answer = queue.validate(ts(time), upgrade, &ros, &writes);
-    assert_eq!(rt; answer, expected(stands));
+    assert!(rt; answer == expected(stands));
     Ok(())
 }
 
@@ -174,37 +174,49 @@ fn requests_clash_with_the_queue(rt: HostRuntime) -> Result<(), Fail> {
     for (time, stands) in UPGRADES {
         expect(&rt, alloc, &queue, &(*time, &[], &[]), true, stands)?;
     }
-    assert_eq!(rt; queue.undecided(), Some(ts(30)));
-    assert_eq!(rt; queue.blocking(true), Some(ts(30)));
-    assert_eq!(rt; queue.blocking(false), None);
+    assert!(rt; queue.undecided() == Some(ts(30)));
+    assert!(rt; queue.blocking(true) == Some(ts(30)));
+    assert!(rt; queue.blocking(false).is_none());
     queue.clear(ts(80));
-    assert_eq!(rt; queue.threshold(), ts(80));
-    assert_eq!(rt; queue.undecided(), None);
+    assert!(rt; queue.threshold() == ts(80));
+    assert!(rt; queue.undecided().is_none());
+    Ok(())
+}
+
+/// A queue of 1,024 transactions that are undecided, from the time 1,000 on.
+fn full<R: Abort>(rt: &R, alloc: Global) -> Result<Queue, Fail> {
+    let mut queue = Queue::new(alloc, ts(10))?;
+    for time in 1_000..2_024u64 {
+        load(rt, alloc, &mut queue, &(time, &[], &[]), false)?;
+    }
+    Ok(queue)
+}
+
+/// Adds a transaction against which nothing stands, as a decided one.
+fn add<R: Abort>(rt: &R, alloc: Global, queue: &mut Queue, row: &Row) -> Result<(), Fail> {
+    let (time, read, written) = *row;
+    let ros = names(alloc, read)?;
+    let writes = writes(alloc, written)?;
+    let tx = ts(time);
+    assert!(rt; is_in_order(&ros, &writes));
+    assert!(rt; !queue.has(tx));
+    assert!(rt; queue.validate(tx, false, &ros, &writes).is_ok());
+    queue.add(tx, false, &ros, &writes, true)?;
     Ok(())
 }
 
 #[test]
 fn a_full_queue_lets_a_decided_one_go(rt: HostRuntime) -> Result<(), Fail> {
     let alloc = rt.alloc();
-    let mut queue = Queue::new(alloc, ts(10))?;
-    for time in 1_000..2_024u64 {
-        load(&rt, alloc, &mut queue, &(time, &[], &[]), false)?;
-    }
+    let mut queue = full(&rt, alloc)?;
     let row: Row = (3_000, &[1], &[1]);
     expect(&rt, alloc, &queue, &row, false, &Stands::Room)?;
     queue.decide(ts(1_500), true);
     expect(&rt, alloc, &queue, &row, false, &Stands::Nothing)?;
-    let ros = names(alloc, &[1])?;
-    let writes = writes(alloc, &[1])?;
-    let tx = ts(3_000);
-    assert!(rt; is_in_order(&ros, &writes));
-    assert!(rt; !queue.has(tx));
-    assert!(rt; queue.validate(tx, false, &ros, &writes).is_ok());
-    queue.add(tx, false, &ros, &writes, true)?;
-    assert_eq!(rt; queue.len(), 1_024);
-    assert_eq!(rt; queue.threshold(), ts(1_500));
-    assert!(rt; queue.has(tx) && !queue.has(ts(1_500)));
+    add(&rt, alloc, &mut queue, &row)?;
+    assert!(rt; queue.len() == 1_024 && queue.threshold() == ts(1_500));
+    assert!(rt; queue.has(ts(3_000)) && !queue.has(ts(1_500)));
     queue.decide(ts(1_000), false);
-    assert_eq!(rt; queue.undecided(), Some(ts(1_001)));
+    assert!(rt; queue.undecided() == Some(ts(1_001)));
     Ok(())
 }

@@ -1,4 +1,4 @@
-use Rattle.log_frame.proofs.tests.parts.Goals as goal
+use Rattle.base_tests.proofs.logs.parts.Goals as goal
 
 -- Whatever the clock gave, nobody has called the disks yet.
 pub returns : goal.returns
