@@ -2,10 +2,10 @@
 use Rattle.commit_log.specs.declared.entry.Entry.TheVariants.{Decided, Finished, One, Prepared, Upgraded}
 use Rattle.commit_log.specs.declared.entry.Entry.{Entry}
 use Rattle.commit_log.specs.declared.request.Request.{Request}
-use Rattle.session_outbox.specs.Requests.{is_upgrade}
+use Rattle.local_history.specs.Requests.{is_upgrade}
 use Rattle.session_outbox.specs.Trace.{E, Item, M}
 use Rattle.session_outbox.specs.declared.mark.Mark.TheVariants as the
-use Rattle.session_outbox.specs.declared.refusal.Refusal.{Refusal}
+use Rattle.validation_window.specs.declared.refusal.Refusal.{Refusal}
 use Rattle.std.specs.Prelude.{None, Some, cond, ℕ, ◌≡◌, ◌⊎◌}
 use Rattle.thor_value.specs.declared.names.Ts.{Ts}
 use Rattle.call_naming.specs.declared.calls.Call.{Call}
