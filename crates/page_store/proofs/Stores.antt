@@ -254,7 +254,7 @@ refreshed_put held page other found that is = refreshed_by held page other found
 in_use_put : (sides : List (ℕ × ℕ)) (page side other : ℕ) → side_in_use (insert_entry nat_cmp sides page side) other ≡ cond (eq_by_cmp nat_cmp other page) (Some side) (side_in_use sides other)
 in_use_put sides page side other = get-insert nat_cmp_total (record { pairs = sides }) page side other
 
-in_use_here : (sides : List (ℕ × ℕ)) (page side : ℕ) → side_in_use (insert_entry nat_cmp sides page side) page ≡ Some side
+pub in_use_here : (sides : List (ℕ × ℕ)) (page side : ℕ) → side_in_use (insert_entry nat_cmp sides page side) page ≡ Some side
 in_use_here sides page side = in_use_put sides page side page ∙ ap (λ (o : Ordering). cond (is_eq o) (Some side) (side_in_use sides page)) (sym (nat_cmp_is page page Equal refl))
 
 apart_by : (o : Ordering) (x y : ℕ) → o ≡ nat_cmp x y → (x ≡ y → ⊥) → is_eq o ≡ false
@@ -262,7 +262,7 @@ apart_by Less x y e n = refl
 apart_by Equal x y e n = absurd (n (ranked x y Equal e))
 apart_by Greater x y e n = refl
 
-in_use_other : (sides : List (ℕ × ℕ)) (page side other : ℕ) → (other ≡ page → ⊥) → side_in_use (insert_entry nat_cmp sides page side) other ≡ side_in_use sides other
+pub in_use_other : (sides : List (ℕ × ℕ)) (page side other : ℕ) → (other ≡ page → ⊥) → side_in_use (insert_entry nat_cmp sides page side) other ≡ side_in_use sides other
 in_use_other sides page side other apart = in_use_put sides page side other ∙ ap (λ (b : Bool). cond b (Some side) (side_in_use sides other)) (apart_by (nat_cmp other page) other page refl apart)
 
 module _ (store : Store) (page side : ℕ) (found : Contents) (number : found.number ≡ page) (staged : store.staged ≡ Some (found, side)) where

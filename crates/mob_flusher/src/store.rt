@@ -1,0 +1,183 @@
+ghost use Rattle.std.specs.Prelude.{◌≡◌, ◌+◌, ◌<◌, ◌^◌, ℕ, List, [], Ok, Some, None, slice_get, IfOk, IfSome, OnOk, OnErr, IsErrOf};
+ghost use Rattle.disk_trait.specs.Disks.{Disks, OnDisk, Leaves, WhereTold, IsSettled, Rose};
+ghost use Rattle.page_store.specs.Sides.{KeepsSides};
+ghost use Rattle.page_store.specs.Store.{Agrees, IsDamage};
+ghost use Rattle.page_store.specs.declared.fault.StoreFault.TheVariants.{Damaged, Failed};
+ghost use Rattle.mob_buffer.specs.Buffer.{AreOf, without_page};
+ghost use Rattle.mob_flusher.specs.Map.{DiskHas, Has, SameMap};
+ghost use Rattle.mob_flusher.specs.Images.{IsFlushed};
+ghost use Rattle.mob_flusher.specs.declared.store.Flushed.TheVariants.{Installed, Nothing};
+
+use crate::image::{image_of, object_in};
+use disk_trait::Parts;
+use mob_buffer::Mob;
+use page_format::Page;
+use page_store::{PageStore, StoreFault};
+use std::alloc::Global;
+use std::marker::Model;
+use thor_value::{Obj, Oref, TryCopy};
+
+/// What a flush did.
+#[derive(Clone, Copy, Debug, PartialEq, Eq)]
+pub enum Flushed {
+    /// A page with its objects from the buffer was written to this side of it, and synced.
+    Installed { page: u32, side: u8 },
+    /// The buffer has no object.
+    Nothing,
+}
+
+/// The objects of a repository: the buffer of modified objects over the pages, as one finite map.
+#[derive(Drop)]
+pub struct ObjectStore {
+    alloc: Global,
+    pages: PageStore,
+    mob: Mob,
+}
+
+impl Model for ObjectStore {
+    ghost use Rattle.mob_flusher.specs.Map.{Kept};
+
+    ghost Value = { Kept };
+
+    ghost view = { λ s. record { pages = s.pages; mob = s.mob } };
+}
+
+impl ObjectStore {
+    /// The objects of a buffer over pages. It takes no memory.
+    pub fn new(alloc: Global, pages: PageStore, mob: Mob) -> ObjectStore
+        ensures { result ≡ record { pages = pages; mob = mob } }
+    {
+        ObjectStore { alloc, pages, mob }
+    }
+
+    /// The object of a name, from the buffer, and else from its page.
+    pub fn get<P: Parts>(
+        &mut self,
+        parts: &mut P,
+        oref: Oref,
+    ) -> Result<Option<Obj>, StoreFault>
+        requires agrees { WhereTold (P.disks parts.old) 2 (Agrees self.old.pages) }
+        ensures alone { OnDisk (P.disks parts.old) (P.disks parts.new) 2 }
+        ensures content { (P.disks parts.new).content 2 ≡ (P.disks parts.old).content 2 }
+        ensures answer { IfOk result (λ answer. WhereTold (P.disks parts.old) 2 (λ disk. Has disk self.old oref answer)) }
+        ensures mob { self.new.mob ≡ self.old.mob }
+        ensures sides { self.new.pages.sides ≡ self.old.pages.sides }
+        ensures agrees { WhereTold (P.disks parts.new) 2 (Agrees self.new.pages) }
+        ensures damaged { (place : ℕ) → IsErrOf result (Damaged place) → IsDamage (P.disks parts.old) self.old.pages.sides oref.page place }
+        ensures failed { IsErrOf result Failed → Rose ((P.disks parts.old).faults 2) ((P.disks parts.new).faults 2) }
+    {
+        if let Some(object) = self.mob.get(oref) {
+            return Ok(Some(object.copy()?));
+        }
+        stored(self.alloc, &mut self.pages, parts, oref)
+    }
+
+    /// Writes the page of the oldest object in the buffer, with all its objects in the buffer, to the side
+    /// of it that isn't in use, and syncs it. `settle` then puts it in use.
+    ///
+    /// At each moment a crash leaves each side in use as it was.
+    pub fn flush_one<P: Parts>(&mut self, parts: &mut P) -> Result<Flushed, StoreFault>
+        requires settled { IsSettled (P.disks parts.old) 2 }
+        requires agrees { WhereTold (P.disks parts.old) 2 (Agrees self.old.pages) }
+        ensures alone { OnDisk (P.disks parts.old) (P.disks parts.new) 2 }
+        ensures any_moment { WhereTold (P.disks parts.old) 2 (λ disk. Leaves (P.disks parts.old) (P.disks parts.new) 2 (KeepsSides self.old.pages.sides disk)) }
+        ensures nothing { result ≡ Ok Nothing → self.old.mob.objects ≡ [] }
+        ensures flushed { (page side : ℕ) → result ≡ Ok (Installed page side) → (repo : ℕ) × IsFlushed self.new repo page side }
+        ensures oldest { (page side : ℕ) → result ≡ Ok (Installed page side) → IfSome (slice_get self.old.mob.objects 0) (λ q. q.0.page ≡ page) }
+        ensures mob { self.new.mob ≡ self.old.mob }
+        ensures sides { self.new.pages.sides ≡ self.old.pages.sides }
+        ensures settled { OnOk result (IsSettled (P.disks parts.new) 2) }
+        ensures agrees { OnOk result (WhereTold (P.disks parts.new) 2 (Agrees self.new.pages)) }
+        ensures same_map { OnOk result (WhereTold (P.disks parts.old) 2 (λ before. WhereTold (P.disks parts.new) 2 (λ after. (repo : ℕ) → SameMap before self.old after self.new repo))) }
+        ensures damaged { (place : ℕ) → IsErrOf result (Damaged place) → IfSome (slice_get self.old.mob.objects 0) (λ q. IsDamage (P.disks parts.old) self.old.pages.sides q.0.page place) }
+        ensures failed { IsErrOf result Failed → Rose ((P.disks parts.old).faults 2) ((P.disks parts.new).faults 2) }
+    {
+        let Some(oldest) = self.mob.oldest() else {
+            return Ok(Flushed::Nothing);
+        };
+        let side = install_image(self.alloc, &mut self.pages, &self.mob, parts, oldest)?;
+        Ok(Flushed::Installed {
+            page: oldest.page,
+            side,
+        })
+    }
+
+    /// Puts the side in use that the last flush wrote, and drops the page's objects from the buffer. It
+    /// takes no memory.
+    pub fn settle(&mut self, page: u32, side: u8)
+        requires last { (repo : ℕ) × IsFlushed self.old repo page side }
+        ensures mob { self.new.mob ≡ record self.old.mob { objects = without_page self.old.mob.objects page } }
+        ensures agrees { (disk : List ℕ) → Agrees self.old.pages disk → Agrees self.new.pages disk }
+        ensures same_map { (disk : List ℕ) (repo : ℕ) → Agrees self.old.pages disk → IsFlushed self.old repo page side → SameMap disk self.old disk self.new repo }
+    {
+        self.pages.settle(page, side);
+        self.mob.remove_page(page);
+    }
+
+    /// The buffer.
+    pub fn mob(&self) -> &Mob
+        ensures { result.now ≡ self.now.mob }
+    {
+        &self.mob
+    }
+
+    /// The pages.
+    pub fn pages(&self) -> &PageStore
+        ensures { result.now ≡ self.now.pages }
+    {
+        &self.pages
+    }
+}
+
+/// The object of a name in its page.
+fn stored<P: Parts>(
+    alloc: Global,
+    pages: &mut PageStore,
+    parts: &mut P,
+    oref: Oref,
+) -> Result<Option<Obj>, StoreFault>
+    requires agrees { WhereTold (P.disks parts.old) 2 (Agrees pages.old) }
+    ensures alone { OnDisk (P.disks parts.old) (P.disks parts.new) 2 }
+    ensures content { (P.disks parts.new).content 2 ≡ (P.disks parts.old).content 2 }
+    ensures answer { IfOk result (λ answer. WhereTold (P.disks parts.old) 2 (λ disk. DiskHas disk pages.old.sides oref answer)) }
+    ensures sides { pages.new.sides ≡ pages.old.sides }
+    ensures agrees { WhereTold (P.disks parts.new) 2 (Agrees pages.new) }
+    ensures damaged { (place : ℕ) → IsErrOf result (Damaged place) → IsDamage (P.disks parts.old) pages.old.sides oref.page place }
+    ensures failed { IsErrOf result Failed → Rose ((P.disks parts.old).faults 2) ((P.disks parts.new).faults 2) }
+{
+    pages.hold(parts, oref.page)?;
+    match pages.held(oref.page) {
+        Some(page) => Ok(object_in(alloc, page, oref.slot)?),
+        None => Err(StoreFault::NoMemory),
+    }
+}
+
+/// Installs a page with all objects that the buffer has of it, one of which has this name.
+#[tactic(auto, using(disk_trait::proofs::Runs::alone_then))]
+fn install_image<P: Parts>(
+    alloc: Global,
+    pages: &mut PageStore,
+    mob: &Mob,
+    parts: &mut P,
+    oref: Oref,
+) -> Result<u8, StoreFault>
+    requires settled { IsSettled (P.disks parts.old) 2 }
+    requires agrees { WhereTold (P.disks parts.old) 2 (Agrees pages.old) }
+    requires one_repo { AreOf oref.repo mob.now.objects }
+    ensures alone { OnDisk (P.disks parts.old) (P.disks parts.new) 2 }
+    ensures any_moment { WhereTold (P.disks parts.old) 2 (λ disk. Leaves (P.disks parts.old) (P.disks parts.new) 2 (KeepsSides pages.old.sides disk)) }
+    ensures kept { OnOk result (WhereTold (P.disks parts.old) 2 (λ before. WhereTold (P.disks parts.new) 2 (λ after. KeepsSides pages.old.sides before after))) }
+    ensures flushed { IfOk result (λ side. IsFlushed (record { pages = pages.new; mob = mob.now }) oref.repo oref.page side) }
+    ensures sides { pages.new.sides ≡ pages.old.sides }
+    ensures settled { OnOk result (IsSettled (P.disks parts.new) 2) }
+    ensures agrees { OnOk result (WhereTold (P.disks parts.new) 2 (Agrees pages.new)) }
+    ensures damaged { (place : ℕ) → IsErrOf result (Damaged place) → IsDamage (P.disks parts.old) pages.old.sides oref.page place }
+    ensures failed { IsErrOf result Failed → Rose ((P.disks parts.old).faults 2) ((P.disks parts.new).faults 2) }
+{
+    pages.hold(parts, oref.page)?;
+    let image = match pages.held(oref.page) {
+        Some(base) => image_of(alloc, base, mob, oref.repo)?,
+        None => return Err(StoreFault::NoMemory),
+    };
+    pages.install(parts, &image)
+}
