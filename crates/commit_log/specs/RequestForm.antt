@@ -9,24 +9,17 @@ use Rattle.std.specs.List.{AllByRecursion}
 use Rattle.std.specs.List.Sorted.{IsStrictlySortedBy}
 use Rattle.std.specs.Map.{keys_of}
 use Rattle.std.specs.Ordering.{nat_cmp}
-use Rattle.std.specs.Prelude.{ℕ, ◌<◌, ◌^◌, FitsSigned, List}
+use Rattle.std.specs.Prelude.{ℕ, ◌<◌, ◌^◌, FitsSigned, List, length}
 use Rattle.thor_value.specs.Names.{oref_cmp}
 use Rattle.thor_value.specs.Spelling.{OrefFits, TsFits}
 use Rattle.thor_value.specs.declared.names.Oref.{Oref}
 use Rattle.thor_value.specs.declared.values.Answer.TheVariants.{Ints, Fault}
 use Rattle.thor_value.specs.declared.values.Answer.{Answer}
 use Rattle.thor_value.specs.declared.values.Obj.{Obj}
-use Rattle.thor_value.specs.declared.values.Who.{Who}
-
--- the items that a script can have
-pub record WhoFits (w : Who) : Type 0 where
-  pub client : w.client < 2 ^ 8
-  pub index : w.index < 2 ^ 32
 
 -- a name that a store can have, with an object that it can have
-pub record WriteFits (w : Oref × Obj) : Type 0 where
-  pub name : OrefFits w.0
-  pub object : ObjFits w.1
+abbrev pub WriteFits : Oref × Obj → Type 0
+WriteFits w = OrefFits w.0 × ObjFits w.1
 
 -- the answers that a transaction can give: numbers of 64 bits, or a fault
 abbrev pub AnswerFits : Answer → Type 0
@@ -42,10 +35,10 @@ abbrev pub ReposRise : List ℕ → Type 0
 ReposRise repos = IsStrictlySortedBy nat_cmp repos
 
 -- The requests that have a spelling: each number is one of the formats, and the other repositories that take
--- part rise.
+-- part rise and are counted by one byte.
 pub record RequestFits (q : Request) : Type 0 where
   pub tx : TsFits q.tx
-  pub who : WhoFits q.who
+  pub index : q.who.index < 2 ^ 32
   pub session : q.session < 2 ^ 32
   pub epoch : q.epoch < 2 ^ 32
   pub upto : q.upto < 2 ^ 64
@@ -53,7 +46,7 @@ pub record RequestFits (q : Request) : Type 0 where
   pub writes : AllByRecursion WriteFits q.writes
   pub fresh : AllByRecursion OrefFits q.fresh
   pub answer : AnswerFits q.answer
-  pub others : AllByRecursion (λ r. r < 2 ^ 8) q.others
+  pub others : length q.others < 2 ^ 8
   pub others_rise : ReposRise q.others
 
 -- The form of a request: it has a spelling, the names that it read rise, so do those that it wrote, and

@@ -46,6 +46,8 @@ module _ (counts : Counts) (clock disk : ℕ) (within : disk < length counts.fau
         one_moment = omega arith;
         ticks = λ below. omega arith;
         failed = λ is. cc;
+        steady = refl;
+        wanting = λ is. cc;
       }
   untold_call None =
       record {
@@ -53,6 +55,8 @@ module _ (counts : Counts) (clock disk : ℕ) (within : disk < length counts.fau
         one_moment = omega arith;
         ticks = tt;
         failed = λ is below. omega (arith, get_or-set_same counts.faults disk (one_more (slice_index counts.faults disk)) 0 within);
+        steady = tt;
+        wanting = λ is. cc;
       }
 
   pub untold_read : {T : Type 0} (at : ℕ) (before after : List ℕ) (answer : Option T) → Reads (untold counts clock) (untold (counted counts disk (is_err (answer_of answer))) clock) disk at before after (answer_of answer)

@@ -1,5 +1,5 @@
 -- A call through parts with a stop does what the call inside does, and counts the stop as a fault.
-use Rattle.std.proofs.Common.{◌≡◌, ◌≢◌, ℕ, ◌-◌, ◌^◌, ◌<◌, ◌≤◌, min, Bool, true, false, List, length, slice_index, Result, refl, arith}
+use Rattle.std.proofs.Common.{◌≡◌, ◌≢◌, ℕ, ◌+◌, ◌-◌, ◌^◌, ◌<◌, ◌≤◌, min, Bool, true, false, List, length, slice_index, Result, Ok, Err, OnOk, refl, ap, arith}
 use Rattle.std.proofs.lemmas.List.{get_or-set_same, get_or-set_other}
 use Rattle.disk_trait.specs.Disks.{Disks, OnDisk}
 use Rattle.disk_trait.specs.Calls.{IsCall, Reads, Writes, Syncs, TellsLength, Restarts}
@@ -40,6 +40,8 @@ module _ {T : Type 0} (old new : Disks) (falls : List ℕ) (disk : ℕ) (within 
         one_moment = call.one_moment;
         ticks = tt;
         failed = λ _ below. omega (arith, call.alone.faults_stay, get_or-set_same falls disk (one_more (slice_index falls disk)) 0 within);
+        steady = tt;
+        wanting = λ same. cc;
       }
   fused_call false answer call =
       record {
@@ -47,7 +49,16 @@ module _ {T : Type 0} (old new : Disks) (falls : List ℕ) (disk : ℕ) (within 
         one_moment = call.one_moment;
         ticks = call.ticks;
         failed = λ is below. omega (arith, call.failed is);
+        steady = on_ok answer call.steady;
+        wanting = λ is. counted_same (call.wanting is);
       }
+    where
+      counted_same : new.faults disk ≡ old.faults disk → (with_falls new falls).faults disk ≡ (with_falls old falls).faults disk
+      counted_same same = ap (λ n. min (n + slice_index falls disk) (2 ^ 64 - 1)) same
+
+      on_ok : (r : Result T Outage) → OnOk r (new.faults disk ≡ old.faults disk) → OnOk r ((with_falls new falls).faults disk ≡ (with_falls old falls).faults disk)
+      on_ok (Ok x) same = counted_same same
+      on_ok (Err e) same = tt
 
   pub fused_read_at : (fell : Bool) (at : ℕ) (before after : List ℕ) (answer : Result T Outage) → Reads old new disk at before after answer → Reads (with_falls old falls) (with_falls new (falls_after fell falls disk)) disk at before after (answer_after fell answer)
   fused_read_at true at before after answer made = record { call = fused_call true answer made.call; bytes = tt; content = made.content; crash = made.crash }

@@ -9,3 +9,4 @@ pub mod Moments
 pub mod MemCalls
 pub mod MemLifts
 pub mod Runs
+pub mod Several

@@ -125,8 +125,11 @@ module _ (before : List Kept) (moment clock disk : ℕ) (old : Kept) (stood : sl
     new_told : (bytes : List ℕ) → bytes_of (slice_get (set before disk new) disk) ≡ Some bytes → new.bytes ≡ bytes
     new_told bytes is = let e : bytes_of (Some new) ≡ Some bytes = subst (λ o. bytes_of o ≡ Some bytes) here is in cc
 
-    call_ok : {T : Type 0} (answer : T) → Step (moment + 1) old new → IsCall {T = T} (told before moment clock) (told (set before disk new) (moment + 1) clock) disk (Ok answer)
-    call_ok answer step = record { alone = mem_alone step; one_moment = omega arith; ticks = λ below. refl; failed = λ is. cc }
+    same_faults : new.faults ≡ old.faults → faults_of (slice_get (set before disk new) disk) ≡ faults_of (slice_get before disk)
+    same_faults same = rw (here, stood) (ap (λ n. min n (2 ^ 64 - 1)) same)
+
+    call_ok : {T : Type 0} (answer : T) → Step (moment + 1) old new → new.faults ≡ old.faults → IsCall {T = T} (told before moment clock) (told (set before disk new) (moment + 1) clock) disk (Ok answer)
+    call_ok answer step same = record { alone = mem_alone step; one_moment = omega arith; ticks = λ below. refl; failed = λ is. cc; steady = same_faults same; wanting = λ is. cc }
 
     step_failed : new ≡ failed_at old (moment + 1) → Step (moment + 1) old new
     step_failed is = step_by moment old new FailedCall (ap (λ (k : Kept). k.calls) is) (ap (λ (k : Kept). k.bytes) is) (omega (arith, ap (λ (k : Kept). k.faults) is))
@@ -137,13 +140,15 @@ module _ (before : List Kept) (moment clock disk : ℕ) (old : Kept) (stood : sl
       one_moment = omega arith;
       ticks = tt;
       failed = λ same. rw (here, stood) (λ below. omega (arith, ap (λ (k : Kept). k.faults) is));
+      steady = tt;
+      wanting = λ same. cc;
     }
 
     step_none : new ≡ old → Step (moment + 1) old new
     step_none is = subst (λ k. Step (moment + 1) old k) (sym is) (step_same moment old sound_old)
 
     call_none : {T : Type 0} → new ≡ old → IsCall {T = T} (told before moment clock) (told (set before disk new) (moment + 1) clock) disk (Err NoMemory)
-    call_none is = record { alone = mem_alone (step_none is); one_moment = omega arith; ticks = tt; failed = λ same. cc }
+    call_none is = record { alone = mem_alone (step_none is); one_moment = omega arith; ticks = tt; failed = λ same. cc; steady = tt; wanting = λ same. same_faults (ap (λ (k : Kept). k.faults) is) }
 
     failed_now : new ≡ failed_at old (moment + 1) → (image : List ℕ) → ImageNow new.calls new.bytes image → ImageNow old.calls old.bytes image
     failed_now is image left = subst (λ (k : Kept). ImageNow k.calls k.bytes image) is left
@@ -164,7 +169,7 @@ module _ (before : List Kept) (moment clock disk : ℕ) (old : Kept) (stood : sl
     mem_read_at at into out (Ok answer) is bytes =
         let step = step_did (Read at (length into)) is refl in
         record {
-          call = call_ok answer step;
+          call = call_ok answer step (ap (λ (k : Kept). k.faults) is);
           bytes = λ stood_there told_so. bytes ∙ ap (λ (l : List ℕ). take (length into) (drop at l)) (old_told stood_there told_so);
           content = content_by (ap (λ (k : Kept). k.bytes) is);
           crash = crash_by step.newest (λ image left. subst (λ (k : Kept). ImageNow k.calls k.bytes image) is left);
@@ -176,7 +181,7 @@ module _ (before : List Kept) (moment clock disk : ℕ) (old : Kept) (stood : sl
     mem_len (Ok n) is long =
         let step = step_did Length is refl in
         record {
-          call = call_ok n step;
+          call = call_ok n step (ap (λ (k : Kept). k.faults) is);
           bytes = λ bytes told_so. long ∙ ap length (old_told bytes told_so);
           content = content_by (ap (λ (k : Kept). k.bytes) is);
           crash = crash_by step.newest (λ image left. subst (λ (k : Kept). ImageNow k.calls k.bytes image) is left);
@@ -191,7 +196,7 @@ module _ (before : List Kept) (moment clock disk : ℕ) (old : Kept) (stood : sl
         let only : (image : List ℕ) → ImageNow new.calls new.bytes image → image ≡ new.bytes = λ image left.
         image_settled old.bytes image (subst (λ (k : Kept). ImageNow k.calls k.bytes image) is left) ∙ sym same in
         record {
-          call = call_ok answer step;
+          call = call_ok answer step (ap (λ (k : Kept). k.faults) is);
           settled = λ bytes told_so image left. only image (new_now image step.newest left) ∙ new_told bytes told_so;
           content = content_by same;
           crash = crash_by step.newest (λ image left. subst (ImageNow old.calls old.bytes) (sym (only image left ∙ same)) sound_old.image);
@@ -215,7 +220,7 @@ module _ (before : List Kept) (moment clock disk : ℕ) (old : Kept) (stood : sl
         let only : (image : List ℕ) → ImageNow new.calls new.bytes image → image ≡ picked pick old.calls old.bytes = λ image left.
         image_settled (picked pick old.calls old.bytes) image (subst (λ (k : Kept). ImageNow k.calls k.bytes image) is.is left) in
         record {
-          call = call_ok answer step;
+          call = call_ok answer step (ap (λ (k : Kept). k.faults) is.is);
           settled = λ bytes told_so image left. only image (new_now image step.newest left) ∙ sym same ∙ new_told bytes told_so;
           crash = crash_by step.newest (λ image left. subst (ImageNow old.calls old.bytes) (sym (only image left)) (picked_now pick));
         }
@@ -245,7 +250,7 @@ module _ (before : List Kept) (moment clock disk : ℕ) (old : Kept) (stood : sl
     mem_write_at at put (Ok answer) wrote far =
         let step = step_wrote at put wrote in
         record {
-          call = call_ok answer step;
+          call = call_ok answer step (ap (λ (k : Kept). k.faults) wrote.is);
           content = λ bytes told_so. rw here (ap Some (ap (λ (k : Kept). k.bytes) wrote.is ∙ ap (λ (l : List ℕ). written l at put) (old_told bytes told_so)));
           crash = torn_by at put wrote step.newest;
           too_far = far;
@@ -292,7 +297,7 @@ module _ (disks : List Kept) (moment clock disk : ℕ) where
       at_same_back m d image from to left = let e : moment ≡ m = omega arith in subst (λ n. images_of n (slice_get disks d) image) e left
 
   call_unmade : {T : Type 0} → IsCall {T = T} (told disks moment clock) (told disks moment clock) disk (Err NoMemory)
-  call_unmade = record { alone = alone_unmade; one_moment = omega arith; ticks = tt; failed = λ same. cc }
+  call_unmade = record { alone = alone_unmade; one_moment = omega arith; ticks = tt; failed = λ same. cc; steady = tt; wanting = λ same. refl }
 
   pub unmade_read_at : {T : Type 0} (at : ℕ) (into out : List ℕ) → Reads {T = T} (told disks moment clock) (told disks moment clock) disk at into out (Err NoMemory)
   unmade_read_at at into out = record { call = call_unmade; bytes = tt; content = refl; crash = λ image left. left }

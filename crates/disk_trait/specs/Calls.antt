@@ -2,15 +2,17 @@
 use Rattle.std.specs.Prelude.{◌≡◌, ℕ, ◌+◌, ◌-◌, ◌^◌, ◌<◌, ◌≤◌, List, length, take, drop, Some, Result, IfOk, OnOk, IsErr, IsErrOf}
 use Rattle.disk_trait.specs.Disks.{Disks, OnDisk, Rose, WhereTold, IsSettled, NoNewImage, TornAlone, written}
 use Rattle.disk_trait.specs.declared.parts.Outage.{Outage}
-use Rattle.disk_trait.specs.declared.parts.Outage.TheVariants.{Failed}
+use Rattle.disk_trait.specs.declared.parts.Outage.TheVariants.{Failed, NoMemory}
 
--- One call on this disk: it ends at the next moment, and it answers Failed only where that disk's count
--- of faults rose. Only a call that wants memory may end where it began.
+-- One call on this disk: it ends at the next moment, and that disk's count of faults rises where it answers
+-- Failed and nowhere else. Only a call that wants memory may end where it began.
 pub record IsCall {T : Type 0} (old new : Disks) (disk : ℕ) (result : Result T Outage) : Type 0 where
   pub alone : OnDisk old new disk
   pub one_moment : new.time ≤ old.time + 1
   pub ticks : OnOk result (old.time < 2 ^ 64 - 1 → new.time ≡ old.time + 1)
   pub failed : IsErrOf result Failed → Rose (old.faults disk) (new.faults disk)
+  pub steady : OnOk result (new.faults disk ≡ old.faults disk)
+  pub wanting : IsErrOf result NoMemory → new.faults disk ≡ old.faults disk
 
 -- a read of the bytes from a place on, into all of `into`
 pub record Reads {T : Type 0} (old new : Disks) (disk at : ℕ) (before after : List ℕ) (result : Result T Outage) : Type 0 where

@@ -1,3 +1,4 @@
+pub mod AllDisks
 pub mod Disks
 pub mod Calls
 pub mod Ticks

@@ -1,6 +1,7 @@
 //! A repository's parts: three disks that a crash may tear, and a clock.
 #![tactic(auto)]
 
+mod all_disks;
 mod clock;
 mod counts;
 mod crash;
@@ -13,6 +14,7 @@ mod mem_parts;
 mod parts;
 mod record;
 
+pub use all_disks::{content_is_left, restart_all};
 pub use clock::{Clock, SystemClock, TickClock};
 pub use files::FileParts;
 pub use fused::Fused;

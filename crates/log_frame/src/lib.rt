@@ -9,6 +9,3 @@ mod reading;
 
 pub use fault::LogFault;
 pub use log::{Log, Records};
-
-#[cfg(test)]
-mod tests;

@@ -1,4 +1,4 @@
-ghost use Rattle.std.specs.Prelude.{◌≡◌, ◌+◌, ◌^◌, ◌≤◌, ◌<◌, ℕ, List, length, IfOk, IfErr, OnOk, IsErrOf, Some, None, Ok, Err};
+ghost use Rattle.std.specs.Prelude.{◌≡◌, ◌+◌, ◌^◌, ◌≤◌, ◌<◌, ℕ, List, length, IfOk, IfErr, IfSome, OnOk, IsErrOf, Some, None, Ok, Err};
 ghost use Rattle.disk_trait.specs.Disks.{Disks, OnDisk, Leaves, WhereTold, MayLeave, IsSettled, NoNewImage, Rose};
 ghost use Rattle.log_frame.specs.Log.{Opened, Place, Stands, Agrees, IsFound, IsBeforeOrAfter, IsOldOrNew, with_body, new_log, read_log};
 ghost use Rattle.log_frame.specs.declared.fault.LogFault.TheVariants.{Damaged, Failed};
@@ -54,6 +54,7 @@ impl Log {
         ensures crash { NoNewImage (P.disks parts.old) (P.disks parts.new) disk }
         ensures any_moment { Leaves (P.disks parts.old) (P.disks parts.new) disk (MayLeave (P.disks parts.old) disk) }
         ensures found { IfOk result (λ found. WhereTold (P.disks parts.old) disk (λ bytes. IsFound disk bytes found)) }
+        ensures disk { IfOk result (λ found. IfSome found (λ f. f.0.disk ≡ disk)) }
         ensures damaged { (place : ℕ) → IsErrOf result (Damaged place) → WhereTold (P.disks parts.old) disk (λ bytes. read_log bytes ≡ Some (Err place)) }
         ensures failed { IsErrOf result Failed → Rose ((P.disks parts.old).faults disk) ((P.disks parts.new).faults disk) }
     {
@@ -143,6 +144,14 @@ impl Log {
         ensures { result ≡ self.now.sequence }
     {
         self.sequence
+    }
+
+    /// The disk that it stands on.
+    pub fn disk(&self) -> u8
+        ensures value { result ≡ self.now.disk }
+        ensures within { result < 2 }
+    {
+        self.disk
     }
 }
 

@@ -8,8 +8,7 @@ use Rattle.thor_value.proofs.NameOrders.{oref_total}
 use Rattle.thor_value.specs.FiniteMap.{Set, add, get, has}
 use Rattle.thor_value.specs.Names.{oref_cmp, same_oref}
 use Rattle.thor_value.specs.declared.names.Oref.{Oref}
-use Rattle.class_defs.proofs.Alike.{same_itself}
-use Rattle.class_defs.proofs.FitValues.{one_name}
+use Rattle.class_defs.proofs.SameNames.{same_itself, one_name}
 use Rattle.class_defs.specs.Objects.{stand_in_name}
 use Rattle.class_defs.specs.declared.limits.TheConstants.{CREATE_LIMIT}
 use Rattle.method_eval.proofs.Holding.{freed_names, map_append}

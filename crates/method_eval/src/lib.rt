@@ -12,8 +12,6 @@ mod names_laws;
 mod objects;
 mod run;
 mod steps;
-#[cfg(test)]
-mod tests;
 mod types;
 mod view;
 mod world;

@@ -25,8 +25,3 @@ pub use setups::{methods, next_begins_type};
 pub use starts::{operator_in, tighter};
 pub use take::{name, next_is, number, type_word, word};
 pub use whole::error_of;
-
-#[cfg(test)]
-mod print_tests;
-#[cfg(test)]
-mod tests;

@@ -12,8 +12,6 @@ mod reading;
 mod sink;
 mod source;
 mod standard;
-#[cfg(test)]
-mod tests;
 mod writing;
 
 pub use failed::Failed;

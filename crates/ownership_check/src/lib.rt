@@ -17,6 +17,3 @@ pub use applied::{apply, has_next_number};
 pub use checking::{Owned, own_check};
 pub use error::OwnError;
 pub use laws::{one_upgrade_follows_another, the_least_own_fault_is_told};
-
-#[cfg(test)]
-mod tests;

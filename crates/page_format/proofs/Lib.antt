@@ -2,3 +2,4 @@ pub mod Entries
 pub mod Pages
 pub mod Splices
 pub mod Walks
+pub mod Places

@@ -1,6 +1,7 @@
 -- Walking over the objects of a page one after the other, as the loops do.
-use Rattle.std.proofs.Common.{◌≡◌, ℕ, zero, suc, ◌+◌, ◌-◌, ◌<◌, ◌≤◌, Bool, true, false, cond, ltb, List, [], ◌∷◌, length, take, drop, Option, Some, None, refl, sym, ap, subst, ◌∙◌, arith}
+use Rattle.std.proofs.Common.{◌≡◌, ℕ, zero, suc, ◌+◌, ◌-◌, ◌<◌, ◌≤◌, Bool, true, false, cond, ltb, List, [], ◌∷◌, length, take, drop, Option, Some, None, refl, sym, ap, subst, ◌∙◌, arith, slice_get}
 use Rattle.std.specs.Option.{option_map_or}
+use Rattle.std.proofs.lemmas.Option.{slice_get_past}
 use Rattle.std.specs.Ordering.{nat_cmp, match_ordering, is_eq}
 use Rattle.std.specs.declared.cmp.Ordering.{Ordering}
 use Rattle.std.specs.declared.cmp.Ordering.TheVariants.{Less, Equal, Greater}
@@ -226,3 +227,37 @@ behind_shorter zero low bytes rest e =
     let same : bytes ≡ rest = rest_is bytes rest (sym (behind_zero low bytes) ∙ e) in
     omega (arith, ap length same)
 behind_shorter (suc n) low bytes rest e = shorter_by n low bytes rest (λ k left h. behind_shorter n k left rest h) e (first_at bytes) refl
+
+-- ---- the object at a rank
+
+pub nth_none : (count i k : ℕ) (rest : List ℕ) (total : Option (ℕ × List ℕ)) → i < count → None ≡ first_at rest → slice_get (pairs_of (count - i) rest) k ≡ total → None ≡ total
+nth_none count i k rest total lt e so_far =
+    let p : pairs_of (count - i) rest ≡ [] = ap (λ (n : ℕ). pairs_of n rest) (one_more count i lt) ∙ pairs_none (count - (i + 1)) rest (sym e) in
+    sym (ap (λ (l : List (ℕ × List ℕ)). slice_get l k) p) ∙ so_far
+
+nth_step : (count i k : ℕ) (rest : List ℕ) (x : First) → i < count → first_at rest ≡ Some x → slice_get (pairs_of (count - i) rest) k ≡ slice_get (x.0 ∷ pairs_of (count - (i + 1)) x.1) k
+nth_step count i k rest x lt e = ap (λ (l : List (ℕ × List ℕ)). slice_get l k) (ap (λ (n : ℕ). pairs_of n rest) (one_more count i lt) ∙ pairs_more (count - (i + 1)) rest x e)
+
+pub nth_on : (count i rank : ℕ) (q : ℕ × List ℕ) (after rest : List ℕ) (total : Option (ℕ × List ℕ)) → i < rank → rank < count → Some (q, after) ≡ first_at rest → slice_get (pairs_of (count - i) rest) (rank - i) ≡ total → slice_get (pairs_of (count - (i + 1)) after) (rank - (i + 1)) ≡ total
+nth_on count i rank q after rest total lt within e so_far =
+    let s = nth_step count i (rank - i) rest (q, after) (omega (arith, lt, within)) (sym e) in
+    let k : rank - i ≡ suc (rank - (i + 1)) = omega (arith, lt) in
+    sym (s ∙ ap (λ (n : ℕ). slice_get (q ∷ pairs_of (count - (i + 1)) after) n) k) ∙ so_far
+
+pub nth_here : (count i rank : ℕ) (q : ℕ × List ℕ) (after rest : List ℕ) (total : Option (ℕ × List ℕ)) → i < count → rank ≤ i → Some (q, after) ≡ first_at rest → slice_get (pairs_of (count - i) rest) (rank - i) ≡ total → Some q ≡ total
+nth_here count i rank q after rest total lt past e so_far =
+    let s = nth_step count i (rank - i) rest (q, after) lt (sym e) in
+    let k : rank - i ≡ 0 = omega (arith, past) in
+    sym (s ∙ ap (λ (n : ℕ). slice_get (q ∷ pairs_of (count - (i + 1)) after) n) k) ∙ so_far
+
+few_by : (n : ℕ) (o : Option First) → ((bytes : List ℕ) → length (pairs_of n bytes) ≤ n) → length (option_map_or (λ x. x.0 ∷ pairs_of n x.1) o []) ≤ suc n
+few_by n None more = omega arith
+few_by n (Some x) more = let h = more x.1 in omega arith
+
+pub pairs_few : (n : ℕ) (bytes : List ℕ) → length (pairs_of n bytes) ≤ n
+unfolding pairs_of
+pairs_few zero bytes = omega arith
+pairs_few (suc n) bytes = few_by n (first_at bytes) (λ more. pairs_few n more)
+
+pub nth_past : (count rank : ℕ) (bytes : List ℕ) → count ≤ rank → None ≡ slice_get (pairs_of count bytes) rank
+nth_past count rank bytes past = sym (slice_get_past (pairs_of count bytes) rank (let h = pairs_few count bytes in omega arith))

@@ -41,8 +41,8 @@ taken c = 8 + length (entries c.objects.pairs)
 abbrev pub page_bytes : Contents → List ℕ
 page_bytes c = (head c.number (len c.objects) ++ entries c.objects.pairs) ++ replicate (page_size - taken c) 0
 
--- slots strictly rise, from a least one on
-abbrev pub Rises : ℕ → List (ℕ × List ℕ) → Type 0
+-- the numbers before what they stand for strictly rise, from a least one on
+abbrev pub Rises : {X : Type 0} → ℕ → List (ℕ × X) → Type 0
 Rises low [] = Unit {0}
 Rises low (q ∷ pairs) = (low ≤ q.0) × Rises (suc q.0) pairs
 

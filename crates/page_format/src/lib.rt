@@ -3,14 +3,11 @@
 
 mod fault;
 mod page;
+mod sides;
 mod splice;
-#[cfg(test)]
-mod tests;
 mod walk;
 
 pub use fault::{Damaged, Full};
 pub use page::{Page, pages_are_apart, twelve_objects_fit};
-use thor_value::Sequence;
-
-/// Pages, each with the side of it that is in use.
-pub type Sides = Sequence<(u32, u8)>;
+pub use sides::{Room, Sides};
+pub use walk::PAGE as PAGE_BYTES;

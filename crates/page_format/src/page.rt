@@ -1,11 +1,11 @@
-ghost use Rattle.std.specs.Prelude.{◌≡◌, ◌<◌, ◌≤◌, ℕ, ◌++◌, ◌+◌, ◌*◌, List, length, All, Ok, Err, OnOk, OnErr, IfOk, IsErrOf, IsOk};
-ghost use Rattle.std.specs.Option.{option_copied};
+ghost use Rattle.std.specs.Prelude.{◌≡◌, ◌<◌, ◌≤◌, ℕ, ◌++◌, ◌+◌, ◌*◌, List, length, All, Ok, Err, OnOk, OnErr, IfOk, IsErrOf, IsOk, slice_get};
+ghost use Rattle.std.specs.Option.{option_copied, option_map};
 ghost use Rattle.thor_value.specs.FiniteMap.{empty, get, insert, len as object_count};
 ghost use Rattle.page_format.specs.Pages.{Contents, PageFits, ObjectsFit, Passes, Parsed, page_bytes, page_size, taken};
 
 use crate::fault::{Damaged, Full};
 use crate::splice::{spelled, spliced};
-use crate::walk::{find, parts_of};
+use crate::walk::{find, nth, parts_of};
 use std::alloc::Global;
 use std::marker::Model;
 use thor_value::{NoMemory, Sequence, Text, TryCopy};
@@ -70,6 +70,20 @@ impl Page {
         ensures { result ≡ self.now.number }
     {
         self.number
+    }
+
+    /// How many slots have an object.
+    pub fn len(&self) -> u8
+        ensures { result ≡ object_count self.now.objects }
+    {
+        self.count
+    }
+
+    /// The slot at a rank counted from 0 among those that have an object, slots rising, with its bytes.
+    pub fn nth(&self, rank: u8) -> Option<(u8, &[u8])>
+        ensures { option_map (λ x. (x.0, x.1.now)) result ≡ slice_get self.now.objects.pairs rank }
+    {
+        nth(self.entries.as_slice(), self.count, rank)
     }
 
     /// The bytes of the object in a slot, where it has one.

@@ -1,6 +1,6 @@
 //! Walking over the objects of a page as they stand in its bytes.
 
-ghost use Rattle.std.specs.Prelude.{◌≡◌, ◌≤◌, ◌+◌, length};
+ghost use Rattle.std.specs.Prelude.{◌≡◌, ◌≤◌, ◌+◌, length, slice_get};
 ghost use Rattle.std.specs.Option.{option_copied, option_map};
 ghost use Rattle.std.specs.Ordering.{nat_cmp};
 ghost use Rattle.std.specs.BTreeMap.{is_at};
@@ -10,7 +10,7 @@ ghost use Rattle.page_format.specs.Walking.{all_zero as is_all_zero, behind_at, 
 use byteorder::{BigEndian, ByteOrder};
 
 /// The bytes of a page.
-pub(crate) const PAGE: usize = 4096;
+pub const PAGE: usize = 4096;
 
 /// The bytes of its head.
 pub(crate) const HEAD: usize = 8;
@@ -63,6 +63,26 @@ pub(crate) fn find(entries: &[u8], count: u8, slot: u8) -> Option<&[u8]>
         }
     }
     None
+}
+
+/// The object at a rank counted from 0, with its slot.
+pub(crate) fn nth(entries: &[u8], count: u8, rank: u8) -> Option<(u8, &[u8])>
+    ensures { option_map (λ x. (x.0, x.1.now)) result ≡ slice_get (pairs_of count entries.now) rank }
+{
+    if rank >= count {
+        return None;
+    }
+    let mut rest = entries;
+    for _ in 0..rank {
+        match first_of(rest) {
+            None => return None,
+            Some((_, after)) => rest = after,
+        }
+    }
+    match first_of(rest) {
+        None => None,
+        Some((object, _)) => Some(object),
+    }
 }
 
 /// What is behind the objects, where their slots strictly rise.

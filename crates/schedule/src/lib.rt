@@ -12,8 +12,3 @@ mod steps;
 pub use checking::check_events;
 pub use events::{Event, EventKind, Events};
 pub use parsing::parse_schedule;
-
-#[cfg(test)]
-mod rows;
-#[cfg(test)]
-mod tests;

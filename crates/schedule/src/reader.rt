@@ -3,7 +3,7 @@ use script_text::Syntax;
 use thor_value::Text;
 
 /// What was read of a schedule's tokens, and what may stand next.
-#[derive(Debug, Drop)]
+#[derive(Drop)]
 pub enum Reader {
     /// Whole events.
     Ready {

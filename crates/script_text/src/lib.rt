@@ -24,12 +24,3 @@ pub use sections::{ClientParts, ItemParts, Sections, Split};
 pub use splitting::{last_line, split_sections};
 pub use syntax::{Syntax, SyntaxError};
 pub use token::{Token, TokenKind, Tokens};
-
-#[cfg(test)]
-mod rows;
-#[cfg(test)]
-mod section_rows;
-#[cfg(test)]
-mod section_tests;
-#[cfg(test)]
-mod tests;

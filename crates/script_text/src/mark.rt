@@ -1,5 +1,5 @@
 /// What a token is for the parts of a script.
-#[derive(Clone, Copy, Debug, PartialEq, Eq)]
+#[derive(Clone, Copy, PartialEq, Eq)]
 pub enum Mark {
     /// The word `setup`.
     Setup,

@@ -1,5 +1,5 @@
 /// How far a text has been read.
-#[derive(Clone, Copy, Debug)]
+#[derive(Clone, Copy)]
 pub struct Place {
     /// The place of the next byte, from 0.
     pub from: usize,

@@ -3,7 +3,7 @@ use crate::syntax::Syntax;
 use crate::token::Tokens;
 
 /// The setup, and the clients that are whole.
-#[derive(Debug, Drop)]
+#[derive(Drop)]
 pub struct Found {
     pub setup: Option<Tokens>,
     pub clients: ClientParts,
@@ -12,7 +12,7 @@ pub struct Found {
 }
 
 /// The client that is read, with what stands before it.
-#[derive(Debug, Drop)]
+#[derive(Drop)]
 pub struct Current {
     pub found: Found,
     /// Its items that are whole.
@@ -22,7 +22,7 @@ pub struct Current {
 }
 
 /// What was read of a script's tokens, and what may stand next.
-#[derive(Debug, Drop)]
+#[derive(Drop)]
 pub enum Reader {
     /// Nothing was read.
     Start,

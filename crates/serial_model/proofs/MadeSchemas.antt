@@ -5,7 +5,7 @@ use Rattle.std.proofs.lemmas.List.{length-map}
 use Rattle.std.proofs.lemmas.Option.{slice_get_past}
 use Rattle.std.specs.List.{list_all}
 use Rattle.std.specs.Prelude.{nat_lt}
-use Rattle.class_defs.proofs.UpgradeNumbers.{highest_below, number_below as number_at_most}
+use Rattle.class_defs.proofs.NumbersBehind.{highest_below, number_below as number_at_most}
 use Rattle.class_defs.specs.Applied.{applied, class_behind, highest, next_number, said_of}
 use Rattle.class_defs.specs.declared.store.Schema.{Schema}
 use Rattle.class_defs.specs.declared.store.Schemas.{Schemas}

@@ -7,10 +7,10 @@ use Rattle.std.specs.Prelude.{◌+◌, ◌*◌, ◌/◌, ◌%◌, ◌==◌, ◌|
 use Rattle.thor_value.specs.FiniteMap.{get}
 use Rattle.thor_value.specs.Names.{same_oref}
 use Rattle.thor_value.specs.declared.names.Oref.{Oref}
-use Rattle.class_defs.proofs.FitValues.{one_name}
-use Rattle.class_defs.specs.Fits.{Fresh, IsNew}
+use Rattle.class_defs.proofs.SameNames.{one_name}
+use Rattle.fitting_laws.specs.Fits.{Fresh, IsNew}
 use Rattle.class_defs.specs.Objects.{stand_in_name}
-use Rattle.class_defs.specs.Renaming.{Takeable}
+use Rattle.renaming_laws.specs.Renaming.{Takeable}
 use Rattle.class_defs.specs.declared.store.Plain.{Plain}
 use Rattle.serial_model.specs.History.{are_fresh}
 use Rattle.thor_top.specs.Alone.{granted, names_from}

@@ -11,13 +11,12 @@ use Rattle.thor_value.proofs.NameOrders.{oref_total}
 use Rattle.thor_value.specs.FiniteMap.{Map, empty, get, insert, overwrite}
 use Rattle.thor_value.specs.Names.{oref_cmp, same_oref}
 use Rattle.thor_value.specs.declared.names.Oref.{Oref}
-use Rattle.class_defs.proofs.Alike.{same_itself}
-use Rattle.class_defs.proofs.FitNames.{stands_there}
-use Rattle.class_defs.proofs.FitObjects.{begin_fields, fields_told}
-use Rattle.class_defs.proofs.FitRules.{each_nothing, held, nothing, schema_sound, there}
-use Rattle.class_defs.proofs.FitValues.{one_name}
-use Rattle.class_defs.specs.Fits.{ObjectFits, RootFits}
-use Rattle.class_defs.specs.Renaming.{IsOld}
+use Rattle.class_defs.proofs.SameNames.{same_itself, one_name}
+use Rattle.fitting_laws.proofs.FitNames.{stands_there}
+use Rattle.fitting_laws.proofs.FitObjects.{begin_fields, fields_told}
+use Rattle.class_defs.proofs.KeptRules.{each_nothing, held, nothing, schema_sound, there}
+use Rattle.fitting_laws.specs.Fits.{ObjectFits, RootFits}
+use Rattle.renaming_laws.specs.Renaming.{IsOld}
 use Rattle.class_defs.specs.Rules.{is_class, is_free_class}
 use Rattle.class_defs.specs.SchemaRules.{class_names, classes_from, root_names, root_rules, schema_rules}
 use Rattle.class_defs.specs.Steps.{beginning}

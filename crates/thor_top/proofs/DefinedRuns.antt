@@ -2,7 +2,7 @@
 use Rattle.std.proofs.Common.{◌≡◌, ◌⊎◌, inl, inr, true, false, List, [], ◌∷◌, Option, Some, None, option_map, refl, subst, ℕ, length}
 use Rattle.std.specs.List.{flat_map, list_any}
 use Rattle.std.specs.Prelude.{◌+◌}
-use Rattle.class_defs.proofs.FitRules.{nothing}
+use Rattle.class_defs.proofs.KeptRules.{nothing}
 use Rattle.class_defs.specs.SchemaRules.{item_rules, schema_rules}
 use Rattle.class_defs.specs.declared.declarations.Declarations.{Declarations}
 use Rattle.class_defs.specs.declared.statements.Stmt.{Stmt}

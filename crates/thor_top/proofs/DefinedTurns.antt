@@ -8,13 +8,13 @@ use Rattle.thor_value.specs.declared.names.Oref.{Oref}
 use Rattle.thor_value.specs.declared.values.Answer.{Answer}
 use Rattle.thor_value.specs.declared.values.Answer.TheVariants as answer
 use Rattle.thor_value.specs.declared.values.Fault.{Fault}
-use Rattle.class_defs.proofs.FitRun.{run_fits, run_had}
-use Rattle.class_defs.proofs.RenamedAfter.{unused_behind, unwritten_behind}
-use Rattle.class_defs.proofs.RenamedEnds.{runs_same, stand_ins_enough}
-use Rattle.class_defs.proofs.RenamedStores.{created_takeable, defined_again, no_names_takeable, taken_in_order}
-use Rattle.class_defs.specs.Fits.{Fresh, StoreFits}
+use Rattle.fitting_laws.proofs.FitRun.{run_fits, run_had}
+use Rattle.renaming_laws.proofs.RenamedAfter.{unused_behind, unwritten_behind}
+use Rattle.renaming_laws.proofs.RenamedEnds.{runs_same, stand_ins_enough}
+use Rattle.renaming_laws.proofs.RenamedStores.{created_takeable, defined_again, no_names_takeable, taken_in_order}
+use Rattle.fitting_laws.specs.Fits.{Fresh, StoreFits}
 use Rattle.class_defs.specs.Objects.{stand_in_name}
-use Rattle.class_defs.specs.Renaming.{SameEnd, Takeable, Unused}
+use Rattle.renaming_laws.specs.Renaming.{SameEnd, Takeable, Unused}
 use Rattle.class_defs.specs.Run.{Ran, begun, execute_all, ran_by, run, world_of}
 use Rattle.class_defs.specs.SchemaRules.{item_rules, schema_rules}
 use Rattle.class_defs.specs.Touched.{HadObjects}

@@ -1,7 +1,7 @@
 -- What is told of a script, from the least broken rule, the least event and the first fault of an upgrade.
 use Rattle.std.proofs.Common.{◌≡◌, ℕ, [], length, Option, Some, None, option_map, refl, ap, sym, ◌∙◌, subst}
 use Rattle.std.specs.List.{flat_map}
-use Rattle.class_defs.proofs.FitRules.{nothing}
+use Rattle.class_defs.proofs.KeptRules.{nothing}
 use Rattle.class_defs.specs.Objects.{first_of}
 use Rattle.class_defs.specs.Rules.{least}
 use Rattle.class_defs.specs.SchemaRules.{schema_rules}

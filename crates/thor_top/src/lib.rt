@@ -13,12 +13,8 @@ mod playing;
 mod reading;
 mod refusal;
 mod script;
-#[cfg(test)]
-mod script_law_tests;
 mod script_laws;
 mod status;
-#[cfg(test)]
-mod tests;
 mod top;
 mod turns;
 mod upgrade_laws;

@@ -23,6 +23,3 @@ pub use names::{Oref, Ts};
 pub use oref_map::OrefMap;
 pub use sequence::Sequence;
 pub use values::{Answer, Fault, Obj, Value, Who};
-
-#[cfg(test)]
-mod tests;

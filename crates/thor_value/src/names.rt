@@ -1,7 +1,5 @@
 //! The names of objects and of transactions.
 
-use std::cmp::Ordering;
-
 /// The name of an object: its repository, its page there and its slot in the page. Names are
 /// ordered by repository, then page, then slot. A slot that was committed is never used again,
 /// so a name means one object for good.
@@ -26,21 +24,4 @@ pub struct Ts {
     pub repo: u8,
     /// How often the coordinator had been opened or restarted when it drew, from 1.
     pub life: u32,
-}
-
-#[cfg(test)]
-mod tests {
-    use super::*;
-
-    fn ts(time: u64, repo: u8, life: u32) -> Ts {
-        Ts { time, repo, life }
-    }
-
-    #[test]
-    fn timestamps_compare_by_time_then_repository_then_life(rt: HostRuntime) {
-        assert!(rt; ts(3, 0, 1).cmp(&ts(3, 0, 1)) == Ordering::Equal);
-        assert!(rt; ts(2, 7, 9).cmp(&ts(3, 0, 1)) == Ordering::Less);
-        assert!(rt; ts(3, 1, 1).cmp(&ts(3, 0, 9)) == Ordering::Greater);
-        assert!(rt; ts(3, 1, 1).cmp(&ts(3, 1, 2)) == Ordering::Less);
-    }
 }

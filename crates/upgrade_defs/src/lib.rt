@@ -14,6 +14,3 @@ mod whole;
 pub use laws::{printed_upgrades_are_read, upgrade_spellings_are_unique};
 pub use parse::parse_upgrade;
 pub use printing::print_upgrade;
-
-#[cfg(test)]
-mod tests;

@@ -9,10 +9,8 @@ mod member;
 mod members;
 mod name_set;
 mod queue;
-#[cfg(test)]
-mod tests;
 
 pub use clash::Clash;
 pub use member::Member;
-pub use name_set::{NameSet, is_in_order};
+pub use name_set::{NameSet, is_in_order, is_one_of};
 pub use queue::Queue;

@@ -62,8 +62,8 @@ impl NameSet {
     }
 }
 
-/// Whether the name is one of the names.
-fn is_one_of(names: &[Oref], oref: Oref) -> bool
+/// Whether the name is one of the names, which rise. It looks at a few of them.
+pub fn is_one_of(names: &[Oref], oref: Oref) -> bool
     requires { Rises names.now }
     ensures { result ≡ is_among names.now oref }
 {

@@ -1,0 +1,137 @@
+//! The bytes of values, names and timestamps, and the order of timestamps.
+
+use std::alloc::Global;
+use std::cmp::Ordering;
+use std::test::Fail;
+use thor_value::{
+    NoMemory, Oref, ReadFault, Text, Ts, Value, put_oref, put_ts, put_value, read_oref, read_ts,
+    read_value,
+};
+
+const FIRST: Oref = Oref {
+    repo: 0,
+    page: 0,
+    slot: 0,
+};
+
+const LAST: Oref = Oref {
+    repo: 7,
+    page: 65535,
+    slot: 11,
+};
+
+/// Values, each as it is spelled.
+const VALUES: &[(Value, &[u8])] = &[
+    (Value::Int(5), &[1, 0, 0, 0, 0, 0, 0, 0, 5]),
+    (Value::Int(-2), &[1, 255, 255, 255, 255, 255, 255, 255, 254]),
+    (
+        Value::Int(-9223372036854775808),
+        &[1, 128, 0, 0, 0, 0, 0, 0, 0],
+    ),
+    (Value::Ref(FIRST), &[2, 0, 0, 0, 0, 0, 0]),
+    (Value::Ref(LAST), &[2, 7, 0, 0, 255, 255, 11]),
+    (Value::Null, &[3]),
+];
+
+#[test]
+fn values_are_read(rt: HostRuntime) -> Result<(), Fail> {
+    for (value, bytes) in VALUES {
+        let mut longer = Text::from_slice(rt.alloc(), bytes)?;
+        longer.push(9)?;
+        assert!(rt; read_value(longer.as_slice()) == Ok((*value, bytes.len())));
+        for len in 0..bytes.len() {
+            assert!(rt; read_value(bytes.split_at(len).0) == Err(ReadFault::Short));
+        }
+    }
+    Ok(())
+}
+
+/// Some values, a timestamp and a name, one behind the other.
+fn spelled(alloc: Global) -> Result<Text, NoMemory> {
+    let mut out = Text::new(alloc);
+    put_value(Value::Int(-2), &mut out)?;
+    put_value(Value::Ref(LAST), &mut out)?;
+    put_value(Value::Null, &mut out)?;
+    let tx = Ts {
+        time: 3,
+        repo: 0,
+        life: 1,
+    };
+    put_ts(tx, &mut out)?;
+    let name = Oref {
+        repo: 1,
+        page: 258,
+        slot: 2,
+    };
+    put_oref(name, &mut out)?;
+    Ok(out)
+}
+
+const SPELLED: &[u8] = &[
+    1, 255, 255, 255, 255, 255, 255, 255, 254, 2, 7, 0, 0, 255, 255, 11, 3, 0, 0, 0, 0, 0, 0, 0, 3,
+    0, 0, 0, 0, 1, 1, 0, 0, 1, 2, 2,
+];
+
+/// Bytes that no value has, each with what is said of them.
+const NO_VALUES: &[(&[u8], ReadFault)] = &[
+    (&[], ReadFault::Short),
+    (&[0], ReadFault::BadTag),
+    (&[4], ReadFault::BadTag),
+    (&[1, 0], ReadFault::Short),
+    (&[2, 8], ReadFault::BadTag),
+    (&[2, 7, 0, 1], ReadFault::BadTag),
+    (&[2, 7, 1, 0, 0, 0, 0], ReadFault::BadTag),
+    (&[2, 7, 0, 0, 0, 0, 12], ReadFault::BadTag),
+    (&[2, 7, 0, 0, 0], ReadFault::Short),
+    (&[255, 0], ReadFault::BadTag),
+];
+
+/// Bytes, and the time that is read from them and how long it is, or the fault.
+const TIMES: &[(&[u8], Result<(Ts, usize), ReadFault>)] = &[
+    (&[64], Err(ReadFault::BadTag)),
+    (&[63, 0, 0, 0, 0, 0, 0, 0, 8], Err(ReadFault::BadTag)),
+    (
+        &[63, 0, 0, 0, 0, 0, 0, 0, 7, 1, 1, 1],
+        Err(ReadFault::Short),
+    ),
+    (
+        &[0, 0, 0, 0, 0, 0, 0, 3, 0, 0, 0, 0, 1, 9],
+        Ok((
+            Ts {
+                time: 3,
+                repo: 0,
+                life: 1,
+            },
+            13,
+        )),
+    ),
+];
+
+#[test]
+fn bytes_that_are_no_value_are_refused(rt: HostRuntime) {
+    for (bytes, fault) in NO_VALUES {
+        assert!(rt; read_value(bytes) == Err(*fault));
+    }
+}
+
+#[test]
+fn times_and_names_are_spelled_and_read(rt: HostRuntime) -> Result<(), Fail> {
+    assert!(rt; spelled(rt.alloc())?.as_slice() == SPELLED);
+    for (bytes, read) in TIMES {
+        assert!(rt; read_ts(bytes) == *read);
+    }
+    assert!(rt; read_oref(&[0, 0, 1, 0, 0, 0]) == Err(ReadFault::BadTag));
+    Ok(())
+}
+
+fn ts(time: u64, repo: u8, life: u32) -> Ts {
+    Ts { time, repo, life }
+}
+
+#[test]
+fn timestamps_compare_by_time_then_repository_then_life(rt: HostRuntime) {
+    assert!(rt; ts(3, 0, 1).cmp(&ts(3, 0, 1)) == Ordering::Equal);
+    assert!(rt; ts(2, 7, 9).cmp(&ts(3, 0, 1)) == Ordering::Less);
+    assert!(rt; ts(3, 1, 1).cmp(&ts(3, 0, 9)) == Ordering::Greater);
+    assert!(rt; ts(3, 1, 1).cmp(&ts(3, 1, 2)) == Ordering::Less);
+}

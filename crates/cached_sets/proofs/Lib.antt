@@ -1,0 +1,7 @@
+mod Finding
+mod Marking
+mod Meaning
+mod Ordering
+mod Restoring
+mod Touching
+mod Walking

@@ -1,0 +1,7 @@
+use Rattle.cached_sets.proofs.Finding.{found}
+use Rattle.cached_sets.proofs.invalid_set.InvalidSet.first_of_set.Given as goal
+use Rattle.std.proofs.Common.{◌≡◌}
+
+-- the objects that are left decide
+abbrev pub invariant-loop-oref : goal.invariant-loop-oref
+invariant-loop-oref l = found l.names l.upto l.oref-iterator ≡ found l.names l.upto l.self.pairs

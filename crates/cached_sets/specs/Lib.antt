@@ -1,0 +1,5 @@
+pub mod Bounds
+pub mod Invalid
+pub mod Meaning
+pub mod Sets
+pub mod Undoing

@@ -1,0 +1,157 @@
+//! The invalid set of one session.
+
+ghost use Rattle.cached_sets.specs.Invalid.{first_stale, from, if_behind, next_of};
+ghost use Rattle.cached_sets.specs.Undoing.{put_back};
+ghost use Rattle.cached_sets.specs.Bounds.{bound_behind};
+ghost use Rattle.std.specs.Option.{option_and_then};
+ghost use Rattle.std.specs.Prelude.{OnErr, OnOk, ◌≡◌};
+ghost use Rattle.thor_value.specs.FiniteMap.{empty, get, insert};
+ghost use Rattle.validation_queue.specs.Names.{Rises};
+
+use std::alloc::Global;
+use std::collections::BTreeMap;
+use std::marker::Model;
+use std::ops::Bound;
+use thor_value::{NoMemory, Oref};
+use validation_queue::is_one_of;
+
+/// The objects of which a client may have a copy that isn't current, each with the place of its last
+/// write by another session. Contracts see it as a finite map.
+#[derive(Drop)]
+pub struct InvalidSet {
+    places: BTreeMap<Oref, u64>,
+}
+
+impl Model for InvalidSet {
+    ghost use Rattle.cached_sets.specs.Invalid.{Invalid};
+    ghost use Rattle.std.specs.Coded.{coded_ℕ};
+    ghost use Rattle.thor_value.specs.FiniteMap.{code};
+    ghost use Rattle.thor_value.specs.Names.{coded_oref};
+
+    ghost Value = { Invalid };
+
+    ghost coded = { code coded_oref coded_ℕ };
+
+    ghost view = { λ s. record { pairs = s.places.entries } };
+}
+
+/// Where a walk goes on behind a name, or begins.
+fn behind(last: Option<Oref>) -> Bound<Oref>
+    ensures { result ≡ bound_behind last }
+{
+    match last {
+        Some(last) => Bound::Excluded(last),
+        None => Bound::Unbounded,
+    }
+}
+
+impl InvalidSet {
+    /// The empty set. It takes no memory.
+    pub fn new(alloc: Global) -> InvalidSet
+        ensures { result ≡ empty }
+    {
+        InvalidSet {
+            places: BTreeMap::new(alloc),
+        }
+    }
+
+    /// The place of an object, where it is in the set.
+    pub fn place(&self, oref: Oref) -> Option<u64>
+        ensures { result ≡ get self.now oref }
+    {
+        self.places.get(&oref).copied()
+    }
+
+    /// Puts an object in, or changes its place. After `NoMemory` the set is as it was, and the object
+    /// wasn't there.
+    pub fn put(&mut self, oref: Oref, place: u64) -> Result<(), NoMemory>
+        ensures ok { OnOk result (self.new ≡ insert self.old oref place) }
+        ensures err { OnErr result (self.new ≡ self.old) }
+        ensures undone { put_back self.new oref (get self.old oref) ≡ self.old }
+    {
+        self.places.insert(oref, place)?;
+        Ok(())
+    }
+
+    /// Gives an object back the place that it had, or takes it out.
+    pub fn put_back(&mut self, oref: Oref, before: Option<u64>)
+        ensures { self.new ≡ put_back self.old oref before }
+    {
+        match before {
+            Some(before) => {
+                if let Some(place) = self.places.get_mut(&oref) {
+                    *place = before;
+                }
+            }
+            None => {
+                self.places.remove(&oref);
+            }
+        }
+    }
+
+    /// Takes the objects out that were written below a place.
+    pub fn keep_from(&mut self, upto: u64)
+        ensures { self.new ≡ from upto self.old }
+    {
+        self.places.retain(|_, place| upto <= *place);
+    }
+
+    /// The least of some names that is in the set at a place not below `upto`, with its place. It looks
+    /// at the names or at the set, whichever are fewer.
+    pub fn first_stale(&self, names: &[Oref], upto: u64) -> Option<(Oref, u64)>
+        requires { Rises names.now }
+        ensures { result ≡ first_stale self.now upto names.now }
+    {
+        if self.places.len() < names.len() {
+            self.first_of_set(names, upto)
+        } else {
+            self.first_of_names(names, upto)
+        }
+    }
+
+    /// A name with its place, where it is in the set at a place not below `upto`.
+    fn if_stale(&self, name: Oref, upto: u64) -> Option<(Oref, u64)>
+        ensures { result ≡ option_and_then (if_behind upto name) (get self.now name) }
+    {
+        let place = self.place(name)?;
+        if upto <= place {
+            Some((name, place))
+        } else {
+            None
+        }
+    }
+
+    fn first_of_names(&self, names: &[Oref], upto: u64) -> Option<(Oref, u64)>
+        ensures { result ≡ first_stale self.now upto names.now }
+    {
+        for name in names {
+            if let Some(stale) = self.if_stale(*name, upto) {
+                return Some(stale);
+            }
+        }
+        None
+    }
+
+    fn first_of_set(&self, names: &[Oref], upto: u64) -> Option<(Oref, u64)>
+        requires { Rises names.now }
+        ensures { result ≡ first_stale self.now upto names.now }
+    {
+        for (oref, place) in self.places.iter() {
+            if upto <= *place && is_one_of(names, *oref) {
+                return Some((*oref, *place));
+            }
+        }
+        None
+    }
+
+    /// The next object of the set behind one, names rising, with its place.
+    pub fn next(&self, after: Option<Oref>) -> Option<(Oref, u64)>
+        ensures { result ≡ next_of self.now after }
+    {
+        let bounds = (behind(after), Bound::Unbounded);
+        match self.places.range(bounds).next() {
+            Some((oref, place)) => Some((*oref, *place)),
+            None => None,
+        }
+    }
+}

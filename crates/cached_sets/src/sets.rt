@@ -1,0 +1,149 @@
+//! The calls of a repository on the sets of its sessions.
+
+ghost use Rattle.cached_sets.specs.Sets.{acknowledge, cache, drop_session, invalid_after, marked, no_sets, stale, touch, touches};
+ghost use Rattle.cached_sets.specs.Invalid.{Invalids};
+ghost use Rattle.cached_sets.specs.Undoing.{undo};
+ghost use Rattle.std.specs.Map.{keys_of};
+ghost use Rattle.std.specs.Prelude.{Ok, OnErr, OnOk, [], ◌∷◌, ◌≡◌};
+ghost use Rattle.validation_queue.specs.Names.{Rises};
+
+use crate::invalid_sets::InvalidSets;
+use crate::marked::Marked;
+use link_table::Links;
+use std::alloc::Global;
+use std::marker::Model;
+use thor_value::{NoMemory, Oref, Orefs, Writes};
+
+/// For each session the pages that its client may have, and its invalid set: the objects on those
+/// pages that other sessions have written since, each with the place of its last such write (Adya and
+/// others, SIGMOD 1995; Liskov and others, SIGMOD 1996).
+///
+/// An object comes into a set only where the page is cached before the write, so no place is kept with
+/// a page.
+#[derive(Drop)]
+pub struct Sets {
+    pages: Links,
+    invalid: InvalidSets,
+    alloc: Global,
+}
+
+impl Model for Sets {
+    ghost use Rattle.cached_sets.specs.Sets.{Sets as Kept};
+
+    ghost Value = { Kept };
+
+    ghost view = { λ s. record { cached = s.pages; invalid = s.invalid } };
+}
+
+impl Sets {
+    /// No session has a page. It takes no memory.
+    pub fn new(alloc: Global) -> Result<Sets, NoMemory>
+        ensures { result ≡ Ok no_sets }
+    {
+        Ok(Sets {
+            pages: Links::new(alloc)?,
+            invalid: InvalidSets::new(alloc),
+            alloc,
+        })
+    }
+
+    /// The client of a session may have a page from now on. After `NoMemory` the sets are as they were.
+    pub fn cache(&mut self, session: u32, page: u32) -> Result<(), NoMemory>
+        ensures ok { OnOk result (self.new ≡ cache self.old session page) }
+        ensures err { OnErr result (self.new ≡ self.old) }
+    {
+        let is_new = self.invalid.open(session)?;
+        match self.pages.link(session, page) {
+            Ok(_) => Ok(()),
+            Err(refused) => {
+                if is_new {
+                    self.invalid.close(session);
+                }
+                Err(refused)
+            }
+        }
+    }
+
+    /// A session has written some objects, in the commit at a place: each comes into the invalid set of
+    /// every other session that has its page, with that place. After `NoMemory` the sets are as they
+    /// were.
+    ///
+    /// It takes time for each such session and object, and none for the others.
+    pub fn touch(&mut self, writer: u32, writes: &Writes, place: u64) -> Result<(), NoMemory>
+        ensures ok { OnOk result (self.new ≡ touch self.old writer (keys_of writes.now) place) }
+        ensures err { OnErr result (self.new ≡ self.old) }
+    {
+        let mut done = Vec::new(self.alloc);
+        for write in writes.as_slice() {
+            let touched = mark_holders(
+                &self.pages,
+                &mut self.invalid,
+                writer,
+                write.0,
+                place,
+                &mut done,
+            );
+            if touched.is_err() {
+                self.invalid.undo(done);
+                return Err(NoMemory);
+            }
+        }
+        Ok(())
+    }
+
+    /// The client of a session knows what was written below a place: those objects leave its invalid
+    /// set. It takes no memory.
+    pub fn acknowledge(&mut self, session: u32, upto: u64)
+        ensures { self.new ≡ acknowledge self.old session upto }
+    {
+        self.invalid.keep_from(session, upto);
+    }
+
+    /// The least of the names that a request read which its session's invalid set has at a place not
+    /// below `upto`, with that place. It looks at the names or at the set, whichever are fewer, and takes
+    /// no memory.
+    pub fn stale(&self, session: u32, ros: &Orefs, upto: u64) -> Option<(Oref, u64)>
+        requires { Rises ros.now }
+        ensures { result ≡ stale self.now session ros.now upto }
+    {
+        self.invalid.first_stale(session, ros.as_slice(), upto)
+    }
+
+    /// The next object of a session's invalid set behind one, names rising, with its place; the first
+    /// one behind `None`. It takes no memory.
+    pub fn invalid(&self, session: u32, after: Option<Oref>) -> Option<(Oref, u64)>
+        ensures { result ≡ invalid_after self.now session after }
+    {
+        self.invalid.next(session, after)
+    }
+
+    /// A session ends: it has no page and no invalid set. It takes no memory.
+    pub fn drop_session(&mut self, session: u32)
+        ensures { self.new ≡ drop_session self.old session }
+    {
+        self.pages.part_left(session);
+        self.invalid.close(session);
+    }
+}
+
+/// Marks an object in the set of each session that has its page, but for the writer's.
+fn mark_holders(
+    pages: &Links,
+    invalid: &mut InvalidSets,
+    writer: u32,
+    oref: Oref,
+    place: u64,
+    done: &mut Vec<Marked>,
+) -> Result<(), NoMemory>
+    ensures ok { OnOk result (invalid.new ≡ marked invalid.old (touches pages.now writer (oref ∷ [])) place) }
+    ensures undone { (N : Invalids) → undo invalid.old done.old.items ≡ N → undo invalid.new done.new.items ≡ N }
+{
+    let mut after = None;
+    while let Some(session) = pages.next_left(oref.page, after) {
+        if session != writer {
+            invalid.mark(session, oref, place, done)?;
+        }
+        after = Some(session);
+    }
+    Ok(())
+}

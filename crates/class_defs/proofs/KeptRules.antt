@@ -1,0 +1,120 @@
+-- What a text that breaks no rule says of its parts.
+use Rattle.std.proofs.Common.{◌≡◌, arith, Bool, true, false, cond, List, [], ◌∷◌, ◌++◌, Option, Some, None, refl, sym, subst, ◌∙◌, ◌⊎◌, inl, inr, ℕ, zero, suc}
+use Rattle.std.proofs.lemmas.List.Folds.{find_at}
+use Rattle.std.proofs.lemmas.Option.{slice_get_within}
+use Rattle.std.specs.List.{AllByRecursion, flat_map, position_or_len}
+use Rattle.std.specs.Prelude.{◌+◌, ◌<◌, find, is_some, nat_lt, position, slice_get}
+use Rattle.class_defs.specs.Types.{IsDeclared, class_named, class_or_untold, type_named}
+use Rattle.class_defs.specs.Rules.{must, is_class, is_type, is_free_type}
+use Rattle.class_defs.specs.SchemaRules.{schema_rules, class_rules, classes_from, method_rules, body_rules, class_names, root_names, root_rules, member_names, body_names, method_types}
+use Rattle.class_defs.specs.declared.classes.Class.{Class}
+use Rattle.class_defs.specs.declared.classes.Method.{Method}
+use Rattle.class_defs.specs.declared.expressions.TypeName.{TypeName}
+use Rattle.class_defs.specs.declared.expressions.TypeName.TheVariants as type_name
+use Rattle.class_defs.specs.declared.rules.Rule.{Rule}
+use Rattle.class_defs.specs.declared.store.Schema.{Schema}
+
+-- ---- lists of faults
+
+pub nothing : {A : Type 0} (xs ys : List A) → (xs ++ ys) ≡ [] → (xs ≡ []) × (ys ≡ [])
+nothing [] ys h = (refl, h)
+nothing (x ∷ xs) ys h = cc
+
+pub held : (b : Bool) (rule : Rule) (line : ℕ) → must b rule line ≡ [] → b ≡ true
+held true rule line h = refl
+held false rule line h = cc
+
+pub each_nothing : {A B : Type 0} (f : A → List B) (xs : List A) → flat_map f xs ≡ [] → AllByRecursion (λ x. f x ≡ []) xs
+each_nothing f [] h = tt
+each_nothing f (x ∷ xs) h = let p = nothing (f x) (flat_map f xs) h in (p.0, each_nothing f xs p.1)
+
+-- ---- what is found in a list
+
+picked : {A : Type 0} (b : Bool) (y x : A) (o : Option A) → cond b (Some y) o ≡ Some x → (y ≡ x) ⊎ (o ≡ Some x)
+picked true y x o h = inl cc
+picked false y x o h = inr h
+
+pub found : {A : Type 0} (P : A → Type 0) (test : A → Bool) (xs : List A) (x : A) → AllByRecursion P xs → find test xs ≡ Some x → P x
+found P test [] x all h = cc
+found P test (y ∷ ys) x all h = elim (picked (test y) y x (find test ys) h) [ inl e ↦ subst P e all.0 | inr r ↦ found P test ys x all.1 r ]
+
+below : (a b : ℕ) → a < b → nat_lt a b ≡ true
+below a b h = grind (arith)
+
+-- what is found stands at the place that is told
+pub place_found : {A : Type 0} (test : A → Bool) (xs : List A) (x : A) → find test xs ≡ Some x
+    → (position test xs ≡ Some (position_or_len test xs)) × (slice_get xs (position_or_len test xs) ≡ Some x)
+place_found test xs x h =
+    let at = sym (find_at test xs) ∙ h in
+    let within = below _ _ (slice_get_within xs (position_or_len test xs) x at) in
+    (rw within refl, at)
+
+pub there : {A : Type 0} (o : Option A) → is_some o ≡ true → (x : A) × (o ≡ Some x)
+there (Some x) h = (x, refl)
+there None h = cc
+
+-- ---- types
+
+pub class_told : (o : Option ℕ) → is_some o ≡ true → IsDeclared (class_or_untold o)
+class_told (Some c) h = tt
+class_told None h = cc
+
+pub free_is_type : (classes : List Class) (t : TypeName) → is_free_type classes t ≡ [] → is_type classes t ≡ []
+free_is_type classes (type_name.Int line) h = refl
+free_is_type classes (type_name.Class name) h = (nothing (is_class classes name) _ h).0
+
+pub type_told : (classes : List Class) (t : TypeName) → is_type classes t ≡ [] → IsDeclared (type_named classes t)
+type_told classes (type_name.Int line) h = tt
+type_told classes (type_name.Class name) h = class_told (class_named classes name.text) (held _ _ _ h)
+
+-- ---- classes and methods
+
+pub record MethodSound (schema : Schema) (repos c : ℕ) (m : Method) : Type 0 where
+  pub result : is_free_type schema.classes m.result ≡ []
+  pub parameters : AllByRecursion (λ p. is_free_type schema.classes p.type_name ≡ []) m.parameters
+  pub body : body_rules schema repos c m ≡ []
+
+pub method_sound : (schema : Schema) (repos c : ℕ) (m : Method) → method_rules schema repos c m ≡ [] → MethodSound schema repos c m
+unfolding method_rules
+method_sound schema repos c m h =
+    let p = nothing (method_types schema.classes m ++ body_names m) (body_rules schema repos c m) h in
+    let r = nothing (method_types schema.classes m) (body_names m) p.0 in
+    let q = nothing (is_free_type schema.classes m.result) (flat_map (λ p. is_free_type schema.classes p.type_name) m.parameters) r.0 in
+    record { result = q.0; parameters = each_nothing _ m.parameters q.1; body = p.1 }
+
+pub record ClassSound (schema : Schema) (repos c : ℕ) (d : Class) : Type 0 where
+  pub fields : AllByRecursion (λ f. is_type schema.classes f.type_name ≡ []) d.fields
+  pub methods : AllByRecursion (λ m. method_rules schema repos c m ≡ []) d.methods
+
+class_sound : (schema : Schema) (repos c : ℕ) (d : Class) → class_rules schema repos c d ≡ [] → ClassSound schema repos c d
+unfolding class_rules
+class_sound schema repos c d h =
+    let fields = flat_map (λ f. is_type schema.classes f.type_name) d.fields in
+    let methods = flat_map (method_rules schema repos c) d.methods in
+    let p = nothing (member_names d ++ fields) methods h in
+    let q = nothing (member_names d) fields p.0 in
+    record { fields = each_nothing _ d.fields q.1; methods = each_nothing _ d.methods p.1 }
+
+classes_sound : (schema : Schema) (repos : ℕ) (ds : List Class) (n i : ℕ) (d : Class) → classes_from schema repos n ds ≡ []
+    → slice_get ds i ≡ Some d → ClassSound schema repos (n + i) d
+classes_sound schema repos [] n i d h is = cc
+classes_sound schema repos (e ∷ es) n zero d h is =
+    let p : e ≡ d = cc in
+    let q : n ≡ n + 0 = omega arith in
+    subst (λ k. ClassSound schema repos k d) q (class_sound schema repos n d
+    (subst (λ k. class_rules schema repos n k ≡ []) p (nothing (class_rules schema repos n e) _ h).0))
+classes_sound schema repos (e ∷ es) n (suc i) d h is =
+    let q : (n + 1) + i ≡ n + suc i = omega arith in
+    subst (λ k. ClassSound schema repos k d) q (classes_sound schema repos es (n + 1) i d (nothing (class_rules schema repos n e) _ h).1 is)
+
+-- a class of a schema that breaks no rule
+pub schema_sound : (schema : Schema) (repos : ℕ) → schema_rules schema repos ≡ [] → (c : ℕ) (d : Class) → slice_get schema.classes c ≡ Some d
+    → ClassSound schema repos c d
+unfolding schema_rules
+schema_sound schema repos h c d is =
+    let classes = classes_from schema repos 0 schema.classes in
+    let roots = flat_map (root_rules schema.classes repos) schema.roots in
+    let p = nothing (class_names schema ++ root_names schema ++ classes) roots h in
+    let r = nothing (class_names schema ++ root_names schema) classes p.0 in
+    let z : 0 + c ≡ c = omega arith in
+    subst (λ k. ClassSound schema repos k d) z (classes_sound schema repos schema.classes 0 c d r.1 is)

@@ -1,0 +1,7 @@
+mod Brought
+mod Elsewhere
+mod Leaving
+mod OneSlot
+mod PageLookups
+mod PageOrder
+mod SettledOne

@@ -1,0 +1,5 @@
+pub mod Copies
+pub mod Looks
+pub mod Pages
+pub mod Placing
+pub mod Slots

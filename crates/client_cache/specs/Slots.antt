@@ -1,0 +1,27 @@
+-- The copies of one page: for each slot the copy as it was before the try, and what the try has made of it
+-- (Liskov and others, SIGMOD 1996: front ends run on cached copies, and a try that is given up leaves them
+-- as they were).
+use Rattle.std.specs.Prelude.{ℕ, List, Option, None, replicate, slice_get, option_and_then}
+use Rattle.std.specs.Option.{option_or}
+use Rattle.thor_value.specs.declared.values.Obj.{Obj}
+use Rattle.client_cache.specs.declared.page_copies.Slot.{Slot}
+
+-- the copy in a slot as it was before the try
+abbrev pub kept_in : List Slot → ℕ → Option Obj
+kept_in slots s = option_and_then (λ slot. slot.kept) (slice_get slots s)
+
+-- what the try has made of it
+abbrev pub written_in : List Slot → ℕ → Option Obj
+written_in slots s = option_and_then (λ slot. slot.written) (slice_get slots s)
+
+-- what stands there now
+abbrev pub seen_in : List Slot → ℕ → Option Obj
+seen_in slots s = option_or (written_in slots s) (kept_in slots s)
+
+-- slots without a copy
+abbrev pub no_copies : ℕ → List Slot
+no_copies n = replicate n (record { kept = None; written = None })
+
+-- a slot with what the try has made of it as the copy
+abbrev pub settled : Slot → Slot
+settled slot = record { kept = option_or slot.written slot.kept; written = None }

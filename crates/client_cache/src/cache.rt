@@ -1,0 +1,188 @@
+ghost use Rattle.std.specs.BTreeSet.{insert_key};
+ghost use Rattle.std.specs.List.{filter, list_any};
+ghost use Rattle.std.specs.Map.{keys_of};
+ghost use Rattle.std.specs.Prelude.{◌≡◌, ◌<◌, ℕ, [], cond, not, nat_eq, Option, Some, None, IfOk, OnOk, OnErr, take};
+ghost use Rattle.thor_value.specs.Names.{oref_cmp};
+ghost use Rattle.thor_value.specs.declared.names.Oref.{Oref};
+ghost use Rattle.thor_value.specs.declared.values.Obj.{Obj};
+ghost use Rattle.client_cache.specs.Copies.{changed, elsewhere, forward, holds, kept, nothing, pages, seen};
+ghost use Rattle.client_cache.specs.Looks.{Tells};
+ghost use Rattle.client_cache.specs.Pages.{on, page_of, same_name, same_page};
+ghost use Rattle.client_cache.specs.Placing.{IsObjectPage, IsPageOf};
+
+use crate::held_pages::HeldPages;
+use crate::look::Looked;
+use crate::page_copies::Slots;
+use crate::page_name::PageName;
+use crate::placing::copies_of;
+use std::alloc::Global;
+use std::collections::BTreeSet;
+use std::marker::Model;
+use thor_value::{NoMemory, Obj, Oref, Orefs};
+
+/// The copies of objects that a client holds (Liskov and others, SIGMOD 1996), page by page, with what the
+/// running try has made of them. A try that is given up leaves each copy as it was.
+///
+/// The pages stand in the order of their last use: `place`, `write` and `bring_forward` make a page the most
+/// recently used one. All calls but `place` and `write` take no memory.
+#[derive(Drop)]
+pub struct Cache {
+    limit: u32,
+    pages: HeldPages,
+    written: BTreeSet<Oref>,
+}
+
+impl Model for Cache {
+    ghost use Rattle.client_cache.specs.Copies.{Contents, IsWhole};
+
+    ghost Value = { Contents };
+
+    ghost view = { λ c. record { limit = c.limit; held = c.pages; written = c.written.keys } };
+
+    ghost invariant = { λ c. IsWhole (record { limit = c.limit; held = c.pages; written = c.written.keys }) };
+}
+
+impl Cache {
+    /// Holds nothing. Between tries it will hold at most so many pages.
+    pub fn new(alloc: Global, pages: u32) -> Result<Cache, NoMemory>
+        requires { 0 < pages }
+        ensures { IfOk result (λ cache. cache ≡ nothing pages) }
+    {
+        Ok(Cache {
+            limit: pages,
+            pages: HeldPages::new(alloc)?,
+            written: BTreeSet::new(alloc),
+        })
+    }
+
+    /// Looks for an object. The order of the pages stays as it is.
+    pub fn look(&self, oref: Oref) -> Looked<'_>
+        ensures { Tells result self.now oref }
+    {
+        match self.pages.get(PageName::of(oref)) {
+            Some(slots) => match slots.get(oref.slot) {
+                Some(obj) => Looked::Here(obj),
+                None => Looked::NoSlot,
+            },
+            None => Looked::NoPage,
+        }
+    }
+
+    /// Makes the page of an object the most recently used one, where it is held.
+    pub fn bring_forward(&mut self, oref: Oref)
+        ensures kept { (x : Oref) → kept self.new x ≡ kept self.old x }
+        ensures changed { (x : Oref) → changed self.new x ≡ changed self.old x }
+        ensures pages { pages self.new ≡ cond (holds self.old.held (page_of oref)) (forward (page_of oref) (pages self.old)) (pages self.old) }
+        ensures written { self.new.written ≡ self.old.written }
+        ensures limit { self.new.limit ≡ self.old.limit }
+    {
+        self.pages.bring_forward(PageName::of(oref));
+    }
+
+    /// Puts the objects of a page, as its message brings them, in the place of the copies there. What the try
+    /// has written stays. The page becomes the most recently used one. After `NoMemory` nothing has changed.
+    pub fn place(&mut self, page: u32, repo: u8, bytes: &[u8]) -> Result<(), NoMemory>
+        requires { IsObjectPage bytes.now page }
+        ensures kept { OnOk result ((objects : ℕ → Option Obj) → IsPageOf bytes.now page objects → (x : Oref) → kept self.new x ≡ cond (same_page (on repo page) (page_of x)) (objects x.slot) (kept self.old x)) }
+        ensures changed { OnOk result ((x : Oref) → changed self.new x ≡ changed self.old x) }
+        ensures pages { OnOk result (pages self.new ≡ forward (on repo page) (pages self.old)) }
+        ensures written { self.new.written ≡ self.old.written }
+        ensures limit { self.new.limit ≡ self.old.limit }
+        ensures err { OnErr result (self.new ≡ self.old) }
+    {
+        let copies = copies_of(self.pages.allocator(), bytes, page)?;
+        self.pages.place(PageName { repo, page }, copies)
+    }
+
+    /// Writes an object. The copy stays beside it until the try is settled. Its page becomes the most
+    /// recently used one; where it wasn't held, it is held with this object alone. After `NoMemory`
+    /// nothing has changed.
+    #[tactic(auto, using(crate::proofs::PageLookups::left_alone))]
+    pub fn write(&mut self, oref: Oref, obj: Obj) -> Result<(), NoMemory>
+        requires { oref.slot < 12 }
+        ensures kept { OnOk result ((x : Oref) → kept self.new x ≡ kept self.old x) }
+        ensures changed { OnOk result ((x : Oref) → changed self.new x ≡ cond (same_name oref x) (Some obj) (changed self.old x)) }
+        ensures pages { OnOk result (pages self.new ≡ forward (page_of oref) (pages self.old)) }
+        ensures written { OnOk result (self.new.written ≡ insert_key oref_cmp self.old.written oref) }
+        ensures limit { self.new.limit ≡ self.old.limit }
+        ensures err { OnErr result (self.new ≡ self.old) }
+    {
+        let page = PageName::of(oref);
+        if self.pages.holds(page) {
+            self.written.insert(oref)?;
+            self.pages.bring_forward(page);
+            self.pages.write(oref, obj);
+            return Ok(());
+        }
+        let slots = Slots::with_one(self.pages.allocator(), oref.slot, obj)?;
+        self.pages.hold(page, slots)?;
+        if self.written.insert(oref).is_err() {
+            self.pages.remove(page);
+            return Err(NoMemory);
+        }
+        Ok(())
+    }
+
+    /// Gives up what the try has written: each copy stands as before it, and dropped ones stay dropped.
+    pub fn undo(&mut self)
+        ensures kept { (x : Oref) → kept self.new x ≡ kept self.old x }
+        ensures changed { (x : Oref) → changed self.new x ≡ None }
+        ensures pages { pages self.new ≡ pages self.old }
+        ensures written { self.new.written ≡ [] }
+        ensures limit { self.new.limit ≡ self.old.limit }
+    {
+        while let Some(oref) = self.written.pop_first() {
+            self.pages.undo(oref);
+        }
+    }
+
+    /// Makes what the try has written the copies.
+    #[tactic(auto, using(crate::proofs::SettledOne::settled_one, crate::proofs::SettledOne::seen_told))]
+    pub fn settle(&mut self)
+        ensures kept { (x : Oref) → kept self.new x ≡ seen self.old x }
+        ensures changed { (x : Oref) → changed self.new x ≡ None }
+        ensures pages { pages self.new ≡ pages self.old }
+        ensures written { self.new.written ≡ [] }
+        ensures limit { self.new.limit ≡ self.old.limit }
+    {
+        while let Some(oref) = self.written.pop_first() {
+            self.pages.settle(oref);
+        }
+    }
+
+    /// Drops the copies of these objects. What the try has written stays.
+    pub fn invalidate(&mut self, orefs: &Orefs)
+        ensures kept { (x : Oref) → kept self.new x ≡ cond (list_any (λ y. same_name y x) orefs.now) None (kept self.old x) }
+        ensures changed { (x : Oref) → changed self.new x ≡ changed self.old x }
+        ensures pages { pages self.new ≡ pages self.old }
+        ensures written { self.new.written ≡ self.old.written }
+        ensures limit { self.new.limit ≡ self.old.limit }
+    {
+        for oref in orefs.as_slice() {
+            self.pages.forget(*oref);
+        }
+    }
+
+    /// Drops whole pages, the least recently used ones first, until at most as many are left as were given
+    /// to `new`. It is called between tries: nothing may be written that isn't settled or given up.
+    pub fn evict(&mut self)
+        requires { self.old.written ≡ [] }
+        ensures held { self.new.held ≡ take self.old.limit self.old.held }
+        ensures written { self.new.written ≡ [] }
+        ensures limit { self.new.limit ≡ self.old.limit }
+    {
+        self.pages.evict(self.limit);
+    }
+
+    /// Drops the pages of a repository, with what the try has written there.
+    pub fn drop_repo(&mut self, repo: u8)
+        ensures kept { (x : Oref) → kept self.new x ≡ cond (nat_eq x.repo repo) None (kept self.old x) }
+        ensures changed { (x : Oref) → changed self.new x ≡ cond (nat_eq x.repo repo) None (changed self.old x) }
+        ensures held { self.new.held ≡ elsewhere repo self.old.held }
+        ensures written { self.new.written ≡ filter (λ x. not (nat_eq x.repo repo)) self.old.written }
+        ensures limit { self.new.limit ≡ self.old.limit }
+    {
+        self.pages.drop_repo(repo);
+        self.written.retain(|oref| oref.repo != repo);
+    }
+}

@@ -1,0 +1,204 @@
+ghost use Rattle.std.specs.Map.{keys_of, lookup, remove_entry};
+ghost use Rattle.std.specs.Option.{option_copied};
+ghost use Rattle.std.specs.Prelude.{◌≡◌, ◌<◌, ℕ, MatchOption, take, [], ◌∷◌, false, true, cond, Some, None, IfOk, OnOk, OnErr};
+ghost use Rattle.thor_value.specs.declared.names.Oref.{Oref};
+ghost use Rattle.client_cache.specs.declared.page_name.PageName.{PageName};
+ghost use Rattle.client_cache.specs.Copies.{elsewhere, forward, holds, told};
+ghost use Rattle.client_cache.specs.Pages.{page_of, same_name, same_page};
+ghost use Rattle.client_cache.specs.Slots.{kept_in, seen_in, written_in};
+
+use crate::page_copies::Slots;
+use crate::page_name::PageName;
+use lru::LruCache;
+use std::alloc::Global;
+use std::marker::Model;
+use std::num::NonZeroUsize;
+use thor_value::{NoMemory, Obj, Oref};
+
+/// The pages that a client holds, in the order of their last use.
+#[derive(Drop)]
+pub struct HeldPages {
+    pages: LruCache<PageName, Slots>,
+}
+
+impl Model for HeldPages {
+    ghost use Rattle.std.specs.Prelude.{◌≡◌, ◌^◌, ◌-◌};
+    ghost use Rattle.client_cache.specs.Copies.{Held};
+
+    ghost Value = { Held };
+
+    ghost view = { λ p. p.pages.entries };
+
+    ghost invariant = { λ p. p.pages.cap ≡ 2 ^ 64 - 1 };
+}
+
+impl HeldPages {
+    /// No page.
+    pub fn new(alloc: Global) -> Result<HeldPages, NoMemory>
+        ensures { IfOk result (λ pages. pages ≡ []) }
+    {
+        Ok(HeldPages {
+            pages: LruCache::unbounded(alloc)?,
+        })
+    }
+
+    /// The allocator that was handed in.
+    pub fn allocator(&self) -> Global {
+        *self.pages.allocator()
+    }
+
+    /// The slots of a page, where it is held.
+    pub fn get(&self, page: PageName) -> Option<&Slots>
+        ensures { option_copied result ≡ lookup (same_page page) self.now }
+    {
+        self.pages.peek(&page)
+    }
+
+    /// Makes a page the most recently used one, where it is held, and tells whether it is.
+    pub fn bring_forward(&mut self, page: PageName) -> bool
+        ensures same { (p : PageName) → lookup (same_page p) self.new ≡ lookup (same_page p) self.old }
+        ensures order { keys_of self.new ≡ cond (holds self.old page) (forward page (keys_of self.old)) (keys_of self.old) }
+        ensures held { result ≡ holds self.old page }
+    {
+        self.pages.promote(&page)
+    }
+
+    /// Holds one more page, as the most recently used one. After `NoMemory` nothing has changed.
+    pub fn hold(&mut self, page: PageName, slots: Slots) -> Result<(), NoMemory>
+        requires { holds self.old page ≡ false }
+        ensures ok { OnOk result (self.new ≡ (page, slots) ∷ self.old) }
+        ensures err { OnErr result (self.new ≡ self.old) }
+    {
+        let count = self.pages.len();
+        prove!(count < usize::MAX);
+        self.pages.put(page, slots)?;
+        Ok(())
+    }
+
+    /// Writes an object of a page that is held.
+    pub fn write(&mut self, oref: Oref, obj: Obj)
+        requires slot { oref.slot < 12 }
+        requires held { holds self.old (page_of oref) ≡ true }
+        ensures kept { (x : Oref) → told kept_in self.new x ≡ told kept_in self.old x }
+        ensures written { (x : Oref) → told written_in self.new x ≡ cond (same_name oref x) (Some obj) (told written_in self.old x) }
+        ensures order { keys_of self.new ≡ keys_of self.old }
+    {
+        let Some(slots) = self.pages.peek_mut(&PageName::of(oref)) else {
+            return;
+        };
+        slots.write(oref.slot, obj);
+    }
+
+    /// Drops the copy of an object.
+    pub fn forget(&mut self, oref: Oref)
+        ensures kept { (x : Oref) → told kept_in self.new x ≡ cond (same_name oref x) None (told kept_in self.old x) }
+        ensures written { (x : Oref) → told written_in self.new x ≡ told written_in self.old x }
+        ensures order { keys_of self.new ≡ keys_of self.old }
+    {
+        let Some(slots) = self.pages.peek_mut(&PageName::of(oref)) else {
+            return;
+        };
+        slots.forget(oref.slot);
+    }
+
+    /// Gives up what the try has made of an object.
+    pub fn undo(&mut self, oref: Oref)
+        ensures kept { (x : Oref) → told kept_in self.new x ≡ told kept_in self.old x }
+        ensures written { (x : Oref) → told written_in self.new x ≡ cond (same_name oref x) None (told written_in self.old x) }
+        ensures order { keys_of self.new ≡ keys_of self.old }
+    {
+        let Some(slots) = self.pages.peek_mut(&PageName::of(oref)) else {
+            return;
+        };
+        slots.undo(oref.slot);
+    }
+
+    /// Makes what the try has made of an object its copy.
+    pub fn settle(&mut self, oref: Oref)
+        ensures kept { (x : Oref) → told kept_in self.new x ≡ cond (same_name oref x) (told seen_in self.old oref) (told kept_in self.old x) }
+        ensures written { (x : Oref) → told written_in self.new x ≡ cond (same_name oref x) None (told written_in self.old x) }
+        ensures order { keys_of self.new ≡ keys_of self.old }
+    {
+        let Some(slots) = self.pages.peek_mut(&PageName::of(oref)) else {
+            return;
+        };
+        slots.settle(oref.slot);
+    }
+
+    /// Puts the copies of a page in the place of those that were there; what the try has made of them stays.
+    /// The page becomes the most recently used one. After `NoMemory` nothing has changed.
+    pub fn place(&mut self, page: PageName, copies: Slots) -> Result<(), NoMemory>
+        requires { (s : ℕ) → written_in copies s ≡ None }
+        ensures kept { OnOk result ((x : Oref) → told kept_in self.new x ≡ cond (same_page page (page_of x)) (kept_in copies x.slot) (told kept_in self.old x)) }
+        ensures written { OnOk result ((x : Oref) → told written_in self.new x ≡ told written_in self.old x) }
+        ensures order { OnOk result (keys_of self.new ≡ forward page (keys_of self.old)) }
+        ensures err { OnErr result (self.new ≡ self.old) }
+    {
+        if !self.holds(page) {
+            copies.within();
+            return self.hold(page, copies);
+        }
+        self.bring_forward(page);
+        self.replace(page, copies);
+        Ok(())
+    }
+
+    /// Whether a page is held.
+    pub fn holds(&self, page: PageName) -> bool
+        ensures { result ≡ holds self.now page }
+    {
+        self.pages.contains(&page)
+    }
+
+    // The same for a page that is held, and stays where it is among them.
+    fn replace(&mut self, page: PageName, copies: Slots)
+        requires { holds self.old page ≡ true }
+        ensures kept { (x : Oref) → told kept_in self.new x ≡ cond (same_page page (page_of x)) (kept_in copies x.slot) (told kept_in self.old x) }
+        ensures written { (x : Oref) → told written_in self.new x ≡ told written_in self.old x }
+        ensures order { keys_of self.new ≡ keys_of self.old }
+    {
+        let Some(slots) = self.pages.peek_mut(&page) else {
+            return;
+        };
+        slots.replace(copies);
+    }
+
+    /// Drops pages that were used least recently, until at most so many are left.
+    pub fn evict(&mut self, limit: u32)
+        requires { 0 < limit }
+        ensures { self.new ≡ take limit self.old }
+    {
+        if let Some(limit) = NonZeroUsize::new(limit as usize) {
+            self.pages.resize(limit);
+            self.pages.resize(NonZeroUsize::MAX);
+        }
+    }
+
+    /// Drops the pages of a repository. The work is that of so many walks over the pages held.
+    pub fn drop_repo(&mut self, repo: u8)
+        ensures { self.new ≡ elsewhere repo self.old }
+    {
+        while let Some(page) = self.first_of(repo) {
+            self.remove(page);
+        }
+    }
+
+    /// Drops a page, where it is held.
+    pub fn remove(&mut self, page: PageName)
+        ensures { self.new ≡ remove_entry (same_page page) self.old }
+    {
+        drop(self.pages.pop(&page));
+    }
+
+    // The first page that is held of a repository.
+    fn first_of(&self, repo: u8) -> Option<PageName>
+        ensures { MatchOption result (elsewhere repo self.now ≡ self.now) (λ page. (page.repo ≡ repo) × (holds self.now page ≡ true)) }
+    {
+        for (page, _) in self.pages.iter() {
+            if page.repo == repo {
+                return Some(*page);
+            }
+        }
+        None
+    }
+}

@@ -1,0 +1,14 @@
+//! The copies of objects that a client holds, page by page, with what the running try has made of them.
+#![tactic(auto)]
+
+mod cache;
+mod held_pages;
+mod look;
+mod page_copies;
+mod page_name;
+mod placing;
+
+pub use cache::Cache;
+pub use look::Looked;
+pub use page_copies::Slot;
+pub use page_name::PageName;

@@ -1,0 +1,169 @@
+ghost use Rattle.std.specs.Prelude.{◌≡◌, ◌<◌, ◌≤◌, ℕ, nat_eq, cond, Some, None, length, IfOk};
+ghost use Rattle.std.specs.Option.{option_copied};
+ghost use Rattle.client_cache.specs.Slots.{kept_in, no_copies, seen_in, settled, written_in};
+
+use std::alloc::Global;
+use std::marker::Model;
+use thor_value::{NoMemory, Obj};
+
+/// How many slots a page has.
+pub(crate) const SLOTS: u8 = 12;
+
+/// What a client holds for one slot of a page.
+#[derive(Drop)]
+pub struct Slot {
+    /// The copy as it was before the try; nothing where the client has none.
+    pub kept: Option<Obj>,
+    /// What the try has made of it; nothing where the try hasn't written it.
+    pub written: Option<Obj>,
+}
+
+impl Slot {
+    /// Makes what the try has made of the slot the copy.
+    fn settle(&mut self)
+        ensures { self.new ≡ settled self.old }
+    {
+        if let Some(obj) = self.written.take() {
+            self.kept = Some(obj);
+        }
+    }
+}
+
+/// The twelve slots of one page.
+#[derive(Drop)]
+pub struct Slots {
+    slots: Vec<Slot>,
+}
+
+impl Model for Slots {
+    ghost use Rattle.std.specs.Prelude.{List, ◌≡◌, length};
+    ghost use Rattle.client_cache.specs.declared.page_copies.Slot.{Slot};
+
+    ghost Value = { List Slot };
+
+    ghost view = { λ s. s.slots.items };
+
+    ghost invariant = { λ s. length s.slots.items ≡ 12 };
+}
+
+impl Slots {
+    /// Slots with no copy.
+    pub fn empty(alloc: Global) -> Result<Slots, NoMemory>
+        ensures { IfOk result (λ slots. slots ≡ no_copies 12) }
+    {
+        let mut slots = Vec::with_capacity(alloc, usize::from(SLOTS))?;
+        for _ in 0..SLOTS {
+            slots.push(Slot {
+                kept: None,
+                written: None,
+            })?;
+        }
+        Ok(Slots { slots })
+    }
+
+    /// Slots of which one is written, and no copy.
+    pub fn with_one(alloc: Global, slot: u8, obj: Obj) -> Result<Slots, NoMemory>
+        requires { slot < 12 }
+        ensures kept { IfOk result (λ slots. (s : ℕ) → kept_in slots s ≡ None) }
+        ensures written { IfOk result (λ slots. (s : ℕ) → written_in slots s ≡ cond (nat_eq slot s) (Some obj) None) }
+    {
+        let mut slots = Slots::empty(alloc)?;
+        slots.write(slot, obj);
+        Ok(slots)
+    }
+
+    /// What stands in a slot now: what the try has made of it, else the copy.
+    pub fn get(&self, slot: u8) -> Option<&Obj>
+        ensures { option_copied result ≡ seen_in self.now slot }
+    {
+        let slot = self.slots.get(usize::from(slot))?;
+        match &slot.written {
+            Some(obj) => Some(obj),
+            None => slot.kept.as_ref(),
+        }
+    }
+
+    /// Puts a copy into a slot, in the place of the one before. What the try has made of it stays.
+    pub fn keep(&mut self, slot: u8, obj: Obj)
+        requires { slot < 12 }
+        ensures kept { (s : ℕ) → kept_in self.new s ≡ cond (nat_eq slot s) (Some obj) (kept_in self.old s) }
+        ensures written { (s : ℕ) → written_in self.new s ≡ written_in self.old s }
+    {
+        if let Some(slot) = self.slots.get_mut(usize::from(slot)) {
+            slot.kept = Some(obj);
+        }
+    }
+
+    /// Drops the copy in a slot, where there is one. What the try has made of it stays.
+    pub fn forget(&mut self, slot: u8)
+        ensures kept { (s : ℕ) → kept_in self.new s ≡ cond (nat_eq slot s) None (kept_in self.old s) }
+        ensures written { (s : ℕ) → written_in self.new s ≡ written_in self.old s }
+    {
+        if let Some(slot) = self.slots.get_mut(usize::from(slot)) {
+            slot.kept = None;
+        }
+    }
+
+    /// Writes a slot. The copy stays beside it.
+    pub fn write(&mut self, slot: u8, obj: Obj)
+        requires { slot < 12 }
+        ensures kept { (s : ℕ) → kept_in self.new s ≡ kept_in self.old s }
+        ensures written { (s : ℕ) → written_in self.new s ≡ cond (nat_eq slot s) (Some obj) (written_in self.old s) }
+    {
+        if let Some(slot) = self.slots.get_mut(usize::from(slot)) {
+            slot.written = Some(obj);
+        }
+    }
+
+    /// Gives up what the try has made of a slot.
+    pub fn undo(&mut self, slot: u8)
+        ensures kept { (s : ℕ) → kept_in self.new s ≡ kept_in self.old s }
+        ensures written { (s : ℕ) → written_in self.new s ≡ cond (nat_eq slot s) None (written_in self.old s) }
+    {
+        if let Some(slot) = self.slots.get_mut(usize::from(slot)) {
+            slot.written = None;
+        }
+    }
+
+    /// Makes what the try has made of a slot the copy.
+    pub fn settle(&mut self, slot: u8)
+        ensures kept { (s : ℕ) → kept_in self.new s ≡ cond (nat_eq slot s) (seen_in self.old slot) (kept_in self.old s) }
+        ensures written { (s : ℕ) → written_in self.new s ≡ cond (nat_eq slot s) None (written_in self.old s) }
+    {
+        if let Some(slot) = self.slots.get_mut(usize::from(slot)) {
+            slot.settle();
+        }
+    }
+
+    /// Takes the copy out of a slot.
+    fn take(&mut self, slot: u8) -> Option<Obj>
+        ensures copy { result ≡ kept_in self.old slot }
+        ensures kept { (s : ℕ) → kept_in self.new s ≡ cond (nat_eq slot s) None (kept_in self.old s) }
+        ensures written { (s : ℕ) → written_in self.new s ≡ written_in self.old s }
+    {
+        let slot = self.slots.get_mut(usize::from(slot))?;
+        slot.kept.take()
+    }
+
+    /// Takes over the copies of other slots in the place of these. What the try has made of these stays.
+    pub fn replace(&mut self, mut copies: Slots)
+        ensures kept { (s : ℕ) → kept_in self.new s ≡ kept_in copies s }
+        ensures written { (s : ℕ) → written_in self.new s ≡ written_in self.old s }
+    {
+        copies.within();
+        self.within();
+        for slot in 0..SLOTS {
+            match copies.take(slot) {
+                Some(obj) => self.keep(slot, obj),
+                None => self.forget(slot),
+            }
+        }
+    }
+
+    /// There are twelve slots.
+    pub fn within(&self)
+        ensures { (s : ℕ) → 12 ≤ s → (kept_in self.now s ≡ None) × (written_in self.now s ≡ None) }
+    {
+        let _count = self.slots.len();
+    }
+}

@@ -1,0 +1,5 @@
+//! Tests of what a client holds.
+#![tactic(auto)]
+
+#[cfg(test)]
+mod copies;

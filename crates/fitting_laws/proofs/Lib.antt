@@ -1,0 +1,12 @@
+pub mod FitActions
+pub mod FitArguments
+pub mod FitCalls
+pub mod FitKinds
+pub mod FitNames
+pub mod FitObjects
+pub mod FitRun
+pub mod FitStatements
+pub mod FitSteps
+pub mod FitStrict
+pub mod FitValues
+pub mod StrictTells

@@ -1,0 +1,3 @@
+pub mod FitRows
+pub mod Fits
+pub mod Strict

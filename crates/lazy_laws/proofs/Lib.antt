@@ -1,0 +1,9 @@
+pub mod Handing
+pub mod Locality
+pub mod Moving
+pub mod OfItsClass
+pub mod Owned
+pub mod OwnedMaps
+pub mod Shrinking
+pub mod Unseen
+pub mod Values

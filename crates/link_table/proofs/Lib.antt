@@ -1,0 +1,10 @@
+mod Around
+mod Kept
+mod Linking
+mod Lists
+mod Members
+mod Relation
+mod Room
+mod Sides
+mod Taking
+mod Walks

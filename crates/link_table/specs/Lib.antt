@@ -1,0 +1,4 @@
+pub mod Nodes
+pub mod Pairs
+pub mod States
+pub mod Tables

@@ -1,0 +1,14 @@
+//! A relation of pairs of numbers as doubly linked lists by index: one list of each left, one of each
+//! right, and one of all pairs.
+#![tactic(auto)]
+
+mod ends;
+mod links;
+mod node;
+mod steps;
+mod table;
+#[cfg(test)]
+mod tests;
+
+pub use links::Links;
+pub use steps::Steps;

@@ -1,0 +1,3 @@
+pub mod Checkpoint
+pub mod Format
+pub mod Grammar

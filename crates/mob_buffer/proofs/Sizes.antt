@@ -1,0 +1,111 @@
+-- How many bytes the objects of a buffer have.
+use Rattle.std.proofs.Common.{◌≡◌, ℕ, zero, suc, ◌+◌, ◌-◌, ◌*◌, ◌<◌, ◌≤◌, Bool, true, false, cond, not, ◌==◌, List, [], ◌∷◌, ◌++◌, length, take, filter, Option, Some, None, refl, ap, sym, subst, ◌∙◌, arith, length-append, slice_get}
+use Rattle.std.specs.List.{AllByRecursion, flat_map}
+use Rattle.std.specs.Option.{option_map, unwrap_or}
+use Rattle.std.specs.Map.{lookup}
+use Rattle.std.proofs.lemmas.List.Concat.{flat_map-cons}
+use Rattle.indexmap.specs.IndexMap.{insert_entry}
+use Rattle.thor_value.specs.declared.names.Oref.{Oref}
+use Rattle.thor_value.specs.declared.values.Obj.{Obj}
+use Rattle.thor_value.specs.declared.values.Value.{Value}
+use Rattle.thor_value.specs.declared.values.Value.TheVariants.{Int, Ref, Null}
+use Rattle.thor_value.specs.Spelling.{value_bytes}
+use Rattle.object_codec.specs.Spelling.{ObjFits, obj_bytes}
+use Rattle.mob_buffer.specs.Kept.{size_of, size_at, rank_size}
+use Rattle.mob_buffer.specs.Buffer.{AreOf, IsOf, Objects, bytes_of, object_of, same_name, with_object, without_page}
+
+size_here : (q : Oref × Obj) (rest : Objects) (object : Obj) → bytes_of ((q.0, object) ∷ rest) + size_of q.1 ≡ bytes_of (q ∷ rest) + size_of object
+size_here q rest object = omega arith
+
+size_more : (q : Oref × Obj) (rest more : Objects) (x : Oref) (object : Obj) → bytes_of more + size_at rest x ≡ bytes_of rest + size_of object → bytes_of (q ∷ more) + size_at rest x ≡ bytes_of (q ∷ rest) + size_of object
+size_more q rest more x object h = omega (arith, h)
+
+size_by : (q : Oref × Obj) (rest more : Objects) (x : Oref) (object : Obj) (b : Bool) → bytes_of more + size_at rest x ≡ bytes_of rest + size_of object
+    → bytes_of (cond b ((q.0, object) ∷ rest) (q ∷ more)) + unwrap_or (option_map size_of (cond b (Some q.1) (object_of rest x))) 0 ≡ bytes_of (q ∷ rest) + size_of object
+size_by q rest more x object true h = size_here q rest object
+size_by q rest more x object false h = size_more q rest more x object h
+
+pub bytes_put : (objects : Objects) (x : Oref) (object : Obj) → bytes_of (with_object objects x object) + size_at objects x ≡ bytes_of objects + size_of object
+bytes_put [] x object = omega arith
+bytes_put (q ∷ objects) x object = size_by q objects (with_object objects x object) x object (same_name x q.0) (bytes_put objects x object)
+
+-- the objects of some pages have no more bytes than all
+le_both : (a b c : ℕ) → b ≤ c → a + b ≤ a + c
+le_both a b c h = omega arith
+
+le_more : (a b c : ℕ) → b ≤ c → b ≤ a + c
+le_more a b c h = omega arith
+
+kept_by : (q : Oref × Obj) (rest : Objects) (page : ℕ) (b : Bool) → bytes_of (without_page rest page) ≤ bytes_of rest → bytes_of (cond b (q ∷ without_page rest page) (without_page rest page)) ≤ bytes_of (q ∷ rest)
+kept_by q rest page true h = le_both (size_of q.1) (bytes_of (without_page rest page)) (bytes_of rest) h
+kept_by q rest page false h = le_more (size_of q.1) (bytes_of (without_page rest page)) (bytes_of rest) h
+
+pub bytes_kept : (objects : Objects) (page : ℕ) → bytes_of (without_page objects page) ≤ bytes_of objects
+bytes_kept [] page = omega arith
+bytes_kept (q ∷ objects) page = kept_by q objects page (not (q.0.page == page)) (bytes_kept objects page)
+
+-- ---- all are of one repository
+
+put_by : (repo : ℕ) (q : Oref × Obj) (rest more : Objects) (object : Obj) (b : Bool) → AreOf repo (q ∷ rest) → ObjFits object → AreOf repo more → AreOf repo (cond b ((q.0, object) ∷ rest) (q ∷ more))
+put_by repo q rest more object true all fits done = (record { repo_is = all.0.repo_is; name = all.0.name; object = fits }, all.1)
+put_by repo q rest more object false all fits done = (all.0, done)
+
+pub of_put : (repo : ℕ) (objects : Objects) (x : Oref) (object : Obj) → AreOf repo objects → IsOf repo (x, object) → AreOf repo (with_object objects x object)
+of_put repo [] x object all here = (here, tt)
+of_put repo (q ∷ objects) x object all here = put_by repo q objects (with_object objects x object) object (same_name x q.0) all here.object (of_put repo objects x object all.1 here)
+
+kept_of : (repo : ℕ) (q : Oref × Obj) (rest : Objects) (b : Bool) → IsOf repo q → AreOf repo rest → AreOf repo (cond b (q ∷ rest) rest)
+kept_of repo q rest true here all = (here, all)
+kept_of repo q rest false here all = all
+
+pub of_kept : (repo : ℕ) (objects : Objects) (page : ℕ) → AreOf repo objects → AreOf repo (without_page objects page)
+of_kept repo [] page all = tt
+of_kept repo (q ∷ objects) page all = kept_of repo q (without_page objects page) (not (q.0.page == page)) all.0 (of_kept repo objects page all.1)
+
+found_by : (repo : ℕ) (q : Oref × Obj) (found : Obj) (rest : Option Obj) (b : Bool) → IsOf repo q → (rest ≡ Some found → ObjFits found) → cond b (Some q.1) rest ≡ Some found → ObjFits found
+found_by repo q found rest true here more is = let same : q.1 ≡ found = cc in subst ObjFits same here.object
+found_by repo q found rest false here more is = more is
+
+pub found_fits : (repo : ℕ) (objects : Objects) (x : Oref) (found : Obj) → AreOf repo objects → object_of objects x ≡ Some found → ObjFits found
+found_fits repo [] x found all is = cc
+found_fits repo (q ∷ objects) x found all is = found_by repo q found (object_of objects x) (same_name x q.0) all.0 (λ h. found_fits repo objects x found all.1 h) is
+
+-- ---- the bytes of one object
+
+pub size_fields : (object : Obj) → size_of object ≡ 7 + length (flat_map value_bytes object.fields)
+size_fields object = omega arith
+
+-- the size of an object so far
+pub record Counted (fields : List Value) (index size : ℕ) : Type 0 where
+  pub is : size ≡ 7 + length (flat_map value_bytes (take index fields))
+  pub most : size ≤ 7 + 9 * index
+
+-- what one object has all have
+within_by : (q : Oref × Obj) (rest : Objects) (x : Oref) (b : Bool) → size_at rest x ≤ bytes_of rest → unwrap_or (option_map size_of (cond b (Some q.1) (object_of rest x))) 0 ≤ size_of q.1 + bytes_of rest
+within_by q rest x true h = omega arith
+within_by q rest x false h = le_more (size_of q.1) (size_at rest x) (bytes_of rest) h
+
+pub size_within : (objects : Objects) (x : Oref) → size_at objects x ≤ bytes_of objects
+size_within [] x = omega arith
+size_within (q ∷ objects) x = within_by q objects x (same_name x q.0) (size_within objects x)
+
+add_both : (a b c d : ℕ) → b ≡ c + d → a + b ≡ (a + c) + d
+add_both a b c d h = omega arith
+
+-- the first objects, and one more
+pub bytes_next : (objects : Objects) (n : ℕ) → bytes_of (take (suc n) objects) ≡ bytes_of (take n objects) + rank_size objects n
+bytes_next [] zero = refl
+bytes_next [] (suc n) = refl
+bytes_next (q ∷ objects) zero = omega arith
+bytes_next (q ∷ objects) (suc n) = add_both (size_of q.1) (bytes_of (take (suc n) objects)) (bytes_of (take n objects)) (rank_size objects n) (bytes_next objects n)
+
+pub bytes_taken : (objects : Objects) (n : ℕ) → bytes_of (take n objects) ≤ bytes_of objects
+bytes_taken objects zero = omega arith
+bytes_taken [] (suc n) = omega arith
+bytes_taken (q ∷ objects) (suc n) = le_both (size_of q.1) (bytes_of (take n objects)) (bytes_of objects) (bytes_taken objects n)
+
+-- an object at a rank
+pub rank_fits : (repo : ℕ) (objects : Objects) (n : ℕ) (q : Oref × Obj) → AreOf repo objects → slice_get objects n ≡ Some q → IsOf repo q
+rank_fits repo [] n q all is = cc
+rank_fits repo (p ∷ objects) zero q all is = let same : p ≡ q = cc in subst (IsOf repo) same all.0
+rank_fits repo (p ∷ objects) (suc n) q all is = rank_fits repo objects n q all.1 is

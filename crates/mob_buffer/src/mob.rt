@@ -1,0 +1,214 @@
+ghost use Rattle.std.specs.Prelude.{◌≡◌, ◌<◌, ◌≤◌, ◌^◌, ◌+◌, ℕ, List, [], length, slice_get, Some, None, IfOk, IfSome, OnOk, OnErr, IsErrOf, option_map, option_copied};
+ghost use Rattle.std.specs.Map.Iter.{deref_pair};
+ghost use Rattle.object_codec.specs.Spelling.{ObjFits, obj_bytes};
+ghost use Rattle.thor_value.specs.Spelling.{OrefFits};
+ghost use Rattle.mob_buffer.specs.Buffer.{AreDistinct, AreOf, IsNextSlot, behind, bytes_of, object_of, with_object, without_page};
+ghost use Rattle.mob_buffer.specs.Kept.{rank_size, size_at};
+ghost use Rattle.mob_buffer.specs.declared.fault.MobFull.TheVariants.{Full};
+
+use crate::fault::MobFull;
+use crate::size::spelled_size;
+use indexmap::IndexMap;
+use std::alloc::Global;
+use std::marker::Model;
+use thor_value::{NoMemory, Obj, Oref};
+
+/// The slots of a page that objects are named by.
+const SLOTS: u8 = 12;
+
+/// Objects that were committed and don't stand in their pages yet, in the order in which their names
+/// came in, names distinct, all of one repository.
+///
+/// All calls but `add` and `load` take no memory. None takes time that grows with the buffer but
+/// `remove_page`, which goes over all objects once.
+#[derive(Drop)]
+pub struct Mob {
+    limit: u32,
+    /// The bytes of all objects as they are spelled.
+    bytes: u32,
+    /// The repository of the objects, where there is one.
+    repo: u8,
+    objects: IndexMap<Oref, Obj>,
+}
+
+impl Model for Mob {
+    ghost use Rattle.mob_buffer.specs.Buffer.{Buffer};
+    ghost use Rattle.mob_buffer.specs.Kept.{Keeps};
+
+    ghost Value = { Buffer };
+
+    ghost view = { λ m. record { limit = m.limit; objects = m.objects.entries } };
+
+    ghost invariant = { λ m. Keeps m.objects.entries m.bytes m.repo };
+}
+
+impl Mob {
+    /// A buffer without objects that takes so many bytes. It takes no memory.
+    pub fn new(alloc: Global, limit: u32) -> Result<Mob, NoMemory>
+        ensures { IfOk result (λ made. made ≡ record { limit = limit; objects = [] }) }
+    {
+        Ok(Mob {
+            limit,
+            bytes: 0,
+            repo: 0,
+            objects: IndexMap::new(alloc),
+        })
+    }
+
+    /// Adds an object, in the place of the one that has its name, else behind all.
+    ///
+    /// `Full` comes exactly where the bytes of all objects then would pass the limit. After an error the
+    /// buffer is as it was, and the object is gone.
+    pub fn add(&mut self, oref: Oref, object: Obj) -> Result<(), MobFull>
+        requires name { OrefFits oref }
+        requires object { ObjFits object }
+        requires one_repo { AreOf oref.repo self.old.objects }
+        ensures ok { OnOk result (self.new ≡ record self.old { objects = with_object self.old.objects oref object }) }
+        ensures fits { OnOk result (bytes_of (with_object self.old.objects oref object) ≤ self.old.limit) }
+        ensures full { (limit : ℕ) → IsErrOf result (Full limit) → (limit ≡ self.old.limit) × (self.old.limit < bytes_of (with_object self.old.objects oref object)) }
+        ensures err { OnErr result (self.new ≡ self.old) }
+    {
+        let total = self.bytes_with(oref, &object);
+        if total > u64::from(self.limit) {
+            return Err(MobFull::Full { limit: self.limit });
+        }
+        self.load(oref, object)?;
+        Ok(())
+    }
+
+    /// Adds an object as `add` does, whatever the limit is. Want of memory, too, where the bytes of all
+    /// objects would pass a `u32`.
+    pub fn load(&mut self, oref: Oref, object: Obj) -> Result<(), NoMemory>
+        requires name { OrefFits oref }
+        requires object { ObjFits object }
+        requires one_repo { AreOf oref.repo self.old.objects }
+        ensures ok { OnOk result (self.new ≡ record self.old { objects = with_object self.old.objects oref object }) }
+        ensures err { OnErr result (self.new ≡ self.old) }
+    {
+        let Ok(total) = u32::try_from(self.bytes_with(oref, &object)) else {
+            return Err(NoMemory);
+        };
+        self.objects.insert(oref, object)?;
+        self.repo = oref.repo;
+        self.bytes = total;
+        Ok(())
+    }
+
+    /// How many bytes all objects have with this one among them.
+    fn bytes_with(&self, oref: Oref, object: &Obj) -> u64
+        requires { ObjFits object.now }
+        ensures { result ≡ bytes_of (with_object self.now.objects oref object.now) }
+    {
+        let before = self.size_held(oref);
+        u64::from(self.bytes) - u64::from(before) + u64::from(spelled_size(object))
+    }
+
+    /// How many bytes the object of a name has, where one is held.
+    fn size_held(&self, oref: Oref) -> u32
+        ensures value { result ≡ size_at self.now.objects oref }
+        ensures most { result ≤ bytes_of self.now.objects }
+    {
+        match self.objects.get(&oref) {
+            Some(object) => spelled_size(object),
+            None => 0,
+        }
+    }
+
+    /// The object of a name.
+    pub fn get(&self, oref: Oref) -> Option<&Obj>
+        ensures value { option_copied result ≡ object_of self.now.objects oref }
+        ensures object { IfSome result (λ object. ObjFits object.now) }
+    {
+        match self.objects.get(&oref) {
+            Some(object) => Some(object),
+            None => None,
+        }
+    }
+
+    /// The next slot of a page that has an object, slots rising: the least, or the least behind another.
+    pub fn of_page(&self, page: u32, after: Option<u8>) -> Option<u8>
+        ensures next { IsNextSlot self.now.objects page (behind after) result }
+    {
+        let low = match after {
+            Some(slot) => slot.saturating_add(1),
+            None => 0,
+        };
+        next_slot(&self.objects, self.repo, page, low)
+    }
+
+    /// The name that came in first of those that are held.
+    pub fn oldest(&self) -> Option<Oref>
+        ensures value { result ≡ option_map (λ q. q.0) (slice_get self.now.objects 0) }
+        ensures name { IfSome result OrefFits }
+        ensures one_repo { IfSome result (λ oref. AreOf oref.repo self.now.objects) }
+    {
+        match self.objects.first() {
+            Some((oref, _)) => Some(*oref),
+            None => None,
+        }
+    }
+
+    /// Drops the objects of a page. It takes no memory.
+    pub fn remove_page(&mut self, page: u32)
+        ensures { self.new ≡ record self.old { objects = without_page self.old.objects page } }
+    {
+        self.objects.retain(|oref, _| oref.page != page);
+        self.bytes = sizes(&self.objects);
+    }
+
+    /// The bytes of all objects as they are spelled.
+    pub fn bytes(&self) -> u32
+        ensures { result ≡ bytes_of self.now.objects }
+    {
+        self.bytes
+    }
+
+    /// The object at a rank counted from 0, with its name, in the order in which the names came in.
+    pub fn nth(&self, n: u32) -> Option<(Oref, &Obj)>
+        ensures value { option_map (λ q. (q.0, q.1.now)) result ≡ slice_get self.now.objects n }
+        ensures distinct { AreDistinct self.now.objects }
+    {
+        let _ = self.objects.len();
+        match self.objects.get_index(n as usize) {
+            Some((oref, object)) => Some((*oref, object)),
+            None => None,
+        }
+    }
+}
+
+/// The least slot of a page, from one on, that has an object.
+fn next_slot(objects: &IndexMap<Oref, Obj>, repo: u8, page: u32, low: u8) -> Option<u8>
+    requires { AreOf repo objects.now.entries }
+    ensures { IsNextSlot objects.now.entries page low result }
+{
+    for slot in low..SLOTS {
+        if objects.contains_key(&Oref { repo, page, slot }) {
+            return Some(slot);
+        }
+    }
+    None
+}
+
+/// The bytes of all objects as they are spelled.
+fn sizes(objects: &IndexMap<Oref, Obj>) -> u32
+    requires fit { (repo : ℕ) × AreOf repo objects.now.entries }
+    requires few { bytes_of objects.now.entries < 2 ^ 32 }
+    ensures { result ≡ bytes_of objects.now.entries }
+{
+    let mut size = 0;
+    for rank in 0..objects.len() {
+        size += size_at_rank(objects, rank);
+    }
+    size
+}
+
+/// How many bytes the object at a rank has, where there is one.
+fn size_at_rank(objects: &IndexMap<Oref, Obj>, rank: usize) -> u32
+    requires { (repo : ℕ) × AreOf repo objects.now.entries }
+    ensures { result ≡ rank_size objects.now.entries rank }
+{
+    match objects.get_index(rank) {
+        Some((_, object)) => spelled_size(object),
+        None => 0,
+    }
+}

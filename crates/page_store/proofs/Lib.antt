@@ -1,0 +1,4 @@
+pub mod ObjectBytes
+pub mod Tears
+pub mod Sides
+pub mod Stores

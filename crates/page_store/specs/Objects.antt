@@ -1,0 +1,34 @@
+-- Pages of objects (this project's; that objects lie in slots of pages is Liskov and others, SIGMOD 1996).
+use Rattle.std.specs.Prelude.{◌≡◌, ℕ, ◌<◌, List}
+use Rattle.std.specs.List.{AllByRecursion}
+use Rattle.thor_value.specs.FiniteMap.{empty}
+use Rattle.thor_value.specs.declared.values.Obj.{Obj}
+use Rattle.object_codec.specs.Spelling.{ObjFits, obj_bytes}
+use Rattle.page_format.specs.Pages.{Contents, PageFits, page_bytes}
+
+-- the slots of a page that objects are named by
+abbrev pub slot_count : ℕ
+slot_count = 12
+
+-- these bytes are one object, from the first to the last
+abbrev pub SpellsObject : List ℕ → Type 0
+SpellsObject bytes = (object : Obj) × ObjFits object × (bytes ≡ obj_bytes object)
+
+-- in a slot that objects are named by stands one object
+abbrev pub IsObjectAt : ℕ × List ℕ → Type 0
+IsObjectAt q = (q.0 < slot_count) × SpellsObject q.1
+
+-- a page that holds objects alone
+pub record HasObjects (page : Contents) : Type 0 where
+  pub fits : PageFits page
+  pub objects : AllByRecursion IsObjectAt page.objects.pairs
+
+-- these bytes are a page of objects, with this number
+pub record Spells (bytes : List ℕ) (number : ℕ) (page : Contents) : Type 0 where
+  pub is : bytes ≡ page_bytes page
+  pub number_is : page.number ≡ number
+  pub objects : HasObjects page
+
+-- the page that has no object
+abbrev pub empty_page : ℕ → Contents
+empty_page number = record { number = number; objects = empty }

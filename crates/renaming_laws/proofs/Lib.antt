@@ -1,0 +1,10 @@
+pub mod Renamed
+pub mod RenamedAfter
+pub mod RenamedAtHand
+pub mod RenamedCalls
+pub mod RenamedEnds
+pub mod RenamedMachines
+pub mod RenamedObjects
+pub mod RenamedRun
+pub mod RenamedStores
+pub mod RenamedSupply

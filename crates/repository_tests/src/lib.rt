@@ -1,0 +1,5 @@
+//! Tests of what a repository is made of.
+#![tactic(auto)]
+
+#[cfg(test)]
+mod transactions;

@@ -1,0 +1,7 @@
+pub mod Clauses
+pub mod Knowledge
+pub mod Meaning
+pub mod Rows
+pub mod Rule
+pub mod Samples
+pub mod Steps

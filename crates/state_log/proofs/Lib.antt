@@ -1,0 +1,3 @@
+pub mod Checkpoints
+pub mod Holding
+pub mod ValueLaws

@@ -1,0 +1,21 @@
+use Rattle.std.proofs.Common.{ap, ◌∙◌}
+use Rattle.log_bytes.specs.Format.{value_of}
+use Rattle.log_bytes.specs.Grammar.{body_format}
+use Rattle.log_bytes.specs.declared.body.Body.TheVariants.{Entry as AnEntry}
+use Rattle.state_log.proofs.Holding.{append_holds, append_says, none_says, ok_of_three}
+use Rattle.state_log.proofs.open_log.CommitLog.append.Goals as goal
+
+pub returns-in_err-body-clause-any_moment : goal.returns-in_err-body-clause-any_moment
+returns-in_err-body-clause-any_moment g c = λ s holds tells. none_says _ _ s (AnEntry c.args.entry.now) holds tells
+
+pub returns-clause-any_moment : goal.returns-clause-any_moment
+returns-clause-any_moment g c = rw (← c.self.view_is) (λ s holds tells.
+    append_says (g.P.Parts.disks c.args.parts.now) (g.P.Parts.disks c.append.new.parts) c.self.inside.log s (AnEntry c.args.entry.now) c.as_slice.result.now holds (ap (value_of body_format) c.as_slice.ensures ∙ c.in_ok-body.ensures.read)
+    tells c.append.ensures.any_moment)
+
+pub returns-clause-appended : goal.returns-clause-appended
+returns-clause-appended g c = rw (← c.self.view_is)
+    (ok_of_three c.append.result (λ appended settled agrees s holds.
+    append_holds (g.P.Parts.disks c.args.parts.now) (g.P.Parts.disks c.append.new.parts) c.self.inside.log c.append.new.self s (AnEntry c.args.entry.now) c.as_slice.result.now holds (ap (value_of body_format) c.as_slice.ensures ∙ c.in_ok-body.ensures.read)
+    c.append.ensures.alone settled c.append.ensures.disk agrees appended)
+    c.append.ensures.appended c.append.ensures.settled c.append.ensures.agrees)

@@ -1,0 +1,135 @@
+ghost use Rattle.std.specs.Prelude.{◌≡◌, ◌+◌, ◌<◌, ◌^◌, ℕ, None, IfOk, OnOk, IsErrOf};
+ghost use Rattle.disk_trait.specs.AllDisks.{AllSettled, GoesOn, LeavesAll, TellsAll};
+ghost use Rattle.disk_trait.specs.Disks.{Disks, Rose, WhereTold};
+ghost use Rattle.log_frame.specs.Log.{read_log};
+ghost use Rattle.log_frame.specs.declared.fault.LogFault.TheVariants.{Damaged, Failed};
+ghost use Rattle.log_bytes.specs.Checkpoint.{StateFits};
+ghost use Rattle.log_bytes.specs.Grammar.{BodyFits};
+ghost use Rattle.log_bytes.specs.declared.body.Body.TheVariants.{Entry as AnEntry, Installed as AnInstalled};
+ghost use Rattle.log_bytes.specs.declared.state.State.{State as AState};
+ghost use Rattle.state_log.specs.Holds.{Holds, Says, SaysNothingOr, SaysOneOf, beside};
+ghost use Rattle.state_log.specs.Recovered.{after, sequence_end};
+
+use commit_log::Entry;
+use disk_trait::Parts;
+use log_bytes::{State, spell_entry, spell_installed, spell_state};
+use log_frame::{Log, LogFault};
+use std::alloc::Global;
+use std::marker::Model;
+
+/// An open log of a repository's entries, beside another log disk whose log doesn't count.
+///
+/// After a fault the repository's disks are read again.
+#[derive(Debug, Drop)]
+pub struct CommitLog {
+    alloc: Global,
+    log: Log,
+}
+
+impl Model for CommitLog {
+    ghost use Rattle.log_frame.specs.Log.{Place};
+
+    ghost Value = { Place };
+
+    ghost view = { λ l. l.log };
+}
+
+impl CommitLog {
+    /// The entries of an open log.
+    pub fn new(alloc: Global, log: Log) -> CommitLog
+        ensures { result ≡ log }
+    {
+        CommitLog { alloc, log }
+    }
+
+    /// Puts a first log, which begins with the state, on disk 0. Neither log disk may have an open log.
+    ///
+    /// At each moment a crash leaves no open log, or the state.
+    pub fn format<P: Parts>(alloc: Global, parts: &mut P, state: &State) -> Result<CommitLog, LogFault>
+        requires fits { StateFits state.now }
+        requires settled { AllSettled (P.disks parts.old) }
+        requires first { WhereTold (P.disks parts.old) 0 (λ bytes. read_log bytes ≡ None) }
+        requires second { WhereTold (P.disks parts.old) 1 (λ bytes. read_log bytes ≡ None) }
+        ensures goes { GoesOn (P.disks parts.old) (P.disks parts.new) }
+        ensures any_moment { TellsAll (P.disks parts.old) → LeavesAll (P.disks parts.old) (P.disks parts.new) (SaysNothingOr state.now) }
+        ensures holds { IfOk result (λ log. Holds (P.disks parts.new) log state.now) }
+        ensures sequence { IfOk result (λ log. log.sequence ≡ 1) }
+        ensures disk { IfOk result (λ log. log.disk ≡ 0) }
+        ensures damaged { (place : ℕ) → IsErrOf result (Damaged place) → ⊥ }
+        ensures failed { IsErrOf result Failed → Rose ((P.disks parts.old).faults 0) ((P.disks parts.new).faults 0) }
+    {
+        let head = spell_state(alloc, state)?;
+        let log = Log::format(alloc, parts, 0, 1, head.as_slice())?;
+        Ok(CommitLog { alloc, log })
+    }
+
+    /// The log's sequence.
+    pub fn sequence(&self) -> u64
+        ensures { result ≡ self.now.sequence }
+    {
+        self.log.sequence()
+    }
+
+    /// Adds an entry: four device calls, before which all memory is taken.
+    ///
+    /// At each moment a crash leaves what was there, or that with this one entry. After `Ok` it leaves the
+    /// entry. After a fault either of the two may be found.
+    pub fn append<P: Parts>(&mut self, parts: &mut P, entry: &Entry) -> Result<(), LogFault>
+        requires fits { BodyFits (AnEntry entry.now) }
+        requires holds { (s : AState) × Holds (P.disks parts.old) self.old s }
+        ensures goes { GoesOn (P.disks parts.old) (P.disks parts.new) }
+        ensures any_moment { (s : AState) → Holds (P.disks parts.old) self.old s → TellsAll (P.disks parts.old) → LeavesAll (P.disks parts.old) (P.disks parts.new) (SaysOneOf s (AnEntry entry.now)) }
+        ensures appended { OnOk result ((s : AState) → Holds (P.disks parts.old) self.old s → Holds (P.disks parts.new) self.new (after s (AnEntry entry.now))) }
+        ensures damaged { (place : ℕ) → IsErrOf result (Damaged place) → ⊥ }
+        ensures failed { IsErrOf result Failed → Rose ((P.disks parts.old).faults self.old.disk) ((P.disks parts.new).faults self.old.disk) }
+    {
+        let body = spell_entry(self.alloc, entry)?;
+        self.log.append(parts, body.as_slice())
+    }
+
+    /// Says that a side of a page is in use from here on: four device calls, before which all memory is
+    /// taken. The buffered objects of the page go.
+    ///
+    /// At each moment a crash leaves what was there, or that with this record. After `Ok` it leaves the
+    /// record.
+    pub fn installed<P: Parts>(
+        &mut self,
+        parts: &mut P,
+        page: u32,
+        side: u8,
+    ) -> Result<(), LogFault>
+        requires side { side < 2 }
+        requires holds { (s : AState) × Holds (P.disks parts.old) self.old s }
+        ensures goes { GoesOn (P.disks parts.old) (P.disks parts.new) }
+        ensures any_moment { (s : AState) → Holds (P.disks parts.old) self.old s → TellsAll (P.disks parts.old) → LeavesAll (P.disks parts.old) (P.disks parts.new) (SaysOneOf s (AnInstalled page side)) }
+        ensures appended { OnOk result ((s : AState) → Holds (P.disks parts.old) self.old s → Holds (P.disks parts.new) self.new (after s (AnInstalled page side))) }
+        ensures damaged { (place : ℕ) → IsErrOf result (Damaged place) → ⊥ }
+        ensures failed { IsErrOf result Failed → Rose ((P.disks parts.old).faults self.old.disk) ((P.disks parts.new).faults self.old.disk) }
+    {
+        let body = spell_installed(self.alloc, page, side)?;
+        self.log.append(parts, body.as_slice())
+    }
+
+    /// Puts a log that begins with the state on the other log disk, with the next sequence. From then on it
+    /// counts.
+    ///
+    /// The state has to be the whole of what the disks say, so at each moment a crash leaves what was there.
+    pub fn checkpoint<P: Parts>(&mut self, parts: &mut P, state: &State) -> Result<(), LogFault>
+        requires fits { StateFits state.now }
+        requires sequence { self.old.sequence + 1 < sequence_end }
+        requires holds { Holds (P.disks parts.old) self.old state.now }
+        ensures goes { GoesOn (P.disks parts.old) (P.disks parts.new) }
+        ensures any_moment { TellsAll (P.disks parts.old) → LeavesAll (P.disks parts.old) (P.disks parts.new) (Says state.now) }
+        ensures done { OnOk result (Holds (P.disks parts.new) self.new state.now) }
+        ensures next { OnOk result (self.new.sequence ≡ self.old.sequence + 1) }
+        ensures other { OnOk result (self.new.disk ≡ beside self.old.disk) }
+        ensures damaged { (place : ℕ) → IsErrOf result (Damaged place) → ⊥ }
+        ensures failed { IsErrOf result Failed → Rose ((P.disks parts.old).faults (beside self.old.disk)) ((P.disks parts.new).faults (beside self.old.disk)) }
+    {
+        let head = spell_state(self.alloc, state)?;
+        let disk = 1 - self.log.disk();
+        let sequence = self.log.sequence() + 1;
+        self.log = Log::format(self.alloc, parts, disk, sequence, head.as_slice())?;
+        Ok(())
+    }
+}

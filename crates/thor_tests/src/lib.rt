@@ -1,0 +1,9 @@
+//! Tests of the top call and of what stands right below it: what no clause says and no case of `checks` shows.
+#![tactic(auto)]
+
+#[cfg(test)]
+mod names;
+#[cfg(test)]
+mod reports;
+#[cfg(test)]
+mod top;

@@ -1,0 +1,5 @@
+pub mod AppliedClasses
+pub mod AppliedRules
+pub mod KeptByRules
+pub mod KeptFields
+pub mod UpgradeNumbers

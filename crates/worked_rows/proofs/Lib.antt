@@ -1,0 +1,6 @@
+pub mod CountedLoop
+pub mod MixedOwned
+pub mod RunForms
+pub mod TfForms
+pub mod TwiceKeeps
+pub mod UpgradeForms

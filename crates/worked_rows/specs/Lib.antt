@@ -1,0 +1,3 @@
+pub mod LazyExamples
+pub mod RunRows
+pub mod UpgradeRows
