@@ -14,7 +14,7 @@ use Rattle.thor_value.specs.declared.names.Ts.{Ts}
 use Rattle.thor_value.specs.declared.values.Obj.{Obj}
 use Rattle.validation_queue.specs.Clashes.{is_before}
 
--- how many of these commits are upgrades behind no place from n on
+-- how many of these commits are upgrades at places below n
 abbrev pub upgrades_below : ℕ → List (ℕ × Request) → ℕ
 upgrades_below n cs = length (filter (λ c. is_upgrade c.1 && nat_lt c.0 n) cs)
 
