@@ -80,7 +80,7 @@ pub map_kept : (before after : List ℕ) (old new : Kept) (repo : ℕ) → new.m
 map_kept before after old new repo mob sides keeps x answer same fits has =
     subst (λ (b : Buffer). HasOver (object_of b.objects x) after new.pages.sides x answer) (sym mob)
     (subst (λ (s : List (ℕ × ℕ)). HasOver (object_of old.mob.objects x) after s x answer) (sym sides)
-      (over_kept old.pages.sides before after x answer (object_of old.mob.objects x) keeps has))
+    (over_kept old.pages.sides before after x answer (object_of old.mob.objects x) keeps has))
 
 -- ---- and its settling
 
@@ -120,7 +120,7 @@ module _ (kept : Kept) (repo page side : ℕ) (last : IsFlushed kept repo page s
     map_settled x answer of_repo fits has =
         subst (λ (l : Objects). HasOver (object_of l x) disk new.pages.sides x answer) (sym objects)
         (subst (λ (s : List (ℕ × ℕ)). HasOver (object_of (without_page kept.mob.objects page) x) disk s x answer) (sym sides)
-          (settled_by x answer of_repo fits (told_page x.page page) has))
+        (settled_by x answer of_repo fits (told_page x.page page) has))
 
 -- ---- for the calls
 

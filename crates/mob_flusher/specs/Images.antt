@@ -6,7 +6,9 @@ use Rattle.thor_value.specs.declared.names.Oref.{Oref}
 use Rattle.thor_value.specs.declared.values.Obj.{Obj}
 use Rattle.object_codec.specs.Spelling.{obj_bytes}
 use Rattle.page_format.specs.Pages.{Contents}
-use Rattle.page_store.specs.Store.{IsStaged, held_page}
+use Rattle.page_format.specs.Sides.{side_in_use}
+use Rattle.page_store.specs.Sides.{Shows}
+use Rattle.page_store.specs.Store.{held_page}
 use Rattle.mob_buffer.specs.Buffer.{AreOf, Objects, object_of}
 use Rattle.mob_flusher.specs.Map.{Kept}
 
@@ -40,5 +42,13 @@ pub record IsFlushed (kept : Kept) (repo page side : ℕ) : Type 0 where
   pub number : base.number ≡ page
   pub staged : kept.pages.staged ≡ Some (image, side)
   pub held : held_page kept.pages page ≡ Some base
+  pub one_repo : AreOf repo kept.mob.objects
+  pub is_image : IsImage kept.mob.objects repo base image
+
+-- what a page shows with the buffer's objects in their slots, all of them being of one repository
+pub record ShowsImage (disk : List ℕ) (kept : Kept) (page : ℕ) (image : Contents) : Type 0 where
+  pub base : Contents
+  pub shows : Shows disk (side_in_use kept.pages.sides page) page base
+  pub repo : ℕ
   pub one_repo : AreOf repo kept.mob.objects
   pub is_image : IsImage kept.mob.objects repo base image

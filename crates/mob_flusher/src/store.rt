@@ -1,11 +1,12 @@
 ghost use Rattle.std.specs.Prelude.{◌≡◌, ◌+◌, ◌<◌, ◌^◌, ℕ, List, [], Ok, Some, None, slice_get, IfOk, IfSome, OnOk, OnErr, IsErrOf};
 ghost use Rattle.disk_trait.specs.Disks.{Disks, OnDisk, Leaves, WhereTold, IsSettled, Rose};
+ghost use Rattle.page_store.specs.Objects.{HasObjects};
 ghost use Rattle.page_store.specs.Sides.{KeepsSides};
 ghost use Rattle.page_store.specs.Store.{Agrees, IsDamage};
 ghost use Rattle.page_store.specs.declared.fault.StoreFault.TheVariants.{Damaged, Failed};
 ghost use Rattle.mob_buffer.specs.Buffer.{AreOf, without_page};
 ghost use Rattle.mob_flusher.specs.Map.{DiskHas, Has, SameMap};
-ghost use Rattle.mob_flusher.specs.Images.{IsFlushed};
+ghost use Rattle.mob_flusher.specs.Images.{IsFlushed, ShowsImage};
 ghost use Rattle.mob_flusher.specs.declared.store.Flushed.TheVariants.{Installed, Nothing};
 
 use crate::image::{image_of, object_in};
@@ -51,11 +52,7 @@ impl ObjectStore {
     }
 
     /// The object of a name, from the buffer, and else from its page.
-    pub fn get<P: Parts>(
-        &mut self,
-        parts: &mut P,
-        oref: Oref,
-    ) -> Result<Option<Obj>, StoreFault>
+    pub fn get<P: Parts>(&mut self, parts: &mut P, oref: Oref) -> Result<Option<Obj>, StoreFault>
         requires agrees { WhereTold (P.disks parts.old) 2 (Agrees self.old.pages) }
         ensures alone { OnDisk (P.disks parts.old) (P.disks parts.new) 2 }
         ensures content { (P.disks parts.new).content 2 ≡ (P.disks parts.old).content 2 }
@@ -70,6 +67,27 @@ impl ObjectStore {
             return Ok(Some(object.copy()?));
         }
         stored(self.alloc, &mut self.pages, parts, oref)
+    }
+
+    /// A page with all objects that the buffer has of it.
+    pub fn page_image<P: Parts>(&mut self, parts: &mut P, page: u32) -> Result<Page, StoreFault>
+        requires agrees { WhereTold (P.disks parts.old) 2 (Agrees self.old.pages) }
+        ensures alone { OnDisk (P.disks parts.old) (P.disks parts.new) 2 }
+        ensures content { (P.disks parts.new).content 2 ≡ (P.disks parts.old).content 2 }
+        ensures image { IfOk result (λ image. WhereTold (P.disks parts.old) 2 (λ disk. ShowsImage disk self.old page image)) }
+        ensures objects { IfOk result HasObjects }
+        ensures mob { self.new.mob ≡ self.old.mob }
+        ensures sides { self.new.pages.sides ≡ self.old.pages.sides }
+        ensures agrees { WhereTold (P.disks parts.new) 2 (Agrees self.new.pages) }
+        ensures damaged { (place : ℕ) → IsErrOf result (Damaged place) → IsDamage (P.disks parts.old) self.old.pages.sides page place }
+        ensures failed { IsErrOf result Failed → Rose ((P.disks parts.old).faults 2) ((P.disks parts.new).faults 2) }
+    {
+        let repo = repo_of(&self.mob);
+        self.pages.hold(parts, page)?;
+        match self.pages.held(page) {
+            Some(base) => Ok(image_of(self.alloc, base, &self.mob, repo)?),
+            None => Err(StoreFault::NoMemory),
+        }
     }
 
     /// Writes the page of the oldest object in the buffer, with all its objects in the buffer, to the side
@@ -126,6 +144,16 @@ impl ObjectStore {
         ensures { result.now ≡ self.now.pages }
     {
         &self.pages
+    }
+}
+
+/// The repository of the buffer's objects, where it has any.
+fn repo_of(mob: &Mob) -> u8
+    ensures { AreOf result mob.now.objects }
+{
+    match mob.oldest() {
+        Some(oref) => oref.repo,
+        None => 0,
     }
 }
 

@@ -47,11 +47,9 @@ pub(crate) fn read_side<P: Parts>(
     let bytes = read_bytes(alloc, parts, page, side)?;
     match page_of_objects(alloc, &bytes, page)? {
         Some(found) => Ok(found),
-        None => Err(
-            StoreFault::Damaged {
-                place: place_of(page, side),
-            },
-        ),
+        None => Err(StoreFault::Damaged {
+            place: place_of(page, side),
+        }),
     }
 }
 

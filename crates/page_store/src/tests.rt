@@ -95,21 +95,43 @@ fn a_page_is_read_or_damaged(rt: HostRuntime) -> Result<(), Fail> {
     let rows: [(&[u8], Option<u8>); 9] = [
         (&[84, 80, 1, 0, 0, 0, 0, 0], Some(0)),
         // An object of class 0 and version 0 without fields, in slot 11.
-        (&[84, 80, 1, 1, 0, 0, 0, 0, 11, 0, 7, 0, 0, 0, 0, 0, 0, 0], Some(1)),
+        (
+            &[84, 80, 1, 1, 0, 0, 0, 0, 11, 0, 7, 0, 0, 0, 0, 0, 0, 0],
+            Some(1),
+        ),
         // No page; another page; a slot of 12.
         (&[84, 81, 1, 0, 0, 0, 0, 0], None),
         (&[84, 80, 1, 0, 0, 0, 0, 1], None),
-        (&[84, 80, 1, 1, 0, 0, 0, 0, 12, 0, 7, 0, 0, 0, 0, 0, 0, 0], None),
+        (
+            &[84, 80, 1, 1, 0, 0, 0, 0, 12, 0, 7, 0, 0, 0, 0, 0, 0, 0],
+            None,
+        ),
         // An object that is cut, one with a byte behind it, one of 33 fields, one with no value in a field.
-        (&[84, 80, 1, 1, 0, 0, 0, 0, 11, 0, 6, 0, 0, 0, 0, 0, 0], None),
-        (&[84, 80, 1, 1, 0, 0, 0, 0, 11, 0, 8, 0, 0, 0, 0, 0, 0, 0, 0], None),
-        (&[84, 80, 1, 1, 0, 0, 0, 0, 11, 0, 7, 0, 0, 0, 0, 0, 0, 33], None),
-        (&[84, 80, 1, 1, 0, 0, 0, 0, 11, 0, 8, 0, 0, 0, 0, 0, 0, 1, 9], None),
+        (
+            &[84, 80, 1, 1, 0, 0, 0, 0, 11, 0, 6, 0, 0, 0, 0, 0, 0],
+            None,
+        ),
+        (
+            &[84, 80, 1, 1, 0, 0, 0, 0, 11, 0, 8, 0, 0, 0, 0, 0, 0, 0, 0],
+            None,
+        ),
+        (
+            &[84, 80, 1, 1, 0, 0, 0, 0, 11, 0, 7, 0, 0, 0, 0, 0, 0, 33],
+            None,
+        ),
+        (
+            &[84, 80, 1, 1, 0, 0, 0, 0, 11, 0, 8, 0, 0, 0, 0, 0, 0, 1, 9],
+            None,
+        ),
     ];
     for (front, want) in rows {
         let mut parts = parts(alloc, front, &[])?;
         let read = read_twice(alloc, &mut parts);
-        assert_eq!(rt; read, want.ok_or(StoreFault::Damaged { place: 0 }), "front {front:?}");
+        assert_eq!(rt;
+            read,
+            want.ok_or(StoreFault::Damaged { place: 0 }),
+            "front {front:?}"
+        );
         // Page 0 is read once, and page 1 was never installed.
         assert_eq!(rt; parts.calls(2).len(), 1);
     }
