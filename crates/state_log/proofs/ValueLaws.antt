@@ -58,10 +58,10 @@ object_in-buffered (v ∷ vs) w x = by_key (object_in-buffered vs w x) (same_ore
     by_key more false e =
         ap (λ (rest : Option Obj). cond (same_oref x v.0) (Some v.1) rest) more
         ∙ passed (same_oref x w.0) (same_oref x v.0) (object_in vs x) (λ hw hv.
-          let one : v.0 ≡ w.0 = sym (same_name x v.0 hv) ∙ same_name x w.0 hw in
-          let yes : same_oref v.0 w.0 ≡ true = ap (λ (k : Oref). same_oref v.0 k) (sym one) ∙ ap is_eq (tied_itself oref_total v.0) in
-          let clash : false ≡ true = sym e ∙ yes in
-          cc)
+        let one : v.0 ≡ w.0 = sym (same_name x v.0 hv) ∙ same_name x w.0 hw in
+        let yes : same_oref v.0 w.0 ≡ true = ap (λ (k : Oref). same_oref v.0 k) (sym one) ∙ ap is_eq (tied_itself oref_total v.0) in
+        let clash : false ≡ true = sym e ∙ yes in
+        cc)
 
 pub object_in-writes : (ws mob : List (Oref × Obj)) (x : Oref) → object_in (fold buffered mob ws) x ≡ written_last x (object_in mob x) ws
 object_in-writes [] mob x = refl
