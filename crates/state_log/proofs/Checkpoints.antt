@@ -1,14 +1,14 @@
 -- A log that begins with the state is put on the other disk.
-use Rattle.std.proofs.Common.{◌≡◌, ◌≢◌, ◌⊎◌, ℕ, zero, suc, ◌+◌, ◌-◌, ◌<◌, List, [], Option, Some, None, is_some, false, Result, Ok, ◌∙◌, refl, ap, sym, subst, arith, inl, inr}
-use Rattle.disk_trait.specs.Disks.{Disks, OnDisk, Leaves, MayLeave, IsSettled, WhereTold}
-use Rattle.log_frame.specs.Log.{Opened, Place, Stands, Agrees, IsFound, read_log, IsOldOrNew, new_log}
+use Rattle.std.proofs.Common.{◌≡◌, ℕ, zero, suc, ◌+◌, ◌<◌, List, Option, Some, None, Result, ◌∙◌, refl, ap, sym, subst, arith, inl, inr}
+use Rattle.disk_trait.specs.Disks.{Disks, OnDisk, Leaves, IsSettled, WhereTold}
+use Rattle.log_frame.specs.Log.{Opened, Place, Stands, Agrees, read_log, IsOldOrNew, new_log}
 use Rattle.log_frame.proofs.LogAppends.{same_log, told_on}
 use Rattle.log_bytes.specs.declared.state.State.{State}
 use Rattle.log_bytes.specs.Checkpoint.{state_format}
 use Rattle.log_bytes.specs.Format.{value_of}
 use Rattle.state_log.specs.Recovered.{chosen, sequence_end, stands, state_in}
 use Rattle.std.specs.Option.{option_and_then}
-use Rattle.disk_trait.specs.AllDisks.{AllSettled, LeavesAll, MayLeaveAll, TellsAll}
+use Rattle.disk_trait.specs.AllDisks.{AllSettled, LeavesAll, TellsAll}
 use Rattle.state_log.specs.Holds.{SaysNothingOr, Under, Holding, Holds, Says, beside}
 use Rattle.disk_trait.proofs.Several.{all_of_one, all_settled, all_none}
 use Rattle.state_log.proofs.Holding.{stands_of, is_other, is_log, holds_says, state_first}

@@ -1,16 +1,16 @@
 -- The log that counts among what two disks opened as.
-use Rattle.std.proofs.Common.{◌≡◌, ◌⊎◌, ℕ, zero, suc, ◌+◌, ◌-◌, ◌<◌, List, Bool, true, false, nat_lt, cond, Option, Some, None, IfSome, Result, Ok, Err, ◌∙◌, refl, ap, sym, subst, arith, inl, inr}
+use Rattle.std.proofs.Common.{◌≡◌, ◌⊎◌, ℕ, ◌+◌, ◌<◌, List, Bool, true, false, nat_lt, cond, Option, Some, None, IfSome, Result, Ok, Err, refl, ap, sym, subst, arith, inl, inr}
 use Rattle.std.proofs.lemmas.Bool.Decides.{nat_tests}
-use Rattle.std.specs.Option.{option_and_then, option_map}
+use Rattle.std.specs.Option.{option_and_then}
 use Rattle.disk_trait.specs.Disks.{Disks, WhereTold}
-use Rattle.log_frame.specs.Log.{Opened, Place, Stands, Agrees, IsFound, read_log}
+use Rattle.log_frame.specs.Log.{Opened, Stands, Agrees, IsFound, read_log}
 use Rattle.log_frame.proofs.LogAppends.{same_log}
 use Rattle.log_bytes.specs.declared.state.State.{State}
 use Rattle.state_log.specs.Recovered.{chosen, stands, state_in}
 use Rattle.disk_trait.specs.AllDisks.{AllSettled}
 use Rattle.state_log.specs.Holds.{Under, Holding, Holds, beside}
 use Rattle.state_log.specs.Opening.{Found, choice, log_of, IsOn}
-use Rattle.state_log.proofs.Holding.{chosen_of, is_log}
+use Rattle.state_log.proofs.Holding.{chosen_of}
 
 -- a log that counts on this disk
 pub holds_of : (disks : Disks) (d : ℕ) (f : Found) (s : State) → d < 2 → AllSettled disks → f.0.disk ≡ d → WhereTold disks d (λ bytes. IsFound d bytes (Some f)) → WhereTold disks (beside d) (λ other. Under d f.0.sequence (read_log other)) → state_in (log_of f) ≡ Some s → Holds disks f.0 s

@@ -1,8 +1,7 @@
 -- The objects behind records.
-use Rattle.std.proofs.Common.{◌≡◌, Bool, List, Option, Some, None, [], ◌∷◌, cond, false, true, ℕ, refl, sym, ap, subst, ◌∙◌, arith}
-use Rattle.std.specs.BTreeMap.{insert_entry, is_at}
+use Rattle.std.proofs.Common.{◌≡◌, Bool, List, Option, Some, None, [], ◌∷◌, cond, false, true, ℕ, refl, sym, ap, ◌∙◌, arith}
+use Rattle.std.specs.BTreeMap.{insert_entry}
 use Rattle.std.specs.List.{filter, fold}
-use Rattle.std.specs.Map.{lookup}
 use Rattle.std.specs.Option.{option_and_then, option_or}
 use Rattle.std.specs.Ordering.{eq_by_cmp, is_eq, nat_cmp}
 use Rattle.std.specs.Prelude.{nat_eq, not}

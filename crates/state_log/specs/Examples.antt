@@ -1,17 +1,16 @@
 -- Worked examples of what records do to a state.
 use Rattle.std.specs.List.{fold}
-use Rattle.std.specs.Prelude.{List, None, Option, Some, [], false, true, ◌∷◌, ℕ}
+use Rattle.std.specs.Prelude.{List, [], ◌∷◌, ℕ}
 use Rattle.thor_value.specs.Names.{zero_ts}
 use Rattle.thor_value.specs.declared.names.Oref.{Oref}
 use Rattle.thor_value.specs.declared.names.Ts.{Ts}
 use Rattle.thor_value.specs.declared.values.Answer.TheVariants.{Ints}
 use Rattle.thor_value.specs.declared.values.Obj.{Obj}
-use Rattle.thor_value.specs.declared.values.Value.TheVariants.{Int}
-use Rattle.commit_log.specs.declared.entry.Entry.TheVariants.{Decided, Finished, Life, One, Prepared, Upgraded}
-use Rattle.commit_log.specs.declared.request.Kind.TheVariants.{App, Upgrade}
+use Rattle.commit_log.specs.declared.entry.Entry.TheVariants.{Life, One, Prepared}
+use Rattle.commit_log.specs.declared.request.Kind.TheVariants.{App}
 use Rattle.commit_log.specs.declared.request.Kind.{Kind}
 use Rattle.commit_log.specs.declared.request.Request.{Request}
-use Rattle.log_bytes.specs.declared.body.Body.TheVariants.{Entry as AnEntry, Installed}
+use Rattle.log_bytes.specs.declared.body.Body.TheVariants.{Entry as AnEntry}
 use Rattle.log_bytes.specs.declared.body.Body.{Body}
 use Rattle.log_bytes.specs.declared.state.State.{State}
 use Rattle.state_log.specs.Recovered.{after}

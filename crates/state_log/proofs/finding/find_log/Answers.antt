@@ -1,5 +1,4 @@
 use Rattle.std.proofs.Common.{◌≡◌, IfSome, Option, Some, subst, sym}
-use Rattle.log_bytes.specs.declared.state.State.{State}
 use Rattle.state_log.specs.Holds.{Holds}
 use Rattle.state_log.specs.Opening.{Found, log_of}
 use Rattle.state_log.specs.Recovered.{state_in}

@@ -1,4 +1,4 @@
-use Rattle.std.proofs.Common.{◌∙◌, ap, arith, sym, refl, inl, inr, subst, rules, IsErrOf}
+use Rattle.std.proofs.Common.{◌∙◌, arith, sym, inl, inr, rules, IsErrOf}
 use Rattle.disk_trait.proofs.Several.{settled_still, content_stays}
 use Rattle.state_log.proofs.Opened.{found_holds, found_as, stands_damaged}
 use Rattle.log_frame.specs.declared.fault.LogFault.TheVariants.{Damaged}

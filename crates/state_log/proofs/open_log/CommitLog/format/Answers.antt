@@ -1,7 +1,6 @@
 use Rattle.std.proofs.Common.{ap, ◌∙◌}
 use Rattle.log_bytes.specs.Checkpoint.{state_format}
 use Rattle.log_bytes.specs.Format.{value_of}
-use Rattle.disk_trait.proofs.Several.{all_none}
 use Rattle.state_log.proofs.Checkpoints.{format_holds, format_says, fresh_says}
 use Rattle.state_log.proofs.open_log.CommitLog.format.Goals as goal
 
