@@ -1,14 +1,14 @@
 -- A log that begins with the state is put on the other disk.
-use Rattle.std.proofs.Common.{◌≡◌, ◌≢◌, ◌⊎◌, ℕ, zero, suc, ◌+◌, ◌-◌, ◌<◌, List, [], Option, Some, None, is_some, false, Result, Ok, ◌∙◌, refl, ap, sym, subst, arith, inl, inr}
-use Rattle.disk_trait.specs.Disks.{Disks, OnDisk, Leaves, MayLeave, IsSettled, WhereTold}
-use Rattle.log_frame.specs.Log.{Opened, Place, Stands, Agrees, IsFound, read_log, IsOldOrNew, new_log}
+use Rattle.std.proofs.Common.{◌≡◌, ℕ, zero, suc, ◌+◌, ◌<◌, List, Option, Some, None, Result, ◌∙◌, refl, ap, sym, subst, arith, inl, inr}
+use Rattle.disk_trait.specs.Disks.{Disks, OnDisk, Leaves, IsSettled, WhereTold}
+use Rattle.log_frame.specs.Log.{Opened, Place, Stands, Agrees, read_log, IsOldOrNew, new_log}
 use Rattle.log_frame.proofs.LogAppends.{same_log, told_on}
 use Rattle.log_bytes.specs.declared.state.State.{State}
 use Rattle.log_bytes.specs.Checkpoint.{state_format}
 use Rattle.log_bytes.specs.Format.{value_of}
 use Rattle.state_log.specs.Recovered.{chosen, sequence_end, stands, state_in}
 use Rattle.std.specs.Option.{option_and_then}
-use Rattle.disk_trait.specs.AllDisks.{AllSettled, LeavesAll, MayLeaveAll, TellsAll}
+use Rattle.disk_trait.specs.AllDisks.{AllSettled, LeavesAll, TellsAll}
 use Rattle.state_log.specs.Holds.{SaysNothingOr, Under, Holding, Holds, Says, beside}
 use Rattle.disk_trait.proofs.Several.{all_of_one, all_settled, all_none}
 use Rattle.state_log.proofs.Holding.{stands_of, is_other, is_log, holds_says, state_first}
@@ -98,16 +98,16 @@ format_says old new s head spelled settled tells first second any =
     let log = tells 0 (omega arith) in
     let other = tells 1 (omega arith) in
     all_of_one old new 0 (IsOldOrNew log.0 (new_log 1 head)) (SaysNothingOr s) (omega arith) (any log.0 log.1)
-      (λ images others this.
-        let stays : images 1 ≡ other.0 = settled 1 (omega arith) other.0 other.1 (images 1) (others 1 (omega arith) (λ same. cc)) in
-        let shut : read_log (images 1) ≡ None = ap read_log stays ∙ second other.0 other.1 in
-        elim this [
-          | inl old_is ↦ inl (none_open images (ap read_log old_is ∙ first log.0 log.1) shut)
-          | inr shut_or_new ↦ elim shut_or_new [
-            | inl none ↦ inl (none_open images none shut)
-            | inr is_new ↦ inr (stands_of 0 images (new_log 1 head) s (omega arith) is_new (inl shut) (state_first 1 head s (omega arith) spelled))
-          ]
-        ])
+    (λ images others this.
+    let stays : images 1 ≡ other.0 = settled 1 (omega arith) other.0 other.1 (images 1) (others 1 (omega arith) (λ same. cc)) in
+    let shut : read_log (images 1) ≡ None = ap read_log stays ∙ second other.0 other.1 in
+    elim this [
+      | inl old_is ↦ inl (none_open images (ap read_log old_is ∙ first log.0 log.1) shut)
+      | inr shut_or_new ↦ elim shut_or_new [
+        | inl none ↦ inl (none_open images none shut)
+        | inr is_new ↦ inr (stands_of 0 images (new_log 1 head) s (omega arith) is_new (inl shut) (state_first 1 head s (omega arith) spelled))
+      ]
+    ])
 
 -- a first log beside a disk that has none
 pub format_holds : (old new : Disks) (now' : Place) (s : State) (head : List ℕ) → value_of state_format head ≡ Some s → AllSettled old → WhereTold old 1 (λ other. read_log other ≡ None) → OnDisk old new 0 → IsSettled new 0 → now'.disk ≡ 0 → WhereTold new 0 (Agrees now') → WhereTold old 0 (λ bytes. WhereTold new 0 (λ final. Stands final (new_log 1 head))) → Holds new now' s
@@ -116,7 +116,7 @@ format_holds old new now' s head spelled before fresh alone settled on agrees fo
   settled = all_settled old new 0 alone before settled;
   agrees = subst (λ (n : ℕ). WhereTold new n (Agrees now')) (sym on) agrees;
   told = subst (λ (n : ℕ). (log other : List ℕ) → new.content n ≡ Some log → new.content (beside n) ≡ Some other → (opened : Opened) → Stands log opened → Holding n opened s other) (sym on)
-    (λ log other told beside_told opened stood.
+      (λ log other told beside_told opened stood.
       let was = told_on (new.content 0) (old.content 0) log (sym alone.told) told in
       let is : new_log 1 head ≡ opened = same_log log (new_log 1 head) opened (formatted was.0 was.1 log told) stood in
       subst (λ (o : Opened). Holding 0 o s other) is (record { under = inl (fresh other (sym (alone.others 1 (λ same. cc)) ∙ beside_told)); state = state_first 1 head s (omega arith) spelled }));

@@ -1,10 +1,10 @@
 -- An open log that holds a state, behind one record more.
-use Rattle.std.proofs.Common.{◌≡◌, ◌≢◌, ℕ, zero, suc, ◌+◌, ◌-◌, ◌<◌, List, [], ◌∷◌, Bool, true, false, nat_lt, cond, ◌++◌, Option, Some, None, Result, Ok, Err, OnOk, is_some, ◌∙◌, refl, ap, sym, subst, arith, inl, inr}
+use Rattle.std.proofs.Common.{◌≡◌, ◌≢◌, ℕ, zero, suc, ◌+◌, ◌<◌, List, [], ◌∷◌, Bool, true, false, nat_lt, cond, ◌++◌, Option, Some, None, Result, Ok, Err, OnOk, ◌∙◌, refl, ap, sym, subst, arith, inl, inr}
 use Rattle.std.proofs.lemmas.Bool.Decides.{nat_tests}
 use Rattle.std.proofs.lemmas.Bool.{lt-ltb}
 use Rattle.std.proofs.lemmas.List.Sums.{fold-append}
 use Rattle.std.specs.Option.{option_and_then, option_map}
-use Rattle.disk_trait.specs.Disks.{Disks, OnDisk, Leaves, MayLeave, IsSettled, WhereTold}
+use Rattle.disk_trait.specs.Disks.{Disks, OnDisk, Leaves, IsSettled, WhereTold}
 use Rattle.log_frame.specs.Log.{Opened, Place, Stands, Agrees, read_log, new_log, with_body, IsBeforeOrAfter}
 use Rattle.log_frame.proofs.LogAppends.{same_log, told_on}
 use Rattle.log_bytes.specs.Checkpoint.{state_format}
@@ -13,8 +13,8 @@ use Rattle.log_bytes.specs.Grammar.{body_format}
 use Rattle.log_bytes.specs.declared.body.Body.{Body}
 use Rattle.log_bytes.specs.declared.state.State.{State}
 use Rattle.state_log.specs.Recovered.{after, behind, chosen, counts, replayed, sequence_end, stands, state_in}
-use Rattle.disk_trait.specs.AllDisks.{LeavesAll, MayLeaveAll, TellsAll, AllSettled}
-use Rattle.state_log.specs.Holds.{Under, Holding, Holds, Says, SaysOneOf, beside}
+use Rattle.disk_trait.specs.AllDisks.{LeavesAll, MayLeaveAll, TellsAll}
+use Rattle.state_log.specs.Holds.{Under, Holding, Holds, SaysOneOf, beside}
 use Rattle.disk_trait.proofs.Several.{all_of_one, all_settled, all_none}
 
 counts_first : (o p : Opened) → p.sequence < o.sequence + 1 → counts o p ≡ o

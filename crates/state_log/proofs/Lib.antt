@@ -1,3 +1,4 @@
 pub mod Checkpoints
 pub mod Holding
+pub mod Opened
 pub mod ValueLaws

@@ -1,8 +1,7 @@
 -- The objects behind records.
-use Rattle.std.proofs.Common.{◌≡◌, Bool, List, Option, Some, None, [], ◌∷◌, cond, false, true, ℕ, refl, sym, ap, subst, ◌∙◌, arith}
-use Rattle.std.specs.BTreeMap.{insert_entry, is_at}
+use Rattle.std.proofs.Common.{◌≡◌, Bool, List, Option, Some, None, [], ◌∷◌, cond, false, true, ℕ, refl, sym, ap, ◌∙◌, arith}
+use Rattle.std.specs.BTreeMap.{insert_entry}
 use Rattle.std.specs.List.{filter, fold}
-use Rattle.std.specs.Map.{lookup}
 use Rattle.std.specs.Option.{option_and_then, option_or}
 use Rattle.std.specs.Ordering.{eq_by_cmp, is_eq, nat_cmp}
 use Rattle.std.specs.Prelude.{nat_eq, not}
@@ -58,10 +57,10 @@ object_in-buffered (v ∷ vs) w x = by_key (object_in-buffered vs w x) (same_ore
     by_key more false e =
         ap (λ (rest : Option Obj). cond (same_oref x v.0) (Some v.1) rest) more
         ∙ passed (same_oref x w.0) (same_oref x v.0) (object_in vs x) (λ hw hv.
-          let one : v.0 ≡ w.0 = sym (same_name x v.0 hv) ∙ same_name x w.0 hw in
-          let yes : same_oref v.0 w.0 ≡ true = ap (λ (k : Oref). same_oref v.0 k) (sym one) ∙ ap is_eq (tied_itself oref_total v.0) in
-          let clash : false ≡ true = sym e ∙ yes in
-          cc)
+        let one : v.0 ≡ w.0 = sym (same_name x v.0 hv) ∙ same_name x w.0 hw in
+        let yes : same_oref v.0 w.0 ≡ true = ap (λ (k : Oref). same_oref v.0 k) (sym one) ∙ ap is_eq (tied_itself oref_total v.0) in
+        let clash : false ≡ true = sym e ∙ yes in
+        cc)
 
 pub object_in-writes : (ws mob : List (Oref × Obj)) (x : Oref) → object_in (fold buffered mob ws) x ≡ written_last x (object_in mob x) ws
 object_in-writes [] mob x = refl

@@ -1,3 +1,5 @@
+pub mod Examples
 pub mod Holds
+pub mod Opening
 pub mod Recovered
 pub mod Values

@@ -6,7 +6,7 @@ use Rattle.std.specs.List.{filter, fold}
 use Rattle.std.specs.Map.{keys_of, lookup, values_of}
 use Rattle.std.specs.Option.{option_and_then, option_map}
 use Rattle.std.specs.Ordering.{nat_cmp}
-use Rattle.std.specs.Prelude.{Bool, Err, List, None, Ok, Option, Result, Some, [], cond, false, map, max, nat_eq, nat_lt, not, true, ◌++◌, ◌+◌, ◌<◌, ◌^◌, ◌∷◌, ◌≡◌, ℕ}
+use Rattle.std.specs.Prelude.{Bool, Err, List, None, Ok, Option, Result, Some, [], cond, false, map, max, nat_eq, nat_lt, not, true, ◌++◌, ◌+◌, ◌^◌, ◌∷◌, ℕ}
 use Rattle.thor_value.specs.Names.{later_of, same_oref, same_ts, ts_cmp}
 use Rattle.thor_value.specs.declared.names.Oref.{Oref}
 use Rattle.thor_value.specs.declared.names.Ts.{Ts}

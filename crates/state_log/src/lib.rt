@@ -1,10 +1,14 @@
 //! A repository's log with the state for which it stands.
 #![tactic(auto)]
 
+mod examples;
+mod finding;
 mod laws;
 mod open_log;
-#[cfg(test)]
-mod tests;
 
-pub use laws::{entries_say_their_writes, installs_say_the_same, logs_grow, values_are_last_writes};
+pub use examples::{commits_are_buffered, prepared_transactions_are_decided, upgrades_are_fences};
+pub use finding::find_log;
+pub use laws::{
+    entries_say_their_writes, installs_say_the_same, logs_grow, values_are_last_writes,
+};
 pub use open_log::CommitLog;

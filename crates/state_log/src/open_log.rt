@@ -45,7 +45,11 @@ impl CommitLog {
     /// Puts a first log, which begins with the state, on disk 0. Neither log disk may have an open log.
     ///
     /// At each moment a crash leaves no open log, or the state.
-    pub fn format<P: Parts>(alloc: Global, parts: &mut P, state: &State) -> Result<CommitLog, LogFault>
+    pub fn format<P: Parts>(
+        alloc: Global,
+        parts: &mut P,
+        state: &State,
+    ) -> Result<CommitLog, LogFault>
         requires fits { StateFits state.now }
         requires settled { AllSettled (P.disks parts.old) }
         requires first { WhereTold (P.disks parts.old) 0 (λ bytes. read_log bytes ≡ None) }

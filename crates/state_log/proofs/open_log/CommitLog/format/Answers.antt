@@ -1,7 +1,6 @@
 use Rattle.std.proofs.Common.{ap, ◌∙◌}
 use Rattle.log_bytes.specs.Checkpoint.{state_format}
 use Rattle.log_bytes.specs.Format.{value_of}
-use Rattle.disk_trait.proofs.Several.{all_none}
 use Rattle.state_log.proofs.Checkpoints.{format_holds, format_says, fresh_says}
 use Rattle.state_log.proofs.open_log.CommitLog.format.Goals as goal
 
@@ -19,4 +18,4 @@ returns-clause-any_moment g c = λ tells.
 pub returns-clause-holds : goal.returns-clause-holds
 returns-clause-holds g c =
     format_holds (g.P.Parts.disks c.args.parts.now) (g.P.Parts.disks c.format.new.parts) c.in_ok-log.log c.args.state.now c.as_slice.result.now (ap (value_of state_format) c.as_slice.ensures ∙ c.in_ok-head.ensures.read) c.requires.settled c.requires.second
-      c.format.ensures.alone c.in_ok-log.ensures.settled c.in_ok-log.ensures.disk c.in_ok-log.ensures.agrees c.in_ok-log.ensures.formatted
+    c.format.ensures.alone c.in_ok-log.ensures.settled c.in_ok-log.ensures.disk c.in_ok-log.ensures.agrees c.in_ok-log.ensures.formatted

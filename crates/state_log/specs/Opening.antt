@@ -1,0 +1,22 @@
+-- How the log that counts is found.
+use Rattle.std.specs.Option.{IfSome}
+use Rattle.std.specs.Prelude.{List, Option, Some, None, cond, nat_lt, ◌≡◌, ℕ}
+use Rattle.log_frame.specs.Log.{Opened, Place}
+
+-- what a log disk opened as: the log's place, its head and its bodies
+abbrev pub Found : Type 0
+Found = Place × List ℕ × List (List ℕ)
+
+-- of what two log disks opened as, that which counts
+abbrev pub choice : Option Found → Option Found → Option Found
+choice (Some a) (Some b) = cond (nat_lt a.0.sequence b.0.sequence) (Some b) (Some a)
+choice (Some a) None = Some a
+choice None second = second
+
+-- the log of what was found
+abbrev pub log_of : Found → Opened
+log_of f = record { sequence = f.0.sequence; head = f.1; bodies = f.2 }
+
+-- its log stands on this disk
+abbrev pub IsOn : ℕ → Option Found → Type 0
+IsOn d found = IfSome found (λ f. f.0.disk ≡ d)
