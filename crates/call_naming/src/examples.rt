@@ -1,13 +1,14 @@
 //! The definitions, computed on two small traces (`specs/Examples.antt`).
 
-ghost use Rattle.std.specs.Prelude.{◌≡◌, ◌∷◌, ◌++◌, [], Some, None, true, false};
+ghost use Rattle.std.specs.Prelude.{◌≡◌, ℕ, ◌∷◌, ◌++◌, [], Some, None, true, false};
 ghost use Rattle.commit_log.specs.declared.entry.Entry.TheVariants.{Decided, Finished, Life, One, Prepared};
-ghost use Rattle.session_outbox.specs.Trace.{E, M};
+ghost use Rattle.session_outbox.specs.Trace.{E, Item, M};
 ghost use Rattle.session_outbox.specs.declared.mark.Mark.TheVariants.{Connected, Drew, Fetched, Forgot, Granted};
 ghost use Rattle.call_naming.specs.Examples.{at, away, connected, drawn, home, part, two};
 ghost use Rattle.call_naming.specs.Justified.{AllHavePrepared, BelowHavePrepared, HasCommitted, HasDrawn, HasSession, IsGivenUp, OthersHaveFinished};
-ghost use Rattle.call_naming.specs.Made.{KindMakes};
+ghost use Rattle.call_naming.specs.Made.{KindMakes, Makes};
 ghost use Rattle.call_naming.specs.Shown.{NeedsNoCall, client_of, is_open, prepared, shows};
+ghost use Rattle.call_naming.specs.declared.calls.Call.{Call};
 ghost use Rattle.call_naming.specs.declared.calls.CallKind.TheVariants.{Connect, Decide, Fetch, Grant};
 
 /// Which client an item shows, behind the items before it.
@@ -40,10 +41,17 @@ pub fn items_of_calls()
     ensures as_decided { KindMakes 3 (Decide 1 (at 5) true) (E (Decided (at 5) false)) → ⊥ }
 {}
 
+/// A call makes items where the trace ended when it was made, and nowhere else.
+pub fn calls_have_one_place()
+    ensures { (c : Call) (repo other place behind : ℕ) (i j : Item) → Makes c repo place i → Makes c other behind j → (repo ≡ other) × (place ≡ behind) }
+{}
+
 /// The first draw of a timestamp shows its client.
 pub fn first_draws()
     ensures drawn { HasDrawn 3 (at 5) drawn }
     ensures still { HasDrawn 3 (at 5) home }
+    ensures another_client { HasDrawn 2 (at 5) drawn → ⊥ }
+    ensures another_time { HasDrawn 3 (at 6) drawn → ⊥ }
 {}
 
 /// What traces have to show for a call.

@@ -10,7 +10,8 @@ mod naming;
 
 pub use calls::{Call, CallKind};
 pub use examples::{
-    clients_of_items, first_draws, items_of_calls, items_that_need_no_call, justified_calls,
+    calls_have_one_place, clients_of_items, first_draws, items_of_calls, items_that_need_no_call,
+    justified_calls,
 };
 pub use items::TraceItem;
 pub use naming::{CallNaming, Served};

@@ -1,8 +1,8 @@
 //! The steps that a client makes under the lock of a repository, before and after its call there.
 
-ghost use Rattle.std.specs.Prelude.{◌≡◌, ℕ, [], ◌∷◌, ◌++◌, length};
+ghost use Rattle.std.specs.Prelude.{◌≡◌, ℕ, ◌-◌, ◌<◌, ◌^◌, Some, [], ◌∷◌, ◌++◌, length, slice_get};
 ghost use mathlib.Core.List.{IsPrefix};
-ghost use Rattle.seen_board.specs.Clauses.{MakesNext, StillMay, calls_of, history, knowledge, looks};
+ghost use Rattle.seen_board.specs.Clauses.{Added, MakesNext, StillMay, calls_of, history, knowledge, looks};
 ghost use Rattle.seen_board.specs.Knowledge.{Coherent, MayAdd, histories, made_by};
 
 use crate::board::Board;
@@ -59,5 +59,31 @@ impl<N: Naming> ClientPass<N> {
         self.send(board, call);
         let copy = self.split(board);
         owner.learn(board, copy);
+    }
+
+    /// Sends a call that has just put one item into what is kept, and the owner grows by that item.
+    pub fn tell_and_grow(
+        &mut self,
+        board: &Board<N>,
+        owner: &mut Owner<N>,
+        kept: &N::Kept,
+        call: &N::Call,
+    )
+        requires board { self.old.seat.table_id ≡ board.now.table.shared.table_id }
+        requires owner { owner.old.seat.table_id ≡ board.now.table.shared.table_id }
+        requires seen { IsPrefix (calls_of owner.old.seat self.old.client) (calls_of self.old.seat self.old.client) }
+        requires justified { N.meaning.justified (histories (knowledge self.old.seat)) call.now }
+        requires room { length (history owner.old.seat owner.old.repo) < 2 ^ 64 - 1 }
+        requires made { (x : N.Item) × (slice_get (N.items kept.now) (length (history owner.old.seat owner.old.repo)) ≡ Some x) × MakesNext N.meaning call.now self.old.client owner.old.repo (history owner.old.seat owner.old.repo) x }
+        ensures same { (self.new.client ≡ self.old.client) × (self.new.seat.table_id ≡ self.old.seat.table_id) }
+        ensures looks { looks self.new.seat ≡ looks self.old.seat }
+        ensures items { (knowledge self.new.seat).items ≡ (knowledge self.old.seat).items }
+        ensures owner { (owner.new.repo ≡ owner.old.repo) × (owner.new.seat.table_id ≡ owner.old.seat.table_id) }
+        ensures sent { calls_of self.new.seat self.old.client ≡ calls_of self.old.seat self.old.client ++ call.now ∷ [] }
+        ensures added { Added (N.items kept.now) (history owner.old.seat owner.old.repo) (history owner.new.seat owner.old.repo) }
+        ensures coherent { Coherent N.meaning (knowledge owner.new.seat) }
+    {
+        self.tell(board, owner, call);
+        owner.grow(board, kept);
     }
 }

@@ -223,7 +223,7 @@ fn open_log(board: &Board<Puts>, owner: &mut Owner<Puts>, log: &Log)
     owner.grow(board, log);
 }
 
-// A client puts a number under the lock. After `NoMemory` its call was sent and has made nothing.
+// A client puts a number under the lock. After `NoMemory` nothing was put and no call was sent.
 fn put(
     board: &Board<Puts>,
     owner: &mut Owner<Puts>,
@@ -241,9 +241,8 @@ fn put(
     let client = pass.client;
     let place = log.entries.len();
     pass.catch_up(board, owner);
-    pass.tell(board, owner, &(client, place as u64, number));
     log.entries.push(Some((client, number)))?;
-    owner.grow(board, log);
+    pass.tell_and_grow(board, owner, log, &(client, place as u64, number));
     Ok(())
 }
 
