@@ -1,4 +1,4 @@
-use Rattle.std.proofs.Common.{rules, ◌≡◌, ap}
+use Rattle.std.proofs.Common.{ap}
 use Rattle.two_phase.proofs.table.Table.open.Goals as goal
 
 pub returns-clause-ok : goal.returns-clause-ok
