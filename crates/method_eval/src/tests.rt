@@ -99,10 +99,10 @@ fn stand_in_names_come_behind_the_listed_ones(rt: HostRuntime) -> Result<(), Fai
     assert_eq!(rt; names.next(1), Some(name(1, 1, 1)));
     names.reset();
     assert_eq!(rt; names.next(0), Some(name(0, 5, 6)));
-    for slot in 0..64u8 {
+    for slot in 0..=255u8 {
         let given = names.next(0);
         assert_eq!(rt; given, Some(name(255, 0, slot)));
     }
-    assert_eq!(rt; names.next(0), None);
+    assert_eq!(rt; names.next(0), Some(name(255, 1, 0)));
     Ok(())
 }
