@@ -5,3 +5,4 @@ pub mod NumbersBehind
 pub mod RuleForms
 pub mod RunOutcomes
 pub mod SameNames
+pub mod StandIns

@@ -1,5 +1,5 @@
 -- The epochs of a store, which upgrades begin: the schema of each, and the upgrade that leads to it. This project's.
-use Rattle.std.specs.Prelude.{ℕ, zero, suc, List, Option, None, option_and_then, option_map, unwrap_or, slice_get}
+use Rattle.std.specs.Prelude.{ℕ, zero, suc, List, [], Option, Some, None, option_and_then, option_map, unwrap_or, slice_get}
 use Rattle.class_defs.specs.Upgrades.{upgrade_of}
 use Rattle.class_defs.specs.declared.classes.Class.{Class}
 use Rattle.class_defs.specs.declared.store.Schema.{Schema}
@@ -7,10 +7,18 @@ use Rattle.class_defs.specs.declared.store.Schemas.{Schemas}
 use Rattle.class_defs.specs.declared.upgrades.ClassUpgrade.{ClassUpgrade}
 use Rattle.class_defs.specs.declared.upgrades.Upgrade.{Upgrade}
 
--- the schema of an epoch
+-- the schema of an epoch; past the last one there is none
+abbrev pub schema_at : Schemas → ℕ → Option Schema
+schema_at s zero = Some s.first
+schema_at s (suc n) = option_map (λ u. u.schema) (slice_get s.upgraded n)
+
+-- a schema that declares nothing
+abbrev pub no_schema : Schema
+no_schema = record { classes = []; upgraded = []; roots = [] }
+
+-- the same, where a schema that declares nothing stands for none
 abbrev pub schema_of : Schemas → ℕ → Schema
-schema_of s zero = s.first
-schema_of s (suc n) = unwrap_or (option_map (λ u. u.schema) (slice_get s.upgraded n)) s.first
+schema_of s k = unwrap_or (schema_at s k) no_schema
 
 -- the upgrade that leads to an epoch
 abbrev pub upgrade_to : Schemas → ℕ → Option Upgrade

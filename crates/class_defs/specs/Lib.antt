@@ -8,6 +8,7 @@ pub mod Expressions
 pub mod Grammar
 pub mod KeptOwnership
 pub mod Levels
+pub mod LinesAside
 pub mod Objects
 pub mod Ownership
 pub mod Printed
@@ -23,6 +24,7 @@ pub mod Steps
 pub mod Stored
 pub mod Touched
 pub mod Types
+pub mod UpgradeLinesAside
 pub mod UpgradeOrder
 pub mod UpgradeRules
 pub mod Upgrades

@@ -23,7 +23,7 @@ pub use classes::{
 };
 pub use declarations::{Declarations, WrittenRoot, WrittenRoots};
 pub use expressions::{At, Expr, Exprs, Name, Operator, TypeName};
-pub use limits::{CREATE_LIMIT, DEPTH_LIMIT, READ_LIMIT, STEP_LIMIT};
+pub use limits::{CREATE_LIMIT, DEPTH_LIMIT, READ_LIMIT, STAND_IN_LIMIT, STEP_LIMIT};
 pub use look::{class_named, class_type, field_named, field_of, method_of, type_named};
 pub use machine::{Flow, Local, Locals, Machine, NameSupply, Receiver, Stop};
 pub use operations::{beginning, combined, fitted, number};

@@ -41,9 +41,10 @@ pub type Locals = Sequence<Local>;
 pub struct NameSupply {
     /// A new object takes the first of these that lies in its repository.
     pub waiting: Orefs,
-    /// Where none is left: the slot of the next stand-in name, 255.0.0 and so on, which no store holds;
-    /// or nothing, and then a name is needed.
-    pub stand_in: Option<u8>,
+    /// Where none is left: which of the stand-in names comes next, counted from 0; or nothing, and then a name
+    /// is needed. They are 255.0.0, 255.0.1 and so on to 255.0.255, then 255.1.0 and so on, and no store holds
+    /// one.
+    pub stand_in: Option<u64>,
 }
 
 /// The state of a run.

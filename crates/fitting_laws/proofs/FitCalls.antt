@@ -243,7 +243,7 @@ module _ (schema : Schema) (repos : ℕ) (sound : (c : ℕ) (d : Class) → slic
         let r = ready c name es us m ok fit in
         where_so w (Valued (result_type schema.classes (type.Class c) name.text)) _ (strict_object w d c x name.text us) m _ _
         (takes_so c name.text us m r)
-        (object_goes (nat_lt m.depth DEPTH_LIMIT) c x (owners_at schema.classes c m) name.text us m r is h)
+        (object_goes (nat_lt m.depth DEPTH_LIMIT) c x (owners_at schema.classes c x m) name.text us m r is h)
     call_goes (type.Class c) value.Null name es us m ok is fit h =
         where_so w (Valued (result_type schema.classes (type.Class c) name.text)) _ (λ q. Some (Err (stop.Fault fault.NullCall), q)) m _ _
         (takes_so c name.text us m (ready c name es us m ok fit))

@@ -5,10 +5,11 @@ use Rattle.std.specs.Prelude.{◌+◌, ◌≤◌, ◌==◌, is_some, nat_lt, opt
 use Rattle.thor_value.specs.Names.{same_oref}
 use Rattle.thor_value.specs.declared.names.Oref.{Oref}
 use Rattle.class_defs.proofs.SameNames.{same_itself}
+use Rattle.class_defs.proofs.StandIns.{one_count}
 use Rattle.fitting_laws.proofs.FitValues.{put, none_put}
 use Rattle.fitting_laws.specs.Fits.{IsNew, StandInsFit, NamesFit}
 use Rattle.class_defs.specs.Objects.{name_at, stand_in_from, stand_in_name, take_name}
-use Rattle.class_defs.specs.declared.limits.TheConstants.{CREATE_LIMIT}
+use Rattle.class_defs.specs.declared.limits.TheConstants.{CREATE_LIMIT, STAND_IN_LIMIT}
 use Rattle.class_defs.specs.declared.machine.NameSupply.{NameSupply}
 use Rattle.class_defs.specs.declared.store.Object.{Object}
 
@@ -104,7 +105,7 @@ module _ (f : Oref → Option Object) (made : ℕ) (o : Object) where
   next_new x k h = new_still (stand_in_name k) x h (λ e. h.1 (ap (λ (y : Oref). y.repo) e))
 
   next_apart : (k j : ℕ) → k + 1 ≤ j → stand_in_name j ≡ stand_in_name k → ⊥
-  next_apart k j le e = let d : j ≡ k = ap (λ (y : Oref). y.slot) e in absurd (omega (arith, d, le))
+  next_apart k j le e = let d : j ≡ k = one_count j k e in absurd (omega (arith, d, le))
 
   from_stand_ins : (names : NameSupply) (k : ℕ) → NamesFit f made names → StandInsFit f made (Some k)
       → Taken f made names o (stand_in_name k, record names { stand_in = Some (k + 1) })
@@ -133,7 +134,7 @@ module _ (f : Oref → Option Object) (made : ℕ) (o : Object) where
   took_stand_in : (names : NameSupply) (s : Option ℕ) (n : Oref × NameSupply) → NamesFit f made names → StandInsFit f made s
       → stand_in_from names s ≡ Some n → Taken f made names o n
   took_stand_in names None n h s taken = cc
-  took_stand_in names (Some k) n h s taken = took_next (nat_lt k CREATE_LIMIT) names k n h s taken
+  took_stand_in names (Some k) n h s taken = took_next (nat_lt k STAND_IN_LIMIT) names k n h s taken
 
   took : (names : NameSupply) (i : Option ℕ) (n : Oref × NameSupply) → NamesFit f made names → name_at names i ≡ Some n → Taken f made names o n
   took names (Some i) n h taken = took_waiting names i _ n h refl taken
@@ -153,7 +154,7 @@ module _ (f : Oref → Option Object) (made : ℕ) (o : Object) where
   next_there : (names : NameSupply) (s : Option ℕ) → is_some s ≡ true → StandInsFit f made s → nat_lt made CREATE_LIMIT ≡ true
       → is_some (stand_in_from names s) ≡ true
   next_there names None h s few = cc
-  next_there names (Some k) h s few = let e : nat_lt k CREATE_LIMIT ≡ true = grind (arith, s.0) in rw e refl
+  next_there names (Some k) h s few = let e : nat_lt k STAND_IN_LIMIT ≡ true = grind (arith, s.0) in rw e refl
 
   name_there : (names : NameSupply) (i : Option ℕ) → (((n : ℕ) → i ≡ Some n → is_some (slice_get names.waiting n) ≡ true))
       → is_some names.stand_in ≡ true → NamesFit f made names → nat_lt made CREATE_LIMIT ≡ true

@@ -104,7 +104,7 @@ module _ (w : World) (v : Expr → Action Value) (u : Expr → Sure Value) (b : 
   object_so : (c : ℕ) (x : Oref) (name : List ℕ) (us : List Value) → Tells (call_object w b c x name us) (strict_object w d c x name us)
   unfolding call_object strict_object
   object_so c x name us m r is =
-      let owners = owners_at w.schema.classes c m in
+      let owners = owners_at w.schema.classes c x m in
       let this : Receiver = record { oref = x; class = c; owners = owners } in
       let method = method_of w.schema.classes c name in
       fork (nat_lt m.depth DEPTH_LIMIT) _ _ r _ _

@@ -195,7 +195,7 @@ module _ (w : World) (block : List Stmt → Sure Flow) where
 
   unfoldable pub strict_object : ℕ → Oref → List ℕ → List Value → Sure Value
   strict_object c x name arguments = λ m.
-      let owners = owners_at w.schema.classes c m in
+      let owners = owners_at w.schema.classes c x m in
       if nat_lt m.depth DEPTH_LIMIT
       then (surely (touch w owners x) >>= (λ found. strict_enter_as (receiver c x owners) found (method_of w.schema.classes c name) arguments)) m
       else Some (Err (stop.Fault Depth), m)

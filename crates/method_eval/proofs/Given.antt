@@ -10,7 +10,7 @@ use Rattle.thor_value.specs.Names.{oref_cmp, same_oref}
 use Rattle.thor_value.specs.declared.names.Oref.{Oref}
 use Rattle.class_defs.proofs.SameNames.{same_itself, one_name}
 use Rattle.class_defs.specs.Objects.{stand_in_name}
-use Rattle.class_defs.specs.declared.limits.TheConstants.{CREATE_LIMIT}
+use Rattle.class_defs.specs.declared.limits.TheConstants.{STAND_IN_LIMIT}
 use Rattle.method_eval.proofs.Holding.{freed_names, map_append}
 use Rattle.method_eval.specs.Names.{IsSound, Names, drop_repo, free, give, given, grant, has_none_of, is_of_other, next, next_by, next_stand_in, none, orefs, page_names, reset, spend, spend_one, waiting, waits_in}
 use Rattle.method_eval.specs.declared.held.Held.{Held}
@@ -182,7 +182,7 @@ next_keeps n repo = by (find (waits_in repo) n.held)
 
     stand_in : (o : Option ℕ) → Keeps n (next_stand_in n o).1
     stand_in None = record { names = refl; spent = refl }
-    stand_in (Some k) = chosen k (nat_lt k CREATE_LIMIT)
+    stand_in (Some k) = chosen k (nat_lt k STAND_IN_LIMIT)
 
     by : (o : Option Held) → Keeps n (next_by n repo o).1
     by (Some h) = record { names = give_orefs (waits_in repo) n.held; spent = refl }

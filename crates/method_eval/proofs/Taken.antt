@@ -6,7 +6,7 @@ use Rattle.std.specs.List.{position_or_len}
 use Rattle.std.specs.Prelude.{find, nat_lt, not, position, remove}
 use Rattle.thor_value.specs.declared.names.Oref.{Oref}
 use Rattle.class_defs.specs.Objects.{name_at, stand_in_from, stand_in_name, take_name}
-use Rattle.class_defs.specs.declared.limits.TheConstants.{CREATE_LIMIT}
+use Rattle.class_defs.specs.declared.limits.TheConstants.{STAND_IN_LIMIT}
 use Rattle.class_defs.specs.declared.machine.NameSupply.{NameSupply}
 use Rattle.method_eval.proofs.Holding.{past}
 use Rattle.method_eval.specs.Names.{Names, give, next, next_by, next_stand_in, orefs, supply, waiting, waits_in}
@@ -86,7 +86,7 @@ taken n repo = by (find (waits_in repo) n.held) refl
 
     stand_in : (o : Option ℕ) → stand_in_from (supply n) o ≡ option_map (λ x. (x, supply (next_stand_in n o).1)) (next_stand_in n o).0
     stand_in None = refl
-    stand_in (Some k) = chosen k (nat_lt k CREATE_LIMIT)
+    stand_in (Some k) = chosen k (nat_lt k STAND_IN_LIMIT)
 
     by : (o : Option Held) → find (waits_in repo) n.held ≡ o
         → name_at (supply n) (position (here repo) (orefs (waiting n.held))) ≡ option_map (λ x. (x, supply (next_by n repo o).1)) (next_by n repo o).0

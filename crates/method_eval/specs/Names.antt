@@ -7,7 +7,7 @@ use Rattle.thor_value.specs.FiniteMap.{Set, add, empty, has}
 use Rattle.thor_value.specs.Names.{oref_cmp, same_oref}
 use Rattle.thor_value.specs.declared.names.Oref.{Oref}
 use Rattle.class_defs.specs.Objects.{stand_in_name}
-use Rattle.class_defs.specs.declared.limits.TheConstants.{CREATE_LIMIT}
+use Rattle.class_defs.specs.declared.limits.TheConstants.{STAND_IN_LIMIT}
 use Rattle.class_defs.specs.declared.machine.NameSupply.{NameSupply}
 use Rattle.method_eval.specs.declared.held.Held.{Held}
 
@@ -69,7 +69,7 @@ drop_repo n repo = record n { held = filter (λ h. not (h.oref.repo == repo)) n.
 abbrev pub only_listed : List Oref → Names
 only_listed names = record none { held = map free names }
 
--- listed names, with the stand-in names behind them
+-- Listed names, with the stand-in names behind them: 255.0.0, 255.0.1 and so on, all names of repository 255.
 abbrev pub listed : List Oref → Names
 listed names = record { held = map free names; spent = empty; stand_in = Some 0; kept_stand_in = Some 0 }
 
@@ -86,7 +86,7 @@ give test (h ∷ held) = if test h then record h { given = true } ∷ held else 
 
 abbrev pub next_stand_in : Names → Option ℕ → Option Oref × Names
 next_stand_in n None = (None, n)
-next_stand_in n (Some k) = if nat_lt k CREATE_LIMIT then (Some (stand_in_name k), record n { stand_in = Some (k + 1) }) else (None, n)
+next_stand_in n (Some k) = if nat_lt k STAND_IN_LIMIT then (Some (stand_in_name k), record n { stand_in = Some (k + 1) }) else (None, n)
 
 abbrev pub next_by : Names → ℕ → Option Held → Option Oref × Names
 next_by n repo (Some h) = (Some h.oref, record n { held = give (waits_in repo) n.held })

@@ -1,22 +1,24 @@
 -- The objects that a view has at hand.
-use Rattle.std.specs.Prelude.{ℕ, if◌then◌else◌, nat_lt, Option, Some, None, slice_get, unwrap_or}
-use Rattle.thor_value.specs.FiniteMap.{get}
-use Rattle.thor_value.specs.declared.names.Oref.{Oref}
+use Rattle.std.specs.Prelude.{if◌then◌else◌, nat_lt, Option, Some, None}
+use Rattle.thor_value.specs.FiniteMap.{Map, get}
+use Rattle.thor_value.specs.Names.{oref_cmp}
 use Rattle.thor_value.specs.declared.values.Obj.{Obj}
+use Rattle.class_defs.specs.Applied.{number_of}
 use Rattle.class_defs.specs.Steps as steps
+use Rattle.class_defs.specs.Stored.{bare}
 use Rattle.class_defs.specs.declared.store.Object.{Object}
 use Rattle.class_defs.specs.declared.store.Schema.{Schema}
 use Rattle.method_eval.specs.declared.world.World.{World}
 
--- the number of the last upgrade that names a class
-abbrev pub last_upgrade : Schema → ℕ → ℕ
-last_upgrade schema c = unwrap_or (slice_get schema.upgraded c) 0
-
 -- an object that isn't due, as a run reads it
 abbrev pub current : Schema → Option Obj → Option Object
 current schema None = None
-current schema (Some o) = if nat_lt o.ver (last_upgrade schema o.class) then None else Some (record { class = o.class; fields = o.fields })
+current schema (Some o) = if nat_lt o.ver (number_of schema.upgraded o.class) then None else Some (bare o)
 
--- what a run reads: the schema, and the objects of the view that aren't due
+-- what a run reads of objects at hand: those that aren't due
+abbrev pub seen_in : Schema → Map oref_cmp Obj → steps.World
+seen_in schema objects = record { schema = schema; at_hand = λ x. current schema (get objects x) }
+
+-- the same, of what the code of an evaluation is handed
 abbrev pub reading : World → steps.World
-reading w = record { schema = w.schema.now; at_hand = λ x. current w.schema.now (get w.objects.now x) }
+reading w = seen_in w.schema.now w.objects.now

@@ -1,29 +1,46 @@
 ghost use Rattle.std.specs.Prelude.{◌≡◌, IfOk, slice_get, drop};
 ghost use Rattle.std.specs.Option.{option_copied};
-ghost use Rattle.class_defs.specs.Calls.{owners_at, bound, parameter, result_of};
+ghost use Rattle.class_defs.specs.Calls.{owners_at, owners_through, bound, parameter, result_of};
 
+use crate::objects::same_oref;
 use crate::types::type_named;
 use crate::world::World;
 use class_defs::{
-    ClassKind, Flow, Local, Locals, Machine, Method, Parameter, Parameters, beginning,
+    ClassKind, Flow, Local, Locals, Machine, Method, Parameter, Parameters, Receiver, beginning,
 };
-use thor_value::{NoMemory, Orefs, TryCopy, Value, Values};
+use thor_value::{NoMemory, Oref, Orefs, TryCopy, Value, Values};
 
-/// The owners of a part that is reached through `this`, nearest first; none for a free object.
-#[tactic(auto, unfolding(class_defs::specs::Calls::owners_at))]
-pub fn owners_at(world: &World<'_>, class: u16, machine: &Machine) -> Result<Orefs, NoMemory>
-    ensures { IfOk result (λ owners. owners ≡ owners_at world.now.schema.now.classes class machine.now) }
+/// The owners of a part that is reached through `this`, or is `this` itself.
+fn owners_through(world: &World<'_>, oref: Oref, this: &Receiver) -> Result<Orefs, NoMemory>
+    ensures { IfOk result (λ owners. owners ≡ owners_through oref this.now) }
 {
+    if same_oref(oref, this.oref) {
+        return this.owners.copy();
+    }
     let mut owners = Orefs::new(world.alloc);
+    owners.push(this.oref)?;
+    owners.append(this.owners.copy()?)?;
+    Ok(owners)
+}
+
+/// The owners of a part that is called, nearest first; none for a free object.
+#[tactic(auto, unfolding(class_defs::specs::Calls::owners_at))]
+pub fn owners_at(
+    world: &World<'_>,
+    class: u16,
+    oref: Oref,
+    machine: &Machine,
+) -> Result<Orefs, NoMemory>
+    ensures { IfOk result (λ owners. owners ≡ owners_at world.now.schema.now.classes class oref machine.now) }
+{
     if let Some(found) = world.schema.classes.get(class as usize) {
         if let ClassKind::Part = found.kind {
             if let Some(this) = &machine.this {
-                owners.push(this.oref)?;
-                owners.append(this.owners.copy()?)?;
+                return owners_through(world, oref, this);
             }
         }
     }
-    Ok(owners)
+    Ok(Orefs::new(world.alloc))
 }
 
 fn parameter_with(

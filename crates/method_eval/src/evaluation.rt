@@ -1,6 +1,7 @@
 ghost use Rattle.std.specs.Prelude.{◌≡◌, ◌≤◌, length, IfOk};
 ghost use Rattle.thor_value.specs.FiniteMap.{keys};
 ghost use Rattle.class_defs.specs.Run.{begun, execute_all};
+ghost use Rattle.class_defs.specs.Stored.{in_epoch};
 ghost use Rattle.method_eval.specs.Answers.{evaluation, ran_at, stored_at};
 ghost use Rattle.method_eval.specs.Does.{Does};
 ghost use Rattle.method_eval.specs.Names.{supply};
@@ -43,7 +44,7 @@ pub(crate) fn execute_all(
 }
 
 fn stored(epoch: u32, written: (Oref, Object)) -> (Oref, Obj)
-    ensures { result ≡ (written.0, record { class = written.1.class; ver = epoch; fields = written.1.fields }) }
+    ensures { result ≡ (written.0, in_epoch epoch written.1) }
 {
     let (oref, object) = written;
     let Object { class, fields } = object;

@@ -7,7 +7,8 @@ ghost use Rattle.method_eval.specs.Names.{free, is_of_other, orefs, waiting};
 
 use crate::held::Held;
 use crate::marks::{Marks, hold_all, hold_page, spend_given};
-use class_defs::{CREATE_LIMIT, NameSupply};
+use crate::objects::stand_in_name;
+use class_defs::{NameSupply, STAND_IN_LIMIT};
 use std::alloc::Global;
 use std::collections::BTreeMap;
 use std::marker::Model;
@@ -23,10 +24,10 @@ pub struct Names {
     held: Vec<Held>,
     /// Which names are spent, with room for those that are held.
     marks: Marks,
-    /// The slot of the next stand-in name.
-    stand_in: Option<u8>,
+    /// Which stand-in name comes next, counted from 0.
+    stand_in: Option<u64>,
     /// The same at the last `spend`.
-    kept_stand_in: Option<u8>,
+    kept_stand_in: Option<u64>,
 }
 
 impl Model for Names {
@@ -145,7 +146,7 @@ impl Names {
     }
 
     /// Listed names, each for a new object in its own repository, and behind them the stand-in names 255.0.0,
-    /// 255.0.1 and so on, 64 of them, for any.
+    /// 255.0.1 and so on for any: all names of repository 255, where no store has an object.
     pub fn listed(alloc: Global, names: &Orefs) -> Result<Names, NoMemory>
         ensures { IfOk result (λ made. made ≡ spec.listed names.now) }
     {
@@ -191,13 +192,9 @@ impl Names {
         ensures { (result, self.new) ≡ spec.next_stand_in self.old self.old.stand_in }
     {
         match self.stand_in {
-            Some(slot) if (slot as usize) < CREATE_LIMIT => {
-                self.stand_in = Some(slot + 1);
-                Some(Oref {
-                    repo: 255,
-                    page: 0,
-                    slot,
-                })
+            Some(count) if count < STAND_IN_LIMIT => {
+                self.stand_in = Some(count + 1);
+                Some(stand_in_name(count))
             }
             _ => None,
         }

@@ -2,20 +2,21 @@ ghost use Rattle.std.specs.Prelude.{◌≡◌, ◌<◌, ℕ, Some, None, is_some
 ghost use Rattle.std.specs.Option.{option_copied};
 ghost use Rattle.thor_value.specs.FiniteMap.{has};
 ghost use Rattle.thor_value.specs.Names.{same_oref};
+ghost use Rattle.class_defs.specs.Applied.{number_of};
 ghost use Rattle.class_defs.specs.Objects as spec;
 ghost use Rattle.class_defs.specs.Objects.{seen, touch, field_at, field_value, named_value, take_name, new_object, create, repo_for};
 ghost use Rattle.class_defs.specs.Steps as steps;
 ghost use Rattle.class_defs.specs.Types as types;
 ghost use Rattle.method_eval.specs.Does.{Does};
-ghost use Rattle.method_eval.specs.Viewed.{reading, last_upgrade};
+ghost use Rattle.method_eval.specs.Viewed.{reading};
 
 use crate::halt::Halt;
 use crate::steps::fault;
 use crate::types::{field_type, local_named, root_named, type_named};
 use crate::world::World;
 use class_defs::{
-    At, CREATE_LIMIT, Fields, Machine, NameSupply, Object, READ_LIMIT, Stop, beginning,
-    class_named, fitted,
+    At, CREATE_LIMIT, Fields, Machine, NameSupply, Object, READ_LIMIT, STAND_IN_LIMIT, Stop,
+    beginning, class_named, fitted,
 };
 use thor_value::{Fault, NoMemory, Obj, Oref, Orefs, Sequence, TryCopy, Value, Values};
 
@@ -35,7 +36,7 @@ pub fn named_value(world: &World<'_>, machine: &Machine, name: &[u8]) -> Value
 
 /// The number of the last upgrade that names a class.
 fn last_upgrade(world: &World<'_>, class: u16) -> u32
-    ensures { result ≡ last_upgrade world.now.schema.now class }
+    ensures { result ≡ number_of world.now.schema.now.upgraded class }
 {
     match world.schema.upgraded.get(class as usize) {
         Some(number) => *number,
@@ -132,7 +133,7 @@ fn field_named(world: &World<'_>, class: u16, name: &[u8]) -> Option<usize>
     }
 }
 
-fn same_oref(first: Oref, second: Oref) -> bool
+pub fn same_oref(first: Oref, second: Oref) -> bool
     ensures { result ≡ same_oref first second }
 {
     first.cmp(&second).is_eq()
@@ -263,17 +264,25 @@ fn repo_for(machine: &Machine, at: Option<At>) -> u8
     }
 }
 
+/// A stand-in name, counted from 0: one of repository 255.
+pub fn stand_in_name(count: u64) -> Oref
+    requires { count < STAND_IN_LIMIT }
+    ensures { result ≡ spec.stand_in_name count }
+{
+    Oref {
+        repo: 255,
+        page: (count / 256) as u32,
+        slot: (count % 256) as u8,
+    }
+}
+
 fn stand_in(names: &mut NameSupply) -> Option<Oref>
     ensures { MatchOption result ((spec.stand_in_from names.old names.old.stand_in ≡ None) × (names.new ≡ names.old)) (λ x. spec.stand_in_from names.old names.old.stand_in ≡ Some (x, names.new)) }
 {
     match names.stand_in {
-        Some(slot) if (slot as usize) < CREATE_LIMIT => {
-            names.stand_in = Some(slot + 1);
-            Some(Oref {
-                repo: 255,
-                page: 0,
-                slot,
-            })
+        Some(count) if count < STAND_IN_LIMIT => {
+            names.stand_in = Some(count + 1);
+            Some(stand_in_name(count))
         }
         _ => None,
     }

@@ -153,7 +153,7 @@ fn call_object(
     if machine.depth >= DEPTH_LIMIT {
         return fault(Fault::Depth);
     }
-    let owners = owners_at(world, class, machine)?;
+    let owners = owners_at(world, class, oref, machine)?;
     let found = touch(world, machine, &owners, oref)?;
     if found != class {
         return fault(Fault::NullCall);

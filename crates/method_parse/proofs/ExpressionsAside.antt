@@ -12,7 +12,7 @@ use Rattle.class_defs.specs.declared.places.Place.{Place}
 use Rattle.class_defs.specs.Words.{Word, Fixed, FixedAt, name_word, symbol_of, behind_commas, with_commas, in_turn}
 use Rattle.class_defs.specs.Spelling.{type_word, at_words, expr_step, expr_words}
 use Rattle.class_defs.specs.Shape.{Shape, shape_step, shape}
-use Rattle.method_parse.specs.LinesAside.{name_on_line_1, type_on_line_1, at_on_line_1, expr_step_on_line_1, expr_on_line_1}
+use Rattle.class_defs.specs.LinesAside.{name_on_line_1, type_on_line_1, at_on_line_1, expr_step_on_line_1, expr_on_line_1}
 use Rattle.method_parse.proofs.PrintedTokens.{first_line}
 use Rattle.method_parse.proofs.Equations.{words-Int, words-Null, words-This, words-Field, words-Variable, words-New, words-Parens, words-Negate}
 use Rattle.method_parse.proofs.Equations.{words-Binary, words-Call, shape-Int, shape-Null, shape-This, shape-Field, shape-Variable, shape-New}

@@ -9,8 +9,8 @@ use Rattle.script_text.specs.declared.token.Token.{Token}
 use Rattle.script_text.specs.Grammar.{AreTokensOf}
 use Rattle.script_text.specs.Laws.{AreSpelled}
 use Rattle.method_parse.specs.Matching.{AreWords}
-use Rattle.method_parse.specs.Texts.{SpellsBlock}
-use Rattle.method_parse.specs.LinesAside.{SpellsClass, block_on_line_1, class_on_line_1}
+use Rattle.method_parse.specs.Texts.{SpellsBlock, SpellsClass}
+use Rattle.class_defs.specs.LinesAside.{block_on_line_1, class_on_line_1}
 use Rattle.method_parse.proofs.PrintedTokens.{words_printed, printed_lined}
 use Rattle.method_parse.proofs.StatementsAside.{block_aside, block_stays, class_aside, class_stays}
 

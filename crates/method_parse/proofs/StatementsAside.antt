@@ -18,8 +18,8 @@ use Rattle.class_defs.specs.Spelling.{expr_words, ended, condition_words, braces
 use Rattle.class_defs.specs.Spelling.{method_words, kind_text, class_words}
 use Rattle.class_defs.specs.Shape.{Shape, Form, form_step, form, in_braces, with_value, with_condition, both, in_method, in_item, block_form}
 use Rattle.class_defs.specs.Grammar.{IsBlock, IsMethod, IsClass, max_depth, max_nesting}
-use Rattle.method_parse.specs.LinesAside.{name_on_line_1, type_on_line_1, expr_on_line_1, stmt_step_on_line_1, stmt_on_line_1, block_on_line_1}
-use Rattle.method_parse.specs.LinesAside.{field_on_line_1, parameter_on_line_1, method_on_line_1, class_on_line_1}
+use Rattle.class_defs.specs.LinesAside.{name_on_line_1, type_on_line_1, expr_on_line_1, stmt_step_on_line_1, stmt_on_line_1, block_on_line_1}
+use Rattle.class_defs.specs.LinesAside.{field_on_line_1, parameter_on_line_1, method_on_line_1, class_on_line_1}
 use Rattle.method_parse.proofs.ExpressionsAside.{lined, lined_both, lined_commas, lined_turns, type_lined, expr_aside}
 use Rattle.method_parse.proofs.Equations.{words-Var, words-Assign, words-FieldAssign, words-Return, words-If, words-IfElse, words-While, words-Print}
 use Rattle.method_parse.proofs.Equations.{words-Evaluate, form-Var, form-Assign, form-FieldAssign, form-Return, form-If, form-IfElse, form-While}

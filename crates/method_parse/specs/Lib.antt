@@ -4,4 +4,3 @@ pub mod Expressions
 pub mod Statements
 pub mod Setups
 pub mod Texts
-pub mod LinesAside

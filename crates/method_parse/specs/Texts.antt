@@ -1,10 +1,11 @@
 -- Which tokens are a text of the grammar, with which tree, and where tokens can't go on. This project's.
 use Rattle.std.specs.Prelude.{◌≡◌, ◌-◌, ℕ, List, [], ◌∷◌, ◌++◌, length, drop, ◌⊎◌, Result, Ok, Err}
+use Rattle.class_defs.specs.declared.classes.Class.{Class}
 use Rattle.class_defs.specs.declared.statements.Stmt.{Stmt}
 use Rattle.class_defs.specs.declared.declarations.Declarations.{Declarations}
 use Rattle.class_defs.specs.declared.places.Place.TheVariants.{Item}
-use Rattle.class_defs.specs.Spelling.{block_words, setup_words}
-use Rattle.class_defs.specs.Grammar.{IsBlock, IsSetup}
+use Rattle.class_defs.specs.Spelling.{block_words, class_words, setup_words}
+use Rattle.class_defs.specs.Grammar.{IsBlock, IsClass, IsSetup}
 use Rattle.script_text.specs.declared.token.Token.{Token}
 use Rattle.script_text.specs.Sections.{last_line}
 use Rattle.script_text.specs.declared.syntax.SyntaxError.{SyntaxError}
@@ -20,6 +21,10 @@ SpellsBlock tokens block = AreWords tokens (block_words block) × IsBlock Item b
 -- the tokens are what stands behind `setup`
 abbrev pub SpellsSetup : List Token → Declarations → Type 0
 SpellsSetup tokens setup = AreWords tokens (setup_words setup) × IsSetup setup
+
+-- the tokens are a class
+abbrev pub SpellsClass : List Token → Class → Type 0
+SpellsClass tokens class = AreWords tokens (class_words class) × IsClass class
 
 -- some text of the grammar begins so
 abbrev pub Begins : {X : Type 0} → (List Token → X → Type 0) → List Token → Type 0

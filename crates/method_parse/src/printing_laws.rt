@@ -8,8 +8,8 @@ ghost use Rattle.class_defs.specs.Printed.{printed_block, printed_class};
 ghost use Rattle.script_text.specs.declared.token.Token.{Token};
 ghost use Rattle.script_text.specs.Grammar.{AreTokensOf};
 ghost use Rattle.script_text.specs.Laws.{AreSpelled};
-ghost use Rattle.method_parse.specs.Texts.{SpellsBlock};
-ghost use Rattle.method_parse.specs.LinesAside.{SpellsClass, block_on_line_1, class_on_line_1};
+ghost use Rattle.method_parse.specs.Texts.{SpellsBlock, SpellsClass};
+ghost use Rattle.class_defs.specs.LinesAside.{block_on_line_1, class_on_line_1};
 
 /// What was printed, read again, gives the tree back, lines aside.
 ///

@@ -1,6 +1,6 @@
 -- That calls and expressions go the same way in runs whose new objects take other names, where their parts and the
 -- bodies of methods do.
-use Rattle.std.proofs.Common.{◌≡◌, Bool, true, false, cond, List, [], ◌∷◌, ◌++◌, Option, Some, None, Result, Ok, Err, refl, ap, ◌∙◌, ℕ, ℤ, pos, slice_get}
+use Rattle.std.proofs.Common.{◌≡◌, Bool, true, false, cond, List, [], ◌∷◌, ◌++◌, Option, Some, None, Result, Ok, Err, refl, ap, sym, ◌∙◌, ℕ, ℤ, pos, slice_get}
 use Rattle.std.proofs.lemmas.List.Elements.{AllZip-push}
 use Rattle.std.specs.Int.{int_wrapping_sub, w64}
 use Rattle.std.specs.List.{AllZip}
@@ -97,14 +97,24 @@ module _ (s : Setting) where
 
   -- ---- calls
 
-  owners_same : (t : Time) (k : Option ClassKind) (r q : Option Receiver) → Both (Receivers s.fresh t) r q
-      → AllZip (Names s.fresh t) (owners_by_kind k r) (owners_by_kind k q)
-  owners_same t (Some Part) (Some r) (Some q) h = (h.oref, h.owners)
-  owners_same t (Some Part) None None h = tt
-  owners_same t (Some Part) (Some r) None h = absurd h
-  owners_same t (Some Part) None (Some q) h = absurd h
-  owners_same t (Some Free) r q h = tt
-  owners_same t None r q h = tt
+  module _ (t : Time) (one_one : (x y a b : Oref) → Names s.fresh t x y → Names s.fresh t a b → same_oref x a ≡ same_oref y b)
+      (x y : Oref) (i : Names s.fresh t x y) where
+    through : (r q : Receiver) (b d : Bool) → d ≡ b → Receivers s.fresh t r q
+        → AllZip (Names s.fresh t) (cond b r.owners (r.oref ∷ r.owners)) (cond d q.owners (q.oref ∷ q.owners))
+    through r q true true e h = h.owners
+    through r q false false e h = (h.oref, h.owners)
+    through r q true false e h = cc
+    through r q false true e h = cc
+
+    owners_same : (k : Option ClassKind) (r q : Option Receiver) → Both (Receivers s.fresh t) r q
+        → AllZip (Names s.fresh t) (owners_by_kind k x r) (owners_by_kind k y q)
+    owners_same (Some Part) (Some r) (Some q) h =
+        through r q (same_oref x r.oref) (same_oref y q.oref) (sym (one_one x y r.oref q.oref i h.oref)) h
+    owners_same (Some Part) None None h = tt
+    owners_same (Some Part) (Some r) None h = absurd h
+    owners_same (Some Part) None (Some q) h = absurd h
+    owners_same (Some Free) r q h = tt
+    owners_same None r q h = tt
 
   argument : (t : Time) (v u : Option Value) (d : Value) → Both (Values s.fresh t) v u → Values s.fresh t d d
       → Values s.fresh t (unwrap_or v d) (unwrap_or u d)
@@ -219,9 +229,9 @@ module _ (s : Setting) where
         → Went s (Values s.fresh) (now s m n) (call_object s.world b c x name vs m) (call_object s.world b c y name us n)
     unfolding call_object owners_at
     call_object_same c x y name vs us m n tw i vals =
-        object_same (nat_lt m.depth DEPTH_LIMIT) (nat_lt n.depth DEPTH_LIMIT) c x y (owners_at s.world.schema.classes c m)
-        (owners_at s.world.schema.classes c n) name vs us m n
-        (ap (λ k. nat_lt k DEPTH_LIMIT) tw.depth) tw i (owners_same (now s m n)
+        object_same (nat_lt m.depth DEPTH_LIMIT) (nat_lt n.depth DEPTH_LIMIT) c x y (owners_at s.world.schema.classes c x m)
+        (owners_at s.world.schema.classes c y n) name vs us m n
+        (ap (λ k. nat_lt k DEPTH_LIMIT) tw.depth) tw i (owners_same (now s m n) tw.made.one_one x y i
         (option_map (λ (d : Class). d.kind) (slice_get s.world.schema.classes c)) m.this n.this tw.this) vals
 
     no_object : (m n : Machine) → Twins s m n → Went s (Values s.fresh) (now s m n) (Err (stop.Fault fault.NullCall), m)

@@ -7,6 +7,7 @@ use Rattle.thor_value.specs.FiniteMap.{empty}
 use Rattle.thor_value.specs.declared.names.Oref.{Oref}
 use Rattle.thor_value.specs.declared.values.Value.{Value}
 use Rattle.thor_value.specs.declared.values.Value.TheVariants as value
+use Rattle.class_defs.proofs.StandIns.{count_of}
 use Rattle.renaming_laws.proofs.Renamed.{Names, Objects, Time, Values, each_itself}
 use Rattle.renaming_laws.proofs.RenamedCalls.{Flows}
 use Rattle.renaming_laws.proofs.RenamedMachines.{Setting, Known, Made, Twins, Ends, HasNames, Same}
@@ -61,7 +62,7 @@ module _ (w : World) (fresh : Oref → Bool) (unused : Unused fresh w) where
   supply_new : (names : List Oref) (stand_in : Option ℕ) → Takeable fresh names → (x : Oref)
       → Left (record { waiting = names; stand_in = stand_in }) x → fresh x ≡ true
   supply_new names stand_in t x (inl i) = all_in (λ y. fresh y ≡ true) names x t.new i
-  supply_new names (Some k) t x (inr h) = rw h.0 (unused.stand_ins x.slot)
+  supply_new names (Some k) t x (inr h) = rw h.0 (unused.stand_ins (count_of x))
   supply_new names None t x (inr h) = absurd h
 
   old_apart : (names : List Oref) (stand_in : Option ℕ) → Takeable fresh names → (x : Oref) → fresh x ≡ false

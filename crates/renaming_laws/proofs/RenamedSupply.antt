@@ -8,8 +8,9 @@ use Rattle.std.specs.Prelude.{find, position, remove, nat_lt, option_map, ◌==�
 use Rattle.thor_value.specs.Names.{same_oref}
 use Rattle.thor_value.specs.declared.names.Oref.{Oref}
 use Rattle.class_defs.proofs.SameNames.{same_itself}
+use Rattle.class_defs.proofs.StandIns.{count_is, count_of, named_by}
 use Rattle.class_defs.specs.Objects.{name_at, stand_in_name, stand_in_from, take_name}
-use Rattle.class_defs.specs.declared.limits.TheConstants.{CREATE_LIMIT}
+use Rattle.class_defs.specs.declared.limits.TheConstants.{CREATE_LIMIT, STAND_IN_LIMIT}
 use Rattle.class_defs.specs.declared.machine.NameSupply.{NameSupply}
 
 -- ---- lists from which one is taken
@@ -101,7 +102,7 @@ at_front p x xs h = rw h (none_before (length xs) (nat_lt 0 (suc (length xs))) r
 
 abbrev pub ByStandIn : Option ℕ → Oref → Type 0
 ByStandIn None x = ⊥
-ByStandIn (Some k) x = (x ≡ stand_in_name x.slot) × (k ≤ x.slot)
+ByStandIn (Some k) x = (x ≡ stand_in_name (count_of x)) × (k ≤ count_of x)
 
 -- the supply can still give the name
 abbrev pub Left : NameSupply → Oref → Type 0
@@ -172,7 +173,7 @@ module _ (endless : Bool) (count repo : ℕ) where
   by_stand_in : (n : NameSupply) (k : ℕ) → Stock endless count n → n.stand_in ≡ Some k
       → Given endless count repo n (stand_in_name k, record n { stand_in = Some (k + 1) })
   by_stand_in n k s is = record {
-    left = inr (rw is (refl, omega arith));
+    left = inr (rw is given);
     still = still;
     gone = gone;
     stock = record { once = s.once; placed = s.placed; stays = next_stays endless k (subst (λ o. Endless endless o count) is s.stays) };
@@ -181,13 +182,16 @@ module _ (endless : Bool) (count repo : ℕ) where
     placed = λ e. cc;
   }
     where
+      given : ByStandIn (Some k) (stand_in_name k)
+      given = let i : count_of (stand_in_name k) ≡ k = count_is k in (ap stand_in_name (sym i), subst (λ c. k ≤ c) (sym i) (omega arith))
+
       still : (y : Oref) → In n.waiting y ⊎ ByStandIn (Some (k + 1)) y → Left n y
       still y (inl h) = inl h
       still y (inr h) = inr (rw is (h.0, omega arith))
 
       gone : (y : Oref) → In n.waiting y ⊎ ByStandIn (Some (k + 1)) y → ¬ (y ≡ stand_in_name k)
-      gone y (inl h) e = off n y y s h (Some 0) (e ∙ ap stand_in_name (sym (ap (λ (z : Oref). z.slot) e)), omega arith) refl
-      gone y (inr h) e = let f : y.slot ≡ k = ap (λ (z : Oref). z.slot) e in absurd (omega arith)
+      gone y (inl h) e = off n y y s h (Some 0) (e ∙ ap stand_in_name (sym (named_by y k e)), omega arith) refl
+      gone y (inr h) e = let f : count_of y ≡ k = named_by y k e in let le : k + 1 ≤ count_of y = h.1 in absurd (omega (arith, f, le))
 
   waiting_given : (n : NameSupply) (t : Oref × NameSupply) (i : ℕ) → Stock endless count n → position here n.waiting ≡ Some i
       → (v : Option Oref) → slice_get n.waiting i ≡ v → option_map {U = Oref × NameSupply}
@@ -204,7 +208,7 @@ module _ (endless : Bool) (count repo : ℕ) where
   stand_in_given : (n : NameSupply) (t : Oref × NameSupply) → Stock endless count n → (o : Option ℕ) → n.stand_in ≡ o → stand_in_from n o ≡ Some t
       → Given endless count repo n t
   stand_in_given n t s None is e = cc
-  stand_in_given n t s (Some k) is e = below_given n t k (nat_lt k CREATE_LIMIT) s is e
+  stand_in_given n t s (Some k) is e = below_given n t k (nat_lt k STAND_IN_LIMIT) s is e
 
   at_given : (n : NameSupply) (t : Oref × NameSupply) → Stock endless count n → (o : Option ℕ) → position here n.waiting ≡ o → name_at n o ≡ Some t
       → Given endless count repo n t
@@ -219,9 +223,9 @@ module _ (endless : Bool) (count repo : ℕ) where
 
   slot_left : (e : Bool) → T e → (n : NameSupply) (o : Option ℕ) → Endless e o count → nat_lt count CREATE_LIMIT ≡ true → stand_in_from n o ≡ None → ⊥
   slot_left true t n None h l e = h
-  slot_left true t n (Some k) h l e = by (nat_lt k CREATE_LIMIT) refl e
+  slot_left true t n (Some k) h l e = by (nat_lt k STAND_IN_LIMIT) refl e
     where
-      by : (b : Bool) → nat_lt k CREATE_LIMIT ≡ b → cond {A = Option (Oref × NameSupply)} b
+      by : (b : Bool) → nat_lt k STAND_IN_LIMIT ≡ b → cond {A = Option (Oref × NameSupply)} b
           (Some (stand_in_name k, record n { stand_in = Some (k + 1) })) None ≡ None → ⊥
       by true f g = cc
       by false f g = absurd (grind (arith, nat_tests))

@@ -80,7 +80,7 @@ module _ (schema : Schema) (f g : Oref → Option Object) (v u : Expr → Action
 
   call_object_alike : (c : ℕ) (x : Oref) (name : List ℕ) (arguments : List Value) → Alike f g (call_object one b c x name arguments) (call_object other d c x name arguments)
   unfolding call_object
-  call_object_alike c x name arguments m s = object_alike (nat_lt m.depth DEPTH_LIMIT) c x (owners_at schema.classes c m) name arguments m s
+  call_object_alike c x name arguments m s = object_alike (nat_lt m.depth DEPTH_LIMIT) c x (owners_at schema.classes c x m) name arguments m s
 
   call_alike : (t : ExprType) (r : Value) (name : List ℕ) (arguments : List Value) → Alike f g (call one b t r name arguments) (call other d t r name arguments)
   unfolding call

@@ -121,8 +121,9 @@ fn all_tokens(alloc: Global, text: &[u8]) -> Result<Tokens, SyntaxError>
 /// Bytes 9, 10, 13 and 32 separate tokens, and so does a comment, from `//` to the end of its line.
 /// `Fault` is at the line of the first byte, outside of comments, that begins no token: a byte of no
 /// token, a word of more than 32 bytes, or a number past 9223372036854775807 or of more than 19 digits.
+///
+/// A line has a number of 32 bits: of a text of 4 GiB or more nothing is told but want of memory.
 pub fn scan(alloc: Global, text: &[u8]) -> Result<Tokens, SyntaxError>
-    requires { length text.now < 2 ^ 32 }
     // The answer is the one that the definition computes.
     ensures tokens { IfOk result (λ tokens. tokens_of text.now ≡ Ok tokens) }
     ensures fault { IfErr result (IsFaultOf (tokens_of text.now)) }
@@ -141,5 +142,8 @@ pub fn scan(alloc: Global, text: &[u8]) -> Result<Tokens, SyntaxError>
     ensures spans { IfOk result (λ tokens. SpansRise 0 tokens (length text.now)) }
     ensures slices { IfOk result (AreSlices text.now) }
 {
+    if u32::try_from(text.len()).is_err() {
+        return Err(SyntaxError::NoMemory);
+    }
     all_tokens(alloc, text)
 }

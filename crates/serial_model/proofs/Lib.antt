@@ -1,4 +1,6 @@
 pub mod Applied
+pub mod Aside
+pub mod AsideForms
 pub mod MadeSchemas
 pub mod Replayed
 pub mod SortedMaps

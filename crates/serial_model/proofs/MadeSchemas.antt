@@ -6,13 +6,12 @@ use Rattle.std.proofs.lemmas.Option.{slice_get_past}
 use Rattle.std.specs.List.{list_all}
 use Rattle.std.specs.Prelude.{nat_lt}
 use Rattle.class_defs.proofs.NumbersBehind.{highest_below, number_below as number_at_most}
-use Rattle.class_defs.specs.Applied.{applied, class_behind, highest, next_number, said_of}
+use Rattle.class_defs.specs.Applied.{applied, class_behind, highest, next_number, number_of, said_of}
 use Rattle.class_defs.specs.declared.store.Schema.{Schema}
 use Rattle.class_defs.specs.declared.store.Schemas.{Schemas}
 use Rattle.class_defs.specs.declared.store.UpgradedSchema.{UpgradedSchema}
 use Rattle.class_defs.specs.declared.upgrades.Upgrade.{Upgrade}
-use Rattle.method_eval.specs.Viewed.{last_upgrade}
-use Rattle.class_defs.specs.Epochs.{schema_of}
+use Rattle.class_defs.specs.Epochs.{no_schema, schema_of}
 use Rattle.serial_model.specs.Replays.{AreApplied, AreMade, are_made, is_made, made_from}
 use Rattle.serial_model.specs.Whole.{IsFirst}
 
@@ -39,7 +38,7 @@ numbers_below n (k ∷ ks) h = rw (le_true k n (h zero)) (numbers_below n ks (λ
 -- a schema as upgrades make it at an epoch
 record IsMade (schema : Schema) (n : ℕ) : Type 0 where
   few : length schema.classes ≤ 65536
-  past : (c : ℕ) → last_upgrade schema c ≤ n
+  past : (c : ℕ) → number_of schema.upgraded c ≤ n
 
 told_made : (schema : Schema) (n : ℕ) → is_made schema n ≡ true → IsMade schema n
 told_made schema n h =
@@ -50,7 +49,10 @@ made_told : (schema : Schema) (n : ℕ) → IsMade schema n → is_made schema n
 made_told schema n m = rw (le_true (length schema.classes) 65536 m.few) (numbers_below n schema.upgraded m.past)
 
 raised : (schema : Schema) (m n : ℕ) → m ≤ n → IsMade schema m → IsMade schema n
-raised schema m n le h = record { few = h.few; past = λ c. let p : last_upgrade schema c ≤ m = h.past c in omega (arith, le, p) }
+raised schema m n le h = record { few = h.few; past = λ c. let p : number_of schema.upgraded c ≤ m = h.past c in omega (arith, le, p) }
+
+none_made : (n : ℕ) → IsMade no_schema n
+none_made n = record { few = omega arith; past = λ c. omega arith }
 
 -- ---- those behind upgrades
 
@@ -78,15 +80,15 @@ module _ (s : Schemas) where
   from_test first others zero = told_made s.first 0 first
   from_test first others (suc n) = by (slice_get s.upgraded n) refl
     where
-      by : (o : Option UpgradedSchema) → slice_get s.upgraded n ≡ o → IsMade (unwrap_or (option_map (λ u. u.schema) o) s.first) (suc n)
-      by None e = raised s.first 0 (suc n) (omega arith) (told_made s.first 0 first)
+      by : (o : Option UpgradedSchema) → slice_get s.upgraded n ≡ o → IsMade (unwrap_or (option_map (λ u. u.schema) o) no_schema) (suc n)
+      by None e = none_made (suc n)
       by (Some u) e = raised u.schema (1 + n) (suc n) (omega arith) (made_at 1 s.upgraded others n u e)
 
   tested : AreMade s → are_made s ≡ true
   tested h =
       rw (made_told s.first 0 (record { few = h.few 0; past = h.past 0 }))
       (all_made 1 s.upgraded (λ n u e.
-      let is : schema_of s (suc n) ≡ u.schema = ap (λ (o : Option UpgradedSchema). unwrap_or (option_map (λ u. u.schema) o) s.first) e in
+      let is : schema_of s (suc n) ≡ u.schema = ap (λ (o : Option UpgradedSchema). unwrap_or (option_map (λ u. u.schema) o) no_schema) e in
       let P : Schema → Type 0 = λ a. IsMade a (1 + n) in
       subst P is (raised (schema_of s (suc n)) (suc n) (1 + n) (omega arith) (record { few = h.few (suc n); past = h.past (suc n) }))))
 
@@ -134,9 +136,8 @@ module _ (s : Schemas) (few : length s.first.classes ≤ 65536) (first : IsFirst
   goes_on n h false lt =
       let past : length s.upgraded ≤ n = grind (arith, nat_tests) in
       let P : Schema → Type 0 = λ x. IsBehind 65536 x (suc n) in
-      let is : schema_of s (suc n) ≡ s.first = ap (λ (o : Option UpgradedSchema). unwrap_or (option_map (λ u. u.schema) o) s.first) (slice_get_past s.upgraded n past) in
-      let high = begins.high in
-      subst P (sym is) (record { few = few; high = omega (arith, high) })
+      let is : schema_of s (suc n) ≡ no_schema = ap (λ (o : Option UpgradedSchema). unwrap_or (option_map (λ u. u.schema) o) no_schema) (slice_get_past s.upgraded n past) in
+      subst P (sym is) (record { few = omega arith; high = omega arith })
 
   at_epoch : (n : ℕ) → IsBehind 65536 (schema_of s n) n
   at_epoch zero = begins

@@ -1,5 +1,5 @@
 -- Histories taken entry by entry.
-use Rattle.std.proofs.Common.{◌≡◌, ◌≤◌, ◌<◌, ℕ, zero, suc, ◌+◌, Bool, true, false, cond, List, [], ◌∷◌, ◌++◌, length, take, get_or, Option, Some, None, option_map, unwrap_or, refl, ap, sym, subst, ◌∙◌, Result, Ok, Err, ◌==◌, arith}
+use Rattle.std.proofs.Common.{◌≡◌, ◌≤◌, ◌<◌, ℕ, zero, suc, ◌+◌, Bool, true, false, cond, List, [], ◌∷◌, ◌++◌, length, take, get_or, Option, Some, None, option_and_then, option_map, unwrap_or, refl, ap, sym, subst, ◌∙◌, Result, Ok, Err, ◌==◌, arith}
 use Rattle.std.proofs.lemmas.List.{take_more, take_all}
 use Rattle.thor_value.specs.FiniteMap.{Map, IsSorted, insert, overwrite, get}
 use Rattle.thor_value.specs.Names.{oref_cmp}
@@ -13,13 +13,14 @@ use Rattle.class_defs.specs.declared.machine.Flow.{Flow}
 use Rattle.class_defs.specs.declared.machine.Machine.{Machine}
 use Rattle.class_defs.specs.declared.machine.Stop.{Stop}
 use Rattle.class_defs.specs.declared.machine.Stop.TheVariants as stop
+use Rattle.class_defs.specs.declared.statements.Stmt.{Stmt}
 use Rattle.class_defs.specs.declared.store.Object.{Object}
 use Rattle.class_defs.specs.declared.store.Plain.{Plain}
 use Rattle.class_defs.specs.declared.store.Schema.{Schema}
 use Rattle.class_defs.specs.declared.store.Schemas.{Schemas}
-use Rattle.method_eval.specs.Viewed.{last_upgrade}
+use Rattle.class_defs.specs.Applied.{number_of}
 use Rattle.method_eval.specs.declared.view.View.{View}
-use Rattle.class_defs.specs.Epochs.{schema_of}
+use Rattle.class_defs.specs.Epochs.{classes_of, no_schema, schema_at, schema_of}
 use Rattle.serial_model.specs.History.{after, after_doing, after_entry, AreLegal, IsLegal, IsLegalEntry, Rise}
 use Rattle.serial_model.specs.Replays.{AppliesDoing, AreMade, IsAbove, IsFirstNotLegal, last_ts}
 use Rattle.serial_model.specs.Whole.{bare_objects, plain, IsFirst, IsOfItsEpoch}
@@ -77,16 +78,20 @@ module _ (s : Schemas) where
   pub goes_on : (ds : List Did) (d : Did) (store : Plain) → IsLegal s ds store → IsAbove (last_ts ds) d.ts → IsLegalEntry s (after s ds store) d → IsLegal s (ds ++ d ∷ []) store
   goes_on ds d store h above is = record { rising = rise_more ds d h.rising above; each = legal_more ds d store h.each is }
 
-  first_always : s.upgraded ≡ [] → (n : ℕ) → schema_of s n ≡ s.first
-  first_always none zero = refl
-  first_always none (suc n) = rw none refl
+  none_behind : s.upgraded ≡ [] → (n : ℕ) → schema_of s (suc n) ≡ no_schema
+  none_behind none n = rw none refl
 
   -- schemas without upgrades
   pub first_made : length s.first.classes ≤ 65536 → IsFirst s.first → s.upgraded ≡ [] → AreMade s
-  first_made few first none = record {
-    few = λ n. subst (λ (k : Schema). length k.classes ≤ 65536) (sym (first_always none n)) few;
-    past = λ n c. subst (λ (k : Schema). last_upgrade k c ≤ n) (sym (first_always none n)) (let h = first c in omega arith);
-  }
+  first_made few first none = record { few = few_at; past = past_at }
+    where
+      few_at : (n : ℕ) → length (schema_of s n).classes ≤ 65536
+      few_at zero = few
+      few_at (suc n) = subst (λ (k : Schema). length k.classes ≤ 65536) (sym (none_behind none n)) (omega arith)
+
+      past_at : (n c : ℕ) → number_of (schema_of s n).upgraded c ≤ n
+      past_at zero c = let h = first c in omega arith
+      past_at (suc n) c = subst (λ (k : Schema). number_of k.upgraded c ≤ suc n) (sym (none_behind none n)) (omega arith)
 
 -- ---- the names stay in order
 
@@ -104,12 +109,18 @@ run_by store names (Err (stop.Fault f)) m h = by_test (length names == 0) _ stor
 run_by store names (Err (stop.Need x owners)) m h = h
 run_by store names (Err (stop.NeedName repo)) m h = h
 
+run_sorted : (o : Option Schema) (store : Plain) (d : Did) (tx : List Stmt) → IsSorted store.objects
+    → IsSorted (unwrap_or (option_map (λ r. r.store) (option_and_then (λ k. run k tx store d.fresh) o)) store).objects
+unfolding run
+run_sorted None store d tx h = h
+run_sorted (Some k) store d tx h = let r = execute_all (world_of k store) tx (begun d.fresh (Some 0)) in run_by store d.fresh r.0 r.1 h
+
 doing_sorted : (s : Schemas) (store : Plain) (d : Did) (w : What) → IsSorted store.objects → IsSorted (after_doing s store d w).objects
-unfolding run up
-doing_sorted s store d (Tx tx) h = let r = execute_all (world_of (schema_of s store.epoch) store) tx (begun d.fresh (Some 0)) in run_by store d.fresh r.0 r.1 h
+unfolding up
+doing_sorted s store d (Tx tx) h = run_sorted (schema_at s store.epoch) store d tx h
 doing_sorted s store d (UpgradeItem u) h =
-    let old = (schema_of s store.epoch).classes in
-    order_kept oref_cmp (λ (p : Oref × Object). transformed old (schema_of s (store.epoch + 1)).classes (get store.objects) p.1 (upgrade_of old u p.1.class)) store.objects.pairs _ refl h
+    let old = classes_of s store.epoch in
+    order_kept oref_cmp (λ (p : Oref × Object). transformed old (classes_of s (store.epoch + 1)) (get store.objects) p.1 (upgrade_of old u p.1.class)) store.objects.pairs _ refl h
 
 pub after_sorted : (s : Schemas) (ds : List Did) (store : Plain) → IsSorted store.objects → IsSorted (after s ds store).objects
 after_sorted s [] store h = h

@@ -27,13 +27,15 @@ use Rattle.class_defs.specs.declared.store.Root.{Root}
 use Rattle.class_defs.specs.declared.store.Object.{Object}
 use Rattle.class_defs.specs.declared.store.Schema.{Schema}
 use Rattle.method_eval.specs.Names.{Names, free, listed, orefs, supply, waiting}
-use Rattle.method_eval.specs.Answers.{stored_at, ran_at, in_view, evaluation}
+use Rattle.method_eval.specs.Answers.{stored_at, ran_at, evaluation}
 use Rattle.method_eval.specs.declared.view.Ran.{Ran}
 use Rattle.method_eval.specs.declared.view.Ran.TheVariants.{Done, Need, NeedName}
 use Rattle.method_eval.specs.declared.view.View.{View}
-use Rattle.method_eval.specs.Viewed.{current, last_upgrade}
+use Rattle.class_defs.specs.Applied.{number_of}
+use Rattle.class_defs.specs.Stored.{bare}
+use Rattle.method_eval.specs.Viewed.{current, seen_in}
 use Rattle.serial_model.specs.Replaying.{effect, effect_of, RanOn, Settles}
-use Rattle.serial_model.specs.Whole.{bare, bare_objects, plain, IsFirst, NoneDue, IsOfItsEpoch}
+use Rattle.serial_model.specs.Whole.{bare_objects, plain, IsFirst, NoneDue, IsOfItsEpoch}
 
 -- an object without its version, at its name
 abbrev pair : Oref × Obj → Oref × Object
@@ -72,11 +74,11 @@ none_behind : (n k : ℕ) → k ≤ n → nat_lt n k ≡ false
 none_behind n k h = grind (arith, nat_tests)
 
 -- where no object is due, a view reads each as the store does
-current_found : (schema : Schema) (test : Oref → Bool) (es : List (Oref × Obj)) → AllByRecursion (λ p. last_upgrade schema p.1.class ≤ p.1.ver) es → current schema (lookup test es) ≡ option_map bare (lookup test es)
+current_found : (schema : Schema) (test : Oref → Bool) (es : List (Oref × Obj)) → AllByRecursion (λ p. number_of schema.upgraded p.1.class ≤ p.1.ver) es → current schema (lookup test es) ≡ option_map bare (lookup test es)
 current_found schema test [] none = refl
 current_found schema test (e ∷ es) none =
     elim (test e.0) as (λ b. current schema (cond b (Some e.1) (lookup test es)) ≡ option_map bare (cond b (Some e.1) (lookup test es))) [
-      | true ↦ rw (none_behind e.1.ver (last_upgrade schema e.1.class) none.0) refl
+      | true ↦ rw (none_behind e.1.ver (number_of schema.upgraded e.1.class) none.0) refl
       | false ↦ current_found schema test es none.1
     ]
 
@@ -88,7 +90,7 @@ pub same_world : (schema : Schema) (view : View) → NoneDue schema view → let
 same_world schema view none = ap (λ (f : Oref → Option Object). record { schema = schema; at_hand = f }) (fun_ext (at_hand_bare schema view none))
 
 -- where no upgrade names a class, no object is due
-first_none_due : (schema : Schema) → IsFirst schema → (es : List (Oref × Obj)) → AllByRecursion (λ p. last_upgrade schema p.1.class ≤ p.1.ver) es
+first_none_due : (schema : Schema) → IsFirst schema → (es : List (Oref × Obj)) → AllByRecursion (λ p. number_of schema.upgraded p.1.class ≤ p.1.ver) es
 first_none_due schema first [] = tt
 first_none_due schema first (e ∷ es) = (let h = first e.1.class in omega arith, first_none_due schema first es)
 
@@ -218,7 +220,7 @@ ran_writes epoch (Err (stop.NeedName repo)) m = tt
 evaluation_writes : (tx : List Stmt) (schema : Schema) (view : View) → WritesAt view.epoch (evaluation tx schema view)
 unfolding evaluation
 evaluation_writes tx schema view =
-    let r = execute_all (in_view schema view) tx (begun (supply view.names).waiting (supply view.names).stand_in) in
+    let r = execute_all (seen_in schema view.objects) tx (begun (supply view.names).waiting (supply view.names).stand_in) in
     ran_writes view.epoch r.0 r.1
 
 kept_either : (P : View → Type 0) (b : Bool) (after old new : View) → P after → P old → new ≡ cond b after old → P new

@@ -1,13 +1,14 @@
 -- Legal histories: serial execution in timestamp order (Adya and others, SIGMOD 1995). The code never keeps such a
 -- list and runs it: it keeps queues, copies and logs.
-use Rattle.std.specs.Prelude.{◌≡◌, ◌+◌, Bool, true, not, ◌&&◌, List, [], ◌∷◌, Option, Some, option_map, unwrap_or, IsSomeAnd}
+use Rattle.std.specs.Prelude.{◌≡◌, ◌+◌, Bool, true, not, ◌&&◌, List, [], ◌∷◌, Option, Some, option_and_then, option_map, unwrap_or, IsSomeAnd}
 use Rattle.std.specs.List.{list_any}
 use Rattle.thor_value.specs.FiniteMap.{has}
 use Rattle.thor_value.specs.Names.{Before, same_oref}
 use Rattle.thor_value.specs.declared.names.Oref.{Oref}
 use Rattle.thor_value.specs.declared.values.Answer.TheVariants as answer
-use Rattle.class_defs.specs.Epochs.{schema_of, upgrade_to}
+use Rattle.class_defs.specs.Epochs.{classes_of, schema_at, upgrade_to}
 use Rattle.class_defs.specs.Run as run
+use Rattle.class_defs.specs.UpgradeLinesAside.{upgrade_on_line_1}
 use Rattle.class_defs.specs.Upgrades.{up}
 use Rattle.class_defs.specs.declared.statements.Stmt.{Stmt}
 use Rattle.class_defs.specs.declared.store.Plain.{Plain}
@@ -17,9 +18,9 @@ use Rattle.serial_model.specs.declared.entries.Did.{Did}
 use Rattle.serial_model.specs.declared.entries.What.{What}
 use Rattle.serial_model.specs.declared.entries.What.TheVariants.{Tx, Upgrade as UpgradeItem}
 
--- what the run of a transaction gives on a store
+-- what the run of a transaction gives on a store, where its epoch has a schema
 abbrev pub run_on : Schemas → Plain → List Stmt → List Oref → Option run.Ran
-run_on s store tx names = run.run (schema_of s store.epoch) tx store names
+run_on s store tx names = option_and_then (λ schema. run.run schema tx store names) (schema_at s store.epoch)
 
 -- whether a name is neither in the store nor among others
 abbrev pub is_new : Plain → Oref → List Oref → Bool
@@ -36,12 +37,13 @@ pub record IsLegalTx (s : Schemas) (store : Plain) (d : Did) (tx : List Stmt) : 
   pub fresh : are_fresh store d.fresh ≡ true
   pub answer : IsSomeAnd (run_on s store tx d.fresh) (λ r. r.answer ≡ d.answer)
 
--- An upgrade creates nothing and answers nothing, and is the one that leads to the next epoch, which is its number.
+-- An upgrade creates nothing and answers nothing, and is the one that leads to the next epoch, which is its number. Lines
+-- don't count: a store keeps the text of an upgrade, which doesn't tell them.
 pub record IsLegalUpgrade (s : Schemas) (store : Plain) (d : Did) (u : Upgrade) : Type 0 where
   pub number : d.number ≡ store.epoch + 1
   pub fresh : d.fresh ≡ []
   pub answer : d.answer ≡ answer.Ints []
-  pub upgrade : upgrade_to s d.number ≡ Some u
+  pub upgrade : option_map upgrade_on_line_1 (upgrade_to s d.number) ≡ Some (upgrade_on_line_1 u)
 
 abbrev pub IsLegalDoing : Schemas → Plain → Did → What → Type 0
 IsLegalDoing s store d (Tx tx) = IsLegalTx s store d tx
@@ -53,7 +55,7 @@ IsLegalEntry s store d = IsLegalDoing s store d d.what
 
 abbrev pub after_doing : Schemas → Plain → Did → What → Plain
 after_doing s store d (Tx tx) = unwrap_or (option_map (λ r. r.store) (run_on s store tx d.fresh)) store
-after_doing s store d (UpgradeItem u) = up (schema_of s store.epoch).classes (schema_of s (store.epoch + 1)).classes u store
+after_doing s store d (UpgradeItem u) = up (classes_of s store.epoch) (classes_of s (store.epoch + 1)) u store
 
 -- the store behind an entry: the run's for a transaction, and for an upgrade that in which all objects are transformed
 abbrev pub after_entry : Schemas → Plain → Did → Plain

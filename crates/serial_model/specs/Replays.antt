@@ -3,14 +3,13 @@ use Rattle.std.specs.Prelude.{◌≡◌, ℕ, suc, ◌+◌, ◌<◌, ◌≤◌, 
 use Rattle.std.specs.List.{list_all}
 use Rattle.thor_value.specs.Names.{Before}
 use Rattle.thor_value.specs.declared.names.Ts.{Ts}
-use Rattle.class_defs.specs.Applied.{applied}
+use Rattle.class_defs.specs.Applied.{applied, number_of}
 use Rattle.class_defs.specs.declared.store.Plain.{Plain}
 use Rattle.class_defs.specs.declared.store.Root.{Root}
 use Rattle.class_defs.specs.declared.store.Schema.{Schema}
 use Rattle.class_defs.specs.declared.store.Schemas.{Schemas}
 use Rattle.class_defs.specs.declared.store.UpgradedSchema.{UpgradedSchema}
 use Rattle.class_defs.specs.declared.upgrades.Upgrade.{Upgrade}
-use Rattle.method_eval.specs.Viewed.{last_upgrade}
 use Rattle.method_eval.specs.declared.view.View.{View}
 use Rattle.class_defs.specs.Epochs.{schema_of}
 use Rattle.serial_model.specs.History.{after, after_doing, IsLegal, IsLegalDoing}
@@ -24,7 +23,7 @@ use Rattle.serial_model.specs.declared.replaying.ReplayError.TheVariants.{NotLeg
 -- behind the epoch.
 pub record AreMade (s : Schemas) : Type 0 where
   pub few : (n : ℕ) → length (schema_of s n).classes ≤ 65536
-  pub past : (n c : ℕ) → last_upgrade (schema_of s n) c ≤ n
+  pub past : (n c : ℕ) → number_of (schema_of s n).upgraded c ≤ n
 
 -- the same as a test of one schema: it has few classes, and no number above the epoch's
 abbrev pub is_made : Schema → ℕ → Bool

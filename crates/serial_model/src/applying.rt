@@ -1,10 +1,11 @@
-ghost use Rattle.std.specs.Prelude.{◌≡◌, ◌+◌, ◌<◌, ◌^◌, ◌↔◌, List, [], Some, IsTrue, IfOk, IfSome};
+ghost use Rattle.std.specs.Prelude.{◌≡◌, ◌+◌, ◌<◌, ◌^◌, ◌↔◌, List, [], Some, IsTrue, IfOk, option_map};
 ghost use Rattle.std.specs.Option.{option_copied};
 ghost use Rattle.thor_value.specs.FiniteMap.{IsSorted};
 ghost use Rattle.thor_value.specs.declared.values.Answer.TheVariants as answer;
 ghost use Rattle.class_defs.specs.declared.store.Plain.{Plain};
 ghost use Rattle.class_defs.specs.declared.store.Root.{Root};
-ghost use Rattle.class_defs.specs.Epochs.{schema_of, upgrade_to};
+ghost use Rattle.class_defs.specs.Epochs.{schema_at, upgrade_to};
+ghost use Rattle.class_defs.specs.UpgradeLinesAside.{upgrade_on_line_1};
 ghost use Rattle.serial_model.specs.History.{IsLegalUpgrade};
 ghost use Rattle.serial_model.specs.Replays.{AppliesDoing, AreMade};
 ghost use Rattle.serial_model.specs.Whole.{IsOfItsEpoch, bare_objects, plain};
@@ -13,6 +14,7 @@ ghost use Rattle.serial_model.specs.declared.entries.What.TheVariants as what;
 use crate::entries::{Did, What};
 use crate::equality::Same;
 use crate::fresh::are_fresh;
+use crate::lines_aside::SameAside;
 use crate::running::run_on_current;
 use crate::upgrading::upgrade_store;
 use crate::viewing::{plain_of, view_of};
@@ -22,28 +24,28 @@ use std::alloc::Global;
 use std::mem;
 use thor_value::{Answer, NoMemory, OrefMap};
 
-/// The schema of an epoch.
-fn schema_of(schemas: &Schemas, epoch: u32) -> &Schema
-    ensures { result.now ≡ schema_of schemas.now epoch }
+/// The schema of an epoch; nothing past the last one.
+fn schema_at(schemas: &Schemas, epoch: u32) -> Option<&Schema>
+    ensures { option_map (λ schema. schema.now) result ≡ schema_at schemas.now epoch }
 {
     if epoch == 0 {
-        return &schemas.first;
+        return Some(&schemas.first);
     }
     match schemas.upgraded.get((epoch - 1) as usize) {
-        Some(upgraded) => &upgraded.schema,
-        None => &schemas.first,
+        Some(upgraded) => Some(&upgraded.schema),
+        None => None,
     }
 }
 
-/// Whether this upgrade is the one that leads to an epoch.
+/// Whether this upgrade is the one that leads to an epoch, lines aside.
 fn leads_to(schemas: &Schemas, epoch: u32, upgrade: &Upgrade) -> bool
-    ensures { IsTrue result ↔ (upgrade_to schemas.now epoch ≡ Some upgrade.now) }
+    ensures { IsTrue result ↔ (option_map upgrade_on_line_1 (upgrade_to schemas.now epoch) ≡ Some (upgrade_on_line_1 upgrade.now)) }
 {
     if epoch == 0 {
         return false;
     }
     match schemas.upgraded.get((epoch - 1) as usize) {
-        Some(upgraded) => upgraded.upgrade.same(upgrade),
+        Some(upgraded) => upgraded.upgrade.same_aside(upgrade),
         None => false,
     }
 }
@@ -85,7 +87,9 @@ fn apply_tx(
     if entry.number != 0 || !are_fresh(view, &entry.fresh) {
         return Ok(false);
     }
-    let schema = schema_of(schemas, view.epoch);
+    let Some(schema) = schema_at(schemas, view.epoch) else {
+        return Ok(false);
+    };
     match run_on_current(alloc, tx, schema, view, &entry.fresh)? {
         Some(answer) => Ok(answer.same(&entry.answer)),
         None => Ok(false),
@@ -109,11 +113,15 @@ fn apply_upgrade(
     if !is_legal_upgrade(schemas, entry, upgrade, epoch) {
         return Ok(false);
     }
+    let (Some(old), Some(new)) = (schema_at(schemas, epoch), schema_at(schemas, epoch + 1)) else {
+        return Ok(false);
+    };
     let objects = mem::replace(&mut view.objects, OrefMap::new(alloc));
     let store = plain_of(alloc, objects, epoch, roots)?;
-    let old = &schema_of(schemas, epoch).classes;
-    let new = &schema_of(schemas, epoch + 1).classes;
-    *view = view_of(alloc, &upgrade_store(alloc, old, new, upgrade, &store)?)?;
+    *view = view_of(
+        alloc,
+        &upgrade_store(alloc, &old.classes, &new.classes, upgrade, &store)?,
+    )?;
     Ok(true)
 }
 

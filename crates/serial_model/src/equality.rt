@@ -2,7 +2,7 @@
 
 ghost use Rattle.std.specs.Prelude.{◌≡◌, ◌↔◌, IsTrue};
 
-use class_defs::{At, Name, Operator, TypeName};
+use class_defs::Operator;
 use thor_value::{Answer, Fault, Sequence};
 
 /// Values that can be told apart.
@@ -36,24 +36,6 @@ impl Same for Operator {
     }
 }
 
-impl Same for At {
-    fn same(&self, other: &At) -> bool {
-        self.line == other.line
-            && self.number == other.number
-            && self.number_line == other.number_line
-    }
-}
-
-impl<T: Same> Same for Option<T> {
-    fn same(&self, other: &Option<T>) -> bool {
-        match (self, other) {
-            (None, None) => true,
-            (Some(some), Some(other)) => some.same(other),
-            (_, _) => false,
-        }
-    }
-}
-
 impl<T: Same> Same for Sequence<T> {
     fn same(&self, other: &Sequence<T>) -> bool {
         let (some, others) = (self.as_slice(), other.as_slice());
@@ -74,22 +56,6 @@ impl Same for Answer {
         match (self, other) {
             (Answer::Ints(ints), Answer::Ints(others)) => ints.same(others),
             (Answer::Fault(fault), Answer::Fault(other)) => fault.same(other),
-            (_, _) => false,
-        }
-    }
-}
-
-impl Same for Name {
-    fn same(&self, other: &Name) -> bool {
-        self.line == other.line && self.text.same(&other.text)
-    }
-}
-
-impl Same for TypeName {
-    fn same(&self, other: &TypeName) -> bool {
-        match (self, other) {
-            (TypeName::Int { line }, TypeName::Int { line: other }) => *line == *other,
-            (TypeName::Class { name }, TypeName::Class { name: other }) => name.same(other),
             (_, _) => false,
         }
     }

@@ -4,6 +4,7 @@
 
 use outside::{StdSink, StdSource};
 use std::env;
+use std::io::ErrorKind;
 use std::process::ExitCode;
 use thor_top::{Status, thor};
 use thor_value::{NoMemory, Text, Texts};
@@ -20,12 +21,15 @@ fn main(rt: HostRuntime) -> ExitCode {
     ExitCode::from(status.code())
 }
 
-/// The words behind the program's name.
+/// The words behind the program's name. Where one of them isn't UTF-8 there are none, which is no command either.
 fn words(rt: HostRuntime) -> Result<Texts, NoMemory> {
     let mut words = Texts::new(rt.alloc());
     let given = match env::args(&rt) {
         Ok(given) => given,
-        Err(_) => return Err(NoMemory),
+        Err(error) => match error.kind() {
+            ErrorKind::InvalidData => return Ok(words),
+            _ => return Err(NoMemory),
+        },
     };
     for word in given.skip(1) {
         words.push(Text::from_slice(rt.alloc(), word.as_bytes())?)?;

@@ -1,31 +1,19 @@
 -- That upgrades of which no fault is told are accepted one after the other as epochs of a store.
-use Rattle.std.proofs.Common.{◌≡◌, ◌<◌, ℕ, zero, suc, arith, List, [], ◌∷◌, length, None, option_map, unwrap_or, slice_get, refl, ap, sym, subst, ◌∙◌}
+use Rattle.std.proofs.Common.{◌≡◌, ◌<◌, ℕ, zero, suc, arith, List, [], ◌∷◌, length, None, refl, ap, sym, subst, ◌∙◌}
 use Rattle.class_defs.specs.Accepted.{AllAccepted, IsAccepted}
 use Rattle.class_defs.specs.Applied.{applied}
 use Rattle.class_defs.specs.Epochs.{schema_of}
 use Rattle.class_defs.specs.UpgradeOrder.{own_fault}
 use Rattle.class_defs.specs.declared.statements.Stmt.{Stmt}
 use Rattle.class_defs.specs.declared.store.Schema.{Schema}
-use Rattle.class_defs.specs.declared.store.UpgradedSchema.{UpgradedSchema}
 use Rattle.class_defs.specs.declared.upgrades.Upgrade.{Upgrade}
 use Rattle.thor_top.proofs.UpgradingLaws.{none_first}
-use Rattle.thor_top.specs.Upgrading.{epochs_behind, schemas_behind, upgrades_fault}
-
-as_many_epochs : (s : Schema) (us : List Upgrade) → length (epochs_behind s us) ≡ length us
-as_many_epochs s [] = refl
-as_many_epochs s (u ∷ us) = ap suc (as_many_epochs (applied s u) us)
-
--- the schema of an epoch that is there doesn't hang on what else would be taken
-there : (es : List UpgradedSchema) (n : ℕ) (s t : Schema) → n < length es
-    → unwrap_or (option_map (λ e. e.schema) (slice_get es n)) s ≡ unwrap_or (option_map (λ e. e.schema) (slice_get es n)) t
-there [] n s t h = absurd (omega (arith, h))
-there (e ∷ es) zero s t h = refl
-there (e ∷ es) (suc n) s t h = there es n s t (omega (arith, h))
+use Rattle.thor_top.specs.Upgrading.{schemas_behind, upgrades_fault}
 
 -- the epochs behind the first upgrade are those of the store that begins there
-same_schema : (s : Schema) (u : Upgrade) (us : List Upgrade) (k : ℕ) → k < suc (length us) → schema_of (schemas_behind (applied s u) us) k ≡ schema_of (schemas_behind s (u ∷ us)) (suc k)
-same_schema s u us zero h = refl
-same_schema s u us (suc k) h = there (epochs_behind (applied s u) us) k (applied s u) s (let many = as_many_epochs (applied s u) us in omega (arith, h, many))
+same_schema : (s : Schema) (u : Upgrade) (us : List Upgrade) (k : ℕ) → schema_of (schemas_behind (applied s u) us) k ≡ schema_of (schemas_behind s (u ∷ us)) (suc k)
+same_schema s u us zero = refl
+same_schema s u us (suc k) = refl
 
 accepted_at : (repos : ℕ) (blocks : List (List Stmt)) (s : Schema) (us : List Upgrade) (k : ℕ) → upgrades_fault s repos us blocks ≡ None → k < length us → IsAccepted (schemas_behind s us) repos blocks k
 accepted_at repos blocks s [] k none h = absurd (omega (arith, h))
@@ -39,8 +27,8 @@ accepted_at repos blocks s (u ∷ us) (suc k) none h =
     let n = none_first (own_fault s repos u blocks) (upgrades_fault (applied s u) repos us blocks) none in
     let within : k < length us = omega (arith, h) in
     let a : IsAccepted (schemas_behind (applied s u) us) repos blocks k = accepted_at repos blocks (applied s u) us k n.1 within in
-    let here = same_schema s u us k (omega (arith, within)) in
-    let behind = same_schema s u us (suc k) (omega (arith, within)) in
+    let here = same_schema s u us k in
+    let behind = same_schema s u us (suc k) in
     record {
       upgrade = a.upgrade;
       leads = a.leads;

@@ -1,5 +1,5 @@
 -- What a client that is alone does is a legal history.
-use Rattle.std.proofs.Common.{◌≡◌, ℕ, ◌+◌, Bool, true, false, cond, List, [], ◌∷◌, Option, Some, None, option_map, unwrap_or, IsSomeAnd, Result, Ok, Err, refl, ap, sym, ◌∙◌, subst, arith, length, ◌==◌, ◌⊎◌, inl, inr}
+use Rattle.std.proofs.Common.{◌≡◌, ℕ, ◌+◌, Bool, true, false, cond, List, [], ◌∷◌, Option, Some, None, option_and_then, option_map, unwrap_or, IsSomeAnd, Result, Ok, Err, refl, ap, sym, ◌∙◌, subst, arith, length, ◌==◌, ◌⊎◌, inl, inr}
 use Rattle.std.specs.Cmp.{nat_cmp_is}
 use Rattle.std.specs.Ordering.{nat_cmp, ordering_then}
 use Rattle.std.specs.declared.cmp.Ordering.{Ordering}
@@ -17,7 +17,7 @@ use Rattle.class_defs.specs.declared.machine.Stop.TheVariants as stop
 use Rattle.class_defs.specs.declared.statements.Stmt.{Stmt}
 use Rattle.class_defs.specs.declared.store.Plain.{Plain}
 use Rattle.class_defs.specs.declared.store.Schema.{Schema}
-use Rattle.class_defs.specs.Epochs.{schema_of}
+use Rattle.class_defs.specs.Epochs.{schema_at}
 use Rattle.serial_model.specs.History.{are_fresh, run_on, after_entry, AreLegal, IsLegal, IsLegalTx, Rise}
 use Rattle.serial_model.specs.Replaying.{effect, effect_of}
 use Rattle.serial_model.specs.declared.entries.Did.{Did}
@@ -157,7 +157,7 @@ has_run : (schema : Schema) (tx : List Stmt) (store : Plain) (fresh : List Oref)
 has_run schema tx store fresh answer after h = has_run_by schema tx store fresh answer after (run schema tx store fresh) refl h
 
 on_first : (schema : Schema) (store : Plain) (tx : List Stmt) (fresh : List Oref) (ran : Option Ran) → store.epoch ≡ 0 → run schema tx store fresh ≡ ran → run_on (schemas_of schema) store tx fresh ≡ ran
-on_first schema store tx fresh ran first is = ap (λ (k : ℕ). run (schema_of (schemas_of schema) k) tx store fresh) first ∙ is
+on_first schema store tx fresh ran first is = ap (λ (k : ℕ). option_and_then (λ q. run q tx store fresh) (schema_at (schemas_of schema) k)) first ∙ is
 
 legal_one : (schema : Schema) (n time : ℕ) (store : Plain) (tx : List Stmt) (fresh : List Oref) (answer : Answer) (after : Plain) → store.epoch ≡ 0 → are_fresh store fresh ≡ true → HasRun schema tx store fresh answer after → IsLegalTx (schemas_of schema) store (did n time tx fresh answer) tx
 legal_one schema n time store tx fresh answer after first new h = record {

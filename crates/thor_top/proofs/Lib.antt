@@ -1,5 +1,6 @@
 pub mod AcceptedUpgrades
 pub mod AloneAnswers
+pub mod AloneEnds
 pub mod AloneIsLegal
 pub mod Balanced
 pub mod CommitLaws
@@ -14,6 +15,7 @@ pub mod FirstFault
 pub mod FirstFaultTold
 pub mod GoingOn
 pub mod JudgingLaws
+pub mod NamedUpgrades
 pub mod NamesLaws
 pub mod OneFault
 pub mod OneScript

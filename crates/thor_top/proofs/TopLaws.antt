@@ -13,7 +13,7 @@ use Rattle.thor_top.specs.Opened.{opened, placed_from, schema_of}
 use Rattle.thor_top.specs.Playing.{CantRun, Does, Plays, first_items, is_alone}
 use Rattle.thor_top.specs.Reads.{Each, Reads}
 use Rattle.thor_top.specs.Script.{AreItems, HasFew, IsRefusedEnd, IsRefusedSchedule, IsRefusedSplit, IsSetupPart}
-use Rattle.thor_top.specs.Top.{IsAccepted, IsRefused, IsRefusedOn, IsReport, IsResult, IsUnbuilt, IsUnfinished, IsWithinLimits, TellsOf, Says, Tells, WasRead, repos_of}
+use Rattle.thor_top.specs.Top.{IsAccepted, IsRefused, IsRefusedOn, IsReport, IsResult, IsUnbuilt, IsUnfinished, IsWithinLimits, TellsOf, Says, Tells, Told, WasRead, repos_of}
 use Rattle.thor_top.specs.Words.{command_of}
 use Rattle.thor_top.specs.declared.command.Command.{Command}
 use Rattle.thor_top.specs.declared.command.Command.TheVariants.{Play}
@@ -26,6 +26,7 @@ use Rattle.thor_top.specs.declared.status.Status.{Status}
 use Rattle.thor_top.specs.declared.status.Status.TheVariants as status
 use Rattle.thor_top.specs.declared.top.Reply.{Reply}
 use Rattle.thor_top.proofs.AloneAnswers.{alone_answers}
+use Rattle.thor_top.proofs.AloneEnds.{all_at_once}
 use Rattle.thor_top.proofs.AloneIsLegal.{is_legal}
 use Rattle.thor_top.proofs.DefinedRuns.{forms_stop}
 
@@ -64,6 +65,7 @@ reported tries script schema played p accepted some plays =
         legal = is_legal schema (opened schema) tries (first_items script.clients) q.0 (first_epoch schema) d.is;
         answers = alone_answers schema (opened schema) tries script.clients q.0 (both (is_alone script.clients) _ d.can) d.is;
       };
+      at_once = all_at_once schema tries 1 1 0 (opened schema) (first_items script.clients) q.0 d.is;
       finished_is = q.1.1.finished;
       written_out = q.1.1.text;
     }
@@ -130,7 +132,7 @@ pub events_refused : (split : Split) (setup : Option Declarations) (clients : Li
 events_refused split setup clients (errors.Refused r) Any s c h = inr (setup, (s, inr (clients, (c, inl h))))
 events_refused split setup clients errors.NoMemory Any s c h = tt
 
-says_of : (words : List (List ℕ)) (before after : Option (List ℕ)) (command : Command) (bytes : List ℕ) (s : Status) (text : List ℕ) → command_of words ≡ Some command → WasRead before after bytes → Tells command bytes s text → Says words before after s text
+says_of : (words : List (List ℕ)) (before after : Told) (command : Command) (bytes : List ℕ) (s : Status) (text : List ℕ) → command_of words ≡ Some command → WasRead before.left after.left bytes → Tells command bytes s text → Says words before after s text
 says_of words before after command bytes status.Done text is read t = (command, (is, (bytes, (read, t))))
 says_of words before after command bytes status.Unfinished text is read t = (command, (is, (bytes, (read, t))))
 says_of words before after command bytes status.Script text is read t = (command, (is, (bytes, (read, t))))
@@ -144,6 +146,6 @@ says_of words before after command bytes status.SinkFault text is read (inr t) =
 says_of words before after command bytes status.NoMemory text is read (inl t) = absurd t
 says_of words before after command bytes status.NoMemory text is read (inr t) = absurd t.1.1
 
-pub says_result : (words : List (List ℕ)) (before after : Option (List ℕ)) (command : Command) (bytes slice : List ℕ) (r : Result Reply NoMemory) → command_of words ≡ Some command → WasRead before after bytes → slice ≡ bytes → IfOk r (λ reply. Tells command slice reply.status reply.text) → IfOk r (λ reply. Says words before after reply.status reply.text)
+pub says_result : (words : List (List ℕ)) (before after : Told) (command : Command) (bytes slice : List ℕ) (r : Result Reply NoMemory) → command_of words ≡ Some command → WasRead before.left after.left bytes → slice ≡ bytes → IfOk r (λ reply. Tells command slice reply.status reply.text) → IfOk r (λ reply. Says words before after reply.status reply.text)
 says_result words before after command bytes slice (Ok reply) is read same t = says_of words before after command bytes reply.status reply.text is read (let P : List ℕ → Type 0 = λ b. Tells command b reply.status reply.text in subst P same t)
 says_result words before after command bytes slice (Err e) is read same t = tt

@@ -1,6 +1,6 @@
 -- What a client that is alone does: its transactions commit one after the other, each at its first try (this project's).
 -- Only where the repository has no page left for new objects is one refused.
-use Rattle.std.specs.Prelude.{Bool, true, false, ℕ, zero, suc, ◌+◌, ◌*◌, ◌-◌, ◌/◌, ◌%◌, min, if◌then◌else◌, List, [], ◌∷◌, ◌++◌, length, Option, Some, None, option_map}
+use Rattle.std.specs.Prelude.{◌≡◌, ◌⊎◌, Bool, true, false, ℕ, zero, suc, ◌+◌, ◌*◌, ◌-◌, ◌/◌, ◌%◌, min, if◌then◌else◌, List, [], ◌∷◌, ◌++◌, length, Option, Some, None, option_map}
 use Rattle.thor_value.specs.declared.names.Oref.{Oref}
 use Rattle.thor_value.specs.declared.names.Ts.{Ts}
 use Rattle.thor_value.specs.declared.values.Answer.{Answer}
@@ -158,6 +158,11 @@ is_finished_as (Unknown tx) = false
 
 abbrev pub is_finished : Ended → Bool
 is_finished e = is_finished_as e.outcome
+
+-- The item was done or ended in a fault, at its first try; or it was refused at each try, because the repository has no page
+-- left for its new objects.
+abbrev pub EndsAtOnce : ℕ → Ended → Type 0
+EndsAtOnce tries e = ((e.tries ≡ 1) × (is_finished e ≡ true)) ⊎ ((e.tries ≡ tries) × (e.outcome ≡ Refused (Full 65536)))
 
 -- the schemas of a store without upgrades
 abbrev pub schemas_of : Schema → Schemas

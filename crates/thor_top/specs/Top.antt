@@ -1,7 +1,8 @@
 -- What the program says (this project's): for each status the text that the sink takes, and when it comes.
 use Rattle.std.specs.Prelude.{◌≡◌, ◌⊎◌, ℕ, List, [], ◌∷◌, Option, Some, None, codes, ◌++◌, ◌≤◌, ◌<◌, length, Bool, true, false}
 use Rattle.std.specs.Fmt.{decimal}
-use Rattle.std.specs.List.{list_all}
+use Rattle.std.specs.List.{AllByRecursion, list_all}
+use Rattle.outside.specs.Faults.{Rose}
 use Rattle.outside.specs.Streams.{IsAtEnd, IsMoreThan, Put, PutFront, Took}
 use Rattle.class_defs.specs.declared.declarations.Declarations.{Declarations}
 use Rattle.class_defs.specs.declared.store.Schema.{Schema}
@@ -10,7 +11,7 @@ use Rattle.serial_model.specs.History.{IsLegal}
 use Rattle.serial_model.specs.Outcomes.{Answers, all_items}
 use Rattle.serial_model.specs.declared.entries.Did.{Did}
 use Rattle.serial_model.specs.declared.outcomes.Ended.{Ended}
-use Rattle.thor_top.specs.Alone.{is_finished, schemas_of}
+use Rattle.thor_top.specs.Alone.{EndsAtOnce, is_finished, schemas_of}
 use Rattle.thor_top.specs.Judging.{BreaksRule, KeepsRules}
 use Rattle.thor_top.specs.Opened.{opened, schema_of}
 use Rattle.thor_top.specs.Playing.{Does, IsNotBuilt}
@@ -42,13 +43,15 @@ pub record IsSerial (schema : Schema) (script : Script) (history : List Did) (en
   pub legal : IsLegal (schemas_of schema) history (opened schema)
   pub answers : Answers history (all_items script.clients) ended
 
--- The text is the report of an accepted script's outcomes and history, and all items were finished or not.
+-- The text is the report of an accepted script's outcomes and history, and all items were finished or not. Each was finished
+-- at its first try, or the repository is full.
 pub record IsReport (tries : ℕ) (script : Script) (finished : Bool) (text : List ℕ) : Type 0 where
   pub schema : Schema
   pub done : Performed
   pub accepted : IsAccepted 1 script schema
   pub does : Does schema tries script done
   pub serial : IsSerial schema script done.history done.ends
+  pub at_once : AllByRecursion (EndsAtOnce tries) done.ends
   pub finished_is : finished ≡ list_all is_finished done.ends
   pub written_out : text ≡ report_text done.ends done.history
 
@@ -132,32 +135,38 @@ pub record WasRead (before after : Option (List ℕ)) (bytes : List ℕ) : Type 
   pub at_end : IsAtEnd after
   pub short : length bytes ≤ 8388608
 
+-- what a source tells: the bytes that it has left, where it tells them, and how many faults it counted
+pub record Told : Type 0 where
+  pub left : Option (List ℕ)
+  pub faults : ℕ
+
 -- the words are a command, and of the bytes of the source this is told
-abbrev pub SaysOf : List (List ℕ) → Option (List ℕ) → Option (List ℕ) → Status → List ℕ → Type 0
-SaysOf words before after s text = (command : Command) × ((command_of words ≡ Some command) × ((bytes : List ℕ) × (WasRead before after bytes × Tells command bytes s text)))
+abbrev pub SaysOf : List (List ℕ) → Told → Told → Status → List ℕ → Type 0
+SaysOf words before after s text = (command : Command) × ((command_of words ≡ Some command) × ((bytes : List ℕ) × (WasRead before.left after.left bytes × Tells command bytes s text)))
 
 abbrev pub HasCommand : List (List ℕ) → Type 0
 HasCommand words = (command : Command) × (command_of words ≡ Some command)
 
--- What is true where the program ends with a status and has this text to write.
-abbrev pub Says : List (List ℕ) → Option (List ℕ) → Option (List ℕ) → Status → List ℕ → Type 0
+-- What is true where the program ends with a status and has this text to write. Where the words are no command, the
+-- source is as it was; and a fault of the source is one that was counted.
+abbrev pub Says : List (List ℕ) → Told → Told → Status → List ℕ → Type 0
 Says words before after status.Done text = SaysOf words before after status.Done text
 Says words before after status.Unfinished text = SaysOf words before after status.Unfinished text
 Says words before after status.Script text = SaysOf words before after status.Script text
-Says words before after status.Limit text = SaysOf words before after status.Limit text ⊎ (HasCommand words × IsMoreThan 8388608 before × (text ≡ limit_text 8388608))
-Says words before after status.Words text = (command_of words ≡ None) × (text ≡ codes "words" ++ 10 ∷ [])
-Says words before after status.SourceFault text = HasCommand words × (text ≡ codes "source" ++ 10 ∷ [])
+Says words before after status.Limit text = SaysOf words before after status.Limit text ⊎ (HasCommand words × IsMoreThan 8388608 before.left × (text ≡ limit_text 8388608))
+Says words before after status.Words text = (command_of words ≡ None) × (after ≡ before) × (text ≡ codes "words" ++ 10 ∷ [])
+Says words before after status.SourceFault text = HasCommand words × Rose before.faults after.faults × (text ≡ codes "source" ++ 10 ∷ [])
 Says words before after status.SinkFault text = ⊥
 Says words before after status.NoMemory text = ⊥
 
 -- What the sink took: the text of the status; where the sink failed, a front of some status's text; where memory ran
 -- out, nothing.
-abbrev pub Wrote : List (List ℕ) → Option (List ℕ) → Option (List ℕ) → Option (List ℕ) → Option (List ℕ) → Status → Type 0
-Wrote words left rest had taken status.SinkFault = (s : Status) × ((text : List ℕ) × (Says words left rest s text × PutFront had text taken))
-Wrote words left rest had taken status.NoMemory = taken ≡ had
-Wrote words left rest had taken status.Done = (text : List ℕ) × (Says words left rest status.Done text × Put had text taken)
-Wrote words left rest had taken status.Unfinished = (text : List ℕ) × (Says words left rest status.Unfinished text × Put had text taken)
-Wrote words left rest had taken status.Words = (text : List ℕ) × (Says words left rest status.Words text × Put had text taken)
-Wrote words left rest had taken status.Script = (text : List ℕ) × (Says words left rest status.Script text × Put had text taken)
-Wrote words left rest had taken status.SourceFault = (text : List ℕ) × (Says words left rest status.SourceFault text × Put had text taken)
-Wrote words left rest had taken status.Limit = (text : List ℕ) × (Says words left rest status.Limit text × Put had text taken)
+abbrev pub Wrote : List (List ℕ) → Told → Told → Option (List ℕ) → Option (List ℕ) → Status → Type 0
+Wrote words before after had taken status.SinkFault = (s : Status) × ((text : List ℕ) × (Says words before after s text × PutFront had text taken))
+Wrote words before after had taken status.NoMemory = taken ≡ had
+Wrote words before after had taken status.Done = (text : List ℕ) × (Says words before after status.Done text × Put had text taken)
+Wrote words before after had taken status.Unfinished = (text : List ℕ) × (Says words before after status.Unfinished text × Put had text taken)
+Wrote words before after had taken status.Words = (text : List ℕ) × (Says words before after status.Words text × Put had text taken)
+Wrote words before after had taken status.Script = (text : List ℕ) × (Says words before after status.Script text × Put had text taken)
+Wrote words before after had taken status.SourceFault = (text : List ℕ) × (Says words before after status.SourceFault text × Put had text taken)
+Wrote words before after had taken status.Limit = (text : List ℕ) × (Says words before after status.Limit text × Put had text taken)

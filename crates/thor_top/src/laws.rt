@@ -4,6 +4,7 @@ ghost use Rattle.class_defs.specs.SchemaRules.{schema_rules};
 ghost use Rattle.class_defs.specs.declared.declarations.Declarations.{Declarations};
 ghost use Rattle.class_defs.specs.declared.store.Plain.{Plain};
 ghost use Rattle.class_defs.specs.declared.store.Schema.{Schema};
+ghost use Rattle.fitting_laws.specs.Fits.{StoreFits};
 ghost use Rattle.serial_model.specs.History.{IsLegal};
 ghost use Rattle.serial_model.specs.Outcomes.{Answers, all_items};
 ghost use Rattle.serial_model.specs.declared.entries.What.{What};
@@ -39,4 +40,11 @@ pub fn accepted_runs_are_defined()
     ensures scripts { (schema : Schema) → (tries : ℕ) → (script : Script)
         → IsAccepted 1 script schema → CantRun schema tries script
         → IsNotBuilt script }
+{}
+
+/// The store that a script opens with fits its schema: each object has a class that is there and the fields of that, and
+/// each root names an object of its class.
+pub fn opened_stores_fit()
+    ensures { (setup : Declarations) → schema_rules (schema_of setup) 1 ≡ []
+        → StoreFits (schema_of setup) (opened (schema_of setup)) }
 {}

@@ -2,8 +2,9 @@ ghost use Rattle.std.specs.Prelude.{◌≡◌, ◌<◌, ◌≤◌, ◌^◌, List
 ghost use Rattle.class_defs.specs.Types as types;
 ghost use Rattle.class_defs.specs.Types.{type_named};
 ghost use Rattle.class_defs.specs.Steps as steps;
+ghost use Rattle.class_defs.specs.Stored.{bare};
 ghost use Rattle.class_defs.specs.declared.classes.Class.{Class};
-ghost use Rattle.serial_model.specs.Whole.{bare, bare_objects, plain};
+ghost use Rattle.serial_model.specs.Whole.{bare_objects, plain};
 ghost use Rattle.thor_value.specs.FiniteMap.{empty, overwrite};
 ghost use Rattle.thor_top.specs.Opened as spec;
 

@@ -159,7 +159,6 @@ fn read_tokens(alloc: Global, tokens: &Tokens) -> Result<Script, ReadError>
 ///
 /// It is refused at the line of the first token that its first faulty part doesn't go on with.
 pub fn read_script(alloc: Global, text: &[u8]) -> Result<Script, ReadError>
-    requires { length text.now < 2 ^ 32 }
     ensures read { Reads (IsWritten text.now) (IsRefusedText text.now) result }
     ensures few { IfOk result (λ script. HasFew script.setup) }
 {

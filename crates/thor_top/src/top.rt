@@ -157,7 +157,6 @@ fn reply_to(alloc: Global, command: Command, script: &Script) -> Result<Reply, N
 
 /// The reply to a command on a script's bytes.
 fn reply_to_bytes(alloc: Global, command: Command, bytes: &[u8]) -> Result<Reply, NoMemory>
-    requires { length bytes.now < 2 ^ 32 }
     ensures { IfOk result (λ reply. Tells command bytes.now reply.status reply.text) }
 {
     match read_script(alloc, bytes) {
@@ -173,8 +172,7 @@ fn read_and_reply<S: Source>(
     words: &[Text],
     source: &mut S,
 ) -> Result<Reply, NoMemory>
-    ensures says { IfOk result (λ reply. Says words.now (S.left source.old) (S.left source.new) reply.status reply.text) }
-    ensures fault { IfOk result (λ reply. reply.status ≡ Status.SourceFault → Rose (S.faults source.old) (S.faults source.new)) }
+    ensures { IfOk result (λ reply. Says words.now (record { left = S.left source.old; faults = S.faults source.old }) (record { left = S.left source.new; faults = S.faults source.new }) reply.status reply.text) }
 {
     let Some(command) = command_of(words) else {
         return says(alloc, Status::Words, b"words\n");
@@ -199,7 +197,7 @@ pub fn thor<S: Source, K: Sink>(
     sink: &mut K,
 ) -> Status
     // The sink took the report of one serial history, or what else the status says.
-    ensures wrote { Wrote words.now (S.left source.old) (S.left source.new) (K.taken sink.old) (K.taken sink.new) result }
+    ensures wrote { Wrote words.now (record { left = S.left source.old; faults = S.faults source.old }) (record { left = S.left source.new; faults = S.faults source.new }) (K.taken sink.old) (K.taken sink.new) result }
     // A fault of the source or of the sink is one that was counted.
     ensures source_fault { result ≡ Status.SourceFault → Rose (S.faults source.old) (S.faults source.new) }
     ensures sink_fault { result ≡ Status.SinkFault → Rose (K.faults sink.old) (K.faults sink.new) }

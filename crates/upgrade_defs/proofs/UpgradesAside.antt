@@ -15,7 +15,7 @@ use Rattle.class_defs.specs.declared.upgrades.Tf.{Tf, map-Tf, roll-Tf}
 use Rattle.class_defs.specs.declared.upgrades.Tf.TheFolds.{fold-roll-Tf, ind-Tf}
 use Rattle.class_defs.specs.declared.upgrades.Tf.TheOpen.{Tf-F}
 use Rattle.class_defs.specs.declared.upgrades.Upgrade.{Upgrade}
-use Rattle.method_parse.specs.LinesAside.{method_on_line_1, name_on_line_1}
+use Rattle.class_defs.specs.LinesAside.{method_on_line_1, name_on_line_1}
 use Rattle.method_parse.specs.Matching.{AreWords}
 use Rattle.method_parse.proofs.ExpressionsAside.{lined, lined_both, lined_turns, type_lined}
 use Rattle.method_parse.proofs.PrintedTokens.{printed_lined, words_printed}
@@ -24,7 +24,7 @@ use Rattle.script_text.specs.Grammar.{AreTokensOf}
 use Rattle.script_text.specs.Laws.{AreSpelled}
 use Rattle.script_text.specs.declared.token.Token.{Token}
 use Rattle.upgrade_defs.specs.Grammar.{IsClassUpgrade, IsFieldUpgrade, IsTf, IsUpgrade, has_names, tf_shape, tf_shape_step}
-use Rattle.upgrade_defs.specs.LinesAside.{class_on_line_1, field_on_line_1, tf_on_line_1, tf_step_on_line_1, upgrade_on_line_1}
+use Rattle.class_defs.specs.UpgradeLinesAside.{class_on_line_1, field_on_line_1, tf_on_line_1, tf_step_on_line_1, upgrade_on_line_1}
 use Rattle.upgrade_defs.specs.Printed.{printed_upgrade}
 use Rattle.upgrade_defs.specs.Spelling.{class_upgrade_words, dot_name, field_upgrade_words, tf_step, tf_words, upgrade_words}
 use Rattle.upgrade_defs.specs.Texts.{SpellsUpgrade}

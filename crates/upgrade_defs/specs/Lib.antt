@@ -1,6 +1,5 @@
 pub mod Expressions
 pub mod Grammar
-pub mod LinesAside
 pub mod Printed
 pub mod Rows
 pub mod Spelling

@@ -6,7 +6,7 @@ ghost use Rattle.class_defs.specs.declared.upgrades.Upgrade.{Upgrade};
 ghost use Rattle.script_text.specs.Grammar.{AreTokensOf};
 ghost use Rattle.script_text.specs.Laws.{AreSpelled};
 ghost use Rattle.script_text.specs.declared.token.Token.{Token};
-ghost use Rattle.upgrade_defs.specs.LinesAside.{upgrade_on_line_1};
+ghost use Rattle.class_defs.specs.UpgradeLinesAside.{upgrade_on_line_1};
 ghost use Rattle.upgrade_defs.specs.Printed.{printed_upgrade};
 ghost use Rattle.upgrade_defs.specs.Texts.{SpellsUpgrade};
 

@@ -1,5 +1,6 @@
 pub mod CountedLoop
 pub mod MixedOwned
+pub mod NeedLevels
 pub mod RunForms
 pub mod TfForms
 pub mod TwiceKeeps

@@ -1,3 +1,4 @@
 pub mod LazyExamples
+pub mod NeedRows
 pub mod RunRows
 pub mod UpgradeRows

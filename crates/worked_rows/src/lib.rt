@@ -2,6 +2,7 @@
 #![tactic(auto)]
 
 mod lazy_examples;
+mod need_rows;
 mod rule_rows;
 mod run_rows;
 mod upgrade_rows;

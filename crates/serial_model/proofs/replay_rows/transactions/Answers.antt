@@ -18,5 +18,6 @@ returns c = record {
   with_a_number = λ h. let e = h.each.0.number in absurd (omega arith);
   with_another_answer = λ h. let e = h.each.0.answer in cc;
   with_a_name_that_it_does_not_take = λ h. h.each.0.answer;
+  past_the_last_epoch = λ h. h.each.0.answer;
   with_a_name_that_is_there = λ h. let e = h.each.0.fresh in cc;
 }

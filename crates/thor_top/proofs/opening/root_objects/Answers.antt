@@ -8,7 +8,8 @@ use Rattle.thor_value.specs.declared.values.Obj.{Obj}
 use Rattle.class_defs.specs.declared.store.Object.{Object}
 use Rattle.class_defs.specs.declared.store.RootDeclaration.{RootDeclaration}
 use Rattle.class_defs.specs.declared.store.Schema.{Schema}
-use Rattle.serial_model.specs.Whole.{bare, bare_objects}
+use Rattle.class_defs.specs.Stored.{bare}
+use Rattle.serial_model.specs.Whole.{bare_objects}
 use Rattle.serial_model.proofs.WholeStore.{insert_bare}
 use Rattle.thor_top.specs.Opened.{root_object}
 use Rattle.thor_top.proofs.opening.root_objects.Goals as goal

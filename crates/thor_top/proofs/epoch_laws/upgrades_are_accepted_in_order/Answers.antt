@@ -1,6 +1,6 @@
 use Rattle.thor_top.proofs.AcceptedUpgrades.{all_accepted}
 use Rattle.thor_top.specs.Upgrading.{blocks_of, upgrades_of}
-use Rattle.thor_top.proofs.upgrade_laws.upgrades_are_accepted_in_order.Goals as goal
+use Rattle.thor_top.proofs.epoch_laws.upgrades_are_accepted_in_order.Goals as goal
 
 pub returns : goal.returns
 returns c = record {

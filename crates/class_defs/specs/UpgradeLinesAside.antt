@@ -7,7 +7,7 @@ use Rattle.class_defs.specs.declared.upgrades.Tf.TheFolds.{fold-Tf}
 use Rattle.class_defs.specs.declared.upgrades.Tf.TheOpen.{Tf-F}
 use Rattle.class_defs.specs.declared.upgrades.Tf.TheVariants as tf
 use Rattle.class_defs.specs.declared.upgrades.Upgrade.{Upgrade}
-use Rattle.method_parse.specs.LinesAside.{method_on_line_1, name_on_line_1, type_on_line_1}
+use Rattle.class_defs.specs.LinesAside.{method_on_line_1, name_on_line_1, type_on_line_1}
 
 -- an expression whose parts stand on line 1
 abbrev pub tf_step_on_line_1 : Tf-F Tf → Tf

@@ -1,8 +1,9 @@
 ghost use Rattle.std.specs.Prelude.{◌≡◌, ℕ, List, None, length};
-ghost use Rattle.class_defs.specs.Accepted.{AllAccepted};
+ghost use Rattle.class_defs.specs.Accepted.{AllAccepted, AllNameAClass};
 ghost use Rattle.class_defs.specs.declared.statements.Stmt.{Stmt};
 ghost use Rattle.class_defs.specs.declared.store.Schema.{Schema};
 ghost use Rattle.class_defs.specs.declared.upgrades.Upgrade.{Upgrade};
+ghost use Rattle.thor_top.specs.Script.{IsWritten};
 ghost use Rattle.thor_top.specs.Top.{IsAccepted};
 ghost use Rattle.thor_top.specs.Upgrading.{blocks_of, schemas_behind, upgrades_fault, upgrades_of};
 ghost use Rattle.thor_top.specs.declared.script.Script.{Script};
@@ -17,4 +18,11 @@ pub fn upgrades_are_accepted_in_order()
     ensures scripts { (schema : Schema) → (repos : ℕ) → (script : Script)
         → IsAccepted repos script schema
         → AllAccepted (schemas_behind schema (upgrades_of script.clients)) repos (blocks_of script.clients) (length (upgrades_of script.clients)) }
+{}
+
+/// Each upgrade of a script names a class: the grammar has no other. So the numbers of upgrades that a schema has for its
+/// classes tell which objects are due.
+pub fn upgrades_of_scripts_name_classes()
+    ensures { (schema : Schema) → (bytes : List ℕ) → (script : Script) → IsWritten bytes script
+        → AllNameAClass (schemas_behind schema (upgrades_of script.clients)) (length (upgrades_of script.clients)) }
 {}

@@ -16,10 +16,6 @@ use Rattle.class_defs.specs.declared.classes.Field.{Field}
 use Rattle.class_defs.specs.declared.classes.Parameter.{Parameter}
 use Rattle.class_defs.specs.declared.classes.Method.{Method}
 use Rattle.class_defs.specs.declared.classes.Class.{Class}
-use Rattle.class_defs.specs.Spelling.{class_words}
-use Rattle.class_defs.specs.Grammar.{IsClass}
-use Rattle.script_text.specs.declared.token.Token.{Token}
-use Rattle.method_parse.specs.Matching.{AreWords}
 
 abbrev pub name_on_line_1 : Name → Name
 name_on_line_1 name = record { text = name.text; line = 1 }
@@ -89,7 +85,3 @@ class_on_line_1 class =
       fields = map field_on_line_1 class.fields;
       methods = map method_on_line_1 class.methods;
     }
-
--- the tokens are a class
-abbrev pub SpellsClass : List Token → Class → Type 0
-SpellsClass tokens class = AreWords tokens (class_words class) × IsClass class

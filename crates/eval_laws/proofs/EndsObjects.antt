@@ -1,0 +1,153 @@
+-- What reading, writing and creating objects say of how a run ends.
+use Rattle.std.proofs.Common.{◌≡◌, ◌⊎◌, Bool, true, false, cond, List, [], ◌∷◌, ◌++◌, Option, Some, None, Result, Ok, Err, refl, ap, sym, ◌∙◌, subst, inl, inr, ℕ, length}
+use Rattle.std.specs.Prelude.{◌||◌, find, is_some, nat_lt}
+use Rattle.thor_value.specs.FiniteMap.{get, has, insert, len}
+use Rattle.thor_value.specs.Names.{same_oref}
+use Rattle.thor_value.specs.declared.names.Oref.{Oref}
+use Rattle.thor_value.specs.declared.values.Fault.TheVariants as fault
+use Rattle.thor_value.specs.declared.values.Value.{Value}
+use Rattle.thor_value.specs.declared.values.Value.TheVariants as value
+use Rattle.class_defs.specs.Objects.{seen, first_of, touch, class_found, assign_field, assign_receiver, with_field, create, create_in, make, take_name, new_object, repo_for}
+use Rattle.class_defs.specs.Steps.{World, ◌>>=◌, after, change}
+use Rattle.class_defs.specs.Types.{class_named, field_named}
+use Rattle.class_defs.specs.declared.expressions.At.{At}
+use Rattle.class_defs.specs.declared.limits.TheConstants.{CREATE_LIMIT, READ_LIMIT}
+use Rattle.class_defs.specs.declared.machine.Machine.{Machine}
+use Rattle.class_defs.specs.declared.machine.NameSupply.{NameSupply}
+use Rattle.class_defs.specs.declared.machine.Receiver.{Receiver}
+use Rattle.class_defs.specs.declared.machine.Stop.{Stop}
+use Rattle.class_defs.specs.declared.machine.Stop.TheVariants as stop
+use Rattle.class_defs.specs.declared.store.Object.{Object}
+use Rattle.eval_laws.proofs.Ends.{AtHand, Goes, Grows, Sound, ThisKnown, Went, either, faults, found_last, found_on, gives, has-before, has-insert, has-inserted, known, stops, this_grows, value}
+
+none_seen : (o p : Option Object) → first_of o p ≡ None → p ≡ None
+none_seen None p e = e
+none_seen (Some o) p e = cc
+
+some_seen : (o p : Option Object) (v : Object) → first_of o p ≡ Some v → is_some o ≡ false → is_some p ≡ true
+some_seen None (Some q) v e h = refl
+some_seen None None v e h = cc
+some_seen (Some o) p v e h = cc
+
+module _ (w : World) where
+  -- ---- an object becomes a receiver
+
+  abbrev read : Machine → Oref → Machine
+  read m x = record m { reads = insert m.reads x tt }
+
+  read_grows : (m : Machine) (x : Oref) → Grows m (read m x)
+  read_grows m x y h = either _ _ _ _ (has-insert m.reads x tt y) (λ k. k) h
+
+  read_hand : (m : Machine) (x : Oref) → is_some (w.at_hand x) ≡ true → AtHand w m → AtHand w (read m x)
+  read_hand m x there hand y h = by (has-before m.reads x tt y h)
+    where
+      by : (y ≡ x) ⊎ (has m.reads y ≡ true) → is_some (w.at_hand y) ≡ true
+      by (inl e) = ap (λ z. is_some (w.at_hand z)) e ∙ there
+      by (inr g) = hand y g
+
+  again : (o : Option Object) (owners : List Oref) (x : Oref) (m : Machine) → Sound m → seen w m x ≡ o
+      → Went w ℕ m (class_found o x owners m).0 (class_found o x owners m).1
+  unfolding seen
+  again (Some o) owners x m s is = gives w m m o.class (λ y h. h) (λ h. h) s
+  again None owners x m s is = stops w (stop.Need x owners) m (none_seen (get m.writes x) (w.at_hand x) is)
+
+  newly : (o : Option Object) (owners : List Oref) (x : Oref) (m : Machine) → Sound m → known m x ≡ false → seen w m x ≡ o
+      → let k : ℕ → Machine → Result ℕ Stop × Machine = λ c n. (Ok c, read n x) in
+      Went w ℕ m (after (class_found o x owners m).0 (class_found o x owners m).1 k).0 (after (class_found o x owners m).0 (class_found o x owners m).1 k).1
+  unfolding seen
+  newly (Some o) owners x m s new is =
+      gives w m (read m x) o.class (read_grows m x) (read_hand m x (some_seen (get m.writes x) (w.at_hand x) o is (unwritten (has m.writes x) refl)))
+      (record { this = this_grows m (read m x) (read_grows m x) m.this s.this; written = λ y h. read_grows m x y (s.written y h) })
+    where
+      unwritten : (b : Bool) → has m.writes x ≡ b → has m.writes x ≡ false
+      unwritten true e = absurd (let k = s.written x e in cc)
+      unwritten false e = e
+  newly None owners x m s new is = stops w (stop.Need x owners) m (none_seen (get m.writes x) (w.at_hand x) is)
+
+  touched : (b l : Bool) (owners : List Oref) (x : Oref) (m : Machine) → Sound m → known m x ≡ b
+      → let r = cond b (class_found (seen w m x) x owners m) (cond l ((class_found (seen w m x) x owners >>= (λ c. λ n. (Ok c, read n x))) m) (Err (stop.Fault fault.Large), m)) in
+      Went w ℕ m r.0 r.1
+  touched true l owners x m s is = again (seen w m x) owners x m s refl
+  touched false true owners x m s is = newly (seen w m x) owners x m s is refl
+  touched false false owners x m s is = stops w (stop.Fault fault.Large) m tt
+
+  pub touch_goes : (owners : List Oref) (x : Oref) → Goes w (touch w owners x)
+  unfolding touch
+  touch_goes owners x m s = touched (known m x) (nat_lt (len m.reads) READ_LIMIT) owners x m s refl
+
+  touched_known : (b l : Bool) (o : Option Object) (owners : List Oref) (x : Oref) (m : Machine) (c : ℕ) → known m x ≡ b
+      → let r = cond b (class_found o x owners m) (cond l ((class_found o x owners >>= (λ c. λ n. (Ok c, read n x))) m) (Err (stop.Fault fault.Large), m)) in
+      r.0 ≡ Ok c → known r.1 x ≡ true
+  touched_known true l (Some o) owners x m c is e = is
+  touched_known true l None owners x m c is e = cc
+  touched_known false true (Some o) owners x m c is e = ap (λ b. b || is_some (find (same_oref x) m.created)) (has-inserted m.reads x tt)
+  touched_known false true None owners x m c is e = cc
+  touched_known false false o owners x m c is e = cc
+
+  pub touch_known : (owners : List Oref) (x : Oref) (m : Machine) (c : ℕ) → (touch w owners x m).0 ≡ Ok c → known (touch w owners x m).1 x ≡ true
+  unfolding touch
+  touch_known owners x m c is = touched_known (known m x) (nat_lt (len m.reads) READ_LIMIT) (seen w m x) owners x m c refl is
+
+  -- ---- the fields of `this`
+
+  written_goes : (m : Machine) (o : Option Object) (i : Option ℕ) (v : Value) (x : Oref) → Sound m → known m x ≡ true
+      → Went w (Unit {0}) m (Ok tt) (with_field o i v x m)
+  written_goes m (Some o) (Some i) v x s k =
+      let n = with_field (Some o) (Some i) v x m in
+      gives w m n tt (λ y h. h) (λ h. h) (record { this = s.this; written = λ y h. by y (has-before m.writes x _ y h) })
+    where
+      by : (y : Oref) → (y ≡ x) ⊎ (has m.writes y ≡ true) → known m y ≡ true
+      by y (inl e) = subst (λ z. known m z ≡ true) (sym e) k
+      by y (inr g) = s.written y g
+  written_goes m (Some o) None v x s k = gives w m m tt (λ y h. h) (λ h. h) s
+  written_goes m None i v x s k = gives w m m tt (λ y h. h) (λ h. h) s
+
+  assigned : (m : Machine) (t : Option Receiver) (name : List ℕ) (v : Value) → Sound m → ThisKnown m t
+      → Went w (Unit {0}) m (Ok tt) (assign_receiver w t name v m)
+  assigned m None name v s k = gives w m m tt (λ y h. h) (λ h. h) s
+  assigned m (Some r) name v s k = written_goes m (seen w m r.oref) (field_named w.schema.classes r.class name) v r.oref s k
+
+  pub assign_field_goes : (name : List ℕ) (v : Value) → Goes w (change (assign_field w name v))
+  unfolding assign_field
+  assign_field_goes name v m s = assigned m m.this name v s s.this
+
+  -- ---- new objects
+
+  abbrev new : Machine → Oref × NameSupply → Object → Machine
+  new m n o = record m { writes = insert m.writes n.0 o; created = m.created ++ n.0 ∷ []; names = n.1 }
+
+  new_grows : (m : Machine) (n : Oref × NameSupply) (o : Object) → Grows m (new m n o)
+  new_grows m n o x h = either _ _ _ _ (λ k. k) (found_on m.created (n.0 ∷ []) x) h
+
+  or_found : (a b : Bool) → b ≡ true → (a || b) ≡ true
+  or_found true b h = refl
+  or_found false b h = h
+
+  new_written : (m : Machine) (n : Oref × NameSupply) (o : Object) (x : Oref) → Sound m → (x ≡ n.0) ⊎ (has m.writes x ≡ true) → known (new m n o) x ≡ true
+  new_written m n o x s (inl e) = subst (λ z. known (new m n o) z ≡ true) (sym e) (or_found (has m.reads n.0) _ (found_last m.created n.0))
+  new_written m n o x s (inr h) = new_grows m n o x (s.written x h)
+
+  new_sound : (m : Machine) (n : Oref × NameSupply) (o : Object) → Sound m → Sound (new m n o)
+  new_sound m n o s = record {
+    this = this_grows m (new m n o) (new_grows m n o) m.this s.this;
+    written = λ x h. new_written m n o x s (has-before m.writes n.0 o x h);
+  }
+
+  make_goes : (c repo : ℕ) (t : Option (Oref × NameSupply)) (m : Machine) → Sound m → take_name repo m.names ≡ t
+      → Went w Value m (make w c repo t m).0 (make w c repo t m).1
+  make_goes c repo None m s is = stops w (stop.NeedName repo) m is
+  make_goes c repo (Some n) m s is =
+      let o = new_object w c in gives w m (new m n o) (value.Ref n.0) (new_grows m n o) (λ h. h) (new_sound m n o s)
+
+  below : (b : Bool) (c repo : ℕ) (m : Machine) → Sound m
+      → let r : Result Value Stop × Machine = cond b (make w c repo (take_name repo m.names) m) (Err (stop.Fault fault.Large), m) in Went w Value m r.0 r.1
+  below true c repo m s = make_goes c repo (take_name repo m.names) m s refl
+  below false c repo m s = stops w (stop.Fault fault.Large) m tt
+
+  create_in_goes : (repo : ℕ) (c : Option ℕ) → Goes w (create_in w repo c)
+  create_in_goes repo None m s = value w value.Null m s
+  create_in_goes repo (Some c) m s = below (nat_lt (length m.created) CREATE_LIMIT) c repo m s
+
+  pub create_goes : (class : List ℕ) (at : Option At) → Goes w (create w class at)
+  unfolding create
+  create_goes class at m s = create_in_goes (repo_for m.this at) (class_named w.schema.classes class) m s

@@ -1,0 +1,5 @@
+pub mod Ends
+pub mod EndsCalls
+pub mod EndsObjects
+pub mod EndsRun
+pub mod Told

@@ -1,0 +1,23 @@
+-- What the answer of an evaluation over a whole store tells of the run on that store (this project's).
+use Rattle.std.specs.Prelude.{◌≡◌, ◌==◌, if◌then◌else◌, List, Option, Some, None, length}
+use Rattle.thor_value.specs.FiniteMap.{overwrite}
+use Rattle.thor_value.specs.declared.names.Oref.{Oref}
+use Rattle.thor_value.specs.declared.values.Answer.{Answer}
+use Rattle.thor_value.specs.declared.values.Answer.TheVariants.{Ints, Fault}
+use Rattle.class_defs.specs.Run.{takes}
+use Rattle.class_defs.specs.declared.store.Plain.{Plain}
+use Rattle.class_defs.specs.declared.store.Root.{Root}
+use Rattle.method_eval.specs.declared.view.Ran.{Ran}
+use Rattle.method_eval.specs.declared.view.Ran.TheVariants.{Done, Need, NeedName}
+use Rattle.method_eval.specs.declared.view.View.{View}
+use Rattle.serial_model.specs.Whole.{plain}
+
+-- The run with these names for its new objects, as its answer and the store behind it. Where the evaluation printed values
+-- and its new objects took just the names, and where it ended in a fault and there are no names, the run is defined and
+-- gives what the evaluation gave. Elsewhere it is undefined.
+abbrev pub TellsOfRun : List Oref → List Root → View → Ran → Option (Answer × Plain) → Type 0
+TellsOfRun names roots view (Done (Ints ints) reads writes fresh) e =
+    e ≡ (if takes fresh names then Some (Ints ints, plain roots (record view { objects = overwrite view.objects writes })) else None)
+TellsOfRun names roots view (Done (Fault f) reads writes fresh) e = e ≡ (if length names == 0 then Some (Fault f, plain roots view) else None)
+TellsOfRun names roots view (Need x owners) e = e ≡ None
+TellsOfRun names roots view (NeedName repo) e = e ≡ None

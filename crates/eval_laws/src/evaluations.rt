@@ -1,0 +1,62 @@
+//! What an evaluation answers. Each law is a function with an empty body, whose clauses are proved once for all
+//! callers.
+
+ghost use Rattle.std.specs.Prelude.{◌≡◌, ℕ, true, List, None, Err, Contains, is_some};
+ghost use Rattle.std.specs.List.{AllByRecursion};
+ghost use Rattle.thor_value.specs.FiniteMap.{get};
+ghost use Rattle.thor_value.specs.declared.names.Oref.{Oref};
+ghost use Rattle.thor_value.specs.declared.values.Answer.{Answer};
+ghost use Rattle.thor_value.specs.declared.values.Obj.{Obj};
+ghost use Rattle.class_defs.specs.Objects.{take_name};
+ghost use Rattle.class_defs.specs.Run.{begun, execute_all};
+ghost use Rattle.class_defs.specs.declared.machine.Machine.{Machine};
+ghost use Rattle.class_defs.specs.declared.machine.Stop.TheVariants as stop;
+ghost use Rattle.class_defs.specs.declared.statements.Stmt.{Stmt};
+ghost use Rattle.class_defs.specs.declared.store.Root.{Root};
+ghost use Rattle.class_defs.specs.declared.store.Schema.{Schema};
+ghost use Rattle.method_eval.specs.Answers.{evaluation};
+ghost use Rattle.method_eval.specs.Names.{listed, supply};
+ghost use Rattle.method_eval.specs.Viewed.{current, seen_in};
+ghost use Rattle.method_eval.specs.declared.view.Ran.TheVariants.{Done, Need, NeedName};
+ghost use Rattle.method_eval.specs.declared.view.View.{View};
+ghost use Rattle.serial_model.specs.Replaying.{effect_of};
+ghost use Rattle.serial_model.specs.Whole.{NoneDue, plain};
+ghost use Rattle.eval_laws.specs.Telling.{TellsOfRun};
+
+/// An evaluation asks for what isn't at hand, and only for that.
+///
+/// An object that it needs isn't in the view or is due. Each object that it has read was in the view and wasn't due: so it
+/// doesn't go on past one that is missing. Where it needs a name, the names that it has left have none for a new object
+/// there.
+pub fn what_is_needed_is_not_at_hand()
+    ensures need { (tx : List Stmt) → (schema : Schema) → (view : View) → (x : Oref) → (owners : List Oref)
+        → evaluation tx schema view ≡ Need x owners → current schema (get view.objects x) ≡ None }
+    ensures read { (tx : List Stmt) → (schema : Schema) → (view : View)
+        → (answer : Answer) → (reads : List Oref) → (writes : List (Oref × Obj)) → (fresh : List Oref)
+        → evaluation tx schema view ≡ Done answer reads writes fresh
+        → AllByRecursion (λ x. is_some (current schema (get view.objects x)) ≡ true) reads }
+    ensures name { (tx : List Stmt) → (schema : Schema) → (view : View) → (repo : ℕ)
+        → evaluation tx schema view ≡ NeedName repo
+        → (m : Machine)
+        × (execute_all (seen_in schema view.objects) tx (begun (supply view.names).waiting (supply view.names).stand_in) ≡ (Err (stop.NeedName repo), m))
+        × (take_name repo m.names ≡ None) }
+{}
+
+/// An answer depends on the objects only through those that were read: on a view that has the same of these, and the same
+/// names, the evaluation gives the same. So more objects at hand don't change it.
+pub fn answers_hold_where_the_objects_read_are_the_same()
+    ensures { (tx : List Stmt) → (schema : Schema) → (view : View) → (other : View)
+        → (answer : Answer) → (reads : List Oref) → (writes : List (Oref × Obj)) → (fresh : List Oref)
+        → evaluation tx schema view ≡ Done answer reads writes fresh
+        → supply other.names ≡ supply view.names → other.epoch ≡ view.epoch
+        → ((x : Oref) → Contains reads x → current schema (get other.objects x) ≡ current schema (get view.objects x))
+        → evaluation tx schema other ≡ Done answer reads writes fresh }
+{}
+
+/// On a view that has a whole store at hand, none of it due, an evaluation with listed names answers where the run with
+/// these names is defined, and what that gives.
+pub fn evaluations_of_whole_stores_are_runs()
+    ensures { (tx : List Stmt) → (schema : Schema) → (view : View) → (names : List Oref) → (roots : List Root)
+        → NoneDue schema view
+        → TellsOfRun names roots view (evaluation tx schema (record view { names = listed names })) (effect_of schema tx (plain roots view) names) }
+{}

@@ -1,0 +1,9 @@
+//! What an evaluation answers, said without its definition.
+#![tactic(auto)]
+
+mod evaluations;
+
+pub use evaluations::{
+    answers_hold_where_the_objects_read_are_the_same, evaluations_of_whole_stores_are_runs,
+    what_is_needed_is_not_at_hand,
+};
