@@ -58,7 +58,7 @@ decides_object o = turned (decides_lt o.class (2 ^ 16) also decides_lt o.ver (2 
     (λ h. (((h.class, h.ver), h.count), h.fields))
 
 decides_write : (w : Oref × Obj) → Decides (is_write w) (WriteFits w)
-decides_write w = turned (decides_name w.0 also decides_object w.1) (λ p. record { name = p.0; object = p.1 }) (λ h. (h.name, h.object))
+decides_write w = decides_name w.0 also decides_object w.1
 
 decides_answer : (a : Answer) → Decides (is_answer a) (AnswerFits a)
 decides_answer (Ints ns) = decides_all decides_number ns
@@ -66,13 +66,13 @@ decides_answer (Fault f) = ((λ e. tt), (λ h. refl))
 
 decides_spelled : (q : Request) → Decides (is_spelled q) (RequestFits q)
 decides_spelled q = turned
-    (decides_stamp q.tx also decides_lt q.who.client (2 ^ 8) also decides_lt q.who.index (2 ^ 32)
+    (decides_stamp q.tx also decides_lt q.who.index (2 ^ 32)
     also decides_lt q.session (2 ^ 32) also decides_lt q.epoch (2 ^ 32) also decides_lt q.upto (2 ^ 64)
     also decides_all decides_name q.ros also decides_all decides_write q.writes also decides_all decides_name q.fresh also decides_answer q.answer
-    also decides_all (λ n. decides_lt n (2 ^ 8)) q.others also decides_rises nat_cmp q.others)
+    also decides_lt (length q.others) (2 ^ 8) also decides_rises nat_cmp q.others)
     (λ p. record {
-      tx = p.0.0.0.0.0.0.0.0.0.0.0;
-      who = record { client = p.0.0.0.0.0.0.0.0.0.0.1; index = p.0.0.0.0.0.0.0.0.0.1 };
+      tx = p.0.0.0.0.0.0.0.0.0.0;
+      index = p.0.0.0.0.0.0.0.0.0.1;
       session = p.0.0.0.0.0.0.0.0.1;
       epoch = p.0.0.0.0.0.0.0.1;
       upto = p.0.0.0.0.0.0.1;
@@ -83,7 +83,7 @@ decides_spelled q = turned
       others = p.0.1;
       others_rise = p.1;
     })
-    (λ h. (((((((((((h.tx, h.who.client), h.who.index), h.session), h.epoch), h.upto), h.ros), h.writes), h.fresh), h.answer), h.others), h.others_rise))
+    (λ h. ((((((((((h.tx, h.index), h.session), h.epoch), h.upto), h.ros), h.writes), h.fresh), h.answer), h.others), h.others_rise))
 
 pub decides_form : (q : Request) → Decides (is_well_formed q) (IsWellFormed q)
 decides_form q = turned

@@ -49,10 +49,10 @@ is_answer (Fault f) = true
 -- whether q has a spelling
 abbrev pub is_spelled : Request → Bool
 is_spelled q =
-    is_stamp q.tx && nat_lt q.who.client (2 ^ 8) && nat_lt q.who.index (2 ^ 32)
+    is_stamp q.tx && nat_lt q.who.index (2 ^ 32)
     && nat_lt q.session (2 ^ 32) && nat_lt q.epoch (2 ^ 32) && nat_lt q.upto (2 ^ 64)
     && list_all is_name q.ros && list_all is_write q.writes && list_all is_name q.fresh && is_answer q.answer
-    && list_all (λ n. nat_lt n (2 ^ 8)) q.others && rises nat_cmp q.others
+    && nat_lt (length q.others) (2 ^ 8) && rises nat_cmp q.others
 
 -- whether q has the form of a request
 abbrev pub is_well_formed : Request → Bool
