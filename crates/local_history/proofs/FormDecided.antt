@@ -58,7 +58,7 @@ decides_object o = turned (decides_lt o.class (2 ^ 16) also decides_lt o.ver (2 
     (λ h. (((h.class, h.ver), h.count), h.fields))
 
 decides_write : (w : Oref × Obj) → Decides (is_write w) (WriteFits w)
-decides_write w = turned (decides_name w.0 also decides_object w.1) (λ p. p) (λ h. h)
+decides_write w = decides_name w.0 also decides_object w.1
 
 decides_answer : (a : Answer) → Decides (is_answer a) (AnswerFits a)
 decides_answer (Ints ns) = decides_all decides_number ns
