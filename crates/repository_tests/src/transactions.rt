@@ -73,7 +73,7 @@ fn transactions_are_open_then_kept_then_forgotten(rt: HostRuntime) -> Result<(),
     assert!(rt; !is_there(&table.decide(FIRST, true)));
     assert!(rt; is_there(&table.decide(SECOND, true)));
     assert!(rt; table.ask(SECOND) == Standing::Committed);
-    assert!(rt; !is_there(&table.finish(SECOND, true)));
+    assert!(rt; !is_there(&table.finish(SECOND)));
     assert!(rt; table.next_kept(Some(FIRST)) == Some(SECOND));
     table.forget(SECOND);
     assert!(rt; table.ask(SECOND) == Standing::Aborted);

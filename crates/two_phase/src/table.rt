@@ -74,9 +74,9 @@ impl Table {
         }
     }
 
-    /// Finishes a transaction as its coordinator decided, and hands back its request; nothing where it isn't
-    /// open, and then nothing changes. What was decided makes no difference to the table.
-    pub fn finish(&mut self, tx: Ts, _commit: bool) -> Option<Request>
+    /// Finishes a transaction that its coordinator decided, either way, and hands back its request; nothing
+    /// where it isn't open, and then nothing changes.
+    pub fn finish(&mut self, tx: Ts) -> Option<Request>
         ensures request { result ≡ open_at self.old tx }
         ensures table { self.new ≡ finished self.old tx (open_at self.old tx) }
     {
