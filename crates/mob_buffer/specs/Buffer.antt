@@ -3,7 +3,7 @@
 use Rattle.std.specs.Prelude.{◌≡◌, ℕ, ◌<◌, ◌≤◌, Bool, true, false, ◌&&◌, ◌==◌, not, ◌+◌, List, [], ◌∷◌, length, filter, Option, Some, None}
 use Rattle.std.specs.List.{AllByRecursion, IsDistinct, list_any}
 use Rattle.std.specs.Map.{keys_of, lookup}
-use Rattle.indexmap.specs.IndexMap.{insert_entry}
+use Rattle.indexmap.specs.IndexMap.{insert_all, insert_entry}
 use Rattle.thor_value.specs.declared.names.Oref.{Oref}
 use Rattle.thor_value.specs.declared.values.Obj.{Obj}
 use Rattle.thor_value.specs.Spelling.{OrefFits}
@@ -29,6 +29,10 @@ object_of objects x = lookup (same_name x) objects
 -- an object in the place of the one that has its name, or behind all
 abbrev pub with_object : Objects → Oref → Obj → Objects
 with_object objects x object = insert_entry same_name objects x object
+
+-- the objects behind writes, one after the other
+abbrev pub with_all : Objects → List (Oref × Obj) → Objects
+with_all objects writes = insert_all same_name objects writes
 
 -- the objects of the other pages
 abbrev pub without_page : Objects → ℕ → Objects
@@ -62,6 +66,14 @@ pub record IsOf (repo : ℕ) (q : Oref × Obj) : Type 0 where
 -- all the objects are of one repository
 abbrev pub AreOf : ℕ → Objects → Type 0
 AreOf repo objects = AllByRecursion (IsOf repo) objects
+
+-- a name and an object that a store can have
+abbrev pub CanStand : Oref × Obj → Type 0
+CanStand w = OrefFits w.0 × ObjFits w.1
+
+-- the objects and the writes are of one repository
+abbrev pub AreOneRepo : Objects → List (Oref × Obj) → Type 0
+AreOneRepo objects writes = (repo : ℕ) × AreOf repo objects × AreOf repo writes
 
 -- no two objects have one name
 abbrev pub AreDistinct : Objects → Type 0

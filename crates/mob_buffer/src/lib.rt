@@ -4,8 +4,10 @@
 mod fault;
 mod mob;
 mod size;
+mod tally;
 #[cfg(test)]
 mod tests;
 
 pub use fault::MobFull;
 pub use mob::Mob;
+pub use size::spelled_bytes;

@@ -1,17 +1,20 @@
-ghost use Rattle.std.specs.Prelude.{◌≡◌, ◌<◌, ◌≤◌, ◌^◌, ◌+◌, ℕ, List, [], length, slice_get, Some, None, IfOk, IfSome, OnOk, OnErr, IsErrOf, option_map, option_copied};
+ghost use Rattle.std.specs.Prelude.{◌≡◌, ◌<◌, ◌≤◌, ◌^◌, ◌+◌, ◌-◌, ℕ, List, [], length, slice_get, Some, None, IfOk, IfSome, OnOk, OnErr, IsErrOf, option_map, option_copied};
 ghost use Rattle.std.specs.Map.Iter.{deref_pair};
 ghost use Rattle.object_codec.specs.Spelling.{ObjFits, obj_bytes};
 ghost use Rattle.thor_value.specs.Spelling.{OrefFits};
-ghost use Rattle.mob_buffer.specs.Buffer.{AreDistinct, AreOf, IsNextSlot, behind, bytes_of, object_of, with_object, without_page};
-ghost use Rattle.mob_buffer.specs.Kept.{rank_size, size_at};
+ghost use Rattle.mob_buffer.specs.Buffer.{AreDistinct, AreOf, AreOneRepo, CanStand, IsNextSlot, behind, bytes_of, object_of, with_all, with_object, without_page};
+ghost use Rattle.indexmap.specs.IndexMap.{spare};
+ghost use Rattle.std.specs.List.{AllByRecursion};
+ghost use Rattle.mob_buffer.specs.Kept.{rank_size};
 ghost use Rattle.mob_buffer.specs.declared.fault.MobFull.TheVariants.{Full};
 
 use crate::fault::MobFull;
 use crate::size::spelled_size;
+use crate::tally::{bytes_behind, size_held};
 use indexmap::IndexMap;
 use std::alloc::Global;
 use std::marker::Model;
-use thor_value::{NoMemory, Obj, Oref};
+use thor_value::{NoMemory, Obj, Oref, TryCopy, Writes};
 
 /// The slots of a page that objects are named by.
 const SLOTS: u8 = 12;
@@ -19,7 +22,7 @@ const SLOTS: u8 = 12;
 /// Objects that were committed and don't stand in their pages yet, in the order in which their names
 /// came in, names distinct, all of one repository.
 ///
-/// All calls but `add` and `load` take no memory. None takes time that grows with the buffer but
+/// All calls but those that add objects take no memory. None takes time that grows with the buffer but
 /// `remove_page`, which goes over all objects once.
 #[derive(Drop)]
 pub struct Mob {
@@ -68,7 +71,7 @@ impl Mob {
         ensures full { (limit : ℕ) → IsErrOf result (Full limit) → (limit ≡ self.old.limit) × (self.old.limit < bytes_of (with_object self.old.objects oref object)) }
         ensures err { OnErr result (self.new ≡ self.old) }
     {
-        let total = self.bytes_with(oref, &object);
+        let total = self.bytes_with_one(oref, &object);
         if total > u64::from(self.limit) {
             return Err(MobFull::Full { limit: self.limit });
         }
@@ -85,7 +88,7 @@ impl Mob {
         ensures ok { OnOk result (self.new ≡ record self.old { objects = with_object self.old.objects oref object }) }
         ensures err { OnErr result (self.new ≡ self.old) }
     {
-        let Ok(total) = u32::try_from(self.bytes_with(oref, &object)) else {
+        let Ok(total) = u32::try_from(self.bytes_with_one(oref, &object)) else {
             return Err(NoMemory);
         };
         self.objects.insert(oref, object)?;
@@ -94,24 +97,64 @@ impl Mob {
         Ok(())
     }
 
+    /// Adds all these objects as `load` does, one after the other, or none of them.
+    pub fn load_all(&mut self, writes: &Writes) -> Result<(), NoMemory>
+        requires one_repo { AreOneRepo self.old.objects writes.now }
+        ensures ok { OnOk result (self.new ≡ record self.old { objects = with_all self.old.objects writes.now }) }
+        ensures err { OnErr result (self.new ≡ self.old) }
+    {
+        let Ok(total) = u32::try_from(self.bytes_with(writes)) else {
+            return Err(NoMemory);
+        };
+        let copied = writes.copy()?;
+        self.objects.reserve(writes.len())?;
+        if let Some((oref, _)) = writes.get(0) {
+            self.repo = oref.repo;
+        }
+        put_all(&mut self.objects, copied.into_vec());
+        self.bytes = total;
+        Ok(())
+    }
+
+    /// Adds all these objects as `add` does, one after the other, or none of them.
+    ///
+    /// `Full` comes exactly where the bytes of all objects behind the last of them would pass the limit.
+    pub fn add_all(&mut self, writes: &Writes) -> Result<(), MobFull>
+        requires one_repo { AreOneRepo self.old.objects writes.now }
+        ensures ok { OnOk result (self.new ≡ record self.old { objects = with_all self.old.objects writes.now }) }
+        ensures fits { OnOk result (bytes_of (with_all self.old.objects writes.now) ≤ self.old.limit) }
+        ensures full { (limit : ℕ) → IsErrOf result (Full limit) → (limit ≡ self.old.limit) × (self.old.limit < bytes_of (with_all self.old.objects writes.now)) }
+        ensures err { OnErr result (self.new ≡ self.old) }
+    {
+        if self.bytes_with(writes) > u64::from(self.limit) {
+            return Err(MobFull::Full { limit: self.limit });
+        }
+        self.load_all(writes)?;
+        Ok(())
+    }
+
+    /// How many bytes all objects have behind these writes, or the greatest number of 64 bits where that is
+    /// less. It takes no memory.
+    ///
+    /// Its time follows the writes where their names rise, and else the square of their number at most.
+    pub fn bytes_with(&self, writes: &Writes) -> u64
+        requires { AllByRecursion CanStand writes.now }
+        ensures most { result ≤ bytes_of (with_all self.now.objects writes.now) }
+        ensures exact { result < 2 ^ 64 - 1 → result ≡ bytes_of (with_all self.now.objects writes.now) }
+    {
+        match u64::try_from(bytes_behind(&self.objects, self.bytes, writes.as_slice())) {
+            Ok(total) => total,
+            Err(_) => u64::MAX,
+        }
+    }
+
     /// How many bytes all objects have with this one among them.
-    fn bytes_with(&self, oref: Oref, object: &Obj) -> u64
+    fn bytes_with_one(&self, oref: Oref, object: &Obj) -> u64
         requires { ObjFits object.now }
         ensures { result ≡ bytes_of (with_object self.now.objects oref object.now) }
     {
-        let before = self.size_held(oref);
+        let before = size_held(&self.objects, oref);
         u64::from(self.bytes) - u64::from(before) + u64::from(spelled_size(object))
-    }
-
-    /// How many bytes the object of a name has, where one is held.
-    fn size_held(&self, oref: Oref) -> u32
-        ensures value { result ≡ size_at self.now.objects oref }
-        ensures most { result ≤ bytes_of self.now.objects }
-    {
-        match self.objects.get(&oref) {
-            Some(object) => spelled_size(object),
-            None => 0,
-        }
     }
 
     /// The object of a name.
@@ -156,6 +199,13 @@ impl Mob {
         self.bytes = sizes(&self.objects);
     }
 
+    /// The most bytes that `add` and `add_all` take.
+    pub fn limit(&self) -> u32
+        ensures { result ≡ self.now.limit }
+    {
+        self.limit
+    }
+
     /// The bytes of all objects as they are spelled.
     pub fn bytes(&self) -> u32
         ensures { result ≡ bytes_of self.now.objects }
@@ -173,6 +223,16 @@ impl Mob {
             Some((oref, object)) => Some((*oref, object)),
             None => None,
         }
+    }
+}
+
+/// Puts objects under their names, one after the other. There is room for them.
+fn put_all(objects: &mut IndexMap<Oref, Obj>, writes: Vec<(Oref, Obj)>)
+    requires room { length writes.items ≤ spare objects.old }
+    ensures { objects.new.entries ≡ with_all objects.old.entries writes.items }
+{
+    for (oref, object) in writes {
+        let _ = objects.insert(oref, object);
     }
 }
 

@@ -1,22 +1,25 @@
-ghost use Rattle.std.specs.Prelude.{◌≡◌, ◌+◌, ◌<◌, ◌^◌, ℕ, List, [], Ok, Some, None, slice_get, IfOk, IfSome, OnOk, OnErr, IsErrOf};
+ghost use Rattle.std.specs.Prelude.{◌≡◌, ◌+◌, ◌<◌, ◌≤◌, ◌^◌, ℕ, List, length, [], Ok, Some, None, slice_get, IfOk, IfSome, OnOk, OnErr, IsErrOf};
 ghost use Rattle.disk_trait.specs.Disks.{Disks, OnDisk, Leaves, WhereTold, IsSettled, Rose};
 ghost use Rattle.page_store.specs.Objects.{HasObjects};
 ghost use Rattle.page_store.specs.Sides.{KeepsSides};
 ghost use Rattle.page_store.specs.Store.{Agrees, IsDamage};
 ghost use Rattle.page_store.specs.declared.fault.StoreFault.TheVariants.{Damaged, Failed};
-ghost use Rattle.mob_buffer.specs.Buffer.{AreOf, without_page};
-ghost use Rattle.mob_flusher.specs.Map.{DiskHas, Has, SameMap};
+ghost use Rattle.page_format.specs.Pages.{page_size};
+ghost use Rattle.page_store.specs.Sides.{place_of};
+ghost use Rattle.mob_buffer.specs.Buffer.{AreOf, AreOneRepo, bytes_of, with_all, without_page};
+ghost use Rattle.mob_buffer.specs.declared.fault.MobFull.TheVariants.{Full};
+ghost use Rattle.mob_flusher.specs.Map.{DiskHas, Has, HasWrites, SameMap, with_installed, with_writes};
 ghost use Rattle.mob_flusher.specs.Images.{IsFlushed, ShowsImage};
 ghost use Rattle.mob_flusher.specs.declared.store.Flushed.TheVariants.{Installed, Nothing};
 
 use crate::image::{image_of, object_in};
 use disk_trait::Parts;
-use mob_buffer::Mob;
+use mob_buffer::{Mob, MobFull};
 use page_format::Page;
 use page_store::{PageStore, StoreFault};
 use std::alloc::Global;
 use std::marker::Model;
-use thor_value::{Obj, Oref, TryCopy};
+use thor_value::{NoMemory, Obj, Oref, TryCopy, Writes};
 
 /// What a flush did.
 #[derive(Clone, Copy, Debug, PartialEq, Eq)]
@@ -67,6 +70,30 @@ impl ObjectStore {
             return Ok(Some(object.copy()?));
         }
         stored(self.alloc, &mut self.pages, parts, oref)
+    }
+
+    /// Puts writes into the map, all or none.
+    ///
+    /// `Full` comes exactly where the bytes of all objects in the buffer behind them would pass its limit.
+    pub fn apply(&mut self, writes: &Writes) -> Result<(), MobFull>
+        requires one_repo { AreOneRepo self.old.mob.objects writes.now }
+        ensures ok { OnOk result (self.new ≡ with_writes self.old writes.now) }
+        ensures map { OnOk result (HasWrites self.old writes.now self.new) }
+        ensures fits { OnOk result (bytes_of (with_all self.old.mob.objects writes.now) ≤ self.old.mob.limit) }
+        ensures full { (limit : ℕ) → IsErrOf result (Full limit) → (limit ≡ self.old.mob.limit) × (self.old.mob.limit < bytes_of (with_all self.old.mob.objects writes.now)) }
+        ensures err { OnErr result (self.new ≡ self.old) }
+    {
+        self.mob.add_all(writes)
+    }
+
+    /// Puts writes into the map as `apply` does, whatever the buffer's limit is.
+    pub fn load(&mut self, writes: &Writes) -> Result<(), NoMemory>
+        requires one_repo { AreOneRepo self.old.mob.objects writes.now }
+        ensures ok { OnOk result (self.new ≡ with_writes self.old writes.now) }
+        ensures map { OnOk result (HasWrites self.old writes.now self.new) }
+        ensures err { OnErr result (self.new ≡ self.old) }
+    {
+        self.mob.load_all(writes)
     }
 
     /// A page with all objects that the buffer has of it.
@@ -130,6 +157,19 @@ impl ObjectStore {
     {
         self.pages.settle(page, side);
         self.mob.remove_page(page);
+    }
+
+    /// Puts a side of a page in use that stands on the disk, as a log tells, and drops the page's objects from
+    /// the buffer. After `NoMemory` nothing has changed.
+    pub fn installed(&mut self, page: u32, side: u8) -> Result<(), NoMemory>
+        requires side { side < 2 }
+        ensures ok { OnOk result (self.new ≡ with_installed self.old page side) }
+        ensures agrees { OnOk result ((disk : List ℕ) → place_of page side + page_size ≤ length disk → Agrees self.old.pages disk → Agrees self.new.pages disk) }
+        ensures err { OnErr result (self.new ≡ self.old) }
+    {
+        self.pages.installed(page, side)?;
+        self.mob.remove_page(page);
+        Ok(())
     }
 
     /// The buffer.

@@ -9,7 +9,7 @@ ghost use Rattle.page_format.specs.Pages.{Contents, page_bytes, page_size};
 ghost use Rattle.page_format.specs.Sides.{SidesFit, side_in_use};
 ghost use Rattle.page_store.specs.Objects.{HasObjects, Spells, empty_page};
 ghost use Rattle.page_store.specs.Sides.{KeepsSides, ReachesSides, Shows, next_side, place_of, side_bytes};
-ghost use Rattle.page_store.specs.Store.{Agrees, IsDamage, held_page, reads_of, refreshed, with_held, with_place, IsStaged};
+ghost use Rattle.page_store.specs.Store.{Agrees, IsDamage, held_page, reads_of, refreshed, with_held, with_place, with_side, IsStaged};
 ghost use Rattle.page_store.specs.declared.fault.StoreFault.TheVariants.{Damaged, Failed};
 
 use crate::device::{read_side, write_side};
@@ -199,6 +199,20 @@ impl PageStore {
         };
         self.sides.put_within(&mut self.room, page, side);
         refresh(&mut self.held, page, found);
+    }
+
+    /// Puts a side of a page in use that stands on the disk, as a log tells. It is no longer held, and what was
+    /// installed last without being settled is given up. After `NoMemory` nothing has changed.
+    pub fn installed(&mut self, page: u32, side: u8) -> Result<(), NoMemory>
+        requires side { side < 2 }
+        ensures ok { OnOk result (self.new ≡ with_side self.old page side) }
+        ensures agrees { OnOk result ((disk : List ℕ) → place_of page side + page_size ≤ length disk → Agrees self.old disk → Agrees self.new disk) }
+        ensures err { OnErr result (self.new ≡ self.old) }
+    {
+        self.sides.put(page, side)?;
+        self.held.pop(&page);
+        self.staged = None;
+        Ok(())
     }
 
     /// The installed pages, rising, each with the side of it that is in use.
