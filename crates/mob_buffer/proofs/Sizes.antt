@@ -1,5 +1,8 @@
 -- How many bytes the objects of a buffer have.
-use Rattle.std.proofs.Common.{◌≡◌, ℕ, zero, suc, ◌+◌, ◌-◌, ◌*◌, ◌<◌, ◌≤◌, Bool, true, false, cond, not, ◌==◌, List, [], ◌∷◌, ◌++◌, length, take, filter, Option, Some, None, refl, ap, sym, subst, ◌∙◌, arith, length-append, slice_get}
+use Rattle.std.proofs.Common.{◌≡◌, ◌^◌, min, get_or, inl, inr, ◌⊎◌, ℕ, zero, suc, ◌+◌, ◌-◌, ◌*◌, ◌<◌, ◌≤◌, Bool, true, false, cond, not, ◌==◌, List, [], ◌∷◌, ◌++◌, length, take, filter, Option, Some, None, refl, ap, sym, subst, ◌∙◌, arith, length-append, slice_get}
+use Rattle.std.proofs.Math.Nat.{min-eq_left, min-eq_right}
+use Rattle.std.proofs.Math.Seq.{take-suc}
+use Rattle.std.proofs.lemmas.Bool.{cases_lt}
 use Rattle.std.specs.List.{AllByRecursion, flat_map}
 use Rattle.std.specs.Option.{option_map, unwrap_or}
 use Rattle.std.specs.Map.{lookup}
@@ -109,3 +112,39 @@ pub rank_fits : (repo : ℕ) (objects : Objects) (n : ℕ) (q : Oref × Obj) →
 rank_fits repo [] n q all is = cc
 rank_fits repo (p ∷ objects) zero q all is = let same : p ≡ q = cc in subst (IsOf repo) same all.0
 rank_fits repo (p ∷ objects) (suc n) q all is = rank_fits repo objects n q all.1 is
+
+bytes_push : (objects : Objects) (q : Oref × Obj) → bytes_of (objects ++ q ∷ []) ≡ bytes_of objects + size_of q.1
+bytes_push [] q = omega arith
+bytes_push (p ∷ objects) q = add_both (size_of p.1) (bytes_of (objects ++ q ∷ [])) (bytes_of objects) (size_of q.1) (bytes_push objects q)
+
+-- the first of a list, and the next one
+pub taken_next : (objects : Objects) (n : ℕ) (q : Oref × Obj) → n < length objects → q ≡ get_or objects n q → take (n + 1) objects ≡ take n objects ++ q ∷ []
+taken_next objects n q within is =
+    let e : n + 1 ≡ suc n = omega arith in
+    ap (λ (k : ℕ). take k objects) e ∙ take-suc objects n q within ∙ ap (λ (v : Oref × Obj). take n objects ++ v ∷ []) (sym is)
+
+-- ---- told as far as 64 bits can
+
+pub record Told (size most : ℕ) : Type 0 where
+  pub most_is : size ≤ most
+  pub exact : size < 2 ^ 64 - 1 → size ≡ most
+
+told_more : (size most rest more : ℕ) → Told size most → more ≡ most + rest → ◌⊎◌ (size + rest ≤ 2 ^ 64 - 1) (2 ^ 64 - 1 ≤ size + rest) → Told (min (size + rest) (2 ^ 64 - 1)) more
+told_more size most rest more told sum (inl below) =
+    let is = min-eq_left below in
+    record {
+      most_is = omega (arith, is, told.most_is, sum);
+      exact = λ lt. (let same = told.exact (omega (arith, is, lt)) in omega (arith, is, same, sum));
+    }
+told_more size most rest more told sum (inr above) =
+    let is = min-eq_right above in
+    record {
+      most_is = omega (arith, is, above, told.most_is, sum);
+      exact = λ lt. absurd (omega (arith, is, lt));
+    }
+
+pub told_next : (objects : Objects) (n : ℕ) (q : Oref × Obj) (size rest next : ℕ) → n < length objects → q ≡ get_or objects n q → Told size (bytes_of (take n objects)) → rest ≡ size_of q.1 → next ≡ min (size + rest) (2 ^ 64 - 1) → Told next (bytes_of (take (n + 1) objects))
+told_next objects n q size rest next within is told rest_is next_is =
+    let more : bytes_of (take (n + 1) objects) ≡ bytes_of (take n objects) + rest = ap bytes_of (taken_next objects n q within is) ∙ bytes_push (take n objects) q ∙ ap (λ (k : ℕ). bytes_of (take n objects) + k) (sym rest_is) in
+    let case : ◌⊎◌ (size + rest ≤ 2 ^ 64 - 1) (2 ^ 64 - 1 ≤ size + rest) = elim (cases_lt (2 ^ 64 - 1) (size + rest)) [ inl lt ↦ inr (omega (arith, lt)) | inr ge ↦ inl ge ] in
+    subst (λ (k : ℕ). Told k (bytes_of (take (n + 1) objects))) (sym next_is) (told_more size (bytes_of (take n objects)) rest (bytes_of (take (n + 1) objects)) told more case)

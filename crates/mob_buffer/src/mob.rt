@@ -108,10 +108,9 @@ impl Mob {
         };
         let copied = writes.copy()?;
         self.objects.reserve(writes.len())?;
-        if let Some((oref, _)) = writes.get(0) {
-            self.repo = oref.repo;
-        }
+        let repo = self.repo_with(writes);
         put_all(&mut self.objects, copied.into_vec());
+        self.repo = repo;
         self.bytes = total;
         Ok(())
     }
@@ -145,6 +144,17 @@ impl Mob {
         match u64::try_from(bytes_behind(&self.objects, self.bytes, writes.as_slice())) {
             Ok(total) => total,
             Err(_) => u64::MAX,
+        }
+    }
+
+    /// The repository of all objects behind these writes.
+    fn repo_with(&self, writes: &Writes) -> u8
+        requires { AreOneRepo self.now.objects writes.now }
+        ensures { AreOf result (with_all self.now.objects writes.now) }
+    {
+        match writes.get(0) {
+            Some(write) => write.0.repo,
+            None => self.repo,
         }
     }
 

@@ -1,5 +1,11 @@
 //! How many bytes a buffer would have behind some writes. Nothing here takes memory.
 
+ghost use Rattle.std.specs.Prelude.{◌≡◌, ◌+◌, ◌<◌, ◌≤◌, ◌^◌, ◌++◌, ◌∷◌, ℕ, [], length};
+ghost use Rattle.std.specs.List.{AllByRecursion};
+ghost use Rattle.object_codec.specs.Spelling.{ObjFits};
+ghost use Rattle.mob_buffer.specs.Buffer.{AreOf, CanStand, bytes_of, with_all};
+ghost use Rattle.mob_buffer.specs.Kept.{Tallied, rank_of, size_at, size_behind_one};
+
 use crate::size::spelled_size;
 use indexmap::IndexMap;
 use thor_value::{Obj, Oref};
@@ -21,14 +27,17 @@ pub(crate) fn bytes_behind(
     bytes: u32,
     writes: &[(Oref, Obj)],
 ) -> u128
+    requires fit { (repo : ℕ) × AreOf repo objects.now.entries }
+    requires bytes { bytes ≡ bytes_of objects.now.entries }
+    requires writes { AllByRecursion CanStand writes.now }
+    ensures { result ≡ bytes_of (with_all objects.now.entries writes.now) }
 {
     let mut tally = Tally {
         total: u128::from(bytes),
         bound: 0,
     };
     for place in 0..writes.len() {
-        let (earlier, rest) = writes.split_at(place);
-        tally = counted(objects, earlier, &rest[0], tally);
+        tally = counted(objects, writes.split_at(place).0, &writes[place], tally);
     }
     tally.total
 }
@@ -40,6 +49,12 @@ fn counted(
     write: &(Oref, Obj),
     tally: Tally,
 ) -> Tally
+    requires fit { (repo : ℕ) × AreOf repo objects.now.entries }
+    requires earlier { AllByRecursion CanStand earlier.now }
+    requires few { length earlier.now < 2 ^ 64 }
+    requires write { CanStand write.now }
+    requires tally { Tallied objects.now.entries earlier.now tally.total tally.bound }
+    ensures { Tallied objects.now.entries (earlier.now ++ write.now ∷ []) result.total result.bound }
 {
     let rank = rank_of(write.0);
     let before = if rank < tally.bound {
@@ -55,18 +70,33 @@ fn counted(
 
 /// How many bytes the object of a name has behind these writes, where it has one.
 fn size_behind(objects: &IndexMap<Oref, Obj>, writes: &[(Oref, Obj)], oref: Oref) -> u32
+    requires fit { (repo : ℕ) × AreOf repo objects.now.entries }
+    requires writes { AllByRecursion CanStand writes.now }
+    ensures { result ≡ size_at (with_all objects.now.entries writes.now) oref }
 {
     let mut size = size_held(objects, oref);
-    for write in writes {
-        if write.0 == oref {
-            size = spelled_size(&write.1);
-        }
+    for place in 0..writes.len() {
+        size = size_after(&writes[place], oref, size);
     }
     size
 }
 
+/// How many bytes the object of a name has behind a write, where it has so many before.
+fn size_after(write: &(Oref, Obj), oref: Oref, before: u32) -> u32
+    requires { ObjFits write.now.1 }
+    ensures { result ≡ size_behind_one write.now oref before }
+{
+    if write.0 == oref {
+        spelled_size(&write.1)
+    } else {
+        before
+    }
+}
+
 /// How many bytes the object of a name has, where there is one.
 pub(crate) fn size_held(objects: &IndexMap<Oref, Obj>, oref: Oref) -> u32
+    requires { (repo : ℕ) × AreOf repo objects.now.entries }
+    ensures { result ≡ size_at objects.now.entries oref }
 {
     match objects.get(&oref) {
         Some(object) => spelled_size(object),
@@ -76,6 +106,8 @@ pub(crate) fn size_held(objects: &IndexMap<Oref, Obj>, oref: Oref) -> u32
 
 /// A number for a name that rises with it.
 fn rank_of(oref: Oref) -> u64
+    ensures value { result ≡ rank_of oref }
+    ensures most { result < 2 ^ 48 }
 {
-    ((u64::from(oref.repo) << 32) + u64::from(oref.page)) * 256 + u64::from(oref.slot)
+    (u64::from(oref.repo) * 4_294_967_296 + u64::from(oref.page)) * 256 + u64::from(oref.slot)
 }

@@ -18,7 +18,7 @@ use Rattle.page_format.specs.Pages.{Contents, page_size}
 use Rattle.page_format.specs.Sides.{SidesFit, side_in_use}
 use Rattle.page_store.specs.Objects.{HasObjects, Spells}
 use Rattle.page_store.specs.Sides.{KeepsSides, ReachesSides, Shows, next_side, place_of, side_bytes}
-use Rattle.page_store.specs.Store.{Store, Agrees, AreHeld, Keeps, held_page, page_in, IsStaged, most_held, with_held, with_place, refreshed}
+use Rattle.page_store.specs.Store.{Store, Agrees, AreHeld, Keeps, held_page, page_in, IsStaged, most_held, with_held, with_place, with_side, refreshed}
 use Rattle.page_store.proofs.Tears.{Outside}
 use Rattle.page_store.proofs.Sides.{reaches_still, shows_still, spelled_reaches}
 
@@ -300,15 +300,50 @@ module _ (store : Store) (page side : ℕ) (found : Contents) (number : found.nu
       staged = λ that written is. none_left (Spells (side_bytes disk that.number written) that.number that) None that written refl is;
     }
 
+-- ---- another side is in use, as a log tells
+
+forgotten_by : (held : Held) (page other : ℕ) (that : Contents) (o : Option (Option Contents)) → lookup (nat_eq page) held ≡ o → page_in (cond (is_some o) (with_held held page None) held) other ≡ Some that → (page_in held other ≡ Some that) × (other ≡ page → ⊥)
+forgotten_by held page other that (Some contents) there is = elim (held_put held page None other that is) [
+  | inl was ↦ was
+  | inr put ↦ (let no = put.1 in cc)
+]
+forgotten_by held page other that None none is = (is, λ same. not_there held page other that none same is)
+
+forgotten : (held : Held) (page other : ℕ) (that : Contents) → page_in (refreshed held page None) other ≡ Some that → (page_in held other ≡ Some that) × (other ≡ page → ⊥)
+forgotten held page other that is = forgotten_by held page other that (lookup (nat_eq page) held) refl is
+
+module _ (store : Store) (page side : ℕ) where
+  kept_side : AreHeld store → AreHeld (with_side store page side)
+  kept_side kept = record {
+    held = λ other that is. kept.held other that (forgotten store.held page other that is).0;
+    staged = λ that written is. none_left (HasObjects that) None that written refl is;
+  }
+
+  module _ (disk : List ℕ) (within : place_of page side + page_size ≤ length disk) (agrees : Agrees store disk) where
+    side_reaches : (other used : ℕ) → (other ≡ page) ⊎ (other ≡ page → ⊥) → side_in_use (insert_entry nat_cmp store.sides page side) other ≡ Some used → place_of other used + page_size ≤ length disk
+    side_reaches other used (inl same) is =
+        let here : Some side ≡ Some used = sym (in_use_here store.sides page side) ∙ ap (side_in_use (insert_entry nat_cmp store.sides page side)) (sym same) ∙ is in
+        let at : side ≡ used = number_is side used here in
+        omega (arith, within, at, same)
+    side_reaches other used (inr apart) is = agrees.reaches other used (sym (in_use_other store.sides page side other apart) ∙ is)
+
+    agrees_side : Agrees (with_side store page side) disk
+    agrees_side = record {
+      reaches = λ other used is. side_reaches other used (either other page) is;
+      held = λ other that is. (let was = forgotten store.held page other that is in
+        subst (λ (u : Option ℕ). Shows disk u other that) (sym (in_use_other store.sides page side other was.1)) (agrees.held other that was.0));
+      staged = λ that written is. none_left (Spells (side_bytes disk that.number written) that.number that) None that written refl is;
+    }
+
 -- ---- a place is kept, as the cache has it
 
 pub placed_is : (was now : Cache) (page : ℕ) → was.cap ≡ most_held → now ≡ lru_cache (cond (is_some (lookup (nat_eq page) was.entries)) was.entries (put_entries nat_eq was page None)) was.cap → (now.entries ≡ with_place was.entries page) × (now.cap ≡ most_held)
 placed_is was now page cap_is put =
     (ap (λ (c : Cache). c.entries) put ∙ ap (λ (n : ℕ). cond (is_some (lookup (nat_eq page) was.entries)) was.entries (put_entries nat_eq (lru_cache was.entries n) page None)) cap_is, ap (λ (c : Cache). c.cap) put ∙ cap_is)
 
-pub refreshed_is : (was now : Cache) (page : ℕ) (found : Contents) → was.cap ≡ most_held → now ≡ lru_cache (cond (is_some (lookup (nat_eq page) was.entries)) (put_entries nat_eq was page (Some found)) was.entries) was.cap → (now.entries ≡ refreshed was.entries page (Some found)) × (now.cap ≡ most_held)
+pub refreshed_is : (was now : Cache) (page : ℕ) (found : Option Contents) → was.cap ≡ most_held → now ≡ lru_cache (cond (is_some (lookup (nat_eq page) was.entries)) (put_entries nat_eq was page found) was.entries) was.cap → (now.entries ≡ refreshed was.entries page found) × (now.cap ≡ most_held)
 refreshed_is was now page found cap_is put =
-    (ap (λ (c : Cache). c.entries) put ∙ ap (λ (n : ℕ). cond (is_some (lookup (nat_eq page) was.entries)) (put_entries nat_eq (lru_cache was.entries n) page (Some found)) was.entries) cap_is, ap (λ (c : Cache). c.cap) put ∙ cap_is)
+    (ap (λ (c : Cache). c.entries) put ∙ ap (λ (n : ℕ). cond (is_some (lookup (nat_eq page) was.entries)) (put_entries nat_eq (lru_cache was.entries n) page found) was.entries) cap_is, ap (λ (c : Cache). c.cap) put ∙ cap_is)
 
 pub keeps_staged : (sides : List (ℕ × ℕ)) (before : Option (Contents × ℕ)) (was now : Cache) (page : Contents) (side cap room : ℕ) → Keeps (store_of sides was before) was.cap cap → now ≡ lru_cache (cond (is_some (lookup (nat_eq page.number) was.entries)) was.entries (put_entries nat_eq was page.number None)) was.cap → HasObjects page → length sides < room → side < 2 → Keeps (store_of sides now (Some (page, side))) now.cap room
 keeps_staged sides before was now page side cap room keeps put objects long below =
@@ -318,7 +353,7 @@ keeps_staged sides before was now page side cap room keeps put objects long belo
 
 pub keeps_settled : (sides after : List (ℕ × ℕ)) (staged left : Option (Contents × ℕ)) (was now : Cache) (page side cap room : ℕ) (found : Contents) → Keeps (store_of sides was staged) was.cap cap → staged ≡ Some (found, side) → found.number ≡ page → after ≡ insert_entry nat_cmp sides page side → left ≡ None → now ≡ lru_cache (cond (is_some (lookup (nat_eq page) was.entries)) (put_entries nat_eq was page (Some found)) was.entries) was.cap → Keeps (store_of after now left) now.cap room
 keeps_settled sides after staged left was now page side cap room found keeps is number sides_are left_is put =
-    let held_is = refreshed_is was now page found keeps.cap_is put in
+    let held_is = refreshed_is was now page (Some found) keeps.cap_is put in
     let store : settled (store_of sides was staged) page side found number is ≡ store_of after now left =
     ap (λ (l : List (ℕ × ℕ)). record { sides = l; held = refreshed was.entries page (Some found); staged = None }) (sym sides_are)
     ∙ ap (λ (h : Held). record { sides = after; held = h; staged = None }) (sym held_is.0)
@@ -332,12 +367,32 @@ keeps_settled sides after staged left was now page side cap room found keeps is 
 
 pub agrees_after : (sides after : List (ℕ × ℕ)) (staged left : Option (Contents × ℕ)) (was now : Cache) (page side : ℕ) (found : Contents) (disk : List ℕ) → was.cap ≡ most_held → staged ≡ Some (found, side) → found.number ≡ page → after ≡ insert_entry nat_cmp sides page side → left ≡ None → now ≡ lru_cache (cond (is_some (lookup (nat_eq page) was.entries)) (put_entries nat_eq was page (Some found)) was.entries) was.cap → Agrees (store_of sides was staged) disk → Agrees (store_of after now left) disk
 agrees_after sides after staged left was now page side found disk cap_is is number sides_are left_is put agrees =
-    let held_is = refreshed_is was now page found cap_is put in
+    let held_is = refreshed_is was now page (Some found) cap_is put in
     let store : settled (store_of sides was staged) page side found number is ≡ store_of after now left =
     ap (λ (l : List (ℕ × ℕ)). record { sides = l; held = refreshed was.entries page (Some found); staged = None }) (sym sides_are)
     ∙ ap (λ (h : Held). record { sides = after; held = h; staged = None }) (sym held_is.0)
     ∙ ap (λ (o : Option (Contents × ℕ)). record { sides = after; held = now.entries; staged = o }) (sym left_is) in
     subst (λ (s : Store). Agrees s disk) store (agrees_settled (store_of sides was staged) page side found number is disk agrees)
+
+module _ (sides after : List (ℕ × ℕ)) (staged : Option (Contents × ℕ)) (was now : Cache) (page side : ℕ) (cap_is : was.cap ≡ most_held) (sides_are : after ≡ insert_entry nat_cmp sides page side) (put : now ≡ lru_cache (cond (is_some (lookup (nat_eq page) was.entries)) (put_entries nat_eq was page None) was.entries) was.cap) where
+  abbrev after_side : Store
+  after_side = store_of after now None
+
+  pub side_store : with_side (store_of sides was staged) page side ≡ after_side
+  side_store =
+      ap (λ (l : List (ℕ × ℕ)). record { sides = l; held = refreshed was.entries page None; staged = None }) (sym sides_are)
+      ∙ ap (λ (h : Held). record { sides = after; held = h; staged = None }) (sym (refreshed_is was now page None cap_is put).0)
+
+  pub keeps_side : (cap room : ℕ) → Keeps (store_of sides was staged) was.cap cap → Keeps after_side now.cap room
+  keeps_side cap room keeps = record {
+    cap_is = (refreshed_is was now page None cap_is put).1;
+    pages = subst AreHeld side_store (kept_side (store_of sides was staged) page side keeps.pages);
+    room_is = λ that written here. none_left (length after < room) None that written refl here;
+    side = λ that written here. none_left (written < 2) None that written refl here;
+  }
+
+  pub agrees_with_side : (disk : List ℕ) → place_of page side + page_size ≤ length disk → Agrees (store_of sides was staged) disk → Agrees after_side disk
+  agrees_with_side disk within agrees = subst (λ (s : Store). Agrees s disk) side_store (agrees_side (store_of sides was staged) page side disk within agrees)
 
 pub staged_store : (old new : Store) (page : Contents) (side : ℕ) → new.sides ≡ old.sides → new.held ≡ with_place old.held page.number → new.staged ≡ Some (page, side) → staging old page side ≡ new
 staged_store old new page side sides held staged =

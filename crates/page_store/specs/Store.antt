@@ -1,7 +1,7 @@
 -- What a store of pages keeps, and when that agrees with its disk.
 use Rattle.std.specs.Prelude.{◌≡◌, ℕ, ◌<◌, List, length, Option, Some, None, is_some, nat_eq, if◌then◌else◌}
 use Rattle.std.specs.Option.{unwrap_or}
-use Rattle.std.specs.Map.{lookup, remove_entry}
+use Rattle.std.specs.Map.{lookup}
 use Rattle.std.specs.Ordering.{nat_cmp}
 use Rattle.std.specs.BTreeMap.{insert_entry}
 use Rattle.lru.specs.LruCache.{lru_cache, put_entries}
@@ -60,9 +60,9 @@ pub record AreHeld (store : Store) : Type 0 where
 abbrev pub with_place : List (ℕ × Option Contents) → ℕ → List (ℕ × Option Contents)
 with_place held page = if is_some (lookup (nat_eq page) held) then held else with_held held page None
 
--- another side of a page is in use: the page isn't held, and nothing is staged
+-- another side of a page is in use: the page isn't held any more, and nothing is staged
 abbrev pub with_side : Store → ℕ → ℕ → Store
-with_side store page side = record { sides = insert_entry nat_cmp store.sides page side; held = remove_entry (nat_eq page) store.held; staged = None }
+with_side store page side = record { sides = insert_entry nat_cmp store.sides page side; held = refreshed store.held page None; staged = None }
 
 -- what holds of every store of pages: the room is that of its lists
 pub record Keeps (store : Store) (cap room : ℕ) : Type 0 where

@@ -198,7 +198,7 @@ impl PageStore {
             return;
         };
         self.sides.put_within(&mut self.room, page, side);
-        refresh(&mut self.held, page, found);
+        refresh(&mut self.held, page, Some(found));
     }
 
     /// Puts a side of a page in use that stands on the disk, as a log tells. It is no longer held, and what was
@@ -210,7 +210,7 @@ impl PageStore {
         ensures err { OnErr result (self.new ≡ self.old) }
     {
         self.sides.put(page, side)?;
-        self.held.pop(&page);
+        refresh(&mut self.held, page, None);
         self.staged = None;
         Ok(())
     }
@@ -276,11 +276,11 @@ fn make_place(held: &mut LruCache<u32, Option<Page>>, page: u32) -> Result<(), N
     Ok(())
 }
 
-/// Holds a page in its place, where it has one. It takes no memory.
-fn refresh(held: &mut LruCache<u32, Option<Page>>, page: u32, found: Page)
-    ensures { held.new ≡ lru_cache (if is_some (lookup (nat_eq page) held.old.entries) then put_entries nat_eq held.old page (Some found) else held.old.entries) held.old.cap }
+/// Holds a page in its place, where it has one, or keeps the place alone. It takes no memory.
+fn refresh(held: &mut LruCache<u32, Option<Page>>, page: u32, found: Option<Page>)
+    ensures { held.new ≡ lru_cache (if is_some (lookup (nat_eq page) held.old.entries) then put_entries nat_eq held.old page found else held.old.entries) held.old.cap }
 {
     if held.contains(&page) {
-        let _ = held.put(page, Some(found));
+        let _ = held.put(page, found);
     }
 }

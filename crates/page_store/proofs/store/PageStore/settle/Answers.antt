@@ -14,7 +14,7 @@ pub returns-clause-held : goal.returns-clause-held
 returns-clause-held c = λ found staged.
     let here = rw (← c.self.view_is) at staged in
     let same = same_page c.self.inside.staged c.in-Some.found found c.in-Some.field-0-1 c.args.side c.in-Some.ensures.value here in
-    rw (← c.self.view_is) ((refreshed_is c.self.inside.held c.refresh.new.held c.args.page c.in-Some.found c.self.invariant.cap_is c.refresh.ensures).0 ∙ ap (λ (p : Contents). refreshed c.self.inside.held.entries c.args.page (Some p)) same)
+    rw (← c.self.view_is) ((refreshed_is c.self.inside.held c.refresh.new.held c.args.page (Some c.in-Some.found) c.self.invariant.cap_is c.refresh.ensures).0 ∙ ap (λ (p : Contents). refreshed c.self.inside.held.entries c.args.page (Some p)) same)
 
 pub returns-clause-agrees : goal.returns-clause-agrees
 returns-clause-agrees c = λ disk agrees.
