@@ -71,8 +71,8 @@ after_by q rest more y o x true is more_is =
 after_by q rest more y o x false is more_is =
     ap (λ (r : Option Obj). cond (same_name x q.0) (Some q.1) r) more_is
     ∙ after_there (same_name x y) (same_name x q.0) o q.1 (object_of rest x)
-      (λ here there. (let e : y ≡ q.0 = sym (same_is x y here) ∙ same_is x q.0 there in
-      let no : false ≡ true = sym is ∙ ap (same_name y) (sym e) ∙ same_refl y in cc))
+    (λ here there. (let e : y ≡ q.0 = sym (same_is x y here) ∙ same_is x q.0 there in
+    let no : false ≡ true = sym is ∙ ap (same_name y) (sym e) ∙ same_refl y in cc))
 
 -- what a name has behind a write
 pub object_after : (objects : Objects) (y : Oref) (o : Obj) (x : Oref) → object_of (with_object objects y o) x ≡ cond (same_name x y) (Some o) (object_of objects x)

@@ -1,3 +1,4 @@
 pub mod Fits
 pub mod Overlays
 pub mod Maps
+pub mod Writes

@@ -331,7 +331,7 @@ module _ (store : Store) (page side : ℕ) where
     agrees_side = record {
       reaches = λ other used is. side_reaches other used (either other page) is;
       held = λ other that is. (let was = forgotten store.held page other that is in
-        subst (λ (u : Option ℕ). Shows disk u other that) (sym (in_use_other store.sides page side other was.1)) (agrees.held other that was.0));
+          subst (λ (u : Option ℕ). Shows disk u other that) (sym (in_use_other store.sides page side other was.1)) (agrees.held other that was.0));
       staged = λ that written is. none_left (Spells (side_bytes disk that.number written) that.number that) None that written refl is;
     }
 
