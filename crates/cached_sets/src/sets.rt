@@ -3,8 +3,10 @@
 ghost use Rattle.cached_sets.specs.Sets.{acknowledge, cache, drop_session, invalid_after, marked, no_sets, stale, touch, touches};
 ghost use Rattle.cached_sets.specs.Invalid.{Invalids};
 ghost use Rattle.cached_sets.specs.Undoing.{undo};
+ghost use Rattle.link_table.specs.Pairs.{first, lefts, next};
+ghost use Rattle.std.specs.List.{last_or};
 ghost use Rattle.std.specs.Map.{keys_of};
-ghost use Rattle.std.specs.Prelude.{Ok, OnErr, OnOk, [], ◌∷◌, ◌≡◌};
+ghost use Rattle.std.specs.Prelude.{List, None, Ok, OnErr, OnOk, [], ℕ, ◌++◌, ◌∷◌, ◌≡◌};
 ghost use Rattle.validation_queue.specs.Names.{Rises};
 
 use crate::invalid_sets::InvalidSets;
@@ -89,6 +91,15 @@ impl Sets {
             }
         }
         Ok(())
+    }
+
+    /// The next session behind one, in the order in which they took the page in, whose client may have a
+    /// page; the first one behind `None`. It takes no memory.
+    pub fn next_holder(&self, page: u32, after: Option<u32>) -> Option<u32>
+        ensures value { result ≡ next (lefts self.now.cached page) after }
+        ensures goes_on { (done rest : List ℕ) → lefts self.now.cached page ≡ done ++ rest → after ≡ last_or None done → result ≡ first rest }
+    {
+        self.pages.next_left(page, after)
     }
 
     /// The client of a session knows what was written below a place: those objects leave its invalid

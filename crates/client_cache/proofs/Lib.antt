@@ -1,3 +1,4 @@
+mod Bare
 mod Brought
 mod Elsewhere
 mod Leaving
@@ -5,3 +6,4 @@ mod OneSlot
 mod PageLookups
 mod PageOrder
 mod SettledOne
+mod Taken

@@ -35,10 +35,12 @@ pub record Contents : Type 0 where
   pub held : Held
   -- the names that the try has written, rising
   pub written : List Oref
+  -- of each page that the try has made, the name with which it was made, rising
+  pub made : List Oref
 
 -- nothing is held
 abbrev pub nothing : ℕ → Contents
-nothing limit = record { limit = limit; held = []; written = [] }
+nothing limit = record { limit = limit; held = []; written = []; made = [] }
 
 -- the names of the pages held, the most recently used first
 abbrev pub pages : Contents → List PageName

@@ -1,7 +1,8 @@
-ghost use Rattle.std.specs.BTreeSet.{insert_key};
+ghost use Rattle.std.specs.BTreeMap.{is_at};
+ghost use Rattle.std.specs.BTreeSet.{Updates, insert_key};
 ghost use Rattle.std.specs.List.{filter, list_any};
 ghost use Rattle.std.specs.Map.{keys_of};
-ghost use Rattle.std.specs.Prelude.{◌≡◌, ◌<◌, ℕ, [], cond, not, nat_eq, Option, Some, None, IfOk, OnOk, OnErr, take};
+ghost use Rattle.std.specs.Prelude.{◌≡◌, ◌<◌, ℕ, [], false, true, cond, not, nat_eq, Option, Some, None, IfOk, OnOk, OnErr, take};
 ghost use Rattle.thor_value.specs.Names.{oref_cmp};
 ghost use Rattle.thor_value.specs.declared.names.Oref.{Oref};
 ghost use Rattle.thor_value.specs.declared.values.Obj.{Obj};
@@ -30,6 +31,9 @@ pub struct Cache {
     limit: u32,
     pages: HeldPages,
     written: BTreeSet<Oref>,
+    /// Of each page that the try has made, the object with which it was made: it is no page of the client's until
+    /// the try is settled.
+    made: BTreeSet<Oref>,
 }
 
 impl Model for Cache {
@@ -37,9 +41,9 @@ impl Model for Cache {
 
     ghost Value = { Contents };
 
-    ghost view = { λ c. record { limit = c.limit; held = c.pages; written = c.written.keys } };
+    ghost view = { λ c. record { limit = c.limit; held = c.pages; written = c.written.keys; made = c.made.keys } };
 
-    ghost invariant = { λ c. IsWhole (record { limit = c.limit; held = c.pages; written = c.written.keys }) };
+    ghost invariant = { λ c. IsWhole (record { limit = c.limit; held = c.pages; written = c.written.keys; made = c.made.keys }) };
 }
 
 impl Cache {
@@ -52,6 +56,7 @@ impl Cache {
             limit: pages,
             pages: HeldPages::new(alloc)?,
             written: BTreeSet::new(alloc),
+            made: BTreeSet::new(alloc),
         })
     }
 
@@ -74,6 +79,7 @@ impl Cache {
         ensures changed { (x : Oref) → changed self.new x ≡ changed self.old x }
         ensures pages { pages self.new ≡ cond (holds self.old.held (page_of oref)) (forward (page_of oref) (pages self.old)) (pages self.old) }
         ensures written { self.new.written ≡ self.old.written }
+        ensures made { self.new.made ≡ self.old.made }
         ensures limit { self.new.limit ≡ self.old.limit }
     {
         self.pages.bring_forward(PageName::of(oref));
@@ -87,15 +93,18 @@ impl Cache {
         ensures changed { OnOk result ((x : Oref) → changed self.new x ≡ changed self.old x) }
         ensures pages { OnOk result (pages self.new ≡ forward (on repo page) (pages self.old)) }
         ensures written { self.new.written ≡ self.old.written }
+        ensures made { OnOk result (self.new.made ≡ filter (λ x. not (same_page (on repo page) (page_of x))) self.old.made) }
         ensures limit { self.new.limit ≡ self.old.limit }
         ensures err { OnErr result (self.new ≡ self.old) }
     {
         let copies = copies_of(self.pages.allocator(), bytes, page)?;
-        self.pages.place(PageName { repo, page }, copies)
+        self.pages.place(PageName { repo, page }, copies)?;
+        leave_page(&mut self.made, PageName { repo, page });
+        Ok(())
     }
 
     /// Writes an object. The copy stays beside it until the try is settled. Its page becomes the most
-    /// recently used one; where it wasn't held, it is held with this object alone. After `NoMemory`
+    /// recently used one; where it wasn't held, the try makes it, with this object alone. After `NoMemory`
     /// nothing has changed.
     #[tactic(auto, using(crate::proofs::PageLookups::left_alone))]
     pub fn write(&mut self, oref: Oref, obj: Obj) -> Result<(), NoMemory>
@@ -104,6 +113,7 @@ impl Cache {
         ensures changed { OnOk result ((x : Oref) → changed self.new x ≡ cond (same_name oref x) (Some obj) (changed self.old x)) }
         ensures pages { OnOk result (pages self.new ≡ forward (page_of oref) (pages self.old)) }
         ensures written { OnOk result (self.new.written ≡ insert_key oref_cmp self.old.written oref) }
+        ensures made { OnOk result (self.new.made ≡ cond (holds self.old.held (page_of oref)) self.old.made (insert_key oref_cmp self.old.made oref)) }
         ensures limit { self.new.limit ≡ self.old.limit }
         ensures err { OnErr result (self.new ≡ self.old) }
     {
@@ -114,21 +124,52 @@ impl Cache {
             self.pages.write(oref, obj);
             return Ok(());
         }
+        self.write_on_made(oref, obj)
+    }
+
+    // Writes an object on a page that isn't held.
+    #[tactic(auto, using(crate::proofs::PageLookups::left_alone))]
+    fn write_on_made(&mut self, oref: Oref, obj: Obj) -> Result<(), NoMemory>
+        requires slot { oref.slot < 12 }
+        requires apart { holds self.old.held (page_of oref) ≡ false }
+        ensures kept { OnOk result ((x : Oref) → kept self.new x ≡ kept self.old x) }
+        ensures changed { OnOk result ((x : Oref) → changed self.new x ≡ cond (same_name oref x) (Some obj) (changed self.old x)) }
+        ensures pages { OnOk result (pages self.new ≡ forward (page_of oref) (pages self.old)) }
+        ensures written { OnOk result (self.new.written ≡ insert_key oref_cmp self.old.written oref) }
+        ensures made { OnOk result (self.new.made ≡ insert_key oref_cmp self.old.made oref) }
+        ensures limit { self.new.limit ≡ self.old.limit }
+        ensures err { OnErr result (self.new ≡ self.old) }
+    {
+        let page = PageName::of(oref);
         let slots = Slots::with_one(self.pages.allocator(), oref.slot, obj)?;
         self.pages.hold(page, slots)?;
-        if self.written.insert(oref).is_err() {
+        if insert_both(&mut self.written, &mut self.made, oref).is_err() {
             self.pages.remove(page);
             return Err(NoMemory);
         }
         Ok(())
     }
 
-    /// Gives up what the try has written: each copy stands as before it, and dropped ones stay dropped.
+    /// Gives up what the try has written: each copy stands as before it, and dropped ones stay dropped. Pages that
+    /// the try has made go.
     pub fn undo(&mut self)
+        ensures kept { (x : Oref) → kept self.new x ≡ kept self.old x }
+        ensures changed { (x : Oref) → changed self.new x ≡ None }
+        ensures pages { self.old.made ≡ [] → pages self.new ≡ pages self.old }
+        ensures written { self.new.written ≡ [] }
+        ensures made { self.new.made ≡ [] }
+        ensures limit { self.new.limit ≡ self.old.limit }
+    {
+        self.undo_writes();
+        self.drop_made();
+    }
+
+    fn undo_writes(&mut self)
         ensures kept { (x : Oref) → kept self.new x ≡ kept self.old x }
         ensures changed { (x : Oref) → changed self.new x ≡ None }
         ensures pages { pages self.new ≡ pages self.old }
         ensures written { self.new.written ≡ [] }
+        ensures made { self.new.made ≡ self.old.made }
         ensures limit { self.new.limit ≡ self.old.limit }
     {
         while let Some(oref) = self.written.pop_first() {
@@ -136,17 +177,59 @@ impl Cache {
         }
     }
 
-    /// Makes what the try has written the copies.
-    #[tactic(auto, using(crate::proofs::SettledOne::settled_one, crate::proofs::SettledOne::seen_told))]
+    // Drops the pages that the try has made: nothing stands on them.
+    fn drop_made(&mut self)
+        ensures kept { (x : Oref) → kept self.new x ≡ kept self.old x }
+        ensures changed { (x : Oref) → changed self.new x ≡ changed self.old x }
+        ensures pages { self.old.made ≡ [] → pages self.new ≡ pages self.old }
+        ensures written { self.new.written ≡ self.old.written }
+        ensures made { self.new.made ≡ [] }
+        ensures limit { self.new.limit ≡ self.old.limit }
+    {
+        while let Some(oref) = self.made.pop_first() {
+            self.pages.drop_bare(PageName::of(oref));
+        }
+    }
+
+    /// Makes what the try has written the copies. The pages that the try has made become the most recently used
+    /// ones, the last of them first.
     pub fn settle(&mut self)
+        ensures kept { (x : Oref) → kept self.new x ≡ seen self.old x }
+        ensures changed { (x : Oref) → changed self.new x ≡ None }
+        ensures pages { self.old.made ≡ [] → pages self.new ≡ pages self.old }
+        ensures written { self.new.written ≡ [] }
+        ensures made { self.new.made ≡ [] }
+        ensures limit { self.new.limit ≡ self.old.limit }
+    {
+        self.settle_writes();
+        self.bring_made_forward();
+    }
+
+    #[tactic(auto, using(crate::proofs::SettledOne::settled_one, crate::proofs::SettledOne::seen_told))]
+    fn settle_writes(&mut self)
         ensures kept { (x : Oref) → kept self.new x ≡ seen self.old x }
         ensures changed { (x : Oref) → changed self.new x ≡ None }
         ensures pages { pages self.new ≡ pages self.old }
         ensures written { self.new.written ≡ [] }
+        ensures made { self.new.made ≡ self.old.made }
         ensures limit { self.new.limit ≡ self.old.limit }
     {
         while let Some(oref) = self.written.pop_first() {
             self.pages.settle(oref);
+        }
+    }
+
+    // The pages that the try has made become the most recently used ones, rising.
+    fn bring_made_forward(&mut self)
+        ensures kept { (x : Oref) → kept self.new x ≡ kept self.old x }
+        ensures changed { (x : Oref) → changed self.new x ≡ changed self.old x }
+        ensures pages { self.old.made ≡ [] → pages self.new ≡ pages self.old }
+        ensures written { self.new.written ≡ self.old.written }
+        ensures made { self.new.made ≡ [] }
+        ensures limit { self.new.limit ≡ self.old.limit }
+    {
+        while let Some(oref) = self.made.pop_first() {
+            self.pages.bring_forward(PageName::of(oref));
         }
     }
 
@@ -156,6 +239,7 @@ impl Cache {
         ensures changed { (x : Oref) → changed self.new x ≡ changed self.old x }
         ensures pages { pages self.new ≡ pages self.old }
         ensures written { self.new.written ≡ self.old.written }
+        ensures made { self.new.made ≡ self.old.made }
         ensures limit { self.new.limit ≡ self.old.limit }
     {
         for oref in orefs.as_slice() {
@@ -169,6 +253,7 @@ impl Cache {
         requires { self.old.written ≡ [] }
         ensures held { self.new.held ≡ take self.old.limit self.old.held }
         ensures written { self.new.written ≡ [] }
+        ensures made { self.new.made ≡ self.old.made }
         ensures limit { self.new.limit ≡ self.old.limit }
     {
         self.pages.evict(self.limit);
@@ -180,9 +265,45 @@ impl Cache {
         ensures changed { (x : Oref) → changed self.new x ≡ cond (nat_eq x.repo repo) None (changed self.old x) }
         ensures held { self.new.held ≡ elsewhere repo self.old.held }
         ensures written { self.new.written ≡ filter (λ x. not (nat_eq x.repo repo)) self.old.written }
+        ensures made { self.new.made ≡ filter (λ x. not (nat_eq x.repo repo)) self.old.made }
         ensures limit { self.new.limit ≡ self.old.limit }
     {
         self.pages.drop_repo(repo);
-        self.written.retain(|oref| oref.repo != repo);
+        leave_repo(&mut self.written, repo);
+        leave_repo(&mut self.made, repo);
     }
+}
+
+// Puts a name among names, where it isn't yet, and among others.
+fn insert_both(
+    written: &mut BTreeSet<Oref>,
+    made: &mut BTreeSet<Oref>,
+    oref: Oref,
+) -> Result<(), NoMemory>
+    requires { list_any (is_at (oref_cmp oref)) written.old.keys ≡ false }
+    ensures written { OnOk result (written.new.keys ≡ insert_key oref_cmp written.old.keys oref) }
+    ensures updates { OnOk result (Updates oref_cmp written.old written.new oref true) }
+    ensures made { OnOk result (made.new.keys ≡ insert_key oref_cmp made.old.keys oref) }
+    ensures err { OnErr result ((written.new.keys ≡ written.old.keys) × (made.new.keys ≡ made.old.keys)) }
+{
+    written.insert(oref)?;
+    if made.insert(oref).is_err() {
+        written.remove(&oref);
+        return Err(NoMemory);
+    }
+    Ok(())
+}
+
+// Drops the names of a repository.
+fn leave_repo(names: &mut BTreeSet<Oref>, repo: u8)
+    ensures { names.new.keys ≡ filter (λ x. not (nat_eq x.repo repo)) names.old.keys }
+{
+    names.retain(|oref| oref.repo != repo);
+}
+
+// Drops the names of a page.
+fn leave_page(names: &mut BTreeSet<Oref>, page: PageName)
+    ensures { names.new.keys ≡ filter (λ x. not (same_page page (page_of x))) names.old.keys }
+{
+    names.retain(|oref| PageName::of(*oref) != page);
 }

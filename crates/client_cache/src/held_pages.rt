@@ -1,11 +1,12 @@
 ghost use Rattle.std.specs.Map.{keys_of, lookup, remove_entry};
-ghost use Rattle.std.specs.Option.{option_copied};
+ghost use Rattle.std.specs.List.{list_all};
+ghost use Rattle.std.specs.Option.{option_copied, option_map_or};
 ghost use Rattle.std.specs.Prelude.{◌≡◌, ◌<◌, ℕ, MatchOption, take, [], ◌∷◌, false, true, cond, Some, None, IfOk, OnOk, OnErr};
 ghost use Rattle.thor_value.specs.declared.names.Oref.{Oref};
 ghost use Rattle.client_cache.specs.declared.page_name.PageName.{PageName};
 ghost use Rattle.client_cache.specs.Copies.{elsewhere, forward, holds, told};
 ghost use Rattle.client_cache.specs.Pages.{page_of, same_name, same_page};
-ghost use Rattle.client_cache.specs.Slots.{kept_in, seen_in, written_in};
+ghost use Rattle.client_cache.specs.Slots.{is_bare, kept_in, seen_in, written_in};
 
 use crate::page_copies::Slots;
 use crate::page_name::PageName;
@@ -180,6 +181,27 @@ impl HeldPages {
     {
         while let Some(page) = self.first_of(repo) {
             self.remove(page);
+        }
+    }
+
+    /// Drops a page, where it is held and has neither a copy nor what the try has made of one.
+    pub fn drop_bare(&mut self, page: PageName)
+        ensures kept { (x : Oref) → told kept_in self.new x ≡ told kept_in self.old x }
+        ensures written { (x : Oref) → told written_in self.new x ≡ told written_in self.old x }
+    {
+        let _count = self.pages.len();
+        if self.is_bare(page) {
+            self.remove(page);
+        }
+    }
+
+    // Whether a page is held, and has neither a copy nor what the try has made of one.
+    fn is_bare(&self, page: PageName) -> bool
+        ensures { result ≡ option_map_or (list_all is_bare) (lookup (same_page page) self.now) false }
+    {
+        match self.pages.peek(&page) {
+            Some(slots) => slots.are_bare(),
+            None => false,
         }
     }
 

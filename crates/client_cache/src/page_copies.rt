@@ -1,6 +1,7 @@
 ghost use Rattle.std.specs.Prelude.{◌≡◌, ◌<◌, ◌≤◌, ℕ, nat_eq, cond, Some, None, length, IfOk};
 ghost use Rattle.std.specs.Option.{option_copied};
-ghost use Rattle.client_cache.specs.Slots.{kept_in, no_copies, seen_in, settled, written_in};
+ghost use Rattle.std.specs.List.{list_all};
+ghost use Rattle.client_cache.specs.Slots.{is_bare, kept_in, no_copies, seen_in, settled, written_in};
 
 use std::alloc::Global;
 use std::marker::Model;
@@ -158,6 +159,15 @@ impl Slots {
                 None => self.forget(slot),
             }
         }
+    }
+
+    /// Whether no slot has a copy or what the try has made of it.
+    pub fn are_bare(&self) -> bool
+        ensures { result ≡ list_all is_bare self.now }
+    {
+        self.slots
+            .iter()
+            .all(|slot| slot.kept.is_none() && slot.written.is_none())
     }
 
     /// There are twelve slots.

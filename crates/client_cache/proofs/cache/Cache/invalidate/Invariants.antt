@@ -13,4 +13,5 @@ invariant-loop-oref l =
     × ((x : Oref) → told written_in l.self-inside.pages x ≡ told written_in l.fn.self.held x)
     × (keys_of l.self-inside.pages ≡ keys_of l.fn.self.held)
     × (l.self-inside.written.keys ≡ l.fn.self.written)
+    × (l.self-inside.made.keys ≡ l.fn.self.made)
     × (l.self-inside.limit ≡ l.fn.self.limit)

@@ -1,0 +1,22 @@
+use commit_log::Entry;
+use session_outbox::Mark;
+use thor_value::Sequence;
+
+/// Entries of a history.
+pub type Entries = Sequence<Entry>;
+
+/// Marks of a trace.
+pub type Marks = Sequence<Mark>;
+
+/// What happened at a repository since it was opened: the entries of its history, and the marks, among
+/// which each entry is named by its place.
+#[derive(Drop)]
+pub struct Trace {
+    /// The entries. An entry's place is its index.
+    pub history: Entries,
+    /// The items of the trace, in order.
+    pub marks: Marks,
+}
+
+/// One trace for each repository.
+pub type Traces = Sequence<Trace>;

@@ -1,0 +1,60 @@
+//! What decisions do, and what an earlier life left.
+
+use crate::memory::{Memory, is_upgrade};
+use commit_log::{Kind, Request};
+use thor_value::{NoMemory, Ts};
+use validation_queue::is_in_order;
+
+/// How many transactions a queue has room for.
+const ROOM: usize = 1_024;
+
+impl Memory {
+    /// Tells sessions of the commit of a request at a place. An upgrade, which gets this number, is a fence for
+    /// all transactions.
+    pub fn tell(&mut self, request: &Request, number: u32, place: u64) -> Result<(), NoMemory> {
+        match &request.kind {
+            Kind::App | Kind::Transform => {
+                self.sessions
+                    .tell_writes(request.session, &request.writes, place)
+            }
+            Kind::Upgrade { text } => {
+                self.queue.clear(request.tx);
+                self.sessions.tell_upgrade(number, text, place)
+            }
+        }
+    }
+
+    /// A prepared transaction is decided. One that an earlier opening left is none of the queue's: where it
+    /// commits, the threshold stands for it.
+    pub fn decide(&mut self, tx: Ts, commit: bool) {
+        if commit && !self.queue.has(tx) {
+            self.stand_above(tx);
+        }
+        self.queue.decide(tx, commit);
+    }
+
+    /// Has the threshold stand for a transaction that commits, while no other is in the queue.
+    fn stand_above(&mut self, tx: Ts) {
+        if self.queue.len() == 0 {
+            let threshold = self.queue.threshold().max(tx);
+            self.stand_at(threshold);
+        }
+    }
+
+    /// Puts a request that stays undecided into the queue, where it came since the opening. Want of memory, too,
+    /// where there is no room for it, which no history comes to.
+    pub fn load(&mut self, request: &Request) -> Result<(), NoMemory> {
+        let tx = request.tx;
+        if !self.requested.contains_key(&tx) {
+            return Ok(());
+        }
+        if !is_in_order(&request.ros, &request.writes) {
+            return Err(NoMemory);
+        }
+        if self.queue.has(tx) || self.queue.len() >= ROOM {
+            return Err(NoMemory);
+        }
+        self.queue
+            .load(tx, is_upgrade(request), &request.ros, &request.writes)
+    }
+}
