@@ -17,7 +17,7 @@ use Rattle.thor_top.specs.Judging.{KeepsRules, items_rules}
 use Rattle.thor_top.specs.Opened.{opened, schema_of}
 use Rattle.thor_top.specs.Playing.{CantRun, can_run, first_items, have_upgrade, is_upgrade, performed}
 use Rattle.thor_top.specs.Top.{IsAccepted}
-use Rattle.thor_top.specs.declared.script.Script.{Script}
+use Rattle.script_parse.specs.declared.script.Script.{Script}
 
 none_before : {X Y : Type 0} (f : X → Y) (o : Option X) → option_map f o ≡ None → o ≡ None
 none_before f (Some x) h = cc

@@ -10,9 +10,9 @@ use Rattle.class_defs.specs.declared.rules.TypeFault.{TypeFault}
 use Rattle.class_defs.specs.declared.store.Schema.{Schema}
 use Rattle.method_check.proofs.NoFault.{no_fault}
 use Rattle.thor_top.specs.Judging.{BreaksRule, IsToldEvent, KeepsRules, items_rules, own_told, script_rules, told}
-use Rattle.thor_top.specs.declared.refusal.Refusal.{Refusal}
-use Rattle.thor_top.specs.declared.refusal.Refusal.TheVariants as refusal
-use Rattle.thor_top.specs.declared.script.Script.{Script}
+use Rattle.script_parse.specs.declared.refusal.Refusal.{Refusal}
+use Rattle.script_parse.specs.declared.refusal.Refusal.TheVariants as refusal
+use Rattle.script_parse.specs.declared.script.Script.{Script}
 
 nothing_told : (rule : Option TypeFault) (event : Option ℕ) → told rule event ≡ None → (rule ≡ None) × (event ≡ None)
 nothing_told None None h = (refl, refl)

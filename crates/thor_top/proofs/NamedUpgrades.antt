@@ -9,10 +9,10 @@ use Rattle.class_defs.specs.declared.upgrades.Upgrade.{Upgrade}
 use Rattle.script_text.specs.declared.token.Token.{Token}
 use Rattle.serial_model.specs.declared.entries.What.{What}
 use Rattle.serial_model.specs.declared.entries.What.TheVariants.{Tx, Upgrade as UpgradeItem}
-use Rattle.thor_top.specs.Reads.{Each}
-use Rattle.thor_top.specs.Script.{AreItems, IsItem, IsWritten}
+use Rattle.script_parse.specs.Reads.{Each}
+use Rattle.script_parse.specs.Script.{AreItems, IsItem, IsWritten}
 use Rattle.thor_top.specs.Upgrading.{schemas_behind, upgrade_in, upgrades_of}
-use Rattle.thor_top.specs.declared.script.Script.{Script}
+use Rattle.script_parse.specs.declared.script.Script.{Script}
 
 abbrev NamesAClass : Upgrade → Type 0
 NamesAClass u = ¬ (u.classes ≡ [])

@@ -11,17 +11,17 @@ use Rattle.script_text.specs.declared.sections.Split.{Split}
 use Rattle.script_text.specs.declared.syntax.Syntax.{Syntax}
 use Rattle.thor_top.specs.Opened.{opened, placed_from, schema_of}
 use Rattle.thor_top.specs.Playing.{CantRun, Does, Plays, first_items, is_alone}
-use Rattle.thor_top.specs.Reads.{Each, Reads}
-use Rattle.thor_top.specs.Script.{AreItems, HasFew, IsRefusedEnd, IsRefusedSchedule, IsRefusedSplit, IsSetupPart}
+use Rattle.script_parse.specs.Reads.{Each, Reads}
+use Rattle.script_parse.specs.Script.{AreItems, HasFew, IsRefusedEnd, IsRefusedSchedule, IsRefusedSplit, IsSetupPart}
 use Rattle.thor_top.specs.Top.{IsAccepted, IsRefused, IsRefusedOn, IsReport, IsResult, IsUnbuilt, IsUnfinished, IsWithinLimits, TellsOf, Says, Tells, Told, WasRead, repos_of}
 use Rattle.thor_top.specs.Words.{command_of}
 use Rattle.thor_top.specs.declared.command.Command.{Command}
 use Rattle.thor_top.specs.declared.command.Command.TheVariants.{Play}
-use Rattle.thor_top.specs.declared.error.ReadError.{ReadError}
-use Rattle.thor_top.specs.declared.error.ReadError.TheVariants as errors
-use Rattle.thor_top.specs.declared.refusal.Refusal.TheVariants as refusal
+use Rattle.script_parse.specs.declared.error.ReadError.{ReadError}
+use Rattle.script_parse.specs.declared.error.ReadError.TheVariants as errors
+use Rattle.script_parse.specs.declared.refusal.Refusal.TheVariants as refusal
 use Rattle.thor_top.specs.declared.playing.Played.{Played}
-use Rattle.thor_top.specs.declared.script.Script.{Script}
+use Rattle.script_parse.specs.declared.script.Script.{Script}
 use Rattle.thor_top.specs.declared.status.Status.{Status}
 use Rattle.thor_top.specs.declared.status.Status.TheVariants as status
 use Rattle.thor_top.specs.declared.top.Reply.{Reply}
@@ -37,10 +37,6 @@ said P s text (Ok reply) h same written =
     let R : List ℕ → Type 0 = λ t. P s t in
     subst Q (sym same) (subst R (sym written) h)
 said P s text (Err e) h same written = tt
-
--- the fault of the splitting is told at last
-pub refused_end : (fault : Option Syntax) (f : Syntax) → fault ≡ Some f → IsRefusedEnd fault (refusal.Syntax f.line)
-refused_end fault f is = let P : Option Syntax → Type 0 = λ o. IsRefusedEnd o (refusal.Syntax f.line) in subst P (sym is) refl
 
 first_epoch : (schema : Schema) → (opened schema).epoch ≡ 0
 unfolding opened
@@ -125,12 +121,6 @@ pub numbers_are_few : (schema : Schema) (setup : Declarations) (upgrades : ℕ) 
 numbers_are_few schema setup upgrades made few =
     let first : next_number schema.upgraded ≡ 1 = ap (λ (s : Schema). next_number s.upgraded) made in
     omega (arith, first, few)
-
--- the schedule is refused, behind parts that were read
-pub events_refused : (split : Split) (setup : Option Declarations) (clients : List (List What)) (error : ReadError) (Any : Script → Type 0) → IsSetupPart split.sections.setup setup → Each AreItems split.sections.clients clients
-    → Reads (AreEventsOf split.sections.schedule) (IsRefusedSchedule split.sections.schedule) (Err error) → Reads Any (IsRefusedSplit split) (Err error)
-events_refused split setup clients (errors.Refused r) Any s c h = inr (setup, (s, inr (clients, (c, inl h))))
-events_refused split setup clients errors.NoMemory Any s c h = tt
 
 says_of : (words : List (List ℕ)) (before after : Told) (command : Command) (bytes : List ℕ) (s : Status) (text : List ℕ) → command_of words ≡ Some command → WasRead before.left after.left bytes → Tells command bytes s text → Says words before after s text
 says_of words before after command bytes status.Done text is read t = (command, (is, (bytes, (read, t))))

@@ -14,9 +14,9 @@ use Rattle.schedule.specs.declared.events.Event.{Event}
 use Rattle.serial_model.specs.declared.entries.What.{What}
 use Rattle.serial_model.specs.declared.entries.What.TheVariants.{Tx, Upgrade as UpgradeItem}
 use Rattle.thor_top.specs.Upgrading.{blocks_of, upgrades_fault, upgrades_of}
-use Rattle.thor_top.specs.declared.refusal.Refusal.{Refusal}
-use Rattle.thor_top.specs.declared.refusal.Refusal.TheVariants as refusal
-use Rattle.thor_top.specs.declared.script.Script.{Script}
+use Rattle.script_parse.specs.declared.refusal.Refusal.{Refusal}
+use Rattle.script_parse.specs.declared.refusal.Refusal.TheVariants as refusal
+use Rattle.script_parse.specs.declared.script.Script.{Script}
 
 -- the least line of an event that breaks the rule, where one does
 abbrev pub IsToldEvent : ℕ → ℕ → List Event → Option ℕ → Type 0

@@ -3,9 +3,6 @@ pub mod Committing
 pub mod Judging
 pub mod Opened
 pub mod Playing
-pub mod Reads
-pub mod Refusals
-pub mod Script
 pub mod Statuses
 pub mod Top
 pub mod Upgrading

@@ -10,7 +10,7 @@ use Rattle.thor_top.specs.Alone.{is_finished, performance}
 use Rattle.thor_top.specs.Opened.{opened}
 use Rattle.thor_top.specs.declared.performed.Performed.{Performed}
 use Rattle.thor_top.specs.declared.playing.Played.{Played}
-use Rattle.thor_top.specs.declared.script.Script.{Script}
+use Rattle.script_parse.specs.declared.script.Script.{Script}
 
 -- the items of client 1
 abbrev pub first_items : List (List What) → List What

@@ -15,16 +15,16 @@ use Rattle.thor_top.specs.Alone.{EndsAtOnce, is_finished, schemas_of}
 use Rattle.thor_top.specs.Judging.{BreaksRule, KeepsRules}
 use Rattle.thor_top.specs.Opened.{opened, schema_of}
 use Rattle.thor_top.specs.Playing.{Does, IsNotBuilt}
-use Rattle.thor_top.specs.Refusals.{refusal_text}
-use Rattle.thor_top.specs.Script.{IsRefusedText, IsWritten}
+use Rattle.script_parse.specs.Refusals.{refusal_text}
+use Rattle.script_parse.specs.Script.{IsRefusedText, IsWritten}
 use Rattle.thor_top.specs.Upgrading.{upgrades_of}
 use Rattle.thor_top.specs.Words.{command_of}
 use Rattle.thor_top.specs.declared.command.Command.{Command}
 use Rattle.thor_top.specs.declared.command.Command.TheVariants.{Check, Play}
 use Rattle.thor_top.specs.declared.performed.Performed.{Performed}
-use Rattle.thor_top.specs.declared.refusal.Refusal.{Refusal}
-use Rattle.thor_top.specs.declared.refusal.Refusal.TheVariants as refusal
-use Rattle.thor_top.specs.declared.script.Script.{Script}
+use Rattle.script_parse.specs.declared.refusal.Refusal.{Refusal}
+use Rattle.script_parse.specs.declared.refusal.Refusal.TheVariants as refusal
+use Rattle.script_parse.specs.declared.script.Script.{Script}
 use Rattle.thor_top.specs.declared.status.Status.{Status}
 use Rattle.thor_top.specs.declared.status.Status.TheVariants as status
 

@@ -3,10 +3,10 @@ ghost use Rattle.class_defs.specs.Accepted.{AllAccepted, AllNameAClass};
 ghost use Rattle.class_defs.specs.declared.statements.Stmt.{Stmt};
 ghost use Rattle.class_defs.specs.declared.store.Schema.{Schema};
 ghost use Rattle.class_defs.specs.declared.upgrades.Upgrade.{Upgrade};
-ghost use Rattle.thor_top.specs.Script.{IsWritten};
+ghost use Rattle.script_parse.specs.Script.{IsWritten};
 ghost use Rattle.thor_top.specs.Top.{IsAccepted};
 ghost use Rattle.thor_top.specs.Upgrading.{blocks_of, schemas_behind, upgrades_fault, upgrades_of};
-ghost use Rattle.thor_top.specs.declared.script.Script.{Script};
+ghost use Rattle.script_parse.specs.declared.script.Script.{Script};
 
 /// Where no fault is told of upgrades, and so in an accepted script, they are accepted one after the other as those of
 /// a store which begins with this schema and takes them in this order: so they keep its classes and who owns what, and

@@ -5,12 +5,11 @@ ghost use Rattle.class_defs.specs.Rules.{least, least_with};
 ghost use Rattle.thor_top.specs.Judging.{IsToldEvent, Judges, items_rules, script_rules, told, what_rules};
 ghost use Rattle.thor_top.specs.Upgrading.{upgrades_of};
 
-use crate::refusal::Refusal;
-use crate::script::{ClientItems, Items, Script};
 use crate::upgrading::upgrades_fault;
 use class_defs::{Schema, TypeFault};
 use method_check::{note_item, note_schema};
 use schedule::{Events, check_events};
+use script_parse::{ClientItems, Items, Refusal, Script};
 use serial_model::What;
 use std::alloc::Global;
 use thor_value::NoMemory;

@@ -14,7 +14,7 @@ ghost use Rattle.thor_top.specs.Opened.{opened, schema_of};
 ghost use Rattle.thor_top.specs.Playing.{CantRun, IsNotBuilt, first_items, is_alone, is_upgrade};
 ghost use Rattle.thor_top.specs.Top.{IsAccepted};
 ghost use Rattle.thor_top.specs.declared.performed.Performed.{Performed};
-ghost use Rattle.thor_top.specs.declared.script.Script.{Script};
+ghost use Rattle.script_parse.specs.declared.script.Script.{Script};
 
 /// What a client that is alone does is one serial history from the store: its timestamps rise, and each
 /// entry is legal on the store after those before it.

@@ -1,20 +1,15 @@
-//! The top call: how a script is read and judged, and what a client that is alone does with it.
+//! The top call: how a script is judged, and what a client that is alone does with it.
 #![tactic(auto)]
 
 mod alone;
 mod command;
 mod epoch_laws;
-mod error;
 mod judging;
 mod laws;
 mod names;
 mod opening;
 mod performed;
 mod playing;
-mod reading;
-mod refusal;
-mod script;
-mod script_laws;
 mod status;
 mod top;
 mod turns;
@@ -23,15 +18,10 @@ mod upgrading;
 pub use alone::perform;
 pub use command::{Command, command_of};
 pub use epoch_laws::{upgrades_are_accepted_in_order, upgrades_of_scripts_name_classes};
-pub use error::ReadError;
 pub use judging::judge;
 pub use laws::{
     accepted_runs_are_defined, alone_histories_answer, alone_histories_are_legal, opened_stores_fit,
 };
 pub use performed::Performed;
-pub use reading::read_script;
-pub use refusal::Refusal;
-pub use script::{ClientItems, Items, Script};
-pub use script_laws::{scripts_are_read_in_one_way, the_first_fault_of_a_script_is_told};
 pub use status::Status;
 pub use top::{SCRIPT_LIMIT, thor};

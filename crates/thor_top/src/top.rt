@@ -1,22 +1,19 @@
 ghost use Rattle.std.specs.Prelude.{◌≡◌, ◌<◌, ◌≤◌, ◌^◌, length, IfOk, Ok, Some};
 ghost use Rattle.outside.specs.Faults.{Rose};
 ghost use Rattle.serial_model.specs.Whole.{IsFirst};
-ghost use Rattle.thor_top.specs.Refusals.{refusal_text};
-ghost use Rattle.thor_top.specs.Script.{HasFew};
+ghost use Rattle.script_parse.specs.Refusals.{refusal_text};
+ghost use Rattle.script_parse.specs.Script.{HasFew};
 ghost use Rattle.thor_top.specs.Top.{IsAccepted, IsWithinLimits, Says, Tells, TellsOf, Wrote, limit_text, repos_of};
 
 use crate::command::{Command, command_of};
-use crate::error::ReadError;
 use crate::judging::judge;
 use crate::opening::schema_of;
 use crate::playing::{Played, play};
-use crate::reading::read_script;
-use crate::refusal::{Refusal, refusal_text};
-use crate::script::Script;
 use crate::status::Status;
 use crate::upgrading::upgrade_count;
 use class_defs::{Declarations, Schema};
 use outside::{ReadAll, Sink, Source, read_all, write_all};
+use script_parse::{ReadError, Refusal, Script, read_script, refusal_text};
 use std::alloc::Global;
 use std::fmt::Write;
 use thor_value::{NoMemory, Text};

@@ -4,9 +4,9 @@ ghost use Rattle.class_defs.specs.SchemaRules.{schema_rules};
 ghost use Rattle.thor_top.specs.Upgrading as spec;
 ghost use Rattle.thor_top.specs.Upgrading.{HasRoom, Leads, block_in, upgrade_in, upgrades_of};
 
-use crate::script::Items;
 use class_defs::{Blocks, Checked, OwnFault, Schema};
 use ownership_check::{OwnError, own_check};
+use script_parse::Items;
 use serial_model::What;
 use std::alloc::Global;
 use thor_value::{NoMemory, TryCopy};

@@ -1,7 +1,7 @@
 use Rattle.std.proofs.Common.{refl}
-use Rattle.thor_top.specs.Refusals.{refusal_text}
+use Rattle.script_parse.specs.Refusals.{refusal_text}
 use Rattle.thor_top.specs.Top.{TellsOf}
-use Rattle.thor_top.specs.declared.refusal.Refusal.TheVariants as refusal
+use Rattle.script_parse.specs.declared.refusal.Refusal.TheVariants as refusal
 use Rattle.thor_top.specs.declared.status.Status.TheVariants as status
 use Rattle.thor_top.proofs.TopLaws.{done_told, not_built_told, said, unfinished_told}
 use Rattle.thor_top.proofs.top.reply_accepted.Goals as goal

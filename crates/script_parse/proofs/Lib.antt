@@ -1,0 +1,14 @@
+pub mod Balanced
+pub mod Completed
+pub mod Decided
+pub mod EachText
+pub mod FirstFault
+pub mod FirstFaultTold
+pub mod GoingOn
+pub mod OneFault
+pub mod OneScript
+pub mod PartsEnd
+pub mod ReadingParts
+pub mod SetupEnds
+pub mod StayingRefused
+pub mod WholeReading

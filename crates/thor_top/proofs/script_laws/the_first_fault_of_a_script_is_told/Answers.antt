@@ -1,9 +1,0 @@
-use Rattle.thor_top.proofs.EachText.{first_fault_only}
-use Rattle.thor_top.proofs.FirstFaultTold.{first_fault_told}
-use Rattle.thor_top.proofs.script_laws.the_first_fault_of_a_script_is_told.Goals as goal
-
-pub returns-clause-told : goal.returns-clause-told
-returns-clause-told c = first_fault_told
-
-pub returns-clause-only : goal.returns-clause-only
-returns-clause-only c = first_fault_only
