@@ -135,3 +135,7 @@ none_says disks place s b holds tells = all_none disks (SaysOneOf s b) (λ image
 pub ok_of_three : {T E A B C D : Type 0} (r : Result T E) → (A → B → C → D) → OnOk r A → OnOk r B → OnOk r C → OnOk r D
 ok_of_three (Ok x) leads a b c = leads a b c
 ok_of_three (Err e) leads a b c = a
+
+-- calls on a log disk leave the disk of pages
+pub pages_stay : (old new : Disks) (at disk : ℕ) → disk ≡ at → at < 2 → OnDisk old new disk → new.content 2 ≡ old.content 2
+pages_stay old new at disk is within alone = alone.others 2 (λ same. let no : 2 < 2 = omega (arith, same, is, within) in omega (arith, no))

@@ -1,5 +1,5 @@
 -- The log that counts among what two disks opened as.
-use Rattle.std.proofs.Common.{◌≡◌, ◌⊎◌, ℕ, ◌+◌, ◌<◌, List, Bool, true, false, nat_lt, cond, Option, Some, None, IfSome, Result, Ok, Err, refl, ap, sym, subst, arith, inl, inr}
+use Rattle.std.proofs.Common.{◌≡◌, ◌⊎◌, ℕ, zero, suc, ◌+◌, ◌<◌, List, Bool, true, false, nat_lt, cond, Option, Some, None, IfSome, Result, Ok, Err, refl, ap, sym, subst, arith, inl, inr}
 use Rattle.std.proofs.lemmas.Bool.Decides.{nat_tests}
 use Rattle.std.specs.Option.{option_and_then}
 use Rattle.disk_trait.specs.Disks.{Disks, WhereTold}
@@ -9,7 +9,10 @@ use Rattle.log_bytes.specs.declared.state.State.{State}
 use Rattle.state_log.specs.Recovered.{chosen, stands, state_in}
 use Rattle.disk_trait.specs.AllDisks.{AllSettled}
 use Rattle.state_log.specs.Holds.{Under, Holding, Holds, beside}
-use Rattle.state_log.specs.Opening.{Found, choice, log_of, IsOn}
+use Rattle.log_frame.specs.declared.fault.LogFault.TheVariants as frame
+use Rattle.state_log.specs.Opening.{Found, IsOn, IsTorn, choice, log_fault, log_of}
+use Rattle.state_log.specs.declared.fault.FindFault.TheVariants as found
+use Rattle.state_log.specs.declared.fault.FindFault.{FindFault}
 use Rattle.state_log.proofs.Holding.{chosen_of}
 
 -- a log that counts on this disk
@@ -98,3 +101,18 @@ found_as images first second found0 found1 (Some f) is = stands_as images first 
 pub found_holds : (disks : Disks) (first second : Option Found) (s : State) → AllSettled disks → IsOn 0 first → IsOn 1 second → WhereTold disks 0 (λ bytes. IsFound 0 bytes first) → WhereTold disks 1 (λ bytes. IsFound 1 bytes second) → (r : Option Found) → r ≡ choice first second → IfSome r (λ f. state_in (log_of f) ≡ Some s → Holds disks f.0 s)
 found_holds disks first second s settled on0 on1 found0 found1 None is = tt
 found_holds disks first second s settled on0 on1 found0 found1 (Some f) is = λ state. opened_holds disks first second f s settled on0 on1 found0 found1 (sym is) state
+
+-- a log disk that is torn stands for nothing
+pub torn_none : (images : ℕ → List ℕ) (d place : ℕ) → IsTorn images d place → stands images ≡ None
+torn_none images zero place torn = stands_damaged images place (inl torn.1)
+torn_none images (suc zero) place torn = stands_damaged images place (inr torn.1)
+torn_none images (suc (suc d)) place torn = absurd (omega (arith, torn.0))
+
+-- a fault without its disk
+pub log_damaged : (fault : FindFault) (place : ℕ) → log_fault fault ≡ frame.Damaged place → (d : ℕ) × (fault ≡ found.Damaged d place)
+log_damaged (found.Failed disk) place is = cc
+log_damaged (found.Damaged disk at) place is = (disk, ap (λ (p : ℕ). found.Damaged disk p) (same_place at place is))
+  where
+    same_place : (a b : ℕ) → frame.Damaged a ≡ frame.Damaged b → a ≡ b
+    same_place a b e = cc
+log_damaged found.NoMemory place is = cc

@@ -36,6 +36,10 @@ Says s images = stands images ≡ Some s
 abbrev pub SaysOneOf : State → Body → (ℕ → List ℕ) → Type 0
 SaysOneOf s body images = Says s images ⊎ Says (after s body) images
 
+-- they say the one state or the other
+abbrev pub SaysEither : State → State → (ℕ → List ℕ) → Type 0
+SaysEither s t images = Says s images ⊎ Says t images
+
 -- no log is open yet, or they say the state
 abbrev pub SaysNothingOr : State → (ℕ → List ℕ) → Type 0
 SaysNothingOr s images = (stands images ≡ None) ⊎ Says s images

@@ -1,7 +1,11 @@
 -- How the log that counts is found.
 use Rattle.std.specs.Option.{IfSome}
-use Rattle.std.specs.Prelude.{List, Option, Some, None, cond, nat_lt, ◌≡◌, ℕ}
-use Rattle.log_frame.specs.Log.{Opened, Place}
+use Rattle.std.specs.Prelude.{Err, List, Option, Some, None, cond, nat_lt, ◌<◌, ◌≡◌, ℕ}
+use Rattle.log_frame.specs.Log.{Opened, Place, read_log}
+use Rattle.log_frame.specs.declared.fault.LogFault.TheVariants as frame
+use Rattle.log_frame.specs.declared.fault.LogFault.{LogFault}
+use Rattle.state_log.specs.declared.fault.FindFault.TheVariants as found
+use Rattle.state_log.specs.declared.fault.FindFault.{FindFault}
 
 -- what a log disk opened as: the log's place, its head and its bodies
 abbrev pub Found : Type 0
@@ -20,3 +24,23 @@ log_of f = record { sequence = f.0.sequence; head = f.1; bodies = f.2 }
 -- its log stands on this disk
 abbrev pub IsOn : ℕ → Option Found → Type 0
 IsOn d found = IfSome found (λ f. f.0.disk ≡ d)
+
+-- neither log disk has an open header
+abbrev pub IsFresh : (ℕ → List ℕ) → Type 0
+IsFresh images = (read_log (images 0) ≡ None) × (read_log (images 1) ≡ None)
+
+-- the log on this disk is damaged at this place
+abbrev pub IsTorn : (ℕ → List ℕ) → ℕ → ℕ → Type 0
+IsTorn images d place = (d < 2) × (read_log (images d) ≡ Some (Err place))
+
+-- a fault of a log, with its disk
+abbrev pub fault_on : ℕ → LogFault → FindFault
+fault_on disk frame.Failed = found.Failed disk
+fault_on disk (frame.Damaged place) = found.Damaged disk place
+fault_on disk frame.NoMemory = found.NoMemory
+
+-- and without it
+abbrev pub log_fault : FindFault → LogFault
+log_fault (found.Failed disk) = frame.Failed
+log_fault (found.Damaged disk place) = frame.Damaged place
+log_fault found.NoMemory = frame.NoMemory

@@ -1,16 +1,18 @@
 //! Which of two logs counts.
 
 ghost use Rattle.std.specs.Option.{IfSome, option_and_then};
-ghost use Rattle.std.specs.Prelude.{List, None, IfOk, IsErrOf, Some, Err, ◌⊎◌, ◌≡◌, ℕ};
+ghost use Rattle.std.specs.Prelude.{List, None, IfOk, IsErrOf, Ok, Some, Err, ◌<◌, ◌≡◌, ℕ};
 ghost use Rattle.disk_trait.specs.AllDisks.{AllSettled, LeavesAll, MayLeaveAll, ReadsAs, SameContent};
-ghost use Rattle.disk_trait.specs.Disks.{Disks, Rose};
-ghost use Rattle.log_frame.specs.Log.{read_log};
-ghost use Rattle.log_frame.specs.declared.fault.LogFault.TheVariants.{Damaged, Failed};
+ghost use Rattle.disk_trait.specs.Disks.{Disks, Leaves, MayLeave, NoNewImage, OnDisk, Rose, WhereTold};
+ghost use Rattle.log_frame.specs.Log.{IsFound, Stands, read_log};
+ghost use Rattle.log_frame.specs.declared.fault.LogFault.TheVariants.{Damaged as ALogDamaged};
 ghost use Rattle.log_bytes.specs.declared.state.State.{State as AState};
 ghost use Rattle.state_log.specs.Holds.{Holds};
-ghost use Rattle.state_log.specs.Opening.{choice, log_of};
+ghost use Rattle.state_log.specs.Opening.{IsFresh, IsTorn, choice, fault_on, log_fault, log_of};
 ghost use Rattle.state_log.specs.Recovered.{stands, state_in};
+ghost use Rattle.state_log.specs.declared.fault.FindFault.TheVariants.{Damaged, Failed};
 
+use crate::fault::FindFault;
 use crate::open_log::CommitLog;
 use disk_trait::Parts;
 use log_frame::{Log, LogFault, Records};
@@ -37,21 +39,68 @@ fn choose(
     }
 }
 
+/// A fault of a log, with the disk on which the log stands.
+fn fault_on(disk: u8, fault: LogFault) -> FindFault
+    ensures { result ≡ fault_on disk fault }
+{
+    match fault {
+        LogFault::Failed => FindFault::Failed { disk },
+        LogFault::Damaged { place } => FindFault::Damaged { disk, place },
+        LogFault::NoMemory => FindFault::NoMemory,
+    }
+}
+
+/// A fault of a log, whichever disk it stands on.
+fn log_fault(fault: FindFault) -> LogFault
+    ensures { result ≡ log_fault fault }
+{
+    match fault {
+        FindFault::Failed { disk: _ } => LogFault::Failed,
+        FindFault::Damaged { disk: _, place } => LogFault::Damaged { place },
+        FindFault::NoMemory => LogFault::NoMemory,
+    }
+}
+
+/// What a log disk opens as. Its fault tells the disk.
+fn open_on<P: Parts>(
+    alloc: Global,
+    parts: &mut P,
+    disk: u8,
+) -> Result<Option<(Log, Text, Records)>, FindFault>
+    requires { disk < 2 }
+    ensures alone { OnDisk (P.disks parts.old) (P.disks parts.new) disk }
+    ensures content { (P.disks parts.new).content disk ≡ (P.disks parts.old).content disk }
+    ensures crash { NoNewImage (P.disks parts.old) (P.disks parts.new) disk }
+    ensures any_moment { Leaves (P.disks parts.old) (P.disks parts.new) disk (MayLeave (P.disks parts.old) disk) }
+    ensures found { IfOk result (λ found. WhereTold (P.disks parts.old) disk (λ bytes. IsFound disk bytes found)) }
+    ensures disk { IfOk result (λ found. IfSome found (λ f. f.0.disk ≡ disk)) }
+    ensures damaged { (d place : ℕ) → IsErrOf result (Damaged d place) → (d ≡ disk) × WhereTold (P.disks parts.old) disk (λ bytes. read_log bytes ≡ Some (Err place)) }
+    ensures failed { (d : ℕ) → IsErrOf result (Failed d) → (d ≡ disk) × Rose ((P.disks parts.old).faults disk) ((P.disks parts.new).faults disk) }
+{
+    match Log::open(alloc, parts, disk) {
+        Ok(found) => Ok(found),
+        Err(fault) => Err(fault_on(disk, fault)),
+    }
+}
+
 /// What of the two log disks counts, as it is read.
 fn open_both<P: Parts>(
     alloc: Global,
     parts: &mut P,
-) -> Result<Option<(Log, Text, Records)>, LogFault>
+) -> Result<Option<(Log, Text, Records)>, FindFault>
     requires { AllSettled (P.disks parts.old) }
     ensures any_moment { LeavesAll (P.disks parts.old) (P.disks parts.new) (MayLeaveAll (P.disks parts.old) (P.disks parts.old).time) }
     ensures settled { AllSettled (P.disks parts.new) }
     ensures content { SameContent (P.disks parts.old) (P.disks parts.new) }
     ensures holds { (s : AState) → IfOk result (λ found. IfSome found (λ f. state_in (log_of f) ≡ Some s → Holds (P.disks parts.new) f.0 s)) }
     ensures found { (images : ℕ → List ℕ) → ReadsAs (P.disks parts.old) images → IfOk result (λ found. stands images ≡ option_and_then (λ f. state_in (log_of f)) found) }
-    ensures damaged { (images : ℕ → List ℕ) (place : ℕ) → ReadsAs (P.disks parts.old) images → IsErrOf result (Damaged place) → stands images ≡ None }
+    ensures log { (images : ℕ → List ℕ) → ReadsAs (P.disks parts.old) images → IfOk result (λ found. IfSome found (λ f. Stands (images f.0.disk) (log_of f))) }
+    ensures fresh { (images : ℕ → List ℕ) → ReadsAs (P.disks parts.old) images → result ≡ Ok None → IsFresh images }
+    ensures damaged { (images : ℕ → List ℕ) (d place : ℕ) → ReadsAs (P.disks parts.old) images → IsErrOf result (Damaged d place) → IsTorn images d place }
+    ensures failed { (d : ℕ) → IsErrOf result (Failed d) → Rose ((P.disks parts.old).faults d) ((P.disks parts.new).faults d) }
 {
-    let first = Log::open(alloc, parts, 0)?;
-    let second = Log::open(alloc, parts, 1)?;
+    let first = open_on(alloc, parts, 0)?;
+    let second = open_on(alloc, parts, 1)?;
     Ok(choose(first, second))
 }
 
@@ -78,7 +127,29 @@ pub fn find_log<P: Parts>(
     ensures content { SameContent (P.disks parts.old) (P.disks parts.new) }
     ensures holds { (s : AState) → IfOk result (λ found. IfSome found (λ f. state_in (log_of f) ≡ Some s → Holds (P.disks parts.new) f.0 s)) }
     ensures found { (images : ℕ → List ℕ) → ReadsAs (P.disks parts.old) images → IfOk result (λ found. stands images ≡ option_and_then (λ f. state_in (log_of f)) found) }
-    ensures damaged { (images : ℕ → List ℕ) (place : ℕ) → ReadsAs (P.disks parts.old) images → IsErrOf result (Damaged place) → stands images ≡ None }
+    ensures damaged { (images : ℕ → List ℕ) (place : ℕ) → ReadsAs (P.disks parts.old) images → IsErrOf result (ALogDamaged place) → stands images ≡ None }
+{
+    match open_both(alloc, parts) {
+        Ok(found) => Ok(as_commit_log(alloc, found)),
+        Err(fault) => Err(log_fault(fault)),
+    }
+}
+
+/// Opens both logs as `find_log` does. Its fault tells the disk.
+pub fn open_logs<P: Parts>(
+    alloc: Global,
+    parts: &mut P,
+) -> Result<Option<(CommitLog, Text, Records)>, FindFault>
+    requires { AllSettled (P.disks parts.old) }
+    ensures any_moment { LeavesAll (P.disks parts.old) (P.disks parts.new) (MayLeaveAll (P.disks parts.old) (P.disks parts.old).time) }
+    ensures settled { AllSettled (P.disks parts.new) }
+    ensures content { SameContent (P.disks parts.old) (P.disks parts.new) }
+    ensures holds { (s : AState) → IfOk result (λ found. IfSome found (λ f. state_in (log_of f) ≡ Some s → Holds (P.disks parts.new) f.0 s)) }
+    ensures found { (images : ℕ → List ℕ) → ReadsAs (P.disks parts.old) images → IfOk result (λ found. stands images ≡ option_and_then (λ f. state_in (log_of f)) found) }
+    ensures log { (images : ℕ → List ℕ) → ReadsAs (P.disks parts.old) images → IfOk result (λ found. IfSome found (λ f. Stands (images f.0.disk) (log_of f))) }
+    ensures fresh { (images : ℕ → List ℕ) → ReadsAs (P.disks parts.old) images → result ≡ Ok None → IsFresh images }
+    ensures damaged { (images : ℕ → List ℕ) (d place : ℕ) → ReadsAs (P.disks parts.old) images → IsErrOf result (Damaged d place) → IsTorn images d place }
+    ensures failed { (d : ℕ) → IsErrOf result (Failed d) → Rose ((P.disks parts.old).faults d) ((P.disks parts.new).faults d) }
 {
     let found = open_both(alloc, parts)?;
     Ok(as_commit_log(alloc, found))

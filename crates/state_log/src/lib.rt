@@ -2,12 +2,14 @@
 #![tactic(auto)]
 
 mod examples;
+mod fault;
 mod finding;
 mod laws;
 mod open_log;
 
 pub use examples::{commits_are_buffered, prepared_transactions_are_decided, upgrades_are_fences};
-pub use finding::find_log;
+pub use fault::FindFault;
+pub use finding::{find_log, open_logs};
 pub use laws::{
     entries_say_their_writes, installs_say_the_same, logs_grow, values_are_last_writes,
 };

@@ -7,7 +7,7 @@ ghost use Rattle.log_bytes.specs.Checkpoint.{StateFits};
 ghost use Rattle.log_bytes.specs.Grammar.{BodyFits};
 ghost use Rattle.log_bytes.specs.declared.body.Body.TheVariants.{Entry as AnEntry, Installed as AnInstalled};
 ghost use Rattle.log_bytes.specs.declared.state.State.{State as AState};
-ghost use Rattle.state_log.specs.Holds.{Holds, Says, SaysNothingOr, SaysOneOf, beside};
+ghost use Rattle.state_log.specs.Holds.{Holds, SaysEither, SaysNothingOr, SaysOneOf, beside};
 ghost use Rattle.state_log.specs.Recovered.{after, sequence_end};
 
 use commit_log::Entry;
@@ -74,6 +74,14 @@ impl CommitLog {
         self.log.sequence()
     }
 
+    /// The disk that it stands on.
+    pub fn disk(&self) -> u8
+        ensures value { result ≡ self.now.disk }
+        ensures within { result < 2 }
+    {
+        self.log.disk()
+    }
+
     /// Adds an entry: four device calls, before which all memory is taken.
     ///
     /// At each moment a crash leaves what was there, or that with this one entry. After `Ok` it leaves the
@@ -84,6 +92,7 @@ impl CommitLog {
         ensures goes { GoesOn (P.disks parts.old) (P.disks parts.new) }
         ensures any_moment { (s : AState) → Holds (P.disks parts.old) self.old s → TellsAll (P.disks parts.old) → LeavesAll (P.disks parts.old) (P.disks parts.new) (SaysOneOf s (AnEntry entry.now)) }
         ensures appended { OnOk result ((s : AState) → Holds (P.disks parts.old) self.old s → Holds (P.disks parts.new) self.new (after s (AnEntry entry.now))) }
+        ensures pages { (P.disks parts.new).content 2 ≡ (P.disks parts.old).content 2 }
         ensures damaged { (place : ℕ) → IsErrOf result (Damaged place) → ⊥ }
         ensures failed { IsErrOf result Failed → Rose ((P.disks parts.old).faults self.old.disk) ((P.disks parts.new).faults self.old.disk) }
     {
@@ -107,6 +116,7 @@ impl CommitLog {
         ensures goes { GoesOn (P.disks parts.old) (P.disks parts.new) }
         ensures any_moment { (s : AState) → Holds (P.disks parts.old) self.old s → TellsAll (P.disks parts.old) → LeavesAll (P.disks parts.old) (P.disks parts.new) (SaysOneOf s (AnInstalled page side)) }
         ensures appended { OnOk result ((s : AState) → Holds (P.disks parts.old) self.old s → Holds (P.disks parts.new) self.new (after s (AnInstalled page side))) }
+        ensures pages { (P.disks parts.new).content 2 ≡ (P.disks parts.old).content 2 }
         ensures damaged { (place : ℕ) → IsErrOf result (Damaged place) → ⊥ }
         ensures failed { IsErrOf result Failed → Rose ((P.disks parts.old).faults self.old.disk) ((P.disks parts.new).faults self.old.disk) }
     {
@@ -117,16 +127,18 @@ impl CommitLog {
     /// Puts a log that begins with the state on the other log disk, with the next sequence. From then on it
     /// counts.
     ///
-    /// The state has to be the whole of what the disks say, so at each moment a crash leaves what was there.
+    /// At each moment a crash leaves what was there, or this state: it is the caller's that what it leaves out
+    /// may be forgotten.
     pub fn checkpoint<P: Parts>(&mut self, parts: &mut P, state: &State) -> Result<(), LogFault>
         requires fits { StateFits state.now }
         requires sequence { self.old.sequence + 1 < sequence_end }
-        requires holds { Holds (P.disks parts.old) self.old state.now }
+        requires holds { (s : AState) × Holds (P.disks parts.old) self.old s }
         ensures goes { GoesOn (P.disks parts.old) (P.disks parts.new) }
-        ensures any_moment { TellsAll (P.disks parts.old) → LeavesAll (P.disks parts.old) (P.disks parts.new) (Says state.now) }
+        ensures any_moment { (s : AState) → Holds (P.disks parts.old) self.old s → TellsAll (P.disks parts.old) → LeavesAll (P.disks parts.old) (P.disks parts.new) (SaysEither s state.now) }
         ensures done { OnOk result (Holds (P.disks parts.new) self.new state.now) }
         ensures next { OnOk result (self.new.sequence ≡ self.old.sequence + 1) }
         ensures other { OnOk result (self.new.disk ≡ beside self.old.disk) }
+        ensures pages { (P.disks parts.new).content 2 ≡ (P.disks parts.old).content 2 }
         ensures damaged { (place : ℕ) → IsErrOf result (Damaged place) → ⊥ }
         ensures failed { IsErrOf result Failed → Rose ((P.disks parts.old).faults (beside self.old.disk)) ((P.disks parts.new).faults (beside self.old.disk)) }
     {

@@ -1,10 +1,11 @@
 ghost use Rattle.std.specs.Option.{option_copied};
 ghost use Rattle.std.specs.Ordering.{nat_cmp};
 ghost use Rattle.std.specs.Prelude.{◌≡◌, None, IfOk, OnErr, OnOk, cond, is_some, slice_get};
-ghost use Rattle.thor_value.specs.FiniteMap.{get, insert};
+ghost use Rattle.thor_value.specs.FiniteMap.{get, has, insert};
 ghost use Rattle.thor_value.specs.Names.{ts_cmp};
 ghost use Rattle.two_phase.specs.Walks.{behind, bound_past, first_kept, first_open};
 ghost use Rattle.two_phase.specs.Contents.{decided, finished, is_alone, keeping, keeps, nothing, open_at, standing, without};
+ghost use Rattle.two_phase.specs.Lists.{aborted_of, kept_decisions, open_requests, stays_without};
 ghost use Rattle.two_phase.specs.declared.transaction.Transaction.TheVariants.{Open};
 
 use crate::standing::Standing;
@@ -14,7 +15,7 @@ use std::alloc::Global;
 use std::collections::BTreeMap;
 use std::marker::Model;
 use std::ops::Bound;
-use thor_value::{NoMemory, Ts};
+use thor_value::{NoMemory, Sequence, Stamps, TryCopy, Ts};
 
 /// The transactions in two phases that a repository knows of, as coordinator or as participant.
 ///
@@ -112,6 +113,16 @@ impl Table {
         }
     }
 
+    /// The request of a transaction that is prepared and undecided here.
+    pub fn open_request(&self, tx: Ts) -> Option<&Request>
+        ensures { option_copied result ≡ open_at self.now tx }
+    {
+        match self.transactions.get(&tx) {
+            Some(Transaction::Open(request)) => Some(request),
+            _ => None,
+        }
+    }
+
     /// Keeps the decision to commit a transaction, as a log tells it. After `NoMemory` nothing has changed.
     pub fn keep(&mut self, tx: Ts) -> Result<(), NoMemory>
         requires { get self.old.transactions tx ≡ None }
@@ -130,6 +141,65 @@ impl Table {
     {
         self.alone.insert(client, tx)?;
         Ok(())
+    }
+
+    /// Whether a transaction is open here, or the decision to commit it is kept.
+    pub fn knows(&self, tx: Ts) -> bool
+        ensures { result ≡ has self.now.transactions tx }
+    {
+        self.transactions.contains_key(&tx)
+    }
+
+    /// Whether the decision to commit a transaction is kept here.
+    pub fn keeps(&self, tx: Ts) -> bool
+        ensures { result ≡ keeps (get self.now.transactions tx) }
+    {
+        matches!(self.transactions.get(&tx), Some(Transaction::Kept))
+    }
+
+    /// Drops the open requests of transactions that this repository coordinates. It takes no memory.
+    pub fn abort_of(&mut self, repo: u8)
+        ensures { self.new ≡ aborted_of self.old repo }
+    {
+        self.transactions
+            .retain(|tx, transaction| stays_without(repo, *tx, transaction));
+    }
+
+    /// Copies of the open requests, by rising timestamp.
+    pub fn open_requests(&self, alloc: Global) -> Result<Sequence<Request>, NoMemory>
+        ensures { IfOk result (λ requests. requests ≡ open_requests self.now) }
+    {
+        let mut requests = Sequence::new(alloc);
+        for (_, transaction) in self.transactions.iter() {
+            if let Transaction::Open(request) = transaction {
+                requests.push(request.copy()?)?;
+            }
+        }
+        Ok(requests)
+    }
+
+    /// The transactions whose decision to commit is kept, rising.
+    pub fn kept_decisions(&self, alloc: Global) -> Result<Stamps, NoMemory>
+        ensures { IfOk result (λ kept. kept ≡ kept_decisions self.now) }
+    {
+        let mut kept = Stamps::new(alloc);
+        for (tx, transaction) in self.transactions.iter() {
+            if transaction.is_kept() {
+                kept.push(*tx)?;
+            }
+        }
+        Ok(kept)
+    }
+
+    /// The last transaction of each client that committed here alone, clients rising.
+    pub fn single_commits(&self, alloc: Global) -> Result<Sequence<(u8, Ts)>, NoMemory>
+        ensures { IfOk result (λ singles. singles ≡ self.now.alone.pairs) }
+    {
+        let mut singles = Sequence::new(alloc);
+        for (client, tx) in self.alone.iter() {
+            singles.push((*client, *tx))?;
+        }
+        Ok(singles)
     }
 
     fn is_open(&self, tx: Ts) -> bool
@@ -202,5 +272,15 @@ fn past<K>(after: Option<K>) -> Bound<K>
     match after {
         Some(key) => Bound::Excluded(key),
         None => Bound::Unbounded,
+    }
+}
+
+// Whether a transaction stays where the open ones that a repository coordinates go.
+fn stays_without(repo: u8, tx: Ts, transaction: &Transaction) -> bool
+    ensures { result ≡ stays_without repo (tx, transaction.now) }
+{
+    match transaction {
+        Transaction::Open(_) => tx.repo != repo,
+        Transaction::Kept => true,
     }
 }

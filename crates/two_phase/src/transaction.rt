@@ -1,5 +1,5 @@
 ghost use Rattle.std.specs.Prelude.{◌≡◌};
-ghost use Rattle.two_phase.specs.Contents.{request_of};
+ghost use Rattle.two_phase.specs.Contents.{is_decision, request_of};
 
 use commit_log::Request;
 
@@ -21,5 +21,12 @@ impl Transaction {
             Transaction::Open(request) => Some(request),
             Transaction::Kept => None,
         }
+    }
+
+    /// Whether the decision to commit it is kept.
+    pub fn is_kept(&self) -> bool
+        ensures { result ≡ is_decision self.now }
+    {
+        matches!(self, Transaction::Kept)
     }
 }

@@ -6,34 +6,24 @@ use Rattle.state_log.proofs.finding.open_both.Goals as goal
 
 pub returns-in_err-second-clause-settled : goal.returns-in_err-second-clause-settled
 returns-in_err-second-clause-settled g c =
-    settled_still _ _ 1 (omega arith) c.open-2.ensures.alone c.open-2.ensures.content c.open-2.ensures.crash
-    (settled_still _ _ 0 (omega arith) c.open.ensures.alone c.open.ensures.content c.open.ensures.crash c.requires)
+    settled_still _ _ 1 (omega arith) c.open_on-2.ensures.alone c.open_on-2.ensures.content c.open_on-2.ensures.crash
+    (settled_still _ _ 0 (omega arith) c.open_on.ensures.alone c.open_on.ensures.content c.open_on.ensures.crash c.requires)
 
 pub returns-in_err-second-clause-content : goal.returns-in_err-second-clause-content
-returns-in_err-second-clause-content g c = λ d. content_stays _ _ 1 c.open-2.ensures.alone c.open-2.ensures.content d ∙ content_stays _ _ 0 c.open.ensures.alone c.open.ensures.content d
+returns-in_err-second-clause-content g c = λ d. content_stays _ _ 1 c.open_on-2.ensures.alone c.open_on-2.ensures.content d ∙ content_stays _ _ 0 c.open_on.ensures.alone c.open_on.ensures.content d
 
 pub returns-clause-holds : goal.returns-clause-holds
 returns-clause-holds g c = λ s.
-    let first = g.P.Parts.disks c.open.new.parts in
-    let settled = settled_still _ _ 1 (omega arith) c.open-2.ensures.alone c.open-2.ensures.content c.open-2.ensures.crash
-    (settled_still _ _ 0 (omega arith) c.open.ensures.alone c.open.ensures.content c.open.ensures.crash c.requires) in
-    found_holds (g.P.Parts.disks c.open-2.new.parts) c.in_ok-first.first c.in_ok-second.second s settled c.in_ok-first.ensures.disk c.in_ok-second.ensures.disk
-    (λ bytes told. c.in_ok-first.ensures.found bytes (sym (content_stays _ _ 1 c.open-2.ensures.alone c.open-2.ensures.content 0 ∙ c.open.ensures.content) ∙ told))
-    (λ bytes told. c.in_ok-second.ensures.found bytes (sym c.open-2.ensures.content ∙ told))
+    let first = g.P.Parts.disks c.open_on.new.parts in
+    let settled = settled_still _ _ 1 (omega arith) c.open_on-2.ensures.alone c.open_on-2.ensures.content c.open_on-2.ensures.crash
+    (settled_still _ _ 0 (omega arith) c.open_on.ensures.alone c.open_on.ensures.content c.open_on.ensures.crash c.requires) in
+    found_holds (g.P.Parts.disks c.open_on-2.new.parts) c.in_ok-first.first c.in_ok-second.second s settled c.in_ok-first.ensures.disk c.in_ok-second.ensures.disk
+    (λ bytes told. c.in_ok-first.ensures.found bytes (sym (content_stays _ _ 1 c.open_on-2.ensures.alone c.open_on-2.ensures.content 0 ∙ c.open_on.ensures.content) ∙ told))
+    (λ bytes told. c.in_ok-second.ensures.found bytes (sym c.open_on-2.ensures.content ∙ told))
     c.choose.result c.choose.ensures
 
 pub returns-clause-found : goal.returns-clause-found
 returns-clause-found g c = λ images reads.
     found_as images c.in_ok-first.first c.in_ok-second.second (c.in_ok-first.ensures.found (images 0) (reads 0 (omega arith)))
-    (c.in_ok-second.ensures.found (images 1) (content_stays _ _ 0 c.open.ensures.alone c.open.ensures.content 1 ∙ reads 1 (omega arith)))
+    (c.in_ok-second.ensures.found (images 1) (content_stays _ _ 0 c.open_on.ensures.alone c.open_on.ensures.content 1 ∙ reads 1 (omega arith)))
     c.choose.result c.choose.ensures
-
-pub returns-in_err-first-clause-damaged : goal.returns-in_err-first-clause-damaged
-returns-in_err-first-clause-damaged g c = λ images place reads damaged.
-    let wrong : IsErrOf c.open.result (Damaged place) = search rules in
-    stands_damaged images place (inl (c.open.ensures.damaged place wrong (images 0) (reads 0 (omega arith))))
-
-pub returns-in_err-second-clause-damaged : goal.returns-in_err-second-clause-damaged
-returns-in_err-second-clause-damaged g c = λ images place reads damaged.
-    let wrong : IsErrOf c.open-2.result (Damaged place) = search rules in
-    stands_damaged images place (inr (c.open-2.ensures.damaged place wrong (images 1) (content_stays _ _ 0 c.open.ensures.alone c.open.ensures.content 1 ∙ reads 1 (omega arith))))

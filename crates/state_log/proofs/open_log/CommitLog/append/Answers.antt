@@ -1,8 +1,8 @@
-use Rattle.std.proofs.Common.{ap, ◌∙◌}
+use Rattle.std.proofs.Common.{ap, refl, ◌∙◌}
 use Rattle.log_bytes.specs.Format.{value_of}
 use Rattle.log_bytes.specs.Grammar.{body_format}
 use Rattle.log_bytes.specs.declared.body.Body.TheVariants.{Entry as AnEntry}
-use Rattle.state_log.proofs.Holding.{append_holds, append_says, none_says, ok_of_three}
+use Rattle.state_log.proofs.Holding.{append_holds, append_says, none_says, ok_of_three, pages_stay}
 use Rattle.state_log.proofs.open_log.CommitLog.append.Goals as goal
 
 pub returns-in_err-body-clause-any_moment : goal.returns-in_err-body-clause-any_moment
@@ -19,3 +19,8 @@ returns-clause-appended g c = rw (← c.self.view_is)
     append_holds (g.P.Parts.disks c.args.parts.now) (g.P.Parts.disks c.append.new.parts) c.self.inside.log c.append.new.self s (AnEntry c.args.entry.now) c.as_slice.result.now holds (ap (value_of body_format) c.as_slice.ensures ∙ c.in_ok-body.ensures.read)
     c.append.ensures.alone settled c.append.ensures.disk agrees appended)
     c.append.ensures.appended c.append.ensures.settled c.append.ensures.agrees)
+
+pub returns-clause-pages : goal.returns-clause-pages
+returns-clause-pages g c =
+    let holds = rw (← c.self.view_is) at c.requires.holds in
+    pages_stay (g.P.Parts.disks c.args.parts.now) (g.P.Parts.disks c.append.new.parts) c.self.inside.log.disk c.self.inside.log.disk refl holds.1.within c.append.ensures.alone

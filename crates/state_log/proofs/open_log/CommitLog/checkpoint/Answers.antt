@@ -3,26 +3,35 @@ use Rattle.log_bytes.specs.Checkpoint.{state_format}
 use Rattle.log_bytes.specs.Format.{value_of}
 use Rattle.state_log.specs.Holds.{beside}
 use Rattle.state_log.proofs.Checkpoints.{holds_at, none_keeps, says_at}
+use Rattle.state_log.proofs.Holding.{is_log, pages_stay}
 use Rattle.state_log.proofs.open_log.CommitLog.checkpoint.Goals as goal
 
 pub returns-in_err-head-clause-any_moment : goal.returns-in_err-head-clause-any_moment
-returns-in_err-head-clause-any_moment g c = λ tells. none_keeps _ _ c.args.state.now c.requires.holds tells
+returns-in_err-head-clause-any_moment g c = λ t holds tells. none_keeps _ _ t c.args.state.now holds tells
 
 pub returns-in_err-self-inside-clause-any_moment : goal.returns-in_err-self-inside-clause-any_moment
-returns-in_err-self-inside-clause-any_moment g c = λ tells.
-    let holds = rw (← c.self.view_is) at c.requires.holds in
+returns-in_err-self-inside-clause-any_moment g c = rw (← c.self.view_is) (λ t holds tells.
     let below = rw (← c.self.view_is) at c.requires.sequence in
-    says_at (g.P.Parts.disks c.args.parts.now) (g.P.Parts.disks c.format.new.parts) c.self.inside.log c.args.state.now c.as_slice.result.now (1 - c.disk-disk.result) (c.sequence-sequence.result + 1) (ap beside c.disk-disk.ensures.value) (ap (λ (n : ℕ). n + 1) c.sequence-sequence.ensures) below holds (ap (value_of state_format) c.as_slice.ensures ∙ c.in_ok-head.ensures.read) tells c.format.ensures.any_moment
+    says_at (g.P.Parts.disks c.args.parts.now) (g.P.Parts.disks c.format.new.parts) c.self.inside.log t c.args.state.now c.as_slice.result.now (1 - c.disk-disk.result) (c.sequence-sequence.result + 1) (ap beside c.disk-disk.ensures.value) (ap (λ (n : ℕ). n + 1) c.sequence-sequence.ensures) below holds (ap (value_of state_format) c.as_slice.ensures ∙ c.in_ok-head.ensures.read) tells c.format.ensures.any_moment)
 
 pub returns-clause-any_moment : goal.returns-clause-any_moment
-returns-clause-any_moment g c = λ tells.
-    let holds = rw (← c.self.view_is) at c.requires.holds in
+returns-clause-any_moment g c = rw (← c.self.view_is) (λ t holds tells.
     let below = rw (← c.self.view_is) at c.requires.sequence in
-    says_at (g.P.Parts.disks c.args.parts.now) (g.P.Parts.disks c.format.new.parts) c.self.inside.log c.args.state.now c.as_slice.result.now (1 - c.disk-disk.result) (c.sequence-sequence.result + 1) (ap beside c.disk-disk.ensures.value) (ap (λ (n : ℕ). n + 1) c.sequence-sequence.ensures) below holds (ap (value_of state_format) c.as_slice.ensures ∙ c.in_ok-head.ensures.read) tells c.format.ensures.any_moment
+    says_at (g.P.Parts.disks c.args.parts.now) (g.P.Parts.disks c.format.new.parts) c.self.inside.log t c.args.state.now c.as_slice.result.now (1 - c.disk-disk.result) (c.sequence-sequence.result + 1) (ap beside c.disk-disk.ensures.value) (ap (λ (n : ℕ). n + 1) c.sequence-sequence.ensures) below holds (ap (value_of state_format) c.as_slice.ensures ∙ c.in_ok-head.ensures.read) tells c.format.ensures.any_moment)
 
 pub returns-clause-done : goal.returns-clause-done
 returns-clause-done g c =
     let holds = rw (← c.self.view_is) at c.requires.holds in
     let below = rw (← c.self.view_is) at c.requires.sequence in
-    holds_at (g.P.Parts.disks c.args.parts.now) (g.P.Parts.disks c.format.new.parts) c.self.inside.log c.in_ok-self-inside.field-0 c.args.state.now c.as_slice.result.now (1 - c.disk-disk.result) (c.sequence-sequence.result + 1) (ap beside c.disk-disk.ensures.value) (ap (λ (n : ℕ). n + 1) c.sequence-sequence.ensures) below holds (ap (value_of state_format) c.as_slice.ensures ∙ c.in_ok-head.ensures.read)
+    holds_at (g.P.Parts.disks c.args.parts.now) (g.P.Parts.disks c.format.new.parts) c.self.inside.log c.in_ok-self-inside.field-0 holds.0 c.args.state.now c.as_slice.result.now (1 - c.disk-disk.result) (c.sequence-sequence.result + 1) (ap beside c.disk-disk.ensures.value) (ap (λ (n : ℕ). n + 1) c.sequence-sequence.ensures) below holds.1 (ap (value_of state_format) c.as_slice.ensures ∙ c.in_ok-head.ensures.read)
     c.format.ensures.alone c.in_ok-self-inside.ensures.settled c.in_ok-self-inside.ensures.disk c.in_ok-self-inside.ensures.agrees c.in_ok-self-inside.ensures.formatted
+
+pub returns-in_err-self-inside-clause-pages : goal.returns-in_err-self-inside-clause-pages
+returns-in_err-self-inside-clause-pages g c =
+    let holds = rw (← c.self.view_is) at c.requires.holds in
+    pages_stay (g.P.Parts.disks c.args.parts.now) (g.P.Parts.disks c.format.new.parts) (beside c.self.inside.log.disk) (1 - c.disk-disk.result) (ap beside c.disk-disk.ensures.value) (is_log c.self.inside.log.disk holds.1.within) c.format.ensures.alone
+
+pub returns-clause-pages : goal.returns-clause-pages
+returns-clause-pages g c =
+    let holds = rw (← c.self.view_is) at c.requires.holds in
+    pages_stay (g.P.Parts.disks c.args.parts.now) (g.P.Parts.disks c.format.new.parts) (beside c.self.inside.log.disk) (1 - c.disk-disk.result) (ap beside c.disk-disk.ensures.value) (is_log c.self.inside.log.disk holds.1.within) c.format.ensures.alone

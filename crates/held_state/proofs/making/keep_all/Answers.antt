@@ -1,0 +1,20 @@
+use Rattle.std.proofs.lemmas.Grind.{common_steps}
+use Rattle.std.proofs.Common.{arith, ◌≡◌, [], ◌∷◌, List, false, rules, subst, sym}
+use Rattle.std.specs.Vec.Iter.{into_iter_items}
+use Rattle.thor_value.specs.FiniteMap.{has}
+use Rattle.two_phase.specs.Contents.{Contents}
+use Rattle.held_state.proofs.Filled.{keep_new, keep_next}
+use Rattle.held_state.specs.Making.{KeepsTo}
+use Rattle.held_state.proofs.making.keep_all.Goals as goal
+
+pub loop-tx-preserved : goal.loop-tx-preserved
+loop-tx-preserved c = λ prepared to.
+    let step : into_iter_items c.loop-tx.tx-iterator ≡ c.in-Some.tx ∷ into_iter_items c.next.new.self = search rules in
+    let new : has c.loop-tx.table.transactions c.in-Some.tx ≡ false = search rules in
+    subst (λ (d : Contents). KeepsTo c.args.repo prepared c.args.kept d (into_iter_items c.next.new.self)) (sym c.in_ok-keep.ensures.ok)
+    (keep_next c.args.repo prepared c.args.kept c.requires.rise c.loop-tx.table c.in-Some.tx (into_iter_items c.next.new.self) new (subst (KeepsTo c.args.repo prepared c.args.kept c.loop-tx.table) step (c.loop-tx.invariant prepared to)))
+
+pub returns : goal.returns
+returns c = λ prepared to.
+    let done : into_iter_items c.loop-tx.tx-iterator ≡ [] = grind (arith, common_steps, c.in-None.ensures.steps, c.next.ensures.steps) in
+    subst (KeepsTo c.args.repo prepared c.args.kept c.loop-tx.table) done (c.loop-tx.invariant prepared to)

@@ -1,0 +1,112 @@
+-- What an entry changes of what is kept in memory.
+use Rattle.std.specs.List.{fold, list_all}
+use Rattle.std.specs.Prelude.{Bool, List, None, Option, Some, [], cond, false, max, nat_eq, not, true, ℕ, ◌&&◌, ◌+◌, ◌≡◌}
+use Rattle.mob_buffer.specs.Buffer.{AreOneRepo}
+use Rattle.state_log.specs.Values.{writes_if}
+use Rattle.commit_log.specs.declared.entry.Entry.TheVariants.{Decided, Finished, Life, One, Prepared, Upgraded}
+use Rattle.commit_log.specs.declared.entry.Entry.{Entry}
+use Rattle.commit_log.specs.declared.request.Request.{Request}
+use Rattle.log_bytes.specs.Grammar.{BodyFits}
+use Rattle.log_bytes.specs.declared.body.Body.TheVariants.{Entry as AnEntry}
+use Rattle.mob_flusher.specs.Map.{with_installed, with_writes}
+use Rattle.state_log.specs.Recovered.{page_above, texts_after, threshold_after}
+use Rattle.thor_value.specs.FiniteMap.{get, has, insert}
+use Rattle.thor_value.specs.declared.names.Oref.{Oref}
+use Rattle.thor_value.specs.declared.names.Ts.{Ts}
+use Rattle.thor_value.specs.declared.values.Obj.{Obj}
+use Rattle.two_phase.specs.Contents.{Contents, decided, finished, keeping, keeps, open_at, without}
+use Rattle.two_phase.specs.Lists.{aborted_of}
+use Rattle.two_phase.specs.declared.transaction.Transaction.TheVariants.{Open}
+use Rattle.held_state.specs.declared.held.Held.{Held}
+
+-- all names are of one repository
+abbrev pub are_of : ℕ → List (Oref × Obj) → Bool
+are_of repo writes = list_all (λ w. nat_eq w.0.repo repo) writes
+
+-- the pages that a request writes are below the next page, and below the page that is granted next
+abbrev pub reached : Held → Request → Held
+reached h q = record h { next_page = fold page_above h.next_page q.writes; next_grant = max h.next_grant (fold page_above h.next_page q.writes) }
+
+-- a request's transaction commits
+abbrev pub committed_in : Held → Request → Held
+committed_in h q = record h { objects = with_writes h.objects q.writes; threshold = threshold_after h.threshold q.kind q.tx; upgrades = texts_after h.upgrades q.kind }
+
+-- with no other participant
+abbrev pub alone_in : Held → Request → Held
+alone_in h q = record (committed_in (reached h q) q) { table = record h.table { alone = insert h.table.alone q.who.client q.tx } }
+
+-- a request is prepared, in the place of the one that its transaction had open
+abbrev pub opened_in : Contents → Request → Contents
+opened_in c q = record c { transactions = insert c.transactions q.tx (Open q) }
+
+abbrev pub prepared_in : Held → Request → Held
+prepared_in h q = record (reached h q) { table = opened_in (finished h.table q.tx (open_at h.table q.tx)) q }
+
+-- the decision to commit what isn't open is kept
+abbrev pub kept_in : Contents → Ts → Contents
+kept_in c t = cond (has c.transactions t) c (keeping c t)
+
+-- a transaction is decided, of which this request is open
+abbrev pub decided_by : Held → Ts → Bool → Option Request → Held
+decided_by h t false o = record h { table = decided h.table t false o }
+decided_by h t true None = record h { table = kept_in h.table t }
+decided_by h t true (Some q) = committed_in (record h { table = keeping h.table t }) q
+
+-- and finished
+abbrev pub finished_by : Held → Ts → Bool → Option Request → Held
+finished_by h t commit None = h
+finished_by h t false (Some q) = record h { table = without h.table t }
+finished_by h t true (Some q) = committed_in (record h { table = without h.table t }) q
+
+-- an entry comes, its count aside
+abbrev pub moved : Held → Entry → Held
+moved h (Life n) = record h { life = n; table = aborted_of h.table h.repo }
+moved h (One q) = alone_in h q
+moved h (Upgraded q) = alone_in h q
+moved h (Prepared q) = prepared_in h q
+moved h (Decided t commit) = decided_by h t commit (open_at h.table t)
+moved h (Finished t commit) = finished_by h t commit (open_at h.table t)
+
+-- an entry comes
+abbrev pub entered : Held → Entry → Held
+entered h e = record (moved h e) { count = h.count + 1 }
+
+-- Whether an entry can come next: what it writes is of this repository, and it prepares no transaction
+-- whose decision to commit is kept.
+abbrev pub can_enter : Held → Entry → Bool
+can_enter h (One q) = are_of h.repo q.writes
+can_enter h (Upgraded q) = are_of h.repo q.writes
+can_enter h (Prepared q) = not (keeps (get h.table.transactions q.tx)) && are_of h.repo q.writes
+can_enter h (Life n) = true
+can_enter h (Decided t commit) = true
+can_enter h (Finished t commit) = true
+
+-- a side of a page comes into use
+abbrev pub installed_in : Held → ℕ → ℕ → Held
+installed_in h page side = record h { objects = with_installed h.objects page side }
+
+-- ---- what it takes
+
+-- the writes that an entry commits
+abbrev pub loaded : Held → Entry → List (Oref × Obj)
+loaded h (Life n) = []
+loaded h (One q) = q.writes
+loaded h (Prepared q) = []
+loaded h (Decided t commit) = writes_if commit (open_at h.table t)
+loaded h (Finished t commit) = writes_if commit (open_at h.table t)
+loaded h (Upgraded q) = q.writes
+
+-- nothing is known of a transaction that is prepared, but a request that it had open
+abbrev pub IsNew : Held → Entry → Type 0
+IsNew h (Prepared q) = get (finished h.table q.tx (open_at h.table q.tx)).transactions q.tx ≡ None
+IsNew h (Life n) = Unit {0}
+IsNew h (One q) = Unit {0}
+IsNew h (Upgraded q) = Unit {0}
+IsNew h (Decided t commit) = Unit {0}
+IsNew h (Finished t commit) = Unit {0}
+
+-- an entry can be put into what is kept
+pub record CanMove (h : Held) (e : Entry) : Type 0 where
+  pub fits : BodyFits (AnEntry e)
+  pub one_repo : AreOneRepo h.objects.mob.objects (loaded h e)
+  pub is_new : IsNew h e

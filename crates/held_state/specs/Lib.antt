@@ -1,0 +1,4 @@
+pub mod Entering
+pub mod Keeps
+pub mod Making
+pub mod Said

@@ -1,0 +1,45 @@
+-- What is recovered, by the log that was found.
+use Rattle.std.proofs.Common.{◌≡◌, ◌⊎◌, List, None, Ok, Err, Option, Result, Some, ap, inl, inr, refl, subst, sym, IfOk, IfSome, ℕ, ◌∙◌}
+use Rattle.std.specs.Option.{IsSome, option_and_then, option_map}
+use Rattle.disk_trait.specs.Disks.{Disks}
+use Rattle.held_state.specs.Keeps.{Keeps}
+use Rattle.held_state.specs.Said.{said}
+use Rattle.log_bytes.specs.declared.state.State.{State}
+use Rattle.log_frame.specs.Log.{Place, Stands}
+use Rattle.recovery.specs.Damage.{Fault, IsDamaged}
+use Rattle.recovery.specs.Found.{IsRecovered}
+use Rattle.recovery.specs.declared.fault.RecoverFault.{RecoverFault}
+use Rattle.recovery.specs.declared.recovered.Recovered.{Recovered}
+use Rattle.state_log.specs.Holds.{Holds}
+use Rattle.state_log.specs.Opening.{Found, log_of}
+use Rattle.state_log.specs.Recovered.{stands, state_in}
+
+pub if_ok : {T E : Type 0} (A B : T → Type 0) (r : Result T E) → ((x : T) → A x → B x) → IfOk r A → IfOk r B
+if_ok A B (Ok x) f p = f x p
+if_ok A B (Err e) f p = tt
+
+pub recovered_keeps : (found : Option Found) (r : Option Recovered) → IsRecovered found r → IfSome r (λ x. Keeps x.state)
+recovered_keeps None None is = tt
+recovered_keeps None (Some x) is = absurd is
+recovered_keeps (Some f) None is = absurd is
+recovered_keeps (Some f) (Some x) is = is.2
+
+pub recovered_holds : (disks : Disks) (found : Option Found) (r : Option Recovered) → IsRecovered found r → ((s : State) → IfSome found (λ f. state_in (log_of f) ≡ Some s → Holds disks f.0 s)) → IfSome r (λ x. Holds disks x.log (said x.state))
+recovered_holds disks None None is holds = tt
+recovered_holds disks None (Some x) is holds = absurd is
+recovered_holds disks (Some f) None is holds = absurd is
+recovered_holds disks (Some f) (Some x) is holds = subst (λ (p : Place). Holds disks p (said x.state)) (sym is.0) (holds (said x.state) is.1)
+
+pub recovered_stands : (images : ℕ → List ℕ) (found : Option Found) (r : Option Recovered) → IsRecovered found r → stands images ≡ option_and_then (λ f. state_in (log_of f)) found → stands images ≡ option_map (λ x. said x.state) r
+recovered_stands images None None is stood = stood
+recovered_stands images None (Some x) is stood = absurd is
+recovered_stands images (Some f) None is stood = absurd is
+recovered_stands images (Some f) (Some x) is stood = stood ∙ is.1
+
+pub found_none : (found : Option Found) (r : Result (Option Recovered) RecoverFault) → IfOk r (IsRecovered found) → r ≡ Ok None → found ≡ None
+found_none None r is none = refl
+found_none (Some f) r is none = absurd (subst (λ (q : Result (Option Recovered) RecoverFault). IfOk q (IsRecovered (Some f))) none is)
+
+pub inner_damaged : (images : ℕ → List ℕ) (found : Option Found) (d place : ℕ) → IfSome found (λ f. (d ≡ f.0.disk) × Fault (log_of f) place) → IsSome found → IfSome found (λ f. Stands (images f.0.disk) (log_of f)) → IsDamaged images d place
+inner_damaged images None d place fault there stood = cc
+inner_damaged images (Some f) d place fault there stood = inr (log_of f, (subst (λ (n : ℕ). Stands (images n) (log_of f)) (sym fault.0) stood, fault.1))

@@ -1,0 +1,38 @@
+use Rattle.log_bytes.specs.Format.{value_of}
+use Rattle.log_bytes.specs.Grammar.{body_format}
+use Rattle.std.proofs.Common.{◌≡◌, IsErrOf, List, Some, map, ℕ, rules, subst, sym, ◌∙◌}
+use Rattle.held_state.specs.Said.{said}
+use Rattle.recovery.specs.Damage.{CantHold, IsNoBody, NoBody, NoCheckpoint, NoSequence}
+use Rattle.recovery.specs.declared.fault.RecoverFault.TheVariants.{Damaged}
+use Rattle.recovery.proofs.Replayed.{state_is}
+use Rattle.state_log.specs.Opening.{log_of}
+use Rattle.recovery.proofs.recovering.replay.Goals as goal
+
+pub returns-clause-state : goal.returns-clause-state
+returns-clause-state c =
+    state_is (log_of (c.args.log.now, c.args.head.now, c.args.records.now)) c.in_ok-state.state (said c.in_ok-held.held) c.in_ok-bodies.bodies c.in_ok-disk.ensures.small c.in_ok-state.ensures.state
+    (subst (λ (rs : List (List ℕ)). map (value_of body_format) rs ≡ map Some c.in_ok-bodies.bodies) c.as_slice.ensures c.in_ok-bodies.ensures.bodies) c.in_ok-held.ensures.said
+
+pub returns-in_err-disk-clause-damaged : goal.returns-in_err-disk-clause-damaged
+returns-in_err-disk-clause-damaged c = λ d place is.
+    let wrong : IsErrOf c.disk_of.result (Damaged d place) = search rules in
+    let f = c.disk_of.ensures.damaged d place wrong in
+    (f.0, NoSequence f.2 f.1)
+
+pub returns-in_err-state-clause-damaged : goal.returns-in_err-state-clause-damaged
+returns-in_err-state-clause-damaged c = λ d place is.
+    let wrong : IsErrOf c.read_head.result (Damaged d place) = search rules in
+    let f = c.read_head.ensures.damaged d place wrong in
+    (f.0 ∙ c.in_ok-disk.ensures.disk, NoCheckpoint f.2 f.1)
+
+pub returns-in_err-bodies-clause-damaged : goal.returns-in_err-bodies-clause-damaged
+returns-in_err-bodies-clause-damaged c = λ d place is.
+    let wrong : IsErrOf c.read_bodies.result (Damaged d place) = search rules in
+    let f = c.read_bodies.ensures.damaged d place wrong in
+    (f.0 ∙ c.in_ok-disk.ensures.disk, NoBody (subst (λ (n : ℕ). IsNoBody n c.args.records.now place) c.first_gate-first.ensures (subst (λ (rs : List (List ℕ)). IsNoBody c.first_gate-first.result rs place) c.as_slice.ensures f.1)))
+
+pub returns-in_err-held-clause-damaged : goal.returns-in_err-held-clause-damaged
+returns-in_err-held-clause-damaged c = λ d place is.
+    let wrong : IsErrOf c.hold_on.result (Damaged d place) = search rules in
+    let f = c.hold_on.ensures.damaged d place wrong in
+    (f.0 ∙ c.in_ok-disk.ensures.disk, CantHold f.1)

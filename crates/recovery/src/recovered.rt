@@ -1,0 +1,13 @@
+use held_state::HeldState;
+use state_log::CommitLog;
+
+/// A repository as its logs tell it.
+#[derive(Drop)]
+pub struct Recovered {
+    /// The state behind all records.
+    pub state: HeldState,
+    /// The log that counts.
+    pub log: CommitLog,
+    /// The count of entries of its checkpoint.
+    pub count: u64,
+}

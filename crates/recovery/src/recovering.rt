@@ -1,0 +1,209 @@
+ghost use Rattle.std.specs.List.{AllByRecursion, fold};
+ghost use Rattle.std.specs.Option.{IfSome, IsSome, option_and_then, option_map};
+ghost use Rattle.std.specs.Prelude.{◌≡◌, ◌<◌, ◌^◌, ◌≤◌, IfOk, IsErrOf, List, None, Ok, OnOk, Some, ℕ};
+ghost use Rattle.disk_trait.specs.AllDisks.{AllSettled, LeavesAll, MayLeaveAll, ReadsAs, SameContent};
+ghost use Rattle.disk_trait.specs.Disks.{Disks, Rose};
+ghost use Rattle.held_state.specs.Keeps.{Keeps};
+ghost use Rattle.held_state.specs.Said.{said};
+ghost use Rattle.log_bytes.specs.Checkpoint.{StateFits};
+ghost use Rattle.log_bytes.specs.Grammar.{BodyFits};
+ghost use Rattle.log_bytes.specs.declared.state.State.{State as AState};
+ghost use Rattle.log_frame.specs.Log.{Stands};
+ghost use Rattle.recovery.specs.Damage.{Counted, Fault, IsDamaged};
+ghost use Rattle.recovery.specs.Found.{IsRecovered};
+ghost use Rattle.recovery.specs.declared.fault.RecoverFault.TheVariants.{Damaged, Failed};
+ghost use Rattle.state_log.specs.Holds.{Holds};
+ghost use Rattle.state_log.specs.Opening.{IsFresh, IsTorn, log_of};
+ghost use Rattle.state_log.specs.Recovered.{after, stands, state_in};
+
+use crate::bodies::{first_gate, read_bodies, read_head};
+use crate::fault::{RecoverFault, found_fault};
+use crate::recovered::Recovered;
+use disk_trait::Parts;
+use held_state::{HeldState, HoldFault};
+use log_bytes::{Body, State};
+use log_frame::Records;
+use state_log::{CommitLog, open_logs};
+use std::alloc::Global;
+use thor_value::{Sequence, Text};
+
+/// The end of the sequences that a log can have.
+const SEQUENCE_END: u64 = 4_611_686_018_427_387_904;
+
+/// Reads a repository from its logs; `None` where neither log disk has an open header. The disks stay as
+/// they were.
+///
+/// `Damaged` tells where the disks have no bytes of a repository: a log's place as `open_logs` tells it, a
+/// record's gate where its body is none, and 0 where a sequence or a checkpoint is none, or where a record
+/// can't stand in a log: it writes under a name of another repository, or prepares what is decided.
+pub fn recover<P: Parts>(
+    alloc: Global,
+    parts: &mut P,
+    mob_limit: u32,
+) -> Result<Option<Recovered>, RecoverFault>
+    requires { AllSettled (P.disks parts.old) }
+    ensures any_moment { LeavesAll (P.disks parts.old) (P.disks parts.new) (MayLeaveAll (P.disks parts.old) (P.disks parts.old).time) }
+    ensures settled { AllSettled (P.disks parts.new) }
+    ensures content { SameContent (P.disks parts.old) (P.disks parts.new) }
+    ensures keeps { IfOk result (λ found. IfSome found (λ r. Keeps r.state)) }
+    ensures holds { IfOk result (λ found. IfSome found (λ r. Holds (P.disks parts.new) r.log (said r.state))) }
+    ensures found { (images : ℕ → List ℕ) → ReadsAs (P.disks parts.old) images → IfOk result (λ found. stands images ≡ option_map (λ r. said r.state) found) }
+    ensures fresh { (images : ℕ → List ℕ) → ReadsAs (P.disks parts.old) images → result ≡ Ok None → IsFresh images }
+    ensures damaged { (images : ℕ → List ℕ) (d place : ℕ) → ReadsAs (P.disks parts.old) images → IsErrOf result (Damaged d place) → IsDamaged images d place }
+    ensures failed { (d : ℕ) → IsErrOf result (Failed d) → Rose ((P.disks parts.old).faults d) ((P.disks parts.new).faults d) }
+{
+    let found = find(alloc, parts)?;
+    replay_found(alloc, found, mob_limit)
+}
+
+// What `open_logs` finds.
+fn find<P: Parts>(
+    alloc: Global,
+    parts: &mut P,
+) -> Result<Option<(CommitLog, Text, Records)>, RecoverFault>
+    requires { AllSettled (P.disks parts.old) }
+    ensures any_moment { LeavesAll (P.disks parts.old) (P.disks parts.new) (MayLeaveAll (P.disks parts.old) (P.disks parts.old).time) }
+    ensures settled { AllSettled (P.disks parts.new) }
+    ensures content { SameContent (P.disks parts.old) (P.disks parts.new) }
+    ensures holds { (s : AState) → IfOk result (λ found. IfSome found (λ f. state_in (log_of f) ≡ Some s → Holds (P.disks parts.new) f.0 s)) }
+    ensures found { (images : ℕ → List ℕ) → ReadsAs (P.disks parts.old) images → IfOk result (λ found. stands images ≡ option_and_then (λ f. state_in (log_of f)) found) }
+    ensures log { (images : ℕ → List ℕ) → ReadsAs (P.disks parts.old) images → IfOk result (λ found. IfSome found (λ f. Stands (images f.0.disk) (log_of f))) }
+    ensures fresh { (images : ℕ → List ℕ) → ReadsAs (P.disks parts.old) images → result ≡ Ok None → IsFresh images }
+    ensures damaged { (images : ℕ → List ℕ) (d place : ℕ) → ReadsAs (P.disks parts.old) images → IsErrOf result (Damaged d place) → IsTorn images d place }
+    ensures failed { (d : ℕ) → IsErrOf result (Failed d) → Rose ((P.disks parts.old).faults d) ((P.disks parts.new).faults d) }
+{
+    match open_logs(alloc, parts) {
+        Ok(found) => Ok(found),
+        Err(fault) => Err(found_fault(fault)),
+    }
+}
+
+// What was found, with its state.
+fn replay_found(
+    alloc: Global,
+    found: Option<(CommitLog, Text, Records)>,
+    mob_limit: u32,
+) -> Result<Option<Recovered>, RecoverFault>
+    ensures recovered { IfOk result (IsRecovered found) }
+    ensures damaged { (d place : ℕ) → IsErrOf result (Damaged d place) → IfSome found (λ f. (d ≡ f.0.disk) × Fault (log_of f) place) }
+    ensures damaged_some { (d place : ℕ) → IsErrOf result (Damaged d place) → IsSome found }
+    ensures failed { (d : ℕ) → IsErrOf result (Failed d) → ⊥ }
+{
+    match found {
+        None => Ok(None),
+        Some((log, head, records)) => {
+            let replayed = replay(alloc, &log, &head, &records, mob_limit)?;
+            let (state, count) = replayed;
+            Ok(Some(Recovered { state, log, count }))
+        }
+    }
+}
+
+// The state of a log's checkpoint and its records, with the checkpoint's count.
+fn replay(
+    alloc: Global,
+    log: &CommitLog,
+    head: &Text,
+    records: &Records,
+    mob_limit: u32,
+) -> Result<(HeldState, u64), RecoverFault>
+    ensures state { IfOk result (λ r. state_in (log_of (log.now, head.now, records.now)) ≡ Some (said r.0)) }
+    ensures keeps { IfOk result (λ r. Keeps r.0) }
+    ensures count { IfOk result (λ r. Counted head.now r.1) }
+    ensures damaged { (d place : ℕ) → IsErrOf result (Damaged d place) → (d ≡ log.now.disk) × Fault (log_of (log.now, head.now, records.now)) place }
+    ensures failed { (d : ℕ) → IsErrOf result (Failed d) → ⊥ }
+{
+    let disk = disk_of(log)?;
+    let state = read_head(alloc, disk, head)?;
+    let count = state.count;
+    let first = first_gate(head);
+    let bodies = read_bodies(alloc, disk, first, records.as_slice())?;
+    let held = hold_on(alloc, disk, state, &bodies, mob_limit)?;
+    Ok((held, count))
+}
+
+// The disk of a log whose sequence is one that a log can have.
+fn disk_of(log: &CommitLog) -> Result<u8, RecoverFault>
+    ensures disk { IfOk result (λ disk. disk ≡ log.now.disk) }
+    ensures small { OnOk result (log.now.sequence < 2 ^ 62) }
+    ensures damaged { (d place : ℕ) → IsErrOf result (Damaged d place) → (d ≡ log.now.disk) × (place ≡ 0) × (2 ^ 62 ≤ log.now.sequence) }
+    ensures failed { (d : ℕ) → IsErrOf result (Failed d) → ⊥ }
+{
+    let disk = log.disk();
+    if log.sequence() < SEQUENCE_END {
+        Ok(disk)
+    } else {
+        Err(RecoverFault::Damaged { disk, place: 0 })
+    }
+}
+
+// A checkpoint's state with all bodies behind it, where the checkpoint stands on this disk.
+fn hold_on(
+    alloc: Global,
+    disk: u8,
+    state: State,
+    bodies: &Sequence<Body>,
+    mob_limit: u32,
+) -> Result<HeldState, RecoverFault>
+    requires fits { StateFits state }
+    requires fit { AllByRecursion BodyFits bodies.now }
+    ensures keeps { IfOk result Keeps }
+    ensures said { IfOk result (λ held. said held ≡ fold after state bodies.now) }
+    ensures damaged { (d place : ℕ) → IsErrOf result (Damaged d place) → (d ≡ disk) × (place ≡ 0) }
+    ensures failed { (d : ℕ) → IsErrOf result (Failed d) → ⊥ }
+{
+    match hold(alloc, state, bodies, mob_limit) {
+        Ok(held) => Ok(held),
+        Err(HoldFault::Unfit) => Err(RecoverFault::Damaged { disk, place: 0 }),
+        Err(HoldFault::NoMemory) => Err(RecoverFault::NoMemory),
+    }
+}
+
+// A checkpoint's state with all bodies behind it.
+fn hold(
+    alloc: Global,
+    state: State,
+    bodies: &Sequence<Body>,
+    mob_limit: u32,
+) -> Result<HeldState, HoldFault>
+    requires fits { StateFits state }
+    requires fit { AllByRecursion BodyFits bodies.now }
+    ensures keeps { IfOk result Keeps }
+    ensures said { IfOk result (λ held. said held ≡ fold after state bodies.now) }
+{
+    let mut held = HeldState::of(alloc, state, mob_limit)?;
+    put_all(&mut held, bodies.as_slice())?;
+    Ok(held)
+}
+
+// Puts records behind a state.
+fn put_all(held: &mut HeldState, bodies: &[Body]) -> Result<(), HoldFault>
+    requires fit { AllByRecursion BodyFits bodies.now }
+    requires keeps { Keeps held.old }
+    ensures keeps { OnOk result (Keeps held.new) }
+    ensures said { OnOk result (said held.new ≡ fold after (said held.old) bodies.now) }
+{
+    for body in bodies {
+        put_behind(held, body)?;
+    }
+    Ok(())
+}
+
+// Puts one record behind a state.
+fn put_behind(held: &mut HeldState, body: &Body) -> Result<(), HoldFault>
+    requires fits { BodyFits body.now }
+    requires keeps { Keeps held.old }
+    ensures keeps { OnOk result (Keeps held.new) }
+    ensures said { OnOk result (said held.new ≡ after (said held.old) body.now) }
+{
+    match body {
+        Body::Entry(entry) => {
+            if !held.takes(entry) {
+                return Err(HoldFault::Unfit);
+            }
+            held.enter(entry)?;
+        }
+        Body::Installed { page, side } => held.installed(*page, *side)?,
+    }
+    Ok(())
+}
