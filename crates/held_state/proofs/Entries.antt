@@ -1,5 +1,5 @@
 -- What is kept in memory moves by an entry as its log does.
-use Rattle.std.proofs.Common.{◌≡◌, Bool, List, None, Option, Some, [], ap, arith, cond, false, max, not, refl, subst, sym, true, ℕ, ◌&&◌, ◌==◌, ◌+◌, ◌<◌, ◌^◌, ◌∙◌, ◌≤◌}
+use Rattle.std.proofs.Common.{◌≡◌, Bool, List, None, Option, Some, [], ◌∷◌, ap, arith, cond, false, max, not, refl, subst, sym, true, ℕ, ◌&&◌, ◌==◌, ◌+◌, ◌<◌, ◌^◌, ◌∙◌, ◌≤◌}
 use Rattle.std.specs.List.{AllByRecursion, fold}
 use Rattle.std.specs.Ordering.{match_ordering}
 use Rattle.std.specs.Prelude.{IsTrue}
@@ -20,6 +20,8 @@ use Rattle.mob_buffer.specs.Buffer.{AreOf, IsOf, with_all, without_page}
 use Rattle.mob_flusher.specs.Map.{Kept as ObjectsKept}
 use Rattle.state_log.specs.Recovered.{after, buffered, changed, decided, kept_by, opened_without, page_above, request_at, threshold_after}
 use Rattle.state_log.specs.Values.{writes_if}
+use Rattle.page_format.specs.Pages.{Contents as PageContents}
+use Rattle.page_store.specs.Store.{Store, refreshed, with_side}
 use Rattle.thor_value.proofs.NameOrders.{oref_exact}
 use Rattle.thor_value.specs.FiniteMap.{get}
 use Rattle.thor_value.specs.Names.{later_of, oref_cmp, ts_cmp}
@@ -34,7 +36,7 @@ use Rattle.held_state.proofs.Kept.{each_filtered, first_of, fits_aborted, fits_a
 use Rattle.held_state.proofs.Pages.{pages_within}
 use Rattle.held_state.proofs.Tables.{aborted_kept, aborted_open, absent_open, gone_kept, gone_open, is_new, keeping_kept, keeping_open, kept_is, more_kept, more_open, open_not_kept, opened_again, request_open}
 use Rattle.held_state.specs.Entering.{CanMove, IsNew, are_of, can_enter, committed_in, decided_by, entered, finished_by, installed_in, kept_in, loaded, moved, opened_in, prepared_in, reached}
-use Rattle.held_state.specs.Keeps.{Keeps, TableFits}
+use Rattle.held_state.specs.Keeps.{IsUnread, Keeps, TableFits}
 use Rattle.held_state.specs.Said.{said}
 use Rattle.held_state.specs.declared.held.Held.{Held}
 
@@ -252,3 +254,33 @@ keeps_forgotten h t b c is keeps_h = record { table = subst (TableFits h.repo) (
     by : (b : Bool) → TableFits h.repo (cond b (without h.table t) h.table)
     by true = fits_without h.repo h.table keeps_h.table t
     by false = keeps_h.table
+
+-- an entry leaves the pages
+
+decided_pages : (h : Held) (t : Ts) (commit : Bool) (o : Option Request) → (decided_by h t commit o).objects.pages ≡ h.objects.pages
+decided_pages h t false o = refl
+decided_pages h t true None = refl
+decided_pages h t true (Some q) = refl
+
+finished_pages : (h : Held) (t : Ts) (commit : Bool) (o : Option Request) → (finished_by h t commit o).objects.pages ≡ h.objects.pages
+finished_pages h t commit None = refl
+finished_pages h t false (Some q) = refl
+finished_pages h t true (Some q) = refl
+
+pub pages_entered : (h : Held) (e : Entry) → (entered h e).objects.pages ≡ h.objects.pages
+pages_entered h (Life n) = refl
+pages_entered h (One q) = refl
+pages_entered h (Upgraded q) = refl
+pages_entered h (Prepared q) = refl
+pages_entered h (Decided t commit) = decided_pages h t commit (open_at h.table t)
+pages_entered h (Finished t commit) = finished_pages h t commit (open_at h.table t)
+
+none_fresh : (held : List (ℕ × Option PageContents)) (page : ℕ) → held ≡ [] → refreshed held page None ≡ []
+none_fresh [] page is = refl
+none_fresh (e ∷ es) page is = cc
+
+unread_side : (pages : Store) (page side : ℕ) → IsUnread pages → IsUnread (with_side pages page side)
+unread_side pages page side unread = record { none_held = none_fresh pages.held page unread.none_held; none_staged = refl }
+
+pub unread_installed : (h : Held) (page side : ℕ) → IsUnread h.objects.pages → IsUnread (installed_in h page side).objects.pages
+unread_installed h page side unread = unread_side h.objects.pages page side unread

@@ -1,9 +1,10 @@
 -- What holds of all that is kept in memory.
 use Rattle.std.specs.List.{AllByRecursion}
-use Rattle.std.specs.Prelude.{ℕ, ◌<◌, ◌^◌, ◌≡◌, ◌≤◌}
+use Rattle.std.specs.Prelude.{None, [], ℕ, ◌<◌, ◌^◌, ◌≡◌, ◌≤◌}
 use Rattle.commit_log.specs.RequestForm.{RequestFits}
 use Rattle.log_bytes.specs.Checkpoint.{RootFits, StampFits}
 use Rattle.mob_buffer.specs.Buffer.{AreOf}
+use Rattle.page_store.specs.Store.{Store}
 use Rattle.thor_value.specs.FiniteMap.{IsSorted}
 use Rattle.thor_value.specs.Spelling.{TsFits}
 use Rattle.thor_value.specs.declared.names.Ts.{Ts}
@@ -37,3 +38,8 @@ pub record Keeps (h : Held) : Type 0 where
   pub next : h.next_page ≤ h.next_grant
   pub pages : h.next_grant ≤ 65536
   pub roots : AllByRecursion RootFits h.roots
+
+-- pages of which none was read yet, and none written: they agree with each disk that has their sides
+pub record IsUnread (pages : Store) : Type 0 where
+  pub none_held : pages.held ≡ []
+  pub none_staged : pages.staged ≡ None

@@ -8,6 +8,7 @@ ghost use Rattle.std.specs.Prelude.{◌≡◌, List, [], map, IfOk, IsTrue, None
 ghost use Rattle.commit_log.specs.RequestForm.{RequestFits, WriteFits};
 ghost use Rattle.commit_log.specs.declared.request.Request.{Request as ARequest};
 ghost use Rattle.held_state.specs.Entering.{are_of};
+ghost use Rattle.held_state.specs.Keeps.{IsUnread};
 ghost use Rattle.held_state.specs.Making.{AlonesTo, IsTableOf, KeepsTo, OpensTo};
 ghost use Rattle.log_bytes.specs.Checkpoint.{StampFits, client_of, tx_of};
 ghost use Rattle.mob_buffer.specs.Buffer.{AreDistinct, AreOf};
@@ -102,6 +103,7 @@ pub(crate) fn objects_of(
     requires fit { AllByRecursion WriteFits mob }
     requires distinct { AreDistinct mob }
     ensures sides { IfOk result (λ objects. objects.pages.sides ≡ installed.now) }
+    ensures unread { IfOk result (λ objects. IsUnread objects.pages) }
     ensures limit { IfOk result (λ objects. objects.mob.limit ≡ mob_limit) }
     ensures mob { IfOk result (λ objects. objects.mob.objects ≡ mob) }
     ensures one_repo { IfOk result (λ objects. AreOf repo objects.mob.objects) }

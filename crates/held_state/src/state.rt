@@ -1,7 +1,7 @@
 ghost use Rattle.std.specs.Prelude.{◌≡◌, ◌+◌, ◌<◌, ◌≤◌, ◌^◌, IfOk, IfSome, IsErrOf, IsTrue, List, None, Ok, OnOk, Some, [], cond, length, max, slice_get, ℕ};
 ghost use Rattle.disk_trait.specs.Disks.{Disks, IsSettled, Leaves, NoNewImage, OnDisk, Rose, WhereTold};
 ghost use Rattle.held_state.specs.Entering.{can_enter, entered, installed_in};
-ghost use Rattle.held_state.specs.Keeps.{Keeps};
+ghost use Rattle.held_state.specs.Keeps.{IsUnread, Keeps};
 ghost use Rattle.held_state.specs.Said.{said, spelled};
 ghost use Rattle.log_bytes.specs.Checkpoint.{StateFits};
 ghost use Rattle.log_bytes.specs.Grammar.{BodyFits};
@@ -61,6 +61,7 @@ impl HeldState {
         ensures keeps { IfOk result Keeps }
         ensures said { IfOk result (λ held. said held ≡ state) }
         ensures granted { IfOk result (λ held. held.next_grant ≡ state.next_page) }
+        ensures unread { IfOk result (λ held. IsUnread held.objects.pages) }
         ensures limit { IfOk result (λ held. held.objects.mob.limit ≡ mob_limit) }
     {
         let State {
@@ -116,6 +117,7 @@ impl HeldState {
         requires keeps { Keeps self.old }
         requires takes { IsTrue (can_enter self.old entry.now) }
         ensures keeps { OnOk result (Keeps self.new) }
+        ensures pages { OnOk result (self.new.objects.pages ≡ self.old.objects.pages) }
         ensures said { OnOk result (said self.new ≡ after (said self.old) (AnEntry entry.now)) }
         ensures held { OnOk result (self.new ≡ entered self.old entry.now) }
     {
@@ -128,6 +130,7 @@ impl HeldState {
     pub fn installed(&mut self, page: u32, side: u8) -> Result<(), NoMemory>
         requires { side < 2 }
         ensures keeps { Keeps self.old → OnOk result (Keeps self.new) }
+        ensures unread { IsUnread self.old.objects.pages → OnOk result (IsUnread self.new.objects.pages) }
         ensures said { OnOk result (said self.new ≡ after (said self.old) (Installed page side)) }
         ensures held { OnOk result (self.new ≡ installed_in self.old page side) }
     {

@@ -1,5 +1,7 @@
 ghost use Rattle.std.specs.Prelude.{◌≡◌, ◌+◌, ◌<◌, ◌≤◌, ◌^◌, ℕ, List, length, [], Ok, Some, None, slice_get, IfOk, IfSome, OnOk, OnErr, IsErrOf};
-ghost use Rattle.disk_trait.specs.Disks.{Disks, OnDisk, Leaves, WhereTold, IsSettled, Rose};
+ghost use Rattle.std.specs.BTreeMap.{insert_entry};
+ghost use Rattle.std.specs.Ordering.{nat_cmp};
+ghost use Rattle.disk_trait.specs.Disks.{Disks, OnDisk, Leaves, WhereTold, IsSettled, NoNewImage, Rose};
 ghost use Rattle.page_store.specs.Objects.{HasObjects};
 ghost use Rattle.page_store.specs.Sides.{KeepsSides};
 ghost use Rattle.page_store.specs.Store.{Agrees, IsDamage};
@@ -101,6 +103,7 @@ impl ObjectStore {
         requires agrees { WhereTold (P.disks parts.old) 2 (Agrees self.old.pages) }
         ensures alone { OnDisk (P.disks parts.old) (P.disks parts.new) 2 }
         ensures content { (P.disks parts.new).content 2 ≡ (P.disks parts.old).content 2 }
+        ensures crash { NoNewImage (P.disks parts.old) (P.disks parts.new) 2 }
         ensures image { IfOk result (λ image. WhereTold (P.disks parts.old) 2 (λ disk. ShowsImage disk self.old page image)) }
         ensures objects { IfOk result HasObjects }
         ensures mob { self.new.mob ≡ self.old.mob }
@@ -151,6 +154,7 @@ impl ObjectStore {
     /// takes no memory.
     pub fn settle(&mut self, page: u32, side: u8)
         requires last { (repo : ℕ) × IsFlushed self.old repo page side }
+        ensures sides { self.new.pages.sides ≡ insert_entry nat_cmp self.old.pages.sides page side }
         ensures mob { self.new.mob ≡ record self.old.mob { objects = without_page self.old.mob.objects page } }
         ensures agrees { (disk : List ℕ) → Agrees self.old.pages disk → Agrees self.new.pages disk }
         ensures same_map { (disk : List ℕ) (repo : ℕ) → Agrees self.old.pages disk → IsFlushed self.old repo page side → SameMap disk self.old disk self.new repo }

@@ -1,11 +1,14 @@
 -- What is recovered, by the log that was found.
-use Rattle.std.proofs.Common.{◌≡◌, ◌⊎◌, List, None, Ok, Err, Option, Result, Some, ap, inl, inr, refl, subst, sym, IfOk, IfSome, ℕ, ◌∙◌}
+use Rattle.std.proofs.Common.{◌≡◌, ◌⊎◌, [], List, None, Ok, Err, Option, Result, Some, ap, inl, inr, refl, subst, sym, IfOk, IfSome, ℕ, ◌∙◌}
 use Rattle.std.specs.Option.{IsSome, option_and_then, option_map}
 use Rattle.disk_trait.specs.Disks.{Disks}
-use Rattle.held_state.specs.Keeps.{Keeps}
+use Rattle.held_state.specs.Keeps.{IsUnread, Keeps}
 use Rattle.held_state.specs.Said.{said}
 use Rattle.log_bytes.specs.declared.state.State.{State}
 use Rattle.log_frame.specs.Log.{Place, Stands}
+use Rattle.page_format.specs.Pages.{Contents}
+use Rattle.page_store.specs.Sides.{ReachesSides}
+use Rattle.page_store.specs.Store.{Agrees, Store, page_in}
 use Rattle.recovery.specs.Damage.{Fault, IsDamaged}
 use Rattle.recovery.specs.Found.{IsRecovered}
 use Rattle.recovery.specs.declared.fault.RecoverFault.{RecoverFault}
@@ -43,3 +46,17 @@ found_none (Some f) r is none = absurd (subst (λ (q : Result (Option Recovered)
 pub inner_damaged : (images : ℕ → List ℕ) (found : Option Found) (d place : ℕ) → IfSome found (λ f. (d ≡ f.0.disk) × Fault (log_of f) place) → IsSome found → IfSome found (λ f. Stands (images f.0.disk) (log_of f)) → IsDamaged images d place
 inner_damaged images None d place fault there stood = cc
 inner_damaged images (Some f) d place fault there stood = inr (log_of f, (subst (λ (n : ℕ). Stands (images n) (log_of f)) (sym fault.0) stood, fault.1))
+
+-- pages that were not read agree with each disk that has their sides
+unread_agree : (pages : Store) → IsUnread pages → (disk : List ℕ) → ReachesSides pages.sides disk → Agrees pages disk
+unread_agree pages unread disk reaches = record {
+  reaches = reaches;
+  held = λ page contents is. (let none : page_in [] page ≡ Some contents = subst (λ (held : List (ℕ × Option Contents)). page_in held page ≡ Some contents) unread.none_held is in cc);
+  staged = λ page side is. (let none : None ≡ Some (page, side) = sym unread.none_staged ∙ is in cc);
+}
+
+pub recovered_pages : (found : Option Found) (r : Option Recovered) → IsRecovered found r → IfSome r (λ x. (disk : List ℕ) → ReachesSides x.state.objects.pages.sides disk → Agrees x.state.objects.pages disk)
+recovered_pages None None is = tt
+recovered_pages None (Some x) is = absurd is
+recovered_pages (Some f) None is = absurd is
+recovered_pages (Some f) (Some x) is = unread_agree x.state.objects.pages is.3

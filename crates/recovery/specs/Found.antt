@@ -1,6 +1,6 @@
 -- What is made of a log that was found.
 use Rattle.std.specs.Prelude.{None, Option, Some, ◌≡◌}
-use Rattle.held_state.specs.Keeps.{Keeps}
+use Rattle.held_state.specs.Keeps.{IsUnread, Keeps}
 use Rattle.held_state.specs.Said.{said}
 use Rattle.recovery.specs.declared.recovered.Recovered.{Recovered}
 use Rattle.recovery.specs.Damage.{Counted}
@@ -10,6 +10,6 @@ use Rattle.state_log.specs.Recovered.{state_in}
 -- the log with its state, or nothing
 abbrev pub IsRecovered : Option Found → Option Recovered → Type 0
 IsRecovered None None = Unit {0}
-IsRecovered (Some f) (Some r) = (r.log ≡ f.0) × (state_in (log_of f) ≡ Some (said r.state)) × Keeps r.state × Counted f.1 r.count
+IsRecovered (Some f) (Some r) = (r.log ≡ f.0) × (state_in (log_of f) ≡ Some (said r.state)) × Keeps r.state × IsUnread r.state.objects.pages × Counted f.1 r.count
 IsRecovered None (Some r) = ⊥
 IsRecovered (Some f) None = ⊥

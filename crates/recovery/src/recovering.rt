@@ -3,12 +3,14 @@ ghost use Rattle.std.specs.Option.{IfSome, IsSome, option_and_then, option_map};
 ghost use Rattle.std.specs.Prelude.{◌≡◌, ◌<◌, ◌^◌, ◌≤◌, IfOk, IsErrOf, List, None, Ok, OnOk, Some, ℕ};
 ghost use Rattle.disk_trait.specs.AllDisks.{AllSettled, LeavesAll, MayLeaveAll, ReadsAs, SameContent};
 ghost use Rattle.disk_trait.specs.Disks.{Disks, Rose};
-ghost use Rattle.held_state.specs.Keeps.{Keeps};
+ghost use Rattle.held_state.specs.Keeps.{IsUnread, Keeps};
 ghost use Rattle.held_state.specs.Said.{said};
 ghost use Rattle.log_bytes.specs.Checkpoint.{StateFits};
 ghost use Rattle.log_bytes.specs.Grammar.{BodyFits};
 ghost use Rattle.log_bytes.specs.declared.state.State.{State as AState};
 ghost use Rattle.log_frame.specs.Log.{Stands};
+ghost use Rattle.page_store.specs.Sides.{ReachesSides};
+ghost use Rattle.page_store.specs.Store.{Agrees};
 ghost use Rattle.recovery.specs.Damage.{Counted, Fault, IsDamaged};
 ghost use Rattle.recovery.specs.Found.{IsRecovered};
 ghost use Rattle.recovery.specs.declared.fault.RecoverFault.TheVariants.{Damaged, Failed};
@@ -46,6 +48,7 @@ pub fn recover<P: Parts>(
     ensures settled { AllSettled (P.disks parts.new) }
     ensures content { SameContent (P.disks parts.old) (P.disks parts.new) }
     ensures keeps { IfOk result (λ found. IfSome found (λ r. Keeps r.state)) }
+    ensures pages { IfOk result (λ found. IfSome found (λ r. (disk : List ℕ) → ReachesSides r.state.objects.pages.sides disk → Agrees r.state.objects.pages disk)) }
     ensures holds { IfOk result (λ found. IfSome found (λ r. Holds (P.disks parts.new) r.log (said r.state))) }
     ensures found { (images : ℕ → List ℕ) → ReadsAs (P.disks parts.old) images → IfOk result (λ found. stands images ≡ option_map (λ r. said r.state) found) }
     ensures fresh { (images : ℕ → List ℕ) → ReadsAs (P.disks parts.old) images → result ≡ Ok None → IsFresh images }
@@ -109,6 +112,7 @@ fn replay(
 ) -> Result<(HeldState, u64), RecoverFault>
     ensures state { IfOk result (λ r. state_in (log_of (log.now, head.now, records.now)) ≡ Some (said r.0)) }
     ensures keeps { IfOk result (λ r. Keeps r.0) }
+    ensures unread { IfOk result (λ r. IsUnread r.0.objects.pages) }
     ensures count { IfOk result (λ r. Counted head.now r.1) }
     ensures damaged { (d place : ℕ) → IsErrOf result (Damaged d place) → (d ≡ log.now.disk) × Fault (log_of (log.now, head.now, records.now)) place }
     ensures failed { (d : ℕ) → IsErrOf result (Failed d) → ⊥ }
@@ -148,6 +152,7 @@ fn hold_on(
     requires fits { StateFits state }
     requires fit { AllByRecursion BodyFits bodies.now }
     ensures keeps { IfOk result Keeps }
+    ensures unread { IfOk result (λ held. IsUnread held.objects.pages) }
     ensures said { IfOk result (λ held. said held ≡ fold after state bodies.now) }
     ensures damaged { (d place : ℕ) → IsErrOf result (Damaged d place) → (d ≡ disk) × (place ≡ 0) }
     ensures failed { (d : ℕ) → IsErrOf result (Failed d) → ⊥ }
@@ -169,6 +174,7 @@ fn hold(
     requires fits { StateFits state }
     requires fit { AllByRecursion BodyFits bodies.now }
     ensures keeps { IfOk result Keeps }
+    ensures unread { IfOk result (λ held. IsUnread held.objects.pages) }
     ensures said { IfOk result (λ held. said held ≡ fold after state bodies.now) }
 {
     let mut held = HeldState::of(alloc, state, mob_limit)?;
@@ -180,7 +186,9 @@ fn hold(
 fn put_all(held: &mut HeldState, bodies: &[Body]) -> Result<(), HoldFault>
     requires fit { AllByRecursion BodyFits bodies.now }
     requires keeps { Keeps held.old }
+    requires unread { IsUnread held.old.objects.pages }
     ensures keeps { OnOk result (Keeps held.new) }
+    ensures unread { OnOk result (IsUnread held.new.objects.pages) }
     ensures said { OnOk result (said held.new ≡ fold after (said held.old) bodies.now) }
 {
     for body in bodies {
@@ -193,7 +201,9 @@ fn put_all(held: &mut HeldState, bodies: &[Body]) -> Result<(), HoldFault>
 fn put_behind(held: &mut HeldState, body: &Body) -> Result<(), HoldFault>
     requires fits { BodyFits body.now }
     requires keeps { Keeps held.old }
+    requires unread { IsUnread held.old.objects.pages }
     ensures keeps { OnOk result (Keeps held.new) }
+    ensures unread { OnOk result (IsUnread held.new.objects.pages) }
     ensures said { OnOk result (said held.new ≡ after (said held.old) body.now) }
 {
     match body {

@@ -10,5 +10,6 @@ put_behind-requires-clause-fits c = all_at BodyFits c.args.bodies.now c.loop-bod
 pub loop-body-preserved : goal.loop-body-preserved
 loop-body-preserved c = (
   c.in_ok-put_behind.ensures.keeps,
-  put_next (said c.args.held.now) (said c.loop-body.held) (said c.put_behind.new.held) c.args.bodies.now c.loop-body.body-index c.body-item.result c.loop-body-test.true c.body-item.is c.loop-body.invariant.1 c.in_ok-put_behind.ensures.said,
+  c.in_ok-put_behind.ensures.unread,
+  put_next (said c.args.held.now) (said c.loop-body.held) (said c.put_behind.new.held) c.args.bodies.now c.loop-body.body-index c.body-item.result c.loop-body-test.true c.body-item.is c.loop-body.invariant.2 c.in_ok-put_behind.ensures.said,
 )

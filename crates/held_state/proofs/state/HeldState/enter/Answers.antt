@@ -1,7 +1,7 @@
 use Rattle.std.proofs.Common.{◌≡◌, ap, subst, sym, ◌∙◌}
 use Rattle.std.specs.Prelude.{IsTrue}
 use Rattle.held_state.proofs.Ends.{on_ok}
-use Rattle.held_state.proofs.Entries.{can_move, keeps_entered, said_entered}
+use Rattle.held_state.proofs.Entries.{can_move, keeps_entered, pages_entered, said_entered}
 use Rattle.held_state.specs.Entering.{CanMove, can_enter, entered}
 use Rattle.held_state.specs.Keeps.{Keeps}
 use Rattle.held_state.specs.Said.{said}
@@ -20,3 +20,8 @@ pub returns-clause-said : goal.returns-clause-said
 returns-clause-said c =
     on_ok (c.enter.new.self ≡ entered c.self.inside.held c.args.entry.now) _ c.enter.result (λ e.
     ap said (e ∙ ap (λ (h : Held). entered h c.args.entry.now) c.self.view_is) ∙ said_entered c.args.self.now c.requires.keeps c.args.entry.now c.requires.takes) c.enter.ensures
+
+pub returns-clause-pages : goal.returns-clause-pages
+returns-clause-pages c =
+    on_ok (c.enter.new.self ≡ entered c.self.inside.held c.args.entry.now) _ c.enter.result (λ e.
+    ap (λ (h : Held). h.objects.pages) (e ∙ ap (λ (h : Held). entered h c.args.entry.now) c.self.view_is) ∙ pages_entered c.args.self.now c.args.entry.now) c.enter.ensures

@@ -1,8 +1,8 @@
 use Rattle.std.proofs.Common.{◌≡◌, ap, subst, sym, ◌∙◌}
 use Rattle.held_state.proofs.Ends.{on_ok}
-use Rattle.held_state.proofs.Entries.{keeps_installed}
+use Rattle.held_state.proofs.Entries.{keeps_installed, unread_installed}
 use Rattle.held_state.specs.Entering.{installed_in}
-use Rattle.held_state.specs.Keeps.{Keeps}
+use Rattle.held_state.specs.Keeps.{IsUnread, Keeps}
 use Rattle.held_state.specs.declared.held.Held.{Held}
 use Rattle.held_state.proofs.state.HeldState.installed.Goals as goal
 
@@ -10,3 +10,8 @@ pub returns-clause-keeps : goal.returns-clause-keeps
 returns-clause-keeps c = λ keeps.
     on_ok (c.installed.new.self ≡ installed_in c.self.inside.held c.args.page c.args.side) _ c.installed.result (λ e.
     subst Keeps (sym (e ∙ ap (λ (h : Held). installed_in h c.args.page c.args.side) c.self.view_is)) (keeps_installed c.args.self.now c.args.page c.args.side keeps)) c.installed.ensures
+
+pub returns-clause-unread : goal.returns-clause-unread
+returns-clause-unread c = λ unread.
+    on_ok (c.installed.new.self ≡ installed_in c.self.inside.held c.args.page c.args.side) _ c.installed.result (λ e.
+    subst (λ (h : Held). IsUnread h.objects.pages) (sym (e ∙ ap (λ (h : Held). installed_in h c.args.page c.args.side) c.self.view_is)) (unread_installed c.args.self.now c.args.page c.args.side unread)) c.installed.ensures
