@@ -6,7 +6,7 @@ use std::rt;
 use std::time::SystemTime;
 
 /// A clock. Nothing rests on how well it runs.
-pub trait Clock: Send + Drop {
+pub trait Clock: Drop {
     /// The greatest number that it gave, 0 before the first.
     ghost greatest: { Self → ℕ };
 
@@ -61,13 +61,13 @@ impl Clock for TickClock {
 
 /// The machine's clock, in milliseconds since 1970.
 #[derive(Drop)]
-pub struct SystemClock<R: rt::Clock + Send + Drop> {
+pub struct SystemClock<R: rt::Clock + Drop> {
     rt: R,
     last: u64,
     greatest: u64,
 }
 
-impl<R: rt::Clock + Send + Drop> SystemClock<R> {
+impl<R: rt::Clock + Drop> SystemClock<R> {
     ghost use Rattle.disk_trait.specs.SystemTime.{no_number_yet};
 
     /// A clock that gave no number yet.
@@ -82,7 +82,7 @@ impl<R: rt::Clock + Send + Drop> SystemClock<R> {
     }
 }
 
-impl<R: rt::Clock + Send + Drop> Clock for SystemClock<R> {
+impl<R: rt::Clock + Drop> Clock for SystemClock<R> {
     ghost greatest = { λ clock. clock.greatest };
 
     ghost gives = { λ clock now then. now ≡ then.last };

@@ -57,7 +57,7 @@ pub(crate) fn ends_too_far(at: u64, len: usize) -> bool
 ///
 /// Between two syncs of a disk a crash may leave any bytes in each written range and past the old end,
 /// at any length from the least to the greatest since the sync. After a sync it leaves what a read gives.
-pub trait Parts: Send + Drop {
+pub trait Parts: Drop {
     /// What contracts see of the parts.
     ghost disks: { Self → Disks };
 

@@ -1,9 +1,10 @@
 -- The objects that a view has at hand.
-use Rattle.std.specs.Prelude.{if◌then◌else◌, nat_lt, Option, Some, None}
+use Rattle.std.specs.Prelude.{ℕ, if◌then◌else◌, nat_lt, Option, Some, None}
 use Rattle.thor_value.specs.FiniteMap.{Map, get}
 use Rattle.thor_value.specs.Names.{oref_cmp}
 use Rattle.thor_value.specs.declared.values.Obj.{Obj}
 use Rattle.class_defs.specs.Applied.{number_of}
+use Rattle.class_defs.specs.Objects.{new_object}
 use Rattle.class_defs.specs.Steps as steps
 use Rattle.class_defs.specs.Stored.{bare}
 use Rattle.class_defs.specs.declared.store.Object.{Object}
@@ -21,4 +22,8 @@ seen_in schema objects = record { schema = schema; at_hand = λ x. current schem
 
 -- the same, of what the code of an evaluation is handed
 abbrev pub reading : World → steps.World
-reading w = seen_in w.schema.now w.objects.now
+reading w = seen_in w.program.schema.now w.objects.now
+
+-- an object of a class as it begins
+abbrev pub new_of : Schema → ℕ → Object
+new_of schema c = new_object (record { schema = schema; at_hand = λ x. None }) c

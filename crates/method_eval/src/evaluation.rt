@@ -10,7 +10,7 @@ ghost use Rattle.method_eval.specs.Viewed.{reading};
 use crate::halt::Halt;
 use crate::run::block;
 use crate::view::{Ran, View};
-use crate::world::World;
+use crate::world::{Program, World};
 use class_defs::{Block, Flow, Machine, Object, Schema, Stop};
 use std::alloc::Global;
 use thor_value::{Answer, Ints, NoMemory, Obj, Oref, OrefMap, Orefs, Sequence, Writes};
@@ -113,13 +113,17 @@ fn ran_at(
 ///
 /// What it costs follows the steps of the run, and not the number of objects in the view.
 #[tactic(auto, unfolding(crate::specs::Answers::evaluation))]
-pub fn eval(alloc: Global, tx: &Block, schema: &Schema, view: &View) -> Result<Ran, NoMemory>
+pub fn eval<'a>(
+    alloc: Global,
+    tx: &Block,
+    schema: &'a Schema,
+    view: &'a View,
+) -> Result<Ran, NoMemory>
     requires { length schema.now.classes ≤ 65536 }
     ensures { IfOk result (λ ran. ran ≡ evaluation tx.now schema.now view.now) }
 {
     let world = World {
-        alloc,
-        schema,
+        program: Program { alloc, schema },
         objects: &view.objects,
     };
     let mut machine = begun(alloc, view)?;

@@ -4,16 +4,16 @@ ghost use Rattle.thor_value.specs.FiniteMap.{has};
 ghost use Rattle.thor_value.specs.Names.{same_oref};
 ghost use Rattle.class_defs.specs.Applied.{number_of};
 ghost use Rattle.class_defs.specs.Objects as spec;
-ghost use Rattle.class_defs.specs.Objects.{seen, touch, field_at, field_value, named_value, take_name, new_object, create, repo_for};
+ghost use Rattle.class_defs.specs.Objects.{seen, touch, field_at, field_value, named_value, take_name, create, repo_for};
 ghost use Rattle.class_defs.specs.Steps as steps;
 ghost use Rattle.class_defs.specs.Types as types;
 ghost use Rattle.method_eval.specs.Does.{Does};
-ghost use Rattle.method_eval.specs.Viewed.{reading};
+ghost use Rattle.method_eval.specs.Viewed.{new_of, reading};
 
 use crate::halt::Halt;
 use crate::steps::fault;
 use crate::types::{field_type, local_named, root_named, type_named};
-use crate::world::World;
+use crate::world::{Program, World};
 use class_defs::{
     At, CREATE_LIMIT, Fields, Machine, NameSupply, Object, READ_LIMIT, STAND_IN_LIMIT, Stop,
     beginning, class_named, fitted,
@@ -22,12 +22,12 @@ use thor_value::{Fault, NoMemory, Obj, Oref, Orefs, Sequence, TryCopy, Value, Va
 
 /// The value of a local, a parameter or a root.
 #[tactic(auto, unfolding(class_defs::specs::Objects::named_value))]
-pub fn named_value(world: &World<'_>, machine: &Machine, name: &[u8]) -> Value
-    ensures { result ≡ named_value world.now.schema.now machine.now name.now }
+pub fn named_value(program: &Program<'_>, machine: &Machine, name: &[u8]) -> Value
+    ensures { result ≡ named_value program.now.schema.now machine.now name.now }
 {
     match local_named(machine, name) {
         Some(local) => local.value,
-        None => match root_named(world, machine, name) {
+        None => match root_named(program, machine, name) {
             Some(root) => Value::Ref(root.oref),
             None => Value::Null,
         },
@@ -35,10 +35,10 @@ pub fn named_value(world: &World<'_>, machine: &Machine, name: &[u8]) -> Value
 }
 
 /// The number of the last upgrade that names a class.
-fn last_upgrade(world: &World<'_>, class: u16) -> u32
-    ensures { result ≡ number_of world.now.schema.now.upgraded class }
+pub fn last_upgrade(program: &Program<'_>, class: u16) -> u32
+    ensures { result ≡ number_of program.now.schema.now.upgraded class }
 {
-    match world.schema.upgraded.get(class as usize) {
+    match program.schema.upgraded.get(class as usize) {
         Some(number) => *number,
         None => 0,
     }
@@ -50,7 +50,7 @@ fn at_hand<'a>(world: &World<'a>, oref: Oref) -> Option<&'a Obj>
 {
     match world.objects.get(oref) {
         Some(obj) => {
-            if obj.ver < last_upgrade(world, obj.class) {
+            if obj.ver < last_upgrade(&world.program, obj.class) {
                 None
             } else {
                 Some(obj)
@@ -75,7 +75,7 @@ fn seen_class(world: &World<'_>, machine: &Machine, oref: Oref) -> Option<u16>
 }
 
 /// A field of an object, where the class has the field and the object its value.
-fn field_at(fields: &Values, index: Option<usize>) -> Option<Value>
+pub fn field_at(fields: &Values, index: Option<usize>) -> Option<Value>
     ensures { result ≡ option_and_then (λ i. slice_get fields.now i) index }
 {
     match index {
@@ -124,10 +124,10 @@ fn seen_copy(world: &World<'_>, machine: &Machine, oref: Oref) -> Result<Option<
 }
 
 /// The place of a field among those of its class.
-fn field_named(world: &World<'_>, class: u16, name: &[u8]) -> Option<usize>
-    ensures { result ≡ types.field_named world.now.schema.now.classes class name.now }
+pub fn field_named(program: &Program<'_>, class: u16, name: &[u8]) -> Option<usize>
+    ensures { result ≡ types.field_named program.now.schema.now.classes class name.now }
 {
-    match world.schema.classes.get(class as usize) {
+    match program.schema.classes.get(class as usize) {
         Some(found) => class_defs::field_named(&found.fields, name),
         None => None,
     }
@@ -157,14 +157,14 @@ fn is_created(machine: &Machine, oref: Oref) -> bool
 }
 
 /// Whether the transaction has read the object before, or made it.
-fn is_known(machine: &Machine, oref: Oref) -> bool
+pub fn is_known(machine: &Machine, oref: Oref) -> bool
     ensures { result ≡ (has machine.now.reads oref || is_some (find (same_oref oref) machine.now.created)) }
 {
     machine.reads.contains(oref) || is_created(machine, oref)
 }
 
 /// The class that was found, or the object is needed.
-fn class_found(found: Option<u16>, oref: Oref, owners: &Orefs) -> Result<u16, Halt>
+pub fn class_found(found: Option<u16>, oref: Oref, owners: &Orefs) -> Result<u16, Halt>
     ensures { MatchResult result (λ class. found ≡ Some class) (λ halt. halt ≢ Halt.NoMemory → (found ≡ None) × (halt ≡ Halt.Stopped (Stop.Need oref owners.now))) }
 {
     match found {
@@ -208,8 +208,8 @@ pub fn field_value(world: &World<'_>, machine: &Machine, name: &[u8]) -> Value
 {
     match &machine.this {
         Some(this) => {
-            let kind = field_type(world, machine, name);
-            let index = field_named(world, this.class, name);
+            let kind = field_type(&world.program, machine, name);
+            let index = field_named(&world.program, this.class, name);
             match seen_field(world, machine, this.oref, index) {
                 Some(value) => fitted(kind, value),
                 None => beginning(kind),
@@ -219,7 +219,7 @@ pub fn field_value(world: &World<'_>, machine: &Machine, name: &[u8]) -> Value
     }
 }
 
-fn set_field(fields: &mut Values, index: usize, value: Value)
+pub fn set_field(fields: &mut Values, index: usize, value: Value)
     ensures { fields.new ≡ slice_set fields.old index value }
 {
     if index < fields.len() {
@@ -241,7 +241,7 @@ pub fn assign_field(
         Some(this) => (this.oref, this.class),
         None => return Ok(()),
     };
-    let index = field_named(world, class, name);
+    let index = field_named(&world.program, class, name);
     match (seen_copy(world, machine, oref)?, index) {
         (Some(mut object), Some(index)) => {
             set_field(&mut object.fields, index, value);
@@ -252,7 +252,7 @@ pub fn assign_field(
 }
 
 /// The repository in which a new object lies.
-fn repo_for(machine: &Machine, at: Option<At>) -> u8
+pub fn repo_for(machine: &Machine, at: Option<At>) -> u8
     ensures { result ≡ repo_for machine.now.this at }
 {
     match &machine.this {
@@ -308,22 +308,22 @@ fn waiting_place(waiting: &Orefs, repo: u8) -> Option<usize>
 
 /// An object of a class as it begins.
 #[tactic(auto, unfolding(class_defs::specs::Objects::new_object))]
-fn new_object(world: &World<'_>, class: u16) -> Result<Object, NoMemory>
-    ensures { IfOk result (λ object. object ≡ new_object (reading world.now) class) }
+pub fn new_object(program: &Program<'_>, class: u16) -> Result<Object, NoMemory>
+    ensures { IfOk result (λ object. object ≡ new_of program.now.schema.now class) }
 {
-    let mut fields = Sequence::new(world.alloc);
-    if let Some(found) = world.schema.classes.get(class as usize) {
-        fields = beginnings(world, &found.fields)?;
+    let mut fields = Sequence::new(program.alloc);
+    if let Some(found) = program.schema.classes.get(class as usize) {
+        fields = beginnings(program, &found.fields)?;
     }
     Ok(Object { class, fields })
 }
 
-fn beginnings(world: &World<'_>, declared: &Fields) -> Result<Values, NoMemory>
-    ensures { IfOk result (λ fields. fields ≡ map (λ f. steps.beginning (types.type_named world.now.schema.now.classes f.type_name)) declared.now) }
+fn beginnings(program: &Program<'_>, declared: &Fields) -> Result<Values, NoMemory>
+    ensures { IfOk result (λ fields. fields ≡ map (λ f. steps.beginning (types.type_named program.now.schema.now.classes f.type_name)) declared.now) }
 {
-    let mut fields = Sequence::new(world.alloc);
+    let mut fields = Sequence::new(program.alloc);
     for field in declared.as_slice() {
-        fields.push(beginning(type_named(world, &field.type_name)))?;
+        fields.push(beginning(type_named(program, &field.type_name)))?;
     }
     Ok(fields)
 }
@@ -339,19 +339,20 @@ pub fn create(
     ensures { Does result machine.new (create (reading world.now) class.now at machine.old) }
 {
     let repo = repo_for(machine, at);
-    match class_named(&world.schema.classes, class) {
+    match class_named(&world.program.schema.classes, class) {
         Some(class) => make(world, machine, class, repo),
         None => Ok(Value::Null),
     }
 }
 
+#[tactic(auto, unfolding(class_defs::specs::Objects::new_object))]
 fn make(world: &World<'_>, machine: &mut Machine, class: u16, repo: u8) -> Result<Value, Halt>
     ensures { Does result machine.new (spec.create_in (reading world.now) repo (Some class) machine.old) }
 {
     if machine.created.len() >= CREATE_LIMIT {
         return fault(Fault::Large);
     }
-    let object = new_object(world, class)?;
+    let object = new_object(&world.program, class)?;
     match take_name(&mut machine.names, repo) {
         Some(oref) => {
             machine.writes.insert(oref, object)?;

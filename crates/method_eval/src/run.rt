@@ -61,7 +61,7 @@ fn node(world: &World<'_>, inner: u32, machine: &mut Machine, expr: &Expr) -> Re
             None => Value::Null,
         }),
         Expr::Field { name } => Ok(field_value(world, machine, name.text.as_slice())),
-        Expr::Variable { name } => Ok(named_value(world, machine, name.text.as_slice())),
+        Expr::Variable { name } => Ok(named_value(&world.program, machine, name.text.as_slice())),
         Expr::New { class, at } => create(world, machine, class.text.as_slice(), *at),
         Expr::Parens {
             inner: part,
@@ -107,7 +107,7 @@ fn values_of(
 ) -> Result<Values, Halt>
     ensures { Does result machine.new (values_of (reading world.now) inner exprs.now machine.old) }
 {
-    let mut values = Values::new(world.alloc);
+    let mut values = Values::new(world.program.alloc);
     for expr in exprs.as_slice() {
         values.push(value_of(world, inner, machine, expr)?)?;
     }
@@ -126,7 +126,7 @@ fn called(
 ) -> Result<Value, Halt>
     ensures { Does result machine.new (called (reading world.now) inner receiver.now method.now arguments.now machine.old) }
 {
-    let kind = type_of(world, machine, receiver);
+    let kind = type_of(&world.program, machine, receiver);
     let target = value_of(world, inner, machine, receiver)?;
     let values = values_of(world, inner, machine, arguments)?;
     match (kind, target) {
@@ -153,7 +153,7 @@ fn call_object(
     if machine.depth >= DEPTH_LIMIT {
         return fault(Fault::Depth);
     }
-    let owners = owners_at(world, class, oref, machine)?;
+    let owners = owners_at(&world.program, class, oref, machine)?;
     let found = touch(world, machine, &owners, oref)?;
     if found != class {
         return fault(Fault::NullCall);
@@ -163,7 +163,7 @@ fn call_object(
         class,
         owners,
     };
-    match method_of(world, class, method) {
+    match method_of(&world.program, class, method) {
         Some(method) => run_body(world, inner, machine, this, method, &arguments),
         None => fault(Fault::NullCall),
     }
@@ -183,7 +183,7 @@ fn run_body(
     requires { machine.old.depth < 64 }
     ensures { Does result machine.new (run_body (reading world.now) inner this method.now arguments.now machine.old) }
 {
-    let locals = bound(world, &method.parameters, arguments)?;
+    let locals = bound(&world.program, &method.parameters, arguments)?;
     let depth = machine.depth;
     let caller_locals = mem::replace(&mut machine.locals, locals);
     let caller = mem::replace(&mut machine.this, Some(this));
@@ -192,7 +192,7 @@ fn run_body(
     machine.depth = depth;
     machine.this = caller;
     machine.locals = caller_locals;
-    Ok(result_of(world, method, flow))
+    Ok(result_of(&world.program, method, flow))
 }
 
 /// The statements of a block in order. A local ends with the block in which it was declared.
@@ -262,7 +262,12 @@ fn statement(
         } => {
             take_step(machine)?;
             let value = value_of(world, inner, machine, value)?;
-            declare(machine, type_named(world, type_name), &name.text, value)?;
+            declare(
+                machine,
+                type_named(&world.program, type_name),
+                &name.text,
+                value,
+            )?;
             Ok(Flow::Next)
         }
         Stmt::Assign {

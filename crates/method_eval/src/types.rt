@@ -4,16 +4,16 @@ ghost use Rattle.class_defs.specs.Objects.{local_named, root_named, type_in_sigh
 ghost use Rattle.class_defs.specs.Types as spec;
 ghost use Rattle.class_defs.specs.Types.{type_named, field_type, name_type, result_type, type_of};
 
-use crate::world::World;
+use crate::world::Program;
 use class_defs::{
     Expr, ExprType, Field, Local, Machine, Method, RootDeclaration, TypeName, class_type,
 };
 
 /// The type that a type's word names.
-pub fn type_named(world: &World<'_>, type_name: &TypeName) -> ExprType
-    ensures { result ≡ type_named world.now.schema.now.classes type_name.now }
+pub fn type_named(program: &Program<'_>, type_name: &TypeName) -> ExprType
+    ensures { result ≡ type_named program.now.schema.now.classes type_name.now }
 {
-    class_defs::type_named(&world.schema.classes, type_name)
+    class_defs::type_named(&program.schema.classes, type_name)
 }
 
 /// The local or parameter with this name.
@@ -29,15 +29,15 @@ pub fn local_named<'a>(machine: &'a Machine, name: &[u8]) -> Option<&'a Local>
 
 /// The root with this name; in a method none can be named.
 pub fn root_named<'a>(
-    world: &World<'a>,
+    program: &Program<'a>,
     machine: &Machine,
     name: &[u8],
 ) -> Option<&'a RootDeclaration>
-    ensures { option_copied result ≡ root_named world.now.schema.now machine.now name.now }
+    ensures { option_copied result ≡ root_named program.now.schema.now machine.now name.now }
 {
     match &machine.this {
         Some(_) => None,
-        None => world
+        None => program
             .schema
             .roots
             .as_slice()
@@ -47,20 +47,20 @@ pub fn root_named<'a>(
 }
 
 /// The method with this name of the class with this number.
-pub fn method_of<'a>(world: &World<'a>, class: u16, name: &[u8]) -> Option<&'a Method>
-    ensures { option_copied result ≡ spec.method_of world.now.schema.now.classes class name.now }
+pub fn method_of<'a>(program: &Program<'a>, class: u16, name: &[u8]) -> Option<&'a Method>
+    ensures { option_copied result ≡ spec.method_of program.now.schema.now.classes class name.now }
 {
-    match world.schema.classes.get(class as usize) {
+    match program.schema.classes.get(class as usize) {
         Some(found) => class_defs::method_of(&found.methods, name),
         None => None,
     }
 }
 
 /// The field with this name of the class with this number.
-pub fn field_of<'a>(world: &World<'a>, class: u16, name: &[u8]) -> Option<&'a Field>
-    ensures { option_copied result ≡ spec.field_of world.now.schema.now.classes class name.now }
+pub fn field_of<'a>(program: &Program<'a>, class: u16, name: &[u8]) -> Option<&'a Field>
+    ensures { option_copied result ≡ spec.field_of program.now.schema.now.classes class name.now }
 {
-    match world.schema.classes.get(class as usize) {
+    match program.schema.classes.get(class as usize) {
         Some(found) => class_defs::field_of(&found.fields, name),
         None => None,
     }
@@ -68,12 +68,12 @@ pub fn field_of<'a>(world: &World<'a>, class: u16, name: &[u8]) -> Option<&'a Fi
 
 /// The type of the field of `this` with this name.
 #[tactic(auto, unfolding(class_defs::specs::Objects::scope_at))]
-pub fn field_type(world: &World<'_>, machine: &Machine, name: &[u8]) -> ExprType
-    ensures { result ≡ field_type (scope_at world.now.schema.now machine.now) name.now }
+pub fn field_type(program: &Program<'_>, machine: &Machine, name: &[u8]) -> ExprType
+    ensures { result ≡ field_type (scope_at program.now.schema.now machine.now) name.now }
 {
     match &machine.this {
-        Some(this) => match field_of(world, this.class, name) {
-            Some(field) => type_named(world, &field.type_name),
+        Some(this) => match field_of(program, this.class, name) {
+            Some(field) => type_named(program, &field.type_name),
             None => ExprType::Untold,
         },
         None => ExprType::Untold,
@@ -82,25 +82,25 @@ pub fn field_type(world: &World<'_>, machine: &Machine, name: &[u8]) -> ExprType
 
 /// The type of a local, parameter or root.
 #[tactic(auto, unfolding(class_defs::specs::Objects::scope_at))]
-fn name_type(world: &World<'_>, machine: &Machine, name: &[u8]) -> ExprType
-    ensures { result ≡ name_type (scope_at world.now.schema.now machine.now) name.now }
+pub fn name_type(program: &Program<'_>, machine: &Machine, name: &[u8]) -> ExprType
+    ensures { result ≡ name_type (scope_at program.now.schema.now machine.now) name.now }
 {
     match local_named(machine, name) {
         Some(local) => local.kind,
-        None => match root_named(world, machine, name) {
-            Some(root) => class_type(&world.schema.classes, &root.class),
+        None => match root_named(program, machine, name) {
+            Some(root) => class_type(&program.schema.classes, &root.class),
             None => ExprType::Untold,
         },
     }
 }
 
 /// The type of what a method answers.
-fn result_type(world: &World<'_>, receiver: ExprType, name: &[u8]) -> ExprType
-    ensures { result ≡ result_type world.now.schema.now.classes receiver name.now }
+pub fn result_type(program: &Program<'_>, receiver: ExprType, name: &[u8]) -> ExprType
+    ensures { result ≡ result_type program.now.schema.now.classes receiver name.now }
 {
     match receiver {
-        ExprType::Class(class) => match method_of(world, class, name) {
-            Some(method) => type_named(world, &method.result),
+        ExprType::Class(class) => match method_of(program, class, name) {
+            Some(method) => type_named(program, &method.result),
             None => ExprType::Untold,
         },
         ExprType::Int | ExprType::Null | ExprType::Untold => ExprType::Untold,
@@ -109,8 +109,8 @@ fn result_type(world: &World<'_>, receiver: ExprType, name: &[u8]) -> ExprType
 
 /// The type of an expression.
 #[tactic(auto, unfolding(class_defs::specs::Types::type_of, class_defs::specs::Objects::scope_at))]
-pub fn type_of(world: &World<'_>, machine: &Machine, expr: &Expr) -> ExprType
-    ensures { result ≡ type_of (scope_at world.now.schema.now machine.now) expr.now }
+pub fn type_of(program: &Program<'_>, machine: &Machine, expr: &Expr) -> ExprType
+    ensures { result ≡ type_of (scope_at program.now.schema.now machine.now) expr.now }
 {
     match expr {
         Expr::Int { value: _, line: _ } => ExprType::Int,
@@ -119,10 +119,10 @@ pub fn type_of(world: &World<'_>, machine: &Machine, expr: &Expr) -> ExprType
             Some(this) => ExprType::Class(this.class),
             None => ExprType::Untold,
         },
-        Expr::Field { name } => field_type(world, machine, name.text.as_slice()),
-        Expr::Variable { name } => name_type(world, machine, name.text.as_slice()),
-        Expr::New { class, at: _ } => class_type(&world.schema.classes, class),
-        Expr::Parens { inner, line: _ } => type_of(world, machine, inner.get()),
+        Expr::Field { name } => field_type(program, machine, name.text.as_slice()),
+        Expr::Variable { name } => name_type(program, machine, name.text.as_slice()),
+        Expr::New { class, at: _ } => class_type(&program.schema.classes, class),
+        Expr::Parens { inner, line: _ } => type_of(program, machine, inner.get()),
         Expr::Negate {
             operand: _,
             line: _,
@@ -138,8 +138,8 @@ pub fn type_of(world: &World<'_>, machine: &Machine, expr: &Expr) -> ExprType
             method,
             arguments: _,
         } => {
-            let receiver = type_of(world, machine, receiver.get());
-            result_type(world, receiver, method.text.as_slice())
+            let receiver = type_of(program, machine, receiver.get());
+            result_type(program, receiver, method.text.as_slice())
         }
     }
 }

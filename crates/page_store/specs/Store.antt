@@ -1,11 +1,11 @@
 -- What a store of pages keeps, and when that agrees with its disk.
-use Rattle.std.specs.Prelude.{◌≡◌, ℕ, ◌<◌, List, length, Option, Some, None, is_some, nat_eq, if◌then◌else◌}
+use Rattle.std.specs.Prelude.{◌≡◌, ℕ, ◌+◌, ◌<◌, ◌≤◌, List, length, Option, Some, None, is_some, nat_eq, if◌then◌else◌}
 use Rattle.std.specs.Option.{unwrap_or}
 use Rattle.std.specs.Map.{lookup}
 use Rattle.std.specs.Ordering.{nat_cmp}
 use Rattle.std.specs.BTreeMap.{insert_entry}
 use Rattle.lru.specs.LruCache.{lru_cache, put_entries}
-use Rattle.page_format.specs.Pages.{Contents}
+use Rattle.page_format.specs.Pages.{Contents, page_size}
 use Rattle.page_format.specs.Sides.{side_in_use}
 use Rattle.page_store.specs.Objects.{HasObjects, Spells}
 use Rattle.disk_trait.specs.Disks.{Disks, WhereTold}
@@ -81,3 +81,7 @@ pub record IsDamage (disks : Disks) (sides : List (ℕ × ℕ)) (page place : �
   pub in_use : side_in_use sides page ≡ Some side
   pub place_is : place ≡ place_of page side
   pub none : WhereTold disks 2 (λ disk. (found : Contents) → Spells (side_bytes disk page side) page found → ⊥)
+
+-- the disk of pages, where it is told, reaches the end of a page's side
+pub record ReachesSide (disks : Disks) (page : ℕ) (in_use : Option ℕ) : Type 0 where
+  pub within : (side : ℕ) → in_use ≡ Some side → WhereTold disks 2 (λ disk. place_of page side + page_size ≤ length disk)

@@ -9,7 +9,7 @@ ghost use Rattle.page_format.specs.Pages.{Contents, page_bytes, page_size};
 ghost use Rattle.page_format.specs.Sides.{SidesFit, side_in_use};
 ghost use Rattle.page_store.specs.Objects.{HasObjects, Spells, empty_page};
 ghost use Rattle.page_store.specs.Sides.{KeepsSides, ReachesSides, Shows, next_side, place_of, side_bytes};
-ghost use Rattle.page_store.specs.Store.{Agrees, IsDamage, held_page, reads_of, refreshed, with_held, with_place, with_side, IsStaged};
+ghost use Rattle.page_store.specs.Store.{Agrees, IsDamage, ReachesSide, held_page, reads_of, refreshed, with_held, with_place, with_side, IsStaged};
 ghost use Rattle.page_store.specs.declared.fault.StoreFault.TheVariants.{Damaged, Failed};
 
 use crate::device::{read_side, write_side};
@@ -247,7 +247,7 @@ fn fetch<P: Parts>(
     page: u32,
     in_use: Option<u8>,
 ) -> Result<Page, StoreFault>
-    requires within { (side : ℕ) → in_use ≡ Some side → WhereTold (P.disks parts.old) 2 (λ disk. place_of page side + page_size ≤ length disk) }
+    requires { ReachesSide (P.disks parts.old) page in_use }
     ensures alone { OnDisk (P.disks parts.old) (P.disks parts.new) 2 }
     ensures content { (P.disks parts.new).content 2 ≡ (P.disks parts.old).content 2 }
     ensures crash { NoNewImage (P.disks parts.old) (P.disks parts.new) 2 }

@@ -1,9 +1,7 @@
-//! Tests of the top call and of what stands right below it: what no clause says and no case of `checks` shows.
+//! Tests of what stands right below the top call: what no clause says and no case of `checks` shows.
 #![tactic(auto)]
 
 #[cfg(test)]
 mod names;
 #[cfg(test)]
 mod reports;
-#[cfg(test)]
-mod top;

@@ -1,15 +1,2 @@
-pub mod AcceptedUpgrades
-pub mod AloneAnswers
-pub mod AloneEnds
-pub mod AloneIsLegal
-pub mod CommitLaws
-pub mod DefinedNames
-pub mod DefinedOpened
-pub mod DefinedRuns
-pub mod DefinedTurns
-pub mod JudgingLaws
-pub mod NamedUpgrades
-pub mod NamesLaws
-pub mod Performing
+pub mod BaseLaws
 pub mod TopLaws
-pub mod UpgradingLaws

@@ -1,9 +1,5 @@
-pub mod Alone
-pub mod Committing
-pub mod Judging
-pub mod Opened
-pub mod Playing
+pub mod Opening
+pub mod Reports
 pub mod Statuses
+pub mod Texts
 pub mod Top
-pub mod Upgrading
-pub mod Words

@@ -10,5 +10,7 @@ code_of status.Words = 2
 code_of status.Script = 3
 code_of status.SourceFault = 4
 code_of status.SinkFault = 5
+code_of status.DiskFault = 6
+code_of status.Damaged = 7
 code_of status.Limit = 8
 code_of status.NoMemory = 9

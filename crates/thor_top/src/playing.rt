@@ -1,105 +1,228 @@
-ghost use Rattle.std.specs.Prelude.{◌≡◌, ◌<◌, ◌≤◌, ◌^◌, length, IfOk};
-ghost use Rattle.std.specs.List.{list_all, list_any};
-ghost use Rattle.serial_model.specs.Whole.{IsFirst};
-ghost use Rattle.thor_top.specs.Alone.{is_finished};
-ghost use Rattle.thor_top.specs.Playing as spec;
-ghost use Rattle.thor_top.specs.Playing.{Plays};
+//! A script's run.
 
-use crate::alone::perform;
-use crate::opening::open;
-use crate::performed::Performed;
-use class_defs::Schema;
-use report_text::print_report;
-use script_parse::{Items, Script};
-use serial_model::{Ended, ItemOutcome, What};
+ghost use Rattle.cluster_core.specs.Counts.{parts_in, parts_of};
+ghost use Rattle.std.specs.Prelude.{◌≡◌, IfOk, IfSome, length, vec_len};
+ghost use Rattle.script_check.specs.Upgrading.{extended, upgrades_of};
+ghost use Rattle.serial_model.specs.Replays.{AreMade};
+ghost use Rattle.thor_top.specs.Opening.{IsAccepted, IsBase, IsStore};
+ghost use Rattle.thor_top.specs.Reports.{IsReported, TellsOpened, TellsRun};
+ghost use Rattle.thor_value.specs.FiniteMap.{IsSorted};
+
+use crate::answered::{Answered, unplayed};
+use crate::checking::report;
+use crate::reply::{Reply, unsettled};
+use class_defs::{Plain, Schemas, Setup};
+use cluster_core::{Cluster, ClusterFault, Finished, Found, Plan as Run, Ran, Start};
+use command_words::Plan;
+use disk_trait::Parts;
+use schedule::Event;
+use script_check::{opened_store, roots_of, with_upgrades};
+use script_parse::Script;
 use std::alloc::Global;
-use thor_value::{NoMemory, Text};
+use thor_value::{NoMemory, TryCopy};
+use trace_record::Traces;
 
-/// The items of client 1.
-fn first_items(clients: &[Items]) -> &[What]
-    ensures { result.now ≡ spec.first_items clients.now }
-{
-    match clients {
-        [] => &[],
-        [first, ..] => first.as_slice(),
-    }
-}
-
-/// Whether one of the clients has an item.
-fn are_busy(clients: &[Items]) -> bool
-    ensures { result ≡ list_any spec.is_busy clients.now }
-{
-    for client in clients {
-        if !client.is_empty() {
-            return true;
-        }
-    }
-    false
-}
-
-/// Whether client 1 alone has items, and the schedule no event.
-fn can_run(script: &Script) -> bool
-    ensures { result ≡ spec.can_run script.now }
-{
-    match script.clients.as_slice() {
-        [] => script.events.is_empty(),
-        [_first, others @ ..] => !are_busy(others) && script.events.is_empty(),
-    }
-}
-
-/// Whether an item was done or ended in a fault.
-fn is_finished(ended: &Ended) -> bool
-    ensures { result ≡ is_finished ended.now }
-{
-    match ended.outcome {
-        ItemOutcome::Done { .. } | ItemOutcome::Upgraded { .. } | ItemOutcome::Faulted { .. } =>
-            true,
-        ItemOutcome::Refused { .. } | ItemOutcome::Unknown { .. } => false,
-    }
-}
-
-/// Whether all items were done or ended in a fault.
-fn are_finished(ends: &[Ended]) -> bool
-    ensures { result ≡ list_all is_finished ends.now }
-{
-    for ended in ends {
-        if !is_finished(ended) {
-            return false;
-        }
-    }
-    true
-}
-
-/// The report of a run.
-#[derive(Debug, Drop)]
-pub struct Played {
-    pub text: Text,
-    /// Whether all items were done or ended in a fault.
-    pub finished: bool,
-}
-
-/// Runs a script under its schema, and gives its report; nothing where it can't run yet or a run is undefined.
-pub fn play(
+/// The store with which the run begins.
+fn store_of<P: Parts>(
     alloc: Global,
-    schema: &Schema,
     script: &Script,
-    tries: u8,
-) -> Result<Option<Played>, NoMemory>
-    requires classes { length schema.now.classes ≤ 65536 }
-    requires roots { length schema.now.roots < 2 ^ 32 }
-    requires first { IsFirst schema.now }
-    ensures played { IfOk result (Plays schema.now tries script.now) }
+    base: &Schemas,
+    found: &Found<P>,
+) -> Result<Option<Plain>, NoMemory>
+    requires base { IsBase script.now.setup base.now }
+    requires made { AreMade base.now }
+    ensures store { IfOk result (λ store. IfSome store (IsStore script.now.setup base.now)) }
+    ensures sorted { IfOk result (λ store. IfSome store (λ s. IsSorted s.objects)) }
 {
-    if !can_run(script) {
-        return Ok(None);
+    match &script.setup {
+        Some(_) => Ok(Some(opened_store(alloc, &base.first)?)),
+        None => stored(alloc, base, found),
     }
-    let mut view = open(alloc, schema)?;
-    let items = first_items(script.clients.as_slice());
-    match perform(alloc, schema, &mut view, items, tries)? {
-        Some(Performed { ends, history }) => Ok(Some(Played {
-            text: print_report(alloc, &ends, &history)?,
-            finished: are_finished(ends.as_slice()),
+}
+
+/// The store as it was found; `None` where it has another epoch than its schemas.
+fn stored<P: Parts>(
+    alloc: Global,
+    base: &Schemas,
+    found: &Found<P>,
+) -> Result<Option<Plain>, NoMemory>
+    ensures epoch { IfOk result (λ store. IfSome store (λ s. s.epoch ≡ length base.now.upgraded)) }
+    ensures sorted { IfOk result (λ store. IfSome store (λ s. IsSorted s.objects)) }
+{
+    match found.opened(alloc)? {
+        Some(store) => {
+            if store.epoch as usize == base.upgraded.len() {
+                Ok(Some(store))
+            } else {
+                Ok(None)
+            }
+        }
+        None => Ok(None),
+    }
+}
+
+/// With what a store is opened: with the setup of the script, where it has one.
+fn start_of(alloc: Global, script: &Script, base: &Schemas) -> Result<Start, NoMemory>
+    requires { AreMade base.now }
+{
+    match &script.setup {
+        Some(_) => Ok(Start::Setup(Setup {
+            schema: base.first.copy()?,
+            roots: roots_of(alloc, &base.first)?,
+        })),
+        None => Ok(Start::Stored),
+    }
+}
+
+/// What a run is asked for, by a plan and a script.
+fn run_of(alloc: Global, plan: &Plan, script: &Script, base: &Schemas) -> Result<Run, NoMemory>
+    requires { AreMade base.now }
+{
+    Ok(Run {
+        start: start_of(alloc, script, base)?,
+        tries: u32::from(plan.tries),
+        cache: plan.cache,
+        clients: script.clients.copy()?.into_vec(),
+    })
+}
+
+/// What a run's history is checked against.
+#[derive(Drop)]
+struct Yardstick {
+    /// The schemas of the store's epochs, and those behind the script's upgrades.
+    schemas: Schemas,
+    /// The store with which it begins.
+    store: Plain,
+}
+
+/// What the history is checked against; `None` where the store that was found has another epoch than its schemas.
+fn yardstick_of<P: Parts>(
+    alloc: Global,
+    script: &Script,
+    base: &Schemas,
+    found: &Found<P>,
+) -> Result<Option<Yardstick>, NoMemory>
+    requires base { IsBase script.now.setup base.now }
+    requires made { AreMade base.now }
+    ensures schemas { IfOk result (λ yardstick. IfSome yardstick (λ y. y.schemas ≡ extended base.now (upgrades_of script.now.clients))) }
+    ensures store { IfOk result (λ yardstick. IfSome yardstick (λ y. IsStore script.now.setup base.now y.store)) }
+    ensures sorted { IfOk result (λ yardstick. IfSome yardstick (λ y. IsSorted y.store.objects)) }
+{
+    match store_of(alloc, script, base, found)? {
+        Some(store) => Ok(Some(Yardstick {
+            schemas: with_upgrades(alloc, base.copy()?, script.clients.as_slice())?,
+            store,
         })),
         None => Ok(None),
+    }
+}
+
+/// Performs the events, and then all that is left of the items.
+fn perform<P: Parts>(cluster: &mut Cluster<P>, events: &[Event]) -> Result<(), NoMemory>
+    ensures { parts_of cluster.new ≡ parts_of cluster.old }
+{
+    for event in events {
+        cluster.event(*event)?;
+    }
+    cluster.drain()
+}
+
+/// Performs a run, and ends it.
+fn finished<P: Parts>(cluster: Cluster<P>, events: &[Event]) -> Finished<P>
+    ensures { vec_len result.parts ≡ parts_of cluster }
+{
+    let mut cluster = cluster;
+    let performed = perform(&mut cluster, events);
+    let Finished { parts, ran } = cluster.finish();
+    Finished {
+        parts,
+        ran: match performed {
+            Ok(()) => ran,
+            Err(NoMemory) => Err(NoMemory),
+        },
+    }
+}
+
+/// The report of what was run.
+fn reported(
+    alloc: Global,
+    script: &Script,
+    yardstick: &Yardstick,
+    ran: Result<Ran, NoMemory>,
+) -> (Result<Reply, NoMemory>, Traces)
+    requires { IsSorted yardstick.now.store.objects }
+    ensures { IfOk result.0 (λ reply. IsReported yardstick.now.schemas yardstick.now.store script.now reply.status reply.text) }
+{
+    match ran {
+        Ok(
+            Ran {
+                ends,
+                lines,
+                traces,
+                ..
+            },
+        ) => (
+            report(
+                alloc,
+                &yardstick.schemas,
+                &yardstick.store,
+                script,
+                lines,
+                &ends,
+            ),
+            traces,
+        ),
+        Err(NoMemory) => (Err(NoMemory), Traces::new(alloc)),
+    }
+}
+
+/// Opens the store that was found, and runs a script that breaks no rule on it.
+fn open_and_run<P: Parts>(
+    alloc: Global,
+    script: &Script,
+    yardstick: &Yardstick,
+    found: Found<P>,
+    run: Run,
+) -> Answered<P>
+    requires { IsSorted yardstick.now.store.objects }
+    ensures reply { IfOk result.reply (λ reply. TellsOpened yardstick.now.schemas yardstick.now.store script.now reply.status reply.text) }
+    ensures parts { vec_len result.parts ≡ parts_in found }
+{
+    match Cluster::open(alloc, found, run) {
+        Ok(cluster) => {
+            let Finished { parts, ran } = finished(cluster, script.events.as_slice());
+            let (reply, traces) = reported(alloc, script, yardstick, ran);
+            Answered {
+                reply,
+                parts,
+                traces,
+            }
+        }
+        Err(ClusterFault { parts, why }) => unplayed(alloc, unsettled(alloc, why), parts),
+    }
+}
+
+/// Runs a script that breaks no rule on the store that was found.
+pub fn play<P: Parts>(
+    alloc: Global,
+    plan: &Plan,
+    script: &Script,
+    base: &Schemas,
+    found: Found<P>,
+) -> Answered<P>
+    requires accepted { IsAccepted plan.now.repos script.now base.now }
+    requires made { AreMade base.now }
+    ensures reply { IfOk result.reply (λ reply. TellsRun plan.now.repos script.now reply.status reply.text) }
+    ensures parts { vec_len result.parts ≡ parts_in found }
+{
+    let yardstick = match yardstick_of(alloc, script, base, &found) {
+        Ok(Some(yardstick)) => yardstick,
+        Ok(None) | Err(NoMemory) => {
+            return unplayed(alloc, Err(NoMemory), found.into_parts());
+        }
+    };
+    match run_of(alloc, plan, script, base) {
+        Ok(run) => open_and_run(alloc, script, &yardstick, found, run),
+        Err(NoMemory) => unplayed(alloc, Err(NoMemory), found.into_parts()),
     }
 }

@@ -6,7 +6,7 @@ ghost use Rattle.thor_top.specs.Statuses.{code_of};
 pub enum Status {
     /// What the command asks for was written, and all items are finished.
     Done,
-    /// The report was written, and an item was refused.
+    /// The report was written, and an item was refused, or what became of it isn't known.
     Unfinished,
     /// The words are not those of a command.
     Words,
@@ -16,9 +16,14 @@ pub enum Status {
     SourceFault,
     /// The sink failed.
     SinkFault,
-    /// The script passes a limit on bytes, clients, events or upgrades.
+    /// A disk failed while the store was opened.
+    DiskFault,
+    /// The disks have bytes that are no store's.
+    Damaged,
+    /// A limit is passed: on bytes, clients, events or upgrades of the script, or on lives, sequences or
+    /// entries of the store.
     Limit,
-    /// Memory was not there.
+    /// Memory was not there, or the run didn't pass the check of its own history.
     NoMemory,
 }
 
@@ -34,6 +39,8 @@ impl Status {
             Status::Script => 3,
             Status::SourceFault => 4,
             Status::SinkFault => 5,
+            Status::DiskFault => 6,
+            Status::Damaged => 7,
             Status::Limit => 8,
             Status::NoMemory => 9,
         }

@@ -1,22 +1,28 @@
-ghost use Rattle.std.specs.Prelude.{◌≡◌, ◌<◌, ◌≤◌, ◌^◌, length, IfOk, Ok, Some};
+ghost use Rattle.std.specs.Prelude.{◌≡◌, ◌≤◌, None, IfOk, IfSome, length, vec_len};
+ghost use Rattle.cluster_core.specs.Counts.{parts_in};
 ghost use Rattle.outside.specs.Faults.{Rose};
-ghost use Rattle.serial_model.specs.Whole.{IsFirst};
-ghost use Rattle.script_parse.specs.Refusals.{refusal_text};
+ghost use Rattle.script_check.specs.Upgrading.{upgrades_of};
 ghost use Rattle.script_parse.specs.Script.{HasFew};
-ghost use Rattle.thor_top.specs.Top.{IsAccepted, IsWithinLimits, Says, Tells, TellsOf, Wrote, limit_text, repos_of};
+ghost use Rattle.serial_model.specs.Replays.{AreMade};
+ghost use Rattle.thor_top.specs.Opening.{IsAccepted, IsBase};
+ghost use Rattle.thor_top.specs.Top.{IsOverLimit, IsWithinLimits, Says, SaysOf, Tells, TellsOf, Wrote};
 
-use crate::command::{Command, command_of};
-use crate::judging::judge;
-use crate::opening::schema_of;
-use crate::playing::{Played, play};
+use crate::answered::{Answered, unplayed};
+use crate::playing::play;
+use crate::reply::{Reply, limited, refused, says, unopened};
+use crate::starting::base_of;
 use crate::status::Status;
-use crate::upgrading::upgrade_count;
-use class_defs::{Declarations, Schema};
+use class_defs::Schemas;
+use cluster_core::{ClusterFault, Found};
+use command_words::{Command, Plan, WordsFault, read_words};
+use disk_trait::Parts;
 use outside::{ReadAll, Sink, Source, read_all, write_all};
-use script_parse::{ReadError, Refusal, Script, read_script, refusal_text};
+use script_check::{judge, last_schema, upgrade_count};
+use script_parse::{ReadError, Refusal, Script, read_script};
+use serial_model::are_made;
 use std::alloc::Global;
-use std::fmt::Write;
 use thor_value::{NoMemory, Text};
+use trace_record::Traces;
 
 /// The most bytes that a script may have.
 pub const SCRIPT_LIMIT: usize = 8_388_608;
@@ -27,183 +33,268 @@ const CLIENT_LIMIT: usize = 64;
 /// The most events that a schedule may have.
 const EVENT_LIMIT: usize = 1_000_000;
 
-/// The most upgrades that a script may have.
+/// The most upgrades that a store may have, those of the script included.
 const UPGRADE_LIMIT: usize = 1_000;
 
-/// What the program has to write, and the status with which it ends.
-#[derive(Debug, Drop)]
-struct Reply {
-    status: Status,
-    text: Text,
+/// The greatest life of a repository as it is opened.
+const LIFE_LIMIT: u32 = 4_290_000_000;
+
+/// The greatest sequence of a log, and the most entries of a history, as a repository is opened.
+const COUNT_LIMIT: u64 = 2_305_843_009_213_693_952;
+
+/// How the program ended.
+#[derive(Drop)]
+pub struct Outcome<P> {
+    pub status: Status,
+    /// The parts that were handed in, in their order.
+    pub parts: Vec<P>,
+    /// What happened at each repository; nothing where no run was made.
+    pub traces: Traces,
 }
 
-fn says(alloc: Global, status: Status, text: &[u8]) -> Result<Reply, NoMemory>
-    ensures status { IfOk result (λ reply. reply.status ≡ status) }
-    ensures text { IfOk result (λ reply. reply.text ≡ text.now) }
+/// The limit that the store that was found passes, with the upgrades of the script.
+fn passed_limit<P: Parts>(script: &Script, found: &Found<P>) -> Option<u64>
+    requires clients { length script.now.clients ≤ 64 }
+    requires events { length script.now.events ≤ 1000000 }
+    ensures passed { IfSome result (λ limit. IsOverLimit script.now limit) }
+    ensures within { result ≡ None → IsWithinLimits script.now }
 {
-    Ok(Reply {
-        status,
-        text: Text::from_slice(alloc, text)?,
-    })
-}
-
-/// The reply to a script that is refused.
-fn refused(alloc: Global, refusal: Refusal) -> Result<Reply, NoMemory>
-    ensures status { IfOk result (λ reply. reply.status ≡ Status.Script) }
-    ensures text { IfOk result (λ reply. reply.text ≡ refusal_text refusal) }
-{
-    Ok(Reply {
-        status: Status::Script,
-        text: refusal_text(alloc, refusal)?,
-    })
-}
-
-/// The reply to a script that passes a limit.
-#[tactic(auto, using(std::proofs::Common::append_assoc))]
-fn limited(alloc: Global, limit: usize) -> Result<Reply, NoMemory>
-    ensures status { IfOk result (λ reply. reply.status ≡ Status.Limit) }
-    ensures text { IfOk result (λ reply. reply.text ≡ limit_text limit) }
-{
-    let mut out = String::new(alloc);
-    write!(out, "limit {limit}\n")?;
-    Ok(Reply {
-        status: Status::Limit,
-        text: Text::from_vec(out.into_bytes()),
-    })
-}
-
-/// How many repositories the rules are judged for.
-fn repos_of(command: Command) -> u8
-    ensures { result ≡ repos_of command }
-{
-    match command {
-        Command::Check { repos } => repos,
-        Command::Play { tries: _ } => 1,
+    let upgrades = upgrade_count(script.clients.as_slice());
+    if UPGRADE_LIMIT < found.epoch().saturating_add(upgrades) {
+        return Some(UPGRADE_LIMIT as u64);
     }
+    if LIFE_LIMIT < found.greatest_life() {
+        return Some(u64::from(LIFE_LIMIT));
+    }
+    if COUNT_LIMIT < found.greatest_count() {
+        return Some(COUNT_LIMIT);
+    }
+    None
 }
 
 /// The reply to a command on a script that breaks no rule.
-fn reply_accepted(
+fn accepted<P: Parts>(
     alloc: Global,
-    command: Command,
-    schema: &Schema,
+    plan: &Plan,
     script: &Script,
-) -> Result<Reply, NoMemory>
-    requires classes { length schema.now.classes ≤ 65536 }
-    requires roots { length schema.now.roots < 2 ^ 32 }
-    requires first { IsFirst schema.now }
+    base: &Schemas,
+    found: Found<P>,
+) -> Answered<P>
+    requires accepted { IsAccepted plan.now.repos script.now base.now }
+    requires made { AreMade base.now }
     requires within { IsWithinLimits script.now }
-    requires accepted { IsAccepted (repos_of command) script.now schema.now }
-    ensures { IfOk result (λ reply. TellsOf command script.now reply.status reply.text) }
+    ensures reply { IfOk result.reply (λ reply. TellsOf plan.now script.now reply.status reply.text) }
+    ensures parts { vec_len result.parts ≡ parts_in found }
 {
-    match command {
-        Command::Check { repos: _ } => says(alloc, Status::Done, b"ok\n"),
-        Command::Play { tries } => match play(alloc, schema, script, tries)? {
-            Some(Played { text, finished }) => Ok(Reply {
-                status: if finished {
-                    Status::Done
-                } else {
-                    Status::Unfinished
-                },
-                text,
-            }),
-            None => refused(alloc, Refusal::Unbuilt),
-        },
+    match plan.command {
+        Command::Check => unplayed(
+            alloc,
+            says(alloc, Status::Done, b"ok\n"),
+            found.into_parts(),
+        ),
+        Command::Play => play(alloc, plan, script, base, found),
     }
 }
 
-/// The reply to a command on a script with a setup.
-fn reply_set_up(
+/// The reply to a command on a script, under schemas that are as upgrades make them.
+fn judged_on<P: Parts>(
     alloc: Global,
-    command: Command,
-    setup: &Declarations,
+    plan: &Plan,
     script: &Script,
-) -> Result<Reply, NoMemory>
-    requires few { HasFew script.now.setup }
-    requires set_up { script.now.setup ≡ Some setup.now }
+    base: &Schemas,
+    found: Found<P>,
+) -> Answered<P>
+    requires base { IsBase script.now.setup base.now }
+    requires made { AreMade base.now }
+    requires epochs { length base.now.upgraded ≤ 1000 }
     requires within { IsWithinLimits script.now }
-    ensures { IfOk result (λ reply. TellsOf command script.now reply.status reply.text) }
+    ensures reply { IfOk result.reply (λ reply. TellsOf plan.now script.now reply.status reply.text) }
+    ensures parts { vec_len result.parts ≡ parts_in found }
 {
-    let schema = schema_of(alloc, setup)?;
-    match judge(alloc, &schema, script, repos_of(command))? {
-        Some(refusal) => refused(alloc, refusal),
-        None => reply_accepted(alloc, command, &schema, script),
+    match judge(alloc, last_schema(base), script, plan.repos) {
+        Ok(Some(refusal)) => unplayed(alloc, refused(alloc, refusal), found.into_parts()),
+        Ok(None) => accepted(alloc, plan, script, base, found),
+        Err(NoMemory) => unplayed(alloc, Err(NoMemory), found.into_parts()),
+    }
+}
+
+/// The reply to a command on a script, under the schemas of the store.
+fn judged<P: Parts>(
+    alloc: Global,
+    plan: &Plan,
+    script: &Script,
+    base: &Schemas,
+    found: Found<P>,
+) -> Answered<P>
+    requires base { IsBase script.now.setup base.now }
+    requires within { IsWithinLimits script.now }
+    ensures reply { IfOk result.reply (λ reply. TellsOf plan.now script.now reply.status reply.text) }
+    ensures parts { vec_len result.parts ≡ parts_in found }
+{
+    if UPGRADE_LIMIT < base.upgraded.len() || !are_made(base) {
+        return unplayed(alloc, Err(NoMemory), found.into_parts());
+    }
+    judged_on(alloc, plan, script, base, found)
+}
+
+/// The reply to a command on a script and the store that was found.
+fn reply_found<P: Parts>(
+    alloc: Global,
+    plan: &Plan,
+    script: &Script,
+    found: Found<P>,
+) -> Answered<P>
+    requires few { HasFew script.now.setup }
+    requires clients { length script.now.clients ≤ 64 }
+    requires events { length script.now.events ≤ 1000000 }
+    ensures reply { IfOk result.reply (λ reply. TellsOf plan.now script.now reply.status reply.text) }
+    ensures parts { vec_len result.parts ≡ parts_in found }
+{
+    match passed_limit(script, &found) {
+        Some(limit) => unplayed(
+            alloc,
+            over_limit(alloc, plan, script, limit),
+            found.into_parts(),
+        ),
+        None => reply_within(alloc, plan, script, found),
+    }
+}
+
+/// The reply to a command on a script that passes a limit.
+fn over_limit(alloc: Global, plan: &Plan, script: &Script, limit: u64) -> Result<Reply, NoMemory>
+    requires { IsOverLimit script.now limit }
+    ensures { IfOk result (λ reply. TellsOf plan.now script.now reply.status reply.text) }
+{
+    limited(alloc, limit)
+}
+
+/// The reply to a command on a script that is within the limits, and the store that was found.
+fn reply_within<P: Parts>(
+    alloc: Global,
+    plan: &Plan,
+    script: &Script,
+    found: Found<P>,
+) -> Answered<P>
+    requires few { HasFew script.now.setup }
+    requires within { IsWithinLimits script.now }
+    ensures reply { IfOk result.reply (λ reply. TellsOf plan.now script.now reply.status reply.text) }
+    ensures parts { vec_len result.parts ≡ parts_in found }
+{
+    match base_of(alloc, &script.setup, &found) {
+        Ok(Some(base)) => judged(alloc, plan, script, &base, found),
+        Ok(None) => unplayed(alloc, refused(alloc, Refusal::Setup), found.into_parts()),
+        Err(NoMemory) => unplayed(alloc, Err(NoMemory), found.into_parts()),
     }
 }
 
 /// The reply to a command on a script that was read.
-#[tactic(auto, using(crate::proofs::UpgradingLaws::within_limit))]
-fn reply_to(alloc: Global, command: Command, script: &Script) -> Result<Reply, NoMemory>
+fn reply_to<P: Parts>(alloc: Global, plan: &Plan, script: &Script, parts: Vec<P>) -> Answered<P>
     requires { HasFew script.now.setup }
-    ensures { IfOk result (λ reply. TellsOf command script.now reply.status reply.text) }
+    ensures reply { IfOk result.reply (λ reply. TellsOf plan.now script.now reply.status reply.text) }
+    ensures parts { vec_len result.parts ≡ vec_len parts }
 {
     if CLIENT_LIMIT < script.clients.len() {
-        return limited(alloc, CLIENT_LIMIT);
+        return unplayed(alloc, limited(alloc, CLIENT_LIMIT as u64), parts);
     }
     if EVENT_LIMIT < script.events.len() {
-        return limited(alloc, EVENT_LIMIT);
+        return unplayed(alloc, limited(alloc, EVENT_LIMIT as u64), parts);
     }
-    if UPGRADE_LIMIT < upgrade_count(script.clients.as_slice()) {
-        return limited(alloc, UPGRADE_LIMIT);
-    }
-    match &script.setup {
-        None => refused(alloc, Refusal::Setup),
-        Some(setup) => reply_set_up(alloc, command, setup, script),
+    match Found::read(alloc, parts, plan.mob) {
+        Ok(found) => reply_found(alloc, plan, script, found),
+        Err(ClusterFault { parts, why }) => unplayed(alloc, unopened(alloc, why), parts),
     }
 }
 
 /// The reply to a command on a script's bytes.
-fn reply_to_bytes(alloc: Global, command: Command, bytes: &[u8]) -> Result<Reply, NoMemory>
-    ensures { IfOk result (λ reply. Tells command bytes.now reply.status reply.text) }
+fn reply_to_bytes<P: Parts>(alloc: Global, plan: &Plan, bytes: &[u8], parts: Vec<P>) -> Answered<P>
+    ensures reply { IfOk result.reply (λ reply. Tells plan.now bytes.now reply.status reply.text) }
+    ensures parts { vec_len result.parts ≡ vec_len parts }
 {
     match read_script(alloc, bytes) {
-        Ok(script) => reply_to(alloc, command, &script),
-        Err(ReadError::Refused(refusal)) => refused(alloc, refusal),
-        Err(ReadError::NoMemory) => Err(NoMemory),
+        Ok(script) => reply_to(alloc, plan, &script, parts),
+        Err(ReadError::Refused(refusal)) => unplayed(alloc, refused(alloc, refusal), parts),
+        Err(ReadError::NoMemory) => unplayed(alloc, Err(NoMemory), parts),
     }
 }
 
-/// Reads the script and does what the words ask for.
-fn read_and_reply<S: Source>(
+/// Reads the script and does what a plan asks for.
+fn read_and_reply<S: Source, P: Parts>(
+    alloc: Global,
+    plan: &Plan,
+    source: &mut S,
+    parts: Vec<P>,
+) -> Answered<P>
+    ensures reply { IfOk result.reply (λ reply. SaysOf plan.now (record { left = S.left source.old; faults = S.faults source.old }) (record { left = S.left source.new; faults = S.faults source.new }) reply.status reply.text) }
+    ensures parts { vec_len result.parts ≡ vec_len parts }
+{
+    match read_all(alloc, source, SCRIPT_LIMIT) {
+        Ok(bytes) => reply_to_bytes(alloc, plan, bytes.as_slice(), parts),
+        Err(ReadAll::Failed) => {
+            unplayed(alloc, says(alloc, Status::SourceFault, b"source\n"), parts)
+        }
+        Err(ReadAll::Over) => unplayed(alloc, limited(alloc, SCRIPT_LIMIT as u64), parts),
+        Err(ReadAll::NoMemory) => unplayed(alloc, Err(NoMemory), parts),
+    }
+}
+
+/// The answer to the words.
+fn answer<S: Source, P: Parts>(
     alloc: Global,
     words: &[Text],
     source: &mut S,
-) -> Result<Reply, NoMemory>
-    ensures { IfOk result (λ reply. Says words.now (record { left = S.left source.old; faults = S.faults source.old }) (record { left = S.left source.new; faults = S.faults source.new }) reply.status reply.text) }
+    parts: Vec<P>,
+) -> Answered<P>
+    ensures reply { IfOk result.reply (λ reply. Says words.now (vec_len parts) (record { left = S.left source.old; faults = S.faults source.old }) (record { left = S.left source.new; faults = S.faults source.new }) reply.status reply.text) }
+    ensures parts { vec_len result.parts ≡ vec_len parts }
 {
-    let Some(command) = command_of(words) else {
-        return says(alloc, Status::Words, b"words\n");
-    };
-    match read_all(alloc, source, SCRIPT_LIMIT) {
-        Ok(bytes) => reply_to_bytes(alloc, command, bytes.as_slice()),
-        Err(ReadAll::Failed) => says(alloc, Status::SourceFault, b"source\n"),
-        Err(ReadAll::Over) => limited(alloc, SCRIPT_LIMIT),
-        Err(ReadAll::NoMemory) => Err(NoMemory),
+    match read_words(alloc, words) {
+        Ok(plan) => {
+            if usize::from(plan.repos) == parts.len() {
+                read_and_reply(alloc, &plan, source, parts)
+            } else {
+                unplayed(alloc, says(alloc, Status::Words, b"words\n"), parts)
+            }
+        }
+        Err(WordsFault::Words) => unplayed(alloc, says(alloc, Status::Words, b"words\n"), parts),
+        Err(WordsFault::NoMemory) => unplayed(alloc, Err(NoMemory), parts),
     }
 }
 
-/// The program: reads a script from the source, does with it what the words ask for, and writes the answer to
-/// the sink.
+/// The program: reads a script from the source, does with it what the words ask for, on the parts of as many
+/// repositories, and writes the answer to the sink.
 ///
 /// `check` tells whether the script breaks a rule, and `play` runs it. The text that is written ends in a
-/// newline.
-pub fn thor<S: Source, K: Sink>(
+/// newline. The parts come back in every case.
+pub fn thor<S: Source, K: Sink, P: Parts>(
     alloc: Global,
     words: &[Text],
     source: &mut S,
     sink: &mut K,
-) -> Status
+    parts: Vec<P>,
+) -> Outcome<P>
     // The sink took the report of one serial history, or what else the status says.
-    ensures wrote { Wrote words.now (record { left = S.left source.old; faults = S.faults source.old }) (record { left = S.left source.new; faults = S.faults source.new }) (K.taken sink.old) (K.taken sink.new) result }
+    ensures wrote { Wrote words.now (vec_len parts) (record { left = S.left source.old; faults = S.faults source.old }) (record { left = S.left source.new; faults = S.faults source.new }) (K.taken sink.old) (K.taken sink.new) result.status }
     // A fault of the source or of the sink is one that was counted.
-    ensures source_fault { result ≡ Status.SourceFault → Rose (S.faults source.old) (S.faults source.new) }
-    ensures sink_fault { result ≡ Status.SinkFault → Rose (K.faults sink.old) (K.faults sink.new) }
+    ensures source_fault { result.status ≡ Status.SourceFault → Rose (S.faults source.old) (S.faults source.new) }
+    ensures sink_fault { result.status ≡ Status.SinkFault → Rose (K.faults sink.old) (K.faults sink.new) }
+    // No part is lost.
+    ensures parts { vec_len result.parts ≡ vec_len parts }
 {
-    match read_and_reply(alloc, words, source) {
+    let Answered {
+        reply,
+        parts,
+        traces,
+    } = answer(alloc, words, source, parts);
+    let status = match reply {
         Ok(said) => match write_all(sink, said.text.as_slice()) {
             Ok(()) => said.status,
             Err(_) => Status::SinkFault,
         },
         Err(NoMemory) => Status::NoMemory,
+    };
+    Outcome {
+        status,
+        parts,
+        traces,
     }
 }

@@ -5,7 +5,7 @@ use Rattle.commit_log.specs.declared.request.Kind.{Kind}
 use Rattle.commit_log.specs.declared.request.Request.{Request}
 use Rattle.live_sessions.specs.Sessions.{Kept, acknowledged, ended, is_live}
 use Rattle.std.specs.Option.{option_map, option_or}
-use Rattle.std.specs.Prelude.{Bool, Err, List, None, Ok, Option, Result, Some, cond, false, nat_eq, true, ℕ}
+use Rattle.std.specs.Prelude.{Bool, Err, None, Ok, Option, Result, Some, cond, false, nat_eq, true, ℕ}
 use Rattle.thor_value.specs.FiniteMap.{Set, add, has}
 use Rattle.thor_value.specs.Names.{ts_cmp}
 use Rattle.thor_value.specs.declared.names.Oref.{Oref}

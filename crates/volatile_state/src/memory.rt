@@ -147,7 +147,11 @@ impl Memory {
     }
 
     /// A transaction came, as a restart learns.
-    pub fn note(&mut self, tx: Ts) -> Result<(), NoMemory> {
+    pub fn note(&mut self, tx: Ts) -> Result<(), NoMemory>
+        ensures sessions { self.new.sessions ≡ self.old.sessions }
+        ensures queue { self.new.queue ≡ self.old.queue }
+        ensures drawn { self.new.drawn ≡ self.old.drawn }
+    {
         self.requested.insert(tx, ())?;
         Ok(())
     }

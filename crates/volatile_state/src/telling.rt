@@ -1,5 +1,8 @@
 //! What decisions do, and what an earlier life left.
 
+ghost use Rattle.std.specs.Prelude.{◌≡◌};
+ghost use Rattle.live_sessions.specs.Sessions.{IsTold};
+
 use crate::memory::{Memory, is_upgrade};
 use commit_log::{Kind, Request};
 use thor_value::{NoMemory, Ts};
@@ -11,7 +14,11 @@ const ROOM: usize = 1_024;
 impl Memory {
     /// Tells sessions of the commit of a request at a place. An upgrade, which gets this number, is a fence for
     /// all transactions.
-    pub fn tell(&mut self, request: &Request, number: u32, place: u64) -> Result<(), NoMemory> {
+    pub fn tell(&mut self, request: &Request, number: u32, place: u64) -> Result<(), NoMemory>
+        ensures told { IsTold self.old.sessions self.new.sessions }
+        ensures requested { self.new.requested ≡ self.old.requested }
+        ensures drawn { self.new.drawn ≡ self.old.drawn }
+    {
         match &request.kind {
             Kind::App | Kind::Transform => {
                 self.sessions
@@ -26,7 +33,10 @@ impl Memory {
 
     /// A prepared transaction is decided. One that an earlier opening left is none of the queue's: where it
     /// commits, the threshold stands for it.
-    pub fn decide(&mut self, tx: Ts, commit: bool) {
+    pub fn decide(&mut self, tx: Ts, commit: bool)
+        ensures sessions { self.new.sessions ≡ self.old.sessions }
+        ensures requested { self.new.requested ≡ self.old.requested }
+    {
         if commit && !self.queue.has(tx) {
             self.stand_above(tx);
         }
@@ -34,7 +44,10 @@ impl Memory {
     }
 
     /// Has the threshold stand for a transaction that commits, while no other is in the queue.
-    fn stand_above(&mut self, tx: Ts) {
+    fn stand_above(&mut self, tx: Ts)
+        ensures sessions { self.new.sessions ≡ self.old.sessions }
+        ensures requested { self.new.requested ≡ self.old.requested }
+    {
         if self.queue.len() == 0 {
             let threshold = self.queue.threshold().max(tx);
             self.stand_at(threshold);
@@ -43,7 +56,11 @@ impl Memory {
 
     /// Puts a request that stays undecided into the queue, where it came since the opening. Want of memory, too,
     /// where there is no room for it, which no history comes to.
-    pub fn load(&mut self, request: &Request) -> Result<(), NoMemory> {
+    pub fn load(&mut self, request: &Request) -> Result<(), NoMemory>
+        ensures sessions { self.new.sessions ≡ self.old.sessions }
+        ensures requested { self.new.requested ≡ self.old.requested }
+        ensures drawn { self.new.drawn ≡ self.old.drawn }
+    {
         let tx = request.tx;
         if !self.requested.contains_key(&tx) {
             return Ok(());

@@ -16,4 +16,4 @@ one_more cs ps vs i p done all within is h =
     ∙ h
 
 pub loop-place-preserved : goal.loop-place-preserved
-loop-place-preserved c = grind (arith, common_steps, one_more c.args.world.now.schema.now.classes c.args.parameters.now c.args.arguments.now c.loop-place.place c.parameter-item.result c.loop-place.locals)
+loop-place-preserved c = grind (arith, common_steps, one_more c.args.program.now.schema.now.classes c.args.parameters.now c.args.arguments.now c.loop-place.place c.parameter-item.result c.loop-place.locals)

@@ -5,5 +5,5 @@ use Rattle.method_eval.proofs.calls.bound.Given as goal
 -- the parameters bound so far, and those to come, are all
 abbrev pub invariant-loop-place : goal.invariant-loop-place
 invariant-loop-place l =
-    let classes = l.world.schema.now.classes in
+    let classes = l.program.schema.now.classes in
     l.locals ++ bound_from classes l.place (drop l.place l.parameters) l.arguments ≡ bound_from classes 0 l.parameters l.arguments

@@ -41,10 +41,12 @@ returns-then-holds-clause-agrees g c = λ disk told.
     let agrees = rw (← c.self.view_is) at c.requires.agrees in
     agrees_now c.self.inside.sides c.self.inside.staged c.self.inside.held c.promote.new.self c.args.page there.0 c.self.invariant.cap_is put disk (agrees disk told) ((agrees disk told).held c.args.page there.0 there.1)
 
-pub fetch-requires-clause-within : goal.fetch-requires-clause-within
-fetch-requires-clause-within g c κs within = λ side is disk told.
-    let agrees = rw (← c.self.view_is) at c.requires.agrees in
-    (agrees disk told).reaches c.args.page side (sym c.in_use.ensures.value ∙ is)
+pub fetch-requires : goal.fetch-requires
+fetch-requires g c = record {
+  within = λ side is disk told.
+      let agrees = rw (← c.self.view_is) at c.requires.agrees in
+      (agrees disk told).reaches c.args.page side (sym c.in_use.ensures.value ∙ is);
+}
 
 pub invariant_of-self-2 : goal.invariant_of-self-2
 invariant_of-self-2 g c =

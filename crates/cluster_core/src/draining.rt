@@ -1,0 +1,79 @@
+//! What comes behind the last event.
+
+ghost use Rattle.cluster_core.specs.Counts.{parts_of};
+ghost use Rattle.std.specs.Prelude.{◌≡◌};
+
+use crate::cluster::Cluster;
+use crate::events::unless_memory;
+use crate::lent::Turn;
+use crate::seat::Seat;
+use disk_trait::Parts;
+use front_end::Step;
+use thor_value::NoMemory;
+
+impl<P: Parts> Cluster<P> {
+    /// Has every item end: stops that haven't fallen are taken back, each repository that is down is restarted
+    /// once, and the clients take steps in turn until no item is left. Then each Unknown item is asked for once.
+    pub fn drain(&mut self) -> Result<(), NoMemory>
+        ensures { parts_of self.new ≡ parts_of self.old }
+    {
+        bring_all_up(self.seats.as_mut_slice())?;
+        self.rounds()?;
+        for place in 0..self.clients.len() {
+            self.turn(place, Turn::Last)?;
+        }
+        Ok(())
+    }
+
+    /// The clients take steps in turn until no item is left.
+    fn rounds(&mut self) -> Result<(), NoMemory>
+        ensures { parts_of self.new ≡ parts_of self.old }
+    {
+        for _ in 0..u64::MAX {
+            if !self.round()? {
+                break;
+            }
+        }
+        Ok(())
+    }
+
+    /// Each client takes one step. It answers whether one of them had items left.
+    fn round(&mut self) -> Result<bool, NoMemory>
+        ensures { parts_of self.new ≡ parts_of self.old }
+    {
+        let mut moved = false;
+        for place in 0..self.clients.len() {
+            match self.turn(place, Turn::Step)? {
+                Step::Moved => moved = true,
+                Step::Ended => {}
+            }
+        }
+        Ok(moved)
+    }
+}
+
+/// Takes back stops that haven't fallen, and restarts each repository that is down.
+fn bring_all_up<P: Parts>(seats: &mut [Seat<P>]) -> Result<(), NoMemory> {
+    for seat in &mut *seats {
+        disarm(seat);
+    }
+    for seat in seats {
+        bring_up(seat)?;
+    }
+    Ok(())
+}
+
+/// Takes back a stop that hasn't fallen.
+fn disarm<P: Parts>(seat: &mut Seat<P>) {
+    if let Seat::Open(repo) = seat {
+        repo.disarm();
+    }
+}
+
+/// Restarts a repository that is down.
+fn bring_up<P: Parts>(seat: &mut Seat<P>) -> Result<(), NoMemory> {
+    match seat {
+        Seat::Open(repo) if !repo.is_up() => unless_memory(repo.restart(0)),
+        _ => Ok(()),
+    }
+}

@@ -1,0 +1,296 @@
+//! A store's parts, read and checked.
+
+ghost use Rattle.cluster_core.specs.Recovered.{Finds};
+ghost use Rattle.std.specs.Option.{IfSome};
+ghost use Rattle.std.specs.Prelude.{IfErr, IfOk, vec_capacity, vec_len, ◌≡◌, ◌≤◌};
+ghost use Rattle.thor_value.specs.FiniteMap.{IsSorted};
+
+use crate::eager::eager;
+use crate::fault::{ClusterFault, Unopened, number_at};
+use crate::filling::put_within;
+use crate::fit::check_store;
+use crate::known::Known;
+use crate::repository::{Read, read_repository};
+use crate::seat::{Seat, give_back};
+use crate::settled::Settled;
+use class_defs::{Plain, Schemas};
+use disk_trait::Parts;
+use method_eval::{Names, View};
+use recovery::Recovered;
+use std::alloc::Global;
+use thor_value::{NoMemory, Obj, OrefMap};
+
+/// What the disks of a store hold.
+#[derive(Drop)]
+pub(crate) enum Store {
+    /// Repository 0 isn't open, so the store is to be formatted.
+    Fresh,
+    /// Every repository is open, and they fit together.
+    Open(OpenStore),
+}
+
+/// A store that can be opened.
+#[derive(Drop)]
+pub(crate) struct OpenStore {
+    /// The schemas of all epochs up to the store's.
+    pub(crate) schemas: Schemas,
+    /// The objects of all repositories, as they are stored.
+    pub(crate) stored: View,
+}
+
+/// A store's parts, read and checked. What their disks hold is as it was.
+#[derive(Drop)]
+pub struct Found<P: Parts> {
+    /// What was found of each repository, in their order.
+    pub(crate) seats: Vec<Seat<P>>,
+    /// An empty vector with room for the parts, into which they go at the end.
+    pub(crate) spare: Vec<P>,
+    /// How many bytes the buffer of a repository may have.
+    pub(crate) mob: u32,
+    pub(crate) store: Store,
+    ghost empty: { vec_len spare ≡ 0 },
+    ghost room: { vec_len seats ≤ vec_capacity spare },
+}
+
+impl<P: Parts> Found<P> {
+    ghost use Rattle.cluster_core.specs.Counts.{parts_in};
+
+    /// Reads and checks every repository, rising, with all its installed pages, and then whether they fit
+    /// together. Its disks are synced before they are read, so that what was read outlives a crash. The buffer
+    /// of a repository is to be full at `mob` bytes, 1 to 16,777,216.
+    pub fn read(alloc: Global, parts: Vec<P>, mob: u32) -> Result<Found<P>, ClusterFault<P>>
+        ensures ok { IfOk result (λ found. parts_in found ≡ vec_len parts) }
+        ensures err { IfErr result (λ fault. vec_len fault.parts ≡ vec_len parts) }
+    {
+        let Ok(spare) = Vec::with_capacity(alloc, parts.len()) else {
+            return Err(unread(parts));
+        };
+        let Ok(seats) = Vec::with_capacity(alloc, parts.len()) else {
+            return Err(unread(parts));
+        };
+        let mut objects = OrefMap::new(alloc);
+        let (seats, read) = read_all(alloc, parts, seats, mob, &mut objects);
+        match store_of(alloc, seats.as_slice(), objects, read) {
+            Ok(store) => Ok(Found {
+                seats,
+                spare,
+                mob,
+                store,
+            }),
+            Err(why) => Err(ClusterFault {
+                parts: give_back(seats, spare),
+                why,
+            }),
+        }
+    }
+
+    /// How many repositories there are.
+    pub fn repos(&self) -> usize
+        ensures { result ≡ parts_in self.now }
+    {
+        self.seats.len()
+    }
+
+    /// The schemas of all epochs up to the store's; nothing where it is fresh.
+    pub fn schemas(&self) -> Option<&Schemas> {
+        match &self.store {
+            Store::Fresh => None,
+            Store::Open(store) => Some(&store.schemas),
+        }
+    }
+
+    /// How many upgrades the store has installed.
+    pub fn epoch(&self) -> usize {
+        match &self.store {
+            Store::Fresh => 0,
+            Store::Open(store) => store.schemas.upgraded.len(),
+        }
+    }
+
+    /// The greatest life of a repository, on the disks.
+    pub fn greatest_life(&self) -> u32 {
+        let mut greatest = 0;
+        for seat in &self.seats {
+            greatest = greatest.max(life_of(seat));
+        }
+        greatest
+    }
+
+    /// The greatest sequence of a log that counts, and count of entries of a repository's history.
+    pub fn greatest_count(&self) -> u64 {
+        let mut greatest = 0;
+        for seat in &self.seats {
+            greatest = greatest.max(count_of(seat));
+        }
+        greatest
+    }
+
+    /// The store as it is opened, each object brought up to its epoch; nothing where it is fresh.
+    pub fn opened(&self, alloc: Global) -> Result<Option<Plain>, NoMemory>
+        ensures sorted { IfOk result (λ store. IfSome store (λ s. IsSorted s.objects)) }
+    {
+        match &self.store {
+            Store::Fresh => Ok(None),
+            Store::Open(store) => Ok(Some(opened(alloc, store, self.seats.as_slice())?)),
+        }
+    }
+
+    /// The parts, as they were handed in.
+    pub fn into_parts(self) -> Vec<P>
+        ensures { vec_len result ≡ parts_in self }
+    {
+        let Found { seats, spare, .. } = self;
+        give_back(seats, spare)
+    }
+}
+
+/// Each object of a store brought up to its epoch.
+fn opened<P: Parts>(alloc: Global, store: &OpenStore, seats: &[Seat<P>]) -> Result<Plain, NoMemory>
+    ensures { IfOk result (λ store. IsSorted store.objects) }
+{
+    match seats.first() {
+        Some(Seat::Known(known)) => {
+            let roots = known.recovered().state.roots();
+            eager(alloc, &store.stored, &store.schemas, roots)
+        }
+        Some(_) | None => Err(NoMemory),
+    }
+}
+
+fn life_of<P: Parts>(seat: &Seat<P>) -> u32 {
+    match seat {
+        Seat::Known(known) => known.recovered().state.life(),
+        Seat::Parts(_) | Seat::Fresh(_) | Seat::Open(_) => 0,
+    }
+}
+
+fn count_of<P: Parts>(seat: &Seat<P>) -> u64 {
+    match seat {
+        Seat::Known(known) => {
+            let recovered = known.recovered();
+            recovered.log.sequence().max(recovered.state.count())
+        }
+        Seat::Parts(_) | Seat::Fresh(_) | Seat::Open(_) => 0,
+    }
+}
+
+/// Parts that weren't read for want of memory.
+fn unread<P>(parts: Vec<P>) -> ClusterFault<P>
+    ensures { vec_len result.parts ≡ vec_len parts }
+{
+    ClusterFault {
+        parts,
+        why: Unopened::NoMemory,
+    }
+}
+
+/// Reads the repositories, rising, into seats for which there is room: all of them, also beside a fresh
+/// repository 0. Behind one that can't be read the others aren't.
+fn read_all<P: Parts>(
+    alloc: Global,
+    parts: Vec<P>,
+    seats: Vec<Seat<P>>,
+    mob: u32,
+    objects: &mut OrefMap<Obj>,
+) -> (Vec<Seat<P>>, Result<(), Unopened>)
+    requires empty { vec_len seats ≡ 0 }
+    requires room { vec_len parts ≤ vec_capacity seats }
+    ensures { vec_len result.0 ≡ vec_len parts }
+{
+    let repos = parts.len();
+    let mut seats = seats;
+    let mut read = Ok(());
+    for part in parts {
+        let found = match read {
+            Ok(()) => read_next(alloc, part, seats.as_slice(), repos, mob, objects),
+            Err(why) => (Seat::Parts(part), Err(why)),
+        };
+        put_within(&mut seats, found.0);
+        read = found.1;
+    }
+    (seats, read)
+}
+
+/// Reads the repository behind those that were read.
+fn read_next<P: Parts>(
+    alloc: Global,
+    part: P,
+    seats: &[Seat<P>],
+    repos: usize,
+    mob: u32,
+    objects: &mut OrefMap<Obj>,
+) -> (Seat<P>, Result<(), Unopened>) {
+    let (Ok(repo), Ok(repos)) = (number_at(seats.len()), number_at(repos)) else {
+        return (Seat::Parts(part), Err(Unopened::NoMemory));
+    };
+    let mut part = part;
+    match read_repository(alloc, &mut part, repo, repos, mob, objects) {
+        Ok(found) => seated(part, repo, found, seats),
+        Err(why) => (Seat::Parts(part), Err(why)),
+    }
+}
+
+/// What was found of a repository, at its place. Where repository 0 is open, each has to be.
+fn seated<P: Parts>(
+    part: P,
+    repo: u8,
+    found: Option<(Recovered, u32)>,
+    seats: &[Seat<P>],
+) -> (Seat<P>, Result<(), Unopened>)
+    requires { Finds (P.disks part) found }
+{
+    match found {
+        Some((recovered, behind)) => (Seat::Known(Known::new(part, recovered, behind)), Ok(())),
+        None => (
+            Seat::Fresh(Settled::new(part)),
+            match seats.first() {
+                Some(Seat::Known(_)) => Err(Unopened::Damaged {
+                    repo,
+                    disk: 0,
+                    place: 0,
+                }),
+                Some(_) | None => Ok(()),
+            },
+        ),
+    }
+}
+
+/// What the disks of a store hold, where all of them were read.
+fn store_of<P: Parts>(
+    alloc: Global,
+    seats: &[Seat<P>],
+    objects: OrefMap<Obj>,
+    read: Result<(), Unopened>,
+) -> Result<Store, Unopened> {
+    read?;
+    match reads_of(alloc, seats)? {
+        Some(reads) => open_store(alloc, reads.as_slice(), objects),
+        None => Ok(Store::Fresh),
+    }
+}
+
+/// What was read of the repositories of a store that isn't fresh.
+fn reads_of<P: Parts>(alloc: Global, seats: &[Seat<P>]) -> Result<Option<Vec<Read<'_>>>, NoMemory> {
+    let mut reads = Vec::new(alloc);
+    for seat in seats {
+        match seat.read() {
+            Some(read) => reads.push(read)?,
+            None => return Ok(None),
+        }
+    }
+    Ok(Some(reads))
+}
+
+/// A store whose repositories are open, where they fit together.
+fn open_store(alloc: Global, reads: &[Read<'_>], paged: OrefMap<Obj>) -> Result<Store, Unopened> {
+    let (schemas, objects) = check_store(alloc, reads, paged)?;
+    let Ok(epoch) = u32::try_from(schemas.upgraded.len()) else {
+        return Err(Unopened::NoMemory);
+    };
+    let stored = View {
+        objects,
+        names: Names::new(alloc),
+        epoch,
+    };
+    Ok(Store::Open(OpenStore { schemas, stored }))
+}

@@ -1,0 +1,69 @@
+//! The serial history of a run, from the traces of its repositories.
+
+use crate::fault::number_at;
+use commit_log::{Entry, Kind, Request};
+use history_check::{Line, Lines};
+use repo_core::Trace;
+use std::alloc::Global;
+use std::collections::BTreeMap;
+use thor_value::{NoMemory, TryCopy, Ts};
+
+/// The committed items of a run, transforms aside, by rising timestamp.
+///
+/// A transaction is in it where its coordinator's history has its one commit or its decision to commit.
+pub(crate) fn history_of(alloc: Global, traces: &[Trace]) -> Result<Lines, NoMemory> {
+    let mut commits: BTreeMap<Ts, Line> = BTreeMap::new(alloc);
+    for (place, trace) in traces.iter().enumerate() {
+        take_trace(alloc, number_at(place)?, trace, &mut commits)?;
+    }
+    let mut history = Lines::new(alloc);
+    for (_, line) in commits {
+        history.push(line)?;
+    }
+    Ok(history)
+}
+
+/// Takes what committed by a repository as the coordinator.
+fn take_trace(
+    alloc: Global,
+    repo: u8,
+    trace: &Trace,
+    commits: &mut BTreeMap<Ts, Line>,
+) -> Result<(), NoMemory> {
+    let mut prepared: BTreeMap<Ts, &Request> = BTreeMap::new(alloc);
+    for entry in trace.history.as_slice() {
+        match entry {
+            Entry::One { request } | Entry::Upgraded { request } => take_commit(request, commits)?,
+            Entry::Prepared { request } => {
+                if request.tx.repo == repo {
+                    prepared.insert(request.tx, request)?;
+                }
+            }
+            Entry::Decided { tx, commit: true } => {
+                if let Some(request) = prepared.remove(tx) {
+                    take_commit(request, commits)?;
+                }
+            }
+            Entry::Life { .. } | Entry::Decided { .. } | Entry::Finished { .. } => {}
+        }
+    }
+    Ok(())
+}
+
+/// Makes the line of a committed request, where it is an item's.
+fn take_commit(request: &Request, commits: &mut BTreeMap<Ts, Line>) -> Result<(), NoMemory> {
+    let number = match &request.kind {
+        Kind::App => 0,
+        Kind::Transform => return Ok(()),
+        Kind::Upgrade { .. } => request.epoch.saturating_add(1),
+    };
+    let line = Line {
+        ts: request.tx,
+        who: request.who,
+        number,
+        fresh: request.fresh.copy()?,
+        answer: request.answer.copy()?,
+    };
+    commits.insert(request.tx, line)?;
+    Ok(())
+}

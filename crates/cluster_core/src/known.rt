@@ -1,0 +1,78 @@
+//! A repository as an opening has recovered it.
+
+ghost use Rattle.cluster_core.specs.Recovered.{IsRecovered};
+
+use crate::repository::Read;
+use crate::settled::Settled;
+use disk_trait::Parts;
+use recovery::Recovered;
+use repo_core::{OpenFault, Repo};
+use std::alloc::Global;
+use std::marker::Model;
+
+/// A repository as its logs tell it, with its parts: what was recovered is what its disks stand for.
+#[derive(Drop)]
+pub(crate) struct Known<P: Parts> {
+    parts: P,
+    recovered: Recovered,
+    /// The page behind the last installed one that has objects.
+    behind: u32,
+}
+
+impl<P: Parts> Model for Known<P> {
+    ghost use Rattle.cluster_core.specs.Recovered.{IsRecovered};
+
+    ghost Value = { P };
+
+    ghost view = { λ k. k.parts };
+
+    ghost invariant = { λ k. IsRecovered (P.disks k.parts) k.recovered };
+}
+
+impl<P: Parts> Known<P> {
+    /// What was recovered from these parts.
+    pub(crate) fn new(parts: P, recovered: Recovered, behind: u32) -> Known<P>
+        requires { IsRecovered (P.disks parts) recovered }
+    {
+        Known {
+            parts,
+            recovered,
+            behind,
+        }
+    }
+
+    /// What was recovered.
+    pub(crate) fn recovered(&self) -> &Recovered {
+        &self.recovered
+    }
+
+    /// What was read.
+    pub(crate) fn read(&self) -> Read<'_> {
+        Read {
+            recovered: &self.recovered,
+            behind: self.behind,
+        }
+    }
+
+    /// The parts.
+    pub(crate) fn into_parts(self) -> P {
+        let Known { parts, .. } = self;
+        parts
+    }
+
+    /// The parts, to be formatted.
+    pub(crate) fn into_settled(self) -> Settled<P> {
+        let Known { parts, .. } = self;
+        Settled::new(parts)
+    }
+
+    /// The repository, behind the Life of its opening.
+    pub(crate) fn open(self, alloc: Global) -> Result<Repo<P>, OpenFault<P>> {
+        let Known {
+            parts,
+            recovered,
+            ..
+        } = self;
+        Repo::open(alloc, parts, recovered)
+    }
+}

@@ -1,0 +1,255 @@
+//! A store is opened: formatted, or begun with a Life, and then settled.
+
+ghost use Rattle.cluster_core.specs.Counts.{parts_in, parts_of};
+ghost use Rattle.std.specs.Prelude.{IfErr, IfOk, vec_len, ◌≡◌};
+
+use crate::accepting::with_upgrades;
+use crate::cluster::Cluster;
+use crate::fault::{ClusterFault, Unopened, number_at};
+use crate::filling::put_within;
+use crate::found::{Found, Store};
+use crate::plan::{Plan, Start};
+use crate::seat::{Seat, give_back};
+use crate::settling::settle_all;
+use class_defs::{Schemas, Setup, UpgradedSchemas};
+use disk_trait::Parts;
+use front_end::{FrontEnd, Items, Opened};
+use std::alloc::Global;
+use thor_value::NoMemory;
+
+impl<P: Parts> Cluster<P> {
+    /// Opens what was found, with the clients of a plan.
+    ///
+    /// A fresh store is formatted, repositories 1 and up first; otherwise each repository begins a life, and then
+    /// each transaction that was left prepared is settled by its coordinator. Before all repositories were read
+    /// and checked nothing is written. Want of memory, too, where the plan's start isn't that of the store, or a
+    /// number of the plan isn't in its range.
+    pub fn open(alloc: Global, found: Found<P>, plan: Plan) -> Result<Cluster<P>, ClusterFault<P>>
+        ensures ok { IfOk result (λ cluster. parts_of cluster ≡ parts_in found) }
+        ensures err { IfErr result (λ fault. vec_len fault.parts ≡ parts_in found) }
+    {
+        let Found {
+            seats,
+            spare,
+            mob,
+            store,
+            ..
+        } = found;
+        let Plan {
+            start,
+            tries,
+            cache,
+            clients,
+        } = plan;
+        let (seats, opened) = open_seats(alloc, seats, store, start, mob);
+        match told_to(alloc, &seats, opened, clients, tries, cache) {
+            Ok((opened, clients)) => settled(Cluster {
+                alloc,
+                seats,
+                clients,
+                opened,
+                spare,
+            }),
+            Err(why) => Err(ClusterFault {
+                parts: give_back(seats, spare),
+                why,
+            }),
+        }
+    }
+}
+
+/// A store whose prepared transactions are settled.
+fn settled<P: Parts>(cluster: Cluster<P>) -> Result<Cluster<P>, ClusterFault<P>>
+    ensures ok { IfOk result (λ settled. parts_of settled ≡ parts_of cluster) }
+    ensures err { IfErr result (λ fault. vec_len fault.parts ≡ parts_of cluster) }
+{
+    let mut cluster = cluster;
+    match settle_all(cluster.seats.as_mut_slice()) {
+        Ok(()) => Ok(cluster),
+        Err(why) => Err(cluster.give_back(why)),
+    }
+}
+
+/// The clients, and what they are told of the store with these schemas.
+fn told_to<P: Parts>(
+    alloc: Global,
+    seats: &Vec<Seat<P>>,
+    opened: Result<Schemas, Unopened>,
+    clients: Vec<Items>,
+    tries: u32,
+    cache: u32,
+) -> Result<(Opened, Vec<FrontEnd>), Unopened> {
+    let schemas = opened?;
+    let repos = number_at(seats.len())?;
+    let Ok(epoch) = u32::try_from(schemas.upgraded.len()) else {
+        return Err(Unopened::NoMemory);
+    };
+    let schemas = with_upgrades(alloc, schemas, clients.as_slice())?;
+    let opened = Opened {
+        repos,
+        epoch,
+        schemas,
+    };
+    Ok((opened, make_clients(alloc, clients, tries, cache)?))
+}
+
+/// Opens every repository. The answer is the schemas of the store.
+fn open_seats<P: Parts>(
+    alloc: Global,
+    seats: Vec<Seat<P>>,
+    store: Store,
+    start: Start,
+    mob: u32,
+) -> (Vec<Seat<P>>, Result<Schemas, Unopened>)
+    ensures { vec_len result.0 ≡ vec_len seats }
+{
+    match (store, start) {
+        (Store::Open(store), Start::Stored) => {
+            let (seats, opened) = open_all(alloc, seats);
+            (seats, with(opened, store.schemas))
+        }
+        (Store::Fresh, Start::Setup(setup)) => {
+            let (seats, formatted) = format_all(alloc, seats, &setup, mob);
+            let Setup { schema, roots: _ } = setup;
+            let schemas = Schemas {
+                first: schema,
+                upgraded: UpgradedSchemas::new(alloc),
+            };
+            (seats, with(formatted, schemas))
+        }
+        (Store::Open(_), Start::Setup(_)) | (Store::Fresh, Start::Stored) => {
+            (seats, Err(Unopened::NoMemory))
+        }
+    }
+}
+
+/// The schemas of a store whose repositories were opened.
+fn with(opened: Result<(), Unopened>, schemas: Schemas) -> Result<Schemas, Unopened> {
+    opened?;
+    Ok(schemas)
+}
+
+/// Opens every repository of a store, rising. Behind one that can't be opened the others aren't.
+fn open_all<P: Parts>(alloc: Global, seats: Vec<Seat<P>>) -> (Vec<Seat<P>>, Result<(), Unopened>)
+    ensures { vec_len result.0 ≡ vec_len seats }
+{
+    let Ok(mut done) = Vec::with_capacity(alloc, seats.len()) else {
+        return (seats, Err(Unopened::NoMemory));
+    };
+    let mut opened = Ok(());
+    for seat in seats {
+        let next = match opened {
+            Ok(()) => open_next(alloc, seat, done.len()),
+            Err(why) => (seat, Err(why)),
+        };
+        put_within(&mut done, next.0);
+        opened = next.1;
+    }
+    (done, opened)
+}
+
+/// Opens the repository at a place.
+fn open_next<P: Parts>(
+    alloc: Global,
+    seat: Seat<P>,
+    place: usize,
+) -> (Seat<P>, Result<(), Unopened>) {
+    match (seat, number_at(place)) {
+        (Seat::Known(known), Ok(repo)) => Seat::of(repo, known.open(alloc)),
+        (seat, _) => (seat, Err(Unopened::NoMemory)),
+    }
+}
+
+/// Formats every repository of a store, rising, 0 last.
+fn format_all<P: Parts>(
+    alloc: Global,
+    seats: Vec<Seat<P>>,
+    setup: &Setup,
+    mob: u32,
+) -> (Vec<Seat<P>>, Result<(), Unopened>)
+    ensures { vec_len result.0 ≡ vec_len seats }
+{
+    let count = seats.len();
+    match format_from(alloc, seats, 1, count, setup, mob) {
+        (seats, Ok(())) => format_from(alloc, seats, 0, 1, setup, mob),
+        failed => failed,
+    }
+}
+
+/// Formats the repositories from one place up to another. Behind one that can't be formatted the others aren't.
+fn format_from<P: Parts>(
+    alloc: Global,
+    seats: Vec<Seat<P>>,
+    from: usize,
+    to: usize,
+    setup: &Setup,
+    mob: u32,
+) -> (Vec<Seat<P>>, Result<(), Unopened>)
+    ensures { vec_len result.0 ≡ vec_len seats }
+{
+    let repos = seats.len();
+    let Ok(mut done) = Vec::with_capacity(alloc, repos) else {
+        return (seats, Err(Unopened::NoMemory));
+    };
+    let mut formatted = Ok(());
+    for seat in seats {
+        let place = done.len();
+        let next = match formatted {
+            Ok(()) if from <= place && place < to => {
+                format_next(alloc, seat, place, repos, setup, mob)
+            }
+            before => (seat, before),
+        };
+        put_within(&mut done, next.0);
+        formatted = next.1;
+    }
+    (done, formatted)
+}
+
+/// Formats the repository at a place.
+fn format_next<P: Parts>(
+    alloc: Global,
+    seat: Seat<P>,
+    place: usize,
+    repos: usize,
+    setup: &Setup,
+    mob: u32,
+) -> (Seat<P>, Result<(), Unopened>) {
+    let (Ok(repo), Ok(repos)) = (number_at(place), number_at(repos)) else {
+        return (seat, Err(Unopened::NoMemory));
+    };
+    match seat.into_settled() {
+        Ok(settled) => Seat::of(repo, settled.format(alloc, repo, repos, setup, mob)),
+        Err(seat) => (seat, Err(Unopened::NoMemory)),
+    }
+}
+
+/// The clients 1, 2, .., each with its items.
+fn make_clients(
+    alloc: Global,
+    clients: Vec<Items>,
+    tries: u32,
+    cache: u32,
+) -> Result<Vec<FrontEnd>, NoMemory> {
+    let mut made = Vec::new(alloc);
+    for items in clients {
+        let client = make_client(alloc, made.len(), items, tries, cache)?;
+        made.push(client)?;
+    }
+    Ok(made)
+}
+
+/// The client behind so many others. There is no memory for one whose numbers aren't in their ranges.
+fn make_client(
+    alloc: Global,
+    others: usize,
+    items: Items,
+    tries: u32,
+    cache: u32,
+) -> Result<FrontEnd, NoMemory> {
+    let client = number_at(others)?.saturating_add(1);
+    if cache == 0 || u32::try_from(items.len()).is_err() {
+        return Err(NoMemory);
+    }
+    FrontEnd::new(alloc, client, items, tries, cache)
+}

@@ -1,0 +1,81 @@
+//! One repository, as an opening finds it on its disks.
+
+ghost use Rattle.cluster_core.specs.Recovered.{Finds};
+ghost use Rattle.disk_trait.specs.AllDisks.{AllSettled};
+ghost use Rattle.std.specs.Prelude.{IfOk, OnOk};
+
+use crate::fault::{Unopened, fault_of, outage_of};
+use crate::pages::read_pages;
+use disk_trait::{Outage, Parts};
+use recovery::{Recovered, recover};
+use std::alloc::Global;
+use thor_value::{Obj, OrefMap};
+
+/// What was read of a repository whose log is open.
+#[derive(Clone, Copy)]
+pub(crate) struct Read<'a> {
+    pub(crate) recovered: &'a Recovered,
+    /// The page behind the last installed one that has objects.
+    pub(crate) behind: u32,
+}
+
+impl Read<'_> {
+    /// What is told of a store that this repository's checkpoint damages.
+    pub(crate) fn damaged(&self, repo: u8) -> Unopened {
+        damaged(self.recovered, repo)
+    }
+}
+
+fn damaged(recovered: &Recovered, repo: u8) -> Unopened {
+    Unopened::Damaged {
+        repo,
+        disk: recovered.log.disk(),
+        place: 0,
+    }
+}
+
+/// Syncs the disks of a repository, and reads it. The answer is what was recovered, and the page behind the
+/// last one with objects; nothing where it is fresh. The objects of its pages are put into a map.
+pub(crate) fn read_repository<P: Parts>(
+    alloc: Global,
+    parts: &mut P,
+    repo: u8,
+    repos: u8,
+    mob: u32,
+    objects: &mut OrefMap<Obj>,
+) -> Result<Option<(Recovered, u32)>, Unopened>
+    ensures { IfOk result (Finds (P.disks parts.new)) }
+{
+    sync(parts, repo)?;
+    let recovered = match recover(alloc, parts, mob) {
+        Ok(Some(recovered)) => recovered,
+        Ok(None) => return Ok(None),
+        Err(fault) => return Err(fault_of(repo, fault)),
+    };
+    if recovered.state.repo() != repo || recovered.state.repos() != repos {
+        return Err(damaged(&recovered, repo));
+    }
+    let sides = recovered.state.objects().pages().sides();
+    let behind = read_pages(alloc, parts, repo, sides, objects)?;
+    Ok(Some((recovered, behind)))
+}
+
+/// Syncs the disks of a repository.
+fn sync<P: Parts>(parts: &mut P, repo: u8) -> Result<(), Unopened>
+    ensures { OnOk result (AllSettled (P.disks parts.new)) }
+{
+    match sync_all(parts) {
+        Ok(()) => Ok(()),
+        Err(outage) => Err(outage_of(repo, outage)),
+    }
+}
+
+/// Syncs all disks. After `Ok` a crash leaves what a read gives.
+#[tactic(auto, using(crate::proofs::Syncing::all_synced))]
+fn sync_all<P: Parts>(parts: &mut P) -> Result<(), Outage>
+    ensures { OnOk result (AllSettled (P.disks parts.new)) }
+{
+    parts.sync(0)?;
+    parts.sync(1)?;
+    parts.sync(2)
+}

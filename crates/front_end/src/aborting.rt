@@ -1,0 +1,29 @@
+//! Before the rules: a transaction that its coordinator has prepared and whose try has ended is aborted
+//! there.
+
+use crate::client::Client;
+use crate::duties::Abort;
+use port::Port;
+use thor_value::NoMemory;
+use validation_window::Refusal;
+
+impl Client {
+    /// Has the coordinator abort. Where it answers, the participants are to be told; where it refuses,
+    /// nothing is handed on.
+    pub fn abort<Q: Port>(&mut self, port: &mut Q, abort: Abort) -> Result<(), NoMemory> {
+        let Abort {
+            coordinator,
+            ts,
+            prepared,
+        } = abort;
+        match port.decide(coordinator, ts, false) {
+            Ok(verdict) => self.duties.hand_on(verdict, prepared),
+            Err(Refusal::NoMemory) => Err(NoMemory),
+            Err(Refusal::Gone { session }) => {
+                self.held.lose(coordinator.repo, session);
+                Ok(())
+            }
+            Err(_) => Ok(()),
+        }
+    }
+}

@@ -1,0 +1,74 @@
+//! The fourth rule: the client asks for its own transaction, which was sent to be decided.
+
+use crate::client::Client;
+use crate::link::Link;
+use crate::news::{News, Task};
+use crate::opened::Opened;
+use crate::phase::Phase;
+use crate::transaction::Sent;
+use message_outbox::{Asked, Verdict};
+use port::Port;
+use serial_model::{Cause, ItemOutcome};
+use thor_value::NoMemory;
+use validation_window::Refusal;
+
+impl Client {
+    /// Asks the coordinator for the verdict.
+    pub fn ask<Q: Port>(
+        &mut self,
+        port: &mut Q,
+        opened: &Opened,
+        task: Task<'_>,
+    ) -> Result<News, NoMemory> {
+        let Phase::Asking { sent, answers } = self.take_phase() else {
+            return Ok(News::Nothing);
+        };
+        match port.ask(sent.coordinator(), sent.ts) {
+            Ok(Asked::Settled(verdict)) => self.learn_own(opened, sent, verdict),
+            Err(Refusal::NoMemory) => Err(NoMemory),
+            Ok(Asked::Undecided) | Err(_) => {
+                Ok(self.ask_again(task, sent, answers.saturating_add(1)))
+            }
+        }
+    }
+
+    /// The verdict on the client's own transaction is known.
+    pub fn learn_own(
+        &mut self,
+        opened: &Opened,
+        sent: Sent,
+        verdict: Verdict,
+    ) -> Result<News, NoMemory> {
+        let coordinator = sent.coordinator();
+        self.duties.hand_on(verdict, sent.others()?)?;
+        if verdict.commit() {
+            return Ok(self.end_committed(opened, sent));
+        }
+        Ok(self.end_try(Cause::Down { repo: coordinator }))
+    }
+
+    /// An answer had no verdict. Behind as many as there are tries, the item is held as Unknown.
+    fn ask_again(&mut self, task: Task<'_>, sent: Sent, answers: u32) -> News {
+        if answers < task.tries {
+            self.phase = Phase::Asking { sent, answers };
+            return News::Nothing;
+        }
+        self.hold_as_unknown(task, sent)
+    }
+
+    /// The client goes on without the verdict. It leaves every participant, so that what may still be
+    /// committed there comes from another session.
+    fn hold_as_unknown(&mut self, task: Task<'_>, sent: Sent) -> News {
+        for repo in sent.participants.as_slice() {
+            self.held.leave(*repo);
+        }
+        self.held.give_up();
+        let tx = sent.ts;
+        let index = task.who.index;
+        self.held
+            .set_link(sent.coordinator(), Link::Unsettled { sent, index });
+        News::Ended {
+            outcome: ItemOutcome::Unknown { tx },
+        }
+    }
+}

@@ -1,0 +1,23 @@
+//! The first rule: a reply is outstanding.
+
+use crate::client::Client;
+use crate::news::News;
+use crate::opened::Opened;
+use message_outbox::At;
+use port::Port;
+use thor_value::NoMemory;
+
+impl Client {
+    /// Takes a message of the session in which a reply is outstanding.
+    pub fn await_reply<Q: Port>(
+        &mut self,
+        port: &mut Q,
+        opened: &Opened,
+        at: At,
+    ) -> Result<News, NoMemory> {
+        match self.receive(port, opened, at)? {
+            Some(news) => Ok(news),
+            None => Ok(News::Nothing),
+        }
+    }
+}

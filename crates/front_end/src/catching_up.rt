@@ -1,0 +1,27 @@
+//! The second rule: the client catches up with a repository that refused it.
+
+use crate::client::Client;
+use crate::link::Waits;
+use crate::news::News;
+use crate::opened::Opened;
+use message_outbox::At;
+use port::Port;
+use thor_value::NoMemory;
+
+impl Client {
+    /// Takes a message of the session. Where none waits, the client has caught up.
+    pub fn catch_up<Q: Port>(
+        &mut self,
+        port: &mut Q,
+        opened: &Opened,
+        at: At,
+    ) -> Result<News, NoMemory> {
+        match self.receive(port, opened, at)? {
+            Some(news) => Ok(news),
+            None => {
+                self.held.wait(at.repo, Waits::Idle);
+                Ok(News::Nothing)
+            }
+        }
+    }
+}

@@ -1,0 +1,24 @@
+//! Why a try ends that was refused.
+
+use serial_model::Cause;
+use thor_value::NoMemory;
+use validation_window::Refusal;
+
+/// Why a try ends that a repository refused.
+pub fn cause_of(refusal: Refusal, repo: u8) -> Result<Cause, NoMemory> {
+    match refusal {
+        Refusal::Gone { session } => Ok(Cause::Gone { session }),
+        Refusal::Epoch { n } => Ok(Cause::Epoch { n }),
+        Refusal::Blocked { tx } => Ok(Cause::Blocked { tx }),
+        Refusal::TooOld { threshold } => Ok(Cause::TooOld { threshold }),
+        Refusal::Stale { oref, place } => Ok(Cause::Stale { oref, place }),
+        Refusal::Earlier { tx, oref } => Ok(Cause::Earlier { tx, oref }),
+        Refusal::Later { tx, oref } => Ok(Cause::Later { tx, oref }),
+        Refusal::Full { limit } => Ok(Cause::Full { limit }),
+        Refusal::Down { .. } | Refusal::Stopped { .. } | Refusal::Damaged { .. } => {
+            Ok(Cause::Down { repo })
+        }
+        Refusal::ClockEnd => Ok(Cause::ClockEnd),
+        Refusal::NoMemory => Err(NoMemory),
+    }
+}

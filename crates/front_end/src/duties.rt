@@ -1,0 +1,78 @@
+//! What a client has to do about transactions before its next try.
+
+use message_outbox::{At, Verdict};
+use std::alloc::Global;
+use thor_value::{NoMemory, Repos, Sequence, Ts};
+
+/// A transaction that its coordinator has prepared and whose try has ended.
+#[derive(Drop)]
+pub struct Abort {
+    /// The session by which the coordinator has prepared it.
+    pub coordinator: At,
+    pub ts: Ts,
+    /// The other participants that have prepared it, rising.
+    pub prepared: Repos,
+}
+
+/// Another's undecided transaction stood against a request at a repository.
+#[derive(Clone, Copy)]
+pub enum Helping {
+    /// Its coordinator is to be asked about it.
+    Ask { ts: Ts, refuser: u8 },
+    /// The verdict is to be handed to the repository.
+    Finish { verdict: Verdict, refuser: u8 },
+}
+
+/// What is to be done about a verdict.
+#[derive(Drop)]
+pub enum Duty {
+    /// These participants are to be told, rising. Where `forgets` holds, all before have been told, and
+    /// the coordinator is to forget the transaction behind the last.
+    Finish {
+        verdict: Verdict,
+        to: Repos,
+        forgets: bool,
+    },
+    /// The coordinator is to forget the transaction.
+    Forget {
+        ts: Ts,
+    },
+}
+
+/// What a client has to do about transactions before its next try.
+#[derive(Drop)]
+pub struct Duties {
+    pub abort: Option<Abort>,
+    pub helping: Option<Helping>,
+    /// The oldest first.
+    pub verdicts: Sequence<Duty>,
+}
+
+impl Duties {
+    /// Nothing is to be done. It takes no memory.
+    pub fn new(alloc: Global) -> Duties {
+        Duties {
+            abort: None,
+            helping: None,
+            verdicts: Sequence::new(alloc),
+        }
+    }
+
+    /// Whether a transaction is to be aborted, or a verdict to be handed on.
+    pub fn owes_verdicts(&self) -> bool {
+        self.abort.is_some() || !self.verdicts.is_empty()
+    }
+
+    /// A verdict is to be handed to participants. A commit that all of them have finished is to be
+    /// forgotten.
+    pub fn hand_on(&mut self, verdict: Verdict, to: Repos) -> Result<(), NoMemory> {
+        if to.is_empty() {
+            return Ok(());
+        }
+        self.verdicts.push(Duty::Finish {
+            verdict,
+            to,
+            forgets: verdict.commit(),
+        })
+    }
+}

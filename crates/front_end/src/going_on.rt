@@ -1,0 +1,72 @@
+//! The sixth rule: the try goes on.
+
+use crate::client::Client;
+use crate::news::{News, Task};
+use crate::opened::Opened;
+use crate::phase::Phase;
+use crate::transaction::Transaction;
+use paused_eval::Paused;
+use port::Port;
+use serial_model::What;
+use thor_value::NoMemory;
+use upgrade_defs::print_upgrade;
+
+impl Client {
+    /// Makes the call that is next for the present item.
+    pub fn go_on<Q: Port>(
+        &mut self,
+        port: &mut Q,
+        opened: &Opened,
+        task: Task<'_>,
+    ) -> Result<News, NoMemory> {
+        match self.take_phase() {
+            Phase::Between | Phase::Beginning => self.begin(port, opened, task),
+            Phase::Evaluating { run, .. } => self.evaluate(port, opened, run),
+            Phase::Transforming { run, transform } => {
+                self.transform(port, opened, run, transform)
+            }
+            Phase::Evaluated { transaction } => self.join_and_draw(port, opened, transaction),
+            Phase::Drawn { ts, transaction } => self.send(port, opened, task.who, ts, transaction),
+            Phase::Preparing {
+                ts,
+                transaction,
+                coordinator,
+                prepared,
+            } => self.prepare_or_decide(
+                port,
+                opened,
+                task.who,
+                ts,
+                transaction,
+                coordinator,
+                prepared,
+            ),
+            Phase::Asking { sent, answers } => {
+                self.phase = Phase::Asking { sent, answers };
+                Ok(News::Nothing)
+            }
+        }
+    }
+
+    /// Begins the evaluation of the present item, or makes its upgrade.
+    fn begin<Q: Port>(
+        &mut self,
+        port: &mut Q,
+        opened: &Opened,
+        task: Task<'_>,
+    ) -> Result<News, NoMemory> {
+        let alloc = self.held.alloc;
+        match task.what {
+            Some(What::Tx(block)) => {
+                let run = Paused::begin(alloc, block)?;
+                self.evaluate(port, opened, run)
+            }
+            Some(What::Upgrade(upgrade)) => {
+                let text = print_upgrade(alloc, upgrade)?;
+                let transaction = Transaction::upgrade(task.number, text, opened.repos)?;
+                self.join_and_draw(port, opened, transaction)
+            }
+            None => Ok(News::Nothing),
+        }
+    }
+}

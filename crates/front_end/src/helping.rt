@@ -1,0 +1,64 @@
+//! The third rule: the client helps on a transaction that stood against its request.
+
+use crate::client::Client;
+use crate::duties::Helping;
+use crate::news::{Learnt, News};
+use crate::opened::Opened;
+use message_outbox::{Asked, Verdict};
+use port::Port;
+use thor_value::{NoMemory, Ts};
+use validation_window::Refusal;
+
+impl Client {
+    /// Asks about the transaction, or hands its verdict to the repository that refused.
+    pub fn help<Q: Port>(
+        &mut self,
+        port: &mut Q,
+        opened: &Opened,
+        helping: Helping,
+    ) -> Result<News, NoMemory> {
+        self.duties.helping = None;
+        match helping {
+            Helping::Ask { ts, refuser } => self.ask_about(port, opened, ts, refuser),
+            Helping::Finish { verdict, refuser } => {
+                finish(port, verdict, refuser)?;
+                Ok(News::Nothing)
+            }
+        }
+    }
+
+    /// Asks the coordinator of a transaction about it. An answer without a verdict, or a refusal, ends
+    /// the help.
+    fn ask_about<Q: Port>(
+        &mut self,
+        port: &mut Q,
+        opened: &Opened,
+        ts: Ts,
+        refuser: u8,
+    ) -> Result<News, NoMemory> {
+        if ts.repo >= opened.repos {
+            return Ok(News::Nothing);
+        }
+        match port.ask(ts.repo, ts) {
+            Ok(Asked::Settled(verdict)) => {
+                self.duties.helping = Some(Helping::Finish { verdict, refuser });
+                match self.learn_verdict(opened, ts.repo, verdict)? {
+                    Some(Learnt { settled, .. }) => Ok(News::Settled { settled }),
+                    None => Ok(News::Nothing),
+                }
+            }
+            Ok(Asked::Undecided) => Ok(News::Nothing),
+            Err(Refusal::NoMemory) => Err(NoMemory),
+            Err(_) => Ok(News::Nothing),
+        }
+    }
+}
+
+/// Hands a verdict to a repository. A refusal leaves it to whoever asks later.
+fn finish<Q: Port>(port: &mut Q, verdict: Verdict, repo: u8) -> Result<(), NoMemory> {
+    match port.finish(repo, &verdict) {
+        Ok(_) => Ok(()),
+        Err(Refusal::NoMemory) => Err(NoMemory),
+        Err(_) => Ok(()),
+    }
+}

@@ -1,0 +1,46 @@
+//! How a session begins where a try needs one.
+
+use crate::calls::Came;
+use crate::causes::cause_of;
+use crate::client::Client;
+use crate::opened::Opened;
+use message_outbox::Asked;
+use port::Port;
+use thor_value::{NoMemory, Ts};
+
+impl Client {
+    /// Begins a session at a repository. Where an Unknown item's verdict is still to be learnt there,
+    /// that is asked for first, and no session begins.
+    pub fn join<Q: Port>(
+        &mut self,
+        port: &mut Q,
+        opened: &Opened,
+        repo: u8,
+    ) -> Result<Came, NoMemory> {
+        match self.held.unsettled(repo) {
+            Some(ts) => self.ask_before(port, opened, repo, ts),
+            None => self.held.connect(port, opened, repo),
+        }
+    }
+
+    /// Asks for the verdict on an Unknown item. An own upgrade that is learnt lets the evaluation begin
+    /// anew.
+    fn ask_before<Q: Port>(
+        &mut self,
+        port: &mut Q,
+        opened: &Opened,
+        repo: u8,
+        ts: Ts,
+    ) -> Result<Came, NoMemory> {
+        match port.ask(repo, ts) {
+            Ok(Asked::Settled(verdict)) => {
+                match self.learn_verdict(opened, repo, verdict)? {
+                    Some(learnt) => Ok(Came::Learnt(learnt)),
+                    None => Ok(Came::Well),
+                }
+            }
+            Ok(Asked::Undecided) => Ok(Came::Well),
+            Err(refusal) => Ok(Came::Refused(cause_of(refusal, repo)?)),
+        }
+    }
+}

@@ -1,0 +1,128 @@
+//! What a client does with the messages of a repository.
+
+use crate::causes::cause_of;
+use crate::client::Client;
+use crate::news::News;
+use crate::opened::Opened;
+use message_outbox::{At, Message};
+use page_format::Page;
+use port::Port;
+use serial_model::Cause;
+use thor_value::{NoMemory, Oref, Orefs, Text};
+use validation_window::Refusal;
+
+/// Whether an object lies on a page.
+fn is_on(oref: Oref, repo: u8, page: u32) -> bool {
+    oref.repo == repo && oref.page == page
+}
+
+impl Client {
+    /// Takes a message by a step; nothing where none waits. A repository that is down ends the try that
+    /// runs or would begin.
+    pub fn receive<Q: Port>(
+        &mut self,
+        port: &mut Q,
+        opened: &Opened,
+        at: At,
+    ) -> Result<Option<News>, NoMemory> {
+        match port.receive(at) {
+            Ok(Some(message)) => Ok(Some(self.take(opened, at.repo, message)?)),
+            Ok(None) => Ok(None),
+            Err(Refusal::Gone { session }) => {
+                self.lose_in_receive(at.repo, session);
+                Ok(Some(News::Nothing))
+            }
+            Err(refusal) => {
+                let cause = cause_of(refusal, at.repo)?;
+                Ok(Some(self.end_try(cause)))
+            }
+        }
+    }
+
+    /// Takes a message by a delivery. A repository that is down changes nothing.
+    pub fn receive_delivered<Q: Port>(
+        &mut self,
+        port: &mut Q,
+        opened: &Opened,
+        at: At,
+    ) -> Result<News, NoMemory> {
+        match port.receive(at) {
+            Ok(Some(message)) => self.take(opened, at.repo, message),
+            Ok(None) => Ok(News::Nothing),
+            Err(Refusal::Gone { session }) => {
+                self.lose_in_receive(at.repo, session);
+                Ok(News::Nothing)
+            }
+            Err(Refusal::NoMemory) => Err(NoMemory),
+            Err(_) => Ok(News::Nothing),
+        }
+    }
+
+    /// The session was gone as a message was to be taken. A try that its coordinator has prepared goes on
+    /// as it is; any other begins its evaluation anew.
+    fn lose_in_receive(&mut self, repo: u8, session: u32) {
+        self.held.lose(repo, session);
+        if self.phase.runs_unprepared() {
+            self.begin_anew();
+        }
+    }
+
+    fn take(&mut self, opened: &Opened, repo: u8, message: Message) -> Result<News, NoMemory> {
+        match message {
+            Message::Page { page, bytes, place } => self.take_page(repo, page, &bytes, place),
+            Message::Grant { page, place } => self.take_grant(repo, page, place),
+            Message::Invalid { orefs, place } => Ok(self.take_invalid(repo, &orefs, place)),
+            Message::Upgrade { number, place, .. } => {
+                Ok(self.take_upgrade(opened, repo, number, place))
+            }
+        }
+    }
+
+    /// A page has come. Where it lacks the object that is needed next, the try ends.
+    fn take_page(
+        &mut self,
+        repo: u8,
+        page: u32,
+        bytes: &Text,
+        place: u64,
+    ) -> Result<News, NoMemory> {
+        self.held.place(repo, page, bytes)?;
+        self.held.take_reply(repo, place);
+        match self.phase.awaited() {
+            Some(oref) if is_on(oref, repo, page) && !self.held.holds(oref) => {
+                Ok(self.end_try(Cause::Missing { oref }))
+            }
+            Some(_) | None => Ok(News::Nothing),
+        }
+    }
+
+    /// An empty page has come, whose names may be given.
+    fn take_grant(&mut self, repo: u8, page: u32, place: u64) -> Result<News, NoMemory> {
+        let bytes = Page::empty(self.held.alloc, page)?.spell()?;
+        self.held.place(repo, page, &bytes)?;
+        if self.held.names.has_none_of(repo, page) {
+            self.held.names.grant(repo, page)?;
+        }
+        self.held.take_reply(repo, place);
+        Ok(News::Nothing)
+    }
+
+    /// Objects were written by others. A try that has read one of them ends.
+    fn take_invalid(&mut self, repo: u8, orefs: &Orefs, place: u64) -> News {
+        self.held.cache.invalidate(orefs);
+        self.held.acknowledge(repo, place.saturating_add(1));
+        match self.phase.first_read(orefs) {
+            Some(oref) => self.end_try(Cause::Stale { oref, place }),
+            None => News::Nothing,
+        }
+    }
+
+    /// An upgrade was installed. Where it is the next one, a running try ends.
+    fn take_upgrade(&mut self, opened: &Opened, repo: u8, number: u32, place: u64) -> News {
+        self.held.acknowledge(repo, place.saturating_add(1));
+        if self.held.learn_next_epoch(opened, number) && self.phase.runs() {
+            return self.end_try(Cause::Epoch { n: number });
+        }
+        News::Nothing
+    }
+}

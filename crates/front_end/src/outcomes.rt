@@ -1,0 +1,121 @@
+//! What becomes of items whose verdict is known.
+
+ghost use Rattle.front_end.specs.Courses.{IsLateOutcome, is_committed};
+ghost use Rattle.std.specs.Prelude.{◌≡◌, true, IfOk, IfSome};
+
+use crate::client::Client;
+use crate::link::Link;
+use crate::news::{Learnt, News, Settled};
+use crate::opened::Opened;
+use crate::transaction::{Meaning, Sent};
+use message_outbox::{Asked, Verdict};
+use port::Port;
+use serial_model::{Cause, ItemOutcome};
+use thor_value::{Answer, NoMemory, Ts};
+use validation_window::Refusal;
+
+/// What a committed transaction makes of its item.
+fn committed(ts: Ts, meaning: Meaning) -> ItemOutcome
+    ensures late { IsLateOutcome ts result }
+    ensures stands { is_committed result ≡ true }
+{
+    match meaning {
+        Meaning::Ran(Answer::Ints(answer)) => ItemOutcome::Done { ts, answer },
+        Meaning::Ran(Answer::Fault(fault)) => ItemOutcome::Faulted { ts, fault },
+        Meaning::Upgrade { number, .. } => ItemOutcome::Upgraded { ts, number },
+    }
+}
+
+impl Client {
+    /// The present item has committed: what its try has changed is kept.
+    pub fn end_committed(&mut self, opened: &Opened, sent: Sent) -> News {
+        let Sent { ts, meaning, .. } = sent;
+        self.held.keep();
+        self.learn_commit(opened, ts, &meaning);
+        News::Ended {
+            outcome: committed(ts, meaning),
+        }
+    }
+
+    /// A transaction of the client has committed. Where it is an upgrade, that is learnt. It answers
+    /// whether the epoch rises.
+    fn learn_commit(&mut self, opened: &Opened, ts: Ts, meaning: &Meaning) -> bool {
+        self.held.raise_floor(ts);
+        match meaning {
+            Meaning::Upgrade { number, .. } => self.held.learn_epoch(opened, *number),
+            Meaning::Ran(_) => false,
+        }
+    }
+
+    /// A repository told the verdict on a transaction. Where that is an Unknown item's, the item has
+    /// ended, and the verdict is to be handed on.
+    pub fn learn_verdict(
+        &mut self,
+        opened: &Opened,
+        repo: u8,
+        verdict: Verdict,
+    ) -> Result<Option<Learnt>, NoMemory>
+        ensures { IfOk result (λ learnt. IfSome learnt (λ l. is_committed l.settled.outcome ≡ verdict.commit)) }
+    {
+        match self.held.take_link(repo) {
+            Link::Unsettled { sent, index } if sent.ts == verdict.tx() => {
+                self.duties.hand_on(verdict, sent.others()?)?;
+                Ok(Some(self.settle(opened, sent, index, verdict)))
+            }
+            link => {
+                self.held.set_link(repo, link);
+                Ok(None)
+            }
+        }
+    }
+
+    /// What becomes of an Unknown item by the verdict: its transaction stands exactly where that commits.
+    fn settle(&mut self, opened: &Opened, sent: Sent, index: u32, verdict: Verdict) -> Learnt
+        ensures { is_committed result.settled.outcome ≡ verdict.commit }
+    {
+        let repo = sent.coordinator();
+        let Sent { ts, meaning, .. } = sent;
+        if !verdict.commit() {
+            let outcome = ItemOutcome::Refused {
+                cause: Cause::Down { repo },
+            };
+            return Learnt {
+                settled: Settled { index, ts, outcome },
+                rises: false,
+            };
+        }
+        let rises = self.learn_commit(opened, ts, &meaning);
+        let outcome = committed(ts, meaning);
+        Learnt {
+            settled: Settled { index, ts, outcome },
+            rises,
+        }
+    }
+
+    /// Asks once about the Unknown item that a repository coordinates, if there is one.
+    pub fn ask_last<Q: Port>(
+        &mut self,
+        port: &mut Q,
+        opened: &Opened,
+        repo: u8,
+    ) -> Result<News, NoMemory> {
+        let (sent, index) = match self.held.take_link(repo) {
+            Link::Unsettled { sent, index } => (sent, index),
+            link => {
+                self.held.set_link(repo, link);
+                return Ok(News::Nothing);
+            }
+        };
+        match port.ask(repo, sent.ts) {
+            Ok(Asked::Settled(verdict)) => {
+                let Learnt { settled, .. } = self.settle(opened, sent, index, verdict);
+                Ok(News::Settled { settled })
+            }
+            Err(Refusal::NoMemory) => Err(NoMemory),
+            Ok(Asked::Undecided) | Err(_) => {
+                self.held.set_link(repo, Link::Unsettled { sent, index });
+                Ok(News::Nothing)
+            }
+        }
+    }
+}

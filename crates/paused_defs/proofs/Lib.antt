@@ -1,0 +1,7 @@
+pub mod Sound
+pub mod AlikeMoves
+pub mod MoreNames
+pub mod MoreCreated
+pub mod Reaching
+pub mod Drops
+pub mod Falling

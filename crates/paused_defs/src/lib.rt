@@ -1,0 +1,20 @@
+//! What is left of a run that stops and goes on: frames over syntax with several owners, and what they mean.
+#![tactic(auto)]
+
+mod frames;
+mod laws;
+mod nodes;
+mod shared;
+mod sharing;
+mod stack;
+mod syntax;
+
+pub use frames::{Doing, Frame};
+pub use laws::{
+    a_small_step_keeps_what_is_left, a_small_step_leaves_fewer, small_steps_reach_what_is_left,
+    what_is_left_goes_on_later,
+};
+pub use nodes::{ExprNode, ExprNodes, StmtNode, StmtNodes};
+pub use shared::Shared;
+pub use stack::Stack;
+pub use syntax::{SharedBlock, SharedExpr, SharedExprs, SharedStmt};

@@ -1,0 +1,48 @@
+ghost use Rattle.std.specs.Prelude.{◌≡◌, IfOk};
+
+use std::alloc::Global;
+use std::marker::Model;
+use std::sync::Arc;
+use thor_value::NoMemory;
+
+/// A value with several owners, which contracts see as that value.
+#[derive(Drop)]
+pub struct Shared<T> {
+    inner: Arc<T>,
+}
+
+impl<T> Model for Shared<T> {
+    ghost Value = { T };
+
+    ghost coded = { T.code };
+
+    ghost view = { λ s. s.inner.value };
+}
+
+impl<T> Shared<T> {
+    pub fn get(&self) -> &T
+        ensures { result.now ≡ self.now }
+    {
+        &self.inner
+    }
+
+    /// Another owner of the same value. It copies nothing.
+    pub fn share(&self) -> Result<Shared<T>, NoMemory>
+        ensures { IfOk result (λ other. other ≡ self.now) }
+    {
+        Ok(Shared {
+            inner: Arc::try_clone(&self.inner)?,
+        })
+    }
+}
+
+impl<T: Drop> Shared<T> {
+    /// Gives a value its first owner. After `NoMemory` the value is gone.
+    pub fn new(alloc: Global, value: T) -> Result<Shared<T>, NoMemory>
+        ensures { IfOk result (λ made. made ≡ value) }
+    {
+        Ok(Shared {
+            inner: Arc::new(alloc, value)?,
+        })
+    }
+}

@@ -1,0 +1,11 @@
+pub mod Beginning
+pub mod Copying
+pub mod Ending
+pub mod Granted
+pub mod Hands
+pub mod Later
+pub mod Lifting
+pub mod Nested
+pub mod Nodes
+pub mod Standing
+pub mod Writes

@@ -1,0 +1,15 @@
+use Rattle.paused_eval.proofs.Hands.{same_hands}
+use Rattle.paused_eval.specs.Copies.{at_hand}
+use Rattle.paused_eval.proofs.paused.Paused.go.Goals as goal
+
+pub returns-clause-answers : goal.returns-clause-answers
+returns-clause-answers c = λ tx given stands.
+    c.answer.ensures.answers c.args.schema.now (at_hand c.args.schema.now c.args.copies.now.cache) tx given _ c.run_over.new.names
+    (c.in_ok-came.ensures.answers tx given (rw c.replace-doing.ensures.value stands))
+
+pub returns-clause-stands : goal.returns-clause-stands
+returns-clause-stands c = λ tx given stands.
+    let s = c.args.schema.now in
+    rw (same_hands s c.args.copies.now.cache c.run_over.new.cache c.in_ok-came.ensures.kept, c.set_doing.ensures)
+    (c.answer.ensures.stands s (at_hand s c.args.copies.now.cache) tx given _ c.run_over.new.names
+    (c.in_ok-came.ensures.answers tx given (rw c.replace-doing.ensures.value stands)))

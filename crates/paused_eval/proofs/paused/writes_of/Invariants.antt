@@ -1,0 +1,9 @@
+use Rattle.std.proofs.Common.{◌≡◌, ◌++◌, drop}
+use Rattle.client_cache.specs.Copies.{seen}
+use Rattle.method_eval.specs.Answers.{stored_at}
+use Rattle.paused_eval.specs.Copies.{entries}
+use Rattle.paused_eval.proofs.paused.writes_of.Given as goal
+
+-- with those of the names that are left they are all
+abbrev pub invariant-loop-oref : goal.invariant-loop-oref
+invariant-loop-oref l = l.writes ++ stored_at l.epoch (entries (seen l.cache) (drop l.oref-index l.names)) ≡ stored_at l.epoch (entries (seen l.cache) l.names)

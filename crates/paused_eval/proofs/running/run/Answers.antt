@@ -1,0 +1,49 @@
+use Rattle.std.proofs.Common.{arith, ◌∙◌, sym}
+use Rattle.paused_eval.proofs.Hands.{same_hands}
+use Rattle.paused_eval.proofs.Standing.{ends, faults, goes, waits}
+use Rattle.paused_eval.specs.Copies.{at_hand}
+use Rattle.paused_eval.proofs.running.run.Goals as goal
+
+pub returns-then-is_ended-clause-answers : goal.returns-then-is_ended-clause-answers
+returns-then-is_ended-clause-answers c = λ tx given stands.
+    ends _ _ tx given c.loop.counter c.loop.doing c.loop.stack _ (sym c.is_ended.ensures ∙ c.if-is_ended.true) (c.loop.invariant.1.1.1.1 tx given stands)
+
+pub returns-in-Ok-Waits-clause-answers : goal.returns-in-Ok-Waits-clause-answers
+returns-in-Ok-Waits-clause-answers c = λ tx given stands.
+    let s = c.args.program.now.schema.now in
+    waits s (at_hand s c.args.cache.now) tx given (at_hand s c.loop.cache) c.loop.counter c.loop.doing _ c.loop.stack c.small.new.stack _ _ _
+    (same_hands s c.args.cache.now c.loop.cache c.loop.invariant.1.0) (c.loop.invariant.1.1.1.1 tx given stands) (rw c.in-Ok-Waits.field-0-is at c.in-Ok-Waits.ensures.does)
+
+pub returns-in-Ok-WaitsForName-clause-answers : goal.returns-in-Ok-WaitsForName-clause-answers
+returns-in-Ok-WaitsForName-clause-answers c = λ tx given stands.
+    let s = c.args.program.now.schema.now in
+    waits s (at_hand s c.args.cache.now) tx given (at_hand s c.loop.cache) c.loop.counter c.loop.doing _ c.loop.stack c.small.new.stack _ _ _
+    (same_hands s c.args.cache.now c.loop.cache c.loop.invariant.1.0) (c.loop.invariant.1.1.1.1 tx given stands) (rw c.in-Ok-WaitsForName.field-0-is at c.in-Ok-WaitsForName.ensures.does)
+
+pub returns-in-Err-clause-answers : goal.returns-in-Err-clause-answers
+returns-in-Err-clause-answers c = λ tx given stands.
+    let s = c.args.program.now.schema.now in
+    faults s (at_hand s c.args.cache.now) tx given (at_hand s c.loop.cache) c.loop.counter c.loop.doing c.loop.stack c.small.new.stack _ _ c.in_ok-came-in-Err.came c.in-Err.halt _
+    (same_hands s c.args.cache.now c.loop.cache c.loop.invariant.1.0) (c.loop.invariant.1.1.1.1 tx given stands) c.in_ok-came-in-Err.ensures c.in-Err.ensures.does
+
+pub loop-preserved : goal.loop-preserved
+loop-preserved c =
+    let s = c.args.program.now.schema.now in (
+      c.in-Ok-To.ensures.tied,
+      (
+        (λ x. c.in-Ok-To.ensures.kept x ∙ c.loop.invariant.1.0 x),
+        (
+          c.small.ensures.names,
+          (
+            c.small.ensures.known,
+            (λ tx given stands. goes s (at_hand s c.args.cache.now) tx given (at_hand s c.loop.cache) c.loop.counter c.loop.doing _ c.loop.stack c.small.new.stack _ _
+                (same_hands s c.args.cache.now c.loop.cache c.loop.invariant.1.0) (sym c.is_ended.ensures ∙ c.if-is_ended.false) (c.loop.invariant.1.1.1.1 tx given stands) (rw c.in-Ok-To.field-0-is at c.in-Ok-To.ensures.does)),
+          ),
+        ),
+      ),
+    )
+
+pub returns-clause-answers : goal.returns-clause-answers
+returns-clause-answers c = λ tx given stands.
+    let h = (c.loop.invariant.1.1.1.1 tx given stands).few in
+    absurd (omega (arith, h, c.loop-test.false, c.loop.auto.counter-end))

@@ -1,0 +1,7 @@
+pub mod Begins
+pub mod Bodies
+pub mod Copies
+pub mod Does
+pub mod FromPages
+pub mod NamesCode
+pub mod Standing

@@ -1,0 +1,123 @@
+ghost use Rattle.std.specs.Prelude.{◌≡◌, ◌<◌, Option, Some};
+ghost use Rattle.thor_value.specs.declared.names.Oref.{Oref};
+ghost use Rattle.class_defs.specs.declared.store.Object.{Object};
+ghost use Rattle.paused_defs.specs.Reaches.{over};
+ghost use Rattle.paused_defs.specs.Resume as spec;
+ghost use Rattle.class_defs.specs.Types.{method_of};
+ghost use Rattle.paused_eval.specs.Bodies.{AreOf};
+ghost use Rattle.paused_eval.specs.Copies.{Keeps, Tied, at_hand, state};
+ghost use Rattle.paused_eval.specs.Does.{AtNeed, Goes, Holds, Moves};
+
+use crate::bodies::{Bodies, body_of};
+use crate::moves::open_block;
+use crate::objects::touch;
+use crate::progress::Progress;
+use class_defs::{DEPTH_LIMIT, Machine, Method, Receiver};
+use client_cache::Cache;
+use method_eval::{Halt, Program, bound, fault, method_of, owners_at, type_named};
+use paused_defs::{Doing, Frame, Shared, SharedBlock, Stack};
+use std::mem;
+use thor_value::{Fault, Oref, Text, Values};
+
+/// A body begins, with `this` and its parameters.
+fn open_body(
+    program: &Program<'_>,
+    machine: &mut Machine,
+    stack: &mut Stack<Frame>,
+    inner: u32,
+    this: Receiver,
+    method: &Method,
+    body: SharedBlock,
+    arguments: &Values,
+) -> Result<Doing, Halt>
+    requires depth { machine.old.depth < 64 }
+    requires body { body ≡ method.now.body }
+    ensures { (f : Oref → Option Object) → Moves result stack.new machine.old machine.new (spec.open_body (over program.now.schema.now f) inner this (Some method.now) arguments.now stack.old) }
+{
+    let locals = bound(program, &method.parameters, arguments)?;
+    let depth = machine.depth;
+    let caller_locals = mem::replace(&mut machine.locals, locals);
+    let caller = mem::replace(&mut machine.this, Some(this));
+    machine.depth = depth + 1;
+    stack.push(Frame::BodyEnd {
+        depth,
+        this: caller,
+        locals: caller_locals,
+        result: type_named(program, &method.result),
+    })?;
+    open_block(machine, stack, inner, body)
+}
+
+/// A method is called whose object was read.
+fn open_method(
+    program: &Program<'_>,
+    machine: &mut Machine,
+    bodies: &mut Bodies,
+    stack: &mut Stack<Frame>,
+    inner: u32,
+    this: Receiver,
+    name: &Shared<Text>,
+    arguments: &Values,
+) -> Result<Doing, Halt>
+    requires depth { machine.old.depth < 64 }
+    requires known { AreOf program.now.schema.now.classes bodies.old }
+    ensures opens { (f : Oref → Option Object) → Moves result stack.new machine.old machine.new (spec.open_body (over program.now.schema.now f) inner this (method_of program.now.schema.now.classes this.class name.now) arguments.now stack.old) }
+    ensures known { AreOf program.now.schema.now.classes bodies.new }
+{
+    match method_of(program, this.class, name.get().as_slice()) {
+        Some(method) => {
+            let body = body_of(program, bodies, this.class, name, method)?;
+            open_body(
+                program, machine, stack, inner, this, method, body, arguments,
+            )
+        }
+        None => fault(Fault::NullCall),
+    }
+}
+
+/// A call whose parts are evaluated begins.
+#[tactic(auto, using(crate::proofs::Lifting::lifts, crate::proofs::Lifting::never_needs), unfolding(class_defs::specs::Calls::owners_at))]
+pub fn enter(
+    program: &Program<'_>,
+    cache: &mut Cache,
+    progress: &mut Progress,
+    bodies: &mut Bodies,
+    stack: &mut Stack<Frame>,
+    inner: u32,
+    class: u16,
+    oref: Oref,
+    method: &Shared<Text>,
+    arguments: &Values,
+) -> Result<Doing, Halt>
+    requires tied { Tied progress.old.written cache.old }
+    requires known { AreOf program.now.schema.now.classes bodies.old }
+    ensures does { Goes result stack.new (state progress.new cache.new) (spec.enters (over program.now.schema.now (at_hand program.now.schema.now cache.old)) inner class oref method.now arguments.now stack.old (state progress.old cache.old)) }
+    ensures stays { AtNeed result ((state progress.new cache.new ≡ state progress.old cache.old) × (stack.new ≡ stack.old)) }
+    ensures tied { Holds result (Tied progress.new.written cache.new) }
+    ensures kept { Holds result (Keeps cache.old cache.new) }
+    ensures known { AreOf program.now.schema.now.classes bodies.new }
+{
+    if progress.machine.depth >= DEPTH_LIMIT {
+        return fault(Fault::Depth);
+    }
+    let owners = owners_at(program, class, oref, &progress.machine)?;
+    let found = touch(program, cache, progress, &owners, oref)?;
+    if found != class {
+        return fault(Fault::NullCall);
+    }
+    let this = Receiver {
+        oref,
+        class,
+        owners,
+    };
+    open_method(
+        program,
+        &mut progress.machine,
+        bodies,
+        stack,
+        inner,
+        this,
+        method,
+        arguments,
+    )
+}

@@ -1,0 +1,211 @@
+ghost use Rattle.std.specs.Prelude.{◌≡◌, ◌++◌, List, [], Option, Ok, IfOk, OnOk};
+ghost use Rattle.thor_value.specs.FiniteMap.{empty, has};
+ghost use Rattle.thor_value.specs.declared.names.Oref.{Oref};
+ghost use Rattle.class_defs.specs.declared.statements.Stmt.{Stmt};
+ghost use Rattle.class_defs.specs.declared.store.Object.{Object};
+ghost use Rattle.class_defs.specs.declared.store.Schema.{Schema};
+ghost use Rattle.class_defs.specs.declared.machine.Flow.{Flow};
+ghost use Rattle.client_cache.specs.Copies.{seen};
+ghost use Rattle.method_eval.specs.Answers.{ran_at, stored_at};
+ghost use Rattle.method_eval.specs.Names.{Names, supply};
+ghost use Rattle.paused_defs.specs.Resume.{Left};
+ghost use Rattle.paused_eval.specs.Copies.{Keeps, at_hand, entries, entry, state_with, written_in};
+ghost use Rattle.paused_eval.specs.Standing.{AtStop, CameTo, Stands, answer_of};
+ghost use Rattle.paused_eval.specs.declared.copies.Copies.{Copies};
+ghost use Rattle.paused_eval.specs.declared.granted_names.GrantedNames.{GrantedNames};
+
+use crate::came::Came;
+use crate::copies::Copies;
+use crate::granted_names::GrantedNames;
+use crate::objects::found;
+use crate::progress::begun;
+use crate::running::run_over;
+use class_defs::{Block, Flow, Machine, Schema};
+use client_cache::Cache;
+use method_eval::{Program, Ran};
+use paused_defs::{Doing, Frame, SharedBlock, Stack};
+use std::alloc::Global;
+use std::mem;
+use thor_value::{Answer, NoMemory, Obj, Oref, Orefs, TryCopy, Writes};
+
+/// A transaction's evaluation, as far as it has come.
+#[derive(Drop)]
+pub struct Paused {
+    pub alloc: Global,
+    /// The state of the run, without its writes and names: the copies have the objects written, and the front end
+    /// the names.
+    pub machine: Machine,
+    pub doing: Doing,
+    pub stack: Stack<Frame>,
+}
+
+/// No schema has more classes: they are numbered by `u16`.
+const CLASS_LIMIT: usize = 65_536;
+
+/// An object of the cache comes behind the others.
+fn push_written(cache: &Cache, epoch: u32, oref: Oref, writes: &mut Writes) -> Result<(), NoMemory>
+    ensures { OnOk result (writes.new ≡ writes.old ++ stored_at epoch (entry oref (seen cache.now oref) [])) }
+{
+    match found(cache, oref) {
+        Some(obj) => {
+            let fields = obj.fields.copy()?;
+            let class = obj.class;
+            writes.push((
+                oref,
+                Obj {
+                    class,
+                    ver: epoch,
+                    fields,
+                },
+            ))
+        }
+        None => Ok(()),
+    }
+}
+
+/// The objects of these names, as they are written at an epoch.
+fn writes_of(alloc: Global, cache: &Cache, epoch: u32, names: &Orefs) -> Result<Writes, NoMemory>
+    ensures { IfOk result (λ writes. writes ≡ stored_at epoch (entries (seen cache.now) names.now)) }
+{
+    let mut writes = Writes::new(alloc);
+    for oref in names.as_slice() {
+        push_written(cache, epoch, *oref, &mut writes)?;
+    }
+    Ok(writes)
+}
+
+/// The objects that the run has written.
+#[tactic(auto, using(crate::proofs::Writes::written_as_seen))]
+fn writes(alloc: Global, copies: &Copies, epoch: u32) -> Result<Writes, NoMemory>
+    ensures { IfOk result (λ writes. writes ≡ stored_at epoch (written_in copies.now.written copies.now.cache).pairs) }
+{
+    let names = copies.written.names(alloc)?;
+    writes_of(alloc, &copies.cache, epoch, &names)
+}
+
+/// Says what is done next.
+fn set_doing(place: &mut Doing, doing: Doing)
+    ensures { place.new ≡ doing }
+{
+    *place = doing;
+}
+
+impl Paused {
+    /// Before the first step. It copies the transaction's text, and nothing later does.
+    pub fn begin(alloc: Global, tx: &Block) -> Result<Paused, NoMemory>
+        ensures stands { IfOk result (λ paused. (s : Schema) → (copies : Copies) → (names : GrantedNames) → copies.written ≡ empty
+            → Stands s (at_hand s copies.cache) tx.now (supply names.names).waiting (record { doing = paused.doing; stack = paused.stack }) (state_with paused.machine copies.written copies.cache names.names)) }
+    {
+        let mut stack = Stack::new(alloc);
+        stack.push(Frame::BlockEnd { count: 0 })?;
+        stack.push(Frame::Rest {
+            nested: 100_001,
+            rest: SharedBlock::copy_of(alloc, tx)?,
+        })?;
+        Ok(Paused {
+            alloc,
+            machine: begun(alloc),
+            doing: Doing::Give { flow: Flow::Next },
+            stack,
+        })
+    }
+
+    /// Whether the evaluation has read an object. One that it has created counts as not read.
+    pub fn has_read(&self, oref: Oref) -> bool
+        ensures { result ≡ has self.now.machine.reads oref }
+    {
+        self.machine.reads.contains(oref)
+    }
+
+    /// The least of these objects that the evaluation has read.
+    pub fn least_read(&self, orefs: &Orefs) -> Option<Oref> {
+        let mut least: Option<Oref> = None;
+        for oref in orefs.as_slice() {
+            if self.has_read(*oref) {
+                least = Some(match least {
+                    Some(other) if other <= *oref => other,
+                    _ => *oref,
+                });
+            }
+        }
+        least
+    }
+
+    /// Goes on from where it stopped, and answers as the transaction would from the start.
+    ///
+    /// What the run writes goes into the copies, and what it names is given by `names`; behind a fault the caller
+    /// undoes the one and resets the other. Between two calls the schema stays the same, each copy that was read or
+    /// written is as it was, and names are only granted. After an answer, a fault or `NoMemory` it doesn't go on.
+    pub fn go(
+        &mut self,
+        schema: &Schema,
+        epoch: u32,
+        copies: &mut Copies,
+        names: &mut GrantedNames,
+    ) -> Result<Ran, NoMemory>
+        ensures answers { (tx : List Stmt) → (given : List Oref) → Stands schema.now (at_hand schema.now copies.old.cache) tx given (record { doing = self.old.doing; stack = self.old.stack }) (state_with self.old.machine copies.old.written copies.old.cache names.old.names)
+            → IfOk result (λ ran. ran ≡ answer_of epoch schema.now (at_hand schema.now copies.old.cache) tx given) }
+        ensures stands { (tx : List Stmt) → (given : List Oref) → Stands schema.now (at_hand schema.now copies.old.cache) tx given (record { doing = self.old.doing; stack = self.old.stack }) (state_with self.old.machine copies.old.written copies.old.cache names.old.names)
+            → IfOk result (λ ran. AtStop ran (Stands schema.now (at_hand schema.now copies.new.cache) tx given (record { doing = self.new.doing; stack = self.new.stack }) (state_with self.new.machine copies.new.written copies.new.cache names.new.names))) }
+        ensures kept { OnOk result (Keeps copies.old.cache copies.new.cache) }
+    {
+        if schema.classes.len() > CLASS_LIMIT {
+            return Err(NoMemory);
+        }
+        let program = Program {
+            alloc: self.alloc,
+            schema,
+        };
+        let doing = mem::replace(&mut self.doing, Doing::Give { flow: Flow::Next });
+        let (came, doing) = run_over(
+            &program,
+            epoch,
+            &mut copies.cache,
+            &mut copies.written,
+            &mut names.names,
+            &mut self.machine,
+            &mut self.stack,
+            doing,
+        )?;
+        set_doing(&mut self.doing, doing);
+        self.answer(copies, epoch, came)
+    }
+
+    /// What it answers that has ended.
+    fn done(&self, copies: &Copies, epoch: u32) -> Result<Ran, NoMemory>
+        ensures { (names : Names) → (flow : Flow) → IfOk result (λ ran. ran ≡ ran_at epoch (Ok flow) (state_with self.now.machine copies.now.written copies.now.cache names)) }
+    {
+        let reads = self.machine.reads.names(self.alloc)?;
+        let writes = writes(self.alloc, copies, epoch)?;
+        let printed = self.machine.printed.copy()?;
+        let fresh = self.machine.created.copy()?;
+        Ok(Ran::Done {
+            answer: Answer::Ints(printed),
+            reads,
+            writes,
+            fresh,
+        })
+    }
+
+    /// What it answers that has come to an end or a stop.
+    fn answer(&self, copies: &Copies, epoch: u32, came: Came) -> Result<Ran, NoMemory>
+        ensures answers { (s : Schema) → (f : Oref → Option Object) → (tx : List Stmt) → (given : List Oref) → (l : Left) → (names : Names)
+            → CameTo s f tx given came l (state_with self.now.machine copies.now.written copies.now.cache names)
+            → IfOk result (λ ran. ran ≡ answer_of epoch s f tx given) }
+        ensures stands { (s : Schema) → (f : Oref → Option Object) → (tx : List Stmt) → (given : List Oref) → (l : Left) → (names : Names)
+            → CameTo s f tx given came l (state_with self.now.machine copies.now.written copies.now.cache names)
+            → IfOk result (λ ran. AtStop ran (Stands s f tx given l (state_with self.now.machine copies.now.written copies.now.cache names))) }
+    {
+        match came {
+            Came::Ended => self.done(copies, epoch),
+            Came::Faulted { fault } => Ok(Ran::Done {
+                answer: Answer::Fault(fault),
+                reads: self.machine.reads.names(self.alloc)?,
+                writes: Writes::new(self.alloc),
+                fresh: Orefs::new(self.alloc),
+            }),
+            Came::Waits { oref, owners } => Ok(Ran::Need { oref, owners }),
+            Came::WaitsForName { repo } => Ok(Ran::NeedName { repo }),
+        }
+    }
+}

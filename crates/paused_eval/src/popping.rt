@@ -1,0 +1,152 @@
+ghost use Rattle.std.specs.Prelude.{◌≡◌, Option, None};
+ghost use Rattle.std.specs.Option.{option_copied};
+ghost use Rattle.thor_value.specs.declared.names.Oref.{Oref};
+ghost use Rattle.class_defs.specs.declared.store.Object.{Object};
+ghost use Rattle.paused_defs.specs.Reaches.{over};
+ghost use Rattle.paused_defs.specs.Resume as spec;
+ghost use Rattle.paused_eval.specs.Does.{Moves, field_assigned};
+
+use crate::moves::{
+    collect, ended, evaluate_for, give, given, go_on, open_block, pass, tested, turned,
+};
+use class_defs::{Flow, Machine, combined, number};
+use method_eval::{Halt, Program, assign_local, declare, holds};
+use paused_defs::{Doing, Frame, Shared, Stack};
+use thor_value::{Text, Value, Values};
+
+/// The name of the field that a frame assigns.
+pub fn field_assigned(frame: &Frame) -> Option<&Shared<Text>>
+    ensures { option_copied result ≡ field_assigned frame.now }
+{
+    match frame {
+        Frame::FieldAssign { field } => Some(field),
+        Frame::Negate => None,
+        Frame::Right { .. } => None,
+        Frame::Combine { .. } => None,
+        Frame::Callee { .. } => None,
+        Frame::Arguments { .. } => None,
+        Frame::BodyEnd { .. } => None,
+        Frame::Declare { .. } => None,
+        Frame::Assign { .. } => None,
+        Frame::Return => None,
+        Frame::Branch { .. } => None,
+        Frame::Branches { .. } => None,
+        Frame::Print => None,
+        Frame::Discard => None,
+        Frame::Rest { .. } => None,
+        Frame::BlockEnd { .. } => None,
+        Frame::Test { .. } => None,
+        Frame::Again { .. } => None,
+    }
+}
+
+/// Gives the frame that was on the top what it waits for. It assigns no field.
+pub fn pop(
+    program: &Program<'_>,
+    machine: &mut Machine,
+    stack: &mut Stack<Frame>,
+    frame: Frame,
+    flow: Flow,
+) -> Result<Doing, Halt>
+    requires { field_assigned frame ≡ None }
+    ensures { (f : Oref → Option Object) → Moves result stack.new machine.old machine.new (spec.pop (over program.now.schema.now f) frame flow stack.old) }
+{
+    match frame {
+        Frame::Negate => give(Value::Int(0i64.wrapping_sub(number(given(flow))))),
+        Frame::Right {
+            nested,
+            operator,
+            right,
+        } => {
+            let frame = Frame::Combine {
+                operator,
+                left: given(flow),
+            };
+            Ok(evaluate_for(stack, frame, nested, right)?)
+        }
+        Frame::Combine { operator, left } => give(combined(operator, left, given(flow))),
+        Frame::Callee {
+            nested,
+            kind,
+            method,
+            arguments,
+        } => {
+            let none = Values::new(program.alloc);
+            collect(stack, nested, kind, given(flow), method, none, arguments)
+        }
+        Frame::Arguments {
+            nested,
+            kind,
+            target,
+            method,
+            mut done,
+            rest,
+        } => {
+            if let Flow::Returned(value) = flow {
+                done.push(value)?;
+            }
+            collect(stack, nested, kind, target, method, done, rest)
+        }
+        Frame::BodyEnd {
+            depth,
+            this,
+            locals,
+            result,
+        } => {
+            machine.depth = depth;
+            machine.this = this;
+            machine.locals = locals;
+            give(ended(result, flow))
+        }
+        Frame::Declare { kind, name } => {
+            declare(machine, kind, name.get(), given(flow))?;
+            pass()
+        }
+        Frame::Assign { name } => {
+            assign_local(&mut machine.locals, name.get().as_slice(), given(flow));
+            pass()
+        }
+        Frame::FieldAssign { field: _ } => unreachable!(),
+        Frame::Return => give(given(flow)),
+        Frame::Branch { nested, then } => {
+            if holds(given(flow)) {
+                open_block(machine, stack, nested, then)
+            } else {
+                pass()
+            }
+        }
+        Frame::Branches {
+            nested,
+            then,
+            otherwise,
+        } => {
+            if holds(given(flow)) {
+                open_block(machine, stack, nested, then)
+            } else {
+                open_block(machine, stack, nested, otherwise)
+            }
+        }
+        Frame::Print => {
+            machine.printed.push(number(given(flow)))?;
+            pass()
+        }
+        Frame::Discard => pass(),
+        Frame::Rest { nested, rest } => go_on(stack, nested, rest, flow),
+        Frame::BlockEnd { count } => {
+            machine.locals.truncate(count);
+            Ok(Doing::Give { flow })
+        }
+        Frame::Test {
+            nested,
+            turns,
+            condition,
+            body,
+        } => tested(machine, stack, nested, turns, condition, body, given(flow)),
+        Frame::Again {
+            nested,
+            turns,
+            condition,
+            body,
+        } => turned(machine, stack, nested, turns, condition, body, flow),
+    }
+}

@@ -1,0 +1,143 @@
+ghost use Rattle.std.specs.Prelude.{◌≡◌, List, IfOk, OnOk};
+ghost use Rattle.thor_value.specs.declared.names.Oref.{Oref};
+ghost use Rattle.class_defs.specs.declared.statements.Stmt.{Stmt};
+ghost use Rattle.paused_eval.specs.Bodies.{AreOf};
+ghost use Rattle.paused_eval.specs.Copies.{Keeps, Tied, at_hand, state_with, whole_state};
+ghost use Rattle.paused_eval.specs.FromPages.{FromPages};
+ghost use Rattle.paused_eval.specs.Standing.{CameTo, IsFault, Stands, is_done};
+
+use crate::bodies::Bodies;
+use crate::came::Came;
+use crate::moved::Moved;
+use crate::progress::{Progress, begun};
+use crate::small::small;
+use crate::written_names::WrittenNames;
+use class_defs::{Flow, Machine, Stop};
+use client_cache::Cache;
+use method_eval::{Halt, Names, Program};
+use paused_defs::{Doing, Frame, Stack};
+use std::mem;
+use thor_value::{Fault, NoMemory};
+
+/// More small steps than any run makes: each step pays for at most six.
+const SMALL_STEPS: u32 = 700_000;
+
+/// Whether nothing is left to do.
+fn is_ended(stack: &Stack<Frame>, doing: &Doing) -> bool
+    ensures { result ≡ is_done doing.now stack.now }
+{
+    match doing {
+        Doing::Give { flow: _ } => stack.is_empty(),
+        _ => false,
+    }
+}
+
+/// How small steps came to an end that were halted.
+fn faulted(halt: Halt) -> Result<Came, NoMemory>
+    ensures { IfOk result (λ came. IsFault came halt) }
+{
+    match halt {
+        Halt::Stopped(Stop::Fault(fault)) => Ok(Came::Faulted { fault }),
+        _ => Err(NoMemory),
+    }
+}
+
+/// Small steps up to an end, a fault, or what isn't at hand.
+fn run(
+    program: &Program<'_>,
+    epoch: u32,
+    cache: &mut Cache,
+    names: &mut Names,
+    progress: &mut Progress,
+    bodies: &mut Bodies,
+    stack: &mut Stack<Frame>,
+    begun: Doing,
+) -> Result<(Came, Doing), NoMemory>
+    requires tied { Tied progress.old.written cache.old }
+    requires names { FromPages names.old }
+    requires known { AreOf program.now.schema.now.classes bodies.old }
+    ensures answers { (tx : List Stmt) → (given : List Oref) → Stands program.now.schema.now (at_hand program.now.schema.now cache.old) tx given (record { doing = begun; stack = stack.old }) (whole_state progress.old cache.old names.old)
+        → IfOk result (λ ran. CameTo program.now.schema.now (at_hand program.now.schema.now cache.old) tx given ran.0 (record { doing = ran.1; stack = stack.new }) (whole_state progress.new cache.new names.new)) }
+    ensures tied { OnOk result (Tied progress.new.written cache.new) }
+    ensures kept { OnOk result (Keeps cache.old cache.new) }
+    ensures names { FromPages names.new }
+    ensures known { AreOf program.now.schema.now.classes bodies.new }
+{
+    let mut doing = begun;
+    for _ in 0..SMALL_STEPS {
+        if is_ended(stack, &doing) {
+            return Ok((Came::Ended, doing));
+        }
+        doing = match small(program, epoch, cache, names, progress, bodies, stack, doing) {
+            Ok(Moved::To { doing: next }) => next,
+            Ok(
+                Moved::Waits {
+                    doing: same,
+                    oref,
+                    owners,
+                },
+            ) => return Ok((Came::Waits { oref, owners }, same)),
+            Ok(Moved::WaitsForName { doing: same, repo }) => {
+                return Ok((Came::WaitsForName { repo }, same));
+            }
+            Err(halt) => {
+                let came = faulted(halt)?;
+                return Ok((came, Doing::Give { flow: Flow::Next }));
+            }
+        };
+    }
+    Ok((
+        Came::Faulted {
+            fault: Fault::Steps,
+        },
+        doing,
+    ))
+}
+
+/// The same over a client's copies and names. After `NoMemory` what the try has written is given up.
+#[tactic(auto, using(crate::proofs::Hands::none_written))]
+pub fn run_over(
+    program: &Program<'_>,
+    epoch: u32,
+    cache: &mut Cache,
+    written: &mut WrittenNames,
+    names: &mut Names,
+    machine: &mut Machine,
+    stack: &mut Stack<Frame>,
+    begun_with: Doing,
+) -> Result<(Came, Doing), NoMemory>
+    requires tied { Tied written.old cache.old }
+    requires names { FromPages names.old }
+    ensures answers { (tx : List Stmt) → (given : List Oref) → Stands program.now.schema.now (at_hand program.now.schema.now cache.old) tx given (record { doing = begun_with; stack = stack.old }) (state_with machine.old written.old cache.old names.old)
+        → IfOk result (λ ran. CameTo program.now.schema.now (at_hand program.now.schema.now cache.old) tx given ran.0 (record { doing = ran.1; stack = stack.new }) (state_with machine.new written.new cache.new names.new)) }
+    ensures tied { Tied written.new cache.new }
+    ensures kept { OnOk result (Keeps cache.old cache.new) }
+    ensures names { FromPages names.new }
+{
+    let alloc = program.alloc;
+    let mut bodies = Bodies::new(alloc);
+    let mut progress = Progress {
+        machine: mem::replace(machine, begun(alloc)),
+        written: mem::replace(written, WrittenNames::new(alloc)),
+    };
+    match run(
+        program,
+        epoch,
+        cache,
+        names,
+        &mut progress,
+        &mut bodies,
+        stack,
+        begun_with,
+    ) {
+        Ok(ended) => {
+            *machine = progress.machine;
+            *written = progress.written;
+            Ok(ended)
+        }
+        Err(NoMemory) => {
+            cache.undo();
+            Err(NoMemory)
+        }
+    }
+}

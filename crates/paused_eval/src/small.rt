@@ -1,0 +1,299 @@
+ghost use Rattle.std.specs.Prelude.{◌≡◌, List, Option};
+ghost use Rattle.thor_value.specs.declared.names.Oref.{Oref};
+ghost use Rattle.class_defs.specs.Steps as steps;
+ghost use Rattle.class_defs.specs.Steps.{step};
+ghost use Rattle.class_defs.specs.declared.expressions.Expr.TheOpen.{Expr-F};
+ghost use Rattle.class_defs.specs.declared.store.Object.{Object};
+ghost use Rattle.paused_defs.specs.Reaches.{over};
+ghost use Rattle.paused_defs.specs.Resume as spec;
+ghost use Rattle.paused_defs.specs.Resume.{move};
+ghost use Rattle.paused_defs.specs.declared.frames.Frame.{Frame};
+ghost use Rattle.paused_eval.specs.Bodies.{AreOf};
+ghost use Rattle.paused_eval.specs.Copies.{Keeps, Tied, at_hand, state, whole_state};
+ghost use Rattle.paused_eval.specs.Does.{Holds, Moves, Stepped};
+ghost use Rattle.paused_eval.specs.FromPages.{FromPages};
+ghost use Rattle.paused_eval.specs.Standing.{Steps, moved_to};
+
+use crate::bodies::Bodies;
+use crate::entering::enter;
+use crate::moved::Moved;
+use crate::moves::{self, begin, give, pass, take_step};
+use crate::objects::{assign_field, create, field_value};
+use crate::popping::{field_assigned, pop};
+use crate::progress::Progress;
+use crate::starting::{field_read, start};
+use class_defs::{At, Flow, Machine, Stop};
+use client_cache::Cache;
+use method_eval::{Halt, Names, Program, fault};
+use paused_defs::{Doing, Frame, Shared, SharedExpr, SharedStmt, Stack};
+use thor_value::{Fault, Oref, Text, Values};
+
+/// Takes one step.
+#[tactic(auto, using(crate::proofs::Lifting::lift_step))]
+fn take_step_over(progress: &mut Progress, cache: &Cache) -> Result<(), Halt>
+    ensures step { Stepped result (state progress.old cache.now) (state progress.new cache.now) }
+    ensures written { progress.new.written ≡ progress.old.written }
+{
+    let _ = cache;
+    take_step(&mut progress.machine)
+}
+
+/// The value of a field of `this`.
+#[tactic(auto, unfolding(class_defs::specs::Steps::step))]
+fn field(
+    program: &Program<'_>,
+    cache: &mut Cache,
+    progress: &mut Progress,
+    name: &[u8],
+) -> Result<Doing, Halt>
+    requires tied { Tied progress.old.written cache.old }
+    ensures does { (fs : List Frame) → Moves result fs (state progress.old cache.old) (state progress.new cache.new) (steps.◌>>◌ step (spec.start (over program.now.schema.now (at_hand program.now.schema.now cache.old)) 0 (Expr-F.Field (record { text = name.now; line = 0 })) fs)) }
+    ensures tied { Holds result (Tied progress.new.written cache.new) }
+    ensures kept { Holds result (Keeps cache.old cache.new) }
+{
+    take_step_over(progress, cache)?;
+    give(field_value(program, cache, progress, name))
+}
+
+#[tactic(auto, using(crate::proofs::Lifting::lifts, crate::proofs::Nested::nested))]
+fn evaluate(
+    program: &Program<'_>,
+    cache: &mut Cache,
+    progress: &mut Progress,
+    stack: &mut Stack<Frame>,
+    nested: u32,
+    expr: &SharedExpr,
+) -> Result<Doing, Halt>
+    requires tied { Tied progress.old.written cache.old }
+    ensures does { Moves result stack.new (state progress.old cache.old) (state progress.new cache.new) (move (over program.now.schema.now (at_hand program.now.schema.now cache.old)) (Doing.Evaluate nested expr.now) stack.old) }
+    ensures tied { Holds result (Tied progress.new.written cache.new) }
+    ensures kept { Holds result (Keeps cache.old cache.new) }
+{
+    if nested == 0 {
+        return fault(Fault::Steps);
+    }
+    let node = expr.node();
+    if let Some(name) = field_read(node) {
+        return field(program, cache, progress, name.get().as_slice());
+    }
+    start(program, &mut progress.machine, stack, nested - 1, node)
+}
+
+#[tactic(auto, using(crate::proofs::Nested::nested))]
+fn execute(
+    program: &Program<'_>,
+    machine: &mut Machine,
+    stack: &mut Stack<Frame>,
+    nested: u32,
+    stmt: &SharedStmt,
+) -> Result<Doing, Halt>
+    ensures does { (f : Oref → Option Object) → Moves result stack.new machine.old machine.new (move (over program.now.schema.now f) (Doing.Execute nested stmt.now) stack.old) }
+{
+    if nested == 0 {
+        return fault(Fault::Steps);
+    }
+    begin(program, machine, stack, nested - 1, stmt.node())
+}
+
+/// A statement begins, wherever the objects lie that the run has written.
+#[tactic(auto, using(crate::proofs::Lifting::lifts))]
+fn execute_over(
+    program: &Program<'_>,
+    cache: &Cache,
+    progress: &mut Progress,
+    stack: &mut Stack<Frame>,
+    nested: u32,
+    stmt: &SharedStmt,
+) -> Result<Doing, Halt>
+    ensures does { Moves result stack.new (state progress.old cache.now) (state progress.new cache.now) (move (over program.now.schema.now (at_hand program.now.schema.now cache.now)) (Doing.Execute nested stmt.now) stack.old) }
+    ensures written { progress.new.written ≡ progress.old.written }
+{
+    let _ = cache;
+    execute(program, &mut progress.machine, stack, nested, stmt)
+}
+
+/// A new object is made, where there is a name for it.
+fn make(
+    program: &Program<'_>,
+    epoch: u32,
+    cache: &mut Cache,
+    names: &mut Names,
+    progress: &mut Progress,
+    class: Shared<Text>,
+    at: Option<At>,
+) -> Result<Moved, Halt>
+    requires tied { Tied progress.old.written cache.old }
+    requires names { FromPages names.old }
+    ensures does { (fs : List Frame) → Steps result (Doing.Create class at) fs (whole_state progress.old cache.old names.old) fs (whole_state progress.new cache.new names.new) (move (over program.now.schema.now (at_hand program.now.schema.now cache.old)) (Doing.Create class at) fs (whole_state progress.old cache.old names.old)) }
+    ensures tied { Holds result (Tied progress.new.written cache.new) }
+    ensures kept { Holds result (Keeps cache.old cache.new) }
+    ensures names { FromPages names.new }
+{
+    match create(
+        program,
+        epoch,
+        cache,
+        names,
+        progress,
+        class.get().as_slice(),
+        at,
+    ) {
+        Ok(value) => Ok(Moved::To {
+            doing: Doing::Give {
+                flow: Flow::Returned(value),
+            },
+        }),
+        Err(Halt::Stopped(Stop::NeedName { repo })) => Ok(Moved::WaitsForName {
+            doing: Doing::Create { class, at },
+            repo,
+        }),
+        Err(halt) => Err(halt),
+    }
+}
+
+/// A call begins, where its object is at hand.
+fn call(
+    program: &Program<'_>,
+    cache: &mut Cache,
+    progress: &mut Progress,
+    bodies: &mut Bodies,
+    stack: &mut Stack<Frame>,
+    nested: u32,
+    class: u16,
+    oref: Oref,
+    method: Shared<Text>,
+    arguments: Values,
+) -> Result<Moved, Halt>
+    requires tied { Tied progress.old.written cache.old }
+    requires known { AreOf program.now.schema.now.classes bodies.old }
+    ensures does { Steps result (Doing.Enter nested class oref method arguments) stack.old (state progress.old cache.old) stack.new (state progress.new cache.new) (move (over program.now.schema.now (at_hand program.now.schema.now cache.old)) (Doing.Enter nested class oref method arguments) stack.old (state progress.old cache.old)) }
+    ensures tied { Holds result (Tied progress.new.written cache.new) }
+    ensures kept { Holds result (Keeps cache.old cache.new) }
+    ensures known { AreOf program.now.schema.now.classes bodies.new }
+{
+    match enter(
+        program, cache, progress, bodies, stack, nested, class, oref, &method, &arguments,
+    ) {
+        Ok(doing) => Ok(Moved::To { doing }),
+        Err(
+            Halt::Stopped(
+                Stop::Need {
+                    oref: needed,
+                    owners,
+                },
+            ),
+        ) => Ok(Moved::Waits {
+            doing: Doing::Enter {
+                nested,
+                class,
+                oref,
+                method,
+                arguments,
+            },
+            oref: needed,
+            owners,
+        }),
+        Err(halt) => Err(halt),
+    }
+}
+
+/// A field of `this` is given its value.
+fn assign(
+    program: &Program<'_>,
+    epoch: u32,
+    cache: &mut Cache,
+    progress: &mut Progress,
+    name: &[u8],
+    flow: Flow,
+) -> Result<Doing, Halt>
+    requires tied { Tied progress.old.written cache.old }
+    ensures does { (fs : List Frame) → Moves result fs (state progress.old cache.old) (state progress.new cache.new) (spec.pop (over program.now.schema.now (at_hand program.now.schema.now cache.old)) (Frame.FieldAssign name.now) flow fs) }
+    ensures tied { Holds result (Tied progress.new.written cache.new) }
+    ensures kept { Holds result (Keeps cache.old cache.new) }
+{
+    assign_field(program, epoch, cache, progress, name, moves::given(flow))?;
+    pass()
+}
+
+#[tactic(auto, using(crate::proofs::Lifting::lifts))]
+fn given(
+    program: &Program<'_>,
+    epoch: u32,
+    cache: &mut Cache,
+    progress: &mut Progress,
+    stack: &mut Stack<Frame>,
+    flow: Flow,
+) -> Result<Doing, Halt>
+    requires tied { Tied progress.old.written cache.old }
+    ensures does { Moves result stack.new (state progress.old cache.old) (state progress.new cache.new) (move (over program.now.schema.now (at_hand program.now.schema.now cache.old)) (Doing.Give flow) stack.old) }
+    ensures tied { Holds result (Tied progress.new.written cache.new) }
+    ensures kept { Holds result (Keeps cache.old cache.new) }
+{
+    match stack.pop() {
+        None => Ok(Doing::Give { flow }),
+        Some(frame) => {
+            if let Some(field) = field_assigned(&frame) {
+                return assign(
+                    program,
+                    epoch,
+                    cache,
+                    progress,
+                    field.get().as_slice(),
+                    flow,
+                );
+            }
+            pop(program, &mut progress.machine, stack, frame, flow)
+        }
+    }
+}
+
+/// Where no object and no name is needed, what is done next.
+fn moved_to(came: Result<Doing, Halt>) -> Result<Moved, Halt>
+    ensures { result ≡ moved_to came }
+{
+    match came {
+        Ok(doing) => Ok(Moved::To { doing }),
+        Err(halt) => Err(halt),
+    }
+}
+
+/// One small step.
+pub fn small(
+    program: &Program<'_>,
+    epoch: u32,
+    cache: &mut Cache,
+    names: &mut Names,
+    progress: &mut Progress,
+    bodies: &mut Bodies,
+    stack: &mut Stack<Frame>,
+    doing: Doing,
+) -> Result<Moved, Halt>
+    requires tied { Tied progress.old.written cache.old }
+    requires names { FromPages names.old }
+    requires known { AreOf program.now.schema.now.classes bodies.old }
+    ensures does { Steps result doing stack.old (whole_state progress.old cache.old names.old) stack.new (whole_state progress.new cache.new names.new) (move (over program.now.schema.now (at_hand program.now.schema.now cache.old)) doing stack.old (whole_state progress.old cache.old names.old)) }
+    ensures tied { Holds result (Tied progress.new.written cache.new) }
+    ensures kept { Holds result (Keeps cache.old cache.new) }
+    ensures names { FromPages names.new }
+    ensures known { AreOf program.now.schema.now.classes bodies.new }
+{
+    match doing {
+        Doing::Evaluate { nested, expr } => {
+            moved_to(evaluate(program, cache, progress, stack, nested, &expr))
+        }
+        Doing::Execute { nested, stmt } => moved_to(execute_over(
+            program, cache, progress, stack, nested, &stmt,
+        )),
+        Doing::Create { class, at } => make(program, epoch, cache, names, progress, class, at),
+        Doing::Enter {
+            nested,
+            class,
+            oref,
+            method,
+            arguments,
+        } => call(
+            program, cache, progress, bodies, stack, nested, class, oref, method, arguments,
+        ),
+        Doing::Give { flow } => moved_to(given(program, epoch, cache, progress, stack, flow)),
+    }
+}

@@ -1,0 +1,72 @@
+-- What stands against a request gets a mark.
+use Rattle.cached_sets.specs.Sets as sets
+use Rattle.commit_log.specs.declared.request.Request.{Request}
+use Rattle.live_sessions.specs.Sessions.{is_live}
+use Rattle.repo_core.specs.Behind.{is_marked}
+use Rattle.std.proofs.Common.{Bool, Err, None, Ok, Option, Some, cond, false, nat_eq, refl, true, ℕ, ◌≡◌}
+use Rattle.std.specs.Option.{option_map, option_or}
+use Rattle.thor_value.specs.declared.names.Oref.{Oref}
+use Rattle.validation_queue.specs.Clashes.{clash}
+use Rattle.validation_queue.specs.Contents.{first_blocking}
+use Rattle.validation_queue.specs.declared.clash.Clash.TheVariants as clashes
+use Rattle.validation_queue.specs.declared.clash.Clash.{Clash}
+use Rattle.validation_window.specs.declared.refusal.Refusal.TheVariants as refused
+use Rattle.validation_window.specs.declared.refusal.Refusal.{Refusal}
+use Rattle.volatile_state.specs.Volatile.{Memory, against, answer, is_too_old, is_upgrade_kind, refusal_of, transaction_of, verdict}
+
+-- where there is a refusal, it gets a mark
+abbrev Marked : Option Refusal → Type 0
+Marked None = Unit {0}
+Marked (Some r) = is_marked r ≡ true
+
+marked_cond : (b : Bool) (x y : Option Refusal) → Marked x → Marked y → Marked (cond b x y)
+marked_cond true x y p q = p
+marked_cond false x y p q = q
+
+marked_or : (x y : Option Refusal) → Marked x → Marked y → Marked (option_or x y)
+marked_or (Some r) y p q = p
+marked_or None y p q = q
+
+marked_map : {A : Type 0} (f : A → Refusal) → ((a : A) → is_marked (f a) ≡ true) → (o : Option A) → Marked (option_map f o)
+marked_map f each None = tt
+marked_map f each (Some a) = each a
+
+marked_clash : (c : Clash) → is_marked (refusal_of c) ≡ true
+marked_clash (clashes.TooOld t) = refl
+marked_clash (clashes.Earlier t x) = refl
+marked_clash (clashes.Later t x) = refl
+marked_clash (clashes.Full n) = refl
+
+marked_stale : (stale : Option (Oref × ℕ)) → Marked (option_map (λ s. refused.Stale s.0 s.1) stale)
+marked_stale stale = marked_map (λ s. refused.Stale s.0 s.1) (λ s. refl) stale
+
+marked_against : (c : Option Clash) (stale : Option (Oref × ℕ)) → Marked (against c stale)
+marked_against None stale = marked_stale stale
+marked_against (Some c) stale =
+    marked_cond (is_too_old c) (Some (refusal_of c)) (option_or (option_map (λ s. refused.Stale s.0 s.1) stale) (Some (refusal_of c)))
+    (marked_clash c)
+    (marked_or (option_map (λ s. refused.Stale s.0 s.1) stale) (Some (refusal_of c)) (marked_stale stale) (marked_clash c))
+
+marked_verdict : (M : Memory) (epoch s : ℕ) (q : Request) → Marked (verdict M epoch s q)
+marked_verdict M epoch s q =
+    let found : Option Refusal = against (clash M.queue (transaction_of q)) (sets.stale M.sessions.sets s q.ros q.upto) in
+    let later : Option Refusal = cond (nat_eq q.epoch epoch) found (Some (refused.Epoch epoch)) in
+    let blocked : Option Refusal = option_map (λ t. refused.Blocked t) (first_blocking M.queue (is_upgrade_kind q.kind)) in
+    marked_cond (is_live M.sessions s) (option_or blocked later) (Some (refused.Gone s))
+    (marked_or blocked later
+    (marked_map (λ t. refused.Blocked t) (λ t. refl) (first_blocking M.queue (is_upgrade_kind q.kind)))
+    (marked_cond (nat_eq q.epoch epoch) found (Some (refused.Epoch epoch)) (marked_against (clash M.queue (transaction_of q)) (sets.stale M.sessions.sets s q.ros q.upto)) refl))
+    refl
+
+of_answer : (o : Option Refusal) (r : Refusal) → Marked o → answer o ≡ Err r → is_marked r ≡ true
+of_answer None r m e = absurd (cc)
+of_answer (Some s) r m e = cc
+
+-- what stands against a request is none of a fault
+pub judged : (M : Memory) (epoch s : ℕ) (q : Request) (r : Refusal) → answer (verdict M epoch s q) ≡ Err r → is_marked r ≡ true
+judged M epoch s q r e = of_answer (verdict M epoch s q) r (marked_verdict M epoch s q) e
+
+-- where nothing is answered nothing stands against it
+pub accepted : (o : Option Refusal) → answer o ≡ Ok tt → o ≡ None
+accepted None e = refl
+accepted (Some r) e = absurd (cc)

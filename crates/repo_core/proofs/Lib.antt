@@ -1,0 +1,5 @@
+pub mod Falls
+pub mod Judged
+pub mod Moves
+pub mod Stamps
+pub mod Written

@@ -1,0 +1,45 @@
+-- The conditions of calls.
+use Rattle.commit_log.specs.RequestForm.{IsWellFormed}
+use Rattle.commit_log.specs.declared.entry.Entry.TheVariants.{Decided, Finished, Life, One, Prepared, Upgraded}
+use Rattle.commit_log.specs.declared.entry.Entry.{Entry}
+use Rattle.commit_log.specs.declared.request.Request.{Request}
+use Rattle.held_state.specs.Entering.{are_of, can_enter}
+use Rattle.held_state.specs.declared.held.Held.{Held}
+use Rattle.log_bytes.specs.Grammar.{BodyFits}
+use Rattle.log_bytes.specs.declared.body.Body.TheVariants.{Entry as AnEntry}
+use Rattle.std.specs.Map.{keys_of}
+use Rattle.std.specs.Prelude.{[], Bool, IsTrue, None, false, ◌↔◌, ◌≡◌}
+use Rattle.thor_value.specs.FiniteMap.{has}
+use Rattle.validation_queue.specs.Clashes.{clash}
+use Rattle.validation_queue.specs.Names.{IsInOrder}
+use Rattle.volatile_state.specs.Volatile.{Memory, knows, transaction_of}
+
+-- A request may be sent to a repository which has this repository alone for a participant or other ones, too: it
+-- has its form, writes objects of this repository, and its transaction isn't known here.
+pub record MayRequest (h : Held) (M : Memory) (q : Request) (alone : Bool) : Type 0 where
+  pub form : IsWellFormed q
+  pub in_order : IsInOrder q.ros (keys_of q.writes)
+  pub here : IsTrue (are_of h.repo q.writes)
+  pub takes_part : IsTrue alone ↔ (q.others ≡ [])
+  pub unknown : knows M q.tx ≡ false
+  pub unkept : has h.table.transactions q.tx ≡ false
+
+-- nothing stands against a request that comes
+pub record Comes (M : Memory) (q : Request) : Type 0 where
+  pub in_order : IsInOrder q.ros (keys_of q.writes)
+  pub accepted : clash M.queue (transaction_of q) ≡ None
+  pub new : has M.queue.members q.tx ≡ false
+
+abbrev pub ComesIn : Memory → Entry → Type 0
+ComesIn M (Life n) = Unit {0}
+ComesIn M (One q) = Comes M q
+ComesIn M (Prepared q) = Comes M q
+ComesIn M (Upgraded q) = Comes M q
+ComesIn M (Decided t c) = Unit {0}
+ComesIn M (Finished t c) = Unit {0}
+
+-- an entry can be written
+pub record CanWrite (h : Held) (M : Memory) (e : Entry) : Type 0 where
+  pub fits : BodyFits (AnEntry e)
+  pub takes : IsTrue (can_enter h e)
+  pub comes : ComesIn M e

@@ -1,0 +1,4 @@
+pub mod Behind
+pub mod Calls
+pub mod Moving
+pub mod Shown

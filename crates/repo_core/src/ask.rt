@@ -1,0 +1,31 @@
+//! A coordinator is asked.
+
+ghost use Rattle.std.specs.Prelude.{◌≡◌, IfOk};
+ghost use Rattle.repo_core.specs.Behind.{IsAsked, Stands};
+
+use crate::repo::Repo;
+use disk_trait::Parts;
+use message_outbox::{Asked, Verdict};
+use thor_value::Ts;
+use two_phase::Standing;
+use validation_window::Refusal;
+
+impl<P: Parts> Repo<P> {
+    /// The verdict on a transaction that this repository coordinates, as far as there is one. It takes no
+    /// memory, and changes nothing.
+    ///
+    /// An abort of a transaction that was forgotten says only that no participant has it prepared any more.
+    pub fn ask(&mut self, tx: Ts) -> Result<Asked, Refusal>
+        ensures same { self.new ≡ self.old }
+        ensures stands { Stands self.old.is_up result self.new.is_up }
+        ensures answer { IfOk result (IsAsked self.old.held tx) }
+    {
+        self.check_up()?;
+        let standing = self.stable.held().table().ask(tx);
+        if standing == Standing::Open && tx.repo == self.number() {
+            return Ok(Asked::Undecided);
+        }
+        let commit = standing == Standing::Committed;
+        Ok(Asked::Settled(Verdict::new(tx, commit)))
+    }
+}

@@ -1,0 +1,22 @@
+//! A checkpoint is made.
+
+ghost use Rattle.std.specs.Prelude.{◌≡◌};
+ghost use Rattle.repo_core.specs.Behind.{Stands};
+
+use crate::repo::Repo;
+use disk_trait::Parts;
+use validation_window::Refusal;
+
+impl<P: Parts> Repo<P> {
+    /// Begins a log on the other log disk with all that the present one stands for, but for decisions that are
+    /// forgotten or of earlier openings.
+    pub fn checkpoint(&mut self) -> Result<(), Refusal>
+        ensures stands { Stands self.old.is_up result self.new.is_up }
+        ensures memory { self.new.memory ≡ self.old.memory }
+        ensures trace { self.new.trace ≡ self.old.trace }
+    {
+        self.check_up()?;
+        self.drop_decisions();
+        self.stable.checkpoint()
+    }
+}

@@ -1,0 +1,45 @@
+//! A transaction with one participant commits.
+
+ghost use Rattle.std.specs.Prelude.{◌≡◌, IfErr, IfOk, None, OnOk, Some, length, true};
+ghost use Rattle.repo_core.specs.Behind.{HasMoved, Stands, alone_entry, epoch_of, with_refusal};
+ghost use Rattle.repo_core.specs.Calls.{MayRequest};
+ghost use Rattle.trace_record.specs.Recorded.{with_entry};
+ghost use Rattle.volatile_state.specs.Volatile.{verdict};
+
+use crate::repo::Repo;
+use commit_log::{Entry, Kind, Request};
+use disk_trait::Parts;
+use validation_window::Refusal;
+
+impl<P: Parts> Repo<P> {
+    /// Commits a transaction that has this one participant, and tells the other sessions. Answer and refusals
+    /// are those of `prepare`.
+    pub fn commit_one(&mut self, session: u32, request: Request) -> Result<u64, Refusal>
+        requires { MayRequest self.old.held self.old.memory request true }
+        ensures stands { Stands self.old.is_up result self.new.is_up }
+        ensures accepted { OnOk result (verdict self.old.memory (epoch_of self.old.held) session request ≡ None) }
+        ensures place { IfOk result (λ place. place ≡ length self.old.trace.history) }
+        ensures held { OnOk result (HasMoved self.old.held (alone_entry request.kind request) self.new.held) }
+        ensures trace { OnOk result (self.new.trace ≡ with_entry self.old.trace (alone_entry request.kind request)) }
+        ensures refused { IfErr result (λ r. self.new.trace ≡ with_refusal self.old.trace session (Some request) r) }
+    {
+        self.check_up()?;
+        match self.judge(session, &request) {
+            Ok(()) => {
+                self.make_room(&request.writes)?;
+                self.write(entry_of(request))
+            }
+            Err(refusal) => Err(self.refuse(session, Some(request), refusal)),
+        }
+    }
+}
+
+/// The entry that a request is which commits here alone.
+fn entry_of(request: Request) -> Entry
+    ensures { result ≡ alone_entry request.kind request }
+{
+    match &request.kind {
+        Kind::App | Kind::Transform => Entry::One { request },
+        Kind::Upgrade { .. } => Entry::Upgraded { request },
+    }
+}

@@ -1,0 +1,62 @@
+//! A client connects.
+
+ghost use Rattle.std.specs.Prelude.{◌≡◌, ◌+◌, IfOk, OnErr, length};
+ghost use Rattle.live_sessions.specs.Sessions.{begun};
+ghost use Rattle.repo_core.specs.Behind.{Stands, epoch_of};
+ghost use Rattle.session_outbox.specs.declared.mark.Mark.TheVariants.{Connected as Connects};
+ghost use Rattle.trace_record.specs.Recorded.{with_mark};
+
+use crate::repo::Repo;
+use disk_trait::Parts;
+use message_outbox::Welcome;
+use session_outbox::Mark;
+use thor_value::{NoMemory, Texts, TryCopy};
+use validation_window::Refusal;
+
+impl<P: Parts> Repo<P> {
+    /// Begins a session of the client, and ends its older one.
+    pub fn connect(&mut self, client: u8) -> Result<Welcome, Refusal>
+        ensures stands { Stands self.old.is_up result self.new.is_up }
+        ensures held { self.new.held ≡ self.old.held }
+        ensures trace { IfOk result (λ w. self.new.trace ≡ with_mark self.old.trace (Connects w.session client)) }
+        ensures refused { OnErr result (self.new.trace ≡ self.old.trace) }
+        ensures begun { IfOk result (λ w. self.new.memory ≡ record self.old.memory { sessions = begun self.old.memory.sessions client w.session }) }
+        ensures number { IfOk result (λ w. w.session ≡ self.old.memory.sessions.last + 1) }
+        ensures threshold { IfOk result (λ w. w.threshold ≡ self.old.memory.queue.threshold) }
+        ensures epoch { IfOk result (λ w. w.epoch ≡ epoch_of self.old.held) }
+        ensures place { IfOk result (λ w. w.place ≡ length self.old.trace.history) }
+        ensures upgrades { IfOk result (λ w. w.upgrades ≡ self.old.held.upgrades) }
+    {
+        self.check_up()?;
+        match self.begin_session(client) {
+            Ok((session, upgrades)) => {
+                self.mark(Ok(()), Mark::Connected { session, client })?;
+                Ok(Welcome {
+                    session,
+                    epoch: self.epoch(),
+                    threshold: self.threshold(),
+                    place: self.trace.place(),
+                    upgrades,
+                })
+            }
+            Err(NoMemory) => {
+                self.stable.take_down();
+                Err(Refusal::NoMemory)
+            }
+        }
+    }
+
+    /// Begins a session. The answer is its number, and the texts of the installed upgrades.
+    fn begin_session(&mut self, client: u8) -> Result<(u32, Texts), NoMemory>
+        ensures up { self.new.is_up ≡ self.old.is_up }
+        ensures held { self.new.held ≡ self.old.held }
+        ensures trace { self.new.trace ≡ self.old.trace }
+        ensures begun { IfOk result (λ w. self.new.memory ≡ record self.old.memory { sessions = begun self.old.memory.sessions client w.0 }) }
+        ensures number { IfOk result (λ w. w.0 ≡ self.old.memory.sessions.last + 1) }
+        ensures upgrades { IfOk result (λ w. w.1 ≡ self.old.held.upgrades) }
+    {
+        let upgrades = self.stable.held().upgrades().copy()?;
+        let session = self.memory.begin_session(client)?;
+        Ok((session, upgrades))
+    }
+}

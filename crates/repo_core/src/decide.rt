@@ -1,0 +1,39 @@
+//! A coordinator decides.
+
+ghost use Rattle.std.specs.Prelude.{◌≡◌, IfOk, OnErr, OnOk, cond, true};
+ghost use Rattle.commit_log.specs.declared.entry.Entry.TheVariants.{Decided as Decides};
+ghost use Rattle.live_sessions.specs.Sessions.{is_live};
+ghost use Rattle.repo_core.specs.Behind.{HasMoved, IsVerdict, Stands, has_prepared, is_committed};
+ghost use Rattle.trace_record.specs.Recorded.{with_entry};
+ghost use Rattle.two_phase.specs.Contents.{standing};
+
+use crate::repo::Repo;
+use commit_log::Entry;
+use disk_trait::Parts;
+use message_outbox::Verdict;
+use thor_value::Ts;
+use two_phase::Standing;
+use validation_window::Refusal;
+
+impl<P: Parts> Repo<P> {
+    /// Decides a transaction that the session prepared here and that this repository coordinates. Refusal:
+    /// `Gone`. Where the session has nothing to decide, the answer is how the transaction stands.
+    pub fn decide(&mut self, session: u32, tx: Ts, commit: bool) -> Result<Verdict, Refusal>
+        ensures stands { Stands self.old.is_up result self.new.is_up }
+        ensures live { OnOk result (is_live self.old.memory.sessions session ≡ true) }
+        ensures held { OnOk result (has_prepared self.old.held session tx ≡ true → HasMoved self.old.held (Decides tx commit) self.new.held) }
+        ensures trace { OnOk result (self.new.trace ≡ cond (has_prepared self.old.held session tx) (with_entry self.old.trace (Decides tx commit)) self.old.trace) }
+        ensures verdict { IfOk result (λ v. IsVerdict v tx (cond (has_prepared self.old.held session tx) commit (is_committed (standing self.old.held.table tx)))) }
+        ensures refused { OnErr result (self.new.trace ≡ self.old.trace) }
+    {
+        self.check_up()?;
+        self.check_live(session)?;
+        if !self.has_prepared(session, tx) {
+            let stands = self.stable.held().table().ask(tx) == Standing::Committed;
+            return Ok(Verdict::new(tx, stands));
+        }
+        self.make_room_for(tx, commit)?;
+        self.write(Entry::Decided { tx, commit })?;
+        Ok(Verdict::new(tx, commit))
+    }
+}

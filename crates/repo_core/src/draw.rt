@@ -1,0 +1,80 @@
+//! A client draws a timestamp.
+
+ghost use Rattle.std.specs.Prelude.{◌≡◌, ◌<◌, ◌^◌, IfErr, IfOk, None, OnOk, false, true};
+ghost use Rattle.live_sessions.specs.Sessions.{is_live};
+ghost use Rattle.repo_core.specs.Behind.{Stands, is_marked, with_refusal};
+ghost use Rattle.session_outbox.specs.declared.mark.Mark.TheVariants.{Drew as Draws};
+ghost use Rattle.trace_record.specs.Recorded.{with_mark};
+
+use crate::repo::Repo;
+use disk_trait::Parts;
+use session_outbox::Mark;
+use thor_value::Ts;
+use validation_window::Refusal;
+
+/// The times that are drawn are below this one.
+const CLOCK_END: u64 = 1 << 62;
+
+impl<P: Parts> Repo<P> {
+    /// Draws a timestamp: its time is above the floor and above all that were drawn before, and isn't below
+    /// the clock's. Refusals: `Gone`; `ClockEnd`, behind which the clock was asked once.
+    pub fn draw(&mut self, session: u32, floor: u64) -> Result<Ts, Refusal>
+        ensures stands { Stands self.old.is_up result self.new.is_up }
+        ensures live { OnOk result (is_live self.old.memory.sessions session ≡ true) }
+        ensures held { self.new.held ≡ self.old.held }
+        ensures above { IfOk result (λ ts. floor < ts.time) }
+        ensures later { IfOk result (λ ts. self.old.memory.drawn < ts.time) }
+        ensures below { IfOk result (λ ts. ts.time < 2 ^ 62) }
+        ensures repo { IfOk result (λ ts. ts.repo ≡ self.old.held.repo) }
+        ensures life { IfOk result (λ ts. ts.life ≡ self.old.held.life) }
+        ensures drawn { IfOk result (λ ts. self.new.memory ≡ record self.old.memory { drawn = ts.time }) }
+        ensures trace { IfOk result (λ ts. self.new.trace ≡ with_mark self.old.trace (Draws session ts)) }
+        ensures refused { IfErr result (λ r. self.new.trace ≡ with_refusal self.old.trace session None r) }
+    {
+        self.check_up()?;
+        match self.may_draw(session, floor) {
+            Ok(time) => self.take_time(session, time),
+            Err(refusal) => Err(self.refuse(session, None, refusal)),
+        }
+    }
+
+    /// The time that is drawn next. It asks the clock, where the session is live.
+    fn may_draw(&mut self, session: u32, floor: u64) -> Result<u64, Refusal>
+        ensures up { self.new.is_up ≡ self.old.is_up }
+        ensures held { self.new.held ≡ self.old.held }
+        ensures memory { self.new.memory ≡ self.old.memory }
+        ensures trace { self.new.trace ≡ self.old.trace }
+        ensures live { OnOk result (is_live self.old.memory.sessions session ≡ true) }
+        ensures time { IfOk result (λ time. (floor < time) × (self.old.memory.drawn < time) × (time < 2 ^ 62)) }
+        ensures marked { IfErr result (λ r. is_marked r ≡ true) }
+    {
+        self.check_live(session)?;
+        let now = self.stable.now();
+        let above = self.memory.drawn().max(floor).saturating_add(1);
+        let time = now.max(above);
+        if time < CLOCK_END {
+            Ok(time)
+        } else {
+            Err(Refusal::ClockEnd)
+        }
+    }
+
+    fn take_time(&mut self, session: u32, time: u64) -> Result<Ts, Refusal>
+        requires { self.old.is_up ≡ true }
+        ensures stands { Stands true result self.new.is_up }
+        ensures held { self.new.held ≡ self.old.held }
+        ensures named { IfOk result (λ ts. (ts.time ≡ time) × (ts.repo ≡ self.old.held.repo) × (ts.life ≡ self.old.held.life)) }
+        ensures drawn { OnOk result (self.new.memory ≡ record self.old.memory { drawn = time }) }
+        ensures trace { IfOk result (λ ts. self.new.trace ≡ with_mark self.old.trace (Draws session ts)) }
+        ensures refused { IfErr result (λ r. (is_marked r ≡ false) × (self.new.trace ≡ self.old.trace)) }
+    {
+        let ts = Ts {
+            time,
+            repo: self.stable.repo(),
+            life: self.stable.held().life(),
+        };
+        self.mark(Ok(()), Mark::Drew { session, ts })?;
+        self.memory.set_drawn(time);
+        Ok(ts)
+    }
+}

@@ -1,0 +1,67 @@
+//! How an event begins and ends.
+
+ghost use Rattle.std.specs.Prelude.{◌≡◌, IfErr, Ok, OnErr, OnOk, false, true};
+ghost use Rattle.live_sessions.specs.Sessions.{is_live};
+ghost use Rattle.trace_record.specs.Recorded.{with_mark};
+ghost use Rattle.validation_window.specs.declared.refusal.Refusal.TheVariants.{Down as IsDown, Gone as IsGone, NoMemory as IsNoMemory};
+
+use crate::repo::Repo;
+use disk_trait::Parts;
+use session_outbox::Mark;
+use thor_value::NoMemory;
+use validation_window::Refusal;
+
+impl<P: Parts> Repo<P> {
+    /// Refuses a call on a repository that is down.
+    pub(crate) fn check_up(&self) -> Result<(), Refusal>
+        ensures up { OnOk result (self.now.is_up ≡ true) }
+        ensures down { OnErr result (self.now.is_up ≡ false) }
+        ensures refusal { IfErr result (λ r. r ≡ IsDown self.now.held.repo) }
+    {
+        if self.stable.is_up() {
+            Ok(())
+        } else {
+            Err(Refusal::Down {
+                repo: self.stable.repo(),
+            })
+        }
+    }
+
+    /// Refuses a call of a session that isn't live.
+    pub(crate) fn check_live(&self, session: u32) -> Result<(), Refusal>
+        ensures live { OnOk result (is_live self.now.memory.sessions session ≡ true) }
+        ensures refusal { IfErr result (λ r. r ≡ IsGone session) }
+    {
+        if self.memory.sessions().is_live(session) {
+            Ok(())
+        } else {
+            Err(Refusal::Gone { session })
+        }
+    }
+
+    /// Puts the mark of what has happened behind the trace, or takes the repository down where there was no
+    /// memory for it or for what has happened.
+    pub(crate) fn mark(&mut self, happened: Result<(), NoMemory>, mark: Mark) -> Result<(), Refusal>
+        requires { self.old.is_up ≡ true }
+        ensures happened { OnOk result (happened ≡ Ok tt) }
+        ensures up { OnOk result (self.new.is_up ≡ self.old.is_up) }
+        ensures trace { OnOk result (self.new.trace ≡ with_mark self.old.trace mark) }
+        ensures refusal { IfErr result (λ r. r ≡ IsNoMemory) }
+        ensures down { OnErr result (self.new.is_up ≡ false) }
+        ensures refused { OnErr result (self.new.trace ≡ self.old.trace) }
+        ensures held { self.new.held ≡ self.old.held }
+        ensures memory { self.new.memory ≡ self.old.memory }
+    {
+        let marked = match happened {
+            Ok(()) => self.trace.put_mark(mark),
+            Err(refused) => Err(refused),
+        };
+        match marked {
+            Ok(()) => Ok(()),
+            Err(_) => {
+                self.stable.take_down();
+                Err(Refusal::NoMemory)
+            }
+        }
+    }
+}

@@ -1,0 +1,36 @@
+//! A client asks for a page.
+
+ghost use Rattle.std.specs.Prelude.{◌≡◌, OnErr, OnOk, true};
+ghost use Rattle.live_sessions.specs.Sessions.{is_live};
+ghost use Rattle.repo_core.specs.Behind.{MovesObjects, Stands};
+ghost use Rattle.session_outbox.specs.declared.mark.Mark.TheVariants.{Fetched as Fetches};
+ghost use Rattle.trace_record.specs.Recorded.{with_mark};
+
+use crate::repo::Repo;
+use disk_trait::Parts;
+use session_outbox::Mark;
+use validation_window::Refusal;
+
+impl<P: Parts> Repo<P> {
+    /// Puts a page into the session's outbox, as it stands behind all entries. The messages below `upto` are
+    /// acknowledged. Refusal: `Gone`.
+    pub fn fetch(&mut self, session: u32, page: u32, upto: u64) -> Result<(), Refusal>
+        ensures stands { Stands self.old.is_up result self.new.is_up }
+        ensures live { OnOk result (is_live self.old.memory.sessions session ≡ true) }
+        ensures held { MovesObjects self.old.held self.new.held }
+        ensures trace { OnOk result (self.new.trace ≡ with_mark self.old.trace (Fetches session page upto)) }
+        ensures refused { OnErr result (self.new.trace ≡ self.old.trace) }
+    {
+        self.check_up()?;
+        self.check_live(session)?;
+        let image = self.stable.page_image(page)?;
+        let place = self.trace.place();
+        let sent = self.memory.send_page(session, &image, upto, place);
+        let mark = Mark::Fetched {
+            session,
+            page,
+            upto,
+        };
+        self.mark(sent, mark)
+    }
+}

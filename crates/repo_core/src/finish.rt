@@ -1,0 +1,45 @@
+//! A participant learns the coordinator's verdict.
+
+ghost use Rattle.std.specs.Prelude.{◌≡◌, IfOk, OnErr, OnOk, Some, None, cond, is_some, length, true};
+ghost use Rattle.commit_log.specs.declared.entry.Entry.TheVariants.{Finished as Finishes};
+ghost use Rattle.repo_core.specs.Behind.{HasMoved, Stands};
+ghost use Rattle.thor_value.specs.Spelling.{TsFits};
+ghost use Rattle.trace_record.specs.Recorded.{with_entry};
+ghost use Rattle.two_phase.specs.Contents.{open_at};
+
+use crate::repo::Repo;
+use commit_log::Entry;
+use disk_trait::Parts;
+use message_outbox::Verdict;
+use thor_value::Ts;
+use validation_window::Refusal;
+
+impl<P: Parts> Repo<P> {
+    /// Finishes a transaction by the coordinator's verdict. The answer is the place of the entry; `None`
+    /// exactly where it isn't prepared here.
+    pub fn finish(&mut self, verdict: &Verdict) -> Result<Option<u64>, Refusal>
+        ensures stands { Stands self.old.is_up result self.new.is_up }
+        ensures held { OnOk result (is_some (open_at self.old.held.table verdict.now.tx) ≡ true → HasMoved self.old.held (Finishes verdict.now.tx verdict.now.commit) self.new.held) }
+        ensures place { IfOk result (λ place. place ≡ cond (is_some (open_at self.old.held.table verdict.now.tx)) (Some (length self.old.trace.history)) None) }
+        ensures trace { OnOk result (self.new.trace ≡ cond (is_some (open_at self.old.held.table verdict.now.tx)) (with_entry self.old.trace (Finishes verdict.now.tx verdict.now.commit)) self.old.trace) }
+        ensures refused { OnErr result (self.new.trace ≡ self.old.trace) }
+    {
+        self.check_up()?;
+        let tx = verdict.tx();
+        let commit = verdict.commit();
+        if !self.is_open(tx) {
+            return Ok(None);
+        }
+        self.make_room_for(tx, commit)?;
+        let place = self.write(Entry::Finished { tx, commit })?;
+        Ok(Some(place))
+    }
+
+    /// Whether a request of the transaction is open here.
+    fn is_open(&self, tx: Ts) -> bool
+        ensures open { result ≡ is_some (open_at self.now.held.table tx) }
+        ensures stamp { self.now.is_up ≡ true → is_some (open_at self.now.held.table tx) ≡ true → TsFits tx }
+    {
+        self.stable.held().table().open_request(tx).is_some()
+    }
+}

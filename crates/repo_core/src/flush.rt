@@ -1,0 +1,22 @@
+//! A page is flushed.
+
+ghost use Rattle.std.specs.Prelude.{◌≡◌};
+ghost use Rattle.repo_core.specs.Behind.{MovesObjects, Stands};
+
+use crate::repo::Repo;
+use disk_trait::Parts;
+use mob_flusher::Flushed;
+use validation_window::Refusal;
+
+impl<P: Parts> Repo<P> {
+    /// Writes the page of the oldest buffered object, with all its buffered objects, to the side of it that
+    /// isn't in use, and has that side in use. No object changes.
+    pub fn flush(&mut self) -> Result<Flushed, Refusal>
+        ensures stands { Stands self.old.is_up result self.new.is_up }
+        ensures held { MovesObjects self.old.held self.new.held }
+        ensures memory { self.new.memory ≡ self.old.memory }
+        ensures trace { self.new.trace ≡ self.old.trace }
+    {
+        self.stable.flush_page()
+    }
+}

@@ -1,0 +1,30 @@
+//! A coordinator forgets a decision.
+
+ghost use Rattle.std.specs.Prelude.{◌≡◌, OnErr, OnOk};
+ghost use Rattle.repo_core.specs.Behind.{Stands, forgotten};
+ghost use Rattle.session_outbox.specs.declared.mark.Mark.TheVariants.{Forgot as Forgets};
+ghost use Rattle.trace_record.specs.Recorded.{with_mark};
+
+use crate::repo::Repo;
+use disk_trait::Parts;
+use session_outbox::Mark;
+use thor_value::Ts;
+use validation_window::Refusal;
+
+impl<P: Parts> Repo<P> {
+    /// Forgets the decision to commit a transaction, which every other participant has finished. It leaves
+    /// the log with the next checkpoint.
+    pub fn forget(&mut self, tx: Ts) -> Result<(), Refusal>
+        ensures stands { Stands self.old.is_up result self.new.is_up }
+        ensures memory { self.new.memory ≡ self.old.memory }
+        ensures held { OnOk result (self.new.held ≡ forgotten self.old.held tx) }
+        ensures kept { OnErr result (self.new.held ≡ self.old.held) }
+        ensures trace { OnOk result (self.new.trace ≡ with_mark self.old.trace (Forgets tx)) }
+        ensures refused { OnErr result (self.new.trace ≡ self.old.trace) }
+    {
+        self.check_up()?;
+        self.mark(Ok(()), Mark::Forgot { tx })?;
+        self.stable.forget(tx);
+        Ok(())
+    }
+}

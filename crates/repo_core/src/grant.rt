@@ -1,0 +1,67 @@
+//! A client asks for names.
+
+ghost use Rattle.std.specs.Prelude.{◌≡◌, ◌+◌, ◌<◌, IfErr, IfOk, None, OnOk, false, length, true};
+ghost use Rattle.live_sessions.specs.Sessions.{is_live, sent};
+ghost use Rattle.message_outbox.specs.declared.message.Message.TheVariants.{Grant as AGrant};
+ghost use Rattle.repo_core.specs.Behind.{Stands, is_marked, with_refusal};
+ghost use Rattle.session_outbox.specs.declared.mark.Mark.TheVariants.{Granted as Grants};
+ghost use Rattle.trace_record.specs.Recorded.{with_mark};
+
+use crate::repo::Repo;
+use disk_trait::Parts;
+use session_outbox::Mark;
+use validation_window::Refusal;
+
+/// How many pages a repository may have.
+const PAGES: u32 = 65_536;
+
+impl<P: Parts> Repo<P> {
+    /// Puts a page that was never granted into the session's outbox, for the names of new objects. Refusals:
+    /// `Gone`, `Full`.
+    pub fn grant(&mut self, session: u32) -> Result<(), Refusal>
+        ensures stands { Stands self.old.is_up result self.new.is_up }
+        ensures live { OnOk result (is_live self.old.memory.sessions session ≡ true) }
+        ensures held { OnOk result (self.new.held ≡ record self.old.held { next_grant = self.old.held.next_grant + 1 }) }
+        ensures sent { OnOk result (self.new.memory ≡ record self.old.memory { sessions = sent self.old.memory.sessions session self.old.held.next_grant (AGrant self.old.held.next_grant (length self.old.trace.history)) }) }
+        ensures trace { OnOk result (self.new.trace ≡ with_mark self.old.trace (Grants session self.old.held.next_grant)) }
+        ensures refused { IfErr result (λ r. self.new.trace ≡ with_refusal self.old.trace session None r) }
+    {
+        self.check_up()?;
+        match self.may_grant(session) {
+            Ok(page) => self.send_grant(session, page),
+            Err(refusal) => Err(self.refuse(session, None, refusal)),
+        }
+    }
+
+    /// The page that is granted next.
+    fn may_grant(&self, session: u32) -> Result<u32, Refusal>
+        ensures live { OnOk result (is_live self.now.memory.sessions session ≡ true) }
+        ensures page { IfOk result (λ page. (page ≡ self.now.held.next_grant) × (page < 65536)) }
+        ensures marked { IfErr result (λ r. is_marked r ≡ true) }
+    {
+        self.check_live(session)?;
+        let page = self.stable.held().next_grant();
+        if page < PAGES {
+            Ok(page)
+        } else {
+            Err(Refusal::Full { limit: PAGES })
+        }
+    }
+
+    fn send_grant(&mut self, session: u32, page: u32) -> Result<(), Refusal>
+        requires up { self.old.is_up ≡ true }
+        requires next { page ≡ self.old.held.next_grant }
+        requires below { page < 65536 }
+        ensures stands { Stands true result self.new.is_up }
+        ensures held { OnOk result (self.new.held ≡ record self.old.held { next_grant = page + 1 }) }
+        ensures sent { OnOk result (self.new.memory ≡ record self.old.memory { sessions = sent self.old.memory.sessions session page (AGrant page (length self.old.trace.history)) }) }
+        ensures trace { OnOk result (self.new.trace ≡ with_mark self.old.trace (Grants session page)) }
+        ensures refused { IfErr result (λ r. (is_marked r ≡ false) × (self.new.trace ≡ self.old.trace)) }
+    {
+        let place = self.trace.place();
+        let sent = self.memory.send_grant(session, page, place);
+        self.mark(sent, Mark::Granted { session, page })?;
+        self.stable.grant_from(page + 1);
+        Ok(())
+    }
+}

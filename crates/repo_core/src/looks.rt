@@ -1,0 +1,128 @@
+//! What a repository shows.
+
+ghost use Rattle.std.specs.Prelude.{◌≡◌, cond, false, nat_eq, true};
+ghost use Rattle.std.specs.Option.{IfSome};
+ghost use Rattle.cached_sets.specs.Sets as sets;
+ghost use Rattle.live_sessions.specs.Sessions.{is_live};
+ghost use Rattle.mob_buffer.specs.Buffer.{bytes_of};
+ghost use Rattle.repo_core.specs.Behind.{epoch_of, has_prepared};
+ghost use Rattle.thor_value.specs.FiniteMap.{has};
+ghost use Rattle.volatile_state.specs.Volatile.{knows};
+
+use crate::repo::Repo;
+use commit_log::Entry;
+use disk_trait::Parts;
+use session_outbox::Mark;
+use thor_value::{Oref, Ts};
+use trace_record::Trace;
+
+impl<P: Parts> Repo<P> {
+    /// Its number.
+    pub fn number(&self) -> u8
+        ensures { result ≡ self.now.held.repo }
+    {
+        self.stable.repo()
+    }
+
+    /// Whether it answers. One that is down does so behind a restart.
+    pub fn is_up(&self) -> bool
+        ensures { result ≡ self.now.is_up }
+    {
+        self.stable.is_up()
+    }
+
+    /// The entries of its history since it was opened.
+    pub fn history(&self) -> &[Entry]
+        ensures { result.now ≡ self.now.trace.history }
+    {
+        self.trace.history()
+    }
+
+    /// The items of its trace since it was opened, in order.
+    pub fn marks(&self) -> &[Mark]
+        ensures { result.now ≡ self.now.trace.marks }
+    {
+        self.trace.marks()
+    }
+
+    /// The timestamp that a transaction has to be above.
+    pub fn threshold(&self) -> Ts
+        ensures { result ≡ self.now.memory.queue.threshold }
+    {
+        self.memory.threshold()
+    }
+
+    /// How many upgrades it has installed. A count that would pass the greatest `u32` stays there.
+    pub fn epoch(&self) -> u32
+        ensures { result ≡ epoch_of self.now.held }
+    {
+        match u32::try_from(self.stable.held().epoch()) {
+            Ok(epoch) => epoch,
+            Err(_) => u32::MAX,
+        }
+    }
+
+    /// The next object of a session's invalid set behind one, names rising, with the place of its last write
+    /// by another session.
+    pub fn invalid(&self, session: u32, after: Option<Oref>) -> Option<(Oref, u64)>
+        ensures { result ≡ sets.invalid_after self.now.memory.sessions.sets session after }
+    {
+        self.memory.sessions().invalid(session, after)
+    }
+
+    /// How many bytes the buffered objects have.
+    pub fn mob_bytes(&self) -> u32
+        ensures { result ≡ bytes_of self.now.held.objects.mob.objects }
+    {
+        self.stable.held().objects().mob().bytes()
+    }
+
+    /// Whether a request of the transaction came here since the opening, or a decision on it is kept.
+    pub fn knows(&self, tx: Ts) -> bool
+        ensures { result ≡ cond (knows self.now.memory tx) true (has self.now.held.table.transactions tx) }
+    {
+        self.memory.knows(tx) || self.stable.held().table().knows(tx)
+    }
+
+    /// Whether the transaction is prepared and undecided here, by a request of this session.
+    pub fn has_prepared(&self, session: u32, tx: Ts) -> bool
+        ensures { result ≡ has_prepared self.now.held session tx }
+    {
+        match self.stable.held().table().open_request(tx) {
+            Some(request) => request.session == session,
+            None => false,
+        }
+    }
+
+    /// Whether the session may decide the transaction: it has prepared it here, or it isn't live or the
+    /// repository is down, so that the call is refused.
+    pub fn may_decide(&self, session: u32, tx: Ts) -> bool
+        ensures { result ≡ cond self.now.is_up (cond (is_live self.now.memory.sessions session) (has_prepared self.now.held session tx) true) true }
+    {
+        !self.is_up() || !self.memory.sessions().is_live(session) || self.has_prepared(session, tx)
+    }
+
+    /// The transaction of another coordinator with the least timestamp that is prepared and undecided here.
+    pub fn least_of_another(&self) -> Option<Ts>
+        ensures { IfSome result (λ tx. nat_eq tx.repo self.now.held.repo ≡ false) }
+    {
+        let mut after = None;
+        for _ in 0..u32::MAX {
+            let request = self.stable.held().table().next_open(after)?;
+            if request.tx.repo != self.stable.repo() {
+                return Some(request.tx);
+            }
+            after = Some(request.tx);
+        }
+        None
+    }
+
+    /// Ends it. Its parts come back with its trace.
+    pub fn close(self) -> (P, Trace)
+        ensures history { result.1.history ≡ self.trace.history }
+        ensures marks { result.1.marks ≡ self.trace.marks }
+    {
+        let Repo { stable, trace, .. } = self;
+        (stable.into_parts(), trace.into_trace())
+    }
+}

@@ -1,0 +1,96 @@
+//! A repository is opened.
+
+ghost use Rattle.std.specs.Prelude.{◌≡◌, ◌+◌, IfOk, List, true, ℕ};
+ghost use Rattle.commit_log.specs.declared.entry.Entry.TheVariants.{Life as ALife};
+ghost use Rattle.disk_trait.specs.AllDisks.{AllSettled};
+ghost use Rattle.held_state.specs.Keeps.{Keeps};
+ghost use Rattle.log_bytes.specs.declared.state.State.{State as AState};
+ghost use Rattle.stable_store.specs.Kept.{IsKept, held_of, is_up};
+ghost use Rattle.stable_store.specs.Taking.{AgreesWhere};
+ghost use Rattle.state_log.specs.Holds.{Holds};
+ghost use Rattle.trace_record.specs.Recorded.{nothing, with_entry};
+
+use crate::repo::Repo;
+use class_defs::Setup;
+use disk_trait::Parts;
+use recovery::Recovered;
+use stable_store::{OpenCause, OpenFault, Stable};
+use std::alloc::Global;
+use store_format::format;
+use trace_record::Recorder;
+use validation_window::Refusal;
+use volatile_state::Memory;
+
+impl<P: Parts> Repo<P> {
+    /// A repository of what was recovered from its disks. A Life is written: what an earlier opening left
+    /// prepared and this repository coordinates is aborted by it.
+    pub fn open(alloc: Global, parts: P, recovered: Recovered) -> Result<Repo<P>, OpenFault<P>>
+        requires holds { (s : AState) × Holds (P.disks parts) recovered.log s }
+        requires keeps { Keeps recovered.state }
+        requires pages { AgreesWhere recovered.state.objects.pages }
+        ensures up { IfOk result (λ repo. repo.is_up ≡ true) }
+        ensures trace { IfOk result (λ repo. repo.trace ≡ with_entry nothing (ALife (recovered.state.life + 1))) }
+    {
+        let stable = Stable::open(parts, recovered)?;
+        begin(alloc, stable)
+    }
+
+    /// A repository of a store that is new, with a buffer of so many bytes: its roots stand on its pages, and an
+    /// empty log is begun. Then its first Life is written.
+    pub fn format(
+        alloc: Global,
+        parts: P,
+        repo: u8,
+        repos: u8,
+        setup: &Setup,
+        mob: u32,
+    ) -> Result<Repo<P>, OpenFault<P>>
+        requires { AllSettled (P.disks parts) }
+        ensures up { IfOk result (λ repo. repo.is_up ≡ true) }
+        ensures trace { IfOk result (λ repo. repo.trace ≡ with_entry nothing (ALife 1)) }
+    {
+        let stable = format(alloc, parts, repo, repos, setup, mob)?;
+        begin(alloc, stable)
+    }
+}
+
+/// A repository over what is stable, behind the Life of its opening.
+fn begin<P: Parts>(alloc: Global, stable: Stable<P>) -> Result<Repo<P>, OpenFault<P>>
+    requires kept { IsKept P.disks stable }
+    requires up { is_up stable ≡ true }
+    ensures up { IfOk result (λ repo. repo.is_up ≡ true) }
+    ensures trace { IfOk result (λ repo. repo.trace ≡ with_entry nothing (ALife ((held_of stable).life + 1))) }
+{
+    let memory = match Memory::new(alloc, stable.held().threshold()) {
+        Ok(memory) => memory,
+        Err(_) => {
+            return Err(OpenFault {
+                parts: stable.into_parts(),
+                cause: OpenCause::NoMemory,
+            });
+        }
+    };
+    let opened_in = stable.held().life().saturating_add(1);
+    let mut repo = Repo {
+        alloc,
+        stable,
+        memory,
+        trace: Recorder::new(alloc),
+        opened_in,
+    };
+    match repo.write_life() {
+        Ok(()) => Ok(repo),
+        Err(refusal) => Err(OpenFault {
+            parts: repo.close().0,
+            cause: cause_of(refusal),
+        }),
+    }
+}
+
+/// Why a repository wasn't opened whose first Life was refused.
+fn cause_of(refusal: Refusal) -> OpenCause {
+    match refusal {
+        Refusal::NoMemory => OpenCause::NoMemory,
+        _ => OpenCause::Failed,
+    }
+}

@@ -1,0 +1,37 @@
+//! A client takes a message.
+
+ghost use Rattle.std.specs.Prelude.{◌≡◌, IfOk, OnErr, OnOk, true};
+ghost use Rattle.live_sessions.specs.Sessions.{is_live, taken};
+ghost use Rattle.message_outbox.specs.Messages.{first};
+ghost use Rattle.message_outbox.specs.Outbox.{waiting};
+ghost use Rattle.repo_core.specs.Behind.{Stands, with_taken};
+
+use crate::repo::Repo;
+use disk_trait::Parts;
+use message_outbox::Message;
+use session_outbox::Mark;
+use validation_window::Refusal;
+
+impl<P: Parts> Repo<P> {
+    /// Takes the oldest message that waits for the session; `None` exactly where none does. Refusal: `Gone`.
+    pub fn receive(&mut self, session: u32) -> Result<Option<Message>, Refusal>
+        ensures stands { Stands self.old.is_up result self.new.is_up }
+        ensures live { OnOk result (is_live self.old.memory.sessions session ≡ true) }
+        ensures held { self.new.held ≡ self.old.held }
+        ensures message { IfOk result (λ message. message ≡ first (waiting self.old.memory.sessions.waiting session)) }
+        ensures rest { OnOk result (self.new.memory ≡ record self.old.memory { sessions = taken self.old.memory.sessions session }) }
+        ensures trace { IfOk result (λ message. self.new.trace ≡ with_taken self.old.trace session message) }
+        ensures refused { OnErr result (self.new.trace ≡ self.old.trace) }
+    {
+        self.check_up()?;
+        self.check_live(session)?;
+        match self.memory.take(session) {
+            Some(message) => {
+                let place = message.place();
+                self.mark(Ok(()), Mark::Took { session, place })?;
+                Ok(Some(message))
+            }
+            None => Ok(None),
+        }
+    }
+}

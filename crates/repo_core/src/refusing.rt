@@ -1,0 +1,58 @@
+//! How draws, grants and requests are refused.
+
+ghost use Rattle.std.specs.Map.{keys_of};
+ghost use Rattle.std.specs.Prelude.{◌≡◌, IfErr, None, OnOk, cond, false, true};
+ghost use Rattle.repo_core.specs.Behind.{epoch_of, is_marked, with_refusal};
+ghost use Rattle.commit_log.specs.RequestForm.{RequestFits};
+ghost use Rattle.stable_store.specs.Kept.{is_fault};
+ghost use Rattle.validation_queue.specs.Clashes.{clash};
+ghost use Rattle.validation_queue.specs.Names.{IsInOrder};
+ghost use Rattle.volatile_state.specs.Volatile.{transaction_of, verdict};
+
+use crate::repo::Repo;
+use commit_log::Request;
+use disk_trait::Parts;
+use session_outbox::Mark;
+use validation_window::Refusal;
+
+impl<P: Parts> Repo<P> {
+    /// Puts the mark of a refused draw, grant or request behind the trace. The answer is the refusal, or
+    /// `NoMemory` where there was none for the mark.
+    pub(crate) fn refuse(
+        &mut self,
+        session: u32,
+        request: Option<Request>,
+        refusal: Refusal,
+    ) -> Refusal
+        requires up { self.old.is_up ≡ true }
+        requires marked { is_marked refusal ≡ true }
+        ensures stands { self.new.is_up ≡ cond (is_fault result) false true }
+        ensures held { self.new.held ≡ self.old.held }
+        ensures memory { self.new.memory ≡ self.old.memory }
+        ensures trace { self.new.trace ≡ with_refusal self.old.trace session request result }
+    {
+        let mark = Mark::Refused {
+            session,
+            request,
+            refusal,
+        };
+        match self.mark(Ok(()), mark) {
+            Ok(()) => refusal,
+            Err(fault) => fault,
+        }
+    }
+
+    /// What stands against a request of a session: the first refusal that holds, in the order in which they
+    /// are tried.
+    #[tactic(auto, using(crate::proofs::Judged::judged, crate::proofs::Judged::accepted))]
+    pub(crate) fn judge(&self, session: u32, request: &Request) -> Result<(), Refusal>
+        requires in_order { IsInOrder request.now.ros (keys_of request.now.writes) }
+        requires fits { RequestFits request.now }
+        ensures accepted { OnOk result (clash self.now.memory.queue (transaction_of request.now) ≡ None) }
+        ensures nothing { OnOk result (verdict self.now.memory (epoch_of self.now.held) session request.now ≡ None) }
+        ensures marked { IfErr result (λ r. is_marked r ≡ true) }
+    {
+        self.memory.judge(session, request, self.epoch())?;
+        self.check_room(&request.writes)
+    }
+}

@@ -1,0 +1,110 @@
+//! A repository is restarted.
+
+ghost use Rattle.std.specs.Prelude.{◌≡◌, ◌+◌, IfErr, OnErr, OnOk, false, true};
+ghost use Rattle.commit_log.specs.declared.entry.Entry.TheVariants.{Life as ALife};
+ghost use Rattle.live_sessions.specs.Sessions.{ended};
+ghost use Rattle.log_bytes.specs.Grammar.{BodyFits};
+ghost use Rattle.log_bytes.specs.declared.body.Body.TheVariants.{Entry as AnEntry};
+ghost use Rattle.repo_core.specs.Behind.{IsRecovered, IsRestarted, Stands, is_marked};
+ghost use Rattle.stable_store.specs.Kept.{IsKept, held_of, is_fault, is_up};
+ghost use Rattle.trace_record.specs.Recorded.{with_entry};
+
+use crate::repo::Repo;
+use commit_log::Entry;
+use disk_trait::Parts;
+use stable_store::{Stable, Taken};
+use validation_window::Refusal;
+
+impl<P: Parts> Repo<P> {
+    /// Takes the repository down where it is up, crashes its disks, recovers from them, and writes a Life.
+    ///
+    /// What is recovered has to agree with what is in memory, or with that and the entry that was being
+    /// written; else the answer is `Damaged`, as it is where a log disk has no log of this repository. All
+    /// sessions end. Decisions of earlier openings are kept no longer. After a refusal the repository is
+    /// down, with the entry pending that was so, or with the Life.
+    pub fn restart(&mut self, pick: u64) -> Result<(), Refusal>
+        ensures up { OnOk result (self.new.is_up ≡ true) }
+        ensures down { OnErr result (self.new.is_up ≡ false) }
+        ensures fault { IfErr result (λ r. is_fault r ≡ true) }
+        ensures ended { OnOk result (self.new.memory.sessions ≡ ended self.old.memory.sessions) }
+        ensures trace { OnOk result (IsRestarted self.old.trace self.new.trace) }
+        ensures refused { OnErr result (IsRecovered self.old.trace self.new.trace) }
+    {
+        match self.stable.restart(self.alloc, pick)? {
+            Taken::Held => {}
+            Taken::Pending(entry) => self.take_pending(entry)?,
+        }
+        self.drop_decisions();
+        self.write_life()
+    }
+
+    /// Takes the pending entry, which the disks have. Want of memory, too, where it is none that can come next,
+    /// which no run comes to.
+    fn take_pending(&mut self, entry: Entry) -> Result<(), Refusal>
+        requires fits { BodyFits (AnEntry entry) }
+        requires up { self.old.is_up ≡ true }
+        ensures stands { Stands true result self.new.is_up }
+        ensures fault { IfErr result (λ r. is_fault r ≡ true) }
+        ensures sessions { self.new.memory.sessions ≡ self.old.memory.sessions }
+        ensures trace { OnOk result (self.new.trace ≡ with_entry self.old.trace entry) }
+        ensures refused { OnErr result (self.new.trace ≡ self.old.trace) }
+    {
+        if !self.stable.held().takes(&entry) {
+            self.stable.take_down();
+            return Err(Refusal::NoMemory);
+        }
+        let noted = self.note(&entry);
+        self.record(entry, noted)?;
+        Ok(())
+    }
+
+    /// Begins the next life.
+    pub(crate) fn write_life(&mut self) -> Result<(), Refusal>
+        requires { self.old.is_up ≡ true }
+        ensures stands { Stands true result self.new.is_up }
+        ensures fault { IfErr result (λ r. is_fault r ≡ true) }
+        ensures ended { OnOk result (self.new.memory.sessions ≡ ended self.old.memory.sessions) }
+        ensures trace { OnOk result (self.new.trace ≡ with_entry self.old.trace (ALife (self.old.held.life + 1))) }
+        ensures refused { OnErr result (self.new.trace ≡ self.old.trace) }
+    {
+        match self.stable.held().life().checked_add(1) {
+            Some(life) => {
+                self.write(Entry::Life { life })?;
+                Ok(())
+            }
+            None => {
+                self.stable.take_down();
+                Err(Refusal::NoMemory)
+            }
+        }
+    }
+
+    /// Lets go of the kept decisions of earlier openings: what they left is settled.
+    pub(crate) fn drop_decisions(&mut self)
+        ensures up { self.new.is_up ≡ self.old.is_up }
+        ensures life { self.new.held.life ≡ self.old.held.life }
+        ensures memory { self.new.memory ≡ self.old.memory }
+        ensures trace { self.new.trace ≡ self.old.trace }
+    {
+        forget_before(&mut self.stable, self.opened_in);
+    }
+}
+
+/// Forgets the kept decisions of transactions of earlier lives than this one.
+fn forget_before<P: Parts>(stable: &mut Stable<P>, life: u32)
+    requires kept { IsKept P.disks stable.old }
+    ensures kept { IsKept P.disks stable.new }
+    ensures up { is_up stable.new ≡ is_up stable.old }
+    ensures life { (held_of stable.new).life ≡ (held_of stable.old).life }
+{
+    let mut after = None;
+    for _ in 0..u32::MAX {
+        let Some(tx) = stable.held().table().next_kept(after) else {
+            return;
+        };
+        if tx.life < life {
+            stable.forget(tx);
+        }
+        after = Some(tx);
+    }
+}

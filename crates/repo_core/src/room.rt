@@ -1,0 +1,114 @@
+//! Room in the buffer of modified objects.
+
+ghost use Rattle.std.specs.List.{AllByRecursion};
+ghost use Rattle.std.specs.Prelude.{◌≡◌, IfErr, false, true};
+ghost use Rattle.held_state.specs.Keeps.{Keeps};
+ghost use Rattle.mob_buffer.specs.Buffer.{CanStand};
+ghost use Rattle.repo_core.specs.Behind.{MovesObjects, Stands, is_marked};
+ghost use Rattle.repo_core.specs.Moving.{MakesRoom};
+ghost use Rattle.stable_store.specs.Kept.{IsKept, held_of, is_fault, is_up};
+
+use crate::repo::Repo;
+use disk_trait::Parts;
+use held_state::HeldState;
+use mob_buffer::spelled_bytes;
+use mob_flusher::Flushed;
+use stable_store::Stable;
+use thor_value::{Ts, Writes};
+use validation_window::Refusal;
+
+impl<P: Parts> Repo<P> {
+    /// Refuses writes that don't fit into the buffer by themselves.
+    pub(crate) fn check_room(&self, writes: &Writes) -> Result<(), Refusal>
+        requires { AllByRecursion CanStand writes.now }
+        ensures { IfErr result (λ r. is_marked r ≡ true) }
+    {
+        let limit = self.stable.held().objects().mob().limit();
+        if spelled_bytes(writes) > u64::from(limit) {
+            Err(Refusal::Full { limit })
+        } else {
+            Ok(())
+        }
+    }
+
+    /// Flushes pages until writes fit into the buffer beside what is there, or it is empty.
+    pub(crate) fn make_room(&mut self, writes: &Writes) -> Result<(), Refusal>
+        requires up { self.old.is_up ≡ true }
+        requires fits { AllByRecursion CanStand writes.now }
+        ensures stands { Stands true result self.new.is_up }
+        ensures fault { IfErr result (λ r. (is_fault r ≡ true) × (is_marked r ≡ false)) }
+        ensures made { MakesRoom self.old self.new }
+    {
+        make_room(&mut self.stable, writes)
+    }
+
+    /// Does so for the writes of a transaction that is open here, where it commits.
+    pub(crate) fn make_room_for(&mut self, tx: Ts, commit: bool) -> Result<(), Refusal>
+        requires { self.old.is_up ≡ true }
+        ensures stands { Stands true result self.new.is_up }
+        ensures fault { IfErr result (λ r. (is_fault r ≡ true) × (is_marked r ≡ false)) }
+        ensures made { MakesRoom self.old self.new }
+    {
+        if commit {
+            make_room_for(&mut self.stable, tx)
+        } else {
+            Ok(())
+        }
+    }
+}
+
+fn make_room<P: Parts>(stable: &mut Stable<P>, writes: &Writes) -> Result<(), Refusal>
+    requires kept { IsKept P.disks stable.old }
+    requires up { is_up stable.old ≡ true }
+    requires fits { AllByRecursion CanStand writes.now }
+    ensures kept { IsKept P.disks stable.new }
+    ensures stands { Stands true result (is_up stable.new) }
+    ensures fault { IfErr result (λ r. (is_fault r ≡ true) × (is_marked r ≡ false)) }
+    ensures held { MovesObjects (held_of stable.old) (held_of stable.new) }
+{
+    for _ in 0..u32::MAX {
+        if fits(stable.held(), writes) {
+            return Ok(());
+        }
+        if let Flushed::Nothing = stable.flush_page()? {
+            return Ok(());
+        }
+    }
+    Ok(())
+}
+
+fn make_room_for<P: Parts>(stable: &mut Stable<P>, tx: Ts) -> Result<(), Refusal>
+    requires kept { IsKept P.disks stable.old }
+    requires up { is_up stable.old ≡ true }
+    ensures kept { IsKept P.disks stable.new }
+    ensures stands { Stands true result (is_up stable.new) }
+    ensures fault { IfErr result (λ r. (is_fault r ≡ true) × (is_marked r ≡ false)) }
+    ensures held { MovesObjects (held_of stable.old) (held_of stable.new) }
+{
+    for _ in 0..u32::MAX {
+        if fits_open(stable.held(), tx) {
+            return Ok(());
+        }
+        if let Flushed::Nothing = stable.flush_page()? {
+            return Ok(());
+        }
+    }
+    Ok(())
+}
+
+/// Whether the buffer keeps its limit with these writes.
+fn fits(held: &HeldState, writes: &Writes) -> bool
+    requires { AllByRecursion CanStand writes.now }
+{
+    let mob = held.objects().mob();
+    mob.bytes_with(writes) <= u64::from(mob.limit())
+}
+
+fn fits_open(held: &HeldState, tx: Ts) -> bool
+    requires { Keeps held.now }
+{
+    match held.table().open_request(tx) {
+        Some(request) => fits(held, &request.writes),
+        None => true,
+    }
+}

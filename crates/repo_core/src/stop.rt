@@ -1,0 +1,29 @@
+//! Stops.
+
+ghost use Rattle.std.specs.Prelude.{◌≡◌, cond, false, nat_eq};
+
+use crate::repo::Repo;
+use disk_trait::Parts;
+
+impl<P: Parts> Repo<P> {
+    /// Takes the repository down: at once for 0, else behind so many disk calls from now, in the middle of an
+    /// event. It takes the place of a stop that hasn't fallen.
+    pub fn stop_after(&mut self, calls: u32)
+        ensures up { self.new.is_up ≡ cond (nat_eq calls 0) false self.old.is_up }
+        ensures held { self.new.held ≡ self.old.held }
+        ensures memory { self.new.memory ≡ self.old.memory }
+        ensures trace { self.new.trace ≡ self.old.trace }
+    {
+        self.stable.stop_after(calls);
+    }
+
+    /// Takes back a stop that hasn't fallen.
+    pub fn disarm(&mut self)
+        ensures up { self.new.is_up ≡ self.old.is_up }
+        ensures held { self.new.held ≡ self.old.held }
+        ensures memory { self.new.memory ≡ self.old.memory }
+        ensures trace { self.new.trace ≡ self.old.trace }
+    {
+        self.stable.disarm();
+    }
+}

@@ -1,0 +1,172 @@
+//! How an entry is written: into the log, then into what is held in memory, then into the trace.
+
+ghost use Rattle.std.specs.Prelude.{◌≡◌, IfErr, IfOk, IsTrue, Ok, OnErr, OnOk, false, length, true, ℕ};
+ghost use Rattle.commit_log.specs.declared.request.Request.{Request};
+ghost use Rattle.commit_log.specs.declared.entry.Entry.TheVariants.{Life as ALife, Prepared as Prepares};
+ghost use Rattle.held_state.specs.Entering.{can_enter, entered};
+ghost use Rattle.live_sessions.specs.Sessions.{ended};
+ghost use Rattle.log_bytes.specs.Grammar.{BodyFits};
+ghost use Rattle.log_bytes.specs.declared.body.Body.TheVariants.{Entry as AnEntry};
+ghost use Rattle.repo_core.specs.Behind.{Stands, is_marked};
+ghost use Rattle.repo_core.specs.Calls.{CanWrite, ComesIn};
+ghost use Rattle.stable_store.specs.Kept.{is_fault};
+ghost use Rattle.trace_record.specs.Recorded.{with_entry};
+ghost use Rattle.volatile_state.specs.Volatile.{entered as entered_memory};
+
+use crate::repo::Repo;
+use commit_log::Entry;
+use disk_trait::Parts;
+use thor_value::{NoMemory, Ts};
+use two_phase::Table;
+use validation_window::Refusal;
+use volatile_state::Memory;
+
+impl<P: Parts> Repo<P> {
+    /// Writes an entry. The answer is its place.
+    ///
+    /// After a refusal the repository is down, and the entry is pending if the log may have it.
+    pub(crate) fn write(&mut self, entry: Entry) -> Result<u64, Refusal>
+        requires can { CanWrite self.old.held self.old.memory entry }
+        requires up { self.old.is_up ≡ true }
+        ensures stands { Stands true result self.new.is_up }
+        ensures fault { IfErr result (λ r. (is_fault r ≡ true) × (is_marked r ≡ false)) }
+        ensures place { IfOk result (λ place. place ≡ length self.old.trace.history) }
+        ensures held { OnOk result (self.new.held ≡ entered self.old.held entry) }
+        ensures ended { (n : ℕ) → entry ≡ ALife n → OnOk result (self.new.memory.sessions ≡ ended self.old.memory.sessions) }
+        ensures memory { (q : Request) → entry ≡ Prepares q → OnOk result (self.new.memory ≡ entered_memory self.old.memory q false) }
+        ensures trace { OnOk result (self.new.trace ≡ with_entry self.old.trace entry) }
+        ensures refused { OnErr result (self.new.trace ≡ self.old.trace) }
+    {
+        if self.trace.reserve().is_err() {
+            self.stable.take_down();
+            return Err(Refusal::NoMemory);
+        }
+        let entry = self.stable.append(entry)?;
+        let told = self.tell(&entry);
+        self.record(entry, told)
+    }
+
+    /// Takes an entry that the log has into what is held of the log's state, and into the trace, once the rest
+    /// of what is in memory has it. After `NoMemory` the repository is down, and the entry is pending.
+    pub(crate) fn record(
+        &mut self,
+        entry: Entry,
+        told: Result<(), NoMemory>,
+    ) -> Result<u64, Refusal>
+        requires fits { BodyFits (AnEntry entry) }
+        requires takes { IsTrue (can_enter self.old.held entry) }
+        requires up { self.old.is_up ≡ true }
+        ensures stands { Stands true result self.new.is_up }
+        ensures fault { IfErr result (λ r. (is_fault r ≡ true) × (is_marked r ≡ false)) }
+        ensures told { OnOk result (told ≡ Ok tt) }
+        ensures place { IfOk result (λ place. place ≡ length self.old.trace.history) }
+        ensures held { OnOk result (self.new.held ≡ entered self.old.held entry) }
+        ensures memory { self.new.memory ≡ self.old.memory }
+        ensures trace { OnOk result (self.new.trace ≡ with_entry self.old.trace entry) }
+        ensures refused { OnErr result (self.new.trace ≡ self.old.trace) }
+    {
+        if told.is_err() {
+            self.stable.pend(entry);
+            return Err(Refusal::NoMemory);
+        }
+        let Ok(entry) = self.stable.enter(entry) else {
+            return Err(Refusal::NoMemory);
+        };
+        match self.trace.put_entry(entry) {
+            Ok(place) => Ok(place),
+            Err(entry) => {
+                self.stable.fail_with(entry);
+                Err(Refusal::NoMemory)
+            }
+        }
+    }
+
+    /// Tells the queue and the sessions of an entry, before it is entered. After `NoMemory` they begin anew with
+    /// the next life.
+    fn tell(&mut self, entry: &Entry) -> Result<(), NoMemory>
+        requires { ComesIn self.old.memory entry.now }
+        ensures up { self.new.is_up ≡ self.old.is_up }
+        ensures held { self.new.held ≡ self.old.held }
+        ensures trace { self.new.trace ≡ self.old.trace }
+        ensures ended { (n : ℕ) → entry.now ≡ ALife n → OnOk result (self.new.memory.sessions ≡ ended self.old.memory.sessions) }
+        ensures prepared { (q : Request) → entry.now ≡ Prepares q → OnOk result (self.new.memory ≡ entered_memory self.old.memory q false) }
+    {
+        let place = self.trace.place();
+        let number = self.epoch().saturating_add(1);
+        match entry {
+            Entry::Life { .. } => self.begin_life(),
+            Entry::Prepared { request } => self.memory.enter(request, false),
+            Entry::One { request } | Entry::Upgraded { request } => {
+                self.memory.enter(request, true)?;
+                self.memory.tell(request, number, place)
+            }
+            Entry::Decided { tx, commit } | Entry::Finished { tx, commit } => {
+                self.tell_decision(*tx, *commit, number, place)
+            }
+        }
+    }
+
+    /// Tells of the decision on a transaction that is open here.
+    fn tell_decision(
+        &mut self,
+        tx: Ts,
+        commit: bool,
+        number: u32,
+        place: u64,
+    ) -> Result<(), NoMemory>
+        ensures up { self.new.is_up ≡ self.old.is_up }
+        ensures held { self.new.held ≡ self.old.held }
+        ensures trace { self.new.trace ≡ self.old.trace }
+    {
+        self.memory.decide(tx, commit);
+        match self.stable.held().table().open_request(tx) {
+            Some(request) if commit => self.memory.tell(request, number, place),
+            _ => Ok(()),
+        }
+    }
+
+    /// Begins a life: the sessions end, and of the transactions that came since the opening those stand in the
+    /// queue that stay undecided. The life aborts those that this repository coordinates.
+    fn begin_life(&mut self) -> Result<(), NoMemory>
+        ensures ended { OnOk result (self.new.memory.sessions ≡ ended self.old.memory.sessions) }
+        ensures up { self.new.is_up ≡ self.old.is_up }
+        ensures held { self.new.held ≡ self.old.held }
+        ensures trace { self.new.trace ≡ self.old.trace }
+    {
+        let repo = self.stable.repo();
+        self.memory.begin(self.stable.held().threshold())?;
+        load_open(&mut self.memory, self.stable.held().table(), repo)
+    }
+
+    /// Notes the transaction of a pending entry, which the disks have, before the next life.
+    pub(crate) fn note(&mut self, entry: &Entry) -> Result<(), NoMemory>
+        ensures sessions { self.new.memory.sessions ≡ self.old.memory.sessions }
+        ensures up { self.new.is_up ≡ self.old.is_up }
+        ensures held { self.new.held ≡ self.old.held }
+        ensures trace { self.new.trace ≡ self.old.trace }
+    {
+        match entry {
+            Entry::One { request } | Entry::Prepared { request } | Entry::Upgraded { request } => {
+                self.memory.note(request.tx)
+            }
+            Entry::Life { .. } | Entry::Decided { .. } | Entry::Finished { .. } => Ok(()),
+        }
+    }
+}
+
+/// Puts the open requests of transactions that another repository than this one coordinates into the queue.
+fn load_open(memory: &mut Memory, table: &Table, repo: u8) -> Result<(), NoMemory>
+    ensures { memory.new.sessions ≡ memory.old.sessions }
+{
+    let mut after = None;
+    for _ in 0..u32::MAX {
+        let Some(request) = table.next_open(after) else {
+            return Ok(());
+        };
+        if request.tx.repo != repo {
+            memory.load(request)?;
+        }
+        after = Some(request.tx);
+    }
+    Err(NoMemory)
+}

@@ -1,0 +1,6 @@
+pub mod AcceptedUpgrades
+pub mod JudgingLaws
+pub mod NamedUpgrades
+pub mod UpgradingLaws
+pub mod OpenedFits
+pub mod Extending

@@ -1,0 +1,12 @@
+ghost use Rattle.std.specs.Prelude.{◌≡◌, ℕ, []};
+ghost use Rattle.class_defs.specs.SchemaRules.{schema_rules};
+ghost use Rattle.class_defs.specs.declared.declarations.Declarations.{Declarations};
+ghost use Rattle.fitting_laws.specs.Fits.{StoreFits};
+ghost use Rattle.script_check.specs.Opened.{opened, schema_of};
+
+/// The store that a script opens with fits its schema: each object has a class that is there and the fields of that, and
+/// each root names an object of its class.
+pub fn opened_stores_fit()
+    ensures { (setup : Declarations) → (repos : ℕ) → schema_rules (schema_of setup) repos ≡ []
+        → StoreFits (schema_of setup) (opened (schema_of setup)) }
+{}

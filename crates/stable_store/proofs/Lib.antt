@@ -1,0 +1,4 @@
+pub mod Opened
+pub mod Openings
+pub mod Reaching
+pub mod Staying

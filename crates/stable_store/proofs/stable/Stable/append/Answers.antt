@@ -1,0 +1,14 @@
+use Rattle.disk_trait.specs.Fused.{fused_disks}
+use Rattle.log_bytes.specs.declared.body.Body.TheVariants.{Entry as AnEntry}
+use Rattle.stable_store.proofs.Opened.{opened_more}
+use Rattle.stable_store.proofs.Staying.{kept_up, taken_open}
+use Rattle.stable_store.specs.Kept.{disks_of}
+use Rattle.stable_store.proofs.stable.Stable.append.Goals as goal
+
+pub returns-in-Ok-clause-kept : goal.returns-in-Ok-clause-kept
+returns-in-Ok-clause-kept g c =
+    let taken = c.in-Some.ensures.some in
+    let stood = taken_open g.P.Parts.disks c.args.self.now c.take_log.new.self c.in-Some.log taken.1 taken.2 in
+    let now = fused_disks g.P.Parts.disks c.append.new.parts in
+    kept_up g.P.Parts.disks (record c.take_log.new.self { parts = c.append.new.parts }) c.set_phase.new.self c.append.new.self c.set_phase.ensures
+    (opened_more (disks_of g.P.Parts.disks c.take_log.new.self) now c.in-Some.log c.append.new.self c.take_log.new.self.held (AnEntry c.args.entry) stood c.in-Ok.ensures.appended c.in-Ok.ensures.pages)

@@ -1,0 +1,5 @@
+use Rattle.stable_store.proofs.Staying.{opened_fused}
+use Rattle.stable_store.proofs.stable.Stable.new.Goals as goal
+
+pub returns-clause-kept : goal.returns-clause-kept
+returns-clause-kept g c = record { stands = opened_fused g.P.Parts.disks c.args.parts c.new.result c.args.log c.args.held c.new.ensures.parts c.requires }

@@ -1,0 +1,125 @@
+-- What of a repository outlives a crash, and what holds of it while it is up.
+use Rattle.commit_log.specs.declared.entry.Entry.{Entry}
+use Rattle.disk_trait.specs.Disks.{Disks, WhereTold}
+use Rattle.disk_trait.specs.Fused.{fused_disks}
+use Rattle.held_state.specs.Keeps.{Keeps}
+use Rattle.held_state.specs.declared.held.Held.{Held}
+use Rattle.log_bytes.specs.Grammar.{BodyFits}
+use Rattle.log_bytes.specs.declared.body.Body.TheVariants.{Entry as AnEntry}
+use Rattle.log_bytes.specs.declared.state.State.{State}
+use Rattle.log_frame.specs.Log.{Place}
+use Rattle.page_store.specs.Store.{Agrees}
+use Rattle.stable_store.specs.declared.stable.Phase.TheVariants.{Down, Torn, Up}
+use Rattle.stable_store.specs.declared.stable.Phase.{Phase}
+use Rattle.stable_store.specs.declared.stable.Stable.{Stable}
+use Rattle.state_log.specs.Holds.{Holds}
+use Rattle.std.specs.Option.{IfSome}
+use Rattle.std.specs.Prelude.{Bool, None, Option, Some, false, true, ◌≡◌}
+use Rattle.validation_window.specs.declared.refusal.Refusal.TheVariants as refused
+use Rattle.validation_window.specs.declared.refusal.Refusal.{Refusal}
+
+-- The log of these disks holds a state, and the pages that are held in memory are those of the disk of pages.
+pub record IsOpen (disks : Disks) (log : Place) (held : Held) : Type 0 where
+  pub state : State
+  pub holds : Holds disks log state
+  pub pages : WhereTold disks 2 (Agrees held.objects.pages)
+  pub keeps : Keeps held
+
+-- what is held is that of a repository, and the pending entry has a spelling
+pub record IsResting (held : Held) (pending : Option Entry) : Type 0 where
+  pub keeps : Keeps held
+  pub fits : IfSome pending (λ e. BodyFits (AnEntry e))
+
+abbrev pub IsOpenIn : Disks → Held → Phase → Type 0
+IsOpenIn disks held (Up log) = IsOpen disks log held
+IsOpenIn disks held (Down pending) = IsResting held pending
+IsOpenIn disks held (Torn entry) = Unit {0}
+
+-- its disks, with the falls of its stop counted as faults
+abbrev pub disks_of : {P : Type 0} → (P → Disks) → Stable P → Disks
+disks_of disks store = fused_disks disks store.parts
+
+-- While it is up it is consistent with its disks.
+pub record IsKept {P : Type 0} (disks : P → Disks) (store : Stable P) : Type 0 where
+  pub stands : IsOpenIn (disks_of disks store) store.held store.phase
+
+-- what is held in memory
+abbrev pub held_of : {P : Type 0} → Stable P → Held
+held_of store = store.held
+
+abbrev pub is_up_in : Phase → Bool
+is_up_in (Up log) = true
+is_up_in (Down pending) = false
+is_up_in (Torn entry) = false
+
+-- whether it is up
+abbrev pub is_up : {P : Type 0} → Stable P → Bool
+is_up store = is_up_in store.phase
+
+abbrev pub pending_in : Phase → Option Entry
+pending_in (Up log) = None
+pending_in (Down pending) = pending
+pending_in (Torn entry) = Some entry
+
+-- the entry that was being written when it went down
+abbrev pub pending : {P : Type 0} → Stable P → Option Entry
+pending store = pending_in store.phase
+
+abbrev pub lowered : Phase → Phase
+lowered (Up log) = Down None
+lowered (Down pending) = Down pending
+lowered (Torn entry) = Torn entry
+
+-- down, with what was pending
+abbrev pub down : {P : Type 0} → Stable P → Stable P
+down store = record store { phase = lowered store.phase }
+
+-- down, with this entry pending
+abbrev pub down_with : {P : Type 0} → Stable P → Option Entry → Stable P
+down_with store entry = record store { phase = Down entry }
+
+-- down, with an entry that couldn't be entered
+abbrev pub torn : {P : Type 0} → Stable P → Entry → Stable P
+torn store entry = record store { phase = Torn entry }
+
+-- it was up, and is down with this entry pending
+pub record IsFallen {P : Type 0} (old new : Stable P) (entry : Option Entry) : Type 0 where
+  pub was_up : is_up old ≡ true
+  pub phase : new.phase ≡ Down entry
+
+-- What stands after a refusal of a call that may have been writing an entry. One that was down is as it was.
+abbrev pub StandsAfter : {P : Type 0} → Stable P → Stable P → Option Entry → Refusal → Type 0
+StandsAfter old new entry (refused.Down r) = (is_up old ≡ false) × (new ≡ old)
+StandsAfter old new entry (refused.Stopped r) = IsFallen old new entry
+StandsAfter old new entry (refused.Damaged r k) = IsFallen old new entry
+StandsAfter old new entry refused.NoMemory = IsFallen old new entry
+StandsAfter old new entry (refused.Gone s) = ⊥
+StandsAfter old new entry (refused.Epoch n) = ⊥
+StandsAfter old new entry (refused.Blocked t) = ⊥
+StandsAfter old new entry (refused.TooOld t) = ⊥
+StandsAfter old new entry (refused.Stale x k) = ⊥
+StandsAfter old new entry (refused.Earlier t x) = ⊥
+StandsAfter old new entry (refused.Later t x) = ⊥
+StandsAfter old new entry (refused.Full n) = ⊥
+StandsAfter old new entry refused.ClockEnd = ⊥
+
+-- a refusal after which a repository is down
+abbrev pub is_fault : Refusal → Bool
+is_fault (refused.Stopped r) = true
+is_fault (refused.Damaged r k) = true
+is_fault refused.NoMemory = true
+is_fault (refused.Down r) = false
+is_fault (refused.Gone s) = false
+is_fault (refused.Epoch n) = false
+is_fault (refused.Blocked t) = false
+is_fault (refused.TooOld t) = false
+is_fault (refused.Stale x k) = false
+is_fault (refused.Earlier t x) = false
+is_fault (refused.Later t x) = false
+is_fault (refused.Full n) = false
+is_fault refused.ClockEnd = false
+
+-- it was up and is so
+pub record GoesOnUp {P : Type 0} (old new : Stable P) : Type 0 where
+  pub was_up : is_up old ≡ true
+  pub stays_up : is_up new ≡ true

@@ -1,0 +1,4 @@
+pub mod Flushes
+pub mod Kept
+pub mod Reach
+pub mod Taking

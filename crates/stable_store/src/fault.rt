@@ -1,0 +1,103 @@
+//! Why a repository wasn't opened, and how faults of the layers below are told.
+
+ghost use Rattle.std.specs.Prelude.{◌≡◌, true};
+ghost use Rattle.stable_store.specs.Kept.{is_fault};
+
+use disk_trait::Outage;
+use log_frame::LogFault;
+use page_store::StoreFault;
+use recovery::RecoverFault;
+use thor_value::NoMemory;
+use validation_window::Refusal;
+
+/// Why a repository wasn't opened.
+#[derive(Clone, Copy, Debug, PartialEq, Eq)]
+pub enum OpenCause {
+    /// A disk failed.
+    Failed,
+    /// Memory was not there.
+    NoMemory,
+}
+
+impl From<NoMemory> for OpenCause {
+    fn from(_refused: NoMemory) -> OpenCause {
+        OpenCause::NoMemory
+    }
+}
+
+impl From<Outage> for OpenCause {
+    fn from(outage: Outage) -> OpenCause {
+        match outage {
+            Outage::Failed => OpenCause::Failed,
+            Outage::NoMemory => OpenCause::NoMemory,
+        }
+    }
+}
+
+impl From<StoreFault> for OpenCause {
+    fn from(fault: StoreFault) -> OpenCause {
+        match fault {
+            StoreFault::NoMemory => OpenCause::NoMemory,
+            StoreFault::Failed | StoreFault::Damaged { .. } => OpenCause::Failed,
+        }
+    }
+}
+
+impl From<LogFault> for OpenCause {
+    fn from(fault: LogFault) -> OpenCause {
+        match fault {
+            LogFault::NoMemory => OpenCause::NoMemory,
+            LogFault::Failed | LogFault::Damaged { .. } => OpenCause::Failed,
+        }
+    }
+}
+
+/// A repository that wasn't opened: its parts, and why.
+#[derive(Drop)]
+pub struct OpenFault<P> {
+    pub parts: P,
+    pub cause: OpenCause,
+}
+
+/// The refusal of a call of the repository in which its log had a fault.
+pub(crate) fn of_log(repo: u8, fault: LogFault) -> Refusal
+    ensures { is_fault result ≡ true }
+{
+    match fault {
+        LogFault::Failed => Refusal::Stopped { repo },
+        LogFault::Damaged { place } => Refusal::Damaged { repo, place },
+        LogFault::NoMemory => Refusal::NoMemory,
+    }
+}
+
+/// The refusal of a call in which its pages had a fault.
+pub(crate) fn of_store(repo: u8, fault: StoreFault) -> Refusal
+    ensures { is_fault result ≡ true }
+{
+    match fault {
+        StoreFault::Failed => Refusal::Stopped { repo },
+        StoreFault::Damaged { place } => Refusal::Damaged { repo, place },
+        StoreFault::NoMemory => Refusal::NoMemory,
+    }
+}
+
+/// The refusal of a restart in which a disk had an outage.
+pub(crate) fn of_outage(repo: u8, outage: Outage) -> Refusal
+    ensures { is_fault result ≡ true }
+{
+    match outage {
+        Outage::Failed => Refusal::Stopped { repo },
+        Outage::NoMemory => Refusal::NoMemory,
+    }
+}
+
+/// The refusal of a restart that couldn't recover.
+pub(crate) fn of_recovery(repo: u8, fault: RecoverFault) -> Refusal
+    ensures { is_fault result ≡ true }
+{
+    match fault {
+        RecoverFault::Failed { disk: _ } => Refusal::Stopped { repo },
+        RecoverFault::Damaged { disk: _, place } => Refusal::Damaged { repo, place },
+        RecoverFault::NoMemory => Refusal::NoMemory,
+    }
+}

@@ -1,0 +1,168 @@
+//! How a repository that is down comes up.
+
+ghost use Rattle.std.specs.Prelude.{◌≡◌, IfErr, IfOk, OnErr, OnOk, false, true};
+ghost use Rattle.held_state.specs.Keeps.{Keeps};
+ghost use Rattle.log_bytes.specs.declared.state.State.{State};
+ghost use Rattle.stable_store.specs.Kept.{IsKept, IsOpen, IsResting, disks_of, held_of, is_fault, is_up, pending};
+ghost use Rattle.stable_store.specs.Taking.{AgreesWhere, CanTake, TakesFrom};
+ghost use Rattle.state_log.specs.Holds.{Holds};
+
+use crate::agreement::{Agreement, compare};
+use crate::fault::{OpenCause, OpenFault, of_outage, of_recovery};
+use crate::reach::reaches;
+use crate::stable::{Phase, Stable};
+use commit_log::Entry;
+use disk_trait::{Outage, Parts, restart_all};
+use held_state::HeldState;
+use recovery::{Recovered, recover};
+use state_log::CommitLog;
+use std::alloc::Global;
+use std::mem;
+use validation_window::Refusal;
+
+/// What a repository came up with.
+#[derive(Drop)]
+pub enum Taken {
+    /// With what was in memory.
+    Held,
+    /// With the entry that was pending, too. It is still to be entered.
+    Pending(Entry),
+}
+
+impl<P: Parts> Stable<P> {
+    /// A repository of what was recovered from its disks, which is up. `Failed`, too, where its disk of pages
+    /// doesn't reach the installed sides.
+    pub fn open(mut parts: P, recovered: Recovered) -> Result<Stable<P>, OpenFault<P>>
+        requires holds { (s : State) × Holds (P.disks parts) recovered.log s }
+        requires keeps { Keeps recovered.state }
+        requires pages { AgreesWhere recovered.state.objects.pages }
+        ensures kept { IfOk result (IsKept P.disks) }
+        ensures up { IfOk result (λ stable. is_up stable ≡ true) }
+        ensures held { IfOk result (λ stable. held_of stable ≡ recovered.state) }
+    {
+        let Recovered { state, log, .. } = recovered;
+        match reaches(&mut parts, state.objects().pages().sides()) {
+            Ok(true) => Ok(Stable::new(parts, log, state)),
+            Ok(false) | Err(Outage::Failed) => Err(OpenFault {
+                parts,
+                cause: OpenCause::Failed,
+            }),
+            Err(Outage::NoMemory) => Err(OpenFault {
+                parts,
+                cause: OpenCause::NoMemory,
+            }),
+        }
+    }
+
+    /// Takes the repository down where it is up, crashes its disks, and takes over their log and objects,
+    /// where what they stand for agrees with what is held, or with that and the pending entry. Otherwise it
+    /// stays down, with the entry pending that was so. Want of memory, too, where there was none for an entry
+    /// that its log has.
+    pub fn restart(&mut self, alloc: Global, pick: u64) -> Result<Taken, Refusal>
+        requires kept { IsKept P.disks self.old }
+        ensures kept { IsKept P.disks self.new }
+        ensures up { OnOk result (is_up self.new ≡ true) }
+        ensures down { OnErr result (is_up self.new ≡ false) }
+        ensures fault { IfErr result (λ r. is_fault r ≡ true) }
+        ensures taken { IfOk result CanTake }
+        ensures held { OnOk result (held_of self.new ≡ record (held_of self.old) { objects = (held_of self.new).objects }) }
+        ensures pending { IfOk result (TakesFrom (pending self.old)) }
+        ensures rests { OnErr result (held_of self.new ≡ held_of self.old) }
+    {
+        self.parts.disarm();
+        self.take_down();
+        let recovered = self.recover(alloc, pick)?;
+        match mem::replace(&mut self.phase, Phase::Down { pending: None }) {
+            Phase::Up { log: _ } => Err(Refusal::NoMemory),
+            Phase::Down { pending } => self.take_over(recovered, pending),
+            Phase::Torn { entry } => {
+                self.set_phase(Phase::Torn { entry });
+                Err(Refusal::NoMemory)
+            }
+        }
+    }
+
+    /// Crashes the disks and reads what they stand for.
+    fn recover(&mut self, alloc: Global, pick: u64) -> Result<Recovered, Refusal>
+        ensures phase { self.new.phase ≡ self.old.phase }
+        ensures held { held_of self.new ≡ held_of self.old }
+        ensures fault { IfErr result (λ r. is_fault r ≡ true) }
+        ensures opened { IfOk result (λ r. IsOpen (disks_of P.disks self.new) r.log r.state) }
+    {
+        let repo = self.repo();
+        let mob_limit = self.held.objects().mob().limit();
+        if let Err(outage) = restart_all(&mut self.parts, pick) {
+            return Err(of_outage(repo, outage));
+        }
+        match recover(alloc, &mut self.parts, mob_limit) {
+            Ok(Some(recovered)) => self.reached(recovered),
+            Ok(None) => Err(Refusal::Damaged { repo, place: 0 }),
+            Err(fault) => Err(of_recovery(repo, fault)),
+        }
+    }
+
+    /// What was recovered, where the disk of pages reaches the installed sides.
+    fn reached(&mut self, recovered: Recovered) -> Result<Recovered, Refusal>
+        requires holds { (s : State) × Holds (disks_of P.disks self.old) recovered.log s }
+        requires keeps { Keeps recovered.state }
+        requires pages { AgreesWhere recovered.state.objects.pages }
+        ensures phase { self.new.phase ≡ self.old.phase }
+        ensures held { held_of self.new ≡ held_of self.old }
+        ensures fault { IfErr result (λ r. is_fault r ≡ true) }
+        ensures opened { IfOk result (λ r. IsOpen (disks_of P.disks self.new) r.log r.state) }
+    {
+        let repo = self.repo();
+        match reaches(&mut self.parts, recovered.state.objects().pages().sides()) {
+            Ok(true) => Ok(recovered),
+            Ok(false) => Err(Refusal::Damaged { repo, place: 0 }),
+            Err(outage) => Err(of_outage(repo, outage)),
+        }
+    }
+
+    /// Takes the log and the objects over. The rest is in memory, up to the pending entry.
+    fn take_over(&mut self, recovered: Recovered, pending: Option<Entry>) -> Result<Taken, Refusal>
+        requires opened { IsOpen (disks_of P.disks self.old) recovered.log recovered.state }
+        requires rests { IsResting (held_of self.old) pending }
+        ensures kept { IsKept P.disks self.new }
+        ensures up { OnOk result (is_up self.new ≡ true) }
+        ensures down { OnErr result (is_up self.new ≡ false) }
+        ensures fault { IfErr result (λ r. is_fault r ≡ true) }
+        ensures taken { IfOk result CanTake }
+        ensures held { OnOk result (held_of self.new ≡ record (held_of self.old) { objects = (held_of self.new).objects }) }
+        ensures pending { IfOk result (TakesFrom pending) }
+        ensures rests { OnErr result (held_of self.new ≡ held_of self.old) }
+    {
+        let Recovered { state, log, .. } = recovered;
+        let agrees = compare(&self.held, pending.as_ref(), &state);
+        match (agrees, pending) {
+            (Agreement::AsHeld, _) => {
+                self.come_up(state, log);
+                Ok(Taken::Held)
+            }
+            (Agreement::WithPending, Some(entry)) => {
+                self.come_up(state, log);
+                Ok(Taken::Pending(entry))
+            }
+            (_, pending) => {
+                self.set_phase(Phase::Down { pending });
+                Err(Refusal::Damaged {
+                    repo: self.repo(),
+                    place: 0,
+                })
+            }
+        }
+    }
+
+    /// Comes up with recovered objects, and their log.
+    fn come_up(&mut self, state: HeldState, log: CommitLog)
+        requires repo { state.repo ≡ (held_of self.old).repo }
+        requires opened { IsOpen (disks_of P.disks self.old) log state }
+        requires keeps { Keeps (held_of self.old) }
+        ensures kept { IsKept P.disks self.new }
+        ensures up { is_up self.new ≡ true }
+        ensures held { held_of self.new ≡ record (held_of self.old) { objects = (held_of self.new).objects } }
+    {
+        self.held.take_objects(state);
+        self.set_phase(Phase::Up { log });
+    }
+}

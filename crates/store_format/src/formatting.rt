@@ -1,0 +1,106 @@
+//! A fresh repository is formatted.
+
+ghost use Rattle.std.specs.List.{AllByRecursion};
+ghost use Rattle.std.specs.Prelude.{◌≡◌, IfOk, None, true};
+ghost use Rattle.disk_trait.specs.AllDisks.{AllSettled};
+ghost use Rattle.disk_trait.specs.Disks.{Disks, WhereTold};
+ghost use Rattle.held_state.specs.Keeps.{Keeps};
+ghost use Rattle.held_state.specs.Said.{said};
+ghost use Rattle.log_bytes.specs.Checkpoint.{RootFits};
+ghost use Rattle.log_frame.specs.Log.{read_log};
+ghost use Rattle.stable_store.specs.Kept.{IsKept, held_of, is_up};
+ghost use Rattle.stable_store.specs.Taking.{AgreesWhere};
+ghost use Rattle.state_log.specs.Holds.{Holds};
+ghost use Rattle.store_format.specs.Fresh.{IsFresh};
+
+use crate::checked::have_names;
+use crate::headers::close_header;
+use crate::pages::put_roots;
+use crate::state::first_state;
+use class_defs::Setup;
+use disk_trait::Parts;
+use held_state::HeldState;
+use page_format::Sides;
+use recovery::Recovered;
+use stable_store::{OpenCause, OpenFault, Stable};
+use state_log::CommitLog;
+use std::alloc::Global;
+
+/// What is stable of a repository of a store that is new, with a buffer of so many bytes: its roots stand on its
+/// pages, and an empty log is begun. Want of memory, too, where the setup's roots have names or fields that no
+/// store can have.
+///
+/// Its disks are settled before. After a fault no log is open, or that of the first state.
+pub fn format<P: Parts>(
+    alloc: Global,
+    mut parts: P,
+    repo: u8,
+    repos: u8,
+    setup: &Setup,
+    mob: u32,
+) -> Result<Stable<P>, OpenFault<P>>
+    requires settled { AllSettled (P.disks parts) }
+    ensures kept { IfOk result (IsKept P.disks) }
+    ensures up { IfOk result (λ stable. is_up stable ≡ true) }
+    ensures fresh { IfOk result (λ stable. IsFresh repo repos setup.now mob (held_of stable)) }
+{
+    match put_store(alloc, &mut parts, repo, repos, setup, mob) {
+        Ok(recovered) => Stable::open(parts, recovered),
+        Err(cause) => Err(OpenFault { parts, cause }),
+    }
+}
+
+/// Puts the pages and the log of a new repository on its disks.
+fn put_store<P: Parts>(
+    alloc: Global,
+    parts: &mut P,
+    repo: u8,
+    repos: u8,
+    setup: &Setup,
+    mob: u32,
+) -> Result<Recovered, OpenCause>
+    requires settled { AllSettled (P.disks parts.old) }
+    ensures holds { IfOk result (λ r. Holds (P.disks parts.new) r.log (said r.state)) }
+    ensures keeps { IfOk result (λ r. Keeps r.state) }
+    ensures pages { IfOk result (λ r. AgreesWhere r.state.objects.pages) }
+    ensures fresh { IfOk result (λ r. IsFresh repo repos setup.now mob r.state) }
+{
+    if !have_names(setup.roots.as_slice()) {
+        return Err(OpenCause::NoMemory);
+    }
+    close_header(parts, 0)?;
+    close_header(parts, 1)?;
+    let installed = put_roots(alloc, parts, repo, setup)?;
+    begin_log(alloc, parts, repo, repos, setup, installed, mob)
+}
+
+/// Begins the log of a new repository with these pages, whose log disks have none.
+fn begin_log<P: Parts>(
+    alloc: Global,
+    parts: &mut P,
+    repo: u8,
+    repos: u8,
+    setup: &Setup,
+    installed: Sides,
+    mob: u32,
+) -> Result<Recovered, OpenCause>
+    requires settled { AllSettled (P.disks parts.old) }
+    requires first { WhereTold (P.disks parts.old) 0 (λ bytes. read_log bytes ≡ None) }
+    requires second { WhereTold (P.disks parts.old) 1 (λ bytes. read_log bytes ≡ None) }
+    requires roots { AllByRecursion RootFits setup.now.roots }
+    ensures holds { IfOk result (λ r. Holds (P.disks parts.new) r.log (said r.state)) }
+    ensures keeps { IfOk result (λ r. Keeps r.state) }
+    ensures pages { IfOk result (λ r. AgreesWhere r.state.objects.pages) }
+    ensures fresh { IfOk result (λ r. IsFresh repo repos setup.now mob r.state) }
+{
+    let state = first_state(alloc, repo, repos, setup, installed)?;
+    let log = CommitLog::format(alloc, parts, &state)?;
+    match HeldState::of(alloc, state, mob) {
+        Ok(state) => Ok(Recovered {
+            state,
+            log,
+            count: 0,
+        }),
+        Err(_) => Err(OpenCause::NoMemory),
+    }
+}

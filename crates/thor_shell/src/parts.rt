@@ -1,0 +1,51 @@
+//! The disks and clocks of repositories.
+
+use disk_trait::{FileParts, MemParts, TickClock};
+use std::alloc::Global;
+use std::str;
+use thor_value::{NoMemory, Text};
+
+/// Repositories in memory, all of them empty.
+pub fn memory(alloc: Global, repos: u8) -> Result<Vec<MemParts<TickClock>>, NoMemory> {
+    let mut parts = Vec::new(alloc);
+    for _ in 0..repos {
+        parts.push(MemParts::new(
+            Vec::new(alloc),
+            Vec::new(alloc),
+            Vec::new(alloc),
+            Vec::new(alloc),
+            TickClock::new(1),
+        ))?;
+    }
+    Ok(parts)
+}
+
+/// Repositories in a folder, three files each. A file that isn't there is made. Where one couldn't be opened,
+/// each call on that disk fails.
+pub fn files(
+    rt: HostRuntime,
+    folder: &Text,
+    repos: u8,
+) -> Result<Vec<FileParts<TickClock>>, NoMemory> {
+    let alloc = rt.alloc();
+    let Ok(folder) = str::from_utf8(folder.as_slice()) else {
+        return Err(NoMemory);
+    };
+    let mut parts = Vec::new(alloc);
+    for repo in 0..repos {
+        let log0 = format!(in alloc; "{folder}/{repo}.log0")?;
+        let log1 = format!(in alloc; "{folder}/{repo}.log1")?;
+        let pages = format!(in alloc; "{folder}/{repo}.pages")?;
+        parts.push(FileParts::open(&rt, &log0, &log1, &pages, TickClock::new(1)))?;
+    }
+    Ok(parts)
+}
+
+/// Repositories whose files can't be opened: each call on their disks fails, and nothing is touched.
+pub fn closed(rt: HostRuntime, repos: u8) -> Result<Vec<FileParts<TickClock>>, NoMemory> {
+    let mut parts = Vec::new(rt.alloc());
+    for _ in 0..repos {
+        parts.push(FileParts::open(&rt, "", "", "", TickClock::new(1)))?;
+    }
+    Ok(parts)
+}

@@ -1,5 +1,0 @@
-use Rattle.thor_top.proofs.NamedUpgrades.{written_names}
-use Rattle.thor_top.proofs.epoch_laws.upgrades_of_scripts_name_classes.Goals as goal
-
-pub returns : goal.returns
-returns c = written_names

@@ -1,7 +1,0 @@
-use Rattle.std.proofs.Common.{◌≡◌, take, map}
-use Rattle.class_defs.specs.Steps.{beginning}
-use Rattle.class_defs.specs.Types.{type_named}
-use Rattle.thor_top.proofs.opening.beginnings.Given as goal
-
-abbrev pub invariant-loop-field : goal.invariant-loop-field
-invariant-loop-field l = l.values ≡ map (λ f. beginning (type_named l.schema.classes f.type_name)) (take l.field-index l.field-items)

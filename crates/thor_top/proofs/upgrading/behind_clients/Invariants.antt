@@ -1,8 +1,0 @@
-use Rattle.std.specs.List.{flat_map}
-use Rattle.thor_top.specs.Upgrading.{upgrade_in}
-use Rattle.thor_top.proofs.UpgradingLaws.{Standing}
-use Rattle.thor_top.proofs.upgrading.behind_clients.Given as goal
-
--- the upgrades to come lead on from here
-abbrev pub invariant-loop-client : goal.invariant-loop-client
-invariant-loop-client l = Standing (flat_map upgrade_in) l.blocks l.fn.schema.schema l.fn.schema.repos l.clients l.client-index l.standing

@@ -1,7 +1,0 @@
-use Rattle.thor_top.specs.Upgrading.{upgrade_in}
-use Rattle.thor_top.proofs.UpgradingLaws.{Standing}
-use Rattle.thor_top.proofs.upgrading.behind_items.Given as goal
-
--- the upgrades to come lead on from here
-abbrev pub invariant-loop-item : goal.invariant-loop-item
-invariant-loop-item l = Standing upgrade_in l.blocks l.fn.schema.schema l.fn.schema.repos l.items l.item-index l.standing

@@ -1,0 +1,29 @@
+-- With what a run begins (this project's): the schemas of the opened store and the store itself. A fresh store is opened by
+-- the setup of the script; one that was there is opened as it stands, by a script without a setup.
+use Rattle.std.specs.Prelude.{◌≡◌, ℕ, [], Option, Some, None, length}
+use Rattle.class_defs.specs.declared.declarations.Declarations.{Declarations}
+use Rattle.class_defs.specs.declared.store.Plain.{Plain}
+use Rattle.class_defs.specs.declared.store.Schemas.{Schemas}
+use Rattle.script_check.specs.Judging.{KeepsRules}
+use Rattle.script_check.specs.Opened.{opened, schema_of}
+use Rattle.script_check.specs.Upgrading.{last_schema}
+use Rattle.script_parse.specs.declared.script.Script.{Script}
+
+-- the schemas of the store that a setup opens
+abbrev pub first_schemas : Declarations → Schemas
+first_schemas setup = record { first = schema_of setup; upgraded = [] }
+
+-- the schemas of the opened store, up to its epoch
+abbrev pub IsBase : Option Declarations → Schemas → Type 0
+IsBase (Some setup) base = base ≡ first_schemas setup
+IsBase None base = Unit {0}
+
+-- the opened store
+abbrev pub IsStore : Option Declarations → Schemas → Plain → Type 0
+IsStore (Some setup) base store = store ≡ opened (schema_of setup)
+IsStore None base store = store.epoch ≡ length base.upgraded
+
+-- the script breaks no rule over so many repositories, on a store with these schemas
+pub record IsAccepted (repos : ℕ) (script : Script) (base : Schemas) : Type 0 where
+  pub base_is : IsBase script.setup base
+  pub keeps : KeepsRules (last_schema base) repos script

@@ -1,0 +1,29 @@
+ghost use Rattle.std.specs.Prelude.{◌≡◌};
+
+use crate::reply::Reply;
+use std::alloc::Global;
+use thor_value::NoMemory;
+use trace_record::Traces;
+
+/// What the program has to write, and what is left of the run.
+#[derive(Drop)]
+pub struct Answered<P> {
+    /// What it has to write, where memory was there.
+    pub reply: Result<Reply, NoMemory>,
+    /// The parts, in their order.
+    pub parts: Vec<P>,
+    /// What happened at each repository; nothing where no run was made.
+    pub traces: Traces,
+}
+
+/// A reply to a script with which no run was made.
+pub fn unplayed<P>(alloc: Global, reply: Result<Reply, NoMemory>, parts: Vec<P>) -> Answered<P>
+    ensures reply { result.reply ≡ reply }
+    ensures parts { result.parts ≡ parts }
+{
+    Answered {
+        reply,
+        parts,
+        traces: Traces::new(alloc),
+    }
+}
