@@ -1,13 +1,15 @@
 ghost use Rattle.std.specs.Prelude.{◌≡◌, ◌≤◌, None, IfOk, IfSome, length, vec_len};
 ghost use Rattle.cluster_core.specs.Counts.{parts_in};
+ghost use Rattle.generator.specs.Bank.{script_text};
 ghost use Rattle.outside.specs.Faults.{Rose};
 ghost use Rattle.script_check.specs.Upgrading.{upgrades_of};
 ghost use Rattle.script_parse.specs.Script.{HasFew};
 ghost use Rattle.serial_model.specs.Replays.{AreMade};
 ghost use Rattle.thor_top.specs.Opening.{IsAccepted, IsBase};
-ghost use Rattle.thor_top.specs.Top.{IsOverLimit, IsWithinLimits, Says, SaysOf, Tells, TellsOf, Wrote};
+ghost use Rattle.thor_top.specs.Top.{IsOverLimit, IsWithinLimits, Says, SaysOf, SaysRead, Tells, TellsOf, Wrote};
 
 use crate::answered::{Answered, unplayed};
+use crate::form::Form;
 use crate::playing::play;
 use crate::reply::{Reply, limited, refused, says, unopened};
 use crate::starting::base_of;
@@ -16,6 +18,7 @@ use class_defs::Schemas;
 use cluster_core::{ClusterFault, Found};
 use command_words::{Command, Plan, WordsFault, read_words};
 use disk_trait::Parts;
+use generator::generate;
 use outside::{ReadAll, Sink, Source, read_all, write_all};
 use script_check::{judge, last_schema, upgrade_count};
 use script_parse::{ReadError, Refusal, Script, read_script};
@@ -92,7 +95,8 @@ fn accepted<P: Parts>(
             says(alloc, Status::Done, b"ok\n"),
             found.into_parts(),
         ),
-        Command::Play => play(alloc, plan, script, base, found),
+        Command::Play => play(alloc, plan, Form::Report, script, base, found),
+        Command::Gen { n: _ } => play(alloc, plan, Form::Summary, script, base, found),
     }
 }
 
@@ -224,7 +228,7 @@ fn read_and_reply<S: Source, P: Parts>(
     source: &mut S,
     parts: Vec<P>,
 ) -> Answered<P>
-    ensures reply { IfOk result.reply (λ reply. SaysOf plan.now (record { left = S.left source.old; faults = S.faults source.old }) (record { left = S.left source.new; faults = S.faults source.new }) reply.status reply.text) }
+    ensures reply { IfOk result.reply (λ reply. SaysRead plan.now (record { left = S.left source.old; faults = S.faults source.old }) (record { left = S.left source.new; faults = S.faults source.new }) reply.status reply.text) }
     ensures parts { vec_len result.parts ≡ vec_len parts }
 {
     match read_all(alloc, source, SCRIPT_LIMIT) {
@@ -234,6 +238,36 @@ fn read_and_reply<S: Source, P: Parts>(
         }
         Err(ReadAll::Over) => unplayed(alloc, limited(alloc, SCRIPT_LIMIT as u64), parts),
         Err(ReadAll::NoMemory) => unplayed(alloc, Err(NoMemory), parts),
+    }
+}
+
+/// Does what a plan asks for with the generated script of a number.
+fn generate_and_reply<P: Parts>(alloc: Global, plan: &Plan, n: u16, parts: Vec<P>) -> Answered<P>
+    ensures reply { IfOk result.reply (λ reply. Tells plan.now (script_text n plan.now.repos) reply.status reply.text) }
+    ensures parts { vec_len result.parts ≡ vec_len parts }
+{
+    if plan.repos == 0 {
+        return unplayed(alloc, Err(NoMemory), parts);
+    }
+    match generate(alloc, n, plan.repos) {
+        Ok(text) => reply_to_bytes(alloc, plan, text.as_bytes(), parts),
+        Err(NoMemory) => unplayed(alloc, Err(NoMemory), parts),
+    }
+}
+
+/// Does what a plan asks for, with the script of the source or, where a number is given, with the generated one.
+fn reply_by_plan<S: Source, P: Parts>(
+    alloc: Global,
+    plan: &Plan,
+    source: &mut S,
+    parts: Vec<P>,
+) -> Answered<P>
+    ensures reply { IfOk result.reply (λ reply. SaysOf plan.now (record { left = S.left source.old; faults = S.faults source.old }) (record { left = S.left source.new; faults = S.faults source.new }) reply.status reply.text) }
+    ensures parts { vec_len result.parts ≡ vec_len parts }
+{
+    match plan.command {
+        Command::Check | Command::Play => read_and_reply(alloc, plan, source, parts),
+        Command::Gen { n } => generate_and_reply(alloc, plan, n, parts),
     }
 }
 
@@ -250,7 +284,7 @@ fn answer<S: Source, P: Parts>(
     match read_words(alloc, words) {
         Ok(plan) => {
             if usize::from(plan.repos) == parts.len() {
-                read_and_reply(alloc, &plan, source, parts)
+                reply_by_plan(alloc, &plan, source, parts)
             } else {
                 unplayed(alloc, says(alloc, Status::Words, b"words\n"), parts)
             }
@@ -263,8 +297,9 @@ fn answer<S: Source, P: Parts>(
 /// The program: reads a script from the source, does with it what the words ask for, on the parts of as many
 /// repositories, and writes the answer to the sink.
 ///
-/// `check` tells whether the script breaks a rule, and `play` runs it. The text that is written ends in a
-/// newline. The parts come back in every case.
+/// `check` tells whether the script breaks a rule, and `play` runs it. `gen` runs the generated script of a number
+/// without reading the source, and writes a summary. The text that is written ends in a newline. The parts come
+/// back in every case.
 pub fn thor<S: Source, K: Sink, P: Parts>(
     alloc: Global,
     words: &[Text],
