@@ -1,4 +1,5 @@
 ghost use Rattle.std.specs.Prelude.{◌≡◌, ◌≤◌, List, None, Some, IfOk, IfSome, length, vec_len};
+ghost use Rattle.std.specs.String.{string_bytes};
 ghost use Rattle.cluster_core.specs.Counts.{HasParts, parts_in};
 ghost use Rattle.cluster_core.specs.Same.{AreSame};
 ghost use Rattle.command_words.specs.Words.{plan_of};
@@ -254,16 +255,23 @@ fn read_and_reply<S: Source, P: Parts>(
     }
 }
 
+/// The generated script of a number over so many repositories, of which there is at least one.
+fn generated(alloc: Global, n: u16, repos: u8) -> Result<String, NoMemory>
+    ensures { IfOk result (λ text. string_bytes text ≡ script_text n repos) }
+{
+    if repos == 0 {
+        return Err(NoMemory);
+    }
+    generate(alloc, n, repos)
+}
+
 /// Does what a plan asks for with the generated script of a number.
 fn generate_and_reply<P: Parts>(alloc: Global, plan: &Plan, n: u16, parts: Vec<P>) -> Answered<P>
     ensures reply { IfOk result.reply (λ reply. Tells plan.now (script_text n plan.now.repos) reply.status reply.text) }
     ensures parts { vec_len result.parts ≡ vec_len parts }
     ensures kept { WritesNothing plan.now.command result.reply → AreSame P.disks parts.items result.parts.items }
 {
-    if plan.repos == 0 {
-        return untouched(alloc, Err(NoMemory), parts);
-    }
-    match generate(alloc, n, plan.repos) {
+    match generated(alloc, n, plan.repos) {
         Ok(text) => reply_to_bytes(alloc, plan, text.as_bytes(), parts),
         Err(NoMemory) => untouched(alloc, Err(NoMemory), parts),
     }
@@ -317,6 +325,7 @@ fn answer<S: Source, P: Parts>(
 /// `check` tells whether the script breaks a rule, and `play` runs it. `gen` runs the generated script of a number
 /// without reading the source, and writes a summary. The text that is written ends in a newline. The parts come
 /// back in every case. A check leaves their disks as they were, and so does what refuses words, script or store.
+#[tactic(auto, using(crate::proofs::TopLaws::says_fault))]
 pub fn thor<S: Source, K: Sink, P: Parts>(
     alloc: Global,
     words: &[Text],
