@@ -1,5 +1,7 @@
 -- The disk of pages is read beside an open log.
+use Rattle.cluster_core.specs.Same.{Same}
 use Rattle.cluster_core.specs.Recovered.{HasBytes, IsRecovered, Stays}
+use Rattle.cluster_core.proofs.Syncing.{same_beside}
 use Rattle.disk_trait.specs.AllDisks.{AllSettled}
 use Rattle.disk_trait.specs.Disks.{Disks}
 use Rattle.disk_trait.proofs.Runs.{alone_none, alone_then}
@@ -65,3 +67,7 @@ one_side p s q t n Equal is within found =
 -- a disk that is long enough reaches one installed side
 pub reaches_one : (page side : ℕ) (disk : List ℕ) → place_of page side + page_size ≤ length disk → ReachesSides ((page, side) ∷ []) disk
 reaches_one page side disk within = λ q t found. one_side page side q t (length disk) (nat_cmp q page) refl within found
+
+-- what was read alone is as it was
+pub same_on : (old new : Disks) → Stays old new → Same old new
+same_on old new stays = same_beside old new 2 stays.alone stays.content stays.crash

@@ -5,8 +5,8 @@ use Rattle.held_state.specs.Said.{said}
 use Rattle.state_log.specs.Holds.{Holds}
 use Rattle.cluster_core.proofs.repository.read_repository.Goals as goal
 
-pub returns : goal.returns
-returns g c =
+pub returns-clause-found : goal.returns-clause-found
+returns-clause-found g c =
     let r = c.in-Ok-Some.recovered in
     let holds : Holds (g.P.Parts.disks c.recover.new.parts) r.log (said r.state) = rw c.in-Ok-Some.field-0-is at c.in-Ok-Some.ensures.holds in
     let keeps : Keeps r.state = rw c.in-Ok-Some.field-0-is at c.in-Ok-Some.ensures.keeps in
