@@ -13,7 +13,7 @@ use std::marker::Model;
 
 /// A repository as its logs tell it, with its parts: what was recovered is what its disks stand for.
 #[derive(Drop)]
-pub(crate) struct Known<P: Parts> {
+pub struct Known<P: Parts> {
     parts: P,
     recovered: Recovered,
     /// The page behind the last installed one that has objects.

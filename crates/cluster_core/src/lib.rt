@@ -2,6 +2,7 @@
 #![tactic(auto)]
 
 mod accepting;
+mod apart;
 mod calls;
 mod cluster;
 mod draining;
@@ -25,8 +26,10 @@ mod settled;
 mod settling;
 
 pub use accepting::with_upgrades;
+pub use apart::Emptied;
 pub use cluster::Cluster;
 pub use fault::{ClusterFault, Unopened};
 pub use finishing::{Finished, Ran};
 pub use found::Found;
 pub use plan::{Plan, Start};
+pub use seat::Seat;

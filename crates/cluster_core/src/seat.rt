@@ -13,7 +13,7 @@ use repo_core::{OpenCause, OpenFault, Repo};
 
 /// What stands at a repository's place, while a store is opened and while it is open.
 #[derive(Drop)]
-pub(crate) enum Seat<P: Parts> {
+pub enum Seat<P: Parts> {
     /// Its parts, as they came, or as they came back from an opening that failed.
     Parts(P),
     /// The parts of a fresh repository.

@@ -11,7 +11,7 @@ use std::marker::Model;
 
 /// The parts of a repository whose disks are settled: a crash leaves of them what a read gives.
 #[derive(Drop)]
-pub(crate) struct Settled<P: Parts> {
+pub struct Settled<P: Parts> {
     parts: P,
 }
 
