@@ -24,34 +24,38 @@ pub(crate) fn beside<'a, R: Threads + Wait + Sync, P: Parts + Send, G: Gate + Sy
     events: &[Event],
 ) -> Result<Vec<FrontEnd>, NoMemory> {
     let rt = locks.rt;
-    thread::scope(thread::scope_env(), rt, |scope| -> Result<Vec<FrontEnd>, NoMemory> {
-        let mut started = Vec::with_capacity(alloc, jobs.len())?;
-        let mut ended = Vec::with_capacity(alloc, jobs.len())?;
-        let mut left = Vec::with_capacity(alloc, flushers.len())?;
-        for flusher in flushers {
-            match scope.spawn(move || flush_when_prompted(flusher)) {
-                Ok(_) => {}
-                Err(refused) => left.push(refused.value)?,
+    thread::scope(
+        thread::scope_env(),
+        rt,
+        |scope| -> Result<Vec<FrontEnd>, NoMemory> {
+            let mut started = Vec::with_capacity(alloc, jobs.len())?;
+            let mut ended = Vec::with_capacity(alloc, jobs.len())?;
+            let mut left = Vec::with_capacity(alloc, flushers.len())?;
+            for flusher in flushers {
+                match scope.spawn(move || flush_when_prompted(flusher)) {
+                    Ok(_) => {}
+                    Err(refused) => left.push(refused.value)?,
+                }
             }
-        }
-        for job in jobs {
-            let client = scope.spawn(move || play_out(job));
-            started.push(client.map_err(|refused| refused.value))?;
-        }
-        let restarted = restart_all(locks, events);
-        for client in started {
-            let client = match client {
-                Ok(thread) => thread.join(rt),
-                Err(run) => run(),
-            };
-            ended.push(client)?;
-        }
-        for flush in left {
-            flush();
-        }
-        restarted?;
-        all_of(alloc, ended)
-    })
+            for job in jobs {
+                let client = scope.spawn(move || play_out(job));
+                started.push(client.map_err(|refused| refused.value))?;
+            }
+            let restarted = restart_all(locks, events);
+            for client in started {
+                let client = match client {
+                    Ok(thread) => thread.join(rt),
+                    Err(run) => run(),
+                };
+                ended.push(client)?;
+            }
+            for flush in left {
+                flush();
+            }
+            restarted?;
+            all_of(alloc, ended)
+        },
+    )
 }
 
 /// All clients, where none met want of memory.
