@@ -1,7 +1,7 @@
 -- The seats of a store beside its parts.
 use Rattle.cluster_core.proofs.Syncing.{same_none}
-use Rattle.cluster_core.specs.Same.{AreSame, Same}
-use Rattle.cluster_core.specs.Seated.{AreSeated, Gives, IsSeated}
+use Rattle.cluster_core.specs.Same.{AreSame}
+use Rattle.cluster_core.specs.Seated.{AreSeated, Gives}
 use Rattle.cluster_core.specs.declared.seat.Seat.{Seat}
 use Rattle.disk_trait.specs.Disks.{Disks}
 use Rattle.std.proofs.Common.{List, [], arith, ap, append_assoc, length, refl, subst, sym, ◌++◌, ◌∙◌, ◌≡◌, ◌∷◌}

@@ -3,7 +3,7 @@ use Rattle.disk_trait.specs.AllDisks.{AllSettled, LeavesAll, MayLeaveAll, SameCo
 use Rattle.disk_trait.specs.Disks.{Disks, IsSettled, MayLeave, NoNewImage, OnDisk}
 use Rattle.cluster_core.specs.Same.{Same}
 use Rattle.disk_trait.proofs.Several.{all_now, content_stays, settled_beside}
-use Rattle.std.proofs.Common.{List, arith, inl, inr, refl, subst, suc, sym, zero, ◌<◌, ◌∙◌, ◌≡◌, ◌≢◌, ℕ}
+use Rattle.std.proofs.Common.{List, arith, inl, inr, refl, subst, suc, sym, zero, ◌∙◌, ◌≡◌, ◌≢◌, ℕ}
 use Rattle.std.proofs.lemmas.Bool.{cases_eq}
 
 not_one : ◌≢◌ {A = ℕ} 0 1
