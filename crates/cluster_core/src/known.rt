@@ -1,6 +1,7 @@
 //! A repository as an opening has recovered it.
 
 ghost use Rattle.cluster_core.specs.Recovered.{IsRecovered};
+ghost use Rattle.std.specs.Prelude.{◌≡◌};
 
 use crate::repository::Read;
 use crate::settled::Settled;
@@ -12,7 +13,7 @@ use std::marker::Model;
 
 /// A repository as its logs tell it, with its parts: what was recovered is what its disks stand for.
 #[derive(Drop)]
-pub(crate) struct Known<P: Parts> {
+pub struct Known<P: Parts> {
     parts: P,
     recovered: Recovered,
     /// The page behind the last installed one that has objects.
@@ -33,6 +34,7 @@ impl<P: Parts> Known<P> {
     /// What was recovered from these parts.
     pub(crate) fn new(parts: P, recovered: Recovered, behind: u32) -> Known<P>
         requires { IsRecovered (P.disks parts) recovered }
+        ensures { result ≡ parts }
     {
         Known {
             parts,
@@ -55,7 +57,9 @@ impl<P: Parts> Known<P> {
     }
 
     /// The parts.
-    pub(crate) fn into_parts(self) -> P {
+    pub(crate) fn into_parts(self) -> P
+        ensures { result ≡ self }
+    {
         let Known { parts, .. } = self;
         parts
     }

@@ -2,7 +2,6 @@
 
 ghost use Rattle.std.specs.Prelude.{vec_len, ◌≡◌, ℕ};
 
-use crate::calls;
 use crate::seat::Seat;
 use commit_log::Request;
 use disk_trait::Parts;
@@ -42,47 +41,80 @@ impl<P: Parts, N: Count> Model for Repos<P, N> {
 
 impl<P: Parts, N: Count> Port for Repos<P, N> {
     fn connect(&mut self, repo: u8, client: u8) -> Result<Welcome, Refusal> {
-        calls::connect(self.seats.as_mut_slice(), repo, client)
+        match self.seats.get_mut(usize::from(repo)) {
+            Some(seat) => seat.connect(repo, client),
+            None => Err(Refusal::Down { repo }),
+        }
     }
 
     fn fetch(&mut self, at: At, page: u32, upto: u64) -> Result<(), Refusal> {
-        calls::fetch(self.seats.as_mut_slice(), at, page, upto)
+        match self.seats.get_mut(usize::from(at.repo)) {
+            Some(seat) => seat.fetch(at, page, upto),
+            None => Err(Refusal::Down { repo: at.repo }),
+        }
     }
 
     fn grant(&mut self, at: At) -> Result<(), Refusal> {
-        calls::grant(self.seats.as_mut_slice(), at)
+        match self.seats.get_mut(usize::from(at.repo)) {
+            Some(seat) => seat.grant(at),
+            None => Err(Refusal::Down { repo: at.repo }),
+        }
     }
 
     fn receive(&mut self, at: At) -> Result<Option<Message>, Refusal> {
-        calls::receive(self.seats.as_mut_slice(), at)
+        match self.seats.get_mut(usize::from(at.repo)) {
+            Some(seat) => seat.receive(at),
+            None => Err(Refusal::Down { repo: at.repo }),
+        }
     }
 
     fn draw(&mut self, at: At, floor: u64) -> Result<Ts, Refusal> {
-        calls::draw(self.seats.as_mut_slice(), at, floor)
+        match self.seats.get_mut(usize::from(at.repo)) {
+            Some(seat) => seat.draw(at, floor),
+            None => Err(Refusal::Down { repo: at.repo }),
+        }
     }
 
     fn prepare(&mut self, at: At, request: Request) -> Result<u64, Refusal> {
-        calls::prepare(self.seats.as_mut_slice(), at, request)
+        match self.seats.get_mut(usize::from(at.repo)) {
+            Some(seat) => seat.prepare(at, request),
+            None => Err(Refusal::Down { repo: at.repo }),
+        }
     }
 
     fn commit_one(&mut self, at: At, request: Request) -> Result<u64, Refusal> {
-        calls::commit_one(self.seats.as_mut_slice(), at, request)
+        match self.seats.get_mut(usize::from(at.repo)) {
+            Some(seat) => seat.commit_one(at, request),
+            None => Err(Refusal::Down { repo: at.repo }),
+        }
     }
 
     fn decide(&mut self, at: At, tx: Ts, commit: bool) -> Result<Verdict, Refusal> {
-        calls::decide(self.seats.as_mut_slice(), at, tx, commit)
+        match self.seats.get_mut(usize::from(at.repo)) {
+            Some(seat) => seat.decide(at, tx, commit),
+            None => Err(Refusal::Down { repo: at.repo }),
+        }
     }
 
     fn finish(&mut self, repo: u8, verdict: &Verdict) -> Result<Option<u64>, Refusal> {
-        calls::finish(self.seats.as_mut_slice(), repo, verdict)
+        match self.seats.get_mut(usize::from(repo)) {
+            Some(seat) => seat.finish(repo, verdict),
+            None => Err(Refusal::Down { repo }),
+        }
     }
 
     fn forget(&mut self, repo: u8, tx: Ts) -> Result<(), Refusal> {
-        calls::forget(self.seats.as_mut_slice(), repo, tx)
+        match self.seats.get_mut(usize::from(repo)) {
+            Some(seat) => seat.forget(repo, tx),
+            None => Err(Refusal::Down { repo }),
+        }
     }
 
     fn ask(&mut self, repo: u8, tx: Ts) -> Result<Asked, Refusal> {
-        calls::ask(self.seats.as_mut_slice(), repo, tx)
+        match self.seats.get_mut(usize::from(repo)) {
+            Some(seat) => seat.ask(repo, tx),
+            None => Err(Refusal::Down { repo }),
+        }
     }
 }
 

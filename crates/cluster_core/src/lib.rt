@@ -2,13 +2,13 @@
 #![tactic(auto)]
 
 mod accepting;
+mod apart;
 mod calls;
 mod cluster;
 mod draining;
 mod eager;
 mod events;
 mod fault;
-mod filling;
 mod finishing;
 mod fit;
 mod found;
@@ -26,8 +26,10 @@ mod settled;
 mod settling;
 
 pub use accepting::with_upgrades;
+pub use apart::Emptied;
 pub use cluster::Cluster;
 pub use fault::{ClusterFault, Unopened};
 pub use finishing::{Finished, Ran};
 pub use found::Found;
 pub use plan::{Plan, Start};
+pub use seat::Seat;

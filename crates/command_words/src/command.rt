@@ -16,6 +16,10 @@ pub enum Command {
     Check,
     /// To run the script, one event after the other.
     Play,
+    /// To run the script, each client and each repository on its own.
+    Run,
+    /// To run the generated script of this number, 1 to 1,000, and to add its accounts up.
+    Gen { n: u16 },
 }
 
 /// What the words of the program ask for.
@@ -92,6 +96,16 @@ fn small_within(greatest: u8, word: &[u8]) -> Option<u8>
 {
     match number_of(word) {
         Some(number) if 1 <= number && number <= u64::from(greatest) => Some(number as u8),
+        _ => None,
+    }
+}
+
+/// The same for a number below 65,536.
+fn count_within(greatest: u16, word: &[u8]) -> Option<u16>
+    ensures { result ≡ spec.number_within greatest word.now }
+{
+    match number_of(word) {
+        Some(number) if 1 <= number && number <= u64::from(greatest) => Some(number as u16),
         _ => None,
     }
 }
@@ -249,6 +263,7 @@ fn command_named(word: &[u8]) -> Option<Command>
     match word {
         b"check" => Some(Command::Check),
         b"play" => Some(Command::Play),
+        b"run" => Some(Command::Run),
         _ => None,
     }
 }
@@ -273,22 +288,10 @@ fn are_text(words: &[Text]) -> bool
     true
 }
 
-/// What the words ask for, which aren't those of the program's name.
-///
-/// Each option is given at most once, as two words or as one with `=`. `check` takes the repositories and the
-/// folder alone.
-pub fn read_words(alloc: Global, words: &[Text]) -> Result<Plan, WordsFault>
-    ensures { Gives (spec.plan_of words.now) result }
+/// The plan of a command behind which these words are the options.
+fn plan_with(alloc: Global, command: Command, words: &[Text]) -> Result<Plan, WordsFault>
+    ensures { Gives (spec.plan_with command words.now) result }
 {
-    if !are_text(words) {
-        return Err(WordsFault::Words);
-    }
-    let Some((first, options)) = words.split_first() else {
-        return Err(WordsFault::Words);
-    };
-    let Some(command) = command_named(first.as_slice()) else {
-        return Err(WordsFault::Words);
-    };
     let nothing = Given {
         tries: None,
         mob: None,
@@ -296,6 +299,49 @@ pub fn read_words(alloc: Global, words: &[Text]) -> Result<Plan, WordsFault>
         repos: None,
         store: None,
     };
-    let given = with_options(alloc, nothing, options)?;
+    let given = with_options(alloc, nothing, words)?;
     plan_for(command, given).ok_or(WordsFault::Words)
+}
+
+/// The plan of the words behind `gen`: a number and options.
+fn plan_of_gen(alloc: Global, words: &[Text]) -> Result<Plan, WordsFault>
+    ensures { Gives (spec.plan_of_gen words.now) result }
+{
+    let Some((number, options)) = words.split_first() else {
+        return Err(WordsFault::Words);
+    };
+    match count_within(1_000, number.as_slice()) {
+        Some(n) => plan_with(alloc, Command::Gen { n }, options),
+        None => Err(WordsFault::Words),
+    }
+}
+
+/// The plan of words that are UTF-8.
+fn plan_of_words(alloc: Global, words: &[Text]) -> Result<Plan, WordsFault>
+    ensures { Gives (spec.plan_of_words words.now) result }
+{
+    let Some((first, rest)) = words.split_first() else {
+        return Err(WordsFault::Words);
+    };
+    if first.as_slice() == b"gen".as_slice() {
+        return plan_of_gen(alloc, rest);
+    }
+    match command_named(first.as_slice()) {
+        Some(command) => plan_with(alloc, command, rest),
+        None => Err(WordsFault::Words),
+    }
+}
+
+/// What the words ask for, which aren't those of the program's name.
+///
+/// `gen` is followed by one number. Each option is given at most once, as two words or as one with `=`. `check`
+/// takes the repositories and the folder alone.
+pub fn read_words(alloc: Global, words: &[Text]) -> Result<Plan, WordsFault>
+    ensures { Gives (spec.plan_of words.now) result }
+{
+    if are_text(words) {
+        plan_of_words(alloc, words)
+    } else {
+        Err(WordsFault::Words)
+    }
 }

@@ -1,12 +1,14 @@
--- What a report tells of a run (this project's).
+-- What a report or a summary tells of a run (this project's).
 use Rattle.std.specs.List.{list_all, list_any}
-use Rattle.std.specs.Prelude.{◌≡◌, ◌==◌, ◌&&◌, ℕ, Bool, true, false, not, List, [], ◌∷◌, is_some, length}
+use Rattle.std.specs.Prelude.{◌≡◌, ◌==◌, ◌&&◌, ℕ, ℤ, Bool, true, false, not, List, [], ◌∷◌, is_some, length}
+use Rattle.class_defs.specs.Epochs.{classes_of}
 use Rattle.class_defs.specs.declared.store.Plain.{Plain}
 use Rattle.class_defs.specs.declared.store.Schemas.{Schemas}
 use Rattle.report_text.specs.Report.{report_text}
+use Rattle.run_summary.specs.Summary.{accounts_sum, summary_text}
 use Rattle.script_check.specs.Upgrading.{extended, upgrades_of}
 use Rattle.script_parse.specs.declared.script.Script.{Script}
-use Rattle.serial_model.specs.History.{IsLegal}
+use Rattle.serial_model.specs.History.{IsLegal, after}
 use Rattle.serial_model.specs.Outcomes.{Answers, all_items}
 use Rattle.serial_model.specs.declared.entries.Did.{Did}
 use Rattle.serial_model.specs.declared.entries.What.{What}
@@ -17,6 +19,8 @@ use Rattle.serial_model.specs.declared.outcomes.ItemOutcome.{ItemOutcome}
 use Rattle.serial_model.specs.declared.outcomes.ItemOutcome.TheVariants.{Done, Upgraded, Faulted, Refused, Unknown}
 use Rattle.thor_top.specs.Opening.{IsAccepted, IsStore}
 use Rattle.thor_top.specs.Texts.{TellsUnopened}
+use Rattle.thor_top.specs.declared.form.Form.{Form}
+use Rattle.thor_top.specs.declared.form.Form.TheVariants as form
 use Rattle.thor_top.specs.declared.status.Status.{Status}
 use Rattle.thor_top.specs.declared.status.Status.TheVariants as status
 
@@ -76,17 +80,27 @@ ends_at_once e = ends_at_once_as e.tries e.outcome
 
 -- ---- a run
 
--- The text is the report of outcomes and a history. The history is one serial history from the store: its timestamps strictly
+-- what the accounts are together in a store, under the classes of its epoch
+abbrev pub sum_in : Schemas → Plain → ℤ
+sum_in schemas store = accounts_sum (classes_of schemas store.epoch) store
+
+-- The text of a run: the report of its outcomes and its history, or their summary, with the sum of the accounts in the store
+-- behind the history.
+abbrev pub run_text : Form → Schemas → Plain → List Ended → List Did → List ℕ
+run_text form.Report schemas store ended history = report_text ended history
+run_text form.Summary schemas store ended history = summary_text ended (sum_in schemas (after schemas history store))
+
+-- The text is that of outcomes and a history. The history is one serial history from the store: its timestamps strictly
 -- rise, each entry gives the answer that its run gives on the store behind those before it, and upgrades transform all
 -- objects at their place. The outcomes are answered by it, each item's once and each client's in its order.
-pub record IsRun (schemas : Schemas) (store : Plain) (script : Script) (finished : Bool) (text : List ℕ) : Type 0 where
+pub record IsRun (form : Form) (schemas : Schemas) (store : Plain) (script : Script) (finished : Bool) (text : List ℕ) : Type 0 where
   pub history : List Did
   pub ended : List Ended
   pub legal : IsLegal schemas history store
   pub answers : Answers history (all_items script.clients) ended
   pub at_once : runs_alone script ≡ true → list_all ends_at_once ended ≡ true
   pub finished_is : finished ≡ list_all is_finished ended
-  pub written_out : text ≡ report_text ended history
+  pub written_out : text ≡ run_text form schemas store ended history
 
 -- the status of a report, by whether all items were finished
 abbrev pub status_of : Bool → Status
@@ -94,48 +108,48 @@ status_of true = status.Done
 status_of false = status.Unfinished
 
 -- the status tells whether all items were finished
-abbrev pub IsReported : Schemas → Plain → Script → Status → List ℕ → Type 0
-IsReported schemas store script status.Done text = IsRun schemas store script true text
-IsReported schemas store script status.Unfinished text = IsRun schemas store script false text
-IsReported schemas store script status.Words text = ⊥
-IsReported schemas store script status.Script text = ⊥
-IsReported schemas store script status.SourceFault text = ⊥
-IsReported schemas store script status.SinkFault text = ⊥
-IsReported schemas store script status.DiskFault text = ⊥
-IsReported schemas store script status.Damaged text = ⊥
-IsReported schemas store script status.Limit text = ⊥
-IsReported schemas store script status.NoMemory text = ⊥
+abbrev pub IsReported : Form → Schemas → Plain → Script → Status → List ℕ → Type 0
+IsReported form schemas store script status.Done text = IsRun form schemas store script true text
+IsReported form schemas store script status.Unfinished text = IsRun form schemas store script false text
+IsReported form schemas store script status.Words text = ⊥
+IsReported form schemas store script status.Script text = ⊥
+IsReported form schemas store script status.SourceFault text = ⊥
+IsReported form schemas store script status.SinkFault text = ⊥
+IsReported form schemas store script status.DiskFault text = ⊥
+IsReported form schemas store script status.Damaged text = ⊥
+IsReported form schemas store script status.Limit text = ⊥
+IsReported form schemas store script status.NoMemory text = ⊥
 
 -- what the status and its text tell of a store that was to be opened
-abbrev pub TellsOpened : Schemas → Plain → Script → Status → List ℕ → Type 0
-TellsOpened schemas store script status.Done text = IsRun schemas store script true text
-TellsOpened schemas store script status.Unfinished text = IsRun schemas store script false text
-TellsOpened schemas store script status.DiskFault text = TellsUnopened status.DiskFault text
-TellsOpened schemas store script status.Damaged text = ⊥
-TellsOpened schemas store script status.Words text = ⊥
-TellsOpened schemas store script status.Script text = ⊥
-TellsOpened schemas store script status.SourceFault text = ⊥
-TellsOpened schemas store script status.SinkFault text = ⊥
-TellsOpened schemas store script status.Limit text = ⊥
-TellsOpened schemas store script status.NoMemory text = ⊥
+abbrev pub TellsOpened : Form → Schemas → Plain → Script → Status → List ℕ → Type 0
+TellsOpened form schemas store script status.Done text = IsRun form schemas store script true text
+TellsOpened form schemas store script status.Unfinished text = IsRun form schemas store script false text
+TellsOpened form schemas store script status.DiskFault text = TellsUnopened status.DiskFault text
+TellsOpened form schemas store script status.Damaged text = ⊥
+TellsOpened form schemas store script status.Words text = ⊥
+TellsOpened form schemas store script status.Script text = ⊥
+TellsOpened form schemas store script status.SourceFault text = ⊥
+TellsOpened form schemas store script status.SinkFault text = ⊥
+TellsOpened form schemas store script status.Limit text = ⊥
+TellsOpened form schemas store script status.NoMemory text = ⊥
 
--- The text is the report of an accepted script's run, on the store that was opened.
-pub record IsReport (repos : ℕ) (script : Script) (finished : Bool) (text : List ℕ) : Type 0 where
+-- The text is that of an accepted script's run, on the store that was opened.
+pub record IsReport (form : Form) (repos : ℕ) (script : Script) (finished : Bool) (text : List ℕ) : Type 0 where
   pub base : Schemas
   pub store : Plain
   pub accepted : IsAccepted repos script base
   pub store_is : IsStore script.setup base store
-  pub run : IsRun (extended base (upgrades_of script.clients)) store script finished text
+  pub run : IsRun form (extended base (upgrades_of script.clients)) store script finished text
 
 -- what the status and its text tell of a run
-abbrev pub TellsRun : ℕ → Script → Status → List ℕ → Type 0
-TellsRun repos script status.Done text = IsReport repos script true text
-TellsRun repos script status.Unfinished text = IsReport repos script false text
-TellsRun repos script status.DiskFault text = TellsUnopened status.DiskFault text
-TellsRun repos script status.Damaged text = ⊥
-TellsRun repos script status.Words text = ⊥
-TellsRun repos script status.Script text = ⊥
-TellsRun repos script status.SourceFault text = ⊥
-TellsRun repos script status.SinkFault text = ⊥
-TellsRun repos script status.Limit text = ⊥
-TellsRun repos script status.NoMemory text = ⊥
+abbrev pub TellsRun : Form → ℕ → Script → Status → List ℕ → Type 0
+TellsRun form repos script status.Done text = IsReport form repos script true text
+TellsRun form repos script status.Unfinished text = IsReport form repos script false text
+TellsRun form repos script status.DiskFault text = TellsUnopened status.DiskFault text
+TellsRun form repos script status.Damaged text = ⊥
+TellsRun form repos script status.Words text = ⊥
+TellsRun form repos script status.Script text = ⊥
+TellsRun form repos script status.SourceFault text = ⊥
+TellsRun form repos script status.SinkFault text = ⊥
+TellsRun form repos script status.Limit text = ⊥
+TellsRun form repos script status.NoMemory text = ⊥

@@ -1,5 +1,6 @@
 -- What the program says (this project's): for each status the text that the sink takes, and when it comes.
 use Rattle.std.specs.Prelude.{◌≡◌, ◌⊎◌, ℕ, List, [], ◌∷◌, Option, Some, codes, ◌++◌, ◌≤◌, ◌<◌, length, true, false}
+use Rattle.generator.specs.Bank.{script_text}
 use Rattle.outside.specs.Faults.{Rose}
 use Rattle.outside.specs.Streams.{IsAtEnd, IsMoreThan, Put, PutFront, Took}
 use Rattle.class_defs.specs.declared.store.Schemas.{Schemas}
@@ -15,8 +16,9 @@ use Rattle.thor_top.specs.Reports.{IsReport}
 use Rattle.thor_top.specs.Texts.{TellsUnopened, limit_text}
 use Rattle.command_words.specs.Words.{plan_of}
 use Rattle.command_words.specs.declared.command.Command.{Command}
-use Rattle.command_words.specs.declared.command.Command.TheVariants.{Check, Play}
+use Rattle.command_words.specs.declared.command.Command.TheVariants.{Check, Play, Gen}
 use Rattle.command_words.specs.declared.command.Plan.{Plan}
+use Rattle.thor_top.specs.declared.form.Form.TheVariants as form
 use Rattle.thor_top.specs.declared.status.Status.{Status}
 use Rattle.thor_top.specs.declared.status.Status.TheVariants as status
 
@@ -31,12 +33,14 @@ pub record IsChecked (repos : ℕ) (script : Script) (text : List ℕ) : Type 0 
 -- what a command writes of an accepted script, where all items are finished
 abbrev pub IsDone : Command → ℕ → Script → List ℕ → Type 0
 IsDone Check repos script text = IsChecked repos script text
-IsDone Play repos script text = IsReport repos script true text
+IsDone Play repos script text = IsReport form.Report repos script true text
+IsDone (Gen n) repos script text = IsReport form.Summary repos script true text
 
 -- and where one was refused
 abbrev pub IsUnfinished : Command → ℕ → Script → List ℕ → Type 0
 IsUnfinished Check repos script text = ⊥
-IsUnfinished Play repos script text = IsReport repos script false text
+IsUnfinished Play repos script text = IsReport form.Report repos script false text
+IsUnfinished (Gen n) repos script text = IsReport form.Summary repos script false text
 
 -- ---- refused scripts
 
@@ -110,18 +114,32 @@ pub record Told : Type 0 where
 abbrev pub TellsBytes : Plan → Told → Told → Status → List ℕ → Type 0
 TellsBytes plan before after s text = (bytes : List ℕ) × (WasRead before.left after.left bytes × Tells plan bytes s text)
 
+-- what is told of the script that the source gives
+abbrev pub SaysRead : Plan → Told → Told → Status → List ℕ → Type 0
+SaysRead plan before after status.Done text = TellsBytes plan before after status.Done text
+SaysRead plan before after status.Unfinished text = TellsBytes plan before after status.Unfinished text
+SaysRead plan before after status.Script text = TellsBytes plan before after status.Script text
+SaysRead plan before after status.Limit text = TellsBytes plan before after status.Limit text ⊎ (IsMoreThan 8388608 before.left × (text ≡ limit_text 8388608))
+SaysRead plan before after status.DiskFault text = TellsBytes plan before after status.DiskFault text
+SaysRead plan before after status.Damaged text = TellsBytes plan before after status.Damaged text
+SaysRead plan before after status.SourceFault text = Rose before.faults after.faults × (text ≡ codes "source" ++ 10 ∷ [])
+SaysRead plan before after status.Words text = ⊥
+SaysRead plan before after status.SinkFault text = ⊥
+SaysRead plan before after status.NoMemory text = ⊥
+
+-- What is told of the generated script of a number: what is told of its bytes. The source is as it was.
+abbrev pub SaysGenerated : ℕ → Plan → Told → Told → Status → List ℕ → Type 0
+SaysGenerated n plan before after s text = (after ≡ before) × Tells plan (script_text n plan.repos) s text
+
+-- by the command: `check` and `play` read the source, `gen` doesn't
+abbrev pub SaysFor : Command → Plan → Told → Told → Status → List ℕ → Type 0
+SaysFor Check plan before after s text = SaysRead plan before after s text
+SaysFor Play plan before after s text = SaysRead plan before after s text
+SaysFor (Gen n) plan before after s text = SaysGenerated n plan before after s text
+
 -- what is true where the program ends with a status and has this text to write, by a plan
 abbrev pub SaysOf : Plan → Told → Told → Status → List ℕ → Type 0
-SaysOf plan before after status.Done text = TellsBytes plan before after status.Done text
-SaysOf plan before after status.Unfinished text = TellsBytes plan before after status.Unfinished text
-SaysOf plan before after status.Script text = TellsBytes plan before after status.Script text
-SaysOf plan before after status.Limit text = TellsBytes plan before after status.Limit text ⊎ (IsMoreThan 8388608 before.left × (text ≡ limit_text 8388608))
-SaysOf plan before after status.DiskFault text = TellsBytes plan before after status.DiskFault text
-SaysOf plan before after status.Damaged text = TellsBytes plan before after status.Damaged text
-SaysOf plan before after status.SourceFault text = Rose before.faults after.faults × (text ≡ codes "source" ++ 10 ∷ [])
-SaysOf plan before after status.Words text = ⊥
-SaysOf plan before after status.SinkFault text = ⊥
-SaysOf plan before after status.NoMemory text = ⊥
+SaysOf plan before after s text = SaysFor plan.command plan before after s text
 
 -- the words are a plan for so many repositories
 pub record IsPlan (words : List (List ℕ)) (count : ℕ) (plan : Plan) : Type 0 where

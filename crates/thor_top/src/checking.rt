@@ -1,21 +1,24 @@
-//! The check of what a run reports, made before anything of it is written.
+//! The check of what a run tells, made before anything of it is written.
 
 ghost use Rattle.std.specs.Prelude.{◌≡◌, IfOk, true};
 ghost use Rattle.std.specs.List.{list_all, list_any};
-ghost use Rattle.report_text.specs.Report.{report_text};
+ghost use Rattle.serial_model.specs.History.{after};
+ghost use Rattle.serial_model.specs.Replays.{AreMade};
 ghost use Rattle.thor_top.specs.Reports as spec;
 ghost use Rattle.thor_top.specs.Reports.{IsReported};
 ghost use Rattle.thor_value.specs.FiniteMap.{IsSorted};
 
+use crate::form::Form;
 use crate::reply::Reply;
 use crate::status::Status;
 use class_defs::{Plain, Schemas};
 use history_check::{Lines, checked_history};
 use report_text::print_report;
+use run_summary::{accounts_sum, print_summary};
 use script_parse::{Items, Script};
-use serial_model::{Cause, Dids, Ended, Ends, ItemOutcome, are_made};
+use serial_model::{Cause, Dids, Ended, Ends, ItemOutcome, ReplayError, are_made, replay};
 use std::alloc::Global;
-use thor_value::NoMemory;
+use thor_value::{NoMemory, Text};
 
 /// Whether an item was done or ended in a fault.
 fn is_finished(ended: &Ended) -> bool
@@ -138,21 +141,50 @@ fn status_of(finished: bool) -> Status
     }
 }
 
-/// The report of a history that was checked.
-fn written_out(alloc: Global, ends: &Ends, history: &Dids) -> Result<Reply, NoMemory>
-    ensures status { IfOk result (λ reply. reply.status ≡ spec.status_of (list_all spec.is_finished ends.now)) }
-    ensures text { IfOk result (λ reply. reply.text ≡ report_text ends.now history.now) }
+/// What the accounts are together in the store behind a history.
+fn sum_behind(
+    alloc: Global,
+    schemas: &Schemas,
+    store: &Plain,
+    history: &Dids,
+) -> Result<i64, NoMemory>
+    requires made { AreMade schemas.now }
+    requires sorted { IsSorted store.now.objects }
+    ensures { IfOk result (λ sum. sum ≡ spec.sum_in schemas.now (after schemas.now history.now store.now)) }
 {
-    Ok(Reply {
-        status: status_of(are_finished(ends.as_slice())),
-        text: print_report(alloc, ends, history)?,
-    })
+    match replay(alloc, history, store, schemas) {
+        Ok(end) => accounts_sum(alloc, schemas, &end),
+        Err(ReplayError::NotLegal { index: _ }) | Err(ReplayError::NoMemory) => Err(NoMemory),
+    }
 }
 
-/// The report of a run, where its history is a serial one from the store and answers the items. Where it isn't,
-/// nothing is reported: the answer is that of want of memory.
+/// The text of a run whose history was checked.
+fn run_text(
+    alloc: Global,
+    form: Form,
+    schemas: &Schemas,
+    store: &Plain,
+    ends: &Ends,
+    history: &Dids,
+) -> Result<Text, NoMemory>
+    requires made { AreMade schemas.now }
+    requires sorted { IsSorted store.now.objects }
+    ensures { IfOk result (λ text. text ≡ spec.run_text form schemas.now store.now ends.now history.now) }
+{
+    match form {
+        Form::Report => print_report(alloc, ends, history),
+        Form::Summary => {
+            let sum = sum_behind(alloc, schemas, store, history)?;
+            print_summary(alloc, ends, sum)
+        }
+    }
+}
+
+/// What is told of a run, where its history is a serial one from the store and answers the items. Where it isn't,
+/// nothing is told: the answer is that of want of memory.
 pub fn report(
     alloc: Global,
+    form: Form,
     schemas: &Schemas,
     store: &Plain,
     script: &Script,
@@ -160,13 +192,16 @@ pub fn report(
     ends: &Ends,
 ) -> Result<Reply, NoMemory>
     requires { IsSorted store.now.objects }
-    ensures { IfOk result (λ reply. IsReported schemas.now store.now script.now reply.status reply.text) }
+    ensures { IfOk result (λ reply. IsReported form schemas.now store.now script.now reply.status reply.text) }
 {
     if !are_made(schemas) || !is_unhindered(script, ends.as_slice()) {
         return Err(NoMemory);
     }
     match checked_history(alloc, schemas, store, &script.clients, lines, ends)? {
-        Some(history) => written_out(alloc, ends, &history),
+        Some(history) => Ok(Reply {
+            status: status_of(are_finished(ends.as_slice())),
+            text: run_text(alloc, form, schemas, store, ends, &history)?,
+        }),
         None => Err(NoMemory),
     }
 }

@@ -3,6 +3,7 @@
 
 mod answered;
 mod checking;
+mod form;
 mod playing;
 mod reply;
 mod starting;

@@ -10,6 +10,7 @@ ghost use Rattle.thor_value.specs.FiniteMap.{IsSorted};
 
 use crate::answered::{Answered, unplayed};
 use crate::checking::report;
+use crate::form::Form;
 use crate::reply::{Reply, unsettled};
 use class_defs::{Plain, Schemas, Setup};
 use cluster_core::{Cluster, ClusterFault, Finished, Found, Plan as Run, Ran, Start};
@@ -143,15 +144,16 @@ fn finished<P: Parts>(cluster: Cluster<P>, events: &[Event]) -> Finished<P>
     }
 }
 
-/// The report of what was run.
+/// What is told of what was run.
 fn reported(
     alloc: Global,
+    form: Form,
     script: &Script,
     yardstick: &Yardstick,
     ran: Result<Ran, NoMemory>,
 ) -> (Result<Reply, NoMemory>, Traces)
     requires { IsSorted yardstick.now.store.objects }
-    ensures { IfOk result.0 (λ reply. IsReported yardstick.now.schemas yardstick.now.store script.now reply.status reply.text) }
+    ensures { IfOk result.0 (λ reply. IsReported form yardstick.now.schemas yardstick.now.store script.now reply.status reply.text) }
 {
     match ran {
         Ok(
@@ -164,6 +166,7 @@ fn reported(
         ) => (
             report(
                 alloc,
+                form,
                 &yardstick.schemas,
                 &yardstick.store,
                 script,
@@ -179,19 +182,20 @@ fn reported(
 /// Opens the store that was found, and runs a script that breaks no rule on it.
 fn open_and_run<P: Parts>(
     alloc: Global,
+    form: Form,
     script: &Script,
     yardstick: &Yardstick,
     found: Found<P>,
     run: Run,
 ) -> Answered<P>
     requires { IsSorted yardstick.now.store.objects }
-    ensures reply { IfOk result.reply (λ reply. TellsOpened yardstick.now.schemas yardstick.now.store script.now reply.status reply.text) }
+    ensures reply { IfOk result.reply (λ reply. TellsOpened form yardstick.now.schemas yardstick.now.store script.now reply.status reply.text) }
     ensures parts { vec_len result.parts ≡ parts_in found }
 {
     match Cluster::open(alloc, found, run) {
         Ok(cluster) => {
             let Finished { parts, ran } = finished(cluster, script.events.as_slice());
-            let (reply, traces) = reported(alloc, script, yardstick, ran);
+            let (reply, traces) = reported(alloc, form, script, yardstick, ran);
             Answered {
                 reply,
                 parts,
@@ -202,17 +206,18 @@ fn open_and_run<P: Parts>(
     }
 }
 
-/// Runs a script that breaks no rule on the store that was found.
+/// Runs a script that breaks no rule on the store that was found, and tells of it in a form.
 pub fn play<P: Parts>(
     alloc: Global,
     plan: &Plan,
+    form: Form,
     script: &Script,
     base: &Schemas,
     found: Found<P>,
 ) -> Answered<P>
     requires accepted { IsAccepted plan.now.repos script.now base.now }
     requires made { AreMade base.now }
-    ensures reply { IfOk result.reply (λ reply. TellsRun plan.now.repos script.now reply.status reply.text) }
+    ensures reply { IfOk result.reply (λ reply. TellsRun form plan.now.repos script.now reply.status reply.text) }
     ensures parts { vec_len result.parts ≡ parts_in found }
 {
     let yardstick = match yardstick_of(alloc, script, base, &found) {
@@ -222,7 +227,7 @@ pub fn play<P: Parts>(
         }
     };
     match run_of(alloc, plan, script, base) {
-        Ok(run) => open_and_run(alloc, script, &yardstick, found, run),
+        Ok(run) => open_and_run(alloc, form, script, &yardstick, found, run),
         Err(NoMemory) => unplayed(alloc, Err(NoMemory), found.into_parts()),
     }
 }

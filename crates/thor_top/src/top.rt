@@ -1,13 +1,21 @@
-ghost use Rattle.std.specs.Prelude.{◌≡◌, ◌≤◌, None, IfOk, IfSome, length, vec_len};
-ghost use Rattle.cluster_core.specs.Counts.{parts_in};
+ghost use Rattle.std.specs.Prelude.{◌≡◌, ◌≤◌, List, None, Some, IfOk, IfSome, length, vec_len};
+ghost use Rattle.std.specs.String.{string_bytes};
+ghost use Rattle.cluster_core.specs.Counts.{HasParts, parts_in};
+ghost use Rattle.cluster_core.specs.Same.{AreSame};
+ghost use Rattle.command_words.specs.Words.{plan_of};
+ghost use Rattle.command_words.specs.declared.command.Command.TheVariants.{Check};
+ghost use Rattle.command_words.specs.declared.command.Plan.{Plan};
+ghost use Rattle.generator.specs.Bank.{script_text};
 ghost use Rattle.outside.specs.Faults.{Rose};
 ghost use Rattle.script_check.specs.Upgrading.{upgrades_of};
 ghost use Rattle.script_parse.specs.Script.{HasFew};
 ghost use Rattle.serial_model.specs.Replays.{AreMade};
+ghost use Rattle.thor_top.specs.Kept.{Refuses, RefusesBy, WritesNothing};
 ghost use Rattle.thor_top.specs.Opening.{IsAccepted, IsBase};
-ghost use Rattle.thor_top.specs.Top.{IsOverLimit, IsWithinLimits, Says, SaysOf, Tells, TellsOf, Wrote};
+ghost use Rattle.thor_top.specs.Top.{IsOverLimit, IsWithinLimits, Says, SaysOf, SaysRead, Tells, TellsOf, Wrote};
 
-use crate::answered::{Answered, unplayed};
+use crate::answered::{Answered, unplayed, untouched};
+use crate::form::Form;
 use crate::playing::play;
 use crate::reply::{Reply, limited, refused, says, unopened};
 use crate::starting::base_of;
@@ -16,6 +24,7 @@ use class_defs::Schemas;
 use cluster_core::{ClusterFault, Found};
 use command_words::{Command, Plan, WordsFault, read_words};
 use disk_trait::Parts;
+use generator::generate;
 use outside::{ReadAll, Sink, Source, read_all, write_all};
 use script_check::{judge, last_schema, upgrade_count};
 use script_parse::{ReadError, Refusal, Script, read_script};
@@ -85,6 +94,7 @@ fn accepted<P: Parts>(
     requires within { IsWithinLimits script.now }
     ensures reply { IfOk result.reply (λ reply. TellsOf plan.now script.now reply.status reply.text) }
     ensures parts { vec_len result.parts ≡ parts_in found }
+    ensures kept { (given : List P) → HasParts P.disks given found → WritesNothing plan.now.command result.reply → AreSame P.disks given result.parts.items }
 {
     match plan.command {
         Command::Check => unplayed(
@@ -92,7 +102,8 @@ fn accepted<P: Parts>(
             says(alloc, Status::Done, b"ok\n"),
             found.into_parts(),
         ),
-        Command::Play => play(alloc, plan, script, base, found),
+        Command::Play => play(alloc, plan, Form::Report, script, base, found),
+        Command::Gen { n: _ } => play(alloc, plan, Form::Summary, script, base, found),
     }
 }
 
@@ -110,6 +121,7 @@ fn judged_on<P: Parts>(
     requires within { IsWithinLimits script.now }
     ensures reply { IfOk result.reply (λ reply. TellsOf plan.now script.now reply.status reply.text) }
     ensures parts { vec_len result.parts ≡ parts_in found }
+    ensures kept { (given : List P) → HasParts P.disks given found → WritesNothing plan.now.command result.reply → AreSame P.disks given result.parts.items }
 {
     match judge(alloc, last_schema(base), script, plan.repos) {
         Ok(Some(refusal)) => unplayed(alloc, refused(alloc, refusal), found.into_parts()),
@@ -130,6 +142,7 @@ fn judged<P: Parts>(
     requires within { IsWithinLimits script.now }
     ensures reply { IfOk result.reply (λ reply. TellsOf plan.now script.now reply.status reply.text) }
     ensures parts { vec_len result.parts ≡ parts_in found }
+    ensures kept { (given : List P) → HasParts P.disks given found → WritesNothing plan.now.command result.reply → AreSame P.disks given result.parts.items }
 {
     if UPGRADE_LIMIT < base.upgraded.len() || !are_made(base) {
         return unplayed(alloc, Err(NoMemory), found.into_parts());
@@ -149,6 +162,7 @@ fn reply_found<P: Parts>(
     requires events { length script.now.events ≤ 1000000 }
     ensures reply { IfOk result.reply (λ reply. TellsOf plan.now script.now reply.status reply.text) }
     ensures parts { vec_len result.parts ≡ parts_in found }
+    ensures kept { (given : List P) → HasParts P.disks given found → WritesNothing plan.now.command result.reply → AreSame P.disks given result.parts.items }
 {
     match passed_limit(script, &found) {
         Some(limit) => unplayed(
@@ -179,6 +193,7 @@ fn reply_within<P: Parts>(
     requires within { IsWithinLimits script.now }
     ensures reply { IfOk result.reply (λ reply. TellsOf plan.now script.now reply.status reply.text) }
     ensures parts { vec_len result.parts ≡ parts_in found }
+    ensures kept { (given : List P) → HasParts P.disks given found → WritesNothing plan.now.command result.reply → AreSame P.disks given result.parts.items }
 {
     match base_of(alloc, &script.setup, &found) {
         Ok(Some(base)) => judged(alloc, plan, script, &base, found),
@@ -192,12 +207,13 @@ fn reply_to<P: Parts>(alloc: Global, plan: &Plan, script: &Script, parts: Vec<P>
     requires { HasFew script.now.setup }
     ensures reply { IfOk result.reply (λ reply. TellsOf plan.now script.now reply.status reply.text) }
     ensures parts { vec_len result.parts ≡ vec_len parts }
+    ensures kept { WritesNothing plan.now.command result.reply → AreSame P.disks parts.items result.parts.items }
 {
     if CLIENT_LIMIT < script.clients.len() {
-        return unplayed(alloc, limited(alloc, CLIENT_LIMIT as u64), parts);
+        return untouched(alloc, limited(alloc, CLIENT_LIMIT as u64), parts);
     }
     if EVENT_LIMIT < script.events.len() {
-        return unplayed(alloc, limited(alloc, EVENT_LIMIT as u64), parts);
+        return untouched(alloc, limited(alloc, EVENT_LIMIT as u64), parts);
     }
     match Found::read(alloc, parts, plan.mob) {
         Ok(found) => reply_found(alloc, plan, script, found),
@@ -209,11 +225,12 @@ fn reply_to<P: Parts>(alloc: Global, plan: &Plan, script: &Script, parts: Vec<P>
 fn reply_to_bytes<P: Parts>(alloc: Global, plan: &Plan, bytes: &[u8], parts: Vec<P>) -> Answered<P>
     ensures reply { IfOk result.reply (λ reply. Tells plan.now bytes.now reply.status reply.text) }
     ensures parts { vec_len result.parts ≡ vec_len parts }
+    ensures kept { WritesNothing plan.now.command result.reply → AreSame P.disks parts.items result.parts.items }
 {
     match read_script(alloc, bytes) {
         Ok(script) => reply_to(alloc, plan, &script, parts),
-        Err(ReadError::Refused(refusal)) => unplayed(alloc, refused(alloc, refusal), parts),
-        Err(ReadError::NoMemory) => unplayed(alloc, Err(NoMemory), parts),
+        Err(ReadError::Refused(refusal)) => untouched(alloc, refused(alloc, refusal), parts),
+        Err(ReadError::NoMemory) => untouched(alloc, Err(NoMemory), parts),
     }
 }
 
@@ -224,16 +241,56 @@ fn read_and_reply<S: Source, P: Parts>(
     source: &mut S,
     parts: Vec<P>,
 ) -> Answered<P>
-    ensures reply { IfOk result.reply (λ reply. SaysOf plan.now (record { left = S.left source.old; faults = S.faults source.old }) (record { left = S.left source.new; faults = S.faults source.new }) reply.status reply.text) }
+    ensures reply { IfOk result.reply (λ reply. SaysRead plan.now (record { left = S.left source.old; faults = S.faults source.old }) (record { left = S.left source.new; faults = S.faults source.new }) reply.status reply.text) }
     ensures parts { vec_len result.parts ≡ vec_len parts }
+    ensures kept { WritesNothing plan.now.command result.reply → AreSame P.disks parts.items result.parts.items }
 {
     match read_all(alloc, source, SCRIPT_LIMIT) {
         Ok(bytes) => reply_to_bytes(alloc, plan, bytes.as_slice(), parts),
         Err(ReadAll::Failed) => {
-            unplayed(alloc, says(alloc, Status::SourceFault, b"source\n"), parts)
+            untouched(alloc, says(alloc, Status::SourceFault, b"source\n"), parts)
         }
-        Err(ReadAll::Over) => unplayed(alloc, limited(alloc, SCRIPT_LIMIT as u64), parts),
-        Err(ReadAll::NoMemory) => unplayed(alloc, Err(NoMemory), parts),
+        Err(ReadAll::Over) => untouched(alloc, limited(alloc, SCRIPT_LIMIT as u64), parts),
+        Err(ReadAll::NoMemory) => untouched(alloc, Err(NoMemory), parts),
+    }
+}
+
+/// The generated script of a number over so many repositories, of which there is at least one.
+fn generated(alloc: Global, n: u16, repos: u8) -> Result<String, NoMemory>
+    ensures { IfOk result (λ text. string_bytes text ≡ script_text n repos) }
+{
+    if repos == 0 {
+        return Err(NoMemory);
+    }
+    generate(alloc, n, repos)
+}
+
+/// Does what a plan asks for with the generated script of a number.
+fn generate_and_reply<P: Parts>(alloc: Global, plan: &Plan, n: u16, parts: Vec<P>) -> Answered<P>
+    ensures reply { IfOk result.reply (λ reply. Tells plan.now (script_text n plan.now.repos) reply.status reply.text) }
+    ensures parts { vec_len result.parts ≡ vec_len parts }
+    ensures kept { WritesNothing plan.now.command result.reply → AreSame P.disks parts.items result.parts.items }
+{
+    match generated(alloc, n, plan.repos) {
+        Ok(text) => reply_to_bytes(alloc, plan, text.as_bytes(), parts),
+        Err(NoMemory) => untouched(alloc, Err(NoMemory), parts),
+    }
+}
+
+/// Does what a plan asks for, with the script of the source or, where a number is given, with the generated one.
+fn reply_by_plan<S: Source, P: Parts>(
+    alloc: Global,
+    plan: &Plan,
+    source: &mut S,
+    parts: Vec<P>,
+) -> Answered<P>
+    ensures reply { IfOk result.reply (λ reply. SaysOf plan.now (record { left = S.left source.old; faults = S.faults source.old }) (record { left = S.left source.new; faults = S.faults source.new }) reply.status reply.text) }
+    ensures parts { vec_len result.parts ≡ vec_len parts }
+    ensures kept { WritesNothing plan.now.command result.reply → AreSame P.disks parts.items result.parts.items }
+{
+    match plan.command {
+        Command::Check | Command::Play => read_and_reply(alloc, plan, source, parts),
+        Command::Gen { n } => generate_and_reply(alloc, plan, n, parts),
     }
 }
 
@@ -246,25 +303,29 @@ fn answer<S: Source, P: Parts>(
 ) -> Answered<P>
     ensures reply { IfOk result.reply (λ reply. Says words.now (vec_len parts) (record { left = S.left source.old; faults = S.faults source.old }) (record { left = S.left source.new; faults = S.faults source.new }) reply.status reply.text) }
     ensures parts { vec_len result.parts ≡ vec_len parts }
+    ensures refused { RefusesBy result.reply → AreSame P.disks parts.items result.parts.items }
+    ensures checked { (plan : Plan) → plan_of words.now ≡ Some plan → plan.command ≡ Check → AreSame P.disks parts.items result.parts.items }
 {
     match read_words(alloc, words) {
         Ok(plan) => {
             if usize::from(plan.repos) == parts.len() {
-                read_and_reply(alloc, &plan, source, parts)
+                reply_by_plan(alloc, &plan, source, parts)
             } else {
-                unplayed(alloc, says(alloc, Status::Words, b"words\n"), parts)
+                untouched(alloc, says(alloc, Status::Words, b"words\n"), parts)
             }
         }
-        Err(WordsFault::Words) => unplayed(alloc, says(alloc, Status::Words, b"words\n"), parts),
-        Err(WordsFault::NoMemory) => unplayed(alloc, Err(NoMemory), parts),
+        Err(WordsFault::Words) => untouched(alloc, says(alloc, Status::Words, b"words\n"), parts),
+        Err(WordsFault::NoMemory) => untouched(alloc, Err(NoMemory), parts),
     }
 }
 
 /// The program: reads a script from the source, does with it what the words ask for, on the parts of as many
 /// repositories, and writes the answer to the sink.
 ///
-/// `check` tells whether the script breaks a rule, and `play` runs it. The text that is written ends in a
-/// newline. The parts come back in every case.
+/// `check` tells whether the script breaks a rule, and `play` runs it. `gen` runs the generated script of a number
+/// without reading the source, and writes a summary. The text that is written ends in a newline. The parts come
+/// back in every case. A check leaves their disks as they were, and so does what refuses words, script or store.
+#[tactic(auto, using(crate::proofs::TopLaws::says_fault))]
 pub fn thor<S: Source, K: Sink, P: Parts>(
     alloc: Global,
     words: &[Text],
@@ -279,6 +340,9 @@ pub fn thor<S: Source, K: Sink, P: Parts>(
     ensures sink_fault { result.status ≡ Status.SinkFault → Rose (K.faults sink.old) (K.faults sink.new) }
     // No part is lost.
     ensures parts { vec_len result.parts ≡ vec_len parts }
+    // Where something is refused, and after any check, the disks have what they had.
+    ensures refused { Refuses result.status → AreSame P.disks parts.items result.parts.items }
+    ensures checked { (plan : Plan) → plan_of words.now ≡ Some plan → plan.command ≡ Check → AreSame P.disks parts.items result.parts.items }
 {
     let Answered {
         reply,

@@ -1,0 +1,279 @@
+//! What a client holds of the repositories: sessions, copies of objects, names for new ones.
+
+ghost use Rattle.std.specs.Prelude.{◌<◌};
+
+use crate::link::{Link, Waits};
+use client_cache::Looked;
+use item_progress::Opened;
+use message_outbox::At;
+use object_pages::is_object_page;
+use paused_eval::{Copies, GrantedNames};
+use std::alloc::Global;
+use std::mem;
+use thor_value::{NoMemory, Obj, Oref, Repos, Text, TryCopy, Ts};
+
+/// How many repositories a store has at most.
+pub const REPOSITORIES: u8 = 8;
+
+/// How many slots of a page objects are named by.
+const SLOTS: u8 = 12;
+
+/// What a client holds of the repositories.
+#[derive(Drop)]
+pub struct Held {
+    pub alloc: Global,
+    pub client: u8,
+    /// One for each repository that a store may have.
+    pub links: Vec<Link>,
+    pub cache: Copies,
+    pub names: GrantedNames,
+    /// The greatest epoch that the client has learnt of.
+    pub learnt: u32,
+    /// The times of its commits and transforms, of the thresholds that it was told, and of the
+    /// refusals `TooOld` and `Later`, are at most this.
+    pub floor: u64,
+}
+
+impl Held {
+    /// Nothing is held. There is room for so many pages.
+    pub fn new(alloc: Global, client: u8, pages: u32) -> Result<Held, NoMemory>
+        requires { 0 < pages }
+    {
+        let mut links = Vec::with_capacity(alloc, usize::from(REPOSITORIES))?;
+        for _ in 0..REPOSITORIES {
+            links.push(Link::Apart)?;
+        }
+        Ok(Held {
+            alloc,
+            client,
+            links,
+            cache: Copies::new(alloc, pages)?,
+            names: GrantedNames::new(alloc),
+            learnt: 0,
+            floor: 0,
+        })
+    }
+
+    /// The client's epoch: how many upgrades it counts as installed.
+    pub fn epoch(&self, opened: &Opened) -> u32 {
+        if self.learnt < opened.epoch {
+            return opened.epoch;
+        }
+        self.learnt
+    }
+
+    /// The session at a repository, as a call names it, where there is one.
+    pub fn at(&self, repo: u8) -> Option<At> {
+        match self.links.get(usize::from(repo)) {
+            Some(link) => link.at(repo),
+            None => None,
+        }
+    }
+
+    /// How far messages of a repository were taken, where there is a session; else 0.
+    pub fn upto(&self, repo: u8) -> u64 {
+        match self.links.get(usize::from(repo)) {
+            Some(link) => link.upto(),
+            None => 0,
+        }
+    }
+
+    /// The transaction of an Unknown item that a repository coordinates, if there is one.
+    pub fn unsettled(&self, repo: u8) -> Option<Ts> {
+        match self.links.get(usize::from(repo)) {
+            Some(link) => link.unsettled(),
+            None => None,
+        }
+    }
+
+    /// The repository of which a reply is outstanding. There is one at most.
+    pub fn awaited(&self) -> Option<At> {
+        for repo in 0..REPOSITORIES {
+            if let Some(link) = self.links.get(usize::from(repo)) {
+                if link.awaits_reply() {
+                    return link.at(repo);
+                }
+            }
+        }
+        None
+    }
+
+    /// The repository with which the client has to catch up. There is one at most.
+    pub fn behind(&self, opened: &Opened) -> Option<At> {
+        let epoch = self.epoch(opened);
+        for repo in 0..REPOSITORIES {
+            if let Some(link) = self.links.get(usize::from(repo)) {
+                if link.is_behind(epoch) {
+                    return link.at(repo);
+                }
+            }
+        }
+        None
+    }
+
+    /// The first of some repositories where there is no session.
+    pub fn first_apart(&self, repos: &Repos) -> Option<u8> {
+        for repo in repos.as_slice() {
+            if self.at(*repo).is_none() {
+                return Some(*repo);
+            }
+        }
+        None
+    }
+
+    /// Messages of a repository were taken up to a place.
+    pub fn acknowledge(&mut self, repo: u8, place: u64) {
+        if let Some(link) = self.links.get_mut(usize::from(repo)) {
+            link.acknowledge(place);
+        }
+    }
+
+    /// The outstanding reply of a repository has come, up to a place.
+    pub fn take_reply(&mut self, repo: u8, place: u64) {
+        if let Some(link) = self.links.get_mut(usize::from(repo)) {
+            link.acknowledge(place);
+            if link.awaits_reply() {
+                link.wait(Waits::Idle);
+            }
+        }
+    }
+
+    /// The client waits for this in its session at a repository.
+    pub fn wait(&mut self, repo: u8, waits: Waits) {
+        if let Some(link) = self.links.get_mut(usize::from(repo)) {
+            link.wait(waits);
+        }
+    }
+
+    /// The client waits for nothing.
+    pub fn stop_waiting(&mut self) {
+        for repo in 0..REPOSITORIES {
+            self.wait(repo, Waits::Idle);
+        }
+    }
+
+    /// Sets how the client stands with a repository.
+    pub fn set_link(&mut self, repo: u8, link: Link) {
+        if let Some(place) = self.links.get_mut(usize::from(repo)) {
+            *place = link;
+        }
+    }
+
+    /// Takes how the client stood with a repository; it is apart then.
+    pub fn take_link(&mut self, repo: u8) -> Link {
+        match self.links.get_mut(usize::from(repo)) {
+            Some(place) => mem::replace(place, Link::Apart),
+            None => Link::Apart,
+        }
+    }
+
+    /// Drops the session, the copies and the names of a repository, and what was waited for there. A
+    /// verdict that is still to be learnt there stays so.
+    pub fn leave(&mut self, repo: u8) {
+        if self.at(repo).is_some() {
+            self.set_link(repo, Link::Apart);
+        }
+        self.cache.drop_repo(repo);
+        self.names.drop_repo(repo);
+    }
+
+    /// A session is gone. What was held by it is dropped.
+    pub fn lose(&mut self, repo: u8, session: u32) {
+        if let Some(at) = self.at(repo) {
+            if at.session == session {
+                self.leave(repo);
+            }
+        }
+    }
+
+    /// The time of a transaction that stands, or a bound that was told, is counted.
+    pub fn raise_floor(&mut self, ts: Ts) {
+        if self.floor < ts.time {
+            self.floor = ts.time;
+        }
+    }
+
+    /// The time above which the next transaction is drawn. A transaction whose verdict isn't learnt
+    /// counts.
+    pub fn floor(&self) -> u64 {
+        let mut floor = self.floor;
+        for link in &self.links {
+            let time = link.unsettled_time();
+            if floor < time {
+                floor = time;
+            }
+        }
+        floor
+    }
+
+    /// An upgrade of this number is learnt to be installed, where it is among those of the store and the
+    /// script. It answers whether the epoch rises.
+    pub fn learn_epoch(&mut self, opened: &Opened, number: u32) -> bool {
+        if number <= self.epoch(opened) || number as usize > opened.schemas.upgraded.len() {
+            return false;
+        }
+        self.learnt = number;
+        true
+    }
+
+    /// The same where the number is that of the next epoch alone.
+    pub fn learn_next_epoch(&mut self, opened: &Opened, number: u32) -> bool {
+        if number != self.epoch(opened).saturating_add(1) {
+            return false;
+        }
+        self.learn_epoch(opened, number)
+    }
+
+    /// Whether an object is held.
+    pub fn holds(&self, oref: Oref) -> bool {
+        match self.cache.look(oref) {
+            Looked::Here(_) => true,
+            Looked::NoPage | Looked::NoSlot => false,
+        }
+    }
+
+    /// A copy of an object as it stands, where it is held.
+    pub fn copy_of(&self, oref: Oref) -> Result<Option<Obj>, NoMemory> {
+        match self.cache.look(oref) {
+            Looked::Here(obj) => Ok(Some(obj.copy()?)),
+            Looked::NoPage | Looked::NoSlot => Ok(None),
+        }
+    }
+
+    /// Puts a page's objects in the place of the copies of it. Bytes that are no page of objects bring
+    /// nothing.
+    pub fn place(&mut self, repo: u8, page: u32, bytes: &Text) -> Result<(), NoMemory> {
+        let bytes = bytes.as_slice();
+        if is_object_page(self.alloc, bytes, page)? {
+            self.cache.place(page, repo, bytes)?;
+        }
+        Ok(())
+    }
+
+    /// Keeps an object as it was made by a transform.
+    pub fn keep_made(&mut self, oref: Oref, made: Obj) -> Result<(), NoMemory> {
+        if oref.slot < SLOTS {
+            self.cache.write(oref, made)?;
+        }
+        self.cache.settle();
+        Ok(())
+    }
+
+    /// What a try has changed is given up.
+    pub fn undo(&mut self) {
+        self.cache.undo();
+        self.names.reset();
+    }
+
+    /// What a try has changed is given up, and the try has ended.
+    pub fn give_up(&mut self) {
+        self.undo();
+        self.cache.evict();
+    }
+
+    /// What a try has changed is kept, and the try has ended.
+    pub fn keep(&mut self) {
+        self.cache.settle();
+        self.cache.evict();
+    }
+}

@@ -1,0 +1,267 @@
+//! A transaction that a try has made, and what is sent of it.
+
+use crate::link::Link;
+use item_progress::Meaning;
+use message_outbox::At;
+use thor_value::{Answer, NoMemory, Obj, Oref, OrefMap, Orefs, Repos, Sequence, Text, Ts, Writes};
+
+/// What one participant is sent of a transaction.
+#[derive(Drop)]
+pub struct Share {
+    pub repo: u8,
+    /// The session there, and how far its messages were taken, as the transaction was drawn.
+    pub session: u32,
+    pub upto: u64,
+    /// The objects there that it read or created, rising.
+    pub ros: Orefs,
+    /// The objects there that it wrote or created, rising.
+    pub writes: Writes,
+}
+
+/// A transaction that a try has made.
+#[derive(Drop)]
+pub struct Transaction {
+    pub meaning: Meaning,
+    /// The epoch that its requests carry.
+    pub epoch: u32,
+    /// The names of the objects that it created, in the order in which it made them.
+    pub fresh: Orefs,
+    /// The participants, rising. The first one coordinates.
+    pub participants: Repos,
+    /// What is still to be sent, by participants rising.
+    pub shares: Vec<Share>,
+}
+
+/// A transaction that was sent to be decided.
+#[derive(Drop)]
+pub struct Sent {
+    pub ts: Ts,
+    pub meaning: Meaning,
+    /// The participants, rising. The first one coordinates.
+    pub participants: Repos,
+}
+
+impl Share {
+    /// Nothing is sent yet.
+    fn of(repo: u8, ros: Orefs, writes: Writes) -> Share {
+        Share {
+            repo,
+            session: 0,
+            upto: 0,
+            ros,
+            writes,
+        }
+    }
+
+    /// The session, as a call names it.
+    pub fn at(&self) -> At {
+        At {
+            repo: self.repo,
+            session: self.session,
+        }
+    }
+
+    /// Whether it reads an object.
+    fn reads(&self, oref: Oref) -> bool {
+        self.repo == oref.repo && self.ros.as_slice().binary_search(&oref).is_ok()
+    }
+}
+
+impl Transaction {
+    /// The upgrade of a number, in which all repositories take part.
+    pub fn upgrade(number: u32, text: Text, repos: u8) -> Result<Transaction, NoMemory> {
+        let alloc = text.allocator();
+        let mut participants = Sequence::new(alloc);
+        let mut shares = Vec::new(alloc);
+        for repo in 0..repos {
+            participants.push(repo)?;
+            shares.push(Share::of(repo, Orefs::new(alloc), Writes::new(alloc)))?;
+        }
+        Ok(Transaction {
+            meaning: Meaning::Upgrade { number, text },
+            epoch: number.saturating_sub(1),
+            fresh: Orefs::new(alloc),
+            participants,
+            shares,
+        })
+    }
+
+    /// What an evaluation has made: names that were read, rising, and objects that were written, rising.
+    pub fn evaluated(
+        answer: Answer,
+        epoch: u32,
+        reads: Orefs,
+        writes: Writes,
+        fresh: Orefs,
+    ) -> Result<Transaction, NoMemory> {
+        let ros = read_or_created(reads, &fresh)?;
+        let shares = shares_of(&ros, writes)?;
+        let mut participants = Sequence::new(fresh.allocator());
+        for share in &shares {
+            participants.push(share.repo)?;
+        }
+        Ok(Transaction {
+            meaning: Meaning::Ran(answer),
+            epoch,
+            fresh,
+            participants,
+            shares,
+        })
+    }
+
+    /// Whether it reads an object at a participant to which it isn't sent yet.
+    pub fn reads_unsent(&self, oref: Oref) -> bool {
+        for share in &self.shares {
+            if share.reads(oref) {
+                return true;
+            }
+        }
+        false
+    }
+
+    /// The repository that decides.
+    pub fn coordinator(&self) -> u8 {
+        first_of(&self.participants)
+    }
+
+    /// What is sent carries the sessions that there are at the participants.
+    pub fn carry_sessions(&mut self, links: &[Link]) {
+        for place in 0..self.shares.len() {
+            carry_session(&mut self.shares, place, links);
+        }
+    }
+
+    /// Takes what is to be sent next.
+    pub fn next_share(&mut self) -> Option<Share> {
+        if self.shares.is_empty() {
+            return None;
+        }
+        Some(self.shares.remove(0))
+    }
+
+    /// The other participants than one, rising.
+    pub fn others(&self, repo: u8) -> Result<Repos, NoMemory> {
+        others_of(&self.participants, repo)
+    }
+
+    /// It is sent to be decided under its name.
+    pub fn sent(self, ts: Ts) -> Sent {
+        let Transaction {
+            meaning,
+            participants,
+            ..
+        } = self;
+        Sent {
+            ts,
+            meaning,
+            participants,
+        }
+    }
+}
+
+impl Sent {
+    /// The repository that decides.
+    pub fn coordinator(&self) -> u8 {
+        first_of(&self.participants)
+    }
+
+    /// The participants other than the coordinator, rising.
+    pub fn others(&self) -> Result<Repos, NoMemory> {
+        others_of(&self.participants, self.coordinator())
+    }
+}
+
+/// The share at a place carries the session that there is at its repository.
+fn carry_session(shares: &mut Vec<Share>, place: usize, links: &[Link]) {
+    let Some(share) = shares.get_mut(place) else {
+        return;
+    };
+    if let Some(Link::Joined { session, upto, .. }) = links.get(usize::from(share.repo)) {
+        share.session = *session;
+        share.upto = *upto;
+    }
+}
+
+/// The first of the participants; repository 0 where none is named.
+fn first_of(participants: &Repos) -> u8 {
+    match participants.get(0) {
+        Some(repo) => *repo,
+        None => 0,
+    }
+}
+
+fn others_of(participants: &Repos, repo: u8) -> Result<Repos, NoMemory> {
+    let mut others = Sequence::new(participants.allocator());
+    for other in participants.as_slice() {
+        if *other != repo {
+            others.push(*other)?;
+        }
+    }
+    Ok(others)
+}
+
+/// All objects that were read or created, rising.
+fn read_or_created(reads: Orefs, fresh: &Orefs) -> Result<Orefs, NoMemory> {
+    if fresh.is_empty() {
+        return Ok(reads);
+    }
+    let alloc = reads.allocator();
+    let mut names = OrefMap::new(alloc);
+    for oref in reads.as_slice() {
+        names.insert(*oref, ())?;
+    }
+    for oref in fresh.as_slice() {
+        names.insert(*oref, ())?;
+    }
+    names.names(alloc)
+}
+
+/// Parts what was read or created, and what was written, by repositories. Where nothing was, repository 0
+/// alone takes part.
+fn shares_of(ros: &Orefs, writes: Writes) -> Result<Vec<Share>, NoMemory> {
+    let mut shares = Vec::new(ros.allocator());
+    for oref in ros.as_slice() {
+        push_read(&mut shares, *oref)?;
+    }
+    for (oref, obj) in writes.into_vec() {
+        push_write(&mut shares, oref, obj)?;
+    }
+    if shares.is_empty() {
+        push_share(&mut shares, 0)?;
+    }
+    Ok(shares)
+}
+
+fn push_share(shares: &mut Vec<Share>, repo: u8) -> Result<(), NoMemory> {
+    let alloc = *shares.allocator();
+    shares.push(Share::of(repo, Orefs::new(alloc), Writes::new(alloc)))?;
+    Ok(())
+}
+
+/// The place of a repository's share. Where it has none yet, one comes behind the others.
+fn place_of(shares: &mut Vec<Share>, repo: u8) -> Result<usize, NoMemory> {
+    match shares.iter().position(|share| share.repo == repo) {
+        Some(place) => Ok(place),
+        None => {
+            let place = shares.len();
+            push_share(shares, repo)?;
+            Ok(place)
+        }
+    }
+}
+
+fn push_read(shares: &mut Vec<Share>, oref: Oref) -> Result<(), NoMemory> {
+    let place = place_of(shares, oref.repo)?;
+    match shares.get_mut(place) {
+        Some(share) => share.ros.push(oref),
+        None => Ok(()),
+    }
+}
+
+fn push_write(shares: &mut Vec<Share>, oref: Oref, obj: Obj) -> Result<(), NoMemory> {
+    let place = place_of(shares, oref.repo)?;
+    match shares.get_mut(place) {
+        Some(share) => share.writes.push((oref, obj)),
+        None => Ok(()),
+    }
+}

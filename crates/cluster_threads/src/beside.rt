@@ -1,0 +1,71 @@
+//! Clients, flushers and restarts beside one another.
+
+use crate::client::{Job, play_out};
+use crate::flushing::{Flusher, flush_when_prompted};
+use crate::locks::Locks;
+use crate::restarts::restart_all;
+use disk_trait::Parts;
+use front_end::FrontEnd;
+use outside::Gate;
+use schedule::Event;
+use std::alloc::Global;
+use std::sync::Wait;
+use std::thread;
+use std::thread::Threads;
+use thor_value::NoMemory;
+
+/// Has each client and each flusher in a thread of its own, and performs the restarts beside them. What can't be
+/// started runs here, clients before flushers. Every thread has ended when it answers the clients, in their order.
+pub(crate) fn beside<'a, R: Threads + Wait + Sync, P: Parts + Send, G: Gate + Sync>(
+    alloc: Global,
+    locks: &'a Locks<'a, R, P, G>,
+    jobs: Vec<Job<'a, R, P, G>>,
+    flushers: Vec<Flusher<'a, R, P, G>>,
+    events: &[Event],
+) -> Result<Vec<FrontEnd>, NoMemory> {
+    let rt = locks.rt;
+    thread::scope(
+        thread::scope_env(),
+        rt,
+        |scope| -> Result<Vec<FrontEnd>, NoMemory> {
+            let mut started = Vec::with_capacity(alloc, jobs.len())?;
+            let mut ended = Vec::with_capacity(alloc, jobs.len())?;
+            let mut left = Vec::with_capacity(alloc, flushers.len())?;
+            for flusher in flushers {
+                match scope.spawn(move || flush_when_prompted(flusher)) {
+                    Ok(_) => {}
+                    Err(refused) => left.push(refused.value)?,
+                }
+            }
+            for job in jobs {
+                let client = scope.spawn(move || play_out(job));
+                started.push(client.map_err(|refused| refused.value))?;
+            }
+            let restarted = restart_all(locks, events);
+            for client in started {
+                let client = match client {
+                    Ok(thread) => thread.join(rt),
+                    Err(run) => run(),
+                };
+                ended.push(client)?;
+            }
+            for flush in left {
+                flush();
+            }
+            restarted?;
+            all_of(alloc, ended)
+        },
+    )
+}
+
+/// All clients, where none met want of memory.
+fn all_of(
+    alloc: Global,
+    ended: Vec<Result<FrontEnd, NoMemory>>,
+) -> Result<Vec<FrontEnd>, NoMemory> {
+    let mut clients = Vec::with_capacity(alloc, ended.len())?;
+    for client in ended {
+        clients.push(client?)?;
+    }
+    Ok(clients)
+}
