@@ -59,10 +59,11 @@ class Run:
 
 @dataclasses.dataclass
 class Case:
-    """A case: its runs, or none where it tells of a generated script."""
+    """A case: its runs, or none where it tells of a generated script: of N, M, its length and its hash."""
 
     name: str
     runs: list = dataclasses.field(default_factory=list)
+    text: tuple = None
 
     @property
     def has_store(self):
@@ -102,7 +103,8 @@ def add_section(case, head, body, before):
     if head == "disks":
         case.runs[-1].disks = [disk_of(line) for line in body]
     elif head == "text":
-        case.runs = []
+        (_, n, repos), (length, _, digits) = case.runs.pop().words, body[0].decode().split()
+        case.text = int(n), int(repos), int(length), digits
     else:
         case.runs[-1].status = int(head)
         case.runs[-1].output = b"".join(line + b"\n" for line in body)

@@ -43,3 +43,14 @@ fn locked(file: File) -> Folder {
         }
     }
 }
+
+/// Syncs the folder, so that a crash doesn't take the names of its files. The answer is whether that was done.
+pub fn settle(rt: HostRuntime, folder: &Text) -> bool {
+    let Ok(path) = str::from_utf8(folder.as_slice()) else {
+        return false;
+    };
+    match File::open(&rt, path) {
+        Ok(folder) => folder.sync_all().is_ok(),
+        Err(_) => false,
+    }
+}

@@ -1,18 +1,23 @@
 //! The program: its words are the command, standard input is the script, and the report goes to
 //! standard output. The exit status is that of the top call. What a person should do next, where there is
-//! something, is one line on standard error.
+//! something, is one line on standard error. `--help` and `--version`, which are no words of a command, are
+//! answered here.
 #![tactic(auto)]
 
 mod advice;
 mod folder;
+mod help;
 mod parts;
+mod wrong_word;
 
 use crate::advice::advise;
-use crate::folder::{Folder, enter};
+use crate::folder::{Folder, enter, settle};
+use crate::help::{HELP, VERSION};
 use crate::parts::{closed, files, memory};
+use crate::wrong_word::fault_of;
 use command_words::{Plan, WordsFault, read_words};
-use disk_trait::Parts;
-use outside::{StdSink, StdSource};
+use disk_trait::{FileParts, Parts, TickClock};
+use outside::{StdSink, StdSource, write_all};
 use std::env;
 use std::io::ErrorKind;
 use std::process::ExitCode;
@@ -27,23 +32,55 @@ fn main(rt: HostRuntime) -> ExitCode {
     ExitCode::from(status.code())
 }
 
-/// Does what the words ask for, on repositories in memory or in the folder that they name.
+/// Answers the words behind the program's name.
 fn answer(rt: HostRuntime) -> Result<Status, NoMemory> {
-    let words = words(rt)?;
+    match words(rt)? {
+        Some(words) => answer_to(rt, &words),
+        None => {
+            let status = perform(rt, &Texts::new(rt.alloc()), memory(rt.alloc(), 1)?);
+            advise(rt, "a word isn't UTF-8 text (--help tells more)");
+            Ok(status)
+        }
+    }
+}
+
+/// Tells what was asked about the program, or does what the words ask for.
+fn answer_to(rt: HostRuntime, words: &Texts) -> Result<Status, NoMemory> {
+    if has(words, b"--help") {
+        return Ok(tell(rt, HELP));
+    }
+    if has(words, b"--version") {
+        return Ok(tell(rt, VERSION));
+    }
     match read_words(rt.alloc(), words.as_slice()) {
         Ok(plan) => match &plan.store {
-            Some(folder) => perform_stored(rt, &words, &plan, folder),
-            None => Ok(perform(rt, &words, memory(rt.alloc(), plan.repos)?)),
+            Some(folder) => perform_stored(rt, words, &plan, folder),
+            None => Ok(perform(rt, words, memory(rt.alloc(), plan.repos)?)),
         },
         Err(WordsFault::Words) => {
-            let status = perform(rt, &words, memory(rt.alloc(), 1)?);
-            advise(
-                rt,
-                "the words are `check` or `play` and options: --repos N, --store DIR, and for `play` --tries N, --mob N, --cache N",
-            );
+            let status = perform(rt, words, memory(rt.alloc(), 1)?);
+            if let Ok(advice) = fault_of(rt.alloc(), words.as_slice()) {
+                advise(rt, &advice);
+            }
             Ok(status)
         }
         Err(WordsFault::NoMemory) => Err(NoMemory),
+    }
+}
+
+/// Whether one of the words is this.
+fn has(words: &Texts, wanted: &[u8]) -> bool {
+    words
+        .as_slice()
+        .iter()
+        .any(|word| word.as_slice() == wanted)
+}
+
+/// Writes a text to standard output.
+fn tell(rt: HostRuntime, text: &str) -> Status {
+    match write_all(&mut StdSink::new(rt.stdout()), text.as_bytes()) {
+        Ok(()) => Status::Done,
+        Err(_) => Status::SinkFault,
     }
 }
 
@@ -56,7 +93,7 @@ fn perform_stored(
 ) -> Result<Status, NoMemory> {
     match enter(rt, folder)? {
         Folder::Entered(lock) => {
-            let status = perform(rt, words, files(rt, folder, plan.repos)?);
+            let status = perform(rt, words, settled(rt, folder, plan.repos)?);
             let _ = lock.unlock();
             advise_behind(rt, status);
             Ok(status)
@@ -66,6 +103,20 @@ fn perform_stored(
             advise(rt, advice);
             Ok(status)
         }
+    }
+}
+
+/// The files of a folder, with their names in it; where these may be lost by a crash, files that can't be opened.
+fn settled(
+    rt: HostRuntime,
+    folder: &Text,
+    repos: u8,
+) -> Result<Vec<FileParts<TickClock>>, NoMemory> {
+    let parts = files(rt, folder, repos)?;
+    if settle(rt, folder) {
+        Ok(parts)
+    } else {
+        closed(rt, repos)
     }
 }
 
@@ -91,18 +142,18 @@ fn perform<P: Parts>(rt: HostRuntime, words: &Texts, parts: Vec<P>) -> Status {
     thor(rt.alloc(), words.as_slice(), &mut source, &mut sink, parts).status
 }
 
-/// The words behind the program's name. Where one of them isn't UTF-8 there are none, which is no command either.
-fn words(rt: HostRuntime) -> Result<Texts, NoMemory> {
-    let mut words = Texts::new(rt.alloc());
+/// The words behind the program's name; nothing where one of them isn't UTF-8.
+fn words(rt: HostRuntime) -> Result<Option<Texts>, NoMemory> {
     let given = match env::args(&rt) {
         Ok(given) => given,
         Err(error) => match error.kind() {
-            ErrorKind::InvalidData => return Ok(words),
+            ErrorKind::InvalidData => return Ok(None),
             _ => return Err(NoMemory),
         },
     };
+    let mut words = Texts::new(rt.alloc());
     for word in given.skip(1) {
         words.push(Text::from_slice(rt.alloc(), word.as_bytes())?)?;
     }
-    Ok(words)
+    Ok(Some(words))
 }

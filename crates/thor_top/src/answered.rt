@@ -1,6 +1,8 @@
-ghost use Rattle.std.specs.Prelude.{◌≡◌};
+ghost use Rattle.cluster_core.specs.Same.{AreSame};
+ghost use Rattle.std.specs.Prelude.{◌≡◌, vec_len};
 
 use crate::reply::Reply;
+use disk_trait::Parts;
 use std::alloc::Global;
 use thor_value::NoMemory;
 use trace_record::Traces;
@@ -20,6 +22,24 @@ pub struct Answered<P> {
 pub fn unplayed<P>(alloc: Global, reply: Result<Reply, NoMemory>, parts: Vec<P>) -> Answered<P>
     ensures reply { result.reply ≡ reply }
     ensures parts { result.parts ≡ parts }
+{
+    Answered {
+        reply,
+        parts,
+        traces: Traces::new(alloc),
+    }
+}
+
+/// A reply with which no call on the parts was made.
+#[tactic(auto, using(cluster_core::proofs::Places::same_all))]
+pub fn untouched<P: Parts>(
+    alloc: Global,
+    reply: Result<Reply, NoMemory>,
+    parts: Vec<P>,
+) -> Answered<P>
+    ensures reply { result.reply ≡ reply }
+    ensures parts { vec_len result.parts ≡ vec_len parts }
+    ensures same { AreSame P.disks parts.items result.parts.items }
 {
     Answered {
         reply,

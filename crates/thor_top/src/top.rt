@@ -1,14 +1,19 @@
-ghost use Rattle.std.specs.Prelude.{◌≡◌, ◌≤◌, None, IfOk, IfSome, length, vec_len};
-ghost use Rattle.cluster_core.specs.Counts.{parts_in};
+ghost use Rattle.std.specs.Prelude.{◌≡◌, ◌≤◌, List, None, Some, IfOk, IfSome, length, vec_len};
+ghost use Rattle.cluster_core.specs.Counts.{HasParts, parts_in};
+ghost use Rattle.cluster_core.specs.Same.{AreSame};
+ghost use Rattle.command_words.specs.Words.{plan_of};
+ghost use Rattle.command_words.specs.declared.command.Command.TheVariants.{Check};
+ghost use Rattle.command_words.specs.declared.command.Plan.{Plan};
 ghost use Rattle.generator.specs.Bank.{script_text};
 ghost use Rattle.outside.specs.Faults.{Rose};
 ghost use Rattle.script_check.specs.Upgrading.{upgrades_of};
 ghost use Rattle.script_parse.specs.Script.{HasFew};
 ghost use Rattle.serial_model.specs.Replays.{AreMade};
+ghost use Rattle.thor_top.specs.Kept.{Refuses, RefusesBy, WritesNothing};
 ghost use Rattle.thor_top.specs.Opening.{IsAccepted, IsBase};
 ghost use Rattle.thor_top.specs.Top.{IsOverLimit, IsWithinLimits, Says, SaysOf, SaysRead, Tells, TellsOf, Wrote};
 
-use crate::answered::{Answered, unplayed};
+use crate::answered::{Answered, unplayed, untouched};
 use crate::form::Form;
 use crate::playing::play;
 use crate::reply::{Reply, limited, refused, says, unopened};
@@ -88,6 +93,7 @@ fn accepted<P: Parts>(
     requires within { IsWithinLimits script.now }
     ensures reply { IfOk result.reply (λ reply. TellsOf plan.now script.now reply.status reply.text) }
     ensures parts { vec_len result.parts ≡ parts_in found }
+    ensures kept { (given : List P) → HasParts P.disks given found → WritesNothing plan.now.command result.reply → AreSame P.disks given result.parts.items }
 {
     match plan.command {
         Command::Check => unplayed(
@@ -114,6 +120,7 @@ fn judged_on<P: Parts>(
     requires within { IsWithinLimits script.now }
     ensures reply { IfOk result.reply (λ reply. TellsOf plan.now script.now reply.status reply.text) }
     ensures parts { vec_len result.parts ≡ parts_in found }
+    ensures kept { (given : List P) → HasParts P.disks given found → WritesNothing plan.now.command result.reply → AreSame P.disks given result.parts.items }
 {
     match judge(alloc, last_schema(base), script, plan.repos) {
         Ok(Some(refusal)) => unplayed(alloc, refused(alloc, refusal), found.into_parts()),
@@ -134,6 +141,7 @@ fn judged<P: Parts>(
     requires within { IsWithinLimits script.now }
     ensures reply { IfOk result.reply (λ reply. TellsOf plan.now script.now reply.status reply.text) }
     ensures parts { vec_len result.parts ≡ parts_in found }
+    ensures kept { (given : List P) → HasParts P.disks given found → WritesNothing plan.now.command result.reply → AreSame P.disks given result.parts.items }
 {
     if UPGRADE_LIMIT < base.upgraded.len() || !are_made(base) {
         return unplayed(alloc, Err(NoMemory), found.into_parts());
@@ -153,6 +161,7 @@ fn reply_found<P: Parts>(
     requires events { length script.now.events ≤ 1000000 }
     ensures reply { IfOk result.reply (λ reply. TellsOf plan.now script.now reply.status reply.text) }
     ensures parts { vec_len result.parts ≡ parts_in found }
+    ensures kept { (given : List P) → HasParts P.disks given found → WritesNothing plan.now.command result.reply → AreSame P.disks given result.parts.items }
 {
     match passed_limit(script, &found) {
         Some(limit) => unplayed(
@@ -183,6 +192,7 @@ fn reply_within<P: Parts>(
     requires within { IsWithinLimits script.now }
     ensures reply { IfOk result.reply (λ reply. TellsOf plan.now script.now reply.status reply.text) }
     ensures parts { vec_len result.parts ≡ parts_in found }
+    ensures kept { (given : List P) → HasParts P.disks given found → WritesNothing plan.now.command result.reply → AreSame P.disks given result.parts.items }
 {
     match base_of(alloc, &script.setup, &found) {
         Ok(Some(base)) => judged(alloc, plan, script, &base, found),
@@ -196,12 +206,13 @@ fn reply_to<P: Parts>(alloc: Global, plan: &Plan, script: &Script, parts: Vec<P>
     requires { HasFew script.now.setup }
     ensures reply { IfOk result.reply (λ reply. TellsOf plan.now script.now reply.status reply.text) }
     ensures parts { vec_len result.parts ≡ vec_len parts }
+    ensures kept { WritesNothing plan.now.command result.reply → AreSame P.disks parts.items result.parts.items }
 {
     if CLIENT_LIMIT < script.clients.len() {
-        return unplayed(alloc, limited(alloc, CLIENT_LIMIT as u64), parts);
+        return untouched(alloc, limited(alloc, CLIENT_LIMIT as u64), parts);
     }
     if EVENT_LIMIT < script.events.len() {
-        return unplayed(alloc, limited(alloc, EVENT_LIMIT as u64), parts);
+        return untouched(alloc, limited(alloc, EVENT_LIMIT as u64), parts);
     }
     match Found::read(alloc, parts, plan.mob) {
         Ok(found) => reply_found(alloc, plan, script, found),
@@ -213,11 +224,12 @@ fn reply_to<P: Parts>(alloc: Global, plan: &Plan, script: &Script, parts: Vec<P>
 fn reply_to_bytes<P: Parts>(alloc: Global, plan: &Plan, bytes: &[u8], parts: Vec<P>) -> Answered<P>
     ensures reply { IfOk result.reply (λ reply. Tells plan.now bytes.now reply.status reply.text) }
     ensures parts { vec_len result.parts ≡ vec_len parts }
+    ensures kept { WritesNothing plan.now.command result.reply → AreSame P.disks parts.items result.parts.items }
 {
     match read_script(alloc, bytes) {
         Ok(script) => reply_to(alloc, plan, &script, parts),
-        Err(ReadError::Refused(refusal)) => unplayed(alloc, refused(alloc, refusal), parts),
-        Err(ReadError::NoMemory) => unplayed(alloc, Err(NoMemory), parts),
+        Err(ReadError::Refused(refusal)) => untouched(alloc, refused(alloc, refusal), parts),
+        Err(ReadError::NoMemory) => untouched(alloc, Err(NoMemory), parts),
     }
 }
 
@@ -230,14 +242,15 @@ fn read_and_reply<S: Source, P: Parts>(
 ) -> Answered<P>
     ensures reply { IfOk result.reply (λ reply. SaysRead plan.now (record { left = S.left source.old; faults = S.faults source.old }) (record { left = S.left source.new; faults = S.faults source.new }) reply.status reply.text) }
     ensures parts { vec_len result.parts ≡ vec_len parts }
+    ensures kept { WritesNothing plan.now.command result.reply → AreSame P.disks parts.items result.parts.items }
 {
     match read_all(alloc, source, SCRIPT_LIMIT) {
         Ok(bytes) => reply_to_bytes(alloc, plan, bytes.as_slice(), parts),
         Err(ReadAll::Failed) => {
-            unplayed(alloc, says(alloc, Status::SourceFault, b"source\n"), parts)
+            untouched(alloc, says(alloc, Status::SourceFault, b"source\n"), parts)
         }
-        Err(ReadAll::Over) => unplayed(alloc, limited(alloc, SCRIPT_LIMIT as u64), parts),
-        Err(ReadAll::NoMemory) => unplayed(alloc, Err(NoMemory), parts),
+        Err(ReadAll::Over) => untouched(alloc, limited(alloc, SCRIPT_LIMIT as u64), parts),
+        Err(ReadAll::NoMemory) => untouched(alloc, Err(NoMemory), parts),
     }
 }
 
@@ -245,13 +258,14 @@ fn read_and_reply<S: Source, P: Parts>(
 fn generate_and_reply<P: Parts>(alloc: Global, plan: &Plan, n: u16, parts: Vec<P>) -> Answered<P>
     ensures reply { IfOk result.reply (λ reply. Tells plan.now (script_text n plan.now.repos) reply.status reply.text) }
     ensures parts { vec_len result.parts ≡ vec_len parts }
+    ensures kept { WritesNothing plan.now.command result.reply → AreSame P.disks parts.items result.parts.items }
 {
     if plan.repos == 0 {
-        return unplayed(alloc, Err(NoMemory), parts);
+        return untouched(alloc, Err(NoMemory), parts);
     }
     match generate(alloc, n, plan.repos) {
         Ok(text) => reply_to_bytes(alloc, plan, text.as_bytes(), parts),
-        Err(NoMemory) => unplayed(alloc, Err(NoMemory), parts),
+        Err(NoMemory) => untouched(alloc, Err(NoMemory), parts),
     }
 }
 
@@ -264,6 +278,7 @@ fn reply_by_plan<S: Source, P: Parts>(
 ) -> Answered<P>
     ensures reply { IfOk result.reply (λ reply. SaysOf plan.now (record { left = S.left source.old; faults = S.faults source.old }) (record { left = S.left source.new; faults = S.faults source.new }) reply.status reply.text) }
     ensures parts { vec_len result.parts ≡ vec_len parts }
+    ensures kept { WritesNothing plan.now.command result.reply → AreSame P.disks parts.items result.parts.items }
 {
     match plan.command {
         Command::Check | Command::Play => read_and_reply(alloc, plan, source, parts),
@@ -280,17 +295,19 @@ fn answer<S: Source, P: Parts>(
 ) -> Answered<P>
     ensures reply { IfOk result.reply (λ reply. Says words.now (vec_len parts) (record { left = S.left source.old; faults = S.faults source.old }) (record { left = S.left source.new; faults = S.faults source.new }) reply.status reply.text) }
     ensures parts { vec_len result.parts ≡ vec_len parts }
+    ensures refused { RefusesBy result.reply → AreSame P.disks parts.items result.parts.items }
+    ensures checked { (plan : Plan) → plan_of words.now ≡ Some plan → plan.command ≡ Check → AreSame P.disks parts.items result.parts.items }
 {
     match read_words(alloc, words) {
         Ok(plan) => {
             if usize::from(plan.repos) == parts.len() {
                 reply_by_plan(alloc, &plan, source, parts)
             } else {
-                unplayed(alloc, says(alloc, Status::Words, b"words\n"), parts)
+                untouched(alloc, says(alloc, Status::Words, b"words\n"), parts)
             }
         }
-        Err(WordsFault::Words) => unplayed(alloc, says(alloc, Status::Words, b"words\n"), parts),
-        Err(WordsFault::NoMemory) => unplayed(alloc, Err(NoMemory), parts),
+        Err(WordsFault::Words) => untouched(alloc, says(alloc, Status::Words, b"words\n"), parts),
+        Err(WordsFault::NoMemory) => untouched(alloc, Err(NoMemory), parts),
     }
 }
 
@@ -299,7 +316,7 @@ fn answer<S: Source, P: Parts>(
 ///
 /// `check` tells whether the script breaks a rule, and `play` runs it. `gen` runs the generated script of a number
 /// without reading the source, and writes a summary. The text that is written ends in a newline. The parts come
-/// back in every case.
+/// back in every case. A check leaves their disks as they were, and so does what refuses words, script or store.
 pub fn thor<S: Source, K: Sink, P: Parts>(
     alloc: Global,
     words: &[Text],
@@ -314,6 +331,9 @@ pub fn thor<S: Source, K: Sink, P: Parts>(
     ensures sink_fault { result.status ≡ Status.SinkFault → Rose (K.faults sink.old) (K.faults sink.new) }
     // No part is lost.
     ensures parts { vec_len result.parts ≡ vec_len parts }
+    // Where something is refused, and after any check, the disks have what they had.
+    ensures refused { Refuses result.status → AreSame P.disks parts.items result.parts.items }
+    ensures checked { (plan : Plan) → plan_of words.now ≡ Some plan → plan.command ≡ Check → AreSame P.disks parts.items result.parts.items }
 {
     let Answered {
         reply,
