@@ -63,6 +63,32 @@ fn reads_to_the_end_or_says_why_not(rt: HostRuntime) -> Result<(), Fail> {
     Ok(())
 }
 
+/// The faults of a source with one byte that fails these calls, behind as many reads to the end and one more.
+fn faults_behind(alloc: Global, fails: &[i64]) -> Result<u64, NoMemory> {
+    let mut source = MemSource::new(rising(alloc, 1)?, Ints::from_slice(alloc, fails)?);
+    for _ in 0..=fails.len() {
+        let _ = read_all(alloc, &mut source, 1);
+    }
+    Ok(source.faults())
+}
+
+#[test]
+fn each_fault_is_counted(rt: HostRuntime) -> Result<(), Fail> {
+    for (fails, want) in FAULTS {
+        assert!(rt; faults_behind(rt.alloc(), fails)? == *want);
+    }
+    Ok(())
+}
+
+/// Which calls fail, and how many faults are counted.
+const FAULTS: &[(&[i64], u64)] = &[
+    (&[], 0),
+    (&[1], 1),
+    (&[1, 2], 2),
+    (&[1, 2, 3], 3),
+    (&[2, 4], 2),
+];
+
 /// How many bytes, which call fails, and how many are taken. A call takes 32 bytes.
 const WRITES: &[(usize, i64, usize)] = &[
     (0, 1, 0),

@@ -69,14 +69,10 @@ pub(crate) fn joined(store: &[Read<'_>], paged: OrefMap<Obj>) -> Result<OrefMap<
 }
 
 fn take_buffer(read: &Read<'_>, objects: &mut OrefMap<Obj>) -> Result<(), NoMemory> {
-    let buffer = read.recovered.state.objects().mob();
-    for rank in 0..u32::MAX {
-        let Some((oref, obj)) = buffer.nth(rank) else {
-            return Ok(());
-        };
-        objects.insert(oref, obj.copy()?)?;
+    for (oref, obj) in read.recovered.state.objects().mob().iter() {
+        objects.insert(*oref, obj.copy()?)?;
     }
-    Err(NoMemory)
+    Ok(())
 }
 
 fn take_prepared(

@@ -68,15 +68,12 @@ pub(crate) fn has_own_names(store: &[Read<'_>], repo: u8, read: &Read<'_>) -> bo
 }
 
 fn has_own_buffer(repo: u8, next_page: u32, read: &Read<'_>) -> bool {
-    let buffer = read.recovered.state.objects().mob();
-    for rank in 0..u32::MAX {
-        match buffer.nth(rank) {
-            None => return true,
-            Some((oref, _)) if is_own_name(repo, next_page, oref) => {}
-            Some(_) => return false,
+    for (oref, _) in read.recovered.state.objects().mob().iter() {
+        if !is_own_name(repo, next_page, *oref) {
+            return false;
         }
     }
-    false
+    true
 }
 
 fn has_own_writes(store: &[Read<'_>], repo: u8, read: &Read<'_>) -> bool {

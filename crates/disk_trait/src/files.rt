@@ -75,7 +75,7 @@ fn write(file: Option<&File>, at: u64, bytes: &[u8]) -> Option<()>
 }
 
 fn sync(file: Option<&File>) -> Option<()> {
-    file?.sync_all().ok()
+    file?.sync_data().ok()
 }
 
 fn file_len(file: Option<&File>) -> Option<u64> {

@@ -2,7 +2,7 @@
 //! there.
 
 use crate::client::Client;
-use crate::duties::Abort;
+use client_state::Abort;
 use port::Port;
 use thor_value::NoMemory;
 use validation_window::Refusal;

@@ -1,11 +1,8 @@
 //! The fourth rule: the client asks for its own transaction, which was sent to be decided.
 
 use crate::client::Client;
-use crate::link::Link;
-use crate::news::{News, Task};
-use crate::opened::Opened;
-use crate::phase::Phase;
-use crate::transaction::Sent;
+use client_state::{Link, Phase, Sent};
+use item_progress::{News, Opened, Task};
 use message_outbox::{Asked, Verdict};
 use port::Port;
 use serial_model::{Cause, ItemOutcome};

@@ -1,8 +1,7 @@
 //! The first rule: a reply is outstanding.
 
 use crate::client::Client;
-use crate::news::News;
-use crate::opened::Opened;
+use item_progress::{News, Opened};
 use message_outbox::At;
 use port::Port;
 use thor_value::NoMemory;

@@ -1,9 +1,8 @@
 //! The second rule: the client catches up with a repository that refused it.
 
 use crate::client::Client;
-use crate::link::Waits;
-use crate::news::News;
-use crate::opened::Opened;
+use client_state::Waits;
+use item_progress::{News, Opened};
 use message_outbox::At;
 use port::Port;
 use thor_value::NoMemory;

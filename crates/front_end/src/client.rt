@@ -2,9 +2,7 @@
 
 ghost use Rattle.std.specs.Prelude.{◌<◌};
 
-use crate::duties::Duties;
-use crate::held::Held;
-use crate::phase::Phase;
+use client_state::{Duties, Held, Phase};
 use std::alloc::Global;
 use thor_value::NoMemory;
 

@@ -1,12 +1,8 @@
 //! How a transaction is drawn, sent and decided.
 
-use crate::calls::Drew;
 use crate::client::Client;
-use crate::duties::Abort;
-use crate::news::News;
-use crate::opened::Opened;
-use crate::phase::Phase;
-use crate::transaction::Transaction;
+use client_state::{Abort, Drew, Phase, Transaction};
+use item_progress::{News, Opened};
 use message_outbox::At;
 use port::Port;
 use thor_value::{NoMemory, Repos, Sequence, Ts, Who};

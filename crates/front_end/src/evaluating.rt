@@ -1,11 +1,8 @@
 //! How the transaction of an item is evaluated.
 
-use crate::calls::Came;
 use crate::client::Client;
-use crate::news::News;
-use crate::opened::Opened;
-use crate::phase::Phase;
-use crate::transaction::Transaction;
+use client_state::{Came, Phase, Transaction};
+use item_progress::{News, Opened};
 use method_eval::Ran;
 use paused_eval::Paused;
 use port::Port;

@@ -1,15 +1,13 @@
 //! A client of repositories, which goes on by steps.
 
-ghost use Rattle.front_end.specs.Courses.{Goes, IsInOrder};
+ghost use Rattle.item_progress.specs.Courses.{Goes, IsInOrder};
 ghost use Rattle.front_end.specs.declared.front_end.Step.TheVariants as step;
 ghost use Rattle.std.specs.Prelude.{◌≡◌, ◌<◌, ◌^◌, [], IfOk, length, Ok};
 
 use crate::client::Client;
-use crate::held::REPOSITORIES;
-use crate::news::News;
-use crate::opened::{Items, Opened};
-use crate::progress::Progress;
 use crate::rule::Rule;
+use client_state::REPOSITORIES;
+use item_progress::{Items, News, Opened, Progress};
 use port::Port;
 use serial_model::{Cause, Ended, Ends};
 use std::alloc::Global;
@@ -25,7 +23,7 @@ pub struct FrontEnd {
 }
 
 impl Model for FrontEnd {
-    ghost use Rattle.front_end.specs.Courses.{Course};
+    ghost use Rattle.item_progress.specs.Courses.{Course};
 
     ghost Value = { Course };
 

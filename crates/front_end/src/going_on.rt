@@ -1,10 +1,8 @@
 //! The sixth rule: the try goes on.
 
 use crate::client::Client;
-use crate::news::{News, Task};
-use crate::opened::Opened;
-use crate::phase::Phase;
-use crate::transaction::Transaction;
+use client_state::{Phase, Transaction};
+use item_progress::{News, Opened, Task};
 use paused_eval::Paused;
 use port::Port;
 use serial_model::What;

@@ -1,7 +1,7 @@
 //! The fifth rule: verdicts are handed on.
 
 use crate::client::Client;
-use crate::duties::Duty;
+use client_state::Duty;
 use message_outbox::Verdict;
 use port::Port;
 use thor_value::{NoMemory, Repos, Ts};

@@ -1,9 +1,8 @@
 //! The third rule: the client helps on a transaction that stood against its request.
 
 use crate::client::Client;
-use crate::duties::Helping;
-use crate::news::{Learnt, News};
-use crate::opened::Opened;
+use client_state::Helping;
+use item_progress::{Learnt, News, Opened};
 use message_outbox::{Asked, Verdict};
 use port::Port;
 use thor_value::{NoMemory, Ts};

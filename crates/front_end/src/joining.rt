@@ -1,9 +1,8 @@
 //! How a session begins where a try needs one.
 
-use crate::calls::Came;
-use crate::causes::cause_of;
 use crate::client::Client;
-use crate::opened::Opened;
+use client_state::{Came, cause_of};
+use item_progress::Opened;
 use message_outbox::Asked;
 use port::Port;
 use thor_value::{NoMemory, Ts};

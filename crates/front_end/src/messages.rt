@@ -1,9 +1,8 @@
 //! What a client does with the messages of a repository.
 
-use crate::causes::cause_of;
 use crate::client::Client;
-use crate::news::News;
-use crate::opened::Opened;
+use client_state::cause_of;
+use item_progress::{News, Opened};
 use message_outbox::{At, Message};
 use page_format::Page;
 use port::Port;

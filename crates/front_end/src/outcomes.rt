@@ -1,30 +1,15 @@
 //! What becomes of items whose verdict is known.
 
-ghost use Rattle.front_end.specs.Courses.{IsLateOutcome, is_committed};
-ghost use Rattle.std.specs.Prelude.{◌≡◌, true, IfOk, IfSome};
+ghost use Rattle.item_progress.specs.Courses.{is_committed};
+ghost use Rattle.std.specs.Prelude.{◌≡◌, IfOk, IfSome};
 
 use crate::client::Client;
-use crate::link::Link;
-use crate::news::{Learnt, News, Settled};
-use crate::opened::Opened;
-use crate::transaction::{Meaning, Sent};
+use client_state::{Link, Sent};
+use item_progress::{Learnt, Meaning, News, Opened, Settled};
 use message_outbox::{Asked, Verdict};
 use port::Port;
-use serial_model::{Cause, ItemOutcome};
-use thor_value::{Answer, NoMemory, Ts};
+use thor_value::{NoMemory, Ts};
 use validation_window::Refusal;
-
-/// What a committed transaction makes of its item.
-fn committed(ts: Ts, meaning: Meaning) -> ItemOutcome
-    ensures late { IsLateOutcome ts result }
-    ensures stands { is_committed result ≡ true }
-{
-    match meaning {
-        Meaning::Ran(Answer::Ints(answer)) => ItemOutcome::Done { ts, answer },
-        Meaning::Ran(Answer::Fault(fault)) => ItemOutcome::Faulted { ts, fault },
-        Meaning::Upgrade { number, .. } => ItemOutcome::Upgraded { ts, number },
-    }
-}
 
 impl Client {
     /// The present item has committed: what its try has changed is kept.
@@ -33,7 +18,7 @@ impl Client {
         self.held.keep();
         self.learn_commit(opened, ts, &meaning);
         News::Ended {
-            outcome: committed(ts, meaning),
+            outcome: meaning.committed(ts),
         }
     }
 
@@ -75,17 +60,8 @@ impl Client {
     {
         let repo = sent.coordinator();
         let Sent { ts, meaning, .. } = sent;
-        if !verdict.commit() {
-            let outcome = ItemOutcome::Refused {
-                cause: Cause::Down { repo },
-            };
-            return Learnt {
-                settled: Settled { index, ts, outcome },
-                rises: false,
-            };
-        }
-        let rises = self.learn_commit(opened, ts, &meaning);
-        let outcome = committed(ts, meaning);
+        let rises = verdict.commit() && self.learn_commit(opened, ts, &meaning);
+        let outcome = meaning.settled(ts, verdict.commit(), repo);
         Learnt {
             settled: Settled { index, ts, outcome },
             rises,

@@ -1,9 +1,8 @@
 //! Which rule a step follows.
 
 use crate::client::Client;
-use crate::duties::Helping;
-use crate::opened::Opened;
-use crate::phase::Phase;
+use client_state::{Helping, Phase};
+use item_progress::Opened;
 use message_outbox::At;
 
 /// The rule that a step follows. They are tried in this order.

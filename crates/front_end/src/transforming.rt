@@ -2,12 +2,9 @@
 //!
 //! Lazy transforms are those of Boyapati and others (OOPSLA 2003).
 
-use crate::calls::Drew;
 use crate::client::Client;
-use crate::news::News;
-use crate::opened::Opened;
-use crate::phase::Phase;
-use crate::transform::{Stage, Transform, transform_request};
+use client_state::{Drew, Phase, Stage, Transform, transform_request};
+use item_progress::{News, Opened};
 use lazy_transform::{Wanted, bring, wants};
 use message_outbox::At;
 use paused_eval::Paused;

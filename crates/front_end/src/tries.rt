@@ -1,38 +1,12 @@
 //! How a try goes on behind a call, begins anew, and ends.
 
-use crate::calls::Came;
-use crate::causes::cause_of;
 use crate::client::Client;
-use crate::duties::{Abort, Helping};
-use crate::held::Held;
-use crate::link::Waits;
-use crate::news::{Learnt, News};
-use crate::phase::Phase;
+use client_state::{Abort, Came, Held, Helping, Phase, Waits, cause_of};
+use item_progress::{Learnt, News};
 use serial_model::Cause;
 use std::mem;
 use thor_value::NoMemory;
 use validation_window::Refusal;
-
-impl Held {
-    /// What a client learns for its sessions and its floor from the refusal of a request.
-    fn learn(&mut self, repo: u8, refusal: Refusal) {
-        match refusal {
-            Refusal::Gone { session } => self.lose(repo, session),
-            Refusal::Stale { place, .. } => self.wait(repo, Waits::Past { place }),
-            Refusal::Epoch { n } => self.wait(repo, Waits::Epoch { n }),
-            Refusal::TooOld { threshold } => self.raise_floor(threshold),
-            Refusal::Later { tx, .. } => self.raise_floor(tx),
-            Refusal::Earlier { .. }
-            | Refusal::Blocked { .. }
-            | Refusal::Full { .. }
-            | Refusal::Down { .. }
-            | Refusal::Stopped { .. }
-            | Refusal::Damaged { .. }
-            | Refusal::ClockEnd
-            | Refusal::NoMemory => {}
-        }
-    }
-}
 
 /// The transaction that stood against a request and is to be asked about, if there is one.
 fn helping_behind(refusal: Refusal, refuser: u8) -> Option<Helping> {

@@ -1,15 +1,12 @@
 -- What is kept has a spelling as a checkpoint.
 use Rattle.std.proofs.Common.{◌≡◌, List, Option, Some, [], ◌∷◌, ◌++◌, ap, arith, map, refl, subst, sym, take, ℕ, ◌+◌, ◌<◌, ◌^◌, ◌∙◌, ◌≤◌}
-use Rattle.std.proofs.lemmas.Option.{get_or_from_slice_get, slice_get_within}
 use Rattle.std.specs.List.{AllByRecursion}
 use Rattle.std.specs.List.Sorted.{IsStrictlySortedBy}
 use Rattle.std.specs.Map.{keys_of, values_of}
 use Rattle.std.specs.Ordering.{nat_cmp}
-use Rattle.std.specs.Prelude.{slice_get}
 use Rattle.commit_log.specs.RequestForm.{RequestFits, WriteFits}
 use Rattle.commit_log.specs.declared.request.Request.{Request}
 use Rattle.log_bytes.specs.Checkpoint.{StateFits, client_of, tx_of}
-use Rattle.mob_buffer.proofs.Sizes.{taken_next}
 use Rattle.mob_buffer.specs.Buffer.{AreDistinct, AreOf, Objects}
 use Rattle.page_format.specs.Sides.{SidesFit}
 use Rattle.thor_value.specs.Names.{ts_cmp}
@@ -26,11 +23,6 @@ use Rattle.held_state.proofs.Buffers.{distinct_new}
 use Rattle.held_state.specs.Keeps.{Keeps, Stands}
 use Rattle.held_state.specs.Said.{spelled}
 use Rattle.held_state.specs.declared.held.Held.{Held}
-
--- a copy of one object more
-pub copied_next : (objects : Objects) (n : ℕ) (q : Oref × Obj) (made next : List (Oref × Obj)) → made ≡ take n objects → slice_get objects n ≡ Some q → next ≡ made ++ q ∷ [] → next ≡ take (n + 1) objects
-copied_next objects n q made next so_far is put =
-    put ∙ ap (λ (os : List (Oref × Obj)). os ++ q ∷ []) so_far ∙ sym (taken_next objects n q (slice_get_within objects n q is) (sym (get_or_from_slice_get objects n q q is)))
 
 writes_fit : (repo : ℕ) (objects : Objects) → AreOf repo objects → AllByRecursion WriteFits objects
 writes_fit repo [] of = tt

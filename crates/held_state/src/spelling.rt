@@ -13,11 +13,8 @@ pub(crate) fn copy_of(alloc: Global, buffer: &Mob) -> Result<Writes, NoMemory>
     ensures distinct { OnOk result (AreDistinct buffer.now.objects) }
 {
     let mut mob = Writes::new(alloc);
-    for rank in 0..u32::MAX {
-        let Some((name, object)) = buffer.nth(rank) else {
-            return Ok(mob);
-        };
-        mob.push((name, object.copy()?))?;
+    for (name, object) in buffer.iter() {
+        mob.push((*name, object.copy()?))?;
     }
-    Err(NoMemory)
+    Ok(mob)
 }

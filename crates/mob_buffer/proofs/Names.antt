@@ -1,11 +1,10 @@
 -- Names of one repository are told apart by page and slot.
-use Rattle.std.proofs.Common.{◌≡◌, ℕ, zero, suc, ◌+◌, ◌<◌, ◌≤◌, Bool, true, false, cond, ◌&&◌, ◌||◌, ◌==◌, List, [], ◌∷◌, Option, Some, None, is_some, refl, ap, sym, subst, ◌∙◌, arith, inl, inr}
-use Rattle.std.specs.List.{AllByRecursion, list_any}
+use Rattle.std.proofs.Common.{◌≡◌, ℕ, ◌+◌, ◌<◌, ◌≤◌, Bool, true, false, cond, ◌&&◌, ◌||◌, ◌==◌, [], ◌∷◌, Option, Some, is_some, refl, ap, sym, ◌∙◌, arith, inl, inr}
 use Rattle.std.proofs.lemmas.Bool.{cases_lt, eq-eqb}
 use Rattle.std.proofs.lemmas.Bool.Decides.{eqb_tells}
 use Rattle.thor_value.specs.declared.names.Oref.{Oref}
 use Rattle.thor_value.specs.declared.values.Obj.{Obj}
-use Rattle.mob_buffer.specs.Buffer.{AreOf, IsOf, Objects, has_slot, object_of, same_name}
+use Rattle.mob_buffer.specs.Buffer.{AreOf, Objects, has_slot, object_of}
 
 some_or : (q : Oref × Obj) (rest : Option Obj) (a b more : Bool) → a ≡ true → is_some rest ≡ more → is_some (cond (a && b) (Some q.1) rest) ≡ (b || more)
 some_or q rest true true more is h = refl

@@ -1,20 +1,16 @@
 -- How many bytes the objects of a buffer have.
-use Rattle.std.proofs.Common.{◌≡◌, ◌^◌, min, get_or, inl, inr, ◌⊎◌, ℕ, zero, suc, ◌+◌, ◌-◌, ◌*◌, ◌<◌, ◌≤◌, Bool, true, false, cond, not, ◌==◌, List, [], ◌∷◌, ◌++◌, length, take, filter, Option, Some, None, refl, ap, sym, subst, ◌∙◌, arith, length-append, slice_get}
+use Rattle.std.proofs.Common.{◌≡◌, ◌^◌, min, get_or, inl, inr, ◌⊎◌, ℕ, suc, ◌+◌, ◌-◌, ◌*◌, ◌<◌, ◌≤◌, Bool, true, false, cond, not, ◌==◌, List, [], ◌∷◌, ◌++◌, length, take, Option, Some, ap, sym, subst, ◌∙◌, arith}
 use Rattle.std.proofs.Math.Nat.{min-eq_left, min-eq_right}
 use Rattle.std.proofs.Math.Seq.{take-suc}
 use Rattle.std.proofs.lemmas.Bool.{cases_lt}
-use Rattle.std.specs.List.{AllByRecursion, flat_map}
+use Rattle.std.specs.List.{flat_map}
 use Rattle.std.specs.Option.{option_map, unwrap_or}
-use Rattle.std.specs.Map.{lookup}
-use Rattle.std.proofs.lemmas.List.Concat.{flat_map-cons}
-use Rattle.indexmap.specs.IndexMap.{insert_entry}
 use Rattle.thor_value.specs.declared.names.Oref.{Oref}
 use Rattle.thor_value.specs.declared.values.Obj.{Obj}
 use Rattle.thor_value.specs.declared.values.Value.{Value}
-use Rattle.thor_value.specs.declared.values.Value.TheVariants.{Int, Ref, Null}
 use Rattle.thor_value.specs.Spelling.{value_bytes}
-use Rattle.object_codec.specs.Spelling.{ObjFits, obj_bytes}
-use Rattle.mob_buffer.specs.Kept.{size_of, size_at, rank_size}
+use Rattle.object_codec.specs.Spelling.{ObjFits}
+use Rattle.mob_buffer.specs.Kept.{size_of, size_at}
 use Rattle.mob_buffer.specs.Buffer.{AreOf, IsOf, Objects, bytes_of, object_of, same_name, with_object, without_page}
 
 size_here : (q : Oref × Obj) (rest : Objects) (object : Obj) → bytes_of ((q.0, object) ∷ rest) + size_of q.1 ≡ bytes_of (q ∷ rest) + size_of object
@@ -32,20 +28,8 @@ pub bytes_put : (objects : Objects) (x : Oref) (object : Obj) → bytes_of (with
 bytes_put [] x object = omega arith
 bytes_put (q ∷ objects) x object = size_by q objects (with_object objects x object) x object (same_name x q.0) (bytes_put objects x object)
 
--- the objects of some pages have no more bytes than all
-le_both : (a b c : ℕ) → b ≤ c → a + b ≤ a + c
-le_both a b c h = omega arith
-
 le_more : (a b c : ℕ) → b ≤ c → b ≤ a + c
 le_more a b c h = omega arith
-
-kept_by : (q : Oref × Obj) (rest : Objects) (page : ℕ) (b : Bool) → bytes_of (without_page rest page) ≤ bytes_of rest → bytes_of (cond b (q ∷ without_page rest page) (without_page rest page)) ≤ bytes_of (q ∷ rest)
-kept_by q rest page true h = le_both (size_of q.1) (bytes_of (without_page rest page)) (bytes_of rest) h
-kept_by q rest page false h = le_more (size_of q.1) (bytes_of (without_page rest page)) (bytes_of rest) h
-
-pub bytes_kept : (objects : Objects) (page : ℕ) → bytes_of (without_page objects page) ≤ bytes_of objects
-bytes_kept [] page = omega arith
-bytes_kept (q ∷ objects) page = kept_by q objects page (not (q.0.page == page)) (bytes_kept objects page)
 
 -- ---- all are of one repository
 
@@ -57,7 +41,7 @@ pub of_put : (repo : ℕ) (objects : Objects) (x : Oref) (object : Obj) → AreO
 of_put repo [] x object all here = (here, tt)
 of_put repo (q ∷ objects) x object all here = put_by repo q objects (with_object objects x object) object (same_name x q.0) all here.object (of_put repo objects x object all.1 here)
 
-kept_of : (repo : ℕ) (q : Oref × Obj) (rest : Objects) (b : Bool) → IsOf repo q → AreOf repo rest → AreOf repo (cond b (q ∷ rest) rest)
+pub kept_of : (repo : ℕ) (q : Oref × Obj) (rest : Objects) (b : Bool) → IsOf repo q → AreOf repo rest → AreOf repo (cond b (q ∷ rest) rest)
 kept_of repo q rest true here all = (here, all)
 kept_of repo q rest false here all = all
 
@@ -94,24 +78,6 @@ size_within (q ∷ objects) x = within_by q objects x (same_name x q.0) (size_wi
 
 add_both : (a b c d : ℕ) → b ≡ c + d → a + b ≡ (a + c) + d
 add_both a b c d h = omega arith
-
--- the first objects, and one more
-pub bytes_next : (objects : Objects) (n : ℕ) → bytes_of (take (suc n) objects) ≡ bytes_of (take n objects) + rank_size objects n
-bytes_next [] zero = refl
-bytes_next [] (suc n) = refl
-bytes_next (q ∷ objects) zero = omega arith
-bytes_next (q ∷ objects) (suc n) = add_both (size_of q.1) (bytes_of (take (suc n) objects)) (bytes_of (take n objects)) (rank_size objects n) (bytes_next objects n)
-
-pub bytes_taken : (objects : Objects) (n : ℕ) → bytes_of (take n objects) ≤ bytes_of objects
-bytes_taken objects zero = omega arith
-bytes_taken [] (suc n) = omega arith
-bytes_taken (q ∷ objects) (suc n) = le_both (size_of q.1) (bytes_of (take n objects)) (bytes_of objects) (bytes_taken objects n)
-
--- an object at a rank
-pub rank_fits : (repo : ℕ) (objects : Objects) (n : ℕ) (q : Oref × Obj) → AreOf repo objects → slice_get objects n ≡ Some q → IsOf repo q
-rank_fits repo [] n q all is = cc
-rank_fits repo (p ∷ objects) zero q all is = let same : p ≡ q = cc in subst (IsOf repo) same all.0
-rank_fits repo (p ∷ objects) (suc n) q all is = rank_fits repo objects n q all.1 is
 
 bytes_push : (objects : Objects) (q : Oref × Obj) → bytes_of (objects ++ q ∷ []) ≡ bytes_of objects + size_of q.1
 bytes_push [] q = omega arith

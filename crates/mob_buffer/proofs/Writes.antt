@@ -1,14 +1,12 @@
 -- Objects behind writes, and how many bytes they have.
-use Rattle.std.proofs.Common.{◌≡◌, ℕ, zero, suc, ◌+◌, ◌-◌, ◌*◌, ◌^◌, ◌<◌, ◌≤◌, Bool, true, false, cond, ◌&&◌, ◌==◌, List, [], ◌∷◌, ◌++◌, length, take, Option, Some, None, refl, ap, sym, subst, ◌∙◌, arith, inl, inr, length-append, slice_get, get_or}
+use Rattle.std.proofs.Common.{◌≡◌, ℕ, zero, suc, ◌+◌, ◌-◌, ◌<◌, ◌≤◌, Bool, true, false, cond, ◌&&◌, ◌==◌, List, [], ◌∷◌, ◌++◌, length, take, Option, Some, None, refl, ap, sym, subst, ◌∙◌, arith, length-append, slice_get, get_or}
 use Rattle.std.proofs.lemmas.Bool.{eqb-true, eq-eqb}
-use Rattle.std.proofs.lemmas.Bool.Decides.{eqb_tells}
 use Rattle.std.specs.List.{AllByRecursion}
 use Rattle.std.specs.Option.{option_map, unwrap_or}
 use Rattle.indexmap.proofs.MapLemmas.{insert_all_push}
 use Rattle.thor_value.specs.declared.names.Oref.{Oref}
 use Rattle.thor_value.specs.declared.values.Obj.{Obj}
-use Rattle.object_codec.specs.Spelling.{ObjFits}
-use Rattle.mob_buffer.specs.Buffer.{AreOf, CanStand, IsOf, Objects, bytes_of, object_of, same_name, with_all, with_object}
+use Rattle.mob_buffer.specs.Buffer.{AreOf, CanStand, Objects, bytes_of, object_of, same_name, with_all, with_object}
 use Rattle.mob_buffer.specs.Kept.{Tallied, rank_of, size_at, size_behind_one, size_of}
 use Rattle.mob_buffer.proofs.Sizes.{bytes_put, of_put, size_within, taken_next}
 

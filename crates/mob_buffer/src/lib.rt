@@ -3,6 +3,7 @@
 
 mod fault;
 mod mob;
+mod objects;
 mod size;
 mod tally;
 #[cfg(test)]

@@ -1,29 +1,25 @@
-ghost use Rattle.std.specs.Prelude.{◌≡◌, ◌<◌, ◌≤◌, ◌^◌, ◌+◌, ◌-◌, ℕ, List, [], length, slice_get, Some, None, IfOk, IfSome, OnOk, OnErr, IsErrOf, option_map, option_copied};
-ghost use Rattle.std.specs.Map.Iter.{deref_pair};
-ghost use Rattle.object_codec.specs.Spelling.{ObjFits, obj_bytes};
+ghost use Rattle.std.specs.Prelude.{◌≡◌, ◌<◌, ◌≤◌, ◌^◌, ◌-◌, ℕ, [], slice_get, IfOk, IfSome, OnOk, OnErr, IsErrOf, option_map, option_copied};
+ghost use Rattle.std.specs.Map.Iter.{ShowsInOrder, deref_pair};
+ghost use Rattle.object_codec.specs.Spelling.{ObjFits};
 ghost use Rattle.thor_value.specs.Spelling.{OrefFits};
 ghost use Rattle.mob_buffer.specs.Buffer.{AreDistinct, AreOf, AreOneRepo, CanStand, IsNextSlot, behind, bytes_of, object_of, with_all, with_object, without_page};
-ghost use Rattle.indexmap.specs.IndexMap.{spare};
 ghost use Rattle.std.specs.List.{AllByRecursion};
-ghost use Rattle.mob_buffer.specs.Kept.{rank_size};
 ghost use Rattle.mob_buffer.specs.declared.fault.MobFull.TheVariants.{Full};
 
 use crate::fault::MobFull;
+use crate::objects::{SLOTS, make_places, put, replace_all, take_page};
 use crate::size::spelled_size;
 use crate::tally::{bytes_behind, size_held};
-use indexmap::IndexMap;
+use lru::{Iter, LruCache};
 use std::alloc::Global;
 use std::marker::Model;
 use thor_value::{NoMemory, Obj, Oref, TryCopy, Writes};
 
-/// The slots of a page that objects are named by.
-const SLOTS: u8 = 12;
-
 /// Objects that were committed and don't stand in their pages yet, in the order in which their names
 /// came in, names distinct, all of one repository.
 ///
-/// All calls but those that add objects take no memory. None takes time that grows with the buffer but
-/// `remove_page`, which goes over all objects once.
+/// All calls but `new` and those that add objects take no memory. None takes time that grows with the
+/// buffer.
 #[derive(Drop)]
 pub struct Mob {
     limit: u32,
@@ -31,7 +27,9 @@ pub struct Mob {
     bytes: u32,
     /// The repository of the objects, where there is one.
     repo: u8,
-    objects: IndexMap<Oref, Obj>,
+    /// The first to come in stands first. There is no bound on their number.
+    objects: LruCache<Oref, Obj>,
+    alloc: Global,
 }
 
 impl Model for Mob {
@@ -42,11 +40,11 @@ impl Model for Mob {
 
     ghost view = { λ m. record { limit = m.limit; objects = m.objects.entries } };
 
-    ghost invariant = { λ m. Keeps m.objects.entries m.bytes m.repo };
+    ghost invariant = { λ m. Keeps m.objects.entries m.objects.cap m.bytes m.repo };
 }
 
 impl Mob {
-    /// A buffer without objects that takes so many bytes. It takes no memory.
+    /// A buffer without objects that takes so many bytes.
     pub fn new(alloc: Global, limit: u32) -> Result<Mob, NoMemory>
         ensures { IfOk result (λ made. made ≡ record { limit = limit; objects = [] }) }
     {
@@ -54,7 +52,8 @@ impl Mob {
             limit,
             bytes: 0,
             repo: 0,
-            objects: IndexMap::new(alloc),
+            objects: LruCache::unbounded(alloc)?,
+            alloc,
         })
     }
 
@@ -91,7 +90,7 @@ impl Mob {
         let Ok(total) = u32::try_from(self.bytes_with_one(oref, &object)) else {
             return Err(NoMemory);
         };
-        self.objects.insert(oref, object)?;
+        put(&mut self.objects, oref, object)?;
         self.repo = oref.repo;
         self.bytes = total;
         Ok(())
@@ -107,9 +106,9 @@ impl Mob {
             return Err(NoMemory);
         };
         let copied = writes.copy()?;
-        self.objects.reserve(writes.len())?;
         let repo = self.repo_with(writes);
-        put_all(&mut self.objects, copied.into_vec());
+        make_places(self.alloc, &mut self.objects, writes.as_slice())?;
+        replace_all(&mut self.objects, copied.into_vec());
         self.repo = repo;
         self.bytes = total;
         Ok(())
@@ -172,7 +171,7 @@ impl Mob {
         ensures value { option_copied result ≡ object_of self.now.objects oref }
         ensures object { IfSome result (λ object. ObjFits object.now) }
     {
-        match self.objects.get(&oref) {
+        match self.objects.peek(&oref) {
             Some(object) => Some(object),
             None => None,
         }
@@ -195,7 +194,7 @@ impl Mob {
         ensures name { IfSome result OrefFits }
         ensures one_repo { IfSome result (λ oref. AreOf oref.repo self.now.objects) }
     {
-        match self.objects.first() {
+        match self.objects.peek_mru() {
             Some((oref, _)) => Some(*oref),
             None => None,
         }
@@ -205,8 +204,8 @@ impl Mob {
     pub fn remove_page(&mut self, page: u32)
         ensures { self.new ≡ record self.old { objects = without_page self.old.objects page } }
     {
-        self.objects.retain(|oref, _| oref.page != page);
-        self.bytes = sizes(&self.objects);
+        let taken = take_page(&mut self.objects, self.repo, page);
+        self.bytes -= taken;
     }
 
     /// The most bytes that `add` and `add_all` take.
@@ -223,62 +222,26 @@ impl Mob {
         self.bytes
     }
 
-    /// The object at a rank counted from 0, with its name, in the order in which the names came in.
-    pub fn nth(&self, n: u32) -> Option<(Oref, &Obj)>
-        ensures value { option_map (λ q. (q.0, q.1.now)) result ≡ slice_get self.now.objects n }
+    /// The objects with their names, in the order in which the names came in.
+    pub fn iter(&self) -> Iter<'_, Oref, Obj>
+        ensures rest { result ≡ self.now.objects }
+        ensures runs { ShowsInOrder (deref_pair {K = Oref} {X = Obj}) }
         ensures distinct { AreDistinct self.now.objects }
     {
         let _ = self.objects.len();
-        match self.objects.get_index(n as usize) {
-            Some((oref, object)) => Some((*oref, object)),
-            None => None,
-        }
-    }
-}
-
-/// Puts objects under their names, one after the other. There is room for them.
-fn put_all(objects: &mut IndexMap<Oref, Obj>, writes: Vec<(Oref, Obj)>)
-    requires room { length writes.items ≤ spare objects.old }
-    ensures { objects.new.entries ≡ with_all objects.old.entries writes.items }
-{
-    for (oref, object) in writes {
-        let _ = objects.insert(oref, object);
+        self.objects.iter()
     }
 }
 
 /// The least slot of a page, from one on, that has an object.
-fn next_slot(objects: &IndexMap<Oref, Obj>, repo: u8, page: u32, low: u8) -> Option<u8>
+fn next_slot(objects: &LruCache<Oref, Obj>, repo: u8, page: u32, low: u8) -> Option<u8>
     requires { AreOf repo objects.now.entries }
     ensures { IsNextSlot objects.now.entries page low result }
 {
     for slot in low..SLOTS {
-        if objects.contains_key(&Oref { repo, page, slot }) {
+        if objects.contains(&Oref { repo, page, slot }) {
             return Some(slot);
         }
     }
     None
-}
-
-/// The bytes of all objects as they are spelled.
-fn sizes(objects: &IndexMap<Oref, Obj>) -> u32
-    requires fit { (repo : ℕ) × AreOf repo objects.now.entries }
-    requires few { bytes_of objects.now.entries < 2 ^ 32 }
-    ensures { result ≡ bytes_of objects.now.entries }
-{
-    let mut size = 0;
-    for rank in 0..objects.len() {
-        size += size_at_rank(objects, rank);
-    }
-    size
-}
-
-/// How many bytes the object at a rank has, where there is one.
-fn size_at_rank(objects: &IndexMap<Oref, Obj>, rank: usize) -> u32
-    requires { (repo : ℕ) × AreOf repo objects.now.entries }
-    ensures { result ≡ rank_size objects.now.entries rank }
-{
-    match objects.get_index(rank) {
-        Some((_, object)) => spelled_size(object),
-        None => 0,
-    }
 }

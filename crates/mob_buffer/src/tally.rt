@@ -7,7 +7,7 @@ ghost use Rattle.mob_buffer.specs.Buffer.{AreOf, CanStand, bytes_of, with_all};
 ghost use Rattle.mob_buffer.specs.Kept.{Tallied, rank_of, size_at, size_behind_one};
 
 use crate::size::spelled_size;
-use indexmap::IndexMap;
+use lru::LruCache;
 use thor_value::{Obj, Oref};
 
 /// What is known of a buffer behind the first of some writes.
@@ -23,7 +23,7 @@ struct Tally {
 ///
 /// Where each name is behind all those written before it, it isn't looked for among them.
 pub(crate) fn bytes_behind(
-    objects: &IndexMap<Oref, Obj>,
+    objects: &LruCache<Oref, Obj>,
     bytes: u32,
     writes: &[(Oref, Obj)],
 ) -> u128
@@ -44,7 +44,7 @@ pub(crate) fn bytes_behind(
 
 /// The tally behind one write more.
 fn counted(
-    objects: &IndexMap<Oref, Obj>,
+    objects: &LruCache<Oref, Obj>,
     earlier: &[(Oref, Obj)],
     write: &(Oref, Obj),
     tally: Tally,
@@ -69,7 +69,7 @@ fn counted(
 }
 
 /// How many bytes the object of a name has behind these writes, where it has one.
-fn size_behind(objects: &IndexMap<Oref, Obj>, writes: &[(Oref, Obj)], oref: Oref) -> u32
+fn size_behind(objects: &LruCache<Oref, Obj>, writes: &[(Oref, Obj)], oref: Oref) -> u32
     requires fit { (repo : ℕ) × AreOf repo objects.now.entries }
     requires writes { AllByRecursion CanStand writes.now }
     ensures { result ≡ size_at (with_all objects.now.entries writes.now) oref }
@@ -94,11 +94,11 @@ fn size_after(write: &(Oref, Obj), oref: Oref, before: u32) -> u32
 }
 
 /// How many bytes the object of a name has, where there is one.
-pub(crate) fn size_held(objects: &IndexMap<Oref, Obj>, oref: Oref) -> u32
+pub(crate) fn size_held(objects: &LruCache<Oref, Obj>, oref: Oref) -> u32
     requires { (repo : ℕ) × AreOf repo objects.now.entries }
     ensures { result ≡ size_at objects.now.entries oref }
 {
-    match objects.get(&oref) {
+    match objects.peek(&oref) {
         Some(object) => spelled_size(object),
         None => 0,
     }

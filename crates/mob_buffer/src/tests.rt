@@ -53,13 +53,13 @@ fn a_third_object_of_16_bytes_passes_32(rt: HostRuntime) -> Result<(), Fail> {
     assert_eq!(rt; number_of(mob.get(name(7, 1))), None);
     // In the order in which the names came in.
     let wants: [(Oref, i64); 3] = [(name(7, 3), 4), (name(5, 0), 2), (name(7, 0), 5)];
-    for rank in 0..3u32 {
-        let (oref, object) = mob.nth(rank).ok_or("three are held")?;
-        let (want, number) = wants[rank as usize];
-        assert_eq!(rt; oref, want);
-        assert_eq!(rt; number_of(Some(object)), Some(number));
+    let mut rank = 0usize;
+    for (oref, object) in mob.iter() {
+        let want = wants.get(rank).copied().ok_or("three are held")?;
+        assert_eq!(rt; (*oref, number_of(Some(object))), (want.0, Some(want.1)));
+        rank = rank.saturating_add(1);
     }
-    assert!(rt; mob.nth(3).is_none());
+    assert_eq!(rt; rank, 3);
     assert_eq!(rt; mob.of_page(7, None), Some(0));
     assert_eq!(rt; mob.of_page(7, Some(0)), Some(3));
     assert_eq!(rt; mob.of_page(7, Some(3)), None);

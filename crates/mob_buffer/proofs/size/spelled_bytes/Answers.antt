@@ -1,4 +1,4 @@
-use Rattle.std.proofs.Common.{◌≡◌, ◌<◌, ◌∙◌, List, length, get_or, ap, subst}
+use Rattle.std.proofs.Common.{◌<◌, ◌∙◌, List, length, get_or, ap, subst}
 use Rattle.thor_value.specs.declared.names.Oref.{Oref}
 use Rattle.thor_value.specs.declared.values.Obj.{Obj}
 use Rattle.mob_buffer.proofs.Sizes.{told_next}

@@ -1,6 +1,3 @@
-use Rattle.std.proofs.Common.{◌≡◌, ◌≤◌, ◌+◌, ◌*◌, length, take}
-use Rattle.std.specs.List.{flat_map}
-use Rattle.thor_value.specs.Spelling.{value_bytes}
 use Rattle.mob_buffer.proofs.Sizes.{Counted}
 use Rattle.mob_buffer.proofs.size.spelled_size.Given as goal
 

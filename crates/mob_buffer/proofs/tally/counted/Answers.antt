@@ -1,6 +1,6 @@
-use Rattle.std.proofs.Common.{◌≡◌, ◌≤◌, ◌<◌, ◌+◌, ◌-◌, refl, arith, sym, ◌∙◌}
+use Rattle.std.proofs.Common.{◌≡◌, ◌+◌, ◌-◌, refl, arith, sym, ◌∙◌}
 use Rattle.mob_buffer.specs.Buffer.{with_all}
-use Rattle.mob_buffer.specs.Kept.{rank_of, size_at}
+use Rattle.mob_buffer.specs.Kept.{size_at}
 use Rattle.mob_buffer.proofs.Writes.{before_within, not_written, tallied_next}
 use Rattle.mob_buffer.proofs.tally.counted.Goals.{then-rank-tally, else-rank-tally}
 use Rattle.mob_buffer.proofs.tally.counted.Goals as goal

@@ -1,5 +1,4 @@
-use Rattle.std.proofs.Common.{◌≡◌, ◌≤◌, arith, ap}
-use Rattle.mob_buffer.specs.Buffer.{Buffer, bytes_of, with_object}
+use Rattle.std.proofs.Common.{arith}
 use Rattle.mob_buffer.proofs.Sizes.{bytes_put, size_within}
 use Rattle.mob_buffer.proofs.mob.Mob.bytes_with_one.Goals as goal
 

@@ -1,4 +1,4 @@
-use Rattle.std.proofs.Common.{◌≡◌, sym}
+use Rattle.std.proofs.Common.{sym}
 use Rattle.mob_buffer.proofs.Writes.{repo_behind, repo_of_first}
 use Rattle.mob_buffer.proofs.mob.Mob.repo_with.Goals as goal
 

@@ -1,6 +1,6 @@
 //! What a step has come to for the present item, or for one that was held as Unknown.
 
-ghost use Rattle.front_end.specs.Courses.{IsLateOutcome};
+ghost use Rattle.item_progress.specs.Courses.{IsLateOutcome};
 
 use serial_model::{Cause, ItemOutcome, What};
 use thor_value::{Ts, Who};

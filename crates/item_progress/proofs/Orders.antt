@@ -1,6 +1,6 @@
 -- The outcomes of a client stay in the order of its items.
-use Rattle.front_end.proofs.Places.{end_cases, end_length, set_cases}
-use Rattle.front_end.specs.Courses.{Course, IsInOrder, who_behind}
+use Rattle.item_progress.proofs.Places.{end_cases, end_length, set_cases}
+use Rattle.item_progress.specs.Courses.{Course, IsInOrder, who_behind}
 use Rattle.serial_model.specs.declared.outcomes.Ended.{Ended}
 use Rattle.std.proofs.Common.{List, [], ap, arith, inl, inr, length, refl, subst, suc, sym, zero, ℕ, ◌++◌, ◌<◌, ◌≡◌, ◌∙◌, ◌∷◌}
 use Rattle.std.proofs.lemmas.List.{length-set}

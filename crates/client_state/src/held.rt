@@ -3,8 +3,8 @@
 ghost use Rattle.std.specs.Prelude.{◌<◌};
 
 use crate::link::{Link, Waits};
-use crate::opened::Opened;
 use client_cache::Looked;
+use item_progress::Opened;
 use message_outbox::At;
 use object_pages::is_object_page;
 use paused_eval::{Copies, GrantedNames};

@@ -1,6 +1,6 @@
 //! How far a client has come in its items.
 
-ghost use Rattle.front_end.specs.Courses.{Ends, Goes, IsInOrder, IsLateOutcome, Learns, who_behind};
+ghost use Rattle.item_progress.specs.Courses.{Ends, Goes, IsInOrder, IsLateOutcome, Learns, who_behind};
 ghost use Rattle.serial_model.specs.declared.outcomes.ItemOutcome.TheVariants as outcomes;
 ghost use Rattle.std.specs.Prelude.{◌≡◌, ◌+◌, ◌<◌, ◌^◌, ◌⊎◌, [], IsSome, IsTrue, length, ◌↔◌};
 
@@ -29,7 +29,7 @@ pub struct Progress {
 }
 
 impl Model for Progress {
-    ghost use Rattle.front_end.specs.Courses.{Course, IsInOrder};
+    ghost use Rattle.item_progress.specs.Courses.{Course, IsInOrder};
     ghost use Rattle.std.specs.Prelude.{length};
 
     ghost Value = { Course };

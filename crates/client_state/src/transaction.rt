@@ -1,11 +1,9 @@
 //! A transaction that a try has made, and what is sent of it.
 
 use crate::link::Link;
-use commit_log::Kind;
+use item_progress::Meaning;
 use message_outbox::At;
-use thor_value::{
-    Answer, NoMemory, Obj, Oref, OrefMap, Orefs, Repos, Sequence, Text, TryCopy, Ts, Writes,
-};
+use thor_value::{Answer, NoMemory, Obj, Oref, OrefMap, Orefs, Repos, Sequence, Text, Ts, Writes};
 
 /// What one participant is sent of a transaction.
 #[derive(Drop)]
@@ -18,15 +16,6 @@ pub struct Share {
     pub ros: Orefs,
     /// The objects there that it wrote or created, rising.
     pub writes: Writes,
-}
-
-/// What the commit of a transaction makes of its item.
-#[derive(Drop)]
-pub enum Meaning {
-    /// A transaction with this answer.
-    Ran(Answer),
-    /// The upgrade of this number, and its text.
-    Upgrade { number: u32, text: Text },
 }
 
 /// A transaction that a try has made.
@@ -75,24 +64,6 @@ impl Share {
     /// Whether it reads an object.
     fn reads(&self, oref: Oref) -> bool {
         self.repo == oref.repo && self.ros.as_slice().binary_search(&oref).is_ok()
-    }
-}
-
-impl Meaning {
-    /// The kind of the requests.
-    pub fn kind(&self) -> Result<Kind, NoMemory> {
-        match self {
-            Meaning::Ran(_) => Ok(Kind::App),
-            Meaning::Upgrade { text, .. } => Ok(Kind::Upgrade { text: text.copy()? }),
-        }
-    }
-
-    /// The answer of the requests. An upgrade has an empty one.
-    pub fn answer(&self) -> Result<Answer, NoMemory> {
-        match self {
-            Meaning::Ran(answer) => answer.copy(),
-            Meaning::Upgrade { text, .. } => Ok(Answer::Ints(Sequence::new(text.allocator()))),
-        }
     }
 }
 

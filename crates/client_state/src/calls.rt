@@ -3,8 +3,7 @@
 use crate::causes::cause_of;
 use crate::held::Held;
 use crate::link::{Link, Waits};
-use crate::news::Learnt;
-use crate::opened::Opened;
+use item_progress::{Learnt, Opened};
 use message_outbox::{At, Welcome};
 use port::Port;
 use serial_model::Cause;

@@ -1,0 +1,26 @@
+//! What a client learns from a refusal.
+
+use crate::held::Held;
+use crate::link::Waits;
+use validation_window::Refusal;
+
+impl Held {
+    /// What a client learns for its sessions and its floor from the refusal of a request.
+    pub fn learn(&mut self, repo: u8, refusal: Refusal) {
+        match refusal {
+            Refusal::Gone { session } => self.lose(repo, session),
+            Refusal::Stale { place, .. } => self.wait(repo, Waits::Past { place }),
+            Refusal::Epoch { n } => self.wait(repo, Waits::Epoch { n }),
+            Refusal::TooOld { threshold } => self.raise_floor(threshold),
+            Refusal::Later { tx, .. } => self.raise_floor(tx),
+            Refusal::Earlier { .. }
+            | Refusal::Blocked { .. }
+            | Refusal::Full { .. }
+            | Refusal::Down { .. }
+            | Refusal::Stopped { .. }
+            | Refusal::Damaged { .. }
+            | Refusal::ClockEnd
+            | Refusal::NoMemory => {}
+        }
+    }
+}

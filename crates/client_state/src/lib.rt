@@ -1,0 +1,23 @@
+//! What a client holds between its calls: sessions, copies of objects, names for new ones, what it owes, and
+//! how far its try has come.
+#![tactic(auto)]
+
+mod calls;
+mod causes;
+mod duties;
+mod held;
+mod learning;
+mod link;
+mod phase;
+mod requests;
+mod transaction;
+mod transform;
+
+pub use calls::{Came, Drew};
+pub use causes::cause_of;
+pub use duties::{Abort, Duties, Duty, Helping};
+pub use held::{Held, REPOSITORIES};
+pub use link::{Link, Waits};
+pub use phase::Phase;
+pub use transaction::{Sent, Share, Transaction};
+pub use transform::{Stage, Transform, transform_request};

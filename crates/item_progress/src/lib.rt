@@ -1,0 +1,12 @@
+//! How far a client has come in its items, and how they end.
+#![tactic(auto)]
+
+mod meaning;
+mod news;
+mod opened;
+mod progress;
+
+pub use meaning::Meaning;
+pub use news::{Learnt, News, Settled, Task};
+pub use opened::{Items, Opened};
+pub use progress::Progress;
