@@ -309,8 +309,31 @@ fn reply_by_plan<S: Source, P: Parts, W: Runner<P>>(
     ensures kept { WritesNothing plan.now.command result.reply → AreSame P.disks parts.items result.parts.items }
 {
     match plan.command {
-        Command::Check | Command::Play | Command::Run => read_and_reply(alloc, runner, plan, source, parts),
+        Command::Check | Command::Play | Command::Run => {
+            read_and_reply(alloc, runner, plan, source, parts)
+        }
         Command::Gen { n } => generate_and_reply(alloc, runner, plan, n, parts),
+    }
+}
+
+/// Does what a plan asks for, on threads where it asks for that.
+fn run_by_plan<R: Threads + Wait + Sync, S: Source, P: Parts + Send, G: Gate + Sync>(
+    rt: &R,
+    alloc: Global,
+    gate: &G,
+    plan: &Plan,
+    source: &mut S,
+    parts: Vec<P>,
+) -> Answered<P>
+    ensures reply { IfOk result.reply (λ reply. SaysOf plan.now (record { left = S.left source.old; faults = S.faults source.old }) (record { left = S.left source.new; faults = S.faults source.new }) reply.status reply.text) }
+    ensures parts { vec_len result.parts ≡ vec_len parts }
+    ensures kept { WritesNothing plan.now.command result.reply → AreSame P.disks parts.items result.parts.items }
+{
+    match plan.command {
+        Command::Run => reply_by_plan(alloc, &OnThreads { rt, gate }, plan, source, parts),
+        Command::Check | Command::Play | Command::Gen { n: _ } => {
+            reply_by_plan(alloc, &InTurn, plan, source, parts)
+        }
     }
 }
 
@@ -331,11 +354,7 @@ fn answer<R: Threads + Wait + Sync, S: Source, P: Parts + Send, G: Gate + Sync>(
     match read_words(alloc, words) {
         Ok(plan) => {
             if usize::from(plan.repos) == parts.len() {
-                if plan.command == Command::Run {
-                    reply_by_plan(alloc, &OnThreads { rt, gate }, &plan, source, parts)
-                } else {
-                    reply_by_plan(alloc, &InTurn, &plan, source, parts)
-                }
+                run_by_plan(rt, alloc, gate, &plan, source, parts)
             } else {
                 untouched(alloc, says(alloc, Status::Words, b"words\n"), parts)
             }
@@ -348,7 +367,8 @@ fn answer<R: Threads + Wait + Sync, S: Source, P: Parts + Send, G: Gate + Sync>(
 /// The program: reads a script from the source, does with it what the words ask for, on the parts of as many
 /// repositories, and writes the answer to the sink.
 ///
-/// `check` tells whether the script breaks a rule, and `play` runs it. `gen` runs the generated script of a number
+/// `check` tells whether the script breaks a rule. `play` runs it, one event after the other, and `run` does with a thread
+/// for each client. `gen` runs the generated script of a number
 /// without reading the source, and writes a summary. The text that is written ends in a newline. The parts come
 /// back in every case. A check leaves their disks as they were, and so does what refuses words, script or store.
 pub fn thor<
