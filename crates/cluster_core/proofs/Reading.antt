@@ -1,6 +1,8 @@
 -- The disk of pages is read beside an open log.
+use Rattle.cluster_core.specs.Same.{Same}
 use Rattle.cluster_core.specs.Recovered.{HasBytes, IsRecovered, Stays}
-use Rattle.disk_trait.specs.AllDisks.{AllSettled}
+use Rattle.cluster_core.proofs.Syncing.{same_beside, same_content, same_then}
+use Rattle.disk_trait.specs.AllDisks.{AllSettled, LeavesAll, MayLeaveAll, SameContent}
 use Rattle.disk_trait.specs.Disks.{Disks}
 use Rattle.disk_trait.proofs.Runs.{alone_none, alone_then}
 use Rattle.disk_trait.proofs.Several.{content_stays, settled_still}
@@ -65,3 +67,11 @@ one_side p s q t n Equal is within found =
 -- a disk that is long enough reaches one installed side
 pub reaches_one : (page side : ℕ) (disk : List ℕ) → place_of page side + page_size ≤ length disk → ReachesSides ((page, side) ∷ []) disk
 reaches_one page side disk within = λ q t found. one_side page side q t (length disk) (nat_cmp q page) refl within found
+
+-- what was read alone is as it was
+pub same_on : (old new : Disks) → Stays old new → Same old new
+same_on old new stays = same_beside old new 2 stays.alone stays.content stays.crash
+
+-- disks that were synced, recovered from, and read page by page are as they were
+pub same_read : (old synced recovered new : Disks) → Same old synced → SameContent synced recovered → LeavesAll synced recovered (MayLeaveAll synced synced.time) → Stays recovered new → Same old new
+same_read old synced recovered new first content run stays = same_then old synced new first (same_then synced recovered new (same_content synced recovered content run) (same_on recovered new stays))

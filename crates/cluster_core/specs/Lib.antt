@@ -1,2 +1,4 @@
 pub mod Counts
 pub mod Recovered
+pub mod Same
+pub mod Seated

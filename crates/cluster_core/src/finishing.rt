@@ -4,7 +4,6 @@ ghost use Rattle.cluster_core.specs.Counts.{parts_of};
 ghost use Rattle.std.specs.Prelude.{vec_capacity, vec_len, ◌≡◌, ◌≤◌};
 
 use crate::cluster::Cluster;
-use crate::filling::put_within;
 use crate::history::history_of;
 use crate::seat::Seat;
 use class_defs::Schemas;
@@ -74,7 +73,7 @@ fn close_all<P: Parts>(
     let mut traces = Ok(Traces::new(alloc));
     for seat in seats {
         let (part, trace) = close(alloc, seat);
-        put_within(&mut parts, part);
+        parts.push_reserved(part);
         traces = with_trace(traces, trace);
     }
     (parts, traces)

@@ -1,13 +1,14 @@
 //! A store's parts, read and checked.
 
 ghost use Rattle.cluster_core.specs.Recovered.{Finds};
+ghost use Rattle.cluster_core.specs.Same.{Same};
+ghost use Rattle.cluster_core.specs.Seated.{AreSeated, IsSeated};
 ghost use Rattle.std.specs.Option.{IfSome};
-ghost use Rattle.std.specs.Prelude.{IfErr, IfOk, vec_capacity, vec_len, ◌≡◌, ◌≤◌};
+ghost use Rattle.std.specs.Prelude.{IfErr, IfOk, List, vec_capacity, vec_len, ◌≡◌, ◌≤◌};
 ghost use Rattle.thor_value.specs.FiniteMap.{IsSorted};
 
 use crate::eager::eager;
 use crate::fault::{ClusterFault, Unopened, number_at};
-use crate::filling::put_within;
 use crate::fit::check_store;
 use crate::known::Known;
 use crate::repository::{Read, read_repository};
@@ -53,14 +54,18 @@ pub struct Found<P: Parts> {
 }
 
 impl<P: Parts> Found<P> {
-    ghost use Rattle.cluster_core.specs.Counts.{parts_in};
+    ghost use Rattle.cluster_core.specs.Counts.{HasParts, parts_in};
+    ghost use Rattle.cluster_core.specs.Same.{AreSame};
 
     /// Reads and checks every repository, rising, with all its installed pages, and then whether they fit
     /// together. Its disks are synced before they are read, so that what was read outlives a crash. The buffer
     /// of a repository is to be full at `mob` bytes, 1 to 16,777,216.
+    #[tactic(auto, using(crate::proofs::Places::gives_all, crate::proofs::Places::same_all))]
     pub fn read(alloc: Global, parts: Vec<P>, mob: u32) -> Result<Found<P>, ClusterFault<P>>
         ensures ok { IfOk result (λ found. parts_in found ≡ vec_len parts) }
         ensures err { IfErr result (λ fault. vec_len fault.parts ≡ vec_len parts) }
+        ensures found { IfOk result (HasParts P.disks parts.items) }
+        ensures unread { IfErr result (λ fault. AreSame P.disks parts.items fault.parts.items) }
     {
         let Ok(spare) = Vec::with_capacity(alloc, parts.len()) else {
             return Err(unread(parts));
@@ -136,8 +141,10 @@ impl<P: Parts> Found<P> {
     }
 
     /// The parts, as they were handed in.
+    #[tactic(auto, using(crate::proofs::Places::gives_all))]
     pub fn into_parts(self) -> Vec<P>
-        ensures { vec_len result ≡ parts_in self }
+        ensures count { vec_len result ≡ parts_in self }
+        ensures parts { (given : List P) → HasParts P.disks given self → AreSame P.disks given result.items }
     {
         let Found { seats, spare, .. } = self;
         give_back(seats, spare)
@@ -176,7 +183,7 @@ fn count_of<P: Parts>(seat: &Seat<P>) -> u64 {
 
 /// Parts that weren't read for want of memory.
 fn unread<P>(parts: Vec<P>) -> ClusterFault<P>
-    ensures { vec_len result.parts ≡ vec_len parts }
+    ensures { result.parts ≡ parts }
 {
     ClusterFault {
         parts,
@@ -186,6 +193,7 @@ fn unread<P>(parts: Vec<P>) -> ClusterFault<P>
 
 /// Reads the repositories, rising, into seats for which there is room: all of them, also beside a fresh
 /// repository 0. Behind one that can't be read the others aren't.
+#[tactic(auto, using(crate::proofs::Places::zip_more, crate::proofs::Places::next_one, crate::proofs::Places::none_in))]
 fn read_all<P: Parts>(
     alloc: Global,
     parts: Vec<P>,
@@ -195,31 +203,49 @@ fn read_all<P: Parts>(
 ) -> (Vec<Seat<P>>, Result<(), Unopened>)
     requires empty { vec_len seats ≡ 0 }
     requires room { vec_len parts ≤ vec_capacity seats }
-    ensures { vec_len result.0 ≡ vec_len parts }
+    ensures count { vec_len result.0 ≡ vec_len parts }
+    ensures seated { AreSeated P.disks parts.items result.0.items }
 {
     let repos = parts.len();
     let mut seats = seats;
     let mut read = Ok(());
     for part in parts {
-        let found = match read {
-            Ok(()) => read_next(alloc, part, seats.as_slice(), repos, mob, objects),
-            Err(why) => (Seat::Parts(part), Err(why)),
-        };
-        put_within(&mut seats, found.0);
+        let found = read_next(alloc, read, part, seats.as_slice(), repos, mob, objects);
+        seats.push_reserved(found.0);
         read = found.1;
     }
     (seats, read)
 }
 
-/// Reads the repository behind those that were read.
+/// Reads the repository behind others, where all of them were read.
 fn read_next<P: Parts>(
+    alloc: Global,
+    before: Result<(), Unopened>,
+    part: P,
+    seats: &[Seat<P>],
+    repos: usize,
+    mob: u32,
+    objects: &mut OrefMap<Obj>,
+) -> (Seat<P>, Result<(), Unopened>)
+    ensures { IsSeated P.disks part result.0 }
+{
+    match before {
+        Ok(()) => read_behind(alloc, part, seats, repos, mob, objects),
+        Err(why) => (Seat::Parts(part), Err(why)),
+    }
+}
+
+/// Reads the repository behind those that were read.
+fn read_behind<P: Parts>(
     alloc: Global,
     part: P,
     seats: &[Seat<P>],
     repos: usize,
     mob: u32,
     objects: &mut OrefMap<Obj>,
-) -> (Seat<P>, Result<(), Unopened>) {
+) -> (Seat<P>, Result<(), Unopened>)
+    ensures { IsSeated P.disks part result.0 }
+{
     let (Ok(repo), Ok(repos)) = (number_at(seats.len()), number_at(repos)) else {
         return (Seat::Parts(part), Err(Unopened::NoMemory));
     };
@@ -238,6 +264,7 @@ fn seated<P: Parts>(
     seats: &[Seat<P>],
 ) -> (Seat<P>, Result<(), Unopened>)
     requires { Finds (P.disks part) found }
+    ensures { (given : P) → Same (P.disks given) (P.disks part) → IsSeated P.disks given result.0 }
 {
     match found {
         Some((recovered, behind)) => (Seat::Known(Known::new(part, recovered, behind)), Ok(())),

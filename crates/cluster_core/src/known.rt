@@ -1,6 +1,7 @@
 //! A repository as an opening has recovered it.
 
 ghost use Rattle.cluster_core.specs.Recovered.{IsRecovered};
+ghost use Rattle.std.specs.Prelude.{◌≡◌};
 
 use crate::repository::Read;
 use crate::settled::Settled;
@@ -33,6 +34,7 @@ impl<P: Parts> Known<P> {
     /// What was recovered from these parts.
     pub(crate) fn new(parts: P, recovered: Recovered, behind: u32) -> Known<P>
         requires { IsRecovered (P.disks parts) recovered }
+        ensures { result ≡ parts }
     {
         Known {
             parts,
@@ -55,7 +57,9 @@ impl<P: Parts> Known<P> {
     }
 
     /// The parts.
-    pub(crate) fn into_parts(self) -> P {
+    pub(crate) fn into_parts(self) -> P
+        ensures { result ≡ self }
+    {
         let Known { parts, .. } = self;
         parts
     }

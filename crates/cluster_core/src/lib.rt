@@ -9,7 +9,6 @@ mod draining;
 mod eager;
 mod events;
 mod fault;
-mod filling;
 mod finishing;
 mod fit;
 mod found;

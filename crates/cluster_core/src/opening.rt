@@ -6,7 +6,6 @@ ghost use Rattle.std.specs.Prelude.{IfErr, IfOk, vec_len, ◌≡◌};
 use crate::accepting::with_upgrades;
 use crate::cluster::Cluster;
 use crate::fault::{ClusterFault, Unopened, number_at};
-use crate::filling::put_within;
 use crate::found::{Found, Store};
 use crate::plan::{Plan, Start};
 use crate::seat::{Seat, give_back};
@@ -142,7 +141,7 @@ fn open_all<P: Parts>(alloc: Global, seats: Vec<Seat<P>>) -> (Vec<Seat<P>>, Resu
             Ok(()) => open_next(alloc, seat, done.len()),
             Err(why) => (seat, Err(why)),
         };
-        put_within(&mut done, next.0);
+        done.push_reserved(next.0);
         opened = next.1;
     }
     (done, opened)
@@ -200,7 +199,7 @@ fn format_from<P: Parts>(
             }
             before => (seat, before),
         };
-        put_within(&mut done, next.0);
+        done.push_reserved(next.0);
         formatted = next.1;
     }
     (done, formatted)

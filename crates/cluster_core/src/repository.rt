@@ -1,8 +1,10 @@
 //! One repository, as an opening finds it on its disks.
 
 ghost use Rattle.cluster_core.specs.Recovered.{Finds};
+ghost use Rattle.cluster_core.specs.Same.{Same};
 ghost use Rattle.disk_trait.specs.AllDisks.{AllSettled};
-ghost use Rattle.std.specs.Prelude.{IfOk, OnOk};
+ghost use Rattle.disk_trait.specs.Disks.{IsSettled, OnDisk};
+ghost use Rattle.std.specs.Prelude.{IfOk, OnOk, ◌<◌};
 
 use crate::fault::{Unopened, fault_of, outage_of};
 use crate::pages::read_pages;
@@ -36,6 +38,7 @@ fn damaged(recovered: &Recovered, repo: u8) -> Unopened {
 
 /// Syncs the disks of a repository, and reads it. The answer is what was recovered, and the page behind the
 /// last one with objects; nothing where it is fresh. The objects of its pages are put into a map.
+#[tactic(auto, using(crate::proofs::Syncing::same_then, crate::proofs::Syncing::same_content, crate::proofs::Reading::same_on))]
 pub(crate) fn read_repository<P: Parts>(
     alloc: Global,
     parts: &mut P,
@@ -44,7 +47,8 @@ pub(crate) fn read_repository<P: Parts>(
     mob: u32,
     objects: &mut OrefMap<Obj>,
 ) -> Result<Option<(Recovered, u32)>, Unopened>
-    ensures { IfOk result (Finds (P.disks parts.new)) }
+    ensures found { IfOk result (Finds (P.disks parts.new)) }
+    ensures same { Same (P.disks parts.old) (P.disks parts.new) }
 {
     sync(parts, repo)?;
     let recovered = match recover(alloc, parts, mob) {
@@ -62,7 +66,8 @@ pub(crate) fn read_repository<P: Parts>(
 
 /// Syncs the disks of a repository.
 fn sync<P: Parts>(parts: &mut P, repo: u8) -> Result<(), Unopened>
-    ensures { OnOk result (AllSettled (P.disks parts.new)) }
+    ensures settled { OnOk result (AllSettled (P.disks parts.new)) }
+    ensures same { Same (P.disks parts.old) (P.disks parts.new) }
 {
     match sync_all(parts) {
         Ok(()) => Ok(()),
@@ -71,11 +76,23 @@ fn sync<P: Parts>(parts: &mut P, repo: u8) -> Result<(), Unopened>
 }
 
 /// Syncs all disks. After `Ok` a crash leaves what a read gives.
-#[tactic(auto, using(crate::proofs::Syncing::all_synced))]
+#[tactic(auto, using(crate::proofs::Syncing::all_synced, crate::proofs::Syncing::same_then))]
 fn sync_all<P: Parts>(parts: &mut P) -> Result<(), Outage>
-    ensures { OnOk result (AllSettled (P.disks parts.new)) }
+    ensures settled { OnOk result (AllSettled (P.disks parts.new)) }
+    ensures same { Same (P.disks parts.old) (P.disks parts.new) }
 {
-    parts.sync(0)?;
-    parts.sync(1)?;
-    parts.sync(2)
+    sync_one(parts, 0)?;
+    sync_one(parts, 1)?;
+    sync_one(parts, 2)
+}
+
+/// Syncs one disk.
+#[tactic(auto, using(crate::proofs::Syncing::same_beside))]
+fn sync_one<P: Parts>(parts: &mut P, disk: u8) -> Result<(), Outage>
+    requires { disk < 3 }
+    ensures alone { OnDisk (P.disks parts.old) (P.disks parts.new) disk }
+    ensures settled { OnOk result (IsSettled (P.disks parts.new) disk) }
+    ensures same { Same (P.disks parts.old) (P.disks parts.new) }
+{
+    parts.sync(disk)
 }

@@ -1,9 +1,10 @@
 //! A repository's place in a store.
 
+ghost use Rattle.cluster_core.specs.Seated.{Gives};
+ghost use Rattle.std.specs.List.{AllZip};
 ghost use Rattle.std.specs.Prelude.{vec_capacity, vec_len, ◌≡◌, ◌≤◌};
 
 use crate::fault::Unopened;
-use crate::filling::put_within;
 use crate::known::Known;
 use crate::repository::Read;
 use crate::settled::Settled;
@@ -25,7 +26,9 @@ pub enum Seat<P: Parts> {
 
 impl<P: Parts> Seat<P> {
     /// The parts.
-    pub(crate) fn into_parts(self) -> P {
+    pub(crate) fn into_parts(self) -> P
+        ensures { Gives P.disks self result }
+    {
         match self {
             Seat::Parts(parts) => parts,
             Seat::Fresh(settled) => settled.into_parts(),
@@ -71,14 +74,16 @@ fn why(repo: u8, cause: OpenCause) -> Unopened {
 }
 
 /// The parts of all repositories, put into a vector that is empty and has room for them.
+#[tactic(auto, using(crate::proofs::Places::zip_more, crate::proofs::Places::next_one, crate::proofs::Places::none_in))]
 pub(crate) fn give_back<P: Parts>(seats: Vec<Seat<P>>, spare: Vec<P>) -> Vec<P>
     requires empty { vec_len spare ≡ 0 }
     requires room { vec_len seats ≤ vec_capacity spare }
-    ensures { vec_len result ≡ vec_len seats }
+    ensures count { vec_len result ≡ vec_len seats }
+    ensures gives { AllZip (Gives P.disks) seats.items result.items }
 {
     let mut parts = spare;
     for seat in seats {
-        put_within(&mut parts, seat.into_parts());
+        parts.push_reserved(seat.into_parts());
     }
     parts
 }

@@ -1,6 +1,7 @@
 //! The disks of a repository that is to be formatted.
 
 ghost use Rattle.disk_trait.specs.AllDisks.{AllSettled};
+ghost use Rattle.std.specs.Prelude.{◌≡◌};
 
 use class_defs::Setup;
 use disk_trait::Parts;
@@ -28,12 +29,15 @@ impl<P: Parts> Settled<P> {
     /// Parts whose disks are settled.
     pub(crate) fn new(parts: P) -> Settled<P>
         requires { AllSettled (P.disks parts) }
+        ensures { result ≡ parts }
     {
         Settled { parts }
     }
 
     /// The parts.
-    pub(crate) fn into_parts(self) -> P {
+    pub(crate) fn into_parts(self) -> P
+        ensures { result ≡ self }
+    {
         let Settled { parts } = self;
         parts
     }
