@@ -58,10 +58,7 @@ pub(crate) fn lock_all<P: Parts>(
 }
 
 /// Takes repositories out of their locks. There is room for them.
-pub(crate) fn unlock_all<P: Parts>(
-    locks: Vec<Mutex<Seat<P>>>,
-    room: Vec<Seat<P>>,
-) -> Vec<Seat<P>>
+pub(crate) fn unlock_all<P: Parts>(locks: Vec<Mutex<Seat<P>>>, room: Vec<Seat<P>>) -> Vec<Seat<P>>
     requires empty { vec_len room ≡ 0 }
     requires room { vec_len locks ≤ vec_capacity room }
     ensures { vec_len result ≡ vec_len locks }

@@ -37,7 +37,16 @@ pub fn run_clients<R: Threads + Wait + Sync, P: Parts + Send, G: Gate + Sync>(
     ensures { vec_len result.parts ≡ parts_of cluster }
 {
     let (emptied, seats, clients) = cluster.emptied();
-    let (seats, ran) = run_locked(rt, alloc, seats, emptied.opened(), clients, events, mob, gate);
+    let (seats, ran) = run_locked(
+        rt,
+        alloc,
+        seats,
+        emptied.opened(),
+        clients,
+        events,
+        mob,
+        gate,
+    );
     ended(alloc, emptied, seats, ran)
 }
 
