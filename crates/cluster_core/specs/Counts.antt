@@ -14,10 +14,10 @@ parts_in found = vec_len found.seats
 abbrev pub parts_of : {P : Type 0} → {g : _} → Cluster P g → ℕ
 parts_of cluster = vec_len cluster.seats
 
--- of an open store whose repositories are elsewhere: for how many parts it has room
-abbrev pub room_of : {P : Type 0} → {g : _} → Emptied P g → ℕ
-room_of emptied = vec_capacity emptied.spare
-
 -- A store that was found has these parts, in their order, and their disks are as they were.
 abbrev pub HasParts : {P : Type 0} → {g : _} → (P → Disks) → List P → Found P g → Type 0
 HasParts disks parts found = AreSeated disks parts found.seats.items
+
+-- of an open store whose repositories were taken out: for how many parts it has room
+abbrev pub room_of : {P : Type 0} → {g : _} → Emptied P g → ℕ
+room_of emptied = vec_capacity emptied.spare

@@ -104,7 +104,15 @@ fn run<R: Threads + Wait + Sync, G: Gate + Sync>(
     let mut sink = MemSink::new(Ints::new(alloc));
     let words = words(alloc)?;
     let parts = two_parts(alloc)?;
-    let outcome = thor(rt, alloc, words.as_slice(), &mut source, &mut sink, parts, gate);
+    let outcome = thor(
+        rt,
+        alloc,
+        words.as_slice(),
+        &mut source,
+        &mut sink,
+        parts,
+        gate,
+    );
     Ok(outcome.status)
 }
 

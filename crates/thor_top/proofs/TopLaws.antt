@@ -1,5 +1,5 @@
 -- What the top call says of the bytes of the source.
-use Rattle.std.proofs.Common.{◌≡◌, inl, inr, List, ℕ, Result, Ok, Err, IfOk, subst}
+use Rattle.std.proofs.Common.{◌≡◌, inl, inr, List, ℕ, Option, Result, Ok, Err, IfOk, subst}
 use Rattle.thor_value.specs.declared.memory.NoMemory.{NoMemory}
 use Rattle.command_words.specs.declared.command.Plan.{Plan}
 use Rattle.generator.specs.Bank.{script_text}
@@ -44,9 +44,15 @@ for_rose Play plan before after text says = says.0
 for_rose Run plan before after text says = says.0
 for_rose (Gen n) plan before after text says = generated_rose plan n before after text says.1
 
-pub says_rose : (words : List (List ℕ)) (count : ℕ) (before after : Told) (text : List ℕ) → Says words count before after status.SourceFault text → Rose before.faults after.faults
+says_rose : (words : List (List ℕ)) (count : ℕ) (before after : Told) (text : List ℕ) → Says words count before after status.SourceFault text → Rose before.faults after.faults
 says_rose words count before after text (inl says) = for_rose says.0.command says.0 before after text says.1.1
 says_rose words count before after text (inr says) = absurd (let is : status.SourceFault ≡ status.Words = says.0 in cc)
+
+pub says_fault : (words : List (List ℕ)) (count : ℕ) (had has : Option (List ℕ)) (old new : ℕ) (s : Status) (text : List ℕ) → s ≡ status.SourceFault
+    → Says words count (record { left = had; faults = old }) (record { left = has; faults = new }) s text → Rose old new
+says_fault words count had has old new s text is says =
+    let P : Status → Type 0 = λ s. Says words count (record { left = had; faults = old }) (record { left = has; faults = new }) s text in
+    says_rose words count (record { left = had; faults = old }) (record { left = has; faults = new }) text (subst P is says)
 
 -- what is told of a text's bytes is told of what they are
 pub tells_same : (plan : Plan) (slice bytes : List ℕ) (r : Result Reply NoMemory) → slice ≡ bytes → IfOk r (λ reply. Tells plan slice reply.status reply.text) → IfOk r (λ reply. Tells plan bytes reply.status reply.text)

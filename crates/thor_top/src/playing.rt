@@ -170,8 +170,12 @@ fn open_and_run<P: Parts, W: Runner<P>>(
 {
     match Cluster::open(alloc, found, run) {
         Ok(cluster) => {
-            let Finished { parts, ran } =
-                runner.finished(alloc, cluster, script.events.as_slice(), mob);
+            let Finished { parts, ran } = runner.finished(
+                alloc,
+                cluster,
+                script.events.as_slice(),
+                mob,
+            );
             let (reply, traces) = reported(alloc, form, script, yardstick, ran);
             Answered {
                 reply,
@@ -205,7 +209,9 @@ pub fn play<P: Parts, W: Runner<P>>(
         }
     };
     match run_of(alloc, plan, script, base) {
-        Ok(run) => open_and_run(alloc, runner, plan.mob, form, script, &yardstick, found, run),
+        Ok(run) => open_and_run(
+            alloc, runner, plan.mob, form, script, &yardstick, found, run,
+        ),
         Err(NoMemory) => unplayed(alloc, Err(NoMemory), found.into_parts()),
     }
 }

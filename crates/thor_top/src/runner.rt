@@ -69,7 +69,8 @@ pub struct OnThreads<'a, R: Threads + Wait + Sync, G: Gate + Sync> {
     pub gate: &'a G,
 }
 
-impl<'a, R: Threads + Wait + Sync, P: Parts + Send, G: Gate + Sync> Runner<P> for OnThreads<'a, R, G> {
+impl<'a, R: Threads + Wait + Sync, P: Parts + Send, G: Gate + Sync> Runner<P>
+    for OnThreads<'a, R, G> {
     fn finished(
         &self,
         alloc: Global,

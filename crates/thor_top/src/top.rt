@@ -1,4 +1,5 @@
 ghost use Rattle.std.specs.Prelude.{◌≡◌, ◌≤◌, List, None, Some, IfOk, IfSome, length, vec_len};
+ghost use Rattle.std.specs.String.{string_bytes};
 ghost use Rattle.cluster_core.specs.Counts.{HasParts, parts_in};
 ghost use Rattle.cluster_core.specs.Same.{AreSame};
 ghost use Rattle.command_words.specs.Words.{plan_of};
@@ -105,7 +106,15 @@ fn accepted<P: Parts, W: Runner<P>>(
             says(alloc, Status::Done, b"ok\n"),
             found.into_parts(),
         ),
-        Command::Play | Command::Run => play(alloc, runner, plan, Form::Report, script, base, found),
+        Command::Play | Command::Run => play(
+            alloc,
+            runner,
+            plan,
+            Form::Report,
+            script,
+            base,
+            found,
+        ),
         Command::Gen { n: _ } => play(alloc, runner, plan, Form::Summary, script, base, found),
     }
 }
@@ -275,6 +284,16 @@ fn read_and_reply<S: Source, P: Parts, W: Runner<P>>(
     }
 }
 
+/// The generated script of a number over so many repositories, of which there is at least one.
+fn generated(alloc: Global, n: u16, repos: u8) -> Result<String, NoMemory>
+    ensures { IfOk result (λ text. string_bytes text ≡ script_text n repos) }
+{
+    if repos == 0 {
+        return Err(NoMemory);
+    }
+    generate(alloc, n, repos)
+}
+
 /// Does what a plan asks for with the generated script of a number.
 fn generate_and_reply<P: Parts, W: Runner<P>>(
     alloc: Global,
@@ -287,10 +306,7 @@ fn generate_and_reply<P: Parts, W: Runner<P>>(
     ensures parts { vec_len result.parts ≡ vec_len parts }
     ensures kept { WritesNothing plan.now.command result.reply → AreSame P.disks parts.items result.parts.items }
 {
-    if plan.repos == 0 {
-        return untouched(alloc, Err(NoMemory), parts);
-    }
-    match generate(alloc, n, plan.repos) {
+    match generated(alloc, n, plan.repos) {
         Ok(text) => reply_to_bytes(alloc, runner, plan, text.as_bytes(), parts),
         Err(NoMemory) => untouched(alloc, Err(NoMemory), parts),
     }
@@ -367,17 +383,12 @@ fn answer<R: Threads + Wait + Sync, S: Source, P: Parts + Send, G: Gate + Sync>(
 /// The program: reads a script from the source, does with it what the words ask for, on the parts of as many
 /// repositories, and writes the answer to the sink.
 ///
-/// `check` tells whether the script breaks a rule. `play` runs it, one event after the other, and `run` does with a thread
-/// for each client. `gen` runs the generated script of a number
+/// `check` tells whether the script breaks a rule. `play` runs it, one event after the other, and `run` does with a
+/// thread for each client; of a schedule it takes the restarts alone. `gen` runs the generated script of a number
 /// without reading the source, and writes a summary. The text that is written ends in a newline. The parts come
 /// back in every case. A check leaves their disks as they were, and so does what refuses words, script or store.
-pub fn thor<
-    R: Threads + Wait + Sync,
-    S: Source,
-    K: Sink,
-    P: Parts + Send,
-    G: Gate + Sync,
->(
+#[tactic(auto, using(crate::proofs::TopLaws::says_fault))]
+pub fn thor<R: Threads + Wait + Sync, S: Source, K: Sink, P: Parts + Send, G: Gate + Sync>(
     rt: &R,
     alloc: Global,
     words: &[Text],

@@ -7,8 +7,9 @@ use Rattle.std.specs.Vec.Iter.{into_iter_items}
 pub loop-part-preserved : goal.loop-part-preserved
 loop-part-preserved g c =
     let inv = c.loop-part.invariant in
-    let next = c.in-Some.ensures.steps in
-    ( omega (arith, inv.0, next.1, c.push_reserved.ensures.len),
+    let next = c.in-Some.ensures.steps in (
+      omega (arith, inv.0, next.1, c.push_reserved.ensures.len),
       omega (arith, inv.1, next.1, c.push_reserved.ensures.len, c.push_reserved.ensures.capacity),
       next_one c.loop-part.yielded (into_iter_items c.loop-part.part-iterator) (into_iter_items c.next.new.self) c.args.parts.items c.in-Some.part inv.2 next.0,
-      zip_more (IsSeated g.P.Parts.disks) c.loop-part.yielded c.loop-part.seats.items c.push_reserved.new.self.items c.in-Some.part c.read_next-found.result.0 c.push_reserved.ensures.items inv.3 c.read_next-found.ensures )
+      zip_more (IsSeated g.P.Parts.disks) c.loop-part.yielded c.loop-part.seats.items c.push_reserved.new.self.items c.in-Some.part c.read_next-found.result.0 c.push_reserved.ensures.items inv.3 c.read_next-found.ensures,
+    )

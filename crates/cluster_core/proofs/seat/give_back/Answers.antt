@@ -7,8 +7,9 @@ use Rattle.std.specs.Vec.Iter.{into_iter_items}
 pub loop-seat-preserved : goal.loop-seat-preserved
 loop-seat-preserved g c =
     let inv = c.loop-seat.invariant in
-    let next = c.in-Some.ensures.steps in
-    ( omega (arith, inv.0, next.1, c.push_reserved.ensures.len),
+    let next = c.in-Some.ensures.steps in (
+      omega (arith, inv.0, next.1, c.push_reserved.ensures.len),
       omega (arith, inv.1, next.1, c.push_reserved.ensures.len, c.push_reserved.ensures.capacity),
       next_one c.loop-seat.yielded (into_iter_items c.loop-seat.seat-iterator) (into_iter_items c.next.new.self) c.args.seats.items c.in-Some.seat inv.2 next.0,
-      zip_more (Gives g.P.Parts.disks) c.loop-seat.yielded c.loop-seat.parts.items c.push_reserved.new.self.items c.in-Some.seat c.into_parts.result c.push_reserved.ensures.items inv.3 c.into_parts.ensures )
+      zip_more (Gives g.P.Parts.disks) c.loop-seat.yielded c.loop-seat.parts.items c.push_reserved.new.self.items c.in-Some.seat c.into_parts.result c.push_reserved.ensures.items inv.3 c.into_parts.ensures,
+    )

@@ -1,0 +1,12 @@
+pub mod Exact
+pub mod Numerals
+pub mod ExactNumbers
+pub mod ExactWords
+pub mod ExactCauses
+pub mod ExactItems
+pub mod ExactLines
+pub mod Loop
+pub mod Wholes
+pub mod Ends
+pub mod Stops
+pub mod Reported

@@ -1,0 +1,9 @@
+pub mod Widths
+pub mod Reports
+pub mod Reading
+pub mod Numbers
+pub mod Words
+pub mod Causes
+pub mod Items
+pub mod HistoryLines
+pub mod Whole

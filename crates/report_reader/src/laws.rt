@@ -1,0 +1,20 @@
+//! What holds of every report's text.
+
+ghost use Rattle.std.specs.Prelude.{◌≡◌, List, map};
+ghost use Rattle.serial_model.specs.declared.entries.Did.{Did};
+ghost use Rattle.serial_model.specs.declared.outcomes.Ended.{Ended};
+ghost use Rattle.report_text.specs.Report.{report_text};
+ghost use Rattle.report_text.specs.Shown.{IsReported};
+ghost use Rattle.report_reader.specs.declared.report.Report.{Report};
+ghost use Rattle.report_reader.specs.Reports.{IsReport, entry_of, report_of, text_of};
+
+/// Each text is that of one report.
+pub fn texts_tell_reports()
+    ensures one { (a : Report) → (b : Report) → IsReport a → IsReport b → text_of a ≡ text_of b → a ≡ b }
+    ensures reported { (a : Report) → IsReport a → IsReported a.ended (map entry_of a.lines) }
+{}
+
+/// What is printed of outcomes and a history is the text of the report that tells of them.
+pub fn printed_reports_are_read()
+    ensures { (ends : List Ended) → (history : List Did) → report_text ends history ≡ text_of (report_of ends history) }
+{}

@@ -1,0 +1,17 @@
+//! The text of a report, read back.
+#![tactic(auto)]
+
+mod causes;
+mod items;
+mod laws;
+mod lines;
+mod names;
+mod numbers;
+mod part;
+mod reading;
+mod report;
+mod unread;
+
+pub use laws::{printed_reports_are_read, texts_tell_reports};
+pub use reading::read_report;
+pub use report::{Line, Lines, Report};

@@ -1,0 +1,48 @@
+//! That what several repositories commit is one legal serial history. Each law is a function with an empty body, whose
+//! clauses are proved once for all callers.
+
+ghost use Rattle.atomic_histories.specs.Several.{Alike, AreSound, IsAtomic, Several};
+ghost use Rattle.class_defs.specs.Eager.{eager};
+ghost use Rattle.class_defs.specs.declared.store.Root.{Root};
+ghost use Rattle.class_defs.specs.declared.store.Schemas.{Schemas};
+ghost use Rattle.serial_law.specs.Resting.{EachIsTx, EachKeepsOwned, EachRests, IsOpening, OpeningFits};
+ghost use Rattle.serial_law.specs.WholeHistory.{stored_map, whole_history};
+ghost use Rattle.serial_model.specs.History.{IsLegal, after};
+ghost use Rattle.serial_model.specs.declared.entries.What.{What};
+ghost use Rattle.std.specs.Prelude.{List, [], ◌≡◌};
+ghost use Rattle.stored_histories.specs.Standing.{MapFits};
+ghost use Rattle.thor_value.specs.declared.values.Who.{Who};
+ghost use Rattle.whole_histories.specs.Serial.{Joined, Joins, behind};
+ghost use Rattle.whole_histories.specs.Whole.{commits, stored};
+
+/// Serial without upgrades. Sound local histories, atomic over repositories, whose transactions rest on what they read,
+/// are one legal serial history by rising timestamp, where all that commits is application transactions and no upgrade
+/// is installed: legal from the store that was opened; and the store behind it is what the commits left at each
+/// repository.
+pub fn histories_without_upgrades_are_serial()
+    ensures legal { (s : Schemas) → (items : Who → What) → (roots : List Root) → (S : Several) → (L : Joined)
+        → AreSound S → IsAtomic S → Alike S → EachIsTx s items S → IsOpening S L → L.texts ≡ []
+        → IsLegal s (whole_history items S) (eager s (stored_map roots L)) }
+    ensures behind { (s : Schemas) → (items : Who → What) → (roots : List Root) → (S : Several) → (L : Joined)
+        → AreSound S → IsAtomic S → Alike S → EachIsTx s items S → IsOpening S L → L.texts ≡ []
+        → after s (whole_history items S) (eager s (stored_map roots L)) ≡ eager s (stored_map roots (behind L (commits S).pairs)) }
+    ensures objects { (S : Several) → (L : Joined) → AreSound S → Alike S → IsOpening S L
+        → Joins S.repos (stored S (commits S).pairs) (behind L (commits S).pairs).objects }
+{}
+
+/// The same with upgrades and lazy transforms, where the application transactions keep ownership: each upgrade has its
+/// place in the history, and transforms are unseen. What is stored behind all commits fits.
+pub fn histories_that_keep_ownership_are_serial()
+    ensures legal { (s : Schemas) → (items : Who → What) → (roots : List Root) → (S : Several) → (L : Joined)
+        → AreSound S → IsAtomic S → Alike S → EachRests s items roots S → EachKeepsOwned s roots S
+        → IsOpening S L → OpeningFits s roots L
+        → IsLegal s (whole_history items S) (eager s (stored_map roots L)) }
+    ensures behind { (s : Schemas) → (items : Who → What) → (roots : List Root) → (S : Several) → (L : Joined)
+        → AreSound S → IsAtomic S → Alike S → EachRests s items roots S → EachKeepsOwned s roots S
+        → IsOpening S L → OpeningFits s roots L
+        → after s (whole_history items S) (eager s (stored_map roots L)) ≡ eager s (stored_map roots (behind L (commits S).pairs)) }
+    ensures fits { (s : Schemas) → (items : Who → What) → (roots : List Root) → (S : Several) → (L : Joined)
+        → AreSound S → IsAtomic S → Alike S → EachRests s items roots S → EachKeepsOwned s roots S
+        → IsOpening S L → OpeningFits s roots L
+        → MapFits s (stored_map roots (behind L (commits S).pairs)) }
+{}

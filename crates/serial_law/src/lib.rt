@@ -1,0 +1,7 @@
+//! The central law: the transactions that commit at several repositories are one legal serial history by rising
+//! timestamp. All of it is definitions and laws.
+#![tactic(auto)]
+
+mod laws;
+
+pub use laws::{histories_that_keep_ownership_are_serial, histories_without_upgrades_are_serial};

@@ -1,0 +1,4 @@
+pub mod Aside
+pub mod Runs
+pub mod Steps
+pub mod Histories

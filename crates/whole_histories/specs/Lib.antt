@@ -1,0 +1,4 @@
+pub mod Examples
+pub mod Serial
+pub mod Turns
+pub mod Whole

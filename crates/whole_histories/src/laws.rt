@@ -1,0 +1,55 @@
+//! What is proved of several repositories with two-phase commit, beside `atomic_histories`.
+
+ghost use Rattle.atomic_histories.specs.Several.{Alike, AreSound, IsAtomic, Several};
+ghost use Rattle.commit_log.specs.declared.request.Request.{Request};
+ghost use Rattle.std.specs.Prelude.{Bool, List, ◌≡◌};
+ghost use Rattle.whole_histories.specs.Serial.{AllRest, BeganWith, IsSerial, Joined, Joins, bases, behind};
+ghost use Rattle.whole_histories.specs.Turns.{EpochAtTurn, FreshAtTurn, JoinedAtEnd, JoinedAtTurn, UpgradesAgree, WritersAgree, texts_after};
+ghost use Rattle.whole_histories.specs.Whole.{AreTheCommits, Commit, commits, stored};
+
+/// The commits that are computed are all that have committed, each as a whole, by rising timestamps.
+pub fn commits_are_computed()
+    ensures { (S : Several) → AreSound S → AreTheCommits S (commits S) }
+{}
+
+/// Of the writers of an object that a committed transaction read, those that committed below its request are
+/// those that have committed and are before it.
+pub fn readers_meet_commits()
+    ensures { (S : Several) → AreSound S → IsAtomic S → WritersAgree S }
+{}
+
+/// What a committed transaction read at its place is what the commits before it leave.
+pub fn commits_are_joined()
+    ensures { (S : Several) → AreSound S → IsAtomic S → JoinedAtTurn S }
+{}
+
+/// A created object isn't there at its transaction's turn.
+pub fn created_objects_are_fresh()
+    ensures { (S : Several) → AreSound S → IsAtomic S → FreshAtTurn S }
+{}
+
+/// Each transaction is before or behind an upgrade alike at all repositories and by timestamp.
+pub fn upgrades_fence_all()
+    ensures { (S : Several) → AreSound S → IsAtomic S → UpgradesAgree S }
+{}
+
+/// The upgrades that a committed transaction met, at each participant, are those of the commits before it.
+pub fn epochs_are_joined()
+    ensures { (S : Several) → AreSound S → IsAtomic S → Alike S → EpochAtTurn S }
+{}
+
+/// What all commits leave is what the repositories come to once they have finished what has committed.
+pub fn repositories_come_to_commits()
+    ensures { (S : Several) → AreSound S → IsAtomic S → JoinedAtEnd S }
+{}
+
+/// The commits of several repositories are one serial history by rising timestamps, from all that was opened,
+/// whatever it is that transactions do; and what there is behind it is what the commits left at each
+/// repository.
+pub fn several_are_serial()
+    ensures serial { (S : Several) (does : Joined → Request → Bool) (L : Joined) → AreSound S → IsAtomic S → Alike S →
+        AllRest S does → Joins S.repos (bases S) L.objects → BeganWith S L.texts → IsSerial does L (commits S).pairs }
+    ensures objects { (S : Several) (L : Joined) → AreSound S → Alike S → Joins S.repos (bases S) L.objects →
+        Joins S.repos (stored S (commits S).pairs) (behind L (commits S).pairs).objects }
+    ensures texts { (L : Joined) (es : List Commit) → (behind L es).texts ≡ texts_after L.texts es }
+{}

@@ -1,0 +1,3 @@
+A: SHOW block_size;
+A: SHOW full_page_writes;
+A: SHOW data_checksums;

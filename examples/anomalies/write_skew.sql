@@ -1,0 +1,11 @@
+A: CREATE TABLE doctor (name text PRIMARY KEY, on_call int);
+A: INSERT INTO doctor VALUES ('ada', 1), ('ben', 1);
+A: BEGIN ISOLATION LEVEL :level;
+B: BEGIN ISOLATION LEVEL :level;
+A: SELECT sum(on_call) FROM doctor;
+B: SELECT sum(on_call) FROM doctor;
+A: UPDATE doctor SET on_call = 0 WHERE name = 'ada';
+B: UPDATE doctor SET on_call = 0 WHERE name = 'ben';
+A: COMMIT;
+B: COMMIT;
+A: SELECT sum(on_call) FROM doctor;
