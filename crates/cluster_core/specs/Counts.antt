@@ -1,5 +1,5 @@
 -- The repositories of a store, and so its parts: how many there are, and which.
-use Rattle.cluster_core.specs.declared.apart.Emptied.{Emptied}
+use Rattle.cluster_core.specs.declared.emptied.Emptied.{Emptied}
 use Rattle.cluster_core.specs.declared.cluster.Cluster.{Cluster}
 use Rattle.cluster_core.specs.declared.found.Found.{Found}
 use Rattle.cluster_core.specs.Seated.{AreSeated}

@@ -4,6 +4,7 @@ ghost use Rattle.cluster_core.specs.Counts.{parts_of, room_of};
 ghost use Rattle.std.specs.Prelude.{vec_capacity, vec_len, ◌≡◌, ◌≤◌};
 
 use crate::cluster::Cluster;
+use crate::emptied::Emptied;
 use crate::events::unless_memory;
 use crate::seat::Seat;
 use disk_trait::Parts;
@@ -12,16 +13,6 @@ use mob_flusher::Flushed;
 use std::alloc::Global;
 use thor_value::NoMemory;
 use validation_window::Refusal;
-
-/// An open store without its repositories and its clients, which are elsewhere.
-#[derive(Drop)]
-pub struct Emptied<P: Parts> {
-    alloc: Global,
-    opened: Opened,
-    /// An empty vector with room for the parts.
-    pub(crate) spare: Vec<P>,
-    ghost empty: { vec_len spare ≡ 0 },
-}
 
 impl<P: Parts> Cluster<P> {
     /// Takes out the repositories, in their order, and the clients 1, 2, ..

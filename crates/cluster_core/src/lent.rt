@@ -2,6 +2,7 @@
 
 ghost use Rattle.std.specs.Prelude.{vec_len, ◌≡◌, ℕ};
 
+use crate::lent_calls;
 use crate::seat::Seat;
 use commit_log::Request;
 use disk_trait::Parts;
@@ -41,80 +42,47 @@ impl<P: Parts, N: Count> Model for Repos<P, N> {
 
 impl<P: Parts, N: Count> Port for Repos<P, N> {
     fn connect(&mut self, repo: u8, client: u8) -> Result<Welcome, Refusal> {
-        match self.seats.get_mut(usize::from(repo)) {
-            Some(seat) => seat.connect(repo, client),
-            None => Err(Refusal::Down { repo }),
-        }
+        lent_calls::connect(self.seats.as_mut_slice(), repo, client)
     }
 
     fn fetch(&mut self, at: At, page: u32, upto: u64) -> Result<(), Refusal> {
-        match self.seats.get_mut(usize::from(at.repo)) {
-            Some(seat) => seat.fetch(at, page, upto),
-            None => Err(Refusal::Down { repo: at.repo }),
-        }
+        lent_calls::fetch(self.seats.as_mut_slice(), at, page, upto)
     }
 
     fn grant(&mut self, at: At) -> Result<(), Refusal> {
-        match self.seats.get_mut(usize::from(at.repo)) {
-            Some(seat) => seat.grant(at),
-            None => Err(Refusal::Down { repo: at.repo }),
-        }
+        lent_calls::grant(self.seats.as_mut_slice(), at)
     }
 
     fn receive(&mut self, at: At) -> Result<Option<Message>, Refusal> {
-        match self.seats.get_mut(usize::from(at.repo)) {
-            Some(seat) => seat.receive(at),
-            None => Err(Refusal::Down { repo: at.repo }),
-        }
+        lent_calls::receive(self.seats.as_mut_slice(), at)
     }
 
     fn draw(&mut self, at: At, floor: u64) -> Result<Ts, Refusal> {
-        match self.seats.get_mut(usize::from(at.repo)) {
-            Some(seat) => seat.draw(at, floor),
-            None => Err(Refusal::Down { repo: at.repo }),
-        }
+        lent_calls::draw(self.seats.as_mut_slice(), at, floor)
     }
 
     fn prepare(&mut self, at: At, request: Request) -> Result<u64, Refusal> {
-        match self.seats.get_mut(usize::from(at.repo)) {
-            Some(seat) => seat.prepare(at, request),
-            None => Err(Refusal::Down { repo: at.repo }),
-        }
+        lent_calls::prepare(self.seats.as_mut_slice(), at, request)
     }
 
     fn commit_one(&mut self, at: At, request: Request) -> Result<u64, Refusal> {
-        match self.seats.get_mut(usize::from(at.repo)) {
-            Some(seat) => seat.commit_one(at, request),
-            None => Err(Refusal::Down { repo: at.repo }),
-        }
+        lent_calls::commit_one(self.seats.as_mut_slice(), at, request)
     }
 
     fn decide(&mut self, at: At, tx: Ts, commit: bool) -> Result<Verdict, Refusal> {
-        match self.seats.get_mut(usize::from(at.repo)) {
-            Some(seat) => seat.decide(at, tx, commit),
-            None => Err(Refusal::Down { repo: at.repo }),
-        }
+        lent_calls::decide(self.seats.as_mut_slice(), at, tx, commit)
     }
 
     fn finish(&mut self, repo: u8, verdict: &Verdict) -> Result<Option<u64>, Refusal> {
-        match self.seats.get_mut(usize::from(repo)) {
-            Some(seat) => seat.finish(repo, verdict),
-            None => Err(Refusal::Down { repo }),
-        }
+        lent_calls::finish(self.seats.as_mut_slice(), repo, verdict)
     }
 
     fn forget(&mut self, repo: u8, tx: Ts) -> Result<(), Refusal> {
-        match self.seats.get_mut(usize::from(repo)) {
-            Some(seat) => seat.forget(repo, tx),
-            None => Err(Refusal::Down { repo }),
-        }
+        lent_calls::forget(self.seats.as_mut_slice(), repo, tx)
     }
 
     fn ask(&mut self, repo: u8, tx: Ts) -> Result<Asked, Refusal> {
-        match self.seats.get_mut(usize::from(repo)) {
-            Some(seat) => seat.ask(repo, tx),
-            None => Err(Refusal::Down { repo }),
-        }
+        lent_calls::ask(self.seats.as_mut_slice(), repo, tx)
     }
 }
 

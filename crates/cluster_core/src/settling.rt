@@ -1,9 +1,10 @@
 //! Transactions that were left prepared are settled by their coordinators.
 
 use crate::fault::{Unopened, number_at};
+use crate::lent_calls;
 use crate::seat::Seat;
 use disk_trait::Parts;
-use message_outbox::{Asked, Verdict};
+use message_outbox::Asked;
 use thor_value::Ts;
 use validation_window::Refusal;
 
@@ -46,27 +47,11 @@ pub(crate) fn least<P: Parts>(seats: &[Seat<P>], repo: u8) -> Option<Ts> {
 
 /// Asks the coordinator of a transaction, and finishes it where there is a verdict.
 pub(crate) fn settle<P: Parts>(seats: &mut [Seat<P>], repo: u8, tx: Ts) -> Result<(), Refusal> {
-    match ask(seats, tx)? {
+    match lent_calls::ask(seats, tx.repo, tx)? {
         Asked::Undecided => Ok(()),
-        Asked::Settled(verdict) => finish(seats, repo, &verdict),
-    }
-}
-
-/// Asks the coordinator of a transaction.
-fn ask<P: Parts>(seats: &mut [Seat<P>], tx: Ts) -> Result<Asked, Refusal> {
-    match seats.get_mut(usize::from(tx.repo)) {
-        Some(seat) => seat.ask(tx.repo, tx),
-        None => Err(Refusal::Down { repo: tx.repo }),
-    }
-}
-
-/// Hands a verdict to a repository.
-fn finish<P: Parts>(seats: &mut [Seat<P>], repo: u8, verdict: &Verdict) -> Result<(), Refusal> {
-    match seats.get_mut(usize::from(repo)) {
-        Some(seat) => {
-            seat.finish(repo, verdict)?;
+        Asked::Settled(verdict) => {
+            lent_calls::finish(seats, repo, &verdict)?;
             Ok(())
         }
-        None => Err(Refusal::Down { repo }),
     }
 }

@@ -2,6 +2,4 @@
 #![tactic(auto)]
 
 #[cfg(test)]
-mod objects;
-#[cfg(test)]
 mod transactions;
