@@ -1,15 +1,11 @@
 //! Clients that run on threads are beside one another, and so are repositories behind their locks.
 
-use disk_trait::{MemParts, TickClock};
-use outside::{Gate, MemSink, MemSource};
-use std::alloc::Global;
-use std::sync::Wait;
+use crate::running::{Run, run};
+use outside::Gate;
 use std::sync::atomic::AtomicU64;
 use std::sync::atomic::Ordering::SeqCst;
 use std::test::Fail;
-use std::thread::Threads;
-use thor_top::{Status, thor};
-use thor_value::{Ints, NoMemory, Text, Texts};
+use thor_top::Status;
 
 /// How often one that is held looks whether it may go on.
 const TURNS: u64 = 500_000_000;
@@ -63,63 +59,24 @@ impl Gate for Hold {
 }
 
 /// Two clients, each with an object at a repository of its own.
-const SCRIPT: &[u8] = b"setup
+const TWO: Run<'static> = Run {
+    words: &[b"run", b"--repos", b"2"],
+    script: b"setup
 free class Box { int n; method int add(int k) { this.n = this.n + k; return this.n; } }
 root a = new Box() at 0;
 root b = new Box() at 1;
 client 1 tx { print a.add(1); } tx { print a.add(1); }
 client 2 tx { print b.add(1); } tx { print b.add(1); }
-";
-
-/// The words of a run on two repositories.
-fn words(alloc: Global) -> Result<Texts, NoMemory> {
-    let mut words = Texts::new(alloc);
-    words.push(Text::from_slice(alloc, b"run")?)?;
-    words.push(Text::from_slice(alloc, b"--repos")?)?;
-    words.push(Text::from_slice(alloc, b"2")?)?;
-    Ok(words)
-}
-
-fn two_parts(alloc: Global) -> Result<Vec<MemParts<TickClock>>, NoMemory> {
-    let mut parts = Vec::new(alloc);
-    for _ in 0..2 {
-        parts.push(MemParts::new(
-            Vec::new(alloc),
-            Vec::new(alloc),
-            Vec::new(alloc),
-            Vec::new(alloc),
-            TickClock::new(1),
-        ))?;
-    }
-    Ok(parts)
-}
-
-/// Runs the script through a gate.
-fn run<R: Threads + Wait + Sync, G: Gate + Sync>(
-    rt: &R,
-    alloc: Global,
-    gate: &G,
-) -> Result<Status, NoMemory> {
-    let mut source = MemSource::new(Text::from_slice(alloc, SCRIPT)?, Ints::new(alloc));
-    let mut sink = MemSink::new(Ints::new(alloc));
-    let words = words(alloc)?;
-    let parts = two_parts(alloc)?;
-    let outcome = thor(
-        rt,
-        alloc,
-        words.as_slice(),
-        &mut source,
-        &mut sink,
-        parts,
-        gate,
-    );
-    Ok(outcome.status)
-}
+",
+    repos: 2,
+    write: 0,
+};
 
 #[test]
 fn two_clients_inside(rt: HostRuntime) -> Result<(), Fail> {
     let hold = Hold::at(2, 4, 5);
-    assert!(rt; run(&rt, rt.alloc(), &hold)? == Status::Done);
+    let (status, _) = run(&rt, rt.alloc(), &hold, &TWO)?;
+    assert!(rt; status == Status::Done);
     assert!(rt; hold.in_vain.load(SeqCst) == 0);
     Ok(())
 }
@@ -127,7 +84,8 @@ fn two_clients_inside(rt: HostRuntime) -> Result<(), Fail> {
 #[test]
 fn two_locks(rt: HostRuntime) -> Result<(), Fail> {
     let hold = Hold::at(1_000, 1_001, 5);
-    assert!(rt; run(&rt, rt.alloc(), &hold)? == Status::Done);
+    let (status, _) = run(&rt, rt.alloc(), &hold, &TWO)?;
+    assert!(rt; status == Status::Done);
     assert!(rt; hold.in_vain.load(SeqCst) == 0);
     Ok(())
 }
