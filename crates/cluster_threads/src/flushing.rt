@@ -58,12 +58,13 @@ fn flush_to_half<R: Wait, P: Parts, G: Gate>(locks: &Locks<'_, R, P, G>, repo: u
 }
 
 fn flush_one<R: Wait, P: Parts, G: Gate>(locks: &Locks<'_, R, P, G>, repo: u8) -> Flushing {
-    let Some(mut seat) = locks.enter(repo) else {
+    let Some(mut seat) = locks.lock(repo) else {
         return Flushing::Refused;
     };
     if seat.mob_bytes() <= locks.half {
         return Flushing::Half;
     }
+    locks.pass(repo);
     match seat.flush(repo) {
         Ok(_) => Flushing::Flushed,
         Err(_) => Flushing::Refused,

@@ -22,11 +22,21 @@ pub(crate) struct Locks<'a, R: Wait, P: Parts, G: Gate> {
 }
 
 impl<'a, R: Wait, P: Parts, G: Gate> Locks<'a, R, P, G> {
-    /// Takes the lock of a repository for one event; nothing where there is no such repository.
-    pub(crate) fn enter(&self, repo: u8) -> Option<MutexGuard<'a, Seat<P>>> {
+    /// Takes the lock of a repository; nothing where there is no such repository.
+    pub(crate) fn lock(&self, repo: u8) -> Option<MutexGuard<'a, Seat<P>>> {
         let lock = self.seats.get(usize::from(repo))?;
-        let seat = lock.lock(self.rt);
+        Some(lock.lock(self.rt))
+    }
+
+    /// Passes the gate inside an event of a repository, whose lock is held.
+    pub(crate) fn pass(&self, repo: u8) {
         self.gate.pass(EVENTS + u32::from(repo));
+    }
+
+    /// Takes the lock of a repository for an event; nothing where there is no such repository.
+    pub(crate) fn enter(&self, repo: u8) -> Option<MutexGuard<'a, Seat<P>>> {
+        let seat = self.lock(repo)?;
+        self.pass(repo);
         Some(seat)
     }
 }

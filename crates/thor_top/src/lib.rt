@@ -6,6 +6,7 @@ mod checking;
 mod form;
 mod playing;
 mod reply;
+mod runner;
 mod starting;
 mod status;
 mod top;

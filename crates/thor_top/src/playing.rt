@@ -12,11 +12,11 @@ use crate::answered::{Answered, unplayed};
 use crate::checking::report;
 use crate::form::Form;
 use crate::reply::{Reply, unsettled};
+use crate::runner::Runner;
 use class_defs::{Plain, Schemas, Setup};
 use cluster_core::{Cluster, ClusterFault, Finished, Found, Plan as Run, Ran, Start};
 use command_words::Plan;
 use disk_trait::Parts;
-use schedule::Event;
 use script_check::{opened_store, roots_of, with_upgrades};
 use script_parse::Script;
 use std::alloc::Global;
@@ -118,32 +118,6 @@ fn yardstick_of<P: Parts>(
     }
 }
 
-/// Performs the events, and then all that is left of the items.
-fn perform<P: Parts>(cluster: &mut Cluster<P>, events: &[Event]) -> Result<(), NoMemory>
-    ensures { parts_of cluster.new ≡ parts_of cluster.old }
-{
-    for event in events {
-        cluster.event(*event)?;
-    }
-    cluster.drain()
-}
-
-/// Performs a run, and ends it.
-fn finished<P: Parts>(cluster: Cluster<P>, events: &[Event]) -> Finished<P>
-    ensures { vec_len result.parts ≡ parts_of cluster }
-{
-    let mut cluster = cluster;
-    let performed = perform(&mut cluster, events);
-    let Finished { parts, ran } = cluster.finish();
-    Finished {
-        parts,
-        ran: match performed {
-            Ok(()) => ran,
-            Err(NoMemory) => Err(NoMemory),
-        },
-    }
-}
-
 /// What is told of what was run.
 fn reported(
     alloc: Global,
@@ -180,8 +154,10 @@ fn reported(
 }
 
 /// Opens the store that was found, and runs a script that breaks no rule on it.
-fn open_and_run<P: Parts>(
+fn open_and_run<P: Parts, W: Runner<P>>(
     alloc: Global,
+    runner: &W,
+    mob: u32,
     form: Form,
     script: &Script,
     yardstick: &Yardstick,
@@ -194,7 +170,12 @@ fn open_and_run<P: Parts>(
 {
     match Cluster::open(alloc, found, run) {
         Ok(cluster) => {
-            let Finished { parts, ran } = finished(cluster, script.events.as_slice());
+            let Finished { parts, ran } = runner.finished(
+                alloc,
+                cluster,
+                script.events.as_slice(),
+                mob,
+            );
             let (reply, traces) = reported(alloc, form, script, yardstick, ran);
             Answered {
                 reply,
@@ -207,8 +188,9 @@ fn open_and_run<P: Parts>(
 }
 
 /// Runs a script that breaks no rule on the store that was found, and tells of it in a form.
-pub fn play<P: Parts>(
+pub fn play<P: Parts, W: Runner<P>>(
     alloc: Global,
+    runner: &W,
     plan: &Plan,
     form: Form,
     script: &Script,
@@ -227,7 +209,9 @@ pub fn play<P: Parts>(
         }
     };
     match run_of(alloc, plan, script, base) {
-        Ok(run) => open_and_run(alloc, form, script, &yardstick, found, run),
+        Ok(run) => open_and_run(
+            alloc, runner, plan.mob, form, script, &yardstick, found, run,
+        ),
         Err(NoMemory) => unplayed(alloc, Err(NoMemory), found.into_parts()),
     }
 }

@@ -18,6 +18,7 @@ use crate::answered::{Answered, unplayed, untouched};
 use crate::form::Form;
 use crate::playing::play;
 use crate::reply::{Reply, limited, refused, says, unopened};
+use crate::runner::{InTurn, OnThreads, Runner};
 use crate::starting::base_of;
 use crate::status::Status;
 use class_defs::Schemas;
@@ -25,11 +26,13 @@ use cluster_core::{ClusterFault, Found};
 use command_words::{Command, Plan, WordsFault, read_words};
 use disk_trait::Parts;
 use generator::generate;
-use outside::{ReadAll, Sink, Source, read_all, write_all};
+use outside::{Gate, ReadAll, Sink, Source, read_all, write_all};
 use script_check::{judge, last_schema, upgrade_count};
 use script_parse::{ReadError, Refusal, Script, read_script};
 use serial_model::are_made;
 use std::alloc::Global;
+use std::sync::Wait;
+use std::thread::Threads;
 use thor_value::{NoMemory, Text};
 use trace_record::Traces;
 
@@ -82,8 +85,9 @@ fn passed_limit<P: Parts>(script: &Script, found: &Found<P>) -> Option<u64>
 }
 
 /// The reply to a command on a script that breaks no rule.
-fn accepted<P: Parts>(
+fn accepted<P: Parts, W: Runner<P>>(
     alloc: Global,
+    runner: &W,
     plan: &Plan,
     script: &Script,
     base: &Schemas,
@@ -102,14 +106,23 @@ fn accepted<P: Parts>(
             says(alloc, Status::Done, b"ok\n"),
             found.into_parts(),
         ),
-        Command::Play => play(alloc, plan, Form::Report, script, base, found),
-        Command::Gen { n: _ } => play(alloc, plan, Form::Summary, script, base, found),
+        Command::Play | Command::Run => play(
+            alloc,
+            runner,
+            plan,
+            Form::Report,
+            script,
+            base,
+            found,
+        ),
+        Command::Gen { n: _ } => play(alloc, runner, plan, Form::Summary, script, base, found),
     }
 }
 
 /// The reply to a command on a script, under schemas that are as upgrades make them.
-fn judged_on<P: Parts>(
+fn judged_on<P: Parts, W: Runner<P>>(
     alloc: Global,
+    runner: &W,
     plan: &Plan,
     script: &Script,
     base: &Schemas,
@@ -125,14 +138,15 @@ fn judged_on<P: Parts>(
 {
     match judge(alloc, last_schema(base), script, plan.repos) {
         Ok(Some(refusal)) => unplayed(alloc, refused(alloc, refusal), found.into_parts()),
-        Ok(None) => accepted(alloc, plan, script, base, found),
+        Ok(None) => accepted(alloc, runner, plan, script, base, found),
         Err(NoMemory) => unplayed(alloc, Err(NoMemory), found.into_parts()),
     }
 }
 
 /// The reply to a command on a script, under the schemas of the store.
-fn judged<P: Parts>(
+fn judged<P: Parts, W: Runner<P>>(
     alloc: Global,
+    runner: &W,
     plan: &Plan,
     script: &Script,
     base: &Schemas,
@@ -147,12 +161,13 @@ fn judged<P: Parts>(
     if UPGRADE_LIMIT < base.upgraded.len() || !are_made(base) {
         return unplayed(alloc, Err(NoMemory), found.into_parts());
     }
-    judged_on(alloc, plan, script, base, found)
+    judged_on(alloc, runner, plan, script, base, found)
 }
 
 /// The reply to a command on a script and the store that was found.
-fn reply_found<P: Parts>(
+fn reply_found<P: Parts, W: Runner<P>>(
     alloc: Global,
+    runner: &W,
     plan: &Plan,
     script: &Script,
     found: Found<P>,
@@ -170,7 +185,7 @@ fn reply_found<P: Parts>(
             over_limit(alloc, plan, script, limit),
             found.into_parts(),
         ),
-        None => reply_within(alloc, plan, script, found),
+        None => reply_within(alloc, runner, plan, script, found),
     }
 }
 
@@ -183,8 +198,9 @@ fn over_limit(alloc: Global, plan: &Plan, script: &Script, limit: u64) -> Result
 }
 
 /// The reply to a command on a script that is within the limits, and the store that was found.
-fn reply_within<P: Parts>(
+fn reply_within<P: Parts, W: Runner<P>>(
     alloc: Global,
+    runner: &W,
     plan: &Plan,
     script: &Script,
     found: Found<P>,
@@ -196,14 +212,20 @@ fn reply_within<P: Parts>(
     ensures kept { (given : List P) → HasParts P.disks given found → WritesNothing plan.now.command result.reply → AreSame P.disks given result.parts.items }
 {
     match base_of(alloc, &script.setup, &found) {
-        Ok(Some(base)) => judged(alloc, plan, script, &base, found),
+        Ok(Some(base)) => judged(alloc, runner, plan, script, &base, found),
         Ok(None) => unplayed(alloc, refused(alloc, Refusal::Setup), found.into_parts()),
         Err(NoMemory) => unplayed(alloc, Err(NoMemory), found.into_parts()),
     }
 }
 
 /// The reply to a command on a script that was read.
-fn reply_to<P: Parts>(alloc: Global, plan: &Plan, script: &Script, parts: Vec<P>) -> Answered<P>
+fn reply_to<P: Parts, W: Runner<P>>(
+    alloc: Global,
+    runner: &W,
+    plan: &Plan,
+    script: &Script,
+    parts: Vec<P>,
+) -> Answered<P>
     requires { HasFew script.now.setup }
     ensures reply { IfOk result.reply (λ reply. TellsOf plan.now script.now reply.status reply.text) }
     ensures parts { vec_len result.parts ≡ vec_len parts }
@@ -216,27 +238,34 @@ fn reply_to<P: Parts>(alloc: Global, plan: &Plan, script: &Script, parts: Vec<P>
         return untouched(alloc, limited(alloc, EVENT_LIMIT as u64), parts);
     }
     match Found::read(alloc, parts, plan.mob) {
-        Ok(found) => reply_found(alloc, plan, script, found),
+        Ok(found) => reply_found(alloc, runner, plan, script, found),
         Err(ClusterFault { parts, why }) => unplayed(alloc, unopened(alloc, why), parts),
     }
 }
 
 /// The reply to a command on a script's bytes.
-fn reply_to_bytes<P: Parts>(alloc: Global, plan: &Plan, bytes: &[u8], parts: Vec<P>) -> Answered<P>
+fn reply_to_bytes<P: Parts, W: Runner<P>>(
+    alloc: Global,
+    runner: &W,
+    plan: &Plan,
+    bytes: &[u8],
+    parts: Vec<P>,
+) -> Answered<P>
     ensures reply { IfOk result.reply (λ reply. Tells plan.now bytes.now reply.status reply.text) }
     ensures parts { vec_len result.parts ≡ vec_len parts }
     ensures kept { WritesNothing plan.now.command result.reply → AreSame P.disks parts.items result.parts.items }
 {
     match read_script(alloc, bytes) {
-        Ok(script) => reply_to(alloc, plan, &script, parts),
+        Ok(script) => reply_to(alloc, runner, plan, &script, parts),
         Err(ReadError::Refused(refusal)) => untouched(alloc, refused(alloc, refusal), parts),
         Err(ReadError::NoMemory) => untouched(alloc, Err(NoMemory), parts),
     }
 }
 
 /// Reads the script and does what a plan asks for.
-fn read_and_reply<S: Source, P: Parts>(
+fn read_and_reply<S: Source, P: Parts, W: Runner<P>>(
     alloc: Global,
+    runner: &W,
     plan: &Plan,
     source: &mut S,
     parts: Vec<P>,
@@ -246,7 +275,7 @@ fn read_and_reply<S: Source, P: Parts>(
     ensures kept { WritesNothing plan.now.command result.reply → AreSame P.disks parts.items result.parts.items }
 {
     match read_all(alloc, source, SCRIPT_LIMIT) {
-        Ok(bytes) => reply_to_bytes(alloc, plan, bytes.as_slice(), parts),
+        Ok(bytes) => reply_to_bytes(alloc, runner, plan, bytes.as_slice(), parts),
         Err(ReadAll::Failed) => {
             untouched(alloc, says(alloc, Status::SourceFault, b"source\n"), parts)
         }
@@ -266,20 +295,27 @@ fn generated(alloc: Global, n: u16, repos: u8) -> Result<String, NoMemory>
 }
 
 /// Does what a plan asks for with the generated script of a number.
-fn generate_and_reply<P: Parts>(alloc: Global, plan: &Plan, n: u16, parts: Vec<P>) -> Answered<P>
+fn generate_and_reply<P: Parts, W: Runner<P>>(
+    alloc: Global,
+    runner: &W,
+    plan: &Plan,
+    n: u16,
+    parts: Vec<P>,
+) -> Answered<P>
     ensures reply { IfOk result.reply (λ reply. Tells plan.now (script_text n plan.now.repos) reply.status reply.text) }
     ensures parts { vec_len result.parts ≡ vec_len parts }
     ensures kept { WritesNothing plan.now.command result.reply → AreSame P.disks parts.items result.parts.items }
 {
     match generated(alloc, n, plan.repos) {
-        Ok(text) => reply_to_bytes(alloc, plan, text.as_bytes(), parts),
+        Ok(text) => reply_to_bytes(alloc, runner, plan, text.as_bytes(), parts),
         Err(NoMemory) => untouched(alloc, Err(NoMemory), parts),
     }
 }
 
 /// Does what a plan asks for, with the script of the source or, where a number is given, with the generated one.
-fn reply_by_plan<S: Source, P: Parts>(
+fn reply_by_plan<S: Source, P: Parts, W: Runner<P>>(
     alloc: Global,
+    runner: &W,
     plan: &Plan,
     source: &mut S,
     parts: Vec<P>,
@@ -289,14 +325,39 @@ fn reply_by_plan<S: Source, P: Parts>(
     ensures kept { WritesNothing plan.now.command result.reply → AreSame P.disks parts.items result.parts.items }
 {
     match plan.command {
-        Command::Check | Command::Play => read_and_reply(alloc, plan, source, parts),
-        Command::Gen { n } => generate_and_reply(alloc, plan, n, parts),
+        Command::Check | Command::Play | Command::Run => {
+            read_and_reply(alloc, runner, plan, source, parts)
+        }
+        Command::Gen { n } => generate_and_reply(alloc, runner, plan, n, parts),
+    }
+}
+
+/// Does what a plan asks for, on threads where it asks for that.
+fn run_by_plan<R: Threads + Wait + Sync, S: Source, P: Parts + Send, G: Gate + Sync>(
+    rt: &R,
+    alloc: Global,
+    gate: &G,
+    plan: &Plan,
+    source: &mut S,
+    parts: Vec<P>,
+) -> Answered<P>
+    ensures reply { IfOk result.reply (λ reply. SaysOf plan.now (record { left = S.left source.old; faults = S.faults source.old }) (record { left = S.left source.new; faults = S.faults source.new }) reply.status reply.text) }
+    ensures parts { vec_len result.parts ≡ vec_len parts }
+    ensures kept { WritesNothing plan.now.command result.reply → AreSame P.disks parts.items result.parts.items }
+{
+    match plan.command {
+        Command::Run => reply_by_plan(alloc, &OnThreads { rt, gate }, plan, source, parts),
+        Command::Check | Command::Play | Command::Gen { n: _ } => {
+            reply_by_plan(alloc, &InTurn, plan, source, parts)
+        }
     }
 }
 
 /// The answer to the words.
-fn answer<S: Source, P: Parts>(
+fn answer<R: Threads + Wait + Sync, S: Source, P: Parts + Send, G: Gate + Sync>(
+    rt: &R,
     alloc: Global,
+    gate: &G,
     words: &[Text],
     source: &mut S,
     parts: Vec<P>,
@@ -309,7 +370,7 @@ fn answer<S: Source, P: Parts>(
     match read_words(alloc, words) {
         Ok(plan) => {
             if usize::from(plan.repos) == parts.len() {
-                reply_by_plan(alloc, &plan, source, parts)
+                run_by_plan(rt, alloc, gate, &plan, source, parts)
             } else {
                 untouched(alloc, says(alloc, Status::Words, b"words\n"), parts)
             }
@@ -322,16 +383,19 @@ fn answer<S: Source, P: Parts>(
 /// The program: reads a script from the source, does with it what the words ask for, on the parts of as many
 /// repositories, and writes the answer to the sink.
 ///
-/// `check` tells whether the script breaks a rule, and `play` runs it. `gen` runs the generated script of a number
+/// `check` tells whether the script breaks a rule. `play` runs it, one event after the other, and `run` does with a
+/// thread for each client; of a schedule it takes the restarts alone. `gen` runs the generated script of a number
 /// without reading the source, and writes a summary. The text that is written ends in a newline. The parts come
 /// back in every case. A check leaves their disks as they were, and so does what refuses words, script or store.
 #[tactic(auto, using(crate::proofs::TopLaws::says_fault))]
-pub fn thor<S: Source, K: Sink, P: Parts>(
+pub fn thor<R: Threads + Wait + Sync, S: Source, K: Sink, P: Parts + Send, G: Gate + Sync>(
+    rt: &R,
     alloc: Global,
     words: &[Text],
     source: &mut S,
     sink: &mut K,
     parts: Vec<P>,
+    gate: &G,
 ) -> Outcome<P>
     // The sink took the report of one serial history, or what else the status says.
     ensures wrote { Wrote words.now (vec_len parts) (record { left = S.left source.old; faults = S.faults source.old }) (record { left = S.left source.new; faults = S.faults source.new }) (K.taken sink.old) (K.taken sink.new) result.status }
@@ -348,7 +412,7 @@ pub fn thor<S: Source, K: Sink, P: Parts>(
         reply,
         parts,
         traces,
-    } = answer(alloc, words, source, parts);
+    } = answer(rt, alloc, gate, words, source, parts);
     let status = match reply {
         Ok(said) => match write_all(sink, said.text.as_slice()) {
             Ok(()) => said.status,
