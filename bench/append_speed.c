@@ -7,7 +7,7 @@
 #include <unistd.h>
 
 static void put(int file, const unsigned char *bytes, size_t count, off_t at) {
-    if (pwrite(file, bytes, count, at) != (ssize_t)count || fsync(file) != 0) {
+    if (pwrite(file, bytes, count, at) != (ssize_t)count || fdatasync(file) != 0) {
         perror("append_speed");
         exit(1);
     }
