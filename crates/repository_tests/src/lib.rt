@@ -2,4 +2,6 @@
 #![tactic(auto)]
 
 #[cfg(test)]
+mod objects;
+#[cfg(test)]
 mod transactions;
