@@ -1,10 +1,8 @@
 -- What is stored behind some commits is the stored map that they changed.
 use Rattle.atomic_histories.specs.Several.{Alike, AreSound, HasCommitted, Several, part}
-use Rattle.class_defs.specs.Stored.{Stored}
 use Rattle.class_defs.specs.declared.store.Root.{Root}
 use Rattle.commit_log.specs.declared.request.Kind.TheVariants.{App, Transform, Upgrade}
 use Rattle.commit_log.specs.declared.request.Kind.{Kind}
-use Rattle.commit_log.specs.declared.request.Request.{Request}
 use Rattle.local_history.proofs.Prefixes.{judged}
 use Rattle.local_history.specs.History.{Known}
 use Rattle.local_history.specs.Participants.{IsBareUpgrade}
@@ -13,11 +11,11 @@ use Rattle.serial_law.specs.WholeHistory.{change_by, change_of, did, stored_map}
 use Rattle.serial_model.specs.History.{Rise}
 use Rattle.serial_model.specs.declared.entries.Did.{Did}
 use Rattle.serial_model.specs.declared.entries.What.{What}
-use Rattle.std.proofs.Common.{List, [], ap, inl, inr, length, map, refl, subst, sym, true, ℕ, ◌++◌, ◌+◌, ◌≡◌, ◌∙◌, ◌∷◌}
+use Rattle.std.proofs.Common.{List, [], ap, inl, inr, length, map, refl, sym, true, ℕ, ◌++◌, ◌+◌, ◌≡◌, ◌∙◌, ◌∷◌}
 use Rattle.std.proofs.lemmas.List.{append-nil, length-append}
 use Rattle.std.specs.List.{flat_map}
 use Rattle.std.specs.Prelude.{None, Option, Some}
-use Rattle.stored_histories.specs.Changes.{Change, changed_by, changed_by_all, entries_of, entry_of}
+use Rattle.stored_histories.specs.Changes.{changed_by, changed_by_all, entries_of, entry_of}
 use Rattle.thor_value.specs.FiniteMap.{overwrite}
 use Rattle.thor_value.specs.Names.{Before}
 use Rattle.thor_value.specs.declared.names.Oref.{Oref}
@@ -26,7 +24,7 @@ use Rattle.thor_value.specs.declared.values.Obj.{Obj}
 use Rattle.thor_value.specs.declared.values.Who.{Who}
 use Rattle.whole_histories.proofs.Lists.{AllAfter, Es, In, Rising}
 use Rattle.whole_histories.specs.Serial.{Joined, behind, next}
-use Rattle.whole_histories.specs.Whole.{Commit, Objects, whole, writes_in}
+use Rattle.whole_histories.specs.Whole.{Commit, whole, writes_in}
 
 -- ---- upgrades write nothing
 

@@ -12,19 +12,19 @@ use Rattle.commit_log.specs.declared.request.Request.{Request}
 use Rattle.local_history.specs.History.{Known}
 use Rattle.local_history.specs.Requests.{is_upgrade, is_upgrade_kind}
 use Rattle.serial_law.proofs.Changes.{bare_part, entries_rise, stored_behind, stored_next, upgrades_write_nothing}
-use Rattle.serial_law.proofs.Turns.{epoch_is, runs, runs_on, stored_met}
-use Rattle.serial_law.specs.Resting.{EachIsTx, EachKeepsOwned, EachRests, IsOpening, OpeningFits, RestsAs}
+use Rattle.serial_law.proofs.Turns.{epoch_is, runs_on, stored_met}
+use Rattle.serial_law.specs.Resting.{EachIsTx, EachRests, IsOpening, OpeningFits, RestsAs, TxRests}
 use Rattle.serial_law.specs.WholeHistory.{change_by, change_of, did, stored_map}
 use Rattle.serial_model.specs.History.{IsLegal, after}
 use Rattle.serial_model.specs.declared.entries.What.{What}
-use Rattle.std.proofs.Common.{List, [], ap, append_assoc, length, map, refl, subst, sym, true, ℕ, ◌++◌, ◌+◌, ◌≡◌, ◌∙◌, ◌∷◌}
+use Rattle.std.proofs.Common.{List, [], ap, append_assoc, length, map, refl, subst, sym, true, ◌++◌, ◌+◌, ◌≡◌, ◌∙◌, ◌∷◌}
 use Rattle.std.specs.Prelude.{Some, option_map}
 use Rattle.stored_histories.proofs.Histories.{LeadAll, all-lead, all-lead-first}
-use Rattle.stored_histories.specs.Changes.{Change, changed_by, changed_by_all, entries_of}
-use Rattle.stored_histories.specs.Standing.{AllRun, AllStand, Installs, IsRun, MapFits, Stands}
+use Rattle.stored_histories.specs.Changes.{changed_by, changed_by_all, entries_of}
+use Rattle.stored_histories.specs.Standing.{AllRun, AllStand, Installs, IsRun, MapFits, Runs, Stands}
 use Rattle.thor_value.specs.declared.names.Ts.{Ts}
 use Rattle.thor_value.specs.declared.values.Who.{Who}
-use Rattle.whole_histories.proofs.Lists.{Es, In, Lists, here}
+use Rattle.whole_histories.proofs.Lists.{Es, Lists, here}
 use Rattle.whole_histories.proofs.Serial.{behind-end}
 use Rattle.whole_histories.specs.Serial.{Joined, behind}
 use Rattle.whole_histories.specs.Whole.{Commit, whole}
@@ -75,7 +75,12 @@ module _ (s : Schemas) (items : Who → What) (roots : List Root) (S : Several) 
 
   -- ---- with upgrades
 
-  module _ (rests : EachRests s items roots S) (keeps : EachKeepsOwned s roots S) where
+  -- each application transaction runs at its turn, where the map fits
+  abbrev pub EachRuns : Type 0
+  EachRuns = (done rest : Es) (t : Ts) (w : Known) → Lists S (done ++ (t, whole S t w.request) ∷ rest) → HasCommitted S t w → w.request.kind ≡ App → TxRests s items S t w.request
+      → MapFits s (map_at done) → Runs s (map_at done) (did items (t, whole S t w.request) 0) (whole S t w.request).writes
+
+  module _ (rests : EachRests s items roots S) (each : EachRuns) where
     installs : (done rest : Es) (t : Ts) (w : Known) (c : Lists S (done ++ (t, whole S t w.request) ∷ rest)) (h : HasCommitted S t w) → is_upgrade w.request ≡ true
         → Rattle.serial_law.specs.Resting.UpgradeRests s items w.request → Installs s (map_at done) (did items (t, whole S t w.request) (w.request.epoch + 1))
     installs done rest t w c h up r =
@@ -92,7 +97,7 @@ module _ (s : Schemas) (items : Who → What) (roots : List Root) (S : Several) 
 
     stands_by : (done rest : Es) (t : Ts) (w : Known) (c : Lists S (done ++ (t, whole S t w.request) ∷ rest)) (h : HasCommitted S t w) (k : Kind) → w.request.kind ≡ k → RestsAs s items roots S t w.request k
         → MapFits s (map_at done) → Stands s (map_at done) (change_by items (t, whole S t w.request) k)
-    stands_by done rest t w c h App is r fits = runs s items roots S sd at al L opening done rest t w c h r (keeps t w h is) fits
+    stands_by done rest t w c h App is r fits = each done rest t w c h is r fits
     stands_by done rest t w c h Transform is r fits = r (map_at done) fits refl (stored_met s items roots S sd at al L opening done rest t w c h)
     stands_by done rest t w c h (Upgrade text) is r fits = installs done rest t w c h (ap is_upgrade_kind is) r
 

@@ -4,7 +4,6 @@ use Rattle.class_defs.proofs.Levels.{due_is}
 use Rattle.class_defs.proofs.SameNames.{same_itself}
 use Rattle.class_defs.specs.Eager.{eager, value}
 use Rattle.class_defs.specs.Levels.{is_due}
-use Rattle.class_defs.specs.Ownership.{IsAbove}
 use Rattle.class_defs.specs.Run.{Ran as RanOn}
 use Rattle.class_defs.specs.Stored.{Stored, bare, in_epoch}
 use Rattle.class_defs.specs.declared.store.Object.{Object}
@@ -14,32 +13,31 @@ use Rattle.class_defs.specs.declared.store.Schemas.{Schemas}
 use Rattle.commit_log.specs.declared.request.Request.{Request}
 use Rattle.lazy_laws.proofs.Values.{get-each, value_stays}
 use Rattle.local_history.proofs.Prefixes.{judged}
-use Rattle.local_history.specs.History.{Known, objects_at}
-use Rattle.local_history.specs.Requests.{has_created, has_read, has_written}
-use Rattle.serial_law.specs.Resting.{HasRead, IsOpening, KeepsOwned, PlainMet, RanAs, StoredMet, TxRests}
+use Rattle.local_history.specs.History.{Known}
+use Rattle.local_history.specs.Requests.{has_created}
+use Rattle.serial_law.specs.Resting.{IsOpening, PlainMet, RanAs, StoredMet, TxRests}
 use Rattle.serial_law.specs.WholeHistory.{did, stored_map}
-use Rattle.serial_model.specs.History.{are_fresh, is_new, run_on}
+use Rattle.serial_model.specs.History.{are_fresh, run_on}
 use Rattle.serial_model.specs.declared.entries.What.{What}
-use Rattle.std.proofs.Common.{Bool, List, [], ap, false, inl, inr, length, not, refl, subst, sym, true, ℕ, ◌++◌, ◌<◌, ◌≡◌, ◌∙◌, ◌∷◌}
+use Rattle.std.proofs.Common.{Bool, List, [], ap, false, length, not, refl, subst, sym, true, ◌++◌, ◌≡◌, ◌∙◌, ◌∷◌}
 use Rattle.std.proofs.lemmas.Map.Keys.{IsDistinct-head, IsDistinct-tail}
 use Rattle.std.specs.List.{AllByRecursion, IsDistinct, list_any}
 use Rattle.std.specs.Option.{IsSomeAnd, option_map, option_or}
 use Rattle.std.specs.Prelude.{None, Option, Some, is_some, ◌&&◌, ◌||◌}
-use Rattle.stored_histories.specs.Changes.{Ran, changed_by}
-use Rattle.stored_histories.specs.Standing.{Gave, MapFits, Runs, RunsOn, WritesApart, left_at}
-use Rattle.thor_value.specs.FiniteMap.{Map, empty, get, has, overwrite}
-use Rattle.thor_value.specs.Names.{oref_cmp, same_oref}
+use Rattle.stored_histories.specs.Standing.{Gave, RunsOn, left_at}
+use Rattle.thor_value.specs.FiniteMap.{empty, get}
+use Rattle.thor_value.specs.Names.{same_oref}
 use Rattle.thor_value.specs.declared.names.Oref.{Oref}
 use Rattle.thor_value.specs.declared.names.Ts.{Ts}
 use Rattle.thor_value.specs.declared.values.Obj.{Obj}
 use Rattle.thor_value.specs.declared.values.Who.{Who}
-use Rattle.whole_histories.proofs.Chain.{whole-at, written-here}
+use Rattle.whole_histories.proofs.Chain.{whole-at}
 use Rattle.whole_histories.proofs.Fresh.{fresh-at-turn}
 use Rattle.whole_histories.proofs.Lists.{Es, Lists}
 use Rattle.whole_histories.proofs.Serial.{joins-behind, met}
 use Rattle.whole_histories.proofs.Turns.{in-range, wrote-there}
 use Rattle.whole_histories.specs.Serial.{HasMet, Joined, behind}
-use Rattle.whole_histories.specs.Whole.{Commit, stored, whole, writes_in}
+use Rattle.whole_histories.specs.Whole.{Commit, whole, writes_in}
 
 some_ran : (o : Option RanOn) (P : RanOn → Type 0) → IsSomeAnd o P → (r : RanOn) × (o ≡ Some r) × P r
 some_ran None P h = absurd h
@@ -69,7 +67,7 @@ or_more : (a b : Bool) → b ≡ true → (a || b) ≡ true
 or_more true b h = refl
 or_more false b h = h
 
-fresh_all : (store : Plain) (xs : List Oref) → ((x : Oref) → list_any (same_oref x) xs ≡ true → get store.objects x ≡ None) → IsDistinct same_oref xs → are_fresh store xs ≡ true
+pub fresh_all : (store : Plain) (xs : List Oref) → ((x : Oref) → list_any (same_oref x) xs ≡ true → get store.objects x ≡ None) → IsDistinct same_oref xs → are_fresh store xs ≡ true
 fresh_all store [] none h = refl
 fresh_all store (x ∷ xs) none h =
     ap (λ (b : Bool). b && are_fresh store xs) (both_new (get store.objects x) (list_any (same_oref x) xs) (none x (or_true (same_oref x x) (list_any (same_oref x) xs) (itself x))) (none_among x xs (IsDistinct-head same_oref x xs h)))
@@ -89,7 +87,7 @@ module _ (s : Schemas) (items : Who → What) (roots : List Root) (S : Several) 
   abbrev N : Stored
   N = stored_map roots (behind L done)
 
-  has_met : HasMet S t (behind L done)
+  pub has_met : HasMet S t (behind L done)
   has_met = met S sd at al L opening.objects opening.texts done rest commit c
 
   pub epoch_is : q.epoch ≡ N.epoch
@@ -120,7 +118,7 @@ module _ (s : Schemas) (items : Who → What) (roots : List Root) (S : Several) 
     as_stored x None is undue = refl
     as_stored x (Some v) is undue = ap Some (value_stays s N.objects N.epoch v (sym (due_is s N.epoch v) ∙ subst (λ e. is_due s e v ≡ false) epoch_is (undue v refl)))
 
-    plain_met : PlainMet S t q (eager s N)
+    pub plain_met : PlainMet S t q (eager s N)
     plain_met = record {
       epoch = sym epoch_is;
       old = λ r o x is read not_new.
@@ -130,10 +128,10 @@ module _ (s : Schemas) (items : Who → What) (roots : List Root) (S : Several) 
       new = λ x new. get-each (value s N.objects N.epoch) N.objects x ∙ ap (option_map (value s N.objects N.epoch)) (unborn x new);
     }
 
-    ran : (r : RanOn) × (run_on s (eager s N) rests.tx q.fresh ≡ Some r) × RanAs S t q r
+    pub ran : (r : RanOn) × (run_on s (eager s N) rests.tx q.fresh ≡ Some r) × RanAs S t q r
     ran = some_ran (run_on s (eager s N) rests.tx q.fresh) (RanAs S t q) (rests.runs (eager s N) plain_met)
 
-    gave : Gave N.epoch (did items commit 0) (whole S t q).writes ran.0
+    pub gave : Gave N.epoch (did items commit 0) (whole S t q).writes ran.0
     gave = record {
       answer = ran.2.answer;
       writes = λ x. ran.2.writes x ∙ ap (λ e. option_map (in_epoch e) (left_at ran.0.written x)) epoch_is;
@@ -147,28 +145,3 @@ module _ (s : Schemas) (items : Who → What) (roots : List Root) (S : Several) 
       fresh = fresh_all (eager s N) q.fresh plain_met.new rests.distinct;
       ran = is_ran (run_on s (eager s N) rests.tx q.fresh) (Gave N.epoch (did items commit 0) (whole S t q).writes) ran.0 ran.1 gave;
     }
-
-    module _ (keeps : KeepsOwned s roots S t q) (fits : MapFits s N) where
-      -- what it wrote it read
-      read_it : (x : Oref) (v : Obj) → left_at (whole S t q).writes x ≡ Some v → HasRead S t x
-      read_it x v is =
-          let part_wrote : is_some (left_at (writes_in (part S x.repo t)) x) ≡ true = ap is_some (sym (both (left_at (writes_in (part S x.repo t)) x)) ∙ sym (whole-at S sd al t w x empty h) ∙ is) in
-          let k = wrote-there (part S x.repo t) x part_wrote in
-          (x.repo, k.0, k.1, (judged (S.base x.repo) (S.history x.repo) (sd.each x.repo) t k.0 k.1).vouched.within x k.2)
-        where
-          both : (o : Option Obj) → option_or o None ≡ o
-          both None = refl
-          both (Some v) = refl
-
-      apart : WritesApart s N (whole S t q).writes
-      apart n a x o v there due above is =
-          let k = keeps.owners N fits refl stored_met n a x (read_it x v is) above in
-          let undue : is_due s q.epoch o ≡ false = rests.undue k.0 k.1 a o k.2 k.3 (sym (has_met.objects k.0 k.1 a k.2 k.3) ∙ there) in
-          not_both (is_due s N.epoch o) due (subst (λ e. is_due s e o ≡ false) epoch_is undue)
-        where
-          not_both : (b : Bool) → b ≡ true → b ≡ false → ⊥
-          not_both true d u = cc
-          not_both false d u = cc
-
-      pub runs : Runs s N (did items commit 0) (whole S t q).writes
-      runs = record { runs = runs_on; apart = apart; fits = keeps.fits N fits refl stored_met }

@@ -2,10 +2,12 @@
 -- requests, determines what it does, on every store that has the same there. It speaks of prefixes of histories alone,
 -- so nothing that comes later changes it. This project's.
 use Rattle.atomic_histories.specs.Several.{HasCommitted, Several, part}
-use Rattle.class_defs.specs.Epochs.{upgrade_to}
+use Rattle.class_defs.specs.Epochs.{schema_at, upgrade_to}
+use Rattle.class_defs.specs.SchemaRules.{item_rules, schema_rules}
+use Rattle.class_defs.specs.declared.store.Schema.{Schema}
+use Rattle.owned_runs.specs.Checked.{RootsStand}
 use Rattle.class_defs.specs.KeptOwnership.{AllKeepClasses}
 use Rattle.class_defs.specs.Levels.{is_due}
-use Rattle.class_defs.specs.Ownership.{IsAbove}
 use Rattle.class_defs.specs.Run.{Ran}
 use Rattle.class_defs.specs.Stored.{Stored, bare, in_epoch}
 use Rattle.class_defs.specs.UpgradeLinesAside.{upgrade_on_line_1}
@@ -24,9 +26,9 @@ use Rattle.serial_model.specs.declared.entries.What.TheVariants.{Tx, Upgrade as 
 use Rattle.serial_model.specs.declared.entries.What.{What}
 use Rattle.std.specs.List.{Contains, IsDistinct}
 use Rattle.std.specs.Option.{IsSome}
-use Rattle.std.specs.Prelude.{IsSomeAnd, List, None, Some, false, length, option_map, true, ℕ, ◌+◌, ◌≡◌, ◌≤◌, ◌↔◌, ◌⊎◌}
+use Rattle.std.specs.Prelude.{IsSomeAnd, List, None, Some, [], false, length, option_map, true, ℕ, ◌+◌, ◌<◌, ◌≡◌, ◌≤◌, ◌↔◌, ◌⊎◌}
 use Rattle.stored_histories.specs.Standing.{Brings, MapFits, left_at}
-use Rattle.thor_value.specs.FiniteMap.{IsSorted, get, overwrite}
+use Rattle.thor_value.specs.FiniteMap.{IsSorted, get}
 use Rattle.thor_value.specs.Names.{same_oref}
 use Rattle.thor_value.specs.declared.names.Oref.{Oref}
 use Rattle.thor_value.specs.declared.names.Ts.{Ts}
@@ -73,14 +75,6 @@ pub record TxRests (s : Schemas) (items : Who → What) (S : Several) (t : Ts) (
   pub distinct : IsDistinct same_oref q.fresh
   pub created : (x : Oref) → has_created q x ≡ true → has_written (whole S t q) x ≡ true
 
--- It keeps ownership: on each map that fits and has what t met, it read all owners of what it read, and what it wrote
--- leaves a map that fits.
-pub record KeepsOwned (s : Schemas) (roots : List Root) (S : Several) (t : Ts) (q : Request) : Type 0 where
-  pub owners : (N : Stored) → MapFits s N → N.roots ≡ roots → StoredMet S t q N → (n : ℕ) (a x : Oref) → HasRead S t x
-      → IsAbove s N.objects n a x → HasRead S t a
-  pub fits : (N : Stored) → MapFits s N → N.roots ≡ roots → StoredMet S t q N
-      → MapFits s (record N { objects = overwrite N.objects (whole S t q).writes })
-
 -- ---- transforms and upgrades
 
 -- On each map that fits and has what t met, the transform t brings one object, none of whose owners is due.
@@ -105,10 +99,6 @@ RestsAs s items roots S t q (Upgrade text) = UpgradeRests s items q
 abbrev pub EachRests : Schemas → (Who → What) → List Root → Several → Type 0
 EachRests s items roots S = (t : Ts) (w : Known) → HasCommitted S t w → RestsAs s items roots S t w.request w.request.kind
 
--- each one that is an application transaction keeps ownership
-abbrev pub EachKeepsOwned : Schemas → List Root → Several → Type 0
-EachKeepsOwned s roots S = (t : Ts) (w : Known) → HasCommitted S t w → w.request.kind ≡ App → KeepsOwned s roots S t w.request
-
 -- each is an application transaction, and rests on what it met
 abbrev pub EachIsTx : Schemas → (Who → What) → Several → Type 0
 EachIsTx s items S = (t : Ts) (w : Known) → HasCommitted S t w → (w.request.kind ≡ App) × TxRests s items S t w.request
@@ -124,3 +114,15 @@ pub record OpeningFits (s : Schemas) (roots : List Root) (L : Joined) : Type 0 w
   pub keeps : AllKeepClasses s (length s.upgraded)
   pub installed : length L.texts ≤ length s.upgraded
   pub fits : MapFits s (stored_map roots L)
+
+-- The schemas of all epochs and the items under them break no rule, for this many repositories; the roots that they
+-- declare are these; and no repository has the number of the stand-in names.
+pub record AreChecked (s : Schemas) (items : Who → What) (roots : List Root) (repos : ℕ) : Type 0 where
+  pub schemas_keep : (k : ℕ) (schema : Schema) → schema_at s k ≡ Some schema → schema_rules schema repos ≡ []
+  pub items_keep : (who : Who) (tx : List Stmt) (k : ℕ) (schema : Schema) → items who ≡ Tx tx → schema_at s k ≡ Some schema → item_rules schema repos tx ≡ []
+  pub roots_stand : (k : ℕ) (schema : Schema) → schema_at s k ≡ Some schema → RootsStand schema roots
+  pub few : repos ≤ 255
+
+-- the objects that were opened are those of the repositories
+abbrev pub AreHere : Several → Joined → Type 0
+AreHere S L = (x : Oref) (o : Obj) → get L.objects x ≡ Some o → x.repo < S.repos

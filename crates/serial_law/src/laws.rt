@@ -5,7 +5,7 @@ ghost use Rattle.atomic_histories.specs.Several.{Alike, AreSound, IsAtomic, Seve
 ghost use Rattle.class_defs.specs.Eager.{eager};
 ghost use Rattle.class_defs.specs.declared.store.Root.{Root};
 ghost use Rattle.class_defs.specs.declared.store.Schemas.{Schemas};
-ghost use Rattle.serial_law.specs.Resting.{EachIsTx, EachKeepsOwned, EachRests, IsOpening, OpeningFits};
+ghost use Rattle.serial_law.specs.Resting.{AreChecked, AreHere, EachIsTx, EachRests, IsOpening, OpeningFits};
 ghost use Rattle.serial_law.specs.WholeHistory.{stored_map, whole_history};
 ghost use Rattle.serial_model.specs.History.{IsLegal, after};
 ghost use Rattle.serial_model.specs.declared.entries.What.{What};
@@ -30,19 +30,21 @@ pub fn histories_without_upgrades_are_serial()
         → Joins S.repos (stored S (commits S).pairs) (behind L (commits S).pairs).objects }
 {}
 
-/// The same with upgrades and lazy transforms, where the application transactions keep ownership: each upgrade has its
-/// place in the history, and transforms are unseen. What is stored behind all commits fits.
-pub fn histories_that_keep_ownership_are_serial()
+/// The serial law. Sound local histories, atomic over repositories, whose transactions rest on what they read, are one
+/// legal serial history by rising timestamp, with upgrades at their places and lazy transforms unseen, where the items and
+/// the schemas of all epochs break no rule and what was opened fits. The store behind it is what the commits left at each
+/// repository, and it fits.
+pub fn histories_are_serial()
     ensures legal { (s : Schemas) → (items : Who → What) → (roots : List Root) → (S : Several) → (L : Joined)
-        → AreSound S → IsAtomic S → Alike S → EachRests s items roots S → EachKeepsOwned s roots S
-        → IsOpening S L → OpeningFits s roots L
+        → AreSound S → IsAtomic S → Alike S → EachRests s items roots S
+        → IsOpening S L → AreHere S L → OpeningFits s roots L → AreChecked s items roots S.repos
         → IsLegal s (whole_history items S) (eager s (stored_map roots L)) }
     ensures behind { (s : Schemas) → (items : Who → What) → (roots : List Root) → (S : Several) → (L : Joined)
-        → AreSound S → IsAtomic S → Alike S → EachRests s items roots S → EachKeepsOwned s roots S
-        → IsOpening S L → OpeningFits s roots L
+        → AreSound S → IsAtomic S → Alike S → EachRests s items roots S
+        → IsOpening S L → AreHere S L → OpeningFits s roots L → AreChecked s items roots S.repos
         → after s (whole_history items S) (eager s (stored_map roots L)) ≡ eager s (stored_map roots (behind L (commits S).pairs)) }
     ensures fits { (s : Schemas) → (items : Who → What) → (roots : List Root) → (S : Several) → (L : Joined)
-        → AreSound S → IsAtomic S → Alike S → EachRests s items roots S → EachKeepsOwned s roots S
-        → IsOpening S L → OpeningFits s roots L
+        → AreSound S → IsAtomic S → Alike S → EachRests s items roots S
+        → IsOpening S L → AreHere S L → OpeningFits s roots L → AreChecked s items roots S.repos
         → MapFits s (stored_map roots (behind L (commits S).pairs)) }
 {}

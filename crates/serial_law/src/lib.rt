@@ -4,4 +4,4 @@
 
 mod laws;
 
-pub use laws::{histories_that_keep_ownership_are_serial, histories_without_upgrades_are_serial};
+pub use laws::{histories_are_serial, histories_without_upgrades_are_serial};

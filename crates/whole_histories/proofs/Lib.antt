@@ -6,3 +6,4 @@ pub mod End
 pub mod Fresh
 pub mod Epochs
 pub mod Serial
+pub mod Staying

@@ -2,6 +2,7 @@
 -- leave. Each is one statement, that a law of this crate has as its clause.
 use Rattle.atomic_histories.specs.Several.{HasCommitted, Several, part}
 use Rattle.local_history.specs.History.{CommittedBelow, Known, objects_at, state}
+use Rattle.local_history.specs.Participants.{takes_part}
 use Rattle.local_history.specs.Requests.{has_created, has_read, has_written, is_upgrade, text_of}
 use Rattle.std.specs.List.{fold}
 use Rattle.std.specs.Prelude.{List, None, Some, length, take, true, ℕ, ◌++◌, ◌∷◌, ◌≡◌, ◌≢◌, ◌↔◌}
@@ -57,3 +58,8 @@ EpochAtTurn S = (done : List Commit) (e : Commit) → IsTurn S done e → (r : �
 -- are undecided there: those that the next opening settles.
 abbrev pub JoinedAtEnd : Several → Type 0
 JoinedAtEnd S = (r : ℕ) (x : Oref) → get (stored S (commits S).pairs r) x ≡ get (finished S (commits S).pairs r) x
+
+-- Each participant of t has prepared it.
+pub record IsPrepared (S : Several) (t : Ts) (w : Known) : Type 0 where
+  pub there : part S t.repo t ≡ Some w
+  pub everywhere : (n : ℕ) → takes_part t.repo w.request n ≡ true → (o : Known) × (part S n t ≡ Some o)

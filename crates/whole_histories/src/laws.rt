@@ -1,11 +1,15 @@
 //! What is proved of several repositories with two-phase commit, beside `atomic_histories`.
 
+ghost use Rattle.atomic_histories.specs.Growing.{Continues, grown};
 ghost use Rattle.atomic_histories.specs.Several.{Alike, AreSound, IsAtomic, Several};
+ghost use Rattle.commit_log.specs.declared.entry.Entry.{Entry};
 ghost use Rattle.commit_log.specs.declared.request.Request.{Request};
-ghost use Rattle.std.specs.Prelude.{Bool, List, ◌≡◌};
-ghost use Rattle.whole_histories.specs.Serial.{AllRest, BeganWith, IsSerial, Joined, Joins, bases, behind};
-ghost use Rattle.whole_histories.specs.Turns.{EpochAtTurn, FreshAtTurn, JoinedAtEnd, JoinedAtTurn, UpgradesAgree, WritersAgree, texts_after};
-ghost use Rattle.whole_histories.specs.Whole.{AreTheCommits, Commit, commits, stored};
+ghost use Rattle.local_history.specs.History.{Known};
+ghost use Rattle.std.specs.Prelude.{Bool, List, ℕ, ◌≡◌};
+ghost use Rattle.thor_value.specs.declared.names.Ts.{Ts};
+ghost use Rattle.whole_histories.specs.Serial.{AllRest, BeganWith, HasMet, IsSerial, Joined, Joins, bases, behind};
+ghost use Rattle.whole_histories.specs.Turns.{EpochAtTurn, FreshAtTurn, IsPrepared, JoinedAtEnd, JoinedAtTurn, UpgradesAgree, WritersAgree, texts_after};
+ghost use Rattle.whole_histories.specs.Whole.{AreTheCommits, Commit, commits, stored, whole};
 
 /// The commits that are computed are all that have committed, each as a whole, by rising timestamps.
 pub fn commits_are_computed()
@@ -52,4 +56,15 @@ pub fn several_are_serial()
     ensures objects { (S : Several) (L : Joined) → AreSound S → Alike S → Joins S.repos (bases S) L.objects →
         Joins S.repos (stored S (commits S).pairs) (behind L (commits S).pairs).objects }
     ensures texts { (L : Joined) (es : List Commit) → (behind L es).texts ≡ texts_after L.texts es }
+{}
+
+/// From when each participant has prepared a transaction, what it read and wrote as a whole stays, and so does what it met:
+/// whatever comes, what has all that it met then has what it met before. So what it rests on stays.
+pub fn prepared_transactions_stay()
+    ensures prepared { (S : Several) (r : ℕ) (e : Entry) → AreSound S → Continues S r e → (t : Ts) (w : Known) → IsPrepared S t w →
+        (v : Known) × IsPrepared (grown S r e) t v × (v.request ≡ w.request) }
+    ensures whole { (S : Several) (r : ℕ) (e : Entry) → AreSound S → Continues S r e → (t : Ts) (w : Known) → IsPrepared S t w →
+        whole (grown S r e) t w.request ≡ whole S t w.request }
+    ensures met { (S : Several) (r : ℕ) (e : Entry) → AreSound S → Continues S r e → (t : Ts) (w : Known) → IsPrepared S t w →
+        (L : Joined) → HasMet (grown S r e) t L → HasMet S t L }
 {}

@@ -1,0 +1,4 @@
+pub mod Plainly
+pub mod Closed
+pub mod Search
+pub mod Behind
