@@ -38,7 +38,9 @@ impl<P: Parts> Runner<P> for InTurn {
         cluster: Cluster<P>,
         events: &[Event],
         _mob: u32,
-    ) -> Finished<P> {
+    ) -> Finished<P>
+        ensures { vec_len result.parts ≡ parts_of cluster }
+    {
         let mut cluster = cluster;
         let performed = perform(&mut cluster, events);
         let Finished { parts, ran } = cluster.finish();
@@ -77,7 +79,9 @@ impl<'a, R: Threads + Wait + Sync, P: Parts + Send, G: Gate + Sync> Runner<P>
         cluster: Cluster<P>,
         events: &[Event],
         mob: u32,
-    ) -> Finished<P> {
+    ) -> Finished<P>
+        ensures { vec_len result.parts ≡ parts_of cluster }
+    {
         run_clients(self.rt, alloc, cluster, events, mob, self.gate)
     }
 }
