@@ -4,8 +4,11 @@ use Rattle.cluster_core.specs.Same.{AreSame}
 use Rattle.cluster_core.specs.Seated.{AreSeated, Gives}
 use Rattle.cluster_core.specs.declared.seat.Seat.{Seat}
 use Rattle.disk_trait.specs.Disks.{Disks}
-use Rattle.std.proofs.Common.{List, [], arith, ap, append_assoc, length, refl, subst, sym, ◌++◌, ◌∙◌, ◌≡◌, ◌∷◌}
+use Rattle.std.proofs.Common.{List, None, [], arith, ap, append_assoc, length, refl, subst, sym, ◌++◌, ◌∙◌, ◌≡◌, ◌∷◌}
+use Rattle.std.proofs.lemmas.List.{append-nil}
 use Rattle.std.specs.List.{AllZip}
+use Rattle.std.specs.Vec.Iter.{into_iter_items, into_iter_steps}
+use Rattle.std.specs.declared.vec.IntoIter.{IntoIter}
 
 module _ {X Y : Type 0} (R : X → Y → Type 0) where
   zip_end : (xs : List X) (ys : List Y) (x : X) (y : Y) → AllZip R xs ys → R x y → AllZip R (xs ++ x ∷ []) (ys ++ y ∷ [])
@@ -24,6 +27,13 @@ next_one yielded rest left all x whole next = append_assoc yielded (x ∷ []) le
 pub none_in : {X : Type 0} (xs : List X) → length xs ≡ 0 → xs ≡ []
 none_in [] none = refl
 none_in (x ∷ xs) none = absurd (omega (arith, none))
+
+-- all items of a vector were taken
+pub none_left : {X Z : Type 0} (before after : IntoIter X Z) → into_iter_steps before None after → into_iter_items before ≡ []
+none_left before after steps = none_in (into_iter_items before) (sym before.rest.ok.0 ∙ steps.0)
+
+pub zip_all : {X Y : Type 0} (R : X → Y → Type 0) (yielded rest all : List X) (ys : List Y) → yielded ++ rest ≡ all → rest ≡ [] → AllZip R yielded ys → AllZip R all ys
+zip_all R yielded rest all ys whole none each = subst (λ (xs : List _). AllZip R xs ys) (sym (append-nil yielded) ∙ (ap (λ xs. yielded ++ xs) (sym none) ∙ whole)) each
 
 -- what comes back from the seats is as the parts were
 pub gives_all : {P : Type 0} (disks : P → Disks) (given : List P) (seats : List (Seat P)) (back : List P) → AreSeated disks given seats → AllZip (Gives disks) seats back → AreSame disks given back

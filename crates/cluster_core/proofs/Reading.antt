@@ -72,6 +72,10 @@ reaches_one page side disk within = λ q t found. one_side page side q t (length
 pub same_on : (old new : Disks) → Stays old new → Same old new
 same_on old new stays = same_beside old new 2 stays.alone stays.content stays.crash
 
--- disks that were synced, recovered from, and read page by page are as they were
+-- disks that were synced and recovered from are as they were
+pub same_recovered : (old synced new : Disks) → Same old synced → SameContent synced new → LeavesAll synced new (MayLeaveAll synced synced.time) → Same old new
+same_recovered old synced new first content run = same_then old synced new first (same_content synced new content run)
+
+-- and so where they are read page by page behind that
 pub same_read : (old synced recovered new : Disks) → Same old synced → SameContent synced recovered → LeavesAll synced recovered (MayLeaveAll synced synced.time) → Stays recovered new → Same old new
-same_read old synced recovered new first content run stays = same_then old synced new first (same_then synced recovered new (same_content synced recovered content run) (same_on recovered new stays))
+same_read old synced recovered new first content run stays = same_then old recovered new (same_recovered old synced recovered first content run) (same_on recovered new stays)

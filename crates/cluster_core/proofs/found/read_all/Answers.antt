@@ -1,4 +1,4 @@
-use Rattle.cluster_core.proofs.Places.{next_one, zip_more}
+use Rattle.cluster_core.proofs.Places.{next_one, none_left, zip_all, zip_more}
 use Rattle.cluster_core.proofs.found.read_all.Goals as goal
 use Rattle.cluster_core.specs.Seated.{IsSeated}
 use Rattle.std.proofs.Common.{arith}
@@ -13,3 +13,8 @@ loop-part-preserved g c =
       next_one c.loop-part.yielded (into_iter_items c.loop-part.part-iterator) (into_iter_items c.next.new.self) c.args.parts.items c.in-Some.part inv.2 next.0,
       zip_more (IsSeated g.P.Parts.disks) c.loop-part.yielded c.loop-part.seats.items c.push_reserved.new.self.items c.in-Some.part c.read_next-found.result.0 c.push_reserved.ensures.items inv.3 c.read_next-found.ensures,
     )
+
+pub returns-clause-seated : goal.returns-clause-seated
+returns-clause-seated g c =
+    let inv = c.loop-part.invariant in
+    zip_all (IsSeated g.P.Parts.disks) c.loop-part.yielded (into_iter_items c.loop-part.part-iterator) c.args.parts.items c.loop-part.seats.items inv.2 (none_left c.loop-part.part-iterator c.next.new.self c.in-None.ensures.steps) inv.3

@@ -1,4 +1,4 @@
-use Rattle.cluster_core.proofs.Reading.{recovered_on, same_read}
+use Rattle.cluster_core.proofs.Reading.{recovered_on, same_read, same_recovered}
 use Rattle.cluster_core.specs.Recovered.{AgreesWhere}
 use Rattle.held_state.specs.Keeps.{Keeps}
 use Rattle.held_state.specs.Said.{said}
@@ -18,3 +18,6 @@ returns-in_err-behind-clause-same g c = same_read (g.P.Parts.disks c.args.parts.
 
 pub returns-clause-same : goal.returns-clause-same
 returns-clause-same g c = same_read (g.P.Parts.disks c.args.parts.now) (g.P.Parts.disks c.sync.new.parts) (g.P.Parts.disks c.recover.new.parts) (g.P.Parts.disks c.read_pages.new.parts) c.sync.ensures.same c.recover.ensures.content c.recover.ensures.any_moment c.read_pages.ensures
+
+pub returns-then-repo-clause-same : goal.returns-then-repo-clause-same
+returns-then-repo-clause-same g c = same_recovered (g.P.Parts.disks c.args.parts.now) (g.P.Parts.disks c.sync.new.parts) (g.P.Parts.disks c.recover.new.parts) c.sync.ensures.same c.recover.ensures.content c.recover.ensures.any_moment
