@@ -4,9 +4,9 @@
 mod answered;
 mod checking;
 mod form;
+mod in_turn;
 mod playing;
 mod reply;
-mod runner;
 mod starting;
 mod status;
 mod top;
