@@ -1,17 +1,12 @@
-//! The disks of repositories.
+//! The disks and clocks of repositories.
 
-use crate::clocks::Clocks;
-use disk_trait::{FileParts, MemParts};
+use disk_trait::{FileParts, MemParts, TickClock};
 use std::alloc::Global;
 use std::str;
 use thor_value::{NoMemory, Text};
 
 /// Repositories in memory, all of them empty.
-pub fn memory<C: Clocks>(
-    alloc: Global,
-    repos: u8,
-    clocks: &C,
-) -> Result<Vec<MemParts<C::Clock>>, NoMemory> {
+pub fn memory(alloc: Global, repos: u8) -> Result<Vec<MemParts<TickClock>>, NoMemory> {
     let mut parts = Vec::new(alloc);
     for _ in 0..repos {
         parts.push(MemParts::new(
@@ -19,7 +14,7 @@ pub fn memory<C: Clocks>(
             Vec::new(alloc),
             Vec::new(alloc),
             Vec::new(alloc),
-            clocks.clock(),
+            TickClock::new(1),
         ))?;
     }
     Ok(parts)
@@ -27,12 +22,11 @@ pub fn memory<C: Clocks>(
 
 /// Repositories in a folder, three files each. A file that isn't there is made. Where one couldn't be opened,
 /// each call on that disk fails.
-pub fn files<C: Clocks>(
+pub fn files(
     rt: HostRuntime,
     folder: &Text,
     repos: u8,
-    clocks: &C,
-) -> Result<Vec<FileParts<C::Clock>>, NoMemory> {
+) -> Result<Vec<FileParts<TickClock>>, NoMemory> {
     let alloc = rt.alloc();
     let Ok(folder) = str::from_utf8(folder.as_slice()) else {
         return Err(NoMemory);
@@ -42,20 +36,16 @@ pub fn files<C: Clocks>(
         let log0 = format!(in alloc; "{folder}/{repo}.log0")?;
         let log1 = format!(in alloc; "{folder}/{repo}.log1")?;
         let pages = format!(in alloc; "{folder}/{repo}.pages")?;
-        parts.push(FileParts::open(&rt, &log0, &log1, &pages, clocks.clock()))?;
+        parts.push(FileParts::open(&rt, &log0, &log1, &pages, TickClock::new(1)))?;
     }
     Ok(parts)
 }
 
 /// Repositories whose files can't be opened: each call on their disks fails, and nothing is touched.
-pub fn closed<C: Clocks>(
-    rt: HostRuntime,
-    repos: u8,
-    clocks: &C,
-) -> Result<Vec<FileParts<C::Clock>>, NoMemory> {
+pub fn closed(rt: HostRuntime, repos: u8) -> Result<Vec<FileParts<TickClock>>, NoMemory> {
     let mut parts = Vec::new(rt.alloc());
     for _ in 0..repos {
-        parts.push(FileParts::open(&rt, "", "", "", clocks.clock()))?;
+        parts.push(FileParts::open(&rt, "", "", "", TickClock::new(1)))?;
     }
     Ok(parts)
 }

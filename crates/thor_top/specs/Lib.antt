@@ -1,7 +1,6 @@
 pub mod Kept
 pub mod Opening
 pub mod Reports
-pub mod Running
 pub mod Statuses
 pub mod Texts
 pub mod Top

@@ -4,7 +4,6 @@
 mod answered;
 mod checking;
 mod form;
-mod in_turn;
 mod playing;
 mod reply;
 mod starting;
