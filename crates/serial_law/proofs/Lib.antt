@@ -2,3 +2,4 @@ pub mod Turns
 pub mod Changes
 pub mod Checked
 pub mod Serial
+pub mod Resting

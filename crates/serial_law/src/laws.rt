@@ -1,18 +1,24 @@
 //! That what several repositories commit is one legal serial history. Each law is a function with an empty body, whose
 //! clauses are proved once for all callers.
 
+ghost use Rattle.atomic_histories.specs.Growing.{Continues, grown};
 ghost use Rattle.atomic_histories.specs.Several.{Alike, AreSound, IsAtomic, Several};
 ghost use Rattle.class_defs.specs.Eager.{eager};
 ghost use Rattle.class_defs.specs.declared.store.Root.{Root};
 ghost use Rattle.class_defs.specs.declared.store.Schemas.{Schemas};
-ghost use Rattle.serial_law.specs.Resting.{AreChecked, AreHere, EachIsTx, EachRests, IsOpening, OpeningFits};
+ghost use Rattle.commit_log.specs.declared.entry.Entry.{Entry};
+ghost use Rattle.commit_log.specs.declared.request.Kind.{Kind};
+ghost use Rattle.local_history.specs.History.{Known};
+ghost use Rattle.serial_law.specs.Resting.{AreChecked, AreHere, EachIsTx, EachRests, IsOpening, OpeningFits, RestsAs};
 ghost use Rattle.serial_law.specs.WholeHistory.{stored_map, whole_history};
 ghost use Rattle.serial_model.specs.History.{IsLegal, after};
 ghost use Rattle.serial_model.specs.declared.entries.What.{What};
-ghost use Rattle.std.specs.Prelude.{List, [], ◌≡◌};
+ghost use Rattle.std.specs.Prelude.{List, [], ℕ, ◌≡◌};
 ghost use Rattle.stored_histories.specs.Standing.{MapFits};
+ghost use Rattle.thor_value.specs.declared.names.Ts.{Ts};
 ghost use Rattle.thor_value.specs.declared.values.Who.{Who};
 ghost use Rattle.whole_histories.specs.Serial.{Joined, Joins, behind};
+ghost use Rattle.whole_histories.specs.Turns.{IsPrepared};
 ghost use Rattle.whole_histories.specs.Whole.{commits, stored};
 
 /// Serial without upgrades. Sound local histories, atomic over repositories, whose transactions rest on what they read,
@@ -47,4 +53,12 @@ pub fn histories_are_serial()
         → AreSound S → IsAtomic S → Alike S → EachRests s items roots S
         → IsOpening S L → AreHere S L → OpeningFits s roots L → AreChecked s items roots S.repos
         → MapFits s (stored_map roots (behind L (commits S).pairs)) }
+{}
+
+/// What a transaction rests on stays, whatever comes, from when each participant has prepared it. So it is owed once, where
+/// the transaction commits.
+pub fn what_is_rested_on_stays()
+    ensures { (s : Schemas) → (items : Who → What) → (roots : List Root) → (S : Several) → (r : ℕ) → (e : Entry)
+        → AreSound S → Continues S r e → (t : Ts) → (w : Known) → IsPrepared S t w → (k : Kind)
+        → RestsAs s items roots S t w.request k → RestsAs s items roots (grown S r e) t w.request k }
 {}

@@ -4,4 +4,6 @@
 
 mod laws;
 
-pub use laws::{histories_are_serial, histories_without_upgrades_are_serial};
+pub use laws::{
+    histories_are_serial, histories_without_upgrades_are_serial, what_is_rested_on_stays,
+};

@@ -45,7 +45,7 @@ module _ (S : Several) (r : ℕ) (e : Entry) (sd : AreSound S) (go : Continues S
       ∙ ap (λ (xs : List (Oref × Obj)). record w.request { ros = flat_map (λ n. ros_in (part S n t)) (t.repo ∷ w.request.others); writes = xs })
       (flat-same (λ n. writes_in (part (grown S r e) n t)) (λ n. writes_in (part S n t)) (t.repo ∷ w.request.others) (request-on (List (Oref × Obj)) (λ q. q.writes) [] writes_in (λ o. refl)))
 
-  objects-stay : (n p : ℕ) → p ≤ length (S.history n) → objects_at (S.base n) ((grown S r e).history n) p ≡ objects_at (S.base n) (S.history n) p
+  pub objects-stay : (n p : ℕ) → p ≤ length (S.history n) → objects_at (S.base n) ((grown S r e).history n) p ≡ objects_at (S.base n) (S.history n) p
   objects-stay n p l = by (nat_eq n r)
     where
       by : (k : Bool) → objects_at (S.base n) (cond k (S.history n ++ e ∷ []) (S.history n)) p ≡ objects_at (S.base n) (S.history n) p
