@@ -5,3 +5,6 @@ reply_within-requires-clause-within g c = c.passed_limit.ensures.within c.in-Non
 
 pub returns-in-Some-clause-reply : goal.returns-in-Some-clause-reply
 returns-in-Some-clause-reply g c = rw c.unplayed.ensures.reply c.over_limit.ensures
+
+pub returns-in-Some-clause-kept : goal.returns-in-Some-clause-kept
+returns-in-Some-clause-kept g c = λ given has writes. rw c.unplayed.ensures.parts (c.into_parts.ensures.parts given has)
