@@ -1,11 +1,11 @@
 //! A sink that fails at one call.
 
-use crate::running::{Run, run};
+use crate::running::{Asked, run};
 use std::test::Fail;
 use thor_top::Status;
 
 /// A script with a report of three lines. The second piece of it isn't taken.
-const SECOND_WRITE_FAILS: Run<'static> = Run {
+const SECOND_WRITE_FAILS: Asked<'static> = Asked {
     words: &[b"play"],
     script: b"setup client 1 tx { print 0; }",
     repos: 1,

@@ -7,7 +7,7 @@ use thor_top::{Status, thor};
 use thor_value::{Ints, NoMemory, Text, Texts};
 
 /// What is run: the words, the script, on how many repositories, and which call of the sink fails, 0 for none.
-pub struct Run<'a> {
+pub struct Asked<'a> {
     pub words: &'a [&'a [u8]],
     pub script: &'a [u8],
     pub repos: u8,
@@ -47,7 +47,7 @@ fn texts(alloc: Global, words: &[&[u8]]) -> Result<Texts, NoMemory> {
 }
 
 /// Runs the program. The answer is its status, and what the sink took.
-pub fn run(alloc: Global, asked: &Run<'_>) -> Result<(Status, Text), NoMemory> {
+pub fn run(alloc: Global, asked: &Asked<'_>) -> Result<(Status, Text), NoMemory> {
     let words = texts(alloc, asked.words)?;
     let script = Text::from_slice(alloc, asked.script)?;
     let mut source = MemSource::new(script, Ints::new(alloc));
