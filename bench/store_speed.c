@@ -19,7 +19,7 @@ int main(int words, char **word) {
         page[5] = number >> 16;
         page[6] = number >> 8;
         page[7] = number;
-        if (pwrite(file, page, sizeof page, 8192 * number) != sizeof page || fsync(file) != 0) {
+        if (pwrite(file, page, sizeof page, 8192 * number) != sizeof page || fdatasync(file) != 0) {
             perror("store_speed");
             return 1;
         }

@@ -42,13 +42,13 @@ not-begun-aborted cs n q Open h e = cc
 not-begun-aborted cs n q (Committed at) h e = cc
 not-begun-aborted cs n q Aborted h e = h
 
-begun-commits : (cs : List (ℕ × Request)) (n : ℕ) (q : Request) (f : Fate) → FateBegun cs n q f → IsCommitted f → cs ≡ (n, q) ∷ []
+pub begun-commits : (cs : List (ℕ × Request)) (n : ℕ) (q : Request) (f : Fate) → FateBegun cs n q f → IsCommitted f → cs ≡ (n, q) ∷ []
 begun-commits cs n q Open h c = absurd c
 begun-commits cs n q (Committed at) h c = h.1
 begun-commits cs n q Aborted h c = absurd c
 
 -- one that committed at once was alone
-begun-alone : (b : Base) (H : List Entry) (e : Entry) (n : ℕ) (q : Request) → owes b (state b H) e → Asks e q → commit_of b (state b H) e ≡ (n, q) ∷ [] → IsAlone b q
+pub begun-alone : (b : Base) (H : List Entry) (e : Entry) (n : ℕ) (q : Request) → owes b (state b H) e → Asks e q → commit_of b (state b H) e ≡ (n, q) ∷ [] → IsAlone b q
 begun-alone b H (Life k) n q ow asks is = absurd asks
 begun-alone b H (One p) n q ow asks is = subst (IsAlone b) asks ow.1
 begun-alone b H (Prepared p) n q ow asks is = cc

@@ -72,7 +72,7 @@ module _ (S : Several) (at : IsAtomic S) where
 
 module _ (S : Several) (sd : AreSound S) where
   -- where something stands there is a repository
-  there : (r : ℕ) (t : Ts) (o : Known) → part S r t ≡ Some o → r < S.repos
+  pub there : (r : ℕ) (t : Ts) (o : Known) → part S r t ≡ Some o → r < S.repos
   there r t o is = elim (low-or-high r S.repos) [
     | inl l ↦ l
     | inr l ↦ some-none o (subst (λ (H : List Entry). known_by (S.base r) H t ≡ Some o) (sd.outside r l) is)

@@ -2,12 +2,15 @@
 //! clause of what two-phase commit keeps is needed.
 
 ghost use Rattle.atomic_histories.specs.AcrossExamples.{abroad, at, box, crossing, dropped, hasty, parted, unheard, z};
+ghost use Rattle.atomic_histories.specs.AskedExamples.{asked};
+ghost use Rattle.atomic_histories.specs.Asking.{told};
 ghost use Rattle.atomic_histories.specs.AtomicTest.{is_agreed, is_everywhere, is_given_up, is_known_there};
-ghost use Rattle.atomic_histories.specs.Several.{committed};
+ghost use Rattle.atomic_histories.specs.Several.{committed, histories};
 ghost use Rattle.local_history.specs.Checking.{is_sound};
 ghost use Rattle.local_history.specs.History.{objects_at};
 ghost use Rattle.std.specs.Prelude.{Some, ◌&&◌, ◌≡◌, true, false};
 ghost use Rattle.thor_value.specs.FiniteMap.{get};
+ghost use Rattle.two_phase.specs.declared.standing.Standing.TheVariants as answer;
 
 /// Two transactions that cross, of which one is aborted, and a third that reads what the other wrote.
 pub fn crossing_transactions()
@@ -49,4 +52,19 @@ pub fn needs_all_participants()
     ensures rest { (is_known_there hasty && is_agreed hasty && is_given_up hasty) ≡ true }
     ensures broken { is_everywhere hasty ≡ false }
     ensures other { committed hasty (abroad 2) ≡ true }
+{}
+
+/// What a coordinator answers: of one that is forgotten, of one that was aborted, of one whose decision is kept, of
+/// one that committed alone and was followed by another of its client, of that one, of one that is undecided, and of
+/// one that never came.
+pub fn answers_of_a_coordinator()
+    ensures sound { (is_sound (asked.base 0) ((histories asked).history 0) && is_sound (asked.base 1) ((histories asked).history 1)) ≡ true }
+    ensures atomic { (is_known_there (histories asked) && is_everywhere (histories asked) && is_agreed (histories asked) && is_given_up (histories asked)) ≡ true }
+    ensures forgotten { told asked (at 1) ≡ answer.Aborted }
+    ensures aborted { told asked (at 2) ≡ answer.Aborted }
+    ensures kept { told asked (at 3) ≡ answer.Committed }
+    ensures followed { told asked (at 4) ≡ answer.Aborted }
+    ensures alone { told asked (at 5) ≡ answer.Committed }
+    ensures undecided { told asked (at 6) ≡ answer.Open }
+    ensures unseen { told asked (at 7) ≡ answer.Aborted }
 {}

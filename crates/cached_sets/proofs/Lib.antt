@@ -1,7 +1,7 @@
 mod Finding
 mod Marking
-mod Meaning
-mod Ordering
+pub mod Meaning
+pub mod Ordering
 mod Restoring
 mod Touching
-mod Walking
+pub mod Walking

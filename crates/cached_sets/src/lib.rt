@@ -7,8 +7,6 @@ mod invalid_sets;
 mod marked;
 mod set_laws;
 mod sets;
-#[cfg(test)]
-mod tests;
 
 pub use set_laws::{sets_say_what_was_called, sets_stay_ordered};
 pub use sets::Sets;

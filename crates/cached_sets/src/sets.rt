@@ -4,9 +4,9 @@ ghost use Rattle.cached_sets.specs.Sets.{acknowledge, cache, drop_session, inval
 ghost use Rattle.cached_sets.specs.Invalid.{Invalids};
 ghost use Rattle.cached_sets.specs.Undoing.{undo};
 ghost use Rattle.link_table.specs.Pairs.{first, lefts, next};
-ghost use Rattle.std.specs.List.{last_or};
+ghost use Rattle.std.specs.List.{IsDistinct, last_or};
 ghost use Rattle.std.specs.Map.{keys_of};
-ghost use Rattle.std.specs.Prelude.{List, None, Ok, OnErr, OnOk, [], ℕ, ◌++◌, ◌∷◌, ◌≡◌};
+ghost use Rattle.std.specs.Prelude.{List, None, Ok, OnErr, OnOk, [], nat_eq, ℕ, ◌++◌, ◌∷◌, ◌≡◌};
 ghost use Rattle.validation_queue.specs.Names.{Rises};
 
 use crate::invalid_sets::InvalidSets;
@@ -98,6 +98,7 @@ impl Sets {
     pub fn next_holder(&self, page: u32, after: Option<u32>) -> Option<u32>
         ensures value { result ≡ next (lefts self.now.cached page) after }
         ensures goes_on { (done rest : List ℕ) → lefts self.now.cached page ≡ done ++ rest → after ≡ last_or None done → result ≡ first rest }
+        ensures distinct { IsDistinct nat_eq (lefts self.now.cached page) }
     {
         self.pages.next_left(page, after)
     }

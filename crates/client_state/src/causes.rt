@@ -1,11 +1,17 @@
 //! Why a try ends that was refused.
 
+ghost use Rattle.client_state.specs.Causes.{cause_behind};
+ghost use Rattle.std.specs.Prelude.{◌≡◌, None, OnErr, IfOk, Some};
+
 use serial_model::Cause;
 use thor_value::NoMemory;
 use validation_window::Refusal;
 
 /// Why a try ends that a repository refused.
-pub fn cause_of(refusal: Refusal, repo: u8) -> Result<Cause, NoMemory> {
+pub fn cause_of(refusal: Refusal, repo: u8) -> Result<Cause, NoMemory>
+    ensures cause { IfOk result (λ cause. cause_behind refusal repo ≡ Some cause) }
+    ensures none { OnErr result (cause_behind refusal repo ≡ None) }
+{
     match refusal {
         Refusal::Gone { session } => Ok(Cause::Gone { session }),
         Refusal::Epoch { n } => Ok(Cause::Epoch { n }),

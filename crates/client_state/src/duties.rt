@@ -2,6 +2,7 @@
 
 use message_outbox::{At, Verdict};
 use std::alloc::Global;
+use std::mem;
 use thor_value::{NoMemory, Repos, Sequence, Ts};
 
 /// A transaction that its coordinator has prepared and whose try has ended.
@@ -61,6 +62,11 @@ impl Duties {
     /// Whether a transaction is to be aborted, or a verdict to be handed on.
     pub fn owes_verdicts(&self) -> bool {
         self.abort.is_some() || !self.verdicts.is_empty()
+    }
+
+    /// A transaction is to be aborted by its coordinator, and no other one.
+    pub fn note_abort(&mut self, abort: Abort) {
+        drop(mem::replace(&mut self.abort, Some(abort)));
     }
 
     /// A verdict is to be handed to participants. A commit that all of them have finished is to be

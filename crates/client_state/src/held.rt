@@ -1,6 +1,10 @@
 //! What a client holds of the repositories: sessions, copies of objects, names for new ones.
 
-ghost use Rattle.std.specs.Prelude.{◌<◌};
+ghost use Rattle.client_state.specs.Learning.{without_session};
+ghost use Rattle.client_state.specs.Links.{at_repo, waiting};
+ghost use Rattle.client_cache.specs.Copies.{kept};
+ghost use Rattle.std.specs.Prelude.{◌≡◌, ◌<◌, None, cond, max, nat_eq};
+ghost use Rattle.thor_value.specs.declared.names.Oref.{Oref};
 
 use crate::link::{Link, Waits};
 use client_cache::Looked;
@@ -121,25 +125,11 @@ impl Held {
         None
     }
 
-    /// Messages of a repository were taken up to a place.
-    pub fn acknowledge(&mut self, repo: u8, place: u64) {
-        if let Some(link) = self.links.get_mut(usize::from(repo)) {
-            link.acknowledge(place);
-        }
-    }
-
-    /// The outstanding reply of a repository has come, up to a place.
-    pub fn take_reply(&mut self, repo: u8, place: u64) {
-        if let Some(link) = self.links.get_mut(usize::from(repo)) {
-            link.acknowledge(place);
-            if link.awaits_reply() {
-                link.wait(Waits::Idle);
-            }
-        }
-    }
-
     /// The client waits for this in its session at a repository.
-    pub fn wait(&mut self, repo: u8, waits: Waits) {
+    pub fn wait(&mut self, repo: u8, waits: Waits)
+        ensures links { self.new.links.items ≡ at_repo self.old.links.items repo (waiting waits) }
+        ensures rest { self.new ≡ record self.old { links = self.new.links } }
+    {
         if let Some(link) = self.links.get_mut(usize::from(repo)) {
             link.wait(waits);
         }
@@ -155,7 +145,7 @@ impl Held {
     /// Sets how the client stands with a repository.
     pub fn set_link(&mut self, repo: u8, link: Link) {
         if let Some(place) = self.links.get_mut(usize::from(repo)) {
-            *place = link;
+            drop(mem::replace(place, link));
         }
     }
 
@@ -173,21 +163,44 @@ impl Held {
         if self.at(repo).is_some() {
             self.set_link(repo, Link::Apart);
         }
+        self.drop_held(repo);
+    }
+
+    /// The copies and the names of a repository are dropped.
+    fn drop_held(&mut self, repo: u8)
+        ensures copies { (x : Oref) → kept self.new.cache.cache x ≡ cond (nat_eq x.repo repo) None (kept self.old.cache.cache x) }
+        ensures links { self.new.links ≡ self.old.links }
+        ensures floor { self.new.floor ≡ self.old.floor }
+    {
         self.cache.drop_repo(repo);
         self.names.drop_repo(repo);
     }
 
     /// A session is gone. What was held by it is dropped.
-    pub fn lose(&mut self, repo: u8, session: u32) {
-        if let Some(at) = self.at(repo) {
-            if at.session == session {
-                self.leave(repo);
-            }
+    pub fn lose(&mut self, repo: u8, session: u32)
+        ensures links { self.new.links.items ≡ at_repo self.old.links.items repo (without_session session) }
+        ensures floor { self.new.floor ≡ self.old.floor }
+    {
+        if self.end_session(repo, session) {
+            self.drop_held(repo);
+        }
+    }
+
+    /// A session ends, where it is the one at a repository. It answers whether it is.
+    fn end_session(&mut self, repo: u8, session: u32) -> bool
+        ensures links { self.new.links.items ≡ at_repo self.old.links.items repo (without_session session) }
+        ensures rest { self.new ≡ record self.old { links = self.new.links } }
+    {
+        match self.links.get_mut(usize::from(repo)) {
+            Some(link) => link.end_session(session),
+            None => false,
         }
     }
 
     /// The time of a transaction that stands, or a bound that was told, is counted.
-    pub fn raise_floor(&mut self, ts: Ts) {
+    pub fn raise_floor(&mut self, ts: Ts)
+        ensures { self.new ≡ record self.old { floor = max self.old.floor ts.time } }
+    {
         if self.floor < ts.time {
             self.floor = ts.time;
         }

@@ -1,12 +1,18 @@
 //! What a client learns from a refusal.
 
+ghost use Rattle.client_state.specs.Learning.{floor_learnt, links_learnt};
+ghost use Rattle.std.specs.Prelude.{◌≡◌};
+
 use crate::held::Held;
 use crate::link::Waits;
 use validation_window::Refusal;
 
 impl Held {
     /// What a client learns for its sessions and its floor from the refusal of a request.
-    pub fn learn(&mut self, repo: u8, refusal: Refusal) {
+    pub fn learn(&mut self, repo: u8, refusal: Refusal)
+        ensures links { self.new.links.items ≡ links_learnt refusal repo self.old.links.items }
+        ensures floor { self.new.floor ≡ floor_learnt refusal self.old.floor }
+    {
         match refusal {
             Refusal::Gone { session } => self.lose(repo, session),
             Refusal::Stale { place, .. } => self.wait(repo, Waits::Past { place }),

@@ -1,7 +1,12 @@
 //! What a client holds of one repository.
 
+ghost use Rattle.client_state.specs.Learning.{is_session, without_session};
+ghost use Rattle.client_state.specs.Links.{acknowledged, answered, is_behind, awaits_reply, is_behind_of, upto_of, waiting};
+ghost use Rattle.std.specs.Prelude.{◌≡◌};
+
 use crate::transaction::Sent;
 use message_outbox::At;
+use std::mem;
 use thor_value::Ts;
 
 /// What a client waits for in a session.
@@ -40,6 +45,19 @@ pub enum Link {
     },
 }
 
+impl Waits {
+    /// Whether a client of this epoch, which has taken the messages below `upto`, has still to take some.
+    fn are_ahead_of(&self, epoch: u32, upto: u64) -> bool
+        ensures { result ≡ is_behind_of epoch upto self.now }
+    {
+        match self {
+            Waits::Past { place } => upto <= *place,
+            Waits::Epoch { n } => epoch < *n,
+            Waits::Idle | Waits::Reply => false,
+        }
+    }
+}
+
 impl Link {
     /// The session as a call names it, where there is one.
     pub fn at(&self, repo: u8) -> Option<At> {
@@ -53,7 +71,9 @@ impl Link {
     }
 
     /// How far messages were taken, where there is a session; else 0.
-    pub fn upto(&self) -> u64 {
+    pub fn upto(&self) -> u64
+        ensures { result ≡ upto_of self.now }
+    {
         match self {
             Link::Joined { upto, .. } => *upto,
             Link::Apart | Link::Unsettled { .. } => 0,
@@ -61,7 +81,9 @@ impl Link {
     }
 
     /// Whether a reply is outstanding.
-    pub fn awaits_reply(&self) -> bool {
+    pub fn awaits_reply(&self) -> bool
+        ensures { result ≡ awaits_reply self.now }
+    {
         match self {
             Link::Joined { waits, .. } => match waits {
                 Waits::Reply => true,
@@ -72,13 +94,11 @@ impl Link {
     }
 
     /// Whether a client of this epoch is behind what it was refused by.
-    pub fn is_behind(&self, epoch: u32) -> bool {
+    pub fn is_behind(&self, epoch: u32) -> bool
+        ensures { result ≡ is_behind epoch self.now }
+    {
         match self {
-            Link::Joined { upto, waits, .. } => match waits {
-                Waits::Past { place } => *upto <= *place,
-                Waits::Epoch { n } => epoch < *n,
-                Waits::Idle | Waits::Reply => false,
-            },
+            Link::Joined { upto, waits, .. } => waits.are_ahead_of(epoch, *upto),
             Link::Apart | Link::Unsettled { .. } => false,
         }
     }
@@ -100,7 +120,9 @@ impl Link {
     }
 
     /// Messages were taken up to a place.
-    pub fn acknowledge(&mut self, place: u64) {
+    pub fn acknowledge(&mut self, place: u64)
+        ensures { self.new ≡ acknowledged place self.old }
+    {
         match self {
             Link::Joined { upto, .. } => {
                 *upto = place;
@@ -109,8 +131,39 @@ impl Link {
         }
     }
 
+    /// A session has ended. It answers whether it is this one.
+    pub fn end_session(&mut self, ended: u32) -> bool
+        ensures { self.new ≡ without_session ended self.old }
+    {
+        if !self.is_session(ended) {
+            return false;
+        }
+        drop(mem::replace(self, Link::Apart));
+        true
+    }
+
+    fn is_session(&self, number: u32) -> bool
+        ensures { result ≡ is_session number self.now }
+    {
+        match self {
+            Link::Joined { session, .. } => *session == number,
+            Link::Apart | Link::Unsettled { .. } => false,
+        }
+    }
+
+    /// The outstanding reply has come, if there was one.
+    pub fn answer(&mut self)
+        ensures { self.new ≡ answered self.old }
+    {
+        if self.awaits_reply() {
+            self.wait(Waits::Idle);
+        }
+    }
+
     /// The client waits for this in the session.
-    pub fn wait(&mut self, what: Waits) {
+    pub fn wait(&mut self, what: Waits)
+        ensures { self.new ≡ waiting what self.old }
+    {
         match self {
             Link::Joined { waits, .. } => {
                 *waits = what;

@@ -1,10 +1,12 @@
 //! How far a try has come.
 
+use crate::duties::Abort;
+use crate::link::Link;
 use crate::transaction::{Sent, Transaction};
-use crate::transform::{Stage, Transform};
+use crate::transform::{Becomes, Stage, Transform};
 use message_outbox::At;
 use paused_eval::Paused;
-use thor_value::{Oref, Orefs, Repos, Ts};
+use thor_value::{NoMemory, Oref, Orefs, Repos, Ts};
 
 /// How far the try of the present item has come.
 #[derive(Drop)]
@@ -58,6 +60,99 @@ fn awaited_by(stage: &Stage) -> Option<Oref> {
 }
 
 impl Phase {
+    /// What its coordinator has prepared, where that is so: it is to be aborted.
+    pub fn into_abort(self) -> Option<Abort> {
+        match self {
+            Phase::Preparing {
+                ts,
+                transaction,
+                coordinator,
+                prepared,
+            } => {
+                drop(transaction);
+                Some(Abort {
+                    coordinator,
+                    ts,
+                    prepared,
+                })
+            }
+            phase => {
+                drop(phase);
+                None
+            }
+        }
+    }
+
+    /// What was sent, and how many answers had no verdict, where its verdict is asked for.
+    pub fn into_asking(self) -> Option<(Sent, u32)> {
+        match self {
+            Phase::Asking { sent, answers } => Some((sent, answers)),
+            phase => {
+                drop(phase);
+                None
+            }
+        }
+    }
+
+    /// An evaluation brings a due object to the epoch. Any other phase stays.
+    pub fn transforming(self, transform: Transform) -> Phase {
+        match self {
+            Phase::Evaluating { run, .. } => Phase::Transforming { run, transform },
+            phase => {
+                drop(transform);
+                phase
+            }
+        }
+    }
+
+    /// An evaluated transaction is drawn, with the sessions that there are. Any other phase stays.
+    pub fn drawn(self, ts: Ts, links: &[Link]) -> Phase {
+        match self {
+            Phase::Evaluated { mut transaction } => {
+                transaction.carry_sessions(links);
+                Phase::Drawn { ts, transaction }
+            }
+            phase => phase,
+        }
+    }
+
+    /// The page of an object that is needed next is asked for.
+    pub fn await_page(&mut self, oref: Oref) {
+        match self {
+            Phase::Evaluating { awaited, .. } => {
+                *awaited = Some(oref);
+            }
+            Phase::Transforming { transform, .. } => transform.await_page(oref),
+            Phase::Between
+            | Phase::Beginning
+            | Phase::Evaluated { .. }
+            | Phase::Drawn { .. }
+            | Phase::Preparing { .. }
+            | Phase::Asking { .. } => {}
+        }
+    }
+
+    /// A transform is drawn.
+    pub fn draw_transform(&mut self, ts: Ts, becomes: Becomes) {
+        if let Phase::Transforming { transform, .. } = self {
+            transform.draw(ts, becomes);
+        }
+    }
+
+    /// A participant other than the coordinator has prepared the transaction.
+    pub fn note_prepared(&mut self, repo: u8) -> Result<(), NoMemory> {
+        match self {
+            Phase::Preparing { prepared, .. } => prepared.push(repo),
+            Phase::Between
+            | Phase::Beginning
+            | Phase::Evaluating { .. }
+            | Phase::Transforming { .. }
+            | Phase::Evaluated { .. }
+            | Phase::Drawn { .. }
+            | Phase::Asking { .. } => Ok(()),
+        }
+    }
+
     /// Whether a try runs.
     pub fn runs(&self) -> bool {
         match self {

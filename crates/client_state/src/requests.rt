@@ -2,13 +2,58 @@
 
 use crate::held::Held;
 use crate::transaction::{Share, Transaction};
+use crate::transform::{Becomes, transform_request};
 use commit_log::Request;
-use thor_value::{NoMemory, TryCopy, Ts, Who};
+use message_outbox::At;
+use thor_value::{NoMemory, Obj, TryCopy, Ts, Who};
+
+/// What a participant is sent.
+#[derive(Drop)]
+pub struct Sending {
+    pub at: At,
+    pub request: Request,
+}
 
 impl Held {
+    /// Takes out of a transaction what its next participant is to be sent, where there is one.
+    pub fn next_sending(
+        &self,
+        who: Who,
+        ts: Ts,
+        transaction: &mut Transaction,
+    ) -> Result<Option<Sending>, NoMemory> {
+        match transaction.next_share() {
+            Some(share) => Ok(Some(self.sending(who, ts, transaction, share)?)),
+            None => Ok(None),
+        }
+    }
+
+    fn sending(
+        &self,
+        who: Who,
+        ts: Ts,
+        transaction: &Transaction,
+        share: Share,
+    ) -> Result<Sending, NoMemory> {
+        let at = share.at();
+        let request = self.request(who, ts, transaction, share)?;
+        Ok(Sending { at, request })
+    }
+
+    /// The request of a transform in a session, and what its object becomes.
+    pub fn transform_request(
+        &self,
+        at: At,
+        ts: Ts,
+        becomes: Becomes,
+    ) -> Result<(Request, Obj), NoMemory> {
+        let upto = self.upto(at.repo);
+        transform_request(self.alloc, self.client, at, upto, ts, becomes)
+    }
+
     /// The request to a participant. Where its session is still there, messages that were taken since
     /// are acknowledged.
-    pub fn request(
+    fn request(
         &self,
         who: Who,
         ts: Ts,

@@ -1,9 +1,12 @@
 //! A transform: a transaction of its own that brings one due object to the client's epoch.
 
+use class_defs::Schemas;
 use commit_log::{Kind, Request};
+use lazy_transform::bring;
 use message_outbox::At;
 use method_eval::{Names, View};
 use std::alloc::Global;
+use std::mem;
 use thor_value::{Answer, NoMemory, Obj, Oref, OrefMap, Orefs, Sequence, TryCopy, Ts, Who};
 
 /// A due object, and what its transform functions have looked at so far.
@@ -22,17 +25,18 @@ pub struct Transform {
 #[derive(Drop)]
 pub enum Stage {
     /// It collects the parts that it reads. The page of this one was asked for.
-    Collecting {
-        awaited: Option<Oref>,
-    },
+    Collecting { awaited: Option<Oref> },
     /// It is drawn, and is to be committed next.
-    Drawn {
-        ts: Ts,
-        /// What it has read, rising.
-        ros: Orefs,
-        /// What the object becomes.
-        made: Obj,
-    },
+    Drawn { ts: Ts, becomes: Becomes },
+}
+
+/// What a due object becomes.
+#[derive(Drop)]
+pub struct Becomes {
+    pub oref: Oref,
+    /// What the transform has read, rising.
+    pub ros: Orefs,
+    pub made: Obj,
 }
 
 impl Transform {
@@ -51,14 +55,67 @@ impl Transform {
         }
     }
 
+    /// The page of a part is asked for.
+    pub fn await_page(&mut self, part: Oref) {
+        self.set_stage(Stage::Collecting {
+            awaited: Some(part),
+        });
+    }
+
+    /// It is drawn.
+    pub fn draw(&mut self, ts: Ts, becomes: Becomes) {
+        self.set_stage(Stage::Drawn { ts, becomes });
+    }
+
+    fn set_stage(&mut self, stage: Stage) {
+        drop(mem::replace(&mut self.stage, stage));
+    }
+
+    /// Its timestamp and what the object becomes, where it is drawn; else it is handed back.
+    pub fn into_drawn(self) -> Result<(Ts, Becomes), Transform> {
+        let Transform {
+            oref,
+            obj,
+            owners,
+            parts,
+            stage,
+        } = self;
+        match stage {
+            Stage::Drawn { ts, becomes } => Ok((ts, becomes)),
+            stage => Err(Transform {
+                oref,
+                obj,
+                owners,
+                parts,
+                stage,
+            }),
+        }
+    }
+
     /// Whether it has looked at an object.
     pub fn has_looked_at(&self, oref: Oref) -> bool {
         self.oref == oref || self.parts.objects.contains(oref)
     }
 
+    /// What the object becomes, where these parts were wanted and all were looked at.
+    pub fn becomes(
+        &self,
+        alloc: Global,
+        schemas: &Schemas,
+        parts: &Orefs,
+    ) -> Result<Becomes, NoMemory> {
+        let made = bring(alloc, &self.obj, &self.parts, schemas, self.parts.epoch)?;
+        let ros = self.ros(alloc, parts)?;
+        Ok(Becomes {
+            oref: self.oref,
+            ros,
+            made,
+        })
+    }
+
     /// What it reads in the object's repository, rising: the object, the parts that were wanted, and
     /// the owners.
-    pub fn ros(&self, alloc: Global, parts: &Orefs) -> Result<Orefs, NoMemory> {
+    fn ros(&self, alloc: Global, parts: &Orefs) -> Result<Orefs, NoMemory> {
         let mut names = OrefMap::new(alloc);
         names.insert(self.oref, ())?;
         insert_of(&mut names, self.oref.repo, parts)?;
@@ -76,20 +133,19 @@ fn insert_of(names: &mut OrefMap<()>, repo: u8, orefs: &Orefs) -> Result<(), NoM
     Ok(())
 }
 
-/// The request of a transform.
+/// The request of a transform, and what its object becomes.
 pub fn transform_request(
     alloc: Global,
     client: u8,
     at: At,
     upto: u64,
     ts: Ts,
-    ros: Orefs,
-    oref: Oref,
-    made: &Obj,
-) -> Result<Request, NoMemory> {
+    becomes: Becomes,
+) -> Result<(Request, Obj), NoMemory> {
+    let Becomes { oref, ros, made } = becomes;
     let mut writes = Sequence::new(alloc);
     writes.push((oref, made.copy()?))?;
-    Ok(Request {
+    let request = Request {
         tx: ts,
         who: Who { client, index: 0 },
         session: at.session,
@@ -101,5 +157,6 @@ pub fn transform_request(
         fresh: Orefs::new(alloc),
         answer: Answer::Ints(Sequence::new(alloc)),
         others: Sequence::new(alloc),
-    })
+    };
+    Ok((request, made))
 }

@@ -71,6 +71,13 @@ fn tries_leave_copies_as_they_were(rt: HostRuntime) -> Result<(), Fail> {
     assert_eq!(rt; number(&cache, on(0, 0, 1)), Some(6));
     assert_eq!(rt; number(&cache, on(0, 0, 2)), None);
     assert!(rt; has_page(&cache, on(0, 0, 0)));
+    // A page that comes in a try stays behind it, without what the try has written.
+    cache.write(on(0, 0, 1), box_of(alloc, 7)?)?;
+    cache.place(0, 0, empty_page(alloc, 0)?.as_slice())?;
+    assert_eq!(rt; number(&cache, on(0, 0, 1)), Some(7));
+    cache.undo();
+    assert_eq!(rt; number(&cache, on(0, 0, 1)), None);
+    assert!(rt; has_page(&cache, on(0, 0, 0)));
     Ok(())
 }
 

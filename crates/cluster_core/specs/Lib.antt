@@ -1,4 +1,5 @@
 pub mod Counts
 pub mod Recovered
+pub mod Restarting
 pub mod Same
 pub mod Seated

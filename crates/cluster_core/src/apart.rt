@@ -1,6 +1,7 @@
 //! The repositories and clients of an open store, apart from each other.
 
 ghost use Rattle.cluster_core.specs.Counts.{parts_of, room_of};
+ghost use Rattle.cluster_core.specs.Restarting.{GoesOn, IsStartedAgain};
 ghost use Rattle.std.specs.Prelude.{vec_capacity, vec_len, ◌≡◌, ◌≤◌};
 
 use crate::cluster::Cluster;
@@ -10,6 +11,7 @@ use crate::seat::Seat;
 use disk_trait::Parts;
 use front_end::{FrontEnd, Opened};
 use mob_flusher::Flushed;
+use repo_core::Repo;
 use std::alloc::Global;
 use thor_value::NoMemory;
 use validation_window::Refusal;
@@ -67,10 +69,12 @@ impl<P: Parts> Emptied<P> {
 impl<P: Parts> Seat<P> {
     /// Stops the repository where it is up, and starts it again from what its log stands for. A refusal is no
     /// concern of a schedule, but for want of memory.
-    pub fn restart(&mut self, pick: u64) -> Result<(), NoMemory> {
+    pub fn restart(&mut self, pick: u64) -> Result<(), NoMemory>
+        ensures { IsStartedAgain self.old self.new }
+    {
         match self {
-            Seat::Open(found) => unless_memory(found.restart(pick)),
-            _ => Ok(()),
+            Seat::Open(found) => restart(found, pick),
+            Seat::Parts(_) | Seat::Fresh(_) | Seat::Known(_) => Ok(()),
         }
     }
 
@@ -89,4 +93,12 @@ impl<P: Parts> Seat<P> {
             _ => 0,
         }
     }
+}
+
+/// Starts a repository again.
+#[tactic(auto, using(crate::proofs::Restarts::goes_on))]
+fn restart<P: Parts>(repo: &mut Repo<P>, pick: u64) -> Result<(), NoMemory>
+    ensures { GoesOn repo.old repo.new }
+{
+    unless_memory(repo.restart(pick))
 }

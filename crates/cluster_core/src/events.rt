@@ -86,8 +86,8 @@ fn stop<P: Parts>(seats: &mut [Seat<P>], repo: u32, calls: u32) {
 
 fn restart<P: Parts>(seats: &mut [Seat<P>], repo: u32, pick: u32) -> Result<(), NoMemory> {
     match seats.get_mut(repo as usize) {
-        Some(Seat::Open(found)) => unless_memory(found.restart(u64::from(pick))),
-        Some(_) | None => Ok(()),
+        Some(seat) => seat.restart(u64::from(pick)),
+        None => Ok(()),
     }
 }
 

@@ -17,9 +17,20 @@ impl Client {
         opened: &Opened,
         task: Task<'_>,
     ) -> Result<News, NoMemory> {
-        let Phase::Asking { sent, answers } = self.take_phase() else {
-            return Ok(News::Nothing);
-        };
+        match self.take_phase().into_asking() {
+            Some((sent, answers)) => self.ask_coordinator(port, opened, task, sent, answers),
+            None => Ok(News::Nothing),
+        }
+    }
+
+    fn ask_coordinator<Q: Port>(
+        &mut self,
+        port: &mut Q,
+        opened: &Opened,
+        task: Task<'_>,
+        sent: Sent,
+        answers: u32,
+    ) -> Result<News, NoMemory> {
         match port.ask(sent.coordinator(), sent.ts) {
             Ok(Asked::Settled(verdict)) => self.learn_own(opened, sent, verdict),
             Err(Refusal::NoMemory) => Err(NoMemory),
@@ -47,7 +58,7 @@ impl Client {
     /// An answer had no verdict. Behind as many as there are tries, the item is held as Unknown.
     fn ask_again(&mut self, task: Task<'_>, sent: Sent, answers: u32) -> News {
         if answers < task.tries {
-            self.phase = Phase::Asking { sent, answers };
+            self.set_phase(Phase::Asking { sent, answers });
             return News::Nothing;
         }
         self.hold_as_unknown(task, sent)

@@ -1,7 +1,7 @@
 //! How a transaction is drawn, sent and decided.
 
 use crate::client::Client;
-use client_state::{Abort, Drew, Phase, Transaction};
+use client_state::{Drew, Phase, Sending, Sent, Transaction};
 use item_progress::{News, Opened};
 use message_outbox::At;
 use port::Port;
@@ -16,32 +16,27 @@ impl Client {
         opened: &Opened,
         transaction: Transaction,
     ) -> Result<News, NoMemory> {
-        match self.held.first_apart(&transaction.participants) {
-            Some(repo) => {
-                let came = self.join(port, opened, repo)?;
-                Ok(self.go_behind(came, Phase::Evaluated { transaction }))
-            }
-            None => self.draw(port, transaction),
+        let apart = self.held.first_apart(&transaction.participants);
+        let coordinator = transaction.coordinator();
+        self.set_phase(Phase::Evaluated { transaction });
+        match apart {
+            Some(repo) => self.join_behind(port, opened, repo),
+            None => self.draw(port, coordinator),
         }
     }
 
-    fn draw<Q: Port>(
-        &mut self,
-        port: &mut Q,
-        mut transaction: Transaction,
-    ) -> Result<News, NoMemory> {
-        let repo = transaction.coordinator();
-        let Some(at) = self.held.at(repo) else {
-            self.phase = Phase::Evaluated { transaction };
+    /// Draws the evaluated transaction at its coordinator.
+    fn draw<Q: Port>(&mut self, port: &mut Q, coordinator: u8) -> Result<News, NoMemory> {
+        let Some(at) = self.held.at(coordinator) else {
             return Ok(News::Nothing);
         };
         match self.held.draw(port, at)? {
             Drew::Ts(ts) => {
-                transaction.carry_sessions(&self.held.links);
-                self.phase = Phase::Drawn { ts, transaction };
+                let phase = self.take_phase().drawn(ts, &self.held.links);
+                self.set_phase(phase);
                 Ok(News::Nothing)
             }
-            Drew::Refused(came) => Ok(self.go_behind(came, Phase::Evaluated { transaction })),
+            Drew::Refused(came) => Ok(self.go_behind(came)),
         }
     }
 
@@ -52,32 +47,41 @@ impl Client {
         opened: &Opened,
         who: Who,
         ts: Ts,
-        transaction: Transaction,
+        mut transaction: Transaction,
     ) -> Result<News, NoMemory> {
         self.held.names.spend();
-        if transaction.participants.len() == 1 {
-            return self.commit_one(port, opened, who, ts, transaction);
+        match self.held.next_sending(who, ts, &mut transaction)? {
+            Some(sending) => self.send_first(port, opened, ts, transaction, sending),
+            None => Ok(News::Nothing),
         }
-        self.prepare_first(port, who, ts, transaction)
+    }
+
+    fn send_first<Q: Port>(
+        &mut self,
+        port: &mut Q,
+        opened: &Opened,
+        ts: Ts,
+        transaction: Transaction,
+        sending: Sending,
+    ) -> Result<News, NoMemory> {
+        if transaction.participants.len() == 1 {
+            return self.commit_one(port, opened, transaction.sent(ts), sending);
+        }
+        self.prepare_first(port, ts, transaction, sending)
     }
 
     fn commit_one<Q: Port>(
         &mut self,
         port: &mut Q,
         opened: &Opened,
-        who: Who,
-        ts: Ts,
-        mut transaction: Transaction,
+        sent: Sent,
+        sending: Sending,
     ) -> Result<News, NoMemory> {
-        let Some(share) = transaction.next_share() else {
-            return Ok(News::Nothing);
-        };
-        let at = share.at();
-        let request = self.held.request(who, ts, &transaction, share)?;
+        let Sending { at, request } = sending;
         match port.commit_one(at, request) {
-            Ok(_) => Ok(self.end_committed(opened, transaction.sent(ts))),
+            Ok(_) => Ok(self.end_committed(opened, sent)),
             Err(Refusal::Stopped { .. }) => {
-                self.begin_asking(ts, transaction);
+                self.begin_asking(sent);
                 Ok(News::Nothing)
             }
             Err(refusal) => self.end_refused(at.repo, refusal),
@@ -87,23 +91,20 @@ impl Client {
     fn prepare_first<Q: Port>(
         &mut self,
         port: &mut Q,
-        who: Who,
         ts: Ts,
-        mut transaction: Transaction,
+        transaction: Transaction,
+        sending: Sending,
     ) -> Result<News, NoMemory> {
-        let Some(share) = transaction.next_share() else {
-            return Ok(News::Nothing);
-        };
-        let at = share.at();
-        let request = self.held.request(who, ts, &transaction, share)?;
+        let Sending { at, request } = sending;
         match port.prepare(at, request) {
             Ok(_) => {
-                self.phase = Phase::Preparing {
+                let prepared = Sequence::new(self.held.alloc);
+                self.set_phase(Phase::Preparing {
                     ts,
                     transaction,
                     coordinator: at,
-                    prepared: Sequence::new(self.held.alloc),
-                };
+                    prepared,
+                });
                 Ok(News::Nothing)
             }
             Err(refusal) => self.end_refused(at.repo, refusal),
@@ -122,7 +123,7 @@ impl Client {
         prepared: Repos,
     ) -> Result<News, NoMemory> {
         if transaction.shares.is_empty() {
-            return self.decide(port, opened, ts, transaction, coordinator);
+            return self.decide(port, opened, transaction.sent(ts), coordinator);
         }
         self.prepare_next(port, who, ts, transaction, coordinator, prepared)
     }
@@ -134,32 +135,30 @@ impl Client {
         ts: Ts,
         mut transaction: Transaction,
         coordinator: At,
-        mut prepared: Repos,
+        prepared: Repos,
     ) -> Result<News, NoMemory> {
-        let Some(share) = transaction.next_share() else {
-            return Ok(News::Nothing);
-        };
-        let at = share.at();
-        let request = self.held.request(who, ts, &transaction, share)?;
+        let sending = self.held.next_sending(who, ts, &mut transaction);
+        self.set_phase(Phase::Preparing {
+            ts,
+            transaction,
+            coordinator,
+            prepared,
+        });
+        match sending? {
+            Some(sending) => self.prepare(port, sending),
+            None => Ok(News::Nothing),
+        }
+    }
+
+    /// Has a participant prepare. Where it refuses, the try ends, and its coordinator is to abort.
+    fn prepare<Q: Port>(&mut self, port: &mut Q, sending: Sending) -> Result<News, NoMemory> {
+        let Sending { at, request } = sending;
         match port.prepare(at, request) {
             Ok(_) => {
-                prepared.push(at.repo)?;
-                self.phase = Phase::Preparing {
-                    ts,
-                    transaction,
-                    coordinator,
-                    prepared,
-                };
+                self.phase.note_prepared(at.repo)?;
                 Ok(News::Nothing)
             }
-            Err(refusal) => {
-                self.duties.abort = Some(Abort {
-                    coordinator,
-                    ts,
-                    prepared,
-                });
-                self.end_refused(at.repo, refusal)
-            }
+            Err(refusal) => self.end_refused(at.repo, refusal),
         }
     }
 
@@ -168,29 +167,25 @@ impl Client {
         &mut self,
         port: &mut Q,
         opened: &Opened,
-        ts: Ts,
-        transaction: Transaction,
+        sent: Sent,
         coordinator: At,
     ) -> Result<News, NoMemory> {
-        match port.decide(coordinator, ts, true) {
-            Ok(verdict) => self.learn_own(opened, transaction.sent(ts), verdict),
+        match port.decide(coordinator, sent.ts, true) {
+            Ok(verdict) => self.learn_own(opened, sent, verdict),
             Err(Refusal::NoMemory) => Err(NoMemory),
             Err(Refusal::Gone { session }) => {
                 self.held.lose(coordinator.repo, session);
-                self.begin_asking(ts, transaction);
+                self.begin_asking(sent);
                 Ok(News::Nothing)
             }
             Err(_) => {
-                self.begin_asking(ts, transaction);
+                self.begin_asking(sent);
                 Ok(News::Nothing)
             }
         }
     }
 
-    fn begin_asking(&mut self, ts: Ts, transaction: Transaction) {
-        self.phase = Phase::Asking {
-            sent: transaction.sent(ts),
-            answers: 0,
-        };
+    fn begin_asking(&mut self, sent: Sent) {
+        self.set_phase(Phase::Asking { sent, answers: 0 });
     }
 }

@@ -1,14 +1,13 @@
 //! How the transaction of an item is evaluated.
 
 use crate::client::Client;
-use client_state::{Came, Phase, Transaction};
+use client_state::{Came, Phase};
 use item_progress::{News, Opened};
 use method_eval::Ran;
 use paused_eval::Paused;
 use port::Port;
 use serial_model::Cause;
-use thor_value::{Answer, NoMemory, Oref, Orefs, Writes};
-use upgrade_eval::schema_at;
+use thor_value::{NoMemory, Oref, Orefs};
 
 impl Client {
     /// Evaluates as far as the copies allow, and makes the call that is next.
@@ -18,39 +17,32 @@ impl Client {
         opened: &Opened,
         mut run: Paused,
     ) -> Result<News, NoMemory> {
-        let epoch = self.held.epoch(opened);
-        let schema = match schema_at(&opened.schemas, epoch) {
-            Some(schema) => schema,
-            None => &opened.schemas.first,
-        };
-        match run.go(schema, epoch, &mut self.held.cache, &mut self.held.names)? {
+        let ran = self.held.evaluate(opened, &mut run);
+        let awaited = None;
+        self.set_phase(Phase::Evaluating { run, awaited });
+        self.go_behind_run(port, opened, ran?)
+    }
+
+    /// Makes the call that is next behind an evaluation, which has ended or waits.
+    fn go_behind_run<Q: Port>(
+        &mut self,
+        port: &mut Q,
+        opened: &Opened,
+        ran: Ran,
+    ) -> Result<News, NoMemory> {
+        match ran {
             Ran::Done {
                 answer,
                 reads,
                 writes,
                 fresh,
-            } => self.end_evaluation(port, opened, answer, reads, writes, fresh),
-            Ran::Need { oref, owners } => self.need(port, opened, run, oref, owners),
-            Ran::NeedName { repo } => self.need_name(port, opened, run, repo),
+            } => {
+                let transaction = self.held.evaluated(opened, answer, reads, writes, fresh)?;
+                self.join_and_draw(port, opened, transaction)
+            }
+            Ran::Need { oref, owners } => self.need(port, opened, oref, owners),
+            Ran::NeedName { repo } => self.need_name(port, opened, repo),
         }
-    }
-
-    /// The evaluation has ended. What a fault has changed is given up.
-    fn end_evaluation<Q: Port>(
-        &mut self,
-        port: &mut Q,
-        opened: &Opened,
-        answer: Answer,
-        reads: Orefs,
-        writes: Writes,
-        fresh: Orefs,
-    ) -> Result<News, NoMemory> {
-        if let Answer::Fault(_) = &answer {
-            self.held.undo();
-        }
-        let epoch = self.held.epoch(opened);
-        let transaction = Transaction::evaluated(answer, epoch, reads, writes, fresh)?;
-        self.join_and_draw(port, opened, transaction)
     }
 
     /// An object is needed that isn't held, or that is due.
@@ -58,19 +50,28 @@ impl Client {
         &mut self,
         port: &mut Q,
         opened: &Opened,
-        run: Paused,
         oref: Oref,
         owners: Orefs,
+    ) -> Result<News, NoMemory> {
+        match self.held.copy_of(oref)? {
+            Some(obj) => self.begin_transform(port, opened, oref, obj, owners),
+            None => self.fetch_needed(port, opened, oref),
+        }
+    }
+
+    /// Asks for the page of an object that is needed next.
+    pub fn fetch_needed<Q: Port>(
+        &mut self,
+        port: &mut Q,
+        opened: &Opened,
+        oref: Oref,
     ) -> Result<News, NoMemory> {
         if oref.repo >= opened.repos {
             return Ok(self.end_try(Cause::Missing { oref }));
         }
-        if let Some(obj) = self.held.copy_of(oref)? {
-            return self.begin_transform(port, opened, run, oref, obj, owners);
-        }
+        self.phase.await_page(oref);
         let came = self.fetch(port, opened, oref)?;
-        let awaited = Some(oref);
-        Ok(self.go_behind(came, Phase::Evaluating { run, awaited }))
+        Ok(self.go_behind(came))
     }
 
     /// A name is needed for a new object.
@@ -78,7 +79,6 @@ impl Client {
         &mut self,
         port: &mut Q,
         opened: &Opened,
-        run: Paused,
         repo: u8,
     ) -> Result<News, NoMemory> {
         if repo >= opened.repos {
@@ -90,12 +90,11 @@ impl Client {
             return Ok(self.end_try(Cause::Missing { oref }));
         }
         let came = self.ask_for_names(port, opened, repo)?;
-        let awaited = None;
-        Ok(self.go_behind(came, Phase::Evaluating { run, awaited }))
+        Ok(self.go_behind(came))
     }
 
     /// Asks for the page of an object, or begins a session at its repository.
-    pub fn fetch<Q: Port>(
+    fn fetch<Q: Port>(
         &mut self,
         port: &mut Q,
         opened: &Opened,

@@ -156,7 +156,8 @@ impl FrontEnd {
     pub fn close(self) -> (Ends, Items)
         ensures { result.0 ≡ self.ended }
     {
-        let FrontEnd { progress, .. } = self;
+        let FrontEnd { client, progress } = self;
+        drop(client);
         progress.close()
     }
 }

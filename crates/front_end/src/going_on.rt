@@ -40,7 +40,7 @@ impl Client {
                 prepared,
             ),
             Phase::Asking { sent, answers } => {
-                self.phase = Phase::Asking { sent, answers };
+                self.set_phase(Phase::Asking { sent, answers });
                 Ok(News::Nothing)
             }
         }

@@ -2,12 +2,23 @@
 
 use crate::client::Client;
 use client_state::{Came, cause_of};
-use item_progress::Opened;
+use item_progress::{News, Opened};
 use message_outbox::Asked;
 use port::Port;
 use thor_value::{NoMemory, Ts};
 
 impl Client {
+    /// Begins a session that the try needs, and goes on behind it.
+    pub fn join_behind<Q: Port>(
+        &mut self,
+        port: &mut Q,
+        opened: &Opened,
+        repo: u8,
+    ) -> Result<News, NoMemory> {
+        let came = self.join(port, opened, repo)?;
+        Ok(self.go_behind(came))
+    }
+
     /// Begins a session at a repository. Where an Unknown item's verdict is still to be learnt there,
     /// that is asked for first, and no session begins.
     pub fn join<Q: Port>(

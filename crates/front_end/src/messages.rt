@@ -24,7 +24,7 @@ impl Client {
         opened: &Opened,
         at: At,
     ) -> Result<Option<News>, NoMemory> {
-        match port.receive(at) {
+        match self.held.receive(port, at) {
             Ok(Some(message)) => Ok(Some(self.take(opened, at.repo, message)?)),
             Ok(None) => Ok(None),
             Err(Refusal::Gone { session }) => {
@@ -45,7 +45,7 @@ impl Client {
         opened: &Opened,
         at: At,
     ) -> Result<News, NoMemory> {
-        match port.receive(at) {
+        match self.held.receive(port, at) {
             Ok(Some(message)) => self.take(opened, at.repo, message),
             Ok(None) => Ok(News::Nothing),
             Err(Refusal::Gone { session }) => {
@@ -68,25 +68,16 @@ impl Client {
 
     fn take(&mut self, opened: &Opened, repo: u8, message: Message) -> Result<News, NoMemory> {
         match message {
-            Message::Page { page, bytes, place } => self.take_page(repo, page, &bytes, place),
-            Message::Grant { page, place } => self.take_grant(repo, page, place),
-            Message::Invalid { orefs, place } => Ok(self.take_invalid(repo, &orefs, place)),
-            Message::Upgrade { number, place, .. } => {
-                Ok(self.take_upgrade(opened, repo, number, place))
-            }
+            Message::Page { page, bytes, .. } => self.take_page(repo, page, &bytes),
+            Message::Grant { page, .. } => self.take_grant(repo, page),
+            Message::Invalid { orefs, place } => Ok(self.take_invalid(&orefs, place)),
+            Message::Upgrade { number, .. } => Ok(self.take_upgrade(opened, number)),
         }
     }
 
     /// A page has come. Where it lacks the object that is needed next, the try ends.
-    fn take_page(
-        &mut self,
-        repo: u8,
-        page: u32,
-        bytes: &Text,
-        place: u64,
-    ) -> Result<News, NoMemory> {
+    fn take_page(&mut self, repo: u8, page: u32, bytes: &Text) -> Result<News, NoMemory> {
         self.held.place(repo, page, bytes)?;
-        self.held.take_reply(repo, place);
         match self.phase.awaited() {
             Some(oref) if is_on(oref, repo, page) && !self.held.holds(oref) => {
                 Ok(self.end_try(Cause::Missing { oref }))
@@ -96,20 +87,18 @@ impl Client {
     }
 
     /// An empty page has come, whose names may be given.
-    fn take_grant(&mut self, repo: u8, page: u32, place: u64) -> Result<News, NoMemory> {
+    fn take_grant(&mut self, repo: u8, page: u32) -> Result<News, NoMemory> {
         let bytes = Page::empty(self.held.alloc, page)?.spell()?;
         self.held.place(repo, page, &bytes)?;
         if self.held.names.has_none_of(repo, page) {
             self.held.names.grant(repo, page)?;
         }
-        self.held.take_reply(repo, place);
         Ok(News::Nothing)
     }
 
     /// Objects were written by others. A try that has read one of them ends.
-    fn take_invalid(&mut self, repo: u8, orefs: &Orefs, place: u64) -> News {
-        self.held.cache.invalidate(orefs);
-        self.held.acknowledge(repo, place.saturating_add(1));
+    fn take_invalid(&mut self, orefs: &Orefs, place: u64) -> News {
+        self.held.drop_copies(orefs);
         match self.phase.first_read(orefs) {
             Some(oref) => self.end_try(Cause::Stale { oref, place }),
             None => News::Nothing,
@@ -117,8 +106,7 @@ impl Client {
     }
 
     /// An upgrade was installed. Where it is the next one, a running try ends.
-    fn take_upgrade(&mut self, opened: &Opened, repo: u8, number: u32, place: u64) -> News {
-        self.held.acknowledge(repo, place.saturating_add(1));
+    fn take_upgrade(&mut self, opened: &Opened, number: u32) -> News {
         if self.held.learn_next_epoch(opened, number) && self.phase.runs() {
             return self.end_try(Cause::Epoch { n: number });
         }

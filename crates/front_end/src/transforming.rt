@@ -3,13 +3,13 @@
 //! Lazy transforms are those of Boyapati and others (OOPSLA 2003).
 
 use crate::client::Client;
-use client_state::{Drew, Phase, Stage, Transform, transform_request};
+use client_state::{Becomes, Drew, Phase, Transform};
+use commit_log::Request;
 use item_progress::{News, Opened};
-use lazy_transform::{Wanted, bring, wants};
+use lazy_transform::Wanted;
 use message_outbox::At;
 use paused_eval::Paused;
 use port::Port;
-use serial_model::Cause;
 use thor_value::{NoMemory, Obj, Oref, Orefs, Ts};
 use validation_window::Refusal;
 
@@ -19,7 +19,6 @@ impl Client {
         &mut self,
         port: &mut Q,
         opened: &Opened,
-        run: Paused,
         oref: Oref,
         obj: Obj,
         owners: Orefs,
@@ -28,7 +27,7 @@ impl Client {
         self.held.cache.bring_forward(oref);
         let epoch = self.held.epoch(opened);
         let transform = Transform::begun(self.held.alloc, oref, obj, owners, epoch);
-        self.collect(port, opened, run, transform)
+        self.collect(port, opened, transform)
     }
 
     /// The transform goes on: it collects its parts, or is committed.
@@ -39,25 +38,11 @@ impl Client {
         run: Paused,
         transform: Transform,
     ) -> Result<News, NoMemory> {
-        let Transform {
-            oref,
-            obj,
-            owners,
-            parts,
-            stage,
-        } = transform;
-        match stage {
-            Stage::Collecting { .. } => {
-                let transform = Transform {
-                    oref,
-                    obj,
-                    owners,
-                    parts,
-                    stage,
-                };
-                self.collect(port, opened, run, transform)
-            }
-            Stage::Drawn { ts, ros, made } => self.commit_transform(port, ts, oref, ros, made),
+        let awaited = None;
+        self.set_phase(Phase::Evaluating { run, awaited });
+        match transform.into_drawn() {
+            Ok((ts, becomes)) => self.commit_transform(port, ts, becomes),
+            Err(transform) => self.collect(port, opened, transform),
         }
     }
 
@@ -67,50 +52,21 @@ impl Client {
         &mut self,
         port: &mut Q,
         opened: &Opened,
-        run: Paused,
         mut transform: Transform,
     ) -> Result<News, NoMemory> {
-        for _ in 0..u64::MAX {
-            let epoch = transform.parts.epoch;
-            match wants(
-                self.held.alloc,
-                &transform.obj,
-                &opened.schemas,
-                epoch,
-                &transform.parts,
-            )? {
-                Wanted::All(reads) => {
-                    return self.draw_transform(port, opened, run, transform, &reads);
-                }
-                Wanted::Part(part) => match self.held.copy_of(part)? {
-                    Some(obj) => {
-                        self.held.cache.bring_forward(part);
-                        transform.parts.objects.insert(part, obj)?;
-                    }
-                    None => return self.fetch_part(port, opened, run, transform, part),
-                },
+        match self.held.collect(opened, &mut transform)? {
+            Wanted::All(reads) => self.draw_transform(port, opened, transform, &reads),
+            Wanted::Part(part) => {
+                self.go_on_with(transform);
+                self.fetch_needed(port, opened, part)
             }
         }
-        Err(NoMemory)
     }
 
-    /// Asks for the page of a part.
-    fn fetch_part<Q: Port>(
-        &mut self,
-        port: &mut Q,
-        opened: &Opened,
-        run: Paused,
-        mut transform: Transform,
-        part: Oref,
-    ) -> Result<News, NoMemory> {
-        if part.repo >= opened.repos {
-            return Ok(self.end_try(Cause::Missing { oref: part }));
-        }
-        let came = self.fetch(port, opened, part)?;
-        transform.stage = Stage::Collecting {
-            awaited: Some(part),
-        };
-        Ok(self.go_behind(came, Phase::Transforming { run, transform }))
+    /// The try goes on with this transform.
+    fn go_on_with(&mut self, transform: Transform) {
+        let phase = self.take_phase().transforming(transform);
+        self.set_phase(phase);
     }
 
     /// Makes what the object becomes, and draws its transaction.
@@ -118,32 +74,36 @@ impl Client {
         &mut self,
         port: &mut Q,
         opened: &Opened,
-        run: Paused,
-        mut transform: Transform,
+        transform: Transform,
         reads: &Orefs,
     ) -> Result<News, NoMemory> {
         let repo = transform.oref.repo;
-        let Some(at) = self.held.at(repo) else {
-            let came = self.join(port, opened, repo)?;
-            return Ok(self.go_behind(came, Phase::Transforming { run, transform }));
-        };
-        let alloc = self.held.alloc;
-        let epoch = transform.parts.epoch;
-        let made = bring(
-            alloc,
-            &transform.obj,
-            &transform.parts,
-            &opened.schemas,
-            epoch,
-        )?;
-        let ros = transform.ros(alloc, reads)?;
+        match self.held.at(repo) {
+            Some(at) => {
+                let becomes = transform.becomes(self.held.alloc, &opened.schemas, reads);
+                self.go_on_with(transform);
+                self.draw_made(port, at, becomes?)
+            }
+            None => {
+                self.go_on_with(transform);
+                self.join_behind(port, opened, repo)
+            }
+        }
+    }
+
+    /// Draws the transaction of a transform.
+    fn draw_made<Q: Port>(
+        &mut self,
+        port: &mut Q,
+        at: At,
+        becomes: Becomes,
+    ) -> Result<News, NoMemory> {
         match self.held.draw(port, at)? {
             Drew::Ts(ts) => {
-                transform.stage = Stage::Drawn { ts, ros, made };
-                self.phase = Phase::Transforming { run, transform };
+                self.phase.draw_transform(ts, becomes);
                 Ok(News::Nothing)
             }
-            Drew::Refused(came) => Ok(self.go_behind(came, Phase::Transforming { run, transform })),
+            Drew::Refused(came) => Ok(self.go_behind(came)),
         }
     }
 
@@ -151,17 +111,30 @@ impl Client {
         &mut self,
         port: &mut Q,
         ts: Ts,
+        becomes: Becomes,
+    ) -> Result<News, NoMemory> {
+        let oref = becomes.oref;
+        match self.held.at(oref.repo) {
+            Some(at) => {
+                let (request, made) = self.held.transform_request(at, ts, becomes)?;
+                self.send_transform(port, at, ts, request, oref, made)
+            }
+            None => {
+                self.begin_anew();
+                Ok(News::Nothing)
+            }
+        }
+    }
+
+    fn send_transform<Q: Port>(
+        &mut self,
+        port: &mut Q,
+        at: At,
+        ts: Ts,
+        request: Request,
         oref: Oref,
-        ros: Orefs,
         made: Obj,
     ) -> Result<News, NoMemory> {
-        let Some(at) = self.held.at(oref.repo) else {
-            self.begin_anew();
-            return Ok(News::Nothing);
-        };
-        let upto = self.held.upto(oref.repo);
-        let client = self.held.client;
-        let request = transform_request(self.held.alloc, client, at, upto, ts, ros, oref, &made)?;
         match port.commit_one(at, request) {
             Ok(_) => self.end_transform(ts, oref, made),
             Err(refusal) => self.refuse_transform(at, ts, refusal),

@@ -1,7 +1,7 @@
 //! How a try goes on behind a call, begins anew, and ends.
 
 use crate::client::Client;
-use client_state::{Abort, Came, Held, Helping, Phase, Waits, cause_of};
+use client_state::{Came, Helping, Phase, cause_of};
 use item_progress::{Learnt, News};
 use serial_model::Cause;
 use std::mem;
@@ -24,9 +24,13 @@ impl Client {
         mem::replace(&mut self.phase, Phase::Between)
     }
 
-    /// Behind a call the try goes on in this phase, where it goes on as it was.
-    pub fn go_behind(&mut self, came: Came, phase: Phase) -> News {
-        self.phase = phase;
+    /// Puts a phase in the place of the one before.
+    pub fn set_phase(&mut self, phase: Phase) {
+        drop(mem::replace(&mut self.phase, phase));
+    }
+
+    /// Behind a call the try goes on as it is, begins anew, or ends.
+    pub fn go_behind(&mut self, came: Came) -> News {
         match came {
             Came::Well => News::Nothing,
             Came::Anew => {
@@ -51,24 +55,14 @@ impl Client {
     /// The evaluation begins anew in the same try.
     pub fn begin_anew(&mut self) {
         self.held.undo();
-        self.phase = Phase::Beginning;
+        self.set_phase(Phase::Beginning);
     }
 
     /// The try that runs, or that would begin, ends. What its coordinator has prepared is to be
     /// aborted.
     pub fn end_try(&mut self, cause: Cause) -> News {
-        if let Phase::Preparing {
-            ts,
-            coordinator,
-            prepared,
-            ..
-        } = self.take_phase()
-        {
-            self.duties.abort = Some(Abort {
-                coordinator,
-                ts,
-                prepared,
-            });
+        if let Some(abort) = self.take_phase().into_abort() {
+            self.duties.note_abort(abort);
         }
         self.held.give_up();
         News::TryEnded { cause }

@@ -7,8 +7,6 @@ mod links;
 mod node;
 mod steps;
 mod table;
-#[cfg(test)]
-mod tests;
 
 pub use links::Links;
 pub use steps::Steps;

@@ -12,8 +12,6 @@ mod requests;
 mod rising;
 mod spelled;
 mod state;
-#[cfg(test)]
-mod tests;
 mod wholes;
 
 pub use bodies::{read_body, spell_entry, spell_installed};

@@ -1,2 +1,2 @@
-mod Ordered
+pub mod Ordered
 mod Writing

@@ -36,7 +36,7 @@ get_replace W n s ms os h =
     lookup-set_value (eq_by_cmp_equiv nat_cmp_total) (is_at (nat_cmp n)) (λ x y t. (eq_by_cmp_equiv nat_cmp_total).congr n x y t) s ms W.pairs there
     ∙ ap (λ (t : Bool). cond t (Some ms) (get W s)) (same_test n s)
 
-get_with : (W : Waiting) (n s : ℕ) (ms : List Message) → get (insert W n ms) s ≡ cond (nat_eq n s) (Some ms) (get W s)
+pub get_with : (W : Waiting) (n s : ℕ) (ms : List Message) → get (insert W n ms) s ≡ cond (nat_eq n s) (Some ms) (get W s)
 get_with W n s ms = get-insert nat_cmp_total W n ms s ∙ ap (λ (t : Bool). cond t (Some ms) (get W s)) (same_test s n ∙ turned (nat_eq s n) refl (nat_eq n s) refl)
   where
     turned : (a : Bool) → nat_eq s n ≡ a → (b : Bool) → nat_eq n s ≡ b → a ≡ b
@@ -46,7 +46,7 @@ get_with W n s ms = get-insert nat_cmp_total W n ms s ∙ ap (λ (t : Bool). con
     turned false e true f = let g : nat_eq s n ≡ true = eq-eqb s n (sym (eqb-true n s f)) in cc
 
 -- what waits for s behind a message for n
-behind_push : (W : Waiting) (n s : ℕ) (m : Message) → waiting (outbox.push W n m) s ≡ waiting W s ++ cond (nat_eq n s) (m ∷ []) []
+pub behind_push : (W : Waiting) (n s : ℕ) (m : Message) → waiting (outbox.push W n m) s ≡ waiting W s ++ cond (nat_eq n s) (m ∷ []) []
 behind_push W n s m = by (get W n) refl (nat_eq n s) refl
   where
     by : (o : Option (List Message)) → get W n ≡ o → (t : Bool) → nat_eq n s ≡ t → waiting (pushed_to W n m o) s ≡ waiting W s ++ cond t (m ∷ []) []
@@ -56,7 +56,7 @@ behind_push W n s m = by (get W n) refl (nat_eq n s) refl
     by (Some ms) f false e = rw (get_replace W n s (ms ++ m ∷ []) ms f, e) (sym (append-nil (waiting W s)))
 
 -- what n takes, and what waits for s behind it
-behind_take : (W : Waiting) (n s : ℕ) → cond (nat_eq n s) (option_to_list (first (waiting W n))) [] ++ waiting (outbox.take W n) s ≡ waiting W s
+pub behind_take : (W : Waiting) (n s : ℕ) → cond (nat_eq n s) (option_to_list (first (waiting W n))) [] ++ waiting (outbox.take W n) s ≡ waiting W s
 behind_take W n s = by (get W n) refl (nat_eq n s) refl
   where
     split : (ms : List Message) → option_to_list (first ms) ++ drop 1 ms ≡ ms

@@ -7,8 +7,6 @@ mod line;
 mod message;
 mod outbox;
 mod outbox_laws;
-#[cfg(test)]
-mod tests;
 
 pub use answers::{Asked, At, Verdict, Welcome};
 pub use message::Message;

@@ -6,8 +6,6 @@ mod mob;
 mod objects;
 mod size;
 mod tally;
-#[cfg(test)]
-mod tests;
 
 pub use fault::MobFull;
 pub use mob::Mob;

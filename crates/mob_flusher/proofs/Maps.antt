@@ -1,5 +1,5 @@
 -- The map stays through a flush and its settling.
-use Rattle.std.proofs.Common.{◌≡◌, ℕ, zero, suc, ◌+◌, ◌<◌, ◌≤◌, Bool, true, false, cond, not, ◌&&◌, ◌==◌, List, [], ◌∷◌, filter, Option, Some, None, Result, Ok, Err, IfOk, OnOk, slice_get, is_some, nat_eq, refl, ap, sym, subst, ◌∙◌, arith, inl, inr, ◌⊎◌}
+use Rattle.std.proofs.Common.{◌≡◌, ℕ, zero, suc, ◌+◌, ◌-◌, ◌<◌, ◌≤◌, Bool, true, false, cond, not, ◌&&◌, ◌==◌, List, [], ◌∷◌, filter, Option, Some, None, Result, Ok, Err, IfOk, OnOk, slice_get, is_some, nat_eq, refl, ap, sym, subst, ◌∙◌, arith, inl, inr, ◌⊎◌}
 use Rattle.std.proofs.lemmas.Bool.Decides.{eqb_tells}
 use Rattle.std.specs.Option.{option_map, option_map_or, unwrap_or}
 use Rattle.std.specs.Ordering.{nat_cmp, is_eq, eq_by_cmp}
@@ -14,7 +14,7 @@ use Rattle.page_format.specs.Pages.{Contents}
 use Rattle.page_format.specs.Sides.{side_in_use}
 use Rattle.page_format.proofs.Pages.{one_page}
 use Rattle.page_store.specs.Objects.{Spells}
-use Rattle.page_store.specs.Sides.{KeepsSides, Shows, side_bytes}
+use Rattle.page_store.specs.Sides.{KeepsSides, Shows, next_side, side_bytes}
 use Rattle.page_store.specs.Store.{Store, Agrees, page_in, with_held, with_place}
 use Rattle.std.specs.Map.{lookup}
 use Rattle.page_store.proofs.Stores.{in_use_here, in_use_other}
@@ -130,6 +130,14 @@ has_none o disk sides x answer none has = subst (λ (p : Option Obj). HasOver p 
 pub none_first : (objects : Objects) → None ≡ option_map (λ q. q.0) (slice_get objects 0) → objects ≡ []
 none_first [] is = refl
 none_first (q ∷ objects) is = cc
+
+pub some_first : (objects : Objects) (x : Oref) → Some x ≡ option_map (λ q. q.0) (slice_get objects 0) → objects ≡ [] → ⊥
+some_first [] x is none = cc
+some_first (q ∷ objects) x is none = cc
+
+pub next_below : (in_use : Option ℕ) → next_side in_use < 2
+next_below (Some side) = omega arith
+next_below None = omega arith
 
 pub still_keeps : (old new : Disks) (sides : List (ℕ × ℕ)) (disk : List ℕ) → Leaves old new 2 (MayLeave old 2) → IsSettled old 2 → old.content 2 ≡ Some disk → Leaves old new 2 (KeepsSides sides disk)
 still_keeps old new sides disk still settled told =

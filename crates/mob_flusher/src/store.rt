@@ -130,7 +130,9 @@ impl ObjectStore {
         ensures alone { OnDisk (P.disks parts.old) (P.disks parts.new) 2 }
         ensures any_moment { WhereTold (P.disks parts.old) 2 (λ disk. Leaves (P.disks parts.old) (P.disks parts.new) 2 (KeepsSides self.old.pages.sides disk)) }
         ensures nothing { result ≡ Ok Nothing → self.old.mob.objects ≡ [] }
+        ensures empty { self.old.mob.objects ≡ [] → result ≡ Ok Nothing }
         ensures flushed { (page side : ℕ) → result ≡ Ok (Installed page side) → (repo : ℕ) × IsFlushed self.new repo page side }
+        ensures side { (page side : ℕ) → result ≡ Ok (Installed page side) → side < 2 }
         ensures oldest { (page side : ℕ) → result ≡ Ok (Installed page side) → IfSome (slice_get self.old.mob.objects 0) (λ q. q.0.page ≡ page) }
         ensures mob { self.new.mob ≡ self.old.mob }
         ensures sides { self.new.pages.sides ≡ self.old.pages.sides }
@@ -240,6 +242,7 @@ fn install_image<P: Parts>(
     ensures any_moment { WhereTold (P.disks parts.old) 2 (λ disk. Leaves (P.disks parts.old) (P.disks parts.new) 2 (KeepsSides pages.old.sides disk)) }
     ensures kept { OnOk result (WhereTold (P.disks parts.old) 2 (λ before. WhereTold (P.disks parts.new) 2 (λ after. KeepsSides pages.old.sides before after))) }
     ensures flushed { IfOk result (λ side. IsFlushed (record { pages = pages.new; mob = mob.now }) oref.repo oref.page side) }
+    ensures side { IfOk result (λ side. side < 2) }
     ensures sides { pages.new.sides ≡ pages.old.sides }
     ensures settled { OnOk result (IsSettled (P.disks parts.new) 2) }
     ensures agrees { OnOk result (WhereTold (P.disks parts.new) 2 (Agrees pages.new)) }

@@ -1,11 +1,13 @@
 -- What a stored map stands for, where it fits, is a store that fits the schema of its epoch.
 use Rattle.class_defs.proofs.KeptRules.{schema_sound, there as something, type_told}
 use Rattle.class_defs.specs.Eager.{eager, value, values}
-use Rattle.class_defs.specs.Epochs.{classes_of, no_schema}
+use Rattle.class_defs.specs.Epochs.{classes_of, no_schema, schema_at}
+use Rattle.class_defs.specs.KeptOwnership.{AllKeepClasses}
 use Rattle.class_defs.specs.Objects.{stand_in_name}
 use Rattle.class_defs.specs.Ownership.{Names, Refers}
 use Rattle.class_defs.specs.Rules.{is_type}
 use Rattle.class_defs.specs.Run.{Ran, begun, execute_all, ran_by, run, takes, world_of}
+use Rattle.class_defs.specs.SchemaRules.{schema_rules}
 use Rattle.class_defs.specs.Steps.{fitted}
 use Rattle.class_defs.specs.Stored.{Stored, all_written, in_epoch}
 use Rattle.class_defs.specs.Types.{IsDeclared, class_named, class_or_untold, fields_of, type_named}
@@ -29,7 +31,7 @@ use Rattle.fitting_laws.proofs.FitObjects.{fields_told}
 use Rattle.fitting_laws.specs.Fits.{FieldsFit, Fresh, IsNew, RootFits, StoreFits, ValueFits, class_of}
 use Rattle.lazy_laws.proofs.OwnedMaps.{all_kinds, all_owned}
 use Rattle.lazy_laws.proofs.Values.{get-each}
-use Rattle.owned_runs.specs.Checked.{CheckedRun}
+use Rattle.owned_runs.specs.Checked.{CheckedRun, RootsStand}
 use Rattle.part_laws.proofs.Runs.{run_keeps}
 use Rattle.part_laws.specs.Owning.{KeepsParts}
 use Rattle.serial_model.specs.History.{are_fresh}
@@ -38,6 +40,7 @@ use Rattle.std.proofs.lemmas.Bool.Decides.{nat_tests}
 use Rattle.std.specs.List.{AllByRecursion, IsDistinct, list_any}
 use Rattle.std.specs.Option.{IsSomeAnd, option_map, unwrap_or}
 use Rattle.std.specs.Prelude.{Err, None, Ok, Option, Result, Some, is_some, slice_get, ◌==◌, ◌&&◌, ◌||◌}
+use Rattle.stored_histories.specs.Standing.{MapFits}
 use Rattle.thor_value.specs.FiniteMap.{get}
 use Rattle.thor_value.specs.Names.{same_oref}
 use Rattle.thor_value.specs.declared.names.Oref.{Oref}
@@ -138,65 +141,82 @@ new_names store (x ∷ xs) h k = by (x.repo == 255) refl k (new_names store xs h
     by true is e more = cc
     by false is e more = ((h.0, λ at. grind (arith, nat_tests)), more e)
 
-module _ (s : Schemas) (N : Stored) (schema : Schema) (repos : ℕ) (tx : List Stmt) (names : List Oref) (r : Ran) (h : CheckedRun s N schema repos tx names r) where
-  abbrev pub E : Oref → Option Object
-  E = get (eager s N).objects
+-- a map that fits, and the schema of its epoch, which breaks no rule and whose roots are there
+module _ (s : Schemas) (N : Stored) (schema : Schema) (repos : ℕ) (epoch : schema_at s N.epoch ≡ Some schema) (rules : schema_rules schema repos ≡ []) (keeps : AllKeepClasses s N.epoch) (fits : MapFits s N) (stand : RootsStand schema N.roots) where
+  abbrev pub F : Oref → Option Object
+  F = get (eager s N).objects
 
-  pub classes_are : classes_of s N.epoch ≡ schema.classes
-  classes_are = ap (λ (o : Option Schema). (unwrap_or o no_schema).classes) h.epoch
+  pub classes-are : classes_of s N.epoch ≡ schema.classes
+  classes-are = ap (λ (o : Option Schema). (unwrap_or o no_schema).classes) epoch
 
-  pub plain_at : (x : Oref) → E x ≡ option_map (value s N.objects N.epoch) (get N.objects x)
-  plain_at x = get-each (value s N.objects N.epoch) N.objects x
+  pub plain-at : (x : Oref) → F x ≡ option_map (value s N.objects N.epoch) (get N.objects x)
+  plain-at x = get-each (value s N.objects N.epoch) N.objects x
 
-  all_at : (x : Oref) → get (all_written (eager s N)).objects x ≡ option_map (in_epoch N.epoch) (E x)
+  all_at : (x : Oref) → get (all_written (eager s N)).objects x ≡ option_map (in_epoch N.epoch) (F x)
   all_at x = get-each (in_epoch N.epoch) (values s N.objects N.epoch) x
 
-  pub whole_owned : IsWellOwned s (all_written (eager s N))
-  whole_owned = all_owned s N h.keeps h.fits.owned
+  pub whole-owned : IsWellOwned s (all_written (eager s N))
+  whole-owned = all_owned s N keeps fits.owned
 
-  kinds_of : (x : Oref) (v : Object) → E x ≡ Some v → IsOfItsClass schema.classes v
-  kinds_of x v is = subst (λ cs. IsOfItsClass cs v) classes_are (all_kinds s N h.keeps h.fits.owned h.fits.kinds x (in_epoch N.epoch v) (all_at x ∙ ap (option_map (in_epoch N.epoch)) is))
+  kinds_of : (x : Oref) (v : Object) → F x ≡ Some v → IsOfItsClass schema.classes v
+  kinds_of x v is = subst (λ cs. IsOfItsClass cs v) classes-are (all_kinds s N keeps fits.owned fits.kinds x (in_epoch N.epoch v) (all_at x ∙ ap (option_map (in_epoch N.epoch)) is))
 
-  declared_of : (x : Oref) (v : Object) (i d : ℕ) (z : Oref) → E x ≡ Some v → Refers schema.classes v i d z → class_of E z ≡ Some d
+  declared_of : (x : Oref) (v : Object) (i d : ℕ) (z : Oref) → F x ≡ Some v → Refers schema.classes v i d z → class_of F z ≡ Some d
   declared_of x v i d z is refers =
       let names : Names s (all_written (eager s N)).objects x i d z = record {
         object = in_epoch N.epoch v;
         stored = all_at x ∙ ap (option_map (in_epoch N.epoch)) is;
-        refers = subst (λ cs. Refers cs v i d z) (sym classes_are) refers;
+        refers = subst (λ cs. Refers cs v i d z) (sym classes-are) refers;
       } in
-      let k = some_and (get (all_written (eager s N)).objects z) (λ o. o.class ≡ d) (whole_owned.declared x i d z names) in
-      class_there (E z) k.0 (sym (all_at z) ∙ k.1) k.2
+      let k = some_and (get (all_written (eager s N)).objects z) (λ o. o.class ≡ d) (whole-owned.declared x i d z names) in
+      class_there (F z) k.0 (sym (all_at z) ∙ k.1) k.2
     where
       class_there : (o : Option Object) (p : Obj) → option_map (in_epoch N.epoch) o ≡ Some p → p.class ≡ d → option_map (λ (q : Object). q.class) o ≡ Some d
       class_there None p e c = cc
       class_there (Some q) p e c = let same : in_epoch N.epoch q ≡ p = cc in ap Some (ap (λ (o : Obj). o.class) same ∙ c)
 
-  roots_fit : (ds : List RootDeclaration) → AllByRecursion (λ (d : RootDeclaration). (i : ℕ) × (q : Root) × (slice_get N.roots i ≡ Some q) × (q.oref ≡ d.oref) × (class_named schema.classes d.class.text ≡ Some q.class)) ds → AllByRecursion (RootFits E schema.classes) ds
+  roots_fit : (ds : List RootDeclaration) → AllByRecursion (λ (d : RootDeclaration). (i : ℕ) × (q : Root) × (slice_get N.roots i ≡ Some q) × (q.oref ≡ d.oref) × (class_named schema.classes d.class.text ≡ Some q.class)) ds → AllByRecursion (RootFits F schema.classes) ds
   roots_fit [] k = tt
   roots_fit (d ∷ ds) k =
       let i : ℕ = k.0.0 in
       let q : Root = k.0.1 in
-      let found = some_and (get (all_written (eager s N)).objects q.oref) (λ o. o.class ≡ q.class) (whole_owned.roots i q k.0.2).1 in
-      (subst (λ o. ValueFits E (class_or_untold o) (value_form.Ref d.oref)) (sym k.0.4) (subst (λ x. class_of E x ≡ Some q.class) k.0.3 (class_there (E q.oref) found.0 q.class (sym (all_at q.oref) ∙ found.1) found.2)), roots_fit ds k.1)
+      let found = some_and (get (all_written (eager s N)).objects q.oref) (λ o. o.class ≡ q.class) (whole-owned.roots i q k.0.2).1 in
+      (subst (λ o. ValueFits F (class_or_untold o) (value_form.Ref d.oref)) (sym k.0.4) (subst (λ x. class_of F x ≡ Some q.class) k.0.3 (class_there (F q.oref) found.0 q.class (sym (all_at q.oref) ∙ found.1) found.2)), roots_fit ds k.1)
     where
       class_there : (o : Option Object) (p : Obj) (c : ℕ) → option_map (in_epoch N.epoch) o ≡ Some p → p.class ≡ c → option_map (λ (q : Object). q.class) o ≡ Some c
       class_there None p c e g = cc
       class_there (Some q) p c e g = let same : in_epoch N.epoch q ≡ p = cc in ap Some (ap (λ (o : Obj). o.class) same ∙ g)
 
-  pub store_fits : StoreFits schema (eager s N)
-  store_fits = record {
+  pub store-fits : StoreFits schema (eager s N)
+  store-fits = record {
     each = λ x v is.
         let k = kinds_of x v is in
-        let sound = schema_sound schema repos h.rules in
+        let sound = schema_sound schema repos rules in
         let c = something (slice_get schema.classes v.class) k.class in
         record {
           class = k.class;
-          fields = fields_fit E schema.classes (fields_of schema.classes v.class) v.fields (fields_told schema repos sound v.class c.0 c.1) k.count
-              (λ i g w at val told. value_fits E (type_named schema.classes g.type_name) w told (k.kinds i (type_named schema.classes g.type_name) w (ap (option_map (λ (f : Field). type_named schema.classes f.type_name)) at) val)
+          fields = fields_fit F schema.classes (fields_of schema.classes v.class) v.fields (fields_told schema repos sound v.class c.0 c.1) k.count
+              (λ i g w at val told. value_fits F (type_named schema.classes g.type_name) w told (k.kinds i (type_named schema.classes g.type_name) w (ap (option_map (λ (f : Field). type_named schema.classes f.type_name)) at) val)
               (λ d z t v_is. declared_of x v i d z is (record { declared = ap (option_map (λ (f : Field). type_named schema.classes f.type_name)) at ∙ ap Some t; names = val ∙ ap Some v_is })));
         };
-    roots = roots_fit schema.roots h.roots;
+    roots = roots_fit schema.roots stand;
   }
+
+module _ (s : Schemas) (N : Stored) (schema : Schema) (repos : ℕ) (tx : List Stmt) (names : List Oref) (r : Ran) (h : CheckedRun s N schema repos tx names r) where
+  abbrev pub E : Oref → Option Object
+  E = get (eager s N).objects
+
+  pub classes_are : classes_of s N.epoch ≡ schema.classes
+  classes_are = classes-are s N schema repos h.epoch h.rules h.keeps h.fits h.roots
+
+  pub plain_at : (x : Oref) → E x ≡ option_map (value s N.objects N.epoch) (get N.objects x)
+  plain_at = plain-at s N schema repos h.epoch h.rules h.keeps h.fits h.roots
+
+  pub whole_owned : IsWellOwned s (all_written (eager s N))
+  whole_owned = whole-owned s N schema repos h.epoch h.rules h.keeps h.fits h.roots
+
+  pub store_fits : StoreFits schema (eager s N)
+  store_fits = store-fits s N schema repos h.epoch h.rules h.keeps h.fits h.roots
 
   pub store_fresh : Fresh (eager s N) names
   store_fresh =

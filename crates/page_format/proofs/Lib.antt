@@ -3,3 +3,4 @@ pub mod Pages
 pub mod Splices
 pub mod Walks
 pub mod Places
+mod Zeros

@@ -1,6 +1,6 @@
 //! Putting an object among others, and spelling a page.
 
-ghost use Rattle.std.specs.Prelude.{◌≡◌, ◌≤◌, ◌<◌, ◌+◌, ◌-◌, ◌^◌, ◌++◌, length, replicate, IfOk, IsErrOf};
+ghost use Rattle.std.specs.Prelude.{◌≡◌, ◌≤◌, ◌<◌, ◌+◌, ◌-◌, ◌^◌, ◌++◌, length, replicate, IfOk, IsErrOf, OnOk};
 ghost use Rattle.std.specs.Ordering.{nat_cmp};
 ghost use Rattle.std.specs.BTreeMap.{insert_entry};
 ghost use Rattle.page_format.specs.Pages.{Passes, head, object_entry};
@@ -10,6 +10,9 @@ use crate::fault::Full;
 use crate::walk::{ENTRY, HEAD, PAGE, place};
 use byteorder::{BigEndian, ByteOrder};
 use std::alloc::{AllocError, Global};
+
+/// The bytes of a page without objects, and more.
+const ZEROS: [u8; PAGE] = [0; PAGE];
 
 /// The objects with one of them put into its slot, and how many they are.
 pub(crate) fn spliced(
@@ -80,8 +83,26 @@ pub(crate) fn spelled(
     let mut bytes = Vec::with_capacity(alloc, PAGE)?;
     bytes.extend_from_slice(&head_bytes(number, count))?;
     bytes.extend_from_slice(entries)?;
-    bytes.resize(PAGE, 0)?;
+    add_zeros(&mut bytes, PAGE - HEAD - entries.len())?;
     Ok(bytes)
+}
+
+/// Puts so many zeros behind the bytes.
+fn add_zeros(bytes: &mut Vec<u8>, count: usize) -> Result<(), AllocError>
+    requires { count ≤ 4096 }
+    ensures { OnOk result (bytes.new.items ≡ bytes.old.items ++ replicate count 0) }
+{
+    bytes.extend_from_slice(zeros(ZEROS.as_slice(), count))?;
+    Ok(())
+}
+
+/// The first of many zeros.
+fn zeros(all: &[u8], count: usize) -> &[u8]
+    requires all { all.now ≡ replicate 4096 0 }
+    requires count { count ≤ 4096 }
+    ensures { result.now ≡ replicate count 0 }
+{
+    all.split_at(count).0
 }
 
 fn head_bytes(number: u32, count: u8) -> [u8; 8]

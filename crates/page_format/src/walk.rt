@@ -1,6 +1,6 @@
 //! Walking over the objects of a page as they stand in its bytes.
 
-ghost use Rattle.std.specs.Prelude.{◌≡◌, ◌≤◌, ◌+◌, length, slice_get};
+ghost use Rattle.std.specs.Prelude.{◌≡◌, ◌≤◌, ◌+◌, ◌&&◌, length, slice_get};
 ghost use Rattle.std.specs.Option.{option_copied, option_map};
 ghost use Rattle.std.specs.Ordering.{nat_cmp};
 ghost use Rattle.std.specs.BTreeMap.{is_at};
@@ -146,9 +146,21 @@ pub(crate) fn parts_of(bytes: &[u8]) -> Option<((u32, u8), &[u8])>
     Some((about, body.split_at(body.len() - rest.len()).0))
 }
 
-/// Whether the bytes are zeros alone.
+/// Whether the bytes are zeros alone. It looks at each of them, so that a processor can look at many at once.
+#[tactic(auto, using(crate::proofs::Zeros::and_next))]
 pub(crate) fn all_zero(bytes: &[u8]) -> bool
     ensures { result ≡ is_all_zero bytes.now }
 {
-    bytes.iter().all(|byte| *byte == 0)
+    let mut zeros = true;
+    for byte in bytes {
+        zeros = both(zeros, *byte == 0);
+    }
+    zeros
+}
+
+/// Whether both hold.
+fn both(first: bool, second: bool) -> bool
+    ensures { result ≡ (first && second) }
+{
+    first & second
 }

@@ -5,8 +5,6 @@ mod device;
 mod fault;
 mod objects;
 mod store;
-#[cfg(test)]
-mod tests;
 
 pub use fault::StoreFault;
 pub use store::{PageStore, empty_pages_have_objects};

@@ -2,4 +2,5 @@ pub mod Falls
 pub mod Judged
 pub mod Moves
 pub mod Stamps
+pub mod Told
 pub mod Written

@@ -8,7 +8,7 @@ use Rattle.held_state.specs.declared.held.Held.{Held}
 use Rattle.log_bytes.specs.Grammar.{BodyFits}
 use Rattle.log_bytes.specs.declared.body.Body.TheVariants.{Entry as AnEntry}
 use Rattle.std.specs.Map.{keys_of}
-use Rattle.std.specs.Prelude.{[], Bool, IsTrue, None, false, ◌↔◌, ◌≡◌}
+use Rattle.std.specs.Prelude.{[], Bool, IsTrue, None, false, true, ◌↔◌, ◌≡◌}
 use Rattle.thor_value.specs.FiniteMap.{has}
 use Rattle.validation_queue.specs.Clashes.{clash}
 use Rattle.validation_queue.specs.Names.{IsInOrder}
@@ -43,3 +43,12 @@ pub record CanWrite (h : Held) (M : Memory) (e : Entry) : Type 0 where
   pub fits : BodyFits (AnEntry e)
   pub takes : IsTrue (can_enter h e)
   pub comes : ComesIn M e
+
+-- What of the memory is told of an entry exactly: where it decides a transaction, that is in the queue.
+abbrev pub IsTold : Memory → Entry → Type 0
+IsTold M (Life n) = Unit {0}
+IsTold M (One q) = Unit {0}
+IsTold M (Prepared q) = Unit {0}
+IsTold M (Decided t c) = has M.queue.members t ≡ true
+IsTold M (Finished t c) = has M.queue.members t ≡ true
+IsTold M (Upgraded q) = Unit {0}

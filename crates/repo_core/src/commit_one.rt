@@ -3,6 +3,7 @@
 ghost use Rattle.std.specs.Prelude.{◌≡◌, IfErr, IfOk, None, OnOk, Some, length, true};
 ghost use Rattle.repo_core.specs.Behind.{HasMoved, Stands, alone_entry, epoch_of, with_refusal};
 ghost use Rattle.repo_core.specs.Calls.{MayRequest};
+ghost use Rattle.repository_laws.specs.Coming.{Moves};
 ghost use Rattle.trace_record.specs.Recorded.{with_entry};
 ghost use Rattle.volatile_state.specs.Volatile.{verdict};
 
@@ -20,6 +21,7 @@ impl<P: Parts> Repo<P> {
         ensures accepted { OnOk result (verdict self.old.memory (epoch_of self.old.held) session request ≡ None) }
         ensures place { IfOk result (λ place. place ≡ length self.old.trace.history) }
         ensures held { OnOk result (HasMoved self.old.held (alone_entry request.kind request) self.new.held) }
+        ensures memory { OnOk result (Moves self.old.held self.old.memory (alone_entry request.kind request) self.new.memory) }
         ensures trace { OnOk result (self.new.trace ≡ with_entry self.old.trace (alone_entry request.kind request)) }
         ensures refused { IfErr result (λ r. self.new.trace ≡ with_refusal self.old.trace session (Some request) r) }
     {

@@ -1,9 +1,11 @@
 //! A participant learns the coordinator's verdict.
 
-ghost use Rattle.std.specs.Prelude.{◌≡◌, IfOk, OnErr, OnOk, Some, None, cond, is_some, length, true};
+ghost use Rattle.std.specs.Prelude.{◌≡◌, IfOk, OnErr, OnOk, Some, None, cond, is_some, false, length, true};
 ghost use Rattle.commit_log.specs.declared.entry.Entry.TheVariants.{Finished as Finishes};
 ghost use Rattle.repo_core.specs.Behind.{HasMoved, Stands};
 ghost use Rattle.thor_value.specs.Spelling.{TsFits};
+ghost use Rattle.repository_laws.specs.Coming.{Moves};
+ghost use Rattle.thor_value.specs.FiniteMap.{has};
 ghost use Rattle.trace_record.specs.Recorded.{with_entry};
 ghost use Rattle.two_phase.specs.Contents.{open_at};
 
@@ -20,6 +22,8 @@ impl<P: Parts> Repo<P> {
     pub fn finish(&mut self, verdict: &Verdict) -> Result<Option<u64>, Refusal>
         ensures stands { Stands self.old.is_up result self.new.is_up }
         ensures held { OnOk result (is_some (open_at self.old.held.table verdict.now.tx) ≡ true → HasMoved self.old.held (Finishes verdict.now.tx verdict.now.commit) self.new.held) }
+        ensures memory { is_some (open_at self.old.held.table verdict.now.tx) ≡ true → has self.old.memory.queue.members verdict.now.tx ≡ true → OnOk result (Moves self.old.held self.old.memory (Finishes verdict.now.tx verdict.now.commit) self.new.memory) }
+        ensures same { is_some (open_at self.old.held.table verdict.now.tx) ≡ false → OnOk result (self.new ≡ self.old) }
         ensures place { IfOk result (λ place. place ≡ cond (is_some (open_at self.old.held.table verdict.now.tx)) (Some (length self.old.trace.history)) None) }
         ensures trace { OnOk result (self.new.trace ≡ cond (is_some (open_at self.old.held.table verdict.now.tx)) (with_entry self.old.trace (Finishes verdict.now.tx verdict.now.commit)) self.old.trace) }
         ensures refused { OnErr result (self.new.trace ≡ self.old.trace) }

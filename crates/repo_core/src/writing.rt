@@ -1,20 +1,26 @@
 //! How an entry is written: into the log, then into what is held in memory, then into the trace.
 
-ghost use Rattle.std.specs.Prelude.{◌≡◌, IfErr, IfOk, IsTrue, Ok, OnErr, OnOk, false, length, true, ℕ};
-ghost use Rattle.commit_log.specs.declared.request.Request.{Request};
+ghost use Rattle.std.specs.Prelude.{◌≡◌, IfErr, IfOk, IsTrue, Ok, OnErr, OnOk, cond, false, length, nat_eq, true, ℕ};
+ghost use Rattle.commit_log.specs.declared.request.Request.{Request as ARequest};
 ghost use Rattle.commit_log.specs.declared.entry.Entry.TheVariants.{Life as ALife, Prepared as Prepares};
 ghost use Rattle.held_state.specs.Entering.{can_enter, entered};
+ghost use Rattle.held_state.specs.Keeps.{TableFits};
 ghost use Rattle.live_sessions.specs.Sessions.{ended};
 ghost use Rattle.log_bytes.specs.Grammar.{BodyFits};
 ghost use Rattle.log_bytes.specs.declared.body.Body.TheVariants.{Entry as AnEntry};
 ghost use Rattle.repo_core.specs.Behind.{Stands, is_marked};
-ghost use Rattle.repo_core.specs.Calls.{CanWrite, ComesIn};
+ghost use Rattle.repo_core.specs.Calls.{CanWrite, Comes, ComesIn, IsTold};
 ghost use Rattle.stable_store.specs.Kept.{is_fault};
+ghost use Rattle.repository_laws.specs.Coming.{Becomes, BeginsLife, Moves, Reopens, alone_queue, decided_queue};
+ghost use Rattle.thor_value.specs.FiniteMap.{add, has};
+ghost use Rattle.thor_value.specs.declared.names.Ts.{Ts as ATs};
 ghost use Rattle.trace_record.specs.Recorded.{with_entry};
-ghost use Rattle.volatile_state.specs.Volatile.{entered as entered_memory};
+ghost use Rattle.two_phase.specs.Contents.{open_at};
+ghost use Rattle.validation_queue.specs.Contents.{cleared, with_one};
+ghost use Rattle.volatile_state.specs.Volatile.{entered as entered_memory, transaction_of};
 
 use crate::repo::Repo;
-use commit_log::Entry;
+use commit_log::{Entry, Request};
 use disk_trait::Parts;
 use thor_value::{NoMemory, Ts};
 use two_phase::Table;
@@ -33,7 +39,8 @@ impl<P: Parts> Repo<P> {
         ensures place { IfOk result (λ place. place ≡ length self.old.trace.history) }
         ensures held { OnOk result (self.new.held ≡ entered self.old.held entry) }
         ensures ended { (n : ℕ) → entry ≡ ALife n → OnOk result (self.new.memory.sessions ≡ ended self.old.memory.sessions) }
-        ensures memory { (q : Request) → entry ≡ Prepares q → OnOk result (self.new.memory ≡ entered_memory self.old.memory q false) }
+        ensures memory { (q : ARequest) → entry ≡ Prepares q → OnOk result (self.new.memory ≡ entered_memory self.old.memory q false) }
+        ensures moves { IsTold self.old.memory entry → OnOk result (Moves self.old.held self.old.memory entry self.new.memory) }
         ensures trace { OnOk result (self.new.trace ≡ with_entry self.old.trace entry) }
         ensures refused { OnErr result (self.new.trace ≡ self.old.trace) }
     {
@@ -84,12 +91,14 @@ impl<P: Parts> Repo<P> {
     /// Tells the queue and the sessions of an entry, before it is entered. After `NoMemory` they begin anew with
     /// the next life.
     fn tell(&mut self, entry: &Entry) -> Result<(), NoMemory>
-        requires { ComesIn self.old.memory entry.now }
+        requires comes { ComesIn self.old.memory entry.now }
+        requires up { self.old.is_up ≡ true }
         ensures up { self.new.is_up ≡ self.old.is_up }
         ensures held { self.new.held ≡ self.old.held }
         ensures trace { self.new.trace ≡ self.old.trace }
         ensures ended { (n : ℕ) → entry.now ≡ ALife n → OnOk result (self.new.memory.sessions ≡ ended self.old.memory.sessions) }
-        ensures prepared { (q : Request) → entry.now ≡ Prepares q → OnOk result (self.new.memory ≡ entered_memory self.old.memory q false) }
+        ensures prepared { (q : ARequest) → entry.now ≡ Prepares q → OnOk result (self.new.memory ≡ entered_memory self.old.memory q false) }
+        ensures moves { IsTold self.old.memory entry.now → OnOk result (Moves self.old.held self.old.memory entry.now self.new.memory) }
     {
         let place = self.trace.place();
         let number = self.epoch().saturating_add(1);
@@ -97,13 +106,24 @@ impl<P: Parts> Repo<P> {
             Entry::Life { .. } => self.begin_life(),
             Entry::Prepared { request } => self.memory.enter(request, false),
             Entry::One { request } | Entry::Upgraded { request } => {
-                self.memory.enter(request, true)?;
-                self.memory.tell(request, number, place)
+                self.tell_alone(request, number, place)
             }
             Entry::Decided { tx, commit } | Entry::Finished { tx, commit } => {
                 self.tell_decision(*tx, *commit, number, place)
             }
         }
+    }
+
+    /// Tells of a request that commits here alone.
+    fn tell_alone(&mut self, request: &Request, number: u32, place: u64) -> Result<(), NoMemory>
+        requires { Comes self.old.memory request.now }
+        ensures up { self.new.is_up ≡ self.old.is_up }
+        ensures held { self.new.held ≡ self.old.held }
+        ensures trace { self.new.trace ≡ self.old.trace }
+        ensures moves { OnOk result (Becomes self.new.memory (alone_queue self.old.memory.queue request.now) (add self.old.memory.requested request.now.tx) self.old.memory.drawn) }
+    {
+        self.memory.enter(request, true)?;
+        self.memory.tell(request, number, place)
     }
 
     /// Tells of the decision on a transaction that is open here.
@@ -117,6 +137,7 @@ impl<P: Parts> Repo<P> {
         ensures up { self.new.is_up ≡ self.old.is_up }
         ensures held { self.new.held ≡ self.old.held }
         ensures trace { self.new.trace ≡ self.old.trace }
+        ensures moves { has self.old.memory.queue.members tx ≡ true → OnOk result (Becomes self.new.memory (decided_queue self.old.memory.queue tx commit (open_at self.old.held.table tx)) self.old.memory.requested self.old.memory.drawn) }
     {
         self.memory.decide(tx, commit);
         match self.stable.held().table().open_request(tx) {
@@ -128,6 +149,8 @@ impl<P: Parts> Repo<P> {
     /// Begins a life: the sessions end, and of the transactions that came since the opening those stand in the
     /// queue that stay undecided. The life aborts those that this repository coordinates.
     fn begin_life(&mut self) -> Result<(), NoMemory>
+        requires { self.old.is_up ≡ true }
+        ensures begins { OnOk result (BeginsLife self.old.held self.old.memory self.new.memory) }
         ensures ended { OnOk result (self.new.memory.sessions ≡ ended self.old.memory.sessions) }
         ensures up { self.new.is_up ≡ self.old.is_up }
         ensures held { self.new.held ≡ self.old.held }
@@ -156,17 +179,32 @@ impl<P: Parts> Repo<P> {
 
 /// Puts the open requests of transactions that another repository than this one coordinates into the queue.
 fn load_open(memory: &mut Memory, table: &Table, repo: u8) -> Result<(), NoMemory>
-    ensures { memory.new.sessions ≡ memory.old.sessions }
+    requires fits { TableFits repo table.now }
+    requires empty { (t : ATs) × (memory.old.queue ≡ cleared t) }
+    ensures sessions { memory.new.sessions ≡ memory.old.sessions }
+    ensures reopens { OnOk result (Reopens repo table.now memory.old memory.new) }
 {
     let mut after = None;
     for _ in 0..u32::MAX {
         let Some(request) = table.next_open(after) else {
             return Ok(());
         };
-        if request.tx.repo != repo {
-            memory.load(request)?;
-        }
+        load_other(memory, request, repo)?;
         after = Some(request.tx);
     }
     Err(NoMemory)
+}
+
+/// Puts an open request into the queue, where another repository than this one coordinates its transaction.
+fn load_other(memory: &mut Memory, request: &Request, repo: u8) -> Result<(), NoMemory>
+    ensures sessions { memory.new.sessions ≡ memory.old.sessions }
+    ensures own { nat_eq request.now.tx.repo repo ≡ true → memory.new ≡ memory.old }
+    ensures other { nat_eq request.now.tx.repo repo ≡ false → OnOk result (memory.new.queue ≡ cond (has memory.old.requested request.now.tx) (with_one memory.old.queue (transaction_of request.now) false) memory.old.queue) }
+    ensures requested { memory.new.requested ≡ memory.old.requested }
+    ensures drawn { memory.new.drawn ≡ memory.old.drawn }
+{
+    if request.tx.repo == repo {
+        return Ok(());
+    }
+    memory.load(request)
 }

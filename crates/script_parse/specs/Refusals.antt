@@ -41,7 +41,6 @@ line_of refusal.Setup = 1
 line_of (refusal.Rule fault) = fault.line
 line_of (refusal.Event line) = line
 line_of (refusal.Own fault) = fault.line
-line_of refusal.Unbuilt = 1
 
 abbrev pub word_of : Refusal → List ℕ
 word_of (refusal.Syntax line) = codes "Syntax"
@@ -49,7 +48,6 @@ word_of refusal.Setup = codes "Setup"
 word_of (refusal.Rule fault) = rule_word fault.rule
 word_of (refusal.Event line) = codes "T9"
 word_of (refusal.Own fault) = broken_word fault.rule
-word_of refusal.Unbuilt = codes "Unbuilt"
 
 -- one line: `script`, the line of the script and the word
 abbrev pub refusal_text : Refusal → List ℕ

@@ -12,7 +12,7 @@ use thor_value::{NoMemory, Text};
 pub enum Refusal {
     /// It isn't one of the language: at this line is the first token that can't go on.
     Syntax { line: u32 },
-    /// A fresh store needs a setup, and the script has none.
+    /// A fresh store needs a setup, and the script has none; or it has one, and the store isn't fresh.
     Setup,
     /// It breaks a rule of the language.
     Rule(TypeFault),
@@ -20,8 +20,6 @@ pub enum Refusal {
     Event { line: u32 },
     /// An upgrade breaks a rule on upgrades, or a rule of the language in its own fields and methods.
     Own(OwnFault),
-    /// It asks for what isn't built yet.
-    Unbuilt,
 }
 
 /// The line that is told.
@@ -34,7 +32,6 @@ fn line_of(refusal: Refusal) -> u32
         Refusal::Rule(fault) => fault.line,
         Refusal::Event { line } => line,
         Refusal::Own(fault) => fault.line,
-        Refusal::Unbuilt => 1,
     }
 }
 
@@ -86,7 +83,6 @@ fn word_of(refusal: Refusal) -> &'static str
         Refusal::Rule(fault) => rule_word(fault.rule),
         Refusal::Event { line: _ } => "T9",
         Refusal::Own(fault) => broken_word(fault.rule),
-        Refusal::Unbuilt => "Unbuilt",
     }
 }
 

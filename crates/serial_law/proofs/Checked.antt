@@ -4,32 +4,27 @@ use Rattle.class_defs.specs.Eager.{eager}
 use Rattle.class_defs.specs.Epochs.{schema_at}
 use Rattle.class_defs.specs.KeptOwnership.{AllKeepClasses}
 use Rattle.class_defs.specs.Levels.{is_due}
-use Rattle.class_defs.specs.Ownership.{IsAbove}
 use Rattle.class_defs.specs.Run.{Ran as RanOn, run}
-use Rattle.class_defs.specs.Stored.{Objects, Stored, in_epoch}
-use Rattle.class_defs.specs.declared.store.Object.{Object}
+use Rattle.class_defs.specs.Stored.{Objects, Stored}
 use Rattle.class_defs.specs.declared.store.Root.{Root}
 use Rattle.class_defs.specs.declared.store.Schema.{Schema}
 use Rattle.class_defs.specs.declared.store.Schemas.{Schemas}
 use Rattle.class_defs.specs.declared.store.UpgradedSchema.{UpgradedSchema}
 use Rattle.commit_log.specs.declared.request.Request.{Request}
-use Rattle.lazy_laws.proofs.Values.{get-each}
-use Rattle.class_defs.specs.Eager.{value}
 use Rattle.local_history.specs.History.{Known}
+use Rattle.owned_runs.proofs.Apart.{apart, none_some}
 use Rattle.owned_runs.proofs.Behind.{fits_behind}
-use Rattle.owned_runs.proofs.Closed.{owners_touched}
-use Rattle.owned_runs.proofs.Plainly.{parts_kept}
 use Rattle.owned_runs.specs.Checked.{CheckedRun, TouchedUndue}
 use Rattle.serial_law.proofs.Turns.{epoch_is, gave, has_met, ran, runs_on}
 use Rattle.serial_law.specs.Resting.{AreChecked, AreHere, IsOpening, RanAs, TxRests}
 use Rattle.serial_law.specs.WholeHistory.{did, stored_map}
 use Rattle.serial_model.specs.History.{run_on}
 use Rattle.serial_model.specs.declared.entries.What.{What}
-use Rattle.std.proofs.Common.{Bool, List, [], ap, arith, false, inl, inr, refl, subst, sym, true, ℕ, zero, suc, ◌++◌, ◌<◌, ◌≡◌, ◌≢◌, ◌≤◌, ◌∙◌, ◌∷◌}
+use Rattle.std.proofs.Common.{List, [], ap, arith, false, inl, inr, refl, subst, sym, ℕ, zero, suc, ◌++◌, ◌<◌, ◌≡◌, ◌≢◌, ◌≤◌, ◌∙◌, ◌∷◌}
 use Rattle.std.proofs.lemmas.Option.{slice_get_within}
-use Rattle.std.specs.Option.{IsSomeAnd, option_and_then, option_map, option_or}
+use Rattle.std.specs.Option.{option_and_then, option_map, option_or}
 use Rattle.std.specs.Prelude.{None, Option, Some, is_some, length, slice_get}
-use Rattle.stored_histories.specs.Standing.{MapFits, Runs, WritesApart, left_at}
+use Rattle.stored_histories.specs.Standing.{MapFits, Runs, left_at}
 use Rattle.thor_value.specs.FiniteMap.{get, overwrite}
 use Rattle.thor_value.specs.declared.names.Oref.{Oref}
 use Rattle.thor_value.specs.declared.names.Ts.{Ts}
@@ -41,12 +36,6 @@ use Rattle.whole_histories.proofs.Serial.{behind-objects}
 use Rattle.whole_histories.proofs.Turns.{in-range, wrote-there}
 use Rattle.whole_histories.specs.Serial.{Joined, behind}
 use Rattle.whole_histories.specs.Whole.{Commit, whole, writes_in}
-
-none_some : {A X : Type 0} (o : Option X) (v : X) → o ≡ None → o ≡ Some v → A
-none_some o v h k = none_is v (sym h ∙ k)
-  where
-    none_is : {A X : Type 0} (v : X) → ◌≡◌ {A = Option X} None (Some v) → A
-    none_is v e = cc
 
 -- ---- where objects lie
 
@@ -62,23 +51,11 @@ module _ (S : Several) (sd : AreSound S) (al : Alike S) where
       by (Some v) k = let g = wrote-there (part S x.repo e.0) x (ap is_some k) in in-range S sd x.repo e.0 g.0 g.1
       by None k = here x o (sym (ap (λ p. option_or p (get M x)) k) ∙ sym (whole-at S sd al e.0 w x M h) ∙ ap (λ (q : Request). get (overwrite M q.writes) x) (sym is) ∙ at)
 
-  here_after : (es : Es) → AreWhole S sd al es → (M : Objects) → ((x : Oref) (o : Obj) → get M x ≡ Some o → x.repo < S.repos) → (x : Oref) (o : Obj) → get (after M es) x ≡ Some o → x.repo < S.repos
+  pub here_after : (es : Es) → AreWhole S sd al es → (M : Objects) → ((x : Oref) (o : Obj) → get M x ≡ Some o → x.repo < S.repos) → (x : Oref) (o : Obj) → get (after M es) x ≡ Some o → x.repo < S.repos
   here_after [] c M here = here
   here_after (e ∷ es) c M here =
       let k = c e (inl refl) in
       here_after es (λ f i. c f (inr i)) (overwrite M e.1.writes) (here_then e k.0 k.1 k.2 M here)
-
--- what is owned is there
-above_there : (s : Schemas) (N : Stored) → MapFits s N → (n : ℕ) (a x : Oref) (o : Obj) → get N.objects a ≡ Some o → IsAbove s N.objects n a x → (p : Obj) × (get N.objects x ≡ Some p)
-above_there s N fits zero a x o at above = (o, subst (λ y. get N.objects y ≡ Some o) above at)
-above_there s N fits (suc n) a x o at above =
-    let own = above.1.1.0 in
-    let k = found (get N.objects above.0) (λ q. q.class ≡ own.class) (fits.owned.declared a above.1.0 own.class above.0 own.reference) in
-    above_there s N fits n above.0 x k.0 k.1 above.1.1.1
-  where
-    found : (q : Option Obj) (P : Obj → Type 0) → IsSomeAnd q P → (p : Obj) × (q ≡ Some p)
-    found None P h = absurd h
-    found (Some p) P h = (p, refl)
 
 schema_there : (s : Schemas) (k : ℕ) (o : Option Schema) (f : Schema → Option RanOn) (r : RanOn) → option_and_then f o ≡ Some r → (schema : Schema) × (o ≡ Some schema) × (f schema ≡ Some r)
 schema_there s k None f r e = none_some None r refl e
@@ -137,26 +114,9 @@ module _ (s : Schemas) (items : Who → What) (roots : List Root) (S : Several) 
       subst (λ n. is_due s n o ≡ false) (epoch_is s items roots S sd at al L opening done rest t w c h)
       (rests.undue k.0 k.1 x o k.2 k.3 (sym ((has_met s items roots S sd at al L opening done rest t w c h).objects k.0 k.1 x k.2 k.3) ∙ there))
 
-  apart : WritesApart s N (whole S t q).writes
-  apart n a x o v there due above wrote =
-      elim ((parts_kept s N schema_is.0 S.repos rests.tx q.fresh run_it.0 the_run).wrote x (written (left_at run_it.0.written x) (sym ((gave s items roots S sd at al L opening done rest t w c h rests).writes x) ∙ wrote))) [
-        | inl touched ↦ not_both (is_due s N.epoch o) due (undue a o (owners_touched s N schema_is.0 S.repos rests.tx q.fresh run_it.0 the_run n a x touched above) there)
-        | inr none ↦
-            let k = above_there s N fits n a x o there above in
-            none_some (get (eager s N).objects x) (value s N.objects N.epoch k.0) none (get-each (value s N.objects N.epoch) N.objects x ∙ ap (option_map (value s N.objects N.epoch)) k.1)
-      ]
-    where
-      written : (g : Option Object) → option_map (in_epoch N.epoch) g ≡ Some v → is_some g ≡ true
-      written None e = none_some None v refl e
-      written (Some u) e = refl
-
-      not_both : (b : Bool) → b ≡ true → b ≡ false → ⊥
-      not_both true d u = cc
-      not_both false d u = cc
-
   pub runs_checked : Runs s N (did items (t, whole S t q) 0) (whole S t q).writes
   runs_checked = record {
     runs = runs_on s items roots S sd at al L opening done rest t w c h rests;
-    apart = apart;
+    apart = apart s N schema_is.0 S.repos rests.tx q.fresh run_it.0 the_run undue (whole S t q).writes (gave s items roots S sd at al L opening done rest t w c h rests).writes;
     fits = fits_behind s N schema_is.0 S.repos rests.tx q.fresh run_it.0 the_run (whole S t q).writes undue (gave s items roots S sd at al L opening done rest t w c h rests).writes;
   }

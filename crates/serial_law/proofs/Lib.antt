@@ -3,3 +3,4 @@ pub mod Changes
 pub mod Checked
 pub mod Serial
 pub mod Resting
+pub mod Reopening

@@ -9,11 +9,12 @@ ghost use Rattle.class_defs.specs.declared.store.Schemas.{Schemas};
 ghost use Rattle.commit_log.specs.declared.entry.Entry.{Entry};
 ghost use Rattle.commit_log.specs.declared.request.Kind.{Kind};
 ghost use Rattle.local_history.specs.History.{Known};
+ghost use Rattle.serial_law.specs.Reopening.{IsReopening};
 ghost use Rattle.serial_law.specs.Resting.{AreChecked, AreHere, EachIsTx, EachRests, IsOpening, OpeningFits, RestsAs};
 ghost use Rattle.serial_law.specs.WholeHistory.{stored_map, whole_history};
 ghost use Rattle.serial_model.specs.History.{IsLegal, after};
 ghost use Rattle.serial_model.specs.declared.entries.What.{What};
-ghost use Rattle.std.specs.Prelude.{List, [], ℕ, ◌≡◌};
+ghost use Rattle.std.specs.Prelude.{List, [], ℕ, ◌<◌, ◌≡◌};
 ghost use Rattle.stored_histories.specs.Standing.{MapFits};
 ghost use Rattle.thor_value.specs.declared.names.Ts.{Ts};
 ghost use Rattle.thor_value.specs.declared.values.Who.{Who};
@@ -53,6 +54,23 @@ pub fn histories_are_serial()
         → AreSound S → IsAtomic S → Alike S → EachRests s items roots S
         → IsOpening S L → AreHere S L → OpeningFits s roots L → AreChecked s items roots S.repos
         → MapFits s (stored_map roots (behind L (commits S).pairs)) }
+{}
+
+/// The next opening. What the repositories have together, once each has finished what has committed, is what the
+/// commits left. So the store that it stands for is the store behind the whole history, and it fits: a run that begins
+/// with it begins where this one ended.
+pub fn the_next_opening_goes_on()
+    ensures joined { (S : Several) → (L N : Joined) → AreSound S → IsAtomic S → Alike S
+        → IsOpening S L → AreHere S L → 0 < S.repos → IsReopening S N → N ≡ behind L (commits S).pairs }
+    ensures store { (s : Schemas) → (items : Who → What) → (roots : List Root) → (S : Several) → (L N : Joined)
+        → AreSound S → IsAtomic S → Alike S → EachRests s items roots S
+        → IsOpening S L → AreHere S L → OpeningFits s roots L → AreChecked s items roots S.repos
+        → 0 < S.repos → IsReopening S N
+        → eager s (stored_map roots N) ≡ after s (whole_history items S) (eager s (stored_map roots L)) }
+    ensures fits { (s : Schemas) → (items : Who → What) → (roots : List Root) → (S : Several) → (L N : Joined)
+        → AreSound S → IsAtomic S → Alike S → EachRests s items roots S
+        → IsOpening S L → AreHere S L → OpeningFits s roots L → AreChecked s items roots S.repos
+        → 0 < S.repos → IsReopening S N → MapFits s (stored_map roots N) }
 {}
 
 /// What a transaction rests on stays, whatever comes, from when each participant has prepared it. So it is owed once, where

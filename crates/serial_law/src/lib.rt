@@ -5,5 +5,6 @@
 mod laws;
 
 pub use laws::{
-    histories_are_serial, histories_without_upgrades_are_serial, what_is_rested_on_stays,
+    histories_are_serial, histories_without_upgrades_are_serial, the_next_opening_goes_on,
+    what_is_rested_on_stays,
 };

@@ -30,6 +30,3 @@ pub use replaying::{ReplayError, replay};
 pub use running::{run_on, run_on_current};
 pub use taking::{Taken, names_taken};
 pub use upgrading::upgrade_store;
-
-#[cfg(test)]
-mod tests;

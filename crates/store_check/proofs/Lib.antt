@@ -1,0 +1,11 @@
+pub mod Chains
+pub mod Doubling
+pub mod Fields
+pub mod Least
+pub mod Noting
+pub mod Numbered
+pub mod Summing
+pub mod Tested
+pub mod Verdict
+pub mod Walks
+pub mod Whole

@@ -1,0 +1,6 @@
+pub mod Fits
+pub mod Naming
+pub mod Numbers
+pub mod Reached
+pub mod Tests
+pub mod Ways

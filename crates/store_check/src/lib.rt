@@ -1,10 +1,13 @@
-//! Whether what is stored is a store: the schemas that its texts spell, whether its objects fit them, and the
-//! store that they stand for.
+//! Whether what is stored is a store: the schemas that its texts spell, and whether its objects fit them.
 #![tactic(auto)]
 
 mod fitting;
-mod owners;
+mod kinds;
+mod laws;
+mod naming;
 mod schemas;
+mod ways;
 
 pub use fitting::{Fitting, fits};
+pub use laws::maps_fit_by_names;
 pub use schemas::{Texts, is_lawful, schemas_of};

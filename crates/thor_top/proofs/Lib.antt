@@ -1,3 +1,4 @@
 pub mod KeptLaws
+pub mod PromiseLaws
 pub mod BaseLaws
 pub mod TopLaws

@@ -1,5 +1,6 @@
 pub mod Kept
 pub mod Opening
+pub mod Promises
 pub mod Reports
 pub mod Statuses
 pub mod Texts

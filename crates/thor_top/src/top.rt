@@ -1,9 +1,9 @@
-ghost use Rattle.std.specs.Prelude.{◌≡◌, ◌≤◌, List, None, Some, IfOk, IfSome, length, vec_len};
+ghost use Rattle.std.specs.Prelude.{◌≡◌, ◌≤◌, ◌⊎◌, ◌++◌, ◌∷◌, [], List, None, Some, IfOk, IfSome, codes, length, vec_len, ℕ};
 ghost use Rattle.std.specs.String.{string_bytes};
 ghost use Rattle.cluster_core.specs.Counts.{HasParts, parts_in};
 ghost use Rattle.cluster_core.specs.Same.{AreSame};
 ghost use Rattle.command_words.specs.Words.{plan_of};
-ghost use Rattle.command_words.specs.declared.command.Command.TheVariants.{Check};
+ghost use Rattle.command_words.specs.declared.command.Command.TheVariants.{Check, Gen, Play};
 ghost use Rattle.command_words.specs.declared.command.Plan.{Plan};
 ghost use Rattle.generator.specs.Bank.{script_text};
 ghost use Rattle.outside.specs.Faults.{Rose};
@@ -12,7 +12,9 @@ ghost use Rattle.script_parse.specs.Script.{HasFew};
 ghost use Rattle.serial_model.specs.Replays.{AreMade};
 ghost use Rattle.thor_top.specs.Kept.{Refuses, RefusesBy, WritesNothing};
 ghost use Rattle.thor_top.specs.Opening.{IsAccepted, IsBase};
-ghost use Rattle.thor_top.specs.Top.{IsOverLimit, IsWithinLimits, Says, SaysOf, SaysRead, Tells, TellsOf, Wrote};
+ghost use Rattle.outside.specs.Streams.{Put};
+ghost use Rattle.thor_top.specs.Promises.{AreNoWords, HasTold, IsFront, IsPlanned, IsTooLong, OnAnswer, Reads, SaysDisk, SaysLimit, SaysOk, SaysReport, SaysRule, SaysSummary};
+ghost use Rattle.thor_top.specs.Top.{IsOverLimit, IsPlan, IsWithinLimits, Says, SaysOf, SaysRead, Tells, TellsOf, Wrote};
 
 use crate::answered::{Answered, unplayed, untouched};
 use crate::form::Form;
@@ -319,28 +321,19 @@ fn answer<S: Source, P: Parts>(
     }
 }
 
-/// The program: reads a script from the source, does with it what the words ask for, on the parts of as many
-/// repositories, and writes the answer to the sink.
-///
-/// `check` tells whether the script breaks a rule, and `play` runs it. `gen` runs the generated script of a number
-/// without reading the source, and writes a summary. The text that is written ends in a newline. The parts come
-/// back in every case. A check leaves their disks as they were, and so does what refuses words, script or store.
+/// Answers the words, and writes the answer to the sink.
 #[tactic(auto, using(crate::proofs::TopLaws::says_fault))]
-pub fn thor<S: Source, K: Sink, P: Parts>(
+fn answer_and_write<S: Source, K: Sink, P: Parts>(
     alloc: Global,
     words: &[Text],
     source: &mut S,
     sink: &mut K,
     parts: Vec<P>,
 ) -> Outcome<P>
-    // The sink took the report of one serial history, or what else the status says.
     ensures wrote { Wrote words.now (vec_len parts) (record { left = S.left source.old; faults = S.faults source.old }) (record { left = S.left source.new; faults = S.faults source.new }) (K.taken sink.old) (K.taken sink.new) result.status }
-    // A fault of the source or of the sink is one that was counted.
     ensures source_fault { result.status ≡ Status.SourceFault → Rose (S.faults source.old) (S.faults source.new) }
     ensures sink_fault { result.status ≡ Status.SinkFault → Rose (K.faults sink.old) (K.faults sink.new) }
-    // No part is lost.
     ensures parts { vec_len result.parts ≡ vec_len parts }
-    // Where something is refused, and after any check, the disks have what they had.
     ensures refused { Refuses result.status → AreSame P.disks parts.items result.parts.items }
     ensures checked { (plan : Plan) → plan_of words.now ≡ Some plan → plan.command ≡ Check → AreSame P.disks parts.items result.parts.items }
 {
@@ -361,4 +354,51 @@ pub fn thor<S: Source, K: Sink, P: Parts>(
         parts,
         traces,
     }
+}
+
+/// The program: reads a script from the source, does with it what the words ask for, on the parts of as many
+/// repositories, and writes the answer to the sink.
+///
+/// `check` tells whether the script breaks a rule, and `play` runs it. `gen` runs the generated script of a number
+/// without reading the source, and writes a summary. The text that is written ends in a newline. The parts come
+/// back in every case. A check leaves their disks as they were, and so does what refuses words, script or store.
+pub fn thor<S: Source, K: Sink, P: Parts>(
+    alloc: Global,
+    words: &[Text],
+    source: &mut S,
+    sink: &mut K,
+    parts: Vec<P>,
+) -> Outcome<P>
+    // But for wrong words, a failed sink and want of memory, the words are a plan.
+    ensures planned { IsPlanned words.now (vec_len parts) result.status }
+    // Status 0 and 1 of `play`: the sink took the report of one serial history of the script.
+    ensures report { (plan : Plan) → IsPlan words.now (vec_len parts) plan → plan.command ≡ Play → OnAnswer (λ finished. HasTold plan (record { left = S.left source.old; faults = S.faults source.old }) (record { left = S.left source.new; faults = S.faults source.new }) (K.taken sink.old) (K.taken sink.new) (SaysReport plan finished)) result.status }
+    // Of `gen`: the summary of one of the generated script.
+    ensures summary { (plan : Plan) (n : ℕ) → IsPlan words.now (vec_len parts) plan → plan.command ≡ Gen n → OnAnswer (λ finished. HasTold plan (record { left = S.left source.old; faults = S.faults source.old }) (record { left = S.left source.new; faults = S.faults source.new }) (K.taken sink.old) (K.taken sink.new) (SaysSummary plan finished)) result.status }
+    // Of `check`: the script breaks no rule.
+    ensures ok { (plan : Plan) → IsPlan words.now (vec_len parts) plan → plan.command ≡ Check → OnAnswer (λ finished. HasTold plan (record { left = S.left source.old; faults = S.faults source.old }) (record { left = S.left source.new; faults = S.faults source.new }) (K.taken sink.old) (K.taken sink.new) (SaysOk plan finished)) result.status }
+    // The bytes are no script, or the script is refused.
+    ensures rule { (plan : Plan) → IsPlan words.now (vec_len parts) plan → result.status ≡ Status.Script → HasTold plan (record { left = S.left source.old; faults = S.faults source.old }) (record { left = S.left source.new; faults = S.faults source.new }) (K.taken sink.old) (K.taken sink.new) (SaysRule plan) }
+    // A limit is passed.
+    ensures limit { (plan : Plan) → IsPlan words.now (vec_len parts) plan → result.status ≡ Status.Limit → HasTold plan (record { left = S.left source.old; faults = S.faults source.old }) (record { left = S.left source.new; faults = S.faults source.new }) (K.taken sink.old) (K.taken sink.new) SaysLimit ⊎ (Reads plan.command × IsTooLong (record { left = S.left source.old; faults = S.faults source.old }) (K.taken sink.old) (K.taken sink.new)) }
+    // A disk failed while the store was opened, or has bytes that are no store's.
+    ensures disk { (plan : Plan) → IsPlan words.now (vec_len parts) plan → result.status ≡ Status.DiskFault → HasTold plan (record { left = S.left source.old; faults = S.faults source.old }) (record { left = S.left source.new; faults = S.faults source.new }) (K.taken sink.old) (K.taken sink.new) (SaysDisk Status.DiskFault) }
+    ensures damage { (plan : Plan) → IsPlan words.now (vec_len parts) plan → result.status ≡ Status.Damaged → HasTold plan (record { left = S.left source.old; faults = S.faults source.old }) (record { left = S.left source.new; faults = S.faults source.new }) (K.taken sink.old) (K.taken sink.new) (SaysDisk Status.Damaged) }
+    // The words are no plan.
+    ensures words { result.status ≡ Status.Words → AreNoWords words.now (vec_len parts) (record { left = S.left source.old; faults = S.faults source.old }) (record { left = S.left source.new; faults = S.faults source.new }) (K.taken sink.old) (K.taken sink.new) }
+    // The source failed, which it counted.
+    ensures source { result.status ≡ Status.SourceFault → Put (K.taken sink.old) (codes "source" ++ 10 ∷ []) (K.taken sink.new) }
+    ensures source_fault { result.status ≡ Status.SourceFault → Rose (S.faults source.old) (S.faults source.new) }
+    // The sink failed, which it counted, behind a front of what would have been right.
+    ensures front { result.status ≡ Status.SinkFault → IsFront words.now (vec_len parts) (record { left = S.left source.old; faults = S.faults source.old }) (record { left = S.left source.new; faults = S.faults source.new }) (K.taken sink.old) (K.taken sink.new) }
+    ensures sink_fault { result.status ≡ Status.SinkFault → Rose (K.faults sink.old) (K.faults sink.new) }
+    // Memory ran out.
+    ensures nothing { result.status ≡ Status.NoMemory → K.taken sink.new ≡ K.taken sink.old }
+    // No part is lost.
+    ensures parts { vec_len result.parts ≡ vec_len parts }
+    // Where something is refused, and after any check, the disks have what they had.
+    ensures refused { Refuses result.status → AreSame P.disks parts.items result.parts.items }
+    ensures checked { (plan : Plan) → plan_of words.now ≡ Some plan → plan.command ≡ Check → AreSame P.disks parts.items result.parts.items }
+{
+    answer_and_write(alloc, words, source, sink, parts)
 }

@@ -1,4 +1,6 @@
 mod Apart
+mod Behind
+mod Decided
 mod Entering
 mod Marking
 mod Meeting

@@ -1,10 +1,10 @@
 -- What stands against a request, by the transactions in a queue: backward validation in timestamp
 -- order, with the checks against undecided transactions and against later ones. (Adya and others,
 -- SIGMOD 1995; the threshold, the limit and the order of the checks are this project's.)
-use Rattle.std.specs.List.{fold}
+use Rattle.std.specs.List.{AllByRecursion, fold}
 use Rattle.std.specs.Option.{option_map, option_or}
 use Rattle.std.specs.Ordering.{is_lt}
-use Rattle.std.specs.Prelude.{Bool, Err, List, None, Ok, Option, Result, Some, [], cond, find, is_none, not, ◌&&◌, ◌||◌, ◌∷◌}
+use Rattle.std.specs.Prelude.{Bool, Err, List, None, Ok, Option, Result, Some, [], cond, false, find, is_none, not, ◌&&◌, ◌||◌, ◌∷◌, ◌≡◌}
 use Rattle.thor_value.specs.FiniteMap.{keys}
 use Rattle.thor_value.specs.Names.{later_of, ts_cmp}
 use Rattle.thor_value.specs.declared.names.Oref.{Oref}
@@ -43,6 +43,10 @@ meets_at written m x = is_among m.written x || (is_among written x && is_among m
 -- a transaction above tx wrote what tx read, or read what tx wrote, which is among what tx read
 abbrev pub comes_later : Ts → List Oref → List Oref → Ts × Member → Option Clash
 comes_later tx read written e = cond (is_before tx e.0) (option_map (clashes.Later e.0) (find (meets_at written e.1) read)) None
+
+-- t isn't before any of the members
+abbrev pub IsBehindAll : Ts → List (Ts × Member) → Type 0
+IsBehindAll t members = AllByRecursion (λ e. is_before t e.0 ≡ false) members
 
 -- there is no room, and no transaction that may leave
 abbrev pub full : Contents → Option Clash

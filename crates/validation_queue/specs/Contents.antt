@@ -3,7 +3,7 @@
 use Rattle.std.specs.BTreeMap.{BTreeMap}
 use Rattle.std.specs.Map.{keys_of}
 use Rattle.std.specs.Option.{option_map}
-use Rattle.std.specs.Prelude.{Bool, List, None, Option, Some, cond, false, find, nat_le, not, true, ℕ}
+use Rattle.std.specs.Prelude.{Bool, List, None, Option, Some, cond, false, find, length, nat_le, not, true, ℕ, ◌≡◌, ◌≤◌}
 use Rattle.thor_value.specs.FiniteMap.{Map, empty, get, insert, len, remove}
 use Rattle.thor_value.specs.Names.{later_of, ts_cmp}
 use Rattle.thor_value.specs.declared.names.Oref.{Oref}
@@ -53,6 +53,11 @@ is_blocking upgrade m = cond m.decided false (cond upgrade true m.upgrade)
 -- the least of those
 abbrev pub first_blocking : Contents → Bool → Option Ts
 first_blocking Q upgrade = option_map (λ e. e.0) (find (λ e. is_blocking upgrade e.1) Q.members.pairs)
+
+-- What a queue keeps of its members: there is room for them, and where it says that all are decided, they are.
+pub record IsKept (all_decided : Bool) (members : List (Ts × Member)) : Type 0 where
+  pub within : length members ≤ room_for
+  pub decided : all_decided ≡ true → find (λ e. not e.1.decided) members ≡ None
 
 -- the members of a tree
 abbrev pub members_of : BTreeMap Ts Member → Map ts_cmp Member

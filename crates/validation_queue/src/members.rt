@@ -1,13 +1,14 @@
 //! The members of a queue, and how one more comes in.
 
-ghost use Rattle.std.specs.Prelude.{◌≡◌, ◌+◌, None, IfOk, IfSome, IsSome, OnErr, OnOk, cond, false, is_some};
+ghost use Rattle.std.specs.Prelude.{◌≡◌, ◌+◌, None, IfOk, IfSome, IsSome, OnErr, OnOk, cond, false, is_some, true};
 ghost use Rattle.std.specs.BTreeMap.{btree_map_len};
 ghost use Rattle.std.specs.Map.{keys_of};
 ghost use Rattle.thor_value.specs.FiniteMap.{get, has, insert};
+ghost use Rattle.validation_queue.specs.Clashes.{IsBehindAll};
 ghost use Rattle.validation_queue.specs.Contents.{members_of, omit, raise};
 ghost use Rattle.validation_queue.specs.Names.{Rises};
 
-use crate::clashes::later_of;
+use crate::clashes::{is_before, later_of};
 use crate::member::Member;
 use crate::name_set::NameSet;
 use std::alloc::Global;
@@ -44,6 +45,24 @@ pub fn raised(threshold: Ts, leaving: Option<Ts>) -> Ts
     match leaving {
         Some(tx) => later_of(threshold, tx),
         None => threshold,
+    }
+}
+
+/// Whether all are still decided where one more comes in.
+pub fn stay_decided(all_decided: bool, decided: bool) -> bool
+    ensures { result ≡ cond all_decided decided false }
+{
+    all_decided && decided
+}
+
+/// Whether the transaction is above every member. It looks at the greatest alone.
+#[tactic(auto, using(crate::proofs::Behind::behind_all, crate::proofs::Behind::behind_none))]
+pub fn is_behind_all(members: &Members, tx: Ts) -> bool
+    ensures { result ≡ true → IsBehindAll tx members.now.entries }
+{
+    match members.last_key_value() {
+        Some((last, _)) => is_before(*last, tx),
+        None => true,
     }
 }
 

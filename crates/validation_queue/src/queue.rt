@@ -1,19 +1,19 @@
 ghost use Rattle.std.specs.Prelude.{◌≡◌, ◌<◌, ◌≤◌, OnOk, OnErr, false, is_none};
 ghost use Rattle.thor_value.specs.FiniteMap.{has, len};
-ghost use Rattle.validation_queue.specs.Names.{IsInOrder};
+ghost use Rattle.validation_queue.specs.Names.{IsInOrder, Rises};
 ghost use Rattle.std.specs.Map.{keys_of};
-ghost use Rattle.validation_queue.specs.Clashes.{answer, bar, clash, full};
+ghost use Rattle.validation_queue.specs.Clashes.{answer, bar, clash, comes_earlier, comes_later, first_some, full};
 ghost use Rattle.validation_queue.specs.Contents.{cleared, decide, enter, first_blocking, first_undecided, leaving, room_for, transaction, with_one};
 
 use crate::clash::Clash;
 use crate::clashes::{
     first_blocking, first_decided, first_earlier, first_later, first_undecided, greatest, is_before,
 };
-use crate::members::{Members, member_of, raised, replace};
+use crate::members::{Members, is_behind_all, member_of, raised, replace, stay_decided};
 use std::alloc::Global;
 use std::collections::BTreeMap;
 use std::marker::Model;
-use thor_value::{NoMemory, Orefs, Ts, Writes};
+use thor_value::{NoMemory, Obj, Oref, Orefs, Ts, Writes};
 
 /// How many transactions a queue has room for.
 const LIMIT: u32 = 1_024;
@@ -25,18 +25,19 @@ const LIMIT: u32 = 1_024;
 pub struct Queue {
     threshold: Ts,
     members: Members,
+    /// Where `true`, no transaction in the queue is undecided.
+    all_decided: bool,
     alloc: Global,
 }
 
 impl Model for Queue {
-    ghost use Rattle.std.specs.Prelude.{length, ◌≤◌};
-    ghost use Rattle.validation_queue.specs.Contents.{Contents, members_of, room_for};
+    ghost use Rattle.validation_queue.specs.Contents.{Contents, IsKept, members_of};
 
     ghost Value = { Contents };
 
     ghost view = { λ q. record { threshold = q.threshold; members = members_of q.members } };
 
-    ghost invariant = { λ q. length q.members.entries ≤ room_for };
+    ghost invariant = { λ q. IsKept q.all_decided q.members.entries };
 }
 
 impl Queue {
@@ -47,6 +48,7 @@ impl Queue {
         Ok(Queue {
             threshold,
             members: BTreeMap::new(alloc),
+            all_decided: true,
             alloc,
         })
     }
@@ -82,9 +84,13 @@ impl Queue {
 
     /// The least transaction that has to be decided before a request can be accepted: an undecided
     /// upgrade, and for an upgrade's request any undecided transaction.
+    #[tactic(auto, using(crate::proofs::Decided::none_blocking))]
     pub fn blocking(&self, upgrade: bool) -> Option<Ts>
         ensures { result ≡ first_blocking self.now upgrade }
     {
+        if self.all_decided {
+            return None;
+        }
         first_blocking(&self.members, upgrade)
     }
 
@@ -93,7 +99,7 @@ impl Queue {
     /// each with the least transaction and then the least name.
     ///
     /// It looks at the transactions in the queue alone, of which there are at most 1,024, and takes no
-    /// memory.
+    /// memory. Where all of them are decided and the transaction is above them, it looks at one.
     pub fn validate(&self, tx: Ts, upgrade: bool, ros: &Orefs, writes: &Writes) -> Result<(), Clash>
         requires { IsInOrder ros.now (keys_of writes.now) }
         ensures { result ≡ answer (clash self.now (transaction tx upgrade ros.now writes.now)) }
@@ -102,10 +108,10 @@ impl Queue {
         if !is_before(threshold, tx) {
             return Err(Clash::TooOld { threshold });
         }
-        if let Some(clash) = first_earlier(&self.members, tx, ros.as_slice()) {
+        if let Some(clash) = self.earlier(tx, ros.as_slice()) {
             return Err(clash);
         }
-        if let Some(clash) = first_later(&self.members, tx, ros.as_slice(), writes.as_slice()) {
+        if let Some(clash) = self.later(tx, ros.as_slice(), writes.as_slice()) {
             return Err(clash);
         }
         if self.has_room() {
@@ -113,6 +119,30 @@ impl Queue {
         } else {
             Err(Clash::Full { limit: LIMIT })
         }
+    }
+
+    /// The clash with the least undecided transaction that is earlier.
+    #[tactic(auto, using(crate::proofs::Decided::none_earlier))]
+    fn earlier(&self, tx: Ts, ros: &[Oref]) -> Option<Clash>
+        requires { Rises ros.now }
+        ensures { result ≡ first_some (comes_earlier tx ros.now) self.now.members.pairs }
+    {
+        if self.all_decided {
+            return None;
+        }
+        first_earlier(&self.members, tx, ros)
+    }
+
+    /// The clash with the least transaction that is later.
+    #[tactic(auto, using(crate::proofs::Behind::none_later))]
+    fn later(&self, tx: Ts, ros: &[Oref], writes: &[(Oref, Obj)]) -> Option<Clash>
+        requires { IsInOrder ros.now (keys_of writes.now) }
+        ensures { result ≡ first_some (comes_later tx ros.now (keys_of writes.now)) self.now.members.pairs }
+    {
+        if is_behind_all(&self.members, tx) {
+            return None;
+        }
+        first_later(&self.members, tx, ros, writes)
     }
 
     /// Puts a transaction that was found to be acceptable into the queue. Where there is no room, the
@@ -143,6 +173,7 @@ impl Queue {
         )?;
         replace(&mut self.members, leaving, tx, member)?;
         self.threshold = raised(self.threshold, leaving);
+        self.all_decided = stay_decided(self.all_decided, decided);
         Ok(())
     }
 
@@ -168,6 +199,7 @@ impl Queue {
             writes.as_slice(),
             false,
         )?;
+        self.all_decided = false;
         replace(&mut self.members, None, tx, member)
     }
 
@@ -176,6 +208,15 @@ impl Queue {
     pub fn decide(&mut self, tx: Ts, commit: bool)
         ensures { self.new ≡ decide self.old tx commit }
     {
+        self.settle(tx, commit);
+        self.look_for_undecided();
+    }
+
+    /// Does so, and doesn't look whether others are undecided.
+    fn settle(&mut self, tx: Ts, commit: bool)
+        ensures { self.new ≡ decide self.old tx commit }
+    {
+        self.all_decided = false;
         if commit {
             if let Some(member) = self.members.get_mut(&tx) {
                 member.decided = true;
@@ -185,12 +226,20 @@ impl Queue {
         }
     }
 
+    /// Looks whether a transaction is undecided.
+    fn look_for_undecided(&mut self)
+        ensures { self.new ≡ self.old }
+    {
+        self.all_decided = first_undecided(&self.members).is_none();
+    }
+
     /// Takes all transactions out: the threshold stands for them, as after the commit of an upgrade. It
     /// takes no memory.
     pub fn clear(&mut self, threshold: Ts)
         ensures { self.new ≡ cleared threshold }
     {
         self.members.clear();
+        self.all_decided = true;
         self.threshold = threshold;
     }
 

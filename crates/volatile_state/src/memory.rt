@@ -7,7 +7,8 @@ ghost use Rattle.message_outbox.specs.declared.message.Message.TheVariants.{Gran
 ghost use Rattle.page_format.specs.Pages.{page_bytes};
 ghost use Rattle.validation_queue.specs.Clashes.{clash};
 ghost use Rattle.validation_queue.specs.Names.{IsInOrder};
-ghost use Rattle.thor_value.specs.FiniteMap.{has};
+ghost use Rattle.thor_value.specs.FiniteMap.{add, empty, has};
+ghost use Rattle.validation_queue.specs.Contents.{cleared};
 ghost use Rattle.volatile_state.specs.Volatile.{begun, entered, is_upgrade_kind, knows, stands_at, transaction_of};
 
 use commit_log::{Kind, Request};
@@ -42,7 +43,11 @@ impl Model for Memory {
 
 impl Memory {
     /// No transaction came above this threshold, and no session has begun.
-    pub fn new(alloc: Global, threshold: Ts) -> Result<Memory, NoMemory> {
+    pub fn new(alloc: Global, threshold: Ts) -> Result<Memory, NoMemory>
+        ensures queue { IfOk result (λ memory. memory.queue ≡ cleared threshold) }
+        ensures requested { IfOk result (λ memory. memory.requested ≡ empty) }
+        ensures drawn { IfOk result (λ memory. memory.drawn ≡ threshold.time) }
+    {
         Ok(Memory {
             queue: Queue::new(alloc, threshold)?,
             sessions: Sessions::new(alloc)?,
@@ -148,6 +153,7 @@ impl Memory {
 
     /// A transaction came, as a restart learns.
     pub fn note(&mut self, tx: Ts) -> Result<(), NoMemory>
+        ensures requested { OnOk result (self.new.requested ≡ add self.old.requested tx) }
         ensures sessions { self.new.sessions ≡ self.old.sessions }
         ensures queue { self.new.queue ≡ self.old.queue }
         ensures drawn { self.new.drawn ≡ self.old.drawn }

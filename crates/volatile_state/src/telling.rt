@@ -1,6 +1,10 @@
 //! What decisions do, and what an earlier life left.
 
-ghost use Rattle.std.specs.Prelude.{◌≡◌};
+ghost use Rattle.std.specs.Prelude.{◌≡◌, OnOk, cond, false, true};
+ghost use Rattle.thor_value.specs.FiniteMap.{has};
+ghost use Rattle.validation_queue.specs.Contents.{cleared, decide, with_one};
+ghost use Rattle.volatile_state.specs.Telling.{CommitTold};
+ghost use Rattle.volatile_state.specs.Volatile.{is_upgrade_kind, transaction_of};
 ghost use Rattle.live_sessions.specs.Sessions.{IsTold};
 
 use crate::memory::{Memory, is_upgrade};
@@ -16,8 +20,10 @@ impl Memory {
     /// all transactions.
     pub fn tell(&mut self, request: &Request, number: u32, place: u64) -> Result<(), NoMemory>
         ensures told { IsTold self.old.sessions self.new.sessions }
+        ensures queue { self.new.queue ≡ cond (is_upgrade_kind request.now.kind) (cleared request.now.tx) self.old.queue }
         ensures requested { self.new.requested ≡ self.old.requested }
         ensures drawn { self.new.drawn ≡ self.old.drawn }
+        ensures news { OnOk result (CommitTold self.old.sessions self.new.sessions request.now number place) }
     {
         match &request.kind {
             Kind::App | Kind::Transform => {
@@ -34,6 +40,7 @@ impl Memory {
     /// A prepared transaction is decided. One that an earlier opening left is none of the queue's: where it
     /// commits, the threshold stands for it.
     pub fn decide(&mut self, tx: Ts, commit: bool)
+        ensures member { has self.old.queue.members tx ≡ true → self.new ≡ record self.old { queue = decide self.old.queue tx commit } }
         ensures sessions { self.new.sessions ≡ self.old.sessions }
         ensures requested { self.new.requested ≡ self.old.requested }
     {
@@ -57,6 +64,8 @@ impl Memory {
     /// Puts a request that stays undecided into the queue, where it came since the opening. Want of memory, too,
     /// where there is no room for it, which no history comes to.
     pub fn load(&mut self, request: &Request) -> Result<(), NoMemory>
+        ensures loaded { OnOk result (self.new.queue ≡ cond (has self.old.requested request.now.tx) (with_one self.old.queue (transaction_of request.now) false) self.old.queue) }
+        ensures new { OnOk result (has self.old.requested request.now.tx ≡ true → has self.old.queue.members request.now.tx ≡ false) }
         ensures sessions { self.new.sessions ≡ self.old.sessions }
         ensures requested { self.new.requested ≡ self.old.requested }
         ensures drawn { self.new.drawn ≡ self.old.drawn }

@@ -33,17 +33,17 @@ use Rattle.whole_histories.specs.Whole.{Commit, whole}
 
 -- ---- the upgrades of a list
 
-abbrev Key : Type 0
+abbrev pub Key : Type 0
 Key = Ts × Kind
 
-abbrev Earlier : Key → Key → Type 0
+abbrev pub Earlier : Key → Key → Type 0
 Earlier j k = Before j.0 k.0
 
-ups : Es → List Key
+pub ups : Es → List Key
 ups [] = []
 ups (e ∷ es) = cond (is_upgrade e.1) ((e.0, e.1.kind) ∷ ups es) (ups es)
 
-in-ups : (es : Es) (e : Commit) → In e es → is_upgrade e.1 ≡ true → In (e.0, e.1.kind) (ups es)
+pub in-ups : (es : Es) (e : Commit) → In e es → is_upgrade e.1 ≡ true → In (e.0, e.1.kind) (ups es)
 unfolding ups
 in-ups [] e i up = absurd i
 in-ups (f ∷ fs) e i up = by (is_upgrade f.1) refl (λ j. in-ups fs e j up) i
@@ -54,7 +54,7 @@ in-ups (f ∷ fs) e i up = by (is_upgrade f.1) refl (λ j. in-ups fs e j up) i
     by false h more (inl is) = let k : is_upgrade f.1 ≡ true = ap (λ (g : Commit). is_upgrade g.1) is ∙ up in cc
     by false h more (inr j) = more j
 
-of-ups : (es : Es) (k : Key) → In k (ups es) → (e : Commit) × In e es × (is_upgrade e.1 ≡ true) × ((e.0, e.1.kind) ≡ k)
+pub of-ups : (es : Es) (k : Key) → In k (ups es) → (e : Commit) × In e es × (is_upgrade e.1 ≡ true) × ((e.0, e.1.kind) ≡ k)
 unfolding ups
 of-ups [] k i = absurd i
 of-ups (f ∷ fs) k i = by (is_upgrade f.1) refl (λ j. of-ups fs k j) i
@@ -64,10 +64,10 @@ of-ups (f ∷ fs) k i = by (is_upgrade f.1) refl (λ j. of-ups fs k j) i
     by true h more (inr j) = let g = more j in (g.0, inr g.1, g.2, g.3)
     by false h more j = let g = more j in (g.0, inr g.1, g.2, g.3)
 
-abbrev UpgradesRise : Commit → Commit → Type 0
+abbrev pub UpgradesRise : Commit → Commit → Type 0
 UpgradesRise e f = is_upgrade e.1 ≡ true → is_upgrade f.1 ≡ true → Before e.0 f.0
 
-ups-rise : (es : Es) → AllLater UpgradesRise es → AllLater Earlier (ups es)
+pub ups-rise : (es : Es) → AllLater UpgradesRise es → AllLater Earlier (ups es)
 unfolding ups
 ups-rise [] h = tt
 ups-rise (f ∷ fs) h = by (is_upgrade f.1) refl (ups-rise fs h.1)
@@ -79,12 +79,12 @@ ups-rise (f ∷ fs) h = by (is_upgrade f.1) refl (ups-rise fs h.1)
     )
     by false e more = more
 
-rising-ups : (es : Es) → Rising es → AllLater UpgradesRise es
+pub rising-ups : (es : Es) → Rising es → AllLater UpgradesRise es
 rising-ups [] h = tt
 rising-ups (e ∷ es) h = ((λ f i x y. after-all e.0 es f h.0 i), rising-ups es h.1)
 
 -- two rising lists with the same members are one
-same-lists : (xs ys : List Key) → AllLater Earlier xs → AllLater Earlier ys → ((k : Key) → In k xs → In k ys) → ((k : Key) → In k ys → In k xs) → xs ≡ ys
+pub same-lists : (xs ys : List Key) → AllLater Earlier xs → AllLater Earlier ys → ((k : Key) → In k xs → In k ys) → ((k : Key) → In k ys → In k xs) → xs ≡ ys
 same-lists [] [] p q f g = refl
 same-lists [] (y ∷ ys) p q f g = absurd (g y (inl refl))
 same-lists (x ∷ xs) [] p q f g = absurd (f x (inl refl))
@@ -107,7 +107,7 @@ same-lists (x ∷ xs) (y ∷ ys) p q f g = ap (λ k. k ∷ xs) first ∙ ap (λ 
     back k i (inr j) = j
 
 -- the texts are those of the upgrades
-texts-ups : (ts : List (List ℕ)) (es : Es) → texts_after ts es ≡ fold (λ us k. us ++ text_of k.1) ts (ups es)
+pub texts-ups : (ts : List (List ℕ)) (es : Es) → texts_after ts es ≡ fold (λ us k. us ++ text_of k.1) ts (ups es)
 unfolding ups
 texts-ups ts [] = refl
 texts-ups ts (e ∷ es) = by e.1.kind (λ us. texts-ups us es)
@@ -118,30 +118,64 @@ texts-ups ts (e ∷ es) = by e.1.kind (λ us. texts-ups us es)
     by (Upgrade text) more = more (ts ++ text ∷ [])
 
 -- commits by places, as transactions
-as-pairs : List (ℕ × Request) → Es
+pub as-pairs : List (ℕ × Request) → Es
 as-pairs [] = []
 as-pairs (c ∷ cs) = (c.1.tx, c.1) ∷ as-pairs cs
 
-in-pairs : (cs : List (ℕ × Request)) (c : ℕ × Request) → In c cs → In (c.1.tx, c.1) (as-pairs cs)
+pub in-pairs : (cs : List (ℕ × Request)) (c : ℕ × Request) → In c cs → In (c.1.tx, c.1) (as-pairs cs)
 unfolding as-pairs
 in-pairs [] c i = absurd i
 in-pairs (d ∷ ds) c (inl e) = inl (ap (λ (b : ℕ × Request). (b.1.tx, b.1)) e)
 in-pairs (d ∷ ds) c (inr i) = inr (in-pairs ds c i)
 
-of-pairs : (cs : List (ℕ × Request)) (e : Commit) → In e (as-pairs cs) → (c : ℕ × Request) × In c cs × ((c.1.tx, c.1) ≡ e)
+pub of-pairs : (cs : List (ℕ × Request)) (e : Commit) → In e (as-pairs cs) → (c : ℕ × Request) × In c cs × ((c.1.tx, c.1) ≡ e)
 unfolding as-pairs
 of-pairs [] e i = absurd i
 of-pairs (d ∷ ds) e (inl is) = (d, inl refl, is)
 of-pairs (d ∷ ds) e (inr i) = let k = of-pairs ds e i in (k.0, inr k.1, k.2)
 
-texts-pairs : (ts : List (List ℕ)) (cs : List (ℕ × Request)) → with_texts ts cs ≡ texts_after ts (as-pairs cs)
+pub texts-pairs : (ts : List (List ℕ)) (cs : List (ℕ × Request)) → with_texts ts cs ≡ texts_after ts (as-pairs cs)
 unfolding as-pairs
 texts-pairs ts [] = refl
 texts-pairs ts (c ∷ cs) = texts-pairs (ts ++ text_of c.1.kind) cs
 
-there-and : {X : Type 0} (P : X → Type 0) (o : Option X) → IsSomeAnd o P → (x : X) × (o ≡ Some x) × P x
+pub there-and : {X : Type 0} (P : X → Type 0) (o : Option X) → IsSomeAnd o P → (x : X) × (o ≡ Some x) × P x
 there-and P None h = absurd h
 there-and P (Some x) h = (x, refl, h)
+
+-- commits of a repository, each of which stands so
+module _ (S : Several) (sd : AreSound S) (r : ℕ) (cs : List (ℕ × Request))
+    (stood : (d : ℕ × Request) → In d cs → (v : Known) × (part S r d.1.tx ≡ Some v) × (v.request ≡ d.1) × (v.fate ≡ Committed d.0)) where
+  -- upgrades come in the order of their timestamps
+  rise : (a d : ℕ × Request) → In a cs → In d cs → a.0 < d.0 → UpgradesRise (a.1.tx, a.1) (d.1.tx, d.1)
+  rise a d i j l ua ud =
+      let x = stood a i in
+      let y = stood d j in
+      let v : Known = x.0 in
+      let w : Known = y.0 in
+      let n : ℕ = a.0 in
+      let m : ℕ = d.0 in
+      elim (in_order a.1.tx d.1.tx) [
+        | inl before ↦ before
+        | inr (inl same) ↦
+            let one : v ≡ w = same_Some v w (sym (subst (λ (t : Ts). part S r t ≡ Some v) same x.1) ∙ y.1) in
+            let g : Committed n ≡ Committed m = sym x.3 ∙ ap (λ (z : Known). z.fate) one ∙ y.3 in
+            let h : n ≡ m = cc in
+            absurd (omega (arith, l))
+        | inr (inr behind) ↦
+            let fence : CommittedBelow v.place w.fate = ((upgrades_fence (S.base r) (S.history r) (sd.each r)).after d.1.tx a.1.tx w v (record { upgrade = y.1; is = ap is_upgrade y.2 ∙ ud; there = x.1; other = λ k. not_same d.1.tx a.1.tx behind (sym k); upgrade_lives = subst Lives (sym y.3) tt; other_lives = subst Lives (sym x.3) tt })).0 behind in
+            let low : m < v.place = committed_at v.place m w.fate y.3 fence in
+            let k : v.place ≤ n = (fits_at v.place (length (S.history r)) n v.fate x.3 (fits (S.base r) (S.history r) (sd.each r) a.1.tx v x.1).fate).0 in
+            absurd (omega (arith, l))
+      ]
+
+  pub pairs-rise : (ds : List (ℕ × Request)) → ((d : ℕ × Request) → In d ds → In d cs) → AllLater (λ (a d : ℕ × Request). a.0 < d.0) ds → AllLater UpgradesRise (as-pairs ds)
+  unfolding as-pairs
+  pairs-rise [] sub h = tt
+  pairs-rise (a ∷ ds) sub h = (
+    (λ f i. let d = of-pairs ds f i in subst (UpgradesRise (a.1.tx, a.1)) d.2 (rise a d.0 (sub a (inl refl)) (sub d.0 (inr d.1)) (h.0 d.0 d.1))),
+    pairs-rise ds (λ d i. sub d (inr i)) h.1,
+  )
 
 module _ (S : Several) (at : IsAtomic S) (sd : AreSound S) (al : Alike S)
     (done rest : Es) (e : Commit) (c : Lists S (done ++ e ∷ rest)) (r : ℕ) (o : Known) (is : part S r e.0 ≡ Some o) where
@@ -210,42 +244,11 @@ module _ (S : Several) (at : IsAtomic S) (sd : AreSound S) (al : Alike S)
           let k : o.place ≤ m = (fits_at o.place (length (S.history r)) m o.fate g (fits (S.base r) (S.history r) (sd.each r) e.0 o is).fate).0 in
           omega arith
 
-  -- upgrades come in the order of their timestamps
-  rise : (a d : ℕ × Request) → In a below → In d below → a.0 < d.0 → UpgradesRise (a.1.tx, a.1) (d.1.tx, d.1)
-  rise a d i j l ua ud =
-      let x = stood a i in
-      let y = stood d j in
-      let v : Known = x.0 in
-      let w : Known = y.0 in
-      let n : ℕ = a.0 in
-      let m : ℕ = d.0 in
-      elim (in_order a.1.tx d.1.tx) [
-        | inl before ↦ before
-        | inr (inl same) ↦
-            let one : v ≡ w = same_Some v w (sym (subst (λ (t : Ts). part S r t ≡ Some v) same x.1) ∙ y.1) in
-            let g : Committed n ≡ Committed m = sym x.3 ∙ ap (λ (z : Known). z.fate) one ∙ y.3 in
-            let h : n ≡ m = cc in
-            absurd (omega (arith, l))
-        | inr (inr behind) ↦
-            let fence : CommittedBelow v.place w.fate = ((upgrades_fence (S.base r) (S.history r) (sd.each r)).after d.1.tx a.1.tx w v (record { upgrade = y.1; is = ap is_upgrade y.2 ∙ ud; there = x.1; other = λ k. not_same d.1.tx a.1.tx behind (sym k); upgrade_lives = subst Lives (sym y.3) tt; other_lives = subst Lives (sym x.3) tt })).0 behind in
-            let low : m < v.place = committed_at v.place m w.fate y.3 fence in
-            let k : v.place ≤ n = (fits_at v.place (length (S.history r)) n v.fate x.3 (fits (S.base r) (S.history r) (sd.each r) a.1.tx v x.1).fate).0 in
-            absurd (omega (arith, l))
-      ]
-
-  pairs-rise : (cs : List (ℕ × Request)) → ((d : ℕ × Request) → In d cs → In d below) → AllLater (λ (a d : ℕ × Request). a.0 < d.0) cs → AllLater UpgradesRise (as-pairs cs)
-  unfolding as-pairs
-  pairs-rise [] sub h = tt
-  pairs-rise (a ∷ cs) sub h = (
-    (λ f i. let d = of-pairs cs f i in subst (UpgradesRise (a.1.tx, a.1)) d.2 (rise a d.0 (sub a (inl refl)) (sub d.0 (inr d.1)) (h.0 d.0 d.1))),
-    pairs-rise cs (λ d i. sub d (inr i)) h.1,
-  )
-
   below-rise : AllLater (λ (a d : ℕ × Request). a.0 < d.0) below
   below-rise = from-pairs (λ (a d : ℕ × Request). a.0 < d.0) below ((commits_listed (S.base r) (take o.place (S.history r)) (sound_take (S.base r) o.place (S.history r) (sd.each r))).rise)
 
   same-ups : ups (as-pairs below) ≡ ups done
-  same-ups = same-lists (ups (as-pairs below)) (ups done) (ups-rise (as-pairs below) (pairs-rise below (λ d i. i) below-rise)) (ups-rise done (rising-ups done (rising-front done (e ∷ rest) c.rise))) back forth
+  same-ups = same-lists (ups (as-pairs below)) (ups done) (ups-rise (as-pairs below) (pairs-rise S sd r below (λ d i. let k = stood d i in (k.0, k.1, k.2, k.3)) below (λ d i. i) below-rise)) (ups-rise done (rising-ups done (rising-front done (e ∷ rest) c.rise))) back forth
 
   texts : (state (S.base r) (take o.place (S.history r))).texts ≡ texts_after (S.base r).texts done
   texts =

@@ -7,3 +7,4 @@ pub mod Fresh
 pub mod Epochs
 pub mod Serial
 pub mod Staying
+pub mod EndTexts

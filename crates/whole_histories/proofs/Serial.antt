@@ -1,9 +1,9 @@
 -- The commits as one serial history: each meets, at its turn, all that it met at its places.
-use Rattle.atomic_histories.specs.Several.{Alike, AreSound, HasCommitted, IsAtomic, Several, part}
+use Rattle.atomic_histories.specs.Several.{Alike, AreSound, IsAtomic, Several, part}
 use Rattle.commit_log.specs.declared.request.Request.{Request}
 use Rattle.local_history.specs.History.{Known, objects_at, state}
 use Rattle.local_history.specs.Requests.{has_read}
-use Rattle.std.proofs.Common.{Bool, List, [], ap, append_assoc, inl, refl, subst, sym, take, true, ℕ, ◌++◌, ◌<◌, ◌≡◌, ◌∙◌, ◌∷◌}
+use Rattle.std.proofs.Common.{Bool, [], ap, append_assoc, refl, subst, sym, take, true, ℕ, ◌++◌, ◌<◌, ◌≡◌, ◌∙◌, ◌∷◌}
 use Rattle.std.proofs.lemmas.List.Sums.{fold-append}
 use Rattle.std.specs.Prelude.{Some}
 use Rattle.thor_value.specs.FiniteMap.{get}

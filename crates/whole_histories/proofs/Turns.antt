@@ -7,7 +7,7 @@ use Rattle.local_history.proofs.Meeting.{in_order, not_same}
 use Rattle.local_history.specs.History.{Aborted, Committed, CommittedBelow, Fate, IsCommitted, Known, Lives, Open, known_by, objects_at}
 use Rattle.local_history.specs.Laws.{LastWrote, NoneWrote, ReadsObject, WritesObject}
 use Rattle.local_history.specs.Requests.{has_read, has_written, written}
-use Rattle.std.proofs.Common.{Bool, List, [], ap, arith, false, inl, inr, refl, subst, sym, true, ℕ, ◌++◌, ◌<◌, ◌≡◌, ◌≢◌, ◌≤◌, ◌∙◌, ◌∷◌}
+use Rattle.std.proofs.Common.{Bool, List, ap, arith, false, inl, inr, refl, subst, sym, true, ℕ, ◌++◌, ◌<◌, ◌≡◌, ◌≢◌, ◌≤◌, ◌∙◌, ◌∷◌}
 use Rattle.std.specs.Prelude.{None, Option, Some, is_some, ◌⊎◌, ◌↔◌}
 use Rattle.thor_value.specs.FiniteMap.{get}
 use Rattle.thor_value.specs.Names.{Before}
@@ -16,7 +16,7 @@ use Rattle.thor_value.specs.declared.names.Ts.{Ts}
 use Rattle.thor_value.specs.declared.values.Obj.{Obj}
 use Rattle.whole_histories.proofs.Lists.{Es, In, Lists, here, in-all, in-front, is-front, last-wrote, none-wrote, put_at, rising-front, there-put}
 use Rattle.whole_histories.specs.Turns.{ReadAt, WritersAgree}
-use Rattle.whole_histories.specs.Whole.{Commit, Objects, stored, whole, writes_in}
+use Rattle.whole_histories.specs.Whole.{Commit, stored, whole, writes_in}
 
 abbrev pub part_writes : Several → ℕ → Commit → List (Oref × Obj)
 part_writes S r f = writes_in (part S r f.0)

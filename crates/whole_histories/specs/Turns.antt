@@ -5,12 +5,12 @@ use Rattle.local_history.specs.History.{CommittedBelow, Known, objects_at, state
 use Rattle.local_history.specs.Participants.{takes_part}
 use Rattle.local_history.specs.Requests.{has_created, has_read, has_written, is_upgrade, text_of}
 use Rattle.std.specs.List.{fold}
-use Rattle.std.specs.Prelude.{List, None, Some, length, take, true, ℕ, ◌++◌, ◌∷◌, ◌≡◌, ◌≢◌, ◌↔◌}
+use Rattle.std.specs.Prelude.{List, None, Some, length, take, true, ℕ, ◌++◌, ◌<◌, ◌∷◌, ◌≡◌, ◌≢◌, ◌↔◌}
 use Rattle.thor_value.specs.FiniteMap.{get}
 use Rattle.thor_value.specs.Names.{Before}
 use Rattle.thor_value.specs.declared.names.Oref.{Oref}
 use Rattle.thor_value.specs.declared.names.Ts.{Ts}
-use Rattle.whole_histories.specs.Whole.{Commit, commits, finished, stored}
+use Rattle.whole_histories.specs.Whole.{Commit, commits, finished, finished_texts, stored}
 
 -- the committed transaction t, which stands at r as o, read x there
 pub record ReadAt (S : Several) (r : ℕ) (t : Ts) (o : Known) (x : Oref) : Type 0 where
@@ -58,6 +58,10 @@ EpochAtTurn S = (done : List Commit) (e : Commit) → IsTurn S done e → (r : �
 -- are undecided there: those that the next opening settles.
 abbrev pub JoinedAtEnd : Several → Type 0
 JoinedAtEnd S = (r : ℕ) (x : Oref) → get (stored S (commits S).pairs r) x ≡ get (finished S (commits S).pairs r) x
+
+-- The same of the upgrades.
+abbrev pub TextsAtEnd : Several → Type 0
+TextsAtEnd S = (r : ℕ) → r < S.repos → texts_after (S.base r).texts (commits S).pairs ≡ finished_texts S (commits S).pairs r
 
 -- Each participant of t has prepared it.
 pub record IsPrepared (S : Several) (t : Ts) (w : Known) : Type 0 where

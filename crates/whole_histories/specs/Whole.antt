@@ -3,8 +3,9 @@
 use Rattle.atomic_histories.specs.Several.{HasCommitted, Several, committed, part}
 use Rattle.commit_log.specs.declared.request.Request.{Request}
 use Rattle.local_history.specs.History.{Known, is_open, state}
+use Rattle.local_history.specs.Requests.{text_of}
 use Rattle.std.specs.List.{flat_map, fold, range_with_len}
-use Rattle.std.specs.Prelude.{List, None, Option, Some, [], cond, nat_eq, ℕ, ◌&&◌, ◌∷◌, ◌≡◌}
+use Rattle.std.specs.Prelude.{List, None, Option, Some, [], cond, nat_eq, ℕ, ◌&&◌, ◌++◌, ◌∷◌, ◌≡◌}
 use Rattle.thor_value.specs.FiniteMap.{IsSorted, Map, empty, get, overwrite}
 use Rattle.thor_value.specs.Names.{oref_cmp, ts_cmp}
 use Rattle.thor_value.specs.declared.names.Oref.{Oref}
@@ -74,3 +75,11 @@ open_writes_in (Some o) = cond (is_open o.fate) o.request.writes []
 -- undecided at r
 abbrev pub finished : Several → List Commit → ℕ → Objects
 finished S es r = fold (λ m e. overwrite m (open_writes_in (part S r e.0))) (state (S.base r) (S.history r)).objects es
+
+abbrev pub open_text_in : Option Known → List (List ℕ)
+open_text_in None = []
+open_text_in (Some o) = cond (is_open o.fate) (text_of o.request.kind) []
+
+-- the texts of the upgrades that the history of r comes to, with those of these transactions that are undecided at r
+abbrev pub finished_texts : Several → List Commit → ℕ → List (List ℕ)
+finished_texts S es r = fold (λ us e. us ++ open_text_in (part S r e.0)) (state (S.base r) (S.history r)).texts es

@@ -5,9 +5,10 @@ ghost use Rattle.atomic_histories.specs.AcrossExamples.{abroad, at, box, crossin
 ghost use Rattle.atomic_histories.specs.AtomicTest.{is_agreed, is_everywhere, is_given_up, is_known_there};
 ghost use Rattle.local_history.specs.Checking.{is_sound};
 ghost use Rattle.local_history.specs.History.{objects_at, state};
-ghost use Rattle.std.specs.Prelude.{Some, [], ◌&&◌, ◌≡◌, ◌∷◌, take, true};
+ghost use Rattle.std.specs.Map.{keys_of};
+ghost use Rattle.std.specs.Prelude.{Some, [], ◌&&◌, ◌≡◌, ◌∷◌, false, option_map, slice_get, take, true};
 ghost use Rattle.thor_value.specs.FiniteMap.{get, keys};
-ghost use Rattle.whole_histories.specs.Examples.{box_in, text, upgraded};
+ghost use Rattle.whole_histories.specs.Examples.{blind, box_in, halved, text, upgraded, upgraded_in_part};
 ghost use Rattle.whole_histories.specs.Serial.{behind};
 ghost use Rattle.whole_histories.specs.Turns.{texts_after};
 ghost use Rattle.whole_histories.specs.Whole.{commits, finished, stored};
@@ -51,4 +52,23 @@ pub fn commits_with_an_upgrade()
     ensures z { get (stored upgraded (commits upgraded).pairs 1) z ≡ Some (box_in 1 9) }
     ensures finished { get (finished upgraded (commits upgraded).pairs 1) z ≡ Some (box_in 1 9) }
     ensures history { get (state (upgraded.base 1) (upgraded.history 1)).objects z ≡ Some (box 0) }
+{}
+
+/// What goes wrong where a history isn't sound. Where writers needn't read, of two writers that come against their
+/// timestamps the history keeps one and the commits leave the other. Where one that names other participants may commit
+/// alone, what it would have written there is missing. Where an upgrade needn't be everywhere, a transaction behind it
+/// met none.
+pub fn unsound_commits()
+    ensures blind { is_sound (blind.base 0) (blind.history 0) ≡ false }
+    ensures blind_commits { keys (commits blind) ≡ at 5 ∷ at 9 ∷ at 10 ∷ [] }
+    ensures blind_met { get (objects_at (blind.base 0) (blind.history 0) 3) x ≡ Some (box 5) }
+    ensures blind_left { get (stored blind (take 2 (commits blind).pairs) 0) x ≡ Some (box 9) }
+    ensures halved { is_sound (halved.base 0) (halved.history 0) ≡ false }
+    ensures halved_rest { (is_known_there halved && is_agreed halved && is_given_up halved) ≡ true }
+    ensures halved_everywhere { is_everywhere halved ≡ false }
+    ensures halved_writes { option_map (λ e. keys_of e.1.writes) (slice_get (commits halved).pairs 0) ≡ Some (x ∷ []) }
+    ensures upgraded { is_sound (upgraded_in_part.base 0) (upgraded_in_part.history 0) ≡ false }
+    ensures upgraded_commits { keys (commits upgraded_in_part) ≡ at 2 ∷ abroad 3 ∷ [] }
+    ensures upgraded_met { (state (upgraded_in_part.base 1) (take 1 (upgraded_in_part.history 1))).texts ≡ [] }
+    ensures upgraded_left { texts_after [] (take 1 (commits upgraded_in_part).pairs) ≡ text ∷ [] }
 {}

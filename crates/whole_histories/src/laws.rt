@@ -8,7 +8,7 @@ ghost use Rattle.local_history.specs.History.{Known};
 ghost use Rattle.std.specs.Prelude.{Bool, List, ℕ, ◌≡◌};
 ghost use Rattle.thor_value.specs.declared.names.Ts.{Ts};
 ghost use Rattle.whole_histories.specs.Serial.{AllRest, BeganWith, HasMet, IsSerial, Joined, Joins, bases, behind};
-ghost use Rattle.whole_histories.specs.Turns.{EpochAtTurn, FreshAtTurn, IsPrepared, JoinedAtEnd, JoinedAtTurn, UpgradesAgree, WritersAgree, texts_after};
+ghost use Rattle.whole_histories.specs.Turns.{EpochAtTurn, FreshAtTurn, IsPrepared, JoinedAtEnd, JoinedAtTurn, TextsAtEnd, UpgradesAgree, WritersAgree, texts_after};
 ghost use Rattle.whole_histories.specs.Whole.{AreTheCommits, Commit, commits, stored, whole};
 
 /// The commits that are computed are all that have committed, each as a whole, by rising timestamps.
@@ -45,6 +45,11 @@ pub fn epochs_are_joined()
 /// What all commits leave is what the repositories come to once they have finished what has committed.
 pub fn repositories_come_to_commits()
     ensures { (S : Several) → AreSound S → IsAtomic S → JoinedAtEnd S }
+{}
+
+/// So do the upgrades: those that a repository has installed, with those that have committed and are undecided there.
+pub fn repositories_come_to_upgrades()
+    ensures { (S : Several) → AreSound S → IsAtomic S → Alike S → TextsAtEnd S }
 {}
 
 /// The commits of several repositories are one serial history by rising timestamps, from all that was opened,

@@ -1,6 +1,7 @@
 use Rattle.std.proofs.Common.{◌≡◌}
 use Rattle.repo_core.proofs.writing.load_open.Given as goal
+use Rattle.repository_laws.specs.Coming.{ReopensTo}
 
--- no session begins or ends
+-- the requests up to one are in the queue where they stay undecided, and no session begins or ends
 abbrev pub invariant-loop : goal.invariant-loop
-invariant-loop l = l.memory.sessions ≡ l.fn.memory.sessions
+invariant-loop l = record { sessions : l.memory.sessions ≡ l.fn.memory.sessions; to : ReopensTo l.repo l.table l.fn.memory l.memory l.after }

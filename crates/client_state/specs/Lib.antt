@@ -1,0 +1,4 @@
+pub mod Causes
+pub mod Learning
+pub mod Links
+pub mod Taking

@@ -1,0 +1,36 @@
+-- What a client makes of a message that it has taken (this project's).
+use Rattle.client_cache.specs.Copies.{kept}
+use Rattle.client_cache.specs.Pages.{on, page_of, same_name, same_page}
+use Rattle.client_cache.specs.Placing.{IsObjectPage, IsPageOf}
+use Rattle.client_cache.specs.Copies.{Contents}
+use Rattle.client_state.specs.Links.{acknowledged, answered, at_repo}
+use Rattle.client_state.specs.declared.link.Link.{Link}
+use Rattle.message_outbox.specs.declared.message.Message.TheVariants.{Grant, Invalid, Page, Upgrade}
+use Rattle.message_outbox.specs.declared.message.Message.{Message}
+use Rattle.std.specs.List.{list_any}
+use Rattle.std.specs.Prelude.{List, None, Option, Result, Err, Ok, Some, cond, min, ℕ, ◌+◌, ◌-◌, ◌^◌, ◌≡◌}
+use Rattle.thor_value.specs.declared.names.Oref.{Oref}
+use Rattle.thor_value.specs.declared.values.Obj.{Obj}
+use Rattle.validation_window.specs.declared.refusal.Refusal.{Refusal}
+
+-- the place behind the entry at a place
+abbrev pub behind : ℕ → ℕ
+behind place = min (place + 1) (2 ^ 64 - 1)
+
+-- The link behind a message. What a page shows ends below its place; what names objects, or an upgrade, is the entry
+-- at its place.
+abbrev pub took : Message → Link → Link
+took (Page page bytes place) link = answered (acknowledged place link)
+took (Grant page place) link = answered (acknowledged place link)
+took (Invalid names place) link = acknowledged (behind place) link
+took (Upgrade number text place) link = acknowledged (behind place) link
+
+-- the links behind a call that takes a message: they change by a message that came, and by nothing else
+abbrev pub links_behind : Result (Option Message) Refusal → ℕ → List Link → List Link
+links_behind (Ok None) repo links = links
+links_behind (Ok (Some message)) repo links = at_repo links repo (took message)
+links_behind (Err refusal) repo links = links
+
+-- no copy is left of these objects, and all others stay
+abbrev pub Without : List Oref → Contents → Contents → Type 0
+Without names old new = (x : Oref) → kept new x ≡ cond (list_any (λ y. same_name y x) names) None (kept old x)

@@ -1,0 +1,83 @@
+//! How an evaluation and a transform go on over what is held.
+
+use crate::held::Held;
+use crate::transaction::Transaction;
+use crate::transform::Transform;
+use class_defs::Schema;
+use item_progress::Opened;
+use lazy_transform::{Wanted, wants};
+use method_eval::Ran;
+use paused_eval::Paused;
+use thor_value::{Answer, NoMemory, Oref, Orefs, Writes};
+use upgrade_eval::schema_at;
+
+/// The schema of an epoch; the first one where the store has none for it.
+fn schema_of(opened: &Opened, epoch: u32) -> &Schema {
+    match schema_at(&opened.schemas, epoch) {
+        Some(schema) => schema,
+        None => &opened.schemas.first,
+    }
+}
+
+impl Held {
+    /// Evaluates as far as the copies allow.
+    pub fn evaluate(&mut self, opened: &Opened, run: &mut Paused) -> Result<Ran, NoMemory> {
+        let epoch = self.epoch(opened);
+        let schema = schema_of(opened, epoch);
+        run.go(schema, epoch, &mut self.cache, &mut self.names)
+    }
+
+    /// The transaction of an evaluation that has ended. What a fault has changed is given up.
+    pub fn evaluated(
+        &mut self,
+        opened: &Opened,
+        answer: Answer,
+        reads: Orefs,
+        writes: Writes,
+        fresh: Orefs,
+    ) -> Result<Transaction, NoMemory> {
+        if let Answer::Fault(_) = &answer {
+            self.undo();
+        }
+        Transaction::evaluated(answer, self.epoch(opened), reads, writes, fresh)
+    }
+
+    /// Looks at the parts that a transform wants and that are held. It answers all that it reads, or the
+    /// first part that isn't held.
+    pub fn collect(
+        &mut self,
+        opened: &Opened,
+        transform: &mut Transform,
+    ) -> Result<Wanted, NoMemory> {
+        for _ in 0..u64::MAX {
+            let epoch = transform.parts.epoch;
+            match wants(
+                self.alloc,
+                &transform.obj,
+                &opened.schemas,
+                epoch,
+                &transform.parts,
+            )? {
+                Wanted::All(reads) => return Ok(Wanted::All(reads)),
+                Wanted::Part(part) => {
+                    if !self.look_at(transform, part)? {
+                        return Ok(Wanted::Part(part));
+                    }
+                }
+            }
+        }
+        Err(NoMemory)
+    }
+
+    /// Looks at a part, where it is held, and answers whether it is.
+    fn look_at(&mut self, transform: &mut Transform, part: Oref) -> Result<bool, NoMemory> {
+        match self.copy_of(part)? {
+            Some(obj) => {
+                self.cache.bring_forward(part);
+                transform.parts.objects.insert(part, obj)?;
+                Ok(true)
+            }
+            None => Ok(false),
+        }
+    }
+}

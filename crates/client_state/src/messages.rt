@@ -1,0 +1,72 @@
+//! How messages are taken, and what they make of the copies.
+
+ghost use Rattle.client_state.specs.Links.{at_repo};
+ghost use Rattle.client_state.specs.Taking.{Without, behind, links_behind, took};
+ghost use Rattle.std.specs.Prelude.{◌≡◌};
+
+use crate::held::Held;
+use crate::link::Link;
+use message_outbox::{At, Message};
+use port::Port;
+use thor_value::Orefs;
+use validation_window::Refusal;
+
+/// The place behind the entry at a place.
+fn behind(place: u64) -> u64
+    ensures { result ≡ behind place }
+{
+    place.saturating_add(1)
+}
+
+impl Link {
+    /// A message was taken in the session.
+    fn take(&mut self, message: &Message)
+        ensures { self.new ≡ took message.now self.old }
+    {
+        match message {
+            Message::Page { place, .. } | Message::Grant { place, .. } => {
+                self.acknowledge(*place);
+                self.answer();
+            }
+            Message::Invalid { place, .. } | Message::Upgrade { place, .. } => {
+                self.acknowledge(behind(*place));
+            }
+        }
+    }
+}
+
+impl Held {
+    /// Takes the oldest message of a session. A message that came is acknowledged behind it; where none
+    /// came nothing changes. A reply is outstanding no more once it has come.
+    pub fn receive<Q: Port>(&mut self, port: &mut Q, at: At) -> Result<Option<Message>, Refusal>
+        ensures links { self.new.links.items ≡ links_behind result at.repo self.old.links.items }
+        ensures rest { self.new ≡ record self.old { links = self.new.links } }
+    {
+        match port.receive(at) {
+            Ok(Some(message)) => {
+                self.note_taken(at.repo, &message);
+                Ok(Some(message))
+            }
+            Ok(None) => Ok(None),
+            Err(refusal) => Err(refusal),
+        }
+    }
+
+    /// A message of a repository was taken.
+    fn note_taken(&mut self, repo: u8, message: &Message)
+        ensures links { self.new.links.items ≡ at_repo self.old.links.items repo (took message.now) }
+        ensures rest { self.new ≡ record self.old { links = self.new.links } }
+    {
+        if let Some(link) = self.links.get_mut(usize::from(repo)) {
+            link.take(message);
+        }
+    }
+
+    /// Objects were written by others: their copies are dropped, and no others.
+    pub fn drop_copies(&mut self, orefs: &Orefs)
+        ensures copies { Without orefs.now self.old.cache.cache self.new.cache.cache }
+        ensures links { self.new.links ≡ self.old.links }
+    {
+        self.cache.invalidate(orefs);
+    }
+}

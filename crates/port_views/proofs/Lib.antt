@@ -1,0 +1,4 @@
+pub mod Agreed
+pub mod Grown
+pub mod Judged
+pub mod Meeting

@@ -1,0 +1,40 @@
+-- What calls ask of their client, and what the seen traces of several repositories keep together.
+use Rattle.atomic_histories.specs.Several.{Alike, IsAtomic, Several}
+use Rattle.call_naming.specs.Justified.{KindIsJustified}
+use Rattle.call_naming.specs.declared.calls.CallKind.{CallKind}
+use Rattle.commit_log.specs.declared.request.Request.{Request}
+use Rattle.local_history.specs.History.{state}
+use Rattle.local_history.specs.Sound.{Vouches}
+use Rattle.port_views.specs.Views.{View}
+use Rattle.session_outbox.specs.Gaps.{client_in}
+use Rattle.session_outbox.specs.Trace.{entries}
+use Rattle.std.specs.Prelude.{Some, length, ℕ, ◌<◌, ◌≡◌, ◌≤◌}
+
+-- the histories that are seen
+abbrev pub seen_histories : View → Several
+seen_histories port = record { repos = port.opened.repos; base = port.opened.base; history = λ r. entries (port.seen r) }
+
+-- What is seen is so as two-phase commit keeps it.
+pub record AreSeenTogether (port : View) : Type 0 where
+  pub atomic : IsAtomic (seen_histories port)
+  pub alike : Alike (seen_histories port)
+
+-- the session s of the repository r is the client's
+abbrev pub IsOwnSession : View → ℕ → ℕ → Type 0
+IsOwnSession port r s = client_in (port.opened.base r) (port.seen r) s ≡ Some port.opened.client
+
+-- the repository is there, and what is seen justifies a call of this kind on it
+pub record MayCall (port : View) (r : ℕ) (kind : CallKind) : Type 0 where
+  pub there : r < port.opened.repos
+  pub shown : KindIsJustified port.seen port.opened.client r kind
+
+-- no place is acknowledged that isn't there
+abbrev pub MayFetch : View → ℕ → ℕ → Type 0
+MayFetch port r upto = upto ≤ length (entries (port.seen r))
+
+-- Its sender vouches for the request q of the session s, and its client knows no place that isn't there.
+pub record MaySend (port : View) (r s : ℕ) (q : Request) : Type 0 where
+  pub session : q.session ≡ s
+  pub own : IsOwnSession port r s
+  pub upto : q.upto ≤ length (entries (port.seen r))
+  pub vouched : Vouches (port.opened.base r) (state (port.opened.base r) (entries (port.seen r))) q

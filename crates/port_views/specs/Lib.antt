@@ -1,0 +1,5 @@
+pub mod Conditions
+pub mod Growing
+pub mod Plain
+pub mod Views
+pub mod Works

@@ -1,0 +1,31 @@
+-- What a port tells proofs: the repositories that it reaches, as far as its client has seen them.
+use Rattle.commit_log.specs.declared.entry.Entry.{Entry}
+use Rattle.local_history.specs.History.{Base}
+use Rattle.session_outbox.specs.Trace.{Item}
+use Rattle.std.specs.Prelude.{Bool, List, ℕ}
+
+-- What may still come of a client's own call that stopped.
+pub data Unsettled : Type 0 where
+  -- nothing
+  Calm : Unsettled
+  -- the entry of the call that stopped; the repository is down
+  MayCome : Entry → Unsettled
+  -- that entry has come, and a Life has still to come
+  Came : Unsettled
+
+-- What no call changes.
+pub record Opened : Type 0 where
+  -- the client whose port it is
+  pub client : ℕ
+  -- whether nobody else acts while the port is lent
+  pub alone : Bool
+  -- how many repositories there are, and what each of them was opened with
+  pub repos : ℕ
+  pub base : ℕ → Base
+
+pub record View : Type 0 where
+  pub opened : Opened
+  -- the front of each repository's trace that the client has seen
+  pub seen : ℕ → List Item
+  -- what may still come at the present end of each trace
+  pub unsettled : ℕ → Unsettled

@@ -1,0 +1,7 @@
+//! What a client sees of its repositories through a port, and what each call of a port promises. It is definitions
+//! and laws, with a plain repository that keeps each promise.
+#![tactic(auto)]
+
+mod laws;
+
+pub use laws::{growth_composes, kept_sessions_keep_promises, plain_calls_keep_their_promises};

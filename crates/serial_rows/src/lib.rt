@@ -1,0 +1,6 @@
+//! A small whole run of two repositories that meets what the serial law asks for, and what the law says of it.
+#![tactic(auto)]
+
+mod rows;
+
+pub use rows::{a_run_is_serial, a_run_meets_the_premises};

@@ -1,0 +1,18 @@
+-- What sessions are told of the commit of a request.
+use Rattle.commit_log.specs.declared.request.Kind.TheVariants.{App, Transform, Upgrade}
+use Rattle.commit_log.specs.declared.request.Kind.{Kind}
+use Rattle.commit_log.specs.declared.request.Request.{Request}
+use Rattle.live_sessions.specs.Sessions.{Kept}
+use Rattle.live_sessions.specs.Telling.{UpgradeTold, WritesTold}
+use Rattle.std.specs.Map.{keys_of}
+use Rattle.std.specs.Prelude.{ℕ}
+
+-- the commit of a request of this kind
+abbrev pub KindTold : Kept → Kept → Request → ℕ → ℕ → Kind → Type 0
+KindTold before after q number k App = WritesTold before after q.session (keys_of q.writes) k
+KindTold before after q number k Transform = WritesTold before after q.session (keys_of q.writes) k
+KindTold before after q number k (Upgrade text) = UpgradeTold before after number text k
+
+-- The commit of q at a place was told. An upgrade has this number.
+abbrev pub CommitTold : Kept → Kept → Request → ℕ → ℕ → Type 0
+CommitTold before after q number k = KindTold before after q number k q.kind
