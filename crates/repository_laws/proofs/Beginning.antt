@@ -44,8 +44,6 @@ module _ (b : Base) (h : Held) (c : CanBegin b h) where
     trace = refl;
     sound = tt;
     settled = c.left;
-    floor = at_most_itself b.top;
-    above = λ t o is. cc;
     forgotten = λ t e. cc;
   }
 

@@ -90,7 +90,7 @@ module _ (b : Base) (r : Recorded) (h : Held) (requested : Set ts_cmp) (t : Ts) 
       by false e = threshold-plain h.threshold q.kind q.tx e ∙ ap (λ u. later_of u q.tx) a.threshold
       by true e =
           let p = found in
-          let top : AtMost S.top t = top-open b r.history a.owed.sound t p.0 (a.owed.above t p.0 p.1) p.1 p.2 (ap is_upgrade p.3 ∙ e) in
+          let top : AtMost S.top t = top-open b r.history a.owed.sound t p.0 (before_at_most b.top t (above_base b r.history a.owed.sound t p.0 p.1)) p.1 p.2 (ap is_upgrade p.3 ∙ e) in
           threshold-upgrade h.threshold q.kind q.tx e ∙ sym (later-second S.top q.tx (subst (AtMost S.top) (sym named) top))
 
   not-forgotten : is_forgotten (trace_of r) t ≡ false

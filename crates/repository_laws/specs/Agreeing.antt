@@ -29,9 +29,6 @@ pub record IsOwed (b : Base) (r : Recorded) : Type 0 where
   pub sound : sound b r.history
   -- of the transactions that earlier runs left prepared none has still to be settled
   pub settled : (t : Ts) → get (state_of b r).left t ≡ None
-  -- no transaction is below those that committed in earlier runs
-  pub floor : AtMost b.top (window b r.history).threshold
-  pub above : (t : Ts) (o : Known) → known_by b r.history t ≡ Some o → AtMost b.top t
   -- a decision that was forgotten had been made here
   pub forgotten : (t : Ts) → is_forgotten (trace_of r) t ≡ true → has (state_of b r).kept t ≡ true
 

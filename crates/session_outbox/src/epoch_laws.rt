@@ -2,15 +2,14 @@
 
 ghost use Rattle.commit_log.specs.declared.entry.Entry.{Entry};
 ghost use Rattle.session_outbox.specs.Epochs.{BringsOldVersions, FencesCount, TellsEpochs, ThresholdsCommit};
-ghost use Rattle.local_history.specs.History.{Base, Known, known_by};
+ghost use Rattle.local_history.specs.History.{Base};
 ghost use Rattle.local_history.specs.Opening.{IsBase};
 ghost use Rattle.session_outbox.specs.Session.{session};
 ghost use Rattle.local_history.specs.Sound.{sound};
 ghost use Rattle.session_outbox.specs.Trace.{Item, entries};
 ghost use Rattle.std.specs.Option.{IfSome};
-ghost use Rattle.std.specs.Prelude.{List, Some, ℕ, ◌≡◌};
-ghost use Rattle.thor_value.specs.Names.{AtMost, Before};
-ghost use Rattle.thor_value.specs.declared.names.Ts.{Ts};
+ghost use Rattle.std.specs.Prelude.{List, ℕ};
+ghost use Rattle.thor_value.specs.Names.{AtMost};
 ghost use Rattle.validation_window.specs.Window.{window};
 
 /// A request's epoch is the base's plus the upgrades before it, by place and by timestamp alike.
@@ -27,9 +26,8 @@ pub fn epochs_are_told()
 {}
 
 /// The window's threshold and the greatest timestamp are those of transactions that committed, or the
-/// base's. So neither the threshold nor a transaction that is known is below what committed in earlier runs.
+/// base's. So the threshold isn't below what committed in earlier runs.
 pub fn thresholds_commit()
     ensures committed { (b : Base) (H : List Entry) → sound b H → ThresholdsCommit b H }
-    ensures base { (b : Base) (H : List Entry) → sound b H → AtMost b.top (window b H).threshold }
-    ensures above { (b : Base) (H : List Entry) → sound b H → (t : Ts) (o : Known) → known_by b H t ≡ Some o → Before b.top t }
+    ensures above { (b : Base) (H : List Entry) → sound b H → AtMost b.top (window b H).threshold }
 {}
