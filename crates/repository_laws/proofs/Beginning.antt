@@ -3,7 +3,6 @@ use Rattle.commit_log.specs.declared.entry.Entry.TheVariants.{Life}
 use Rattle.commit_log.specs.declared.request.Request.{Request}
 use Rattle.held_state.specs.Entering.{entered}
 use Rattle.held_state.specs.declared.held.Held.{Held}
-use Rattle.local_history.proofs.Stamps.{at_most_itself}
 use Rattle.local_history.specs.History.{Base}
 use Rattle.repository_laws.proofs.Entries.{agrees-life}
 use Rattle.repository_laws.proofs.Maps.{sorted-stays}

@@ -1,13 +1,13 @@
 -- When what a repository keeps in memory says what its history says.
 use Rattle.held_state.specs.declared.held.Held.{Held}
-use Rattle.local_history.specs.History.{Base, Known, State, known_by, state}
+use Rattle.local_history.specs.History.{Base, State, state}
 use Rattle.local_history.specs.Sound.{sound}
 use Rattle.repository_laws.specs.Tables.{TableAgrees}
 use Rattle.session_outbox.specs.Calls.{is_forgotten, is_kept, last_drawn, next_page}
 use Rattle.session_outbox.specs.Trace.{IsTrace, Item, items}
-use Rattle.std.specs.Prelude.{List, None, Some, is_some, length, true, ◌+◌, ◌<◌, ◌≡◌, ◌≤◌}
+use Rattle.std.specs.Prelude.{List, None, is_some, length, true, ◌+◌, ◌<◌, ◌≡◌, ◌≤◌}
 use Rattle.thor_value.specs.FiniteMap.{Set, get, has}
-use Rattle.thor_value.specs.Names.{AtMost, ts_cmp}
+use Rattle.thor_value.specs.Names.{ts_cmp}
 use Rattle.thor_value.specs.declared.names.Ts.{Ts}
 use Rattle.trace_record.specs.Recorded.{Recorded}
 use Rattle.two_phase.specs.Contents.{keeps}
