@@ -1,8 +1,10 @@
 //! What the tests of the top call share: a script that is run on repositories in memory.
 
 use disk_trait::{MemParts, TickClock};
-use outside::{MemSink, MemSource};
+use outside::{Gate, MemSink, MemSource};
 use std::alloc::Global;
+use std::sync::Wait;
+use std::thread::Threads;
 use thor_top::{Status, thor};
 use thor_value::{Ints, NoMemory, Text, Texts};
 
@@ -46,13 +48,26 @@ fn texts(alloc: Global, words: &[&[u8]]) -> Result<Texts, NoMemory> {
     Ok(texts)
 }
 
-/// Runs the program. The answer is its status, and what the sink took.
-pub fn run(alloc: Global, asked: &Asked<'_>) -> Result<(Status, Text), NoMemory> {
+/// Runs the program through a gate. The answer is its status, and what the sink took.
+pub fn run<R: Threads + Wait + Sync, G: Gate + Sync>(
+    rt: &R,
+    alloc: Global,
+    gate: &G,
+    asked: &Asked<'_>,
+) -> Result<(Status, Text), NoMemory> {
     let words = texts(alloc, asked.words)?;
     let script = Text::from_slice(alloc, asked.script)?;
     let mut source = MemSource::new(script, Ints::new(alloc));
     let mut sink = MemSink::new(only(alloc, asked.write)?);
     let parts = empty(alloc, asked.repos)?;
-    let outcome = thor(alloc, words.as_slice(), &mut source, &mut sink, parts);
+    let outcome = thor(
+        rt,
+        alloc,
+        words.as_slice(),
+        &mut source,
+        &mut sink,
+        parts,
+        gate,
+    );
     Ok((outcome.status, Text::from_slice(alloc, sink.taken())?))
 }

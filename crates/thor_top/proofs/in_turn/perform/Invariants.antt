@@ -1,6 +1,6 @@
 use Rattle.std.proofs.Common.{◌≡◌}
 use Rattle.cluster_core.specs.Counts.{parts_of}
-use Rattle.thor_top.proofs.playing.perform.Given as goal
+use Rattle.thor_top.proofs.in_turn.perform.Given as goal
 
 -- no part is lost
 abbrev pub invariant-loop-event : goal.invariant-loop-event
