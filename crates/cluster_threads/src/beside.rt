@@ -2,12 +2,11 @@
 
 ghost use Rattle.std.specs.Thread.{IsSend, IsSync};
 
-use crate::client::{Job, play_out};
+use crate::client::{Client, Job, play_out};
 use crate::flushing::{Flusher, flush_when_prompted};
 use crate::locks::Locks;
 use crate::restarts::restart_all;
 use disk_trait::Parts;
-use front_end::FrontEnd;
 use outside::Gate;
 use schedule::Event;
 use std::alloc::Global;
@@ -18,19 +17,26 @@ use thor_value::NoMemory;
 
 /// Has the clients run to their end, and each flusher in a thread of its own meanwhile. A flusher that can't be started
 /// runs here behind the clients, when no prompt comes any more.
-pub(crate) fn beside<'a, R: Threads + Wait + Sync, P: Parts + Send, G: Gate + Sync>(
+pub(crate) fn beside<
+    'a,
+    C: Client<S> + Send,
+    S: Sync,
+    R: Threads + Wait + Sync,
+    P: Parts + Send,
+    G: Gate + Sync,
+>(
     alloc: Global,
     locks: &'a Locks<'a, R, P, G>,
-    jobs: Vec<Job<'a, R, P, G>>,
+    jobs: Vec<Job<'a, C, S, R, P, G>>,
     flushers: Vec<Flusher<'a, R, P, G>>,
     events: &[Event],
-) -> Result<Vec<FrontEnd>, NoMemory> {
+) -> Result<Vec<C>, NoMemory> {
     let rt = locks.rt;
     thread::scope(
         thread::scope_env(),
         rt,
-        |scope| -> Result<Vec<FrontEnd>, NoMemory>
-            requires { IsSync R.row × IsSend P.row × IsSync G.row }
+        |scope| -> Result<Vec<C>, NoMemory>
+            requires { IsSend C.row × IsSync S.row × IsSync R.row × IsSend P.row × IsSync G.row }
         {
             let mut left = Vec::with_capacity(alloc, flushers.len())?;
             for flusher in flushers {
@@ -50,18 +56,25 @@ pub(crate) fn beside<'a, R: Threads + Wait + Sync, P: Parts + Send, G: Gate + Sy
 
 /// Has each client in a thread of its own, and performs the restarts beside them. A client that can't be started runs
 /// here. The clients come back in their order.
-fn run_jobs<'a, R: Threads + Wait + Sync, P: Parts + Send, G: Gate + Sync>(
+fn run_jobs<
+    'a,
+    C: Client<S> + Send,
+    S: Sync,
+    R: Threads + Wait + Sync,
+    P: Parts + Send,
+    G: Gate + Sync,
+>(
     alloc: Global,
     locks: &'a Locks<'a, R, P, G>,
-    jobs: Vec<Job<'a, R, P, G>>,
+    jobs: Vec<Job<'a, C, S, R, P, G>>,
     events: &[Event],
-) -> Result<Vec<FrontEnd>, NoMemory> {
+) -> Result<Vec<C>, NoMemory> {
     let rt = locks.rt;
     thread::scope(
         thread::scope_env(),
         rt,
-        |scope| -> Result<Vec<FrontEnd>, NoMemory>
-            requires { IsSync R.row × IsSend P.row × IsSync G.row }
+        |scope| -> Result<Vec<C>, NoMemory>
+            requires { IsSend C.row × IsSync S.row × IsSync R.row × IsSend P.row × IsSync G.row }
         {
             let mut started = Vec::with_capacity(alloc, jobs.len())?;
             let mut ended = Vec::with_capacity(alloc, jobs.len())?;
@@ -85,10 +98,7 @@ fn run_jobs<'a, R: Threads + Wait + Sync, P: Parts + Send, G: Gate + Sync>(
 }
 
 /// All clients, where none met want of memory.
-fn all_of(
-    alloc: Global,
-    ended: Vec<Result<FrontEnd, NoMemory>>,
-) -> Result<Vec<FrontEnd>, NoMemory> {
+fn all_of<C: Drop>(alloc: Global, ended: Vec<Result<C, NoMemory>>) -> Result<Vec<C>, NoMemory> {
     let mut clients = Vec::with_capacity(alloc, ended.len())?;
     for client in ended {
         clients.push(client?)?;

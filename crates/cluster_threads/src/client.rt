@@ -4,21 +4,34 @@ use crate::locked_port::LockedPort;
 use disk_trait::Parts;
 use front_end::{FrontEnd, Opened, Step};
 use outside::Gate;
+use port::Port;
 use std::sync::Wait;
 use thor_value::NoMemory;
 
+/// A client of an opened store, which goes on by steps.
+pub(crate) trait Client<S>: Drop {
+    /// Takes one step, which makes one call at most.
+    fn step<Q: Port>(&mut self, port: &mut Q, opened: &S) -> Result<Step, NoMemory>;
+}
+
+impl Client<Opened> for FrontEnd {
+    fn step<Q: Port>(&mut self, port: &mut Q, opened: &Opened) -> Result<Step, NoMemory> {
+        FrontEnd::step(self, port, opened)
+    }
+}
+
 /// A client with what it calls.
 #[derive(Drop)]
-pub(crate) struct Job<'a, R: Wait, P: Parts, G: Gate> {
-    pub(crate) client: FrontEnd,
+pub(crate) struct Job<'a, C: Client<S>, S, R: Wait, P: Parts, G: Gate> {
+    pub(crate) client: C,
     pub(crate) port: LockedPort<'a, R, P, G>,
-    pub(crate) opened: &'a Opened,
+    pub(crate) opened: &'a S,
 }
 
 /// Has a client take steps until all its items have ended. What it prompts with goes with its port.
-pub(crate) fn play_out<R: Wait, P: Parts, G: Gate>(
-    job: Job<'_, R, P, G>,
-) -> Result<FrontEnd, NoMemory> {
+pub(crate) fn play_out<C: Client<S>, S, R: Wait, P: Parts, G: Gate>(
+    job: Job<'_, C, S, R, P, G>,
+) -> Result<C, NoMemory> {
     let Job {
         mut client,
         mut port,

@@ -124,7 +124,7 @@ fn jobs_of<'a, R: Wait, P: Parts, G: Gate>(
     opened: &'a Opened,
     clients: Vec<FrontEnd>,
     senders: Vec<Sender<Prompt>>,
-) -> Result<Vec<Job<'a, R, P, G>>, NoMemory> {
+) -> Result<Vec<Job<'a, FrontEnd, Opened, R, P, G>>, NoMemory> {
     let mut jobs = Vec::with_capacity(alloc, clients.len())?;
     for client in clients {
         let port = LockedPort {
