@@ -12,11 +12,18 @@ use thor_value::NoMemory;
 pub(crate) trait Client<S>: Drop {
     /// Takes one step, which makes one call at most.
     fn step<Q: Port>(&mut self, port: &mut Q, opened: &S) -> Result<Step, NoMemory>;
+
+    /// Asks once for each Unknown item.
+    fn last<Q: Port>(&mut self, port: &mut Q, opened: &S) -> Result<(), NoMemory>;
 }
 
 impl Client<Opened> for FrontEnd {
     fn step<Q: Port>(&mut self, port: &mut Q, opened: &Opened) -> Result<Step, NoMemory> {
         FrontEnd::step(self, port, opened)
+    }
+
+    fn last<Q: Port>(&mut self, port: &mut Q, opened: &Opened) -> Result<(), NoMemory> {
+        FrontEnd::last(self, port, opened)
     }
 }
 

@@ -4,7 +4,7 @@ ghost use Rattle.cluster_core.specs.Counts.{parts_of, room_of};
 ghost use Rattle.std.specs.Prelude.{vec_len, ◌≡◌, ◌≤◌};
 
 use crate::beside::beside;
-use crate::client::Job;
+use crate::client::{Client, Job};
 use crate::flushing::Flusher;
 use crate::locked_port::LockedPort;
 use crate::locks::{Locks, lock_all, unlock_all};
@@ -12,7 +12,7 @@ use crate::prompts::{Channels, Prompt, make_channels, others};
 use cluster_core::{Cluster, Emptied, Finished, Seat};
 use crossbeam_channel::{Receiver, Sender};
 use disk_trait::Parts;
-use front_end::{FrontEnd, Opened};
+use front_end::FrontEnd;
 use outside::Gate;
 use schedule::Event;
 use std::alloc::Global;
@@ -72,16 +72,22 @@ fn ended<P: Parts>(
 }
 
 /// Has the clients run on repositories behind locks. The repositories come back.
-fn run_locked<R: Threads + Wait + Sync, P: Parts + Send, G: Gate + Sync>(
+fn run_locked<
+    C: Client<S> + Send,
+    S: Sync,
+    R: Threads + Wait + Sync,
+    P: Parts + Send,
+    G: Gate + Sync,
+>(
     rt: &R,
     alloc: Global,
     seats: Vec<Seat<P>>,
-    opened: &Opened,
-    clients: Vec<FrontEnd>,
+    opened: &S,
+    clients: Vec<C>,
     events: &[Event],
     mob: u32,
     gate: &G,
-) -> (Vec<Seat<P>>, Result<Vec<FrontEnd>, NoMemory>)
+) -> (Vec<Seat<P>>, Result<Vec<C>, NoMemory>)
     ensures { vec_len result.0 ≡ vec_len seats }
 {
     let Ok(room) = Vec::with_capacity(alloc, seats.len()) else {
@@ -102,13 +108,20 @@ fn run_locked<R: Threads + Wait + Sync, P: Parts + Send, G: Gate + Sync>(
 }
 
 /// Runs the clients, and then asks once more for each Unknown item.
-fn run_all<'a, R: Threads + Wait + Sync, P: Parts + Send, G: Gate + Sync>(
+fn run_all<
+    'a,
+    C: Client<S> + Send,
+    S: Sync,
+    R: Threads + Wait + Sync,
+    P: Parts + Send,
+    G: Gate + Sync,
+>(
     alloc: Global,
     locks: &'a Locks<'a, R, P, G>,
-    opened: &'a Opened,
-    clients: Vec<FrontEnd>,
+    opened: &'a S,
+    clients: Vec<C>,
     events: &[Event],
-) -> Result<Vec<FrontEnd>, NoMemory> {
+) -> Result<Vec<C>, NoMemory> {
     let Channels { senders, receivers } = make_channels(alloc, locks.seats.len())?;
     let jobs = jobs_of(alloc, locks, opened, clients, senders)?;
     let flushers = flushers_of(alloc, locks, receivers)?;
@@ -118,13 +131,13 @@ fn run_all<'a, R: Threads + Wait + Sync, P: Parts + Send, G: Gate + Sync>(
 }
 
 /// The clients, each with its port. No sender is left beside theirs.
-fn jobs_of<'a, R: Wait, P: Parts, G: Gate>(
+fn jobs_of<'a, C: Client<S>, S, R: Wait, P: Parts, G: Gate>(
     alloc: Global,
     locks: &'a Locks<'a, R, P, G>,
-    opened: &'a Opened,
-    clients: Vec<FrontEnd>,
+    opened: &'a S,
+    clients: Vec<C>,
     senders: Vec<Sender<Prompt>>,
-) -> Result<Vec<Job<'a, FrontEnd, Opened, R, P, G>>, NoMemory> {
+) -> Result<Vec<Job<'a, C, S, R, P, G>>, NoMemory> {
     let mut jobs = Vec::with_capacity(alloc, clients.len())?;
     for client in clients {
         let port = LockedPort {
@@ -169,11 +182,11 @@ fn flushers_of<'a, R: Wait, P: Parts, G: Gate>(
 }
 
 /// Asks once for each Unknown item.
-fn ask_last<'a, R: Wait, P: Parts, G: Gate>(
+fn ask_last<'a, C: Client<S>, S, R: Wait, P: Parts, G: Gate>(
     alloc: Global,
     locks: &'a Locks<'a, R, P, G>,
-    opened: &Opened,
-    clients: &mut [FrontEnd],
+    opened: &S,
+    clients: &mut [C],
 ) -> Result<(), NoMemory> {
     for (place, client) in clients.iter_mut().enumerate() {
         let mut port = LockedPort {
