@@ -69,13 +69,12 @@ client 1 tx { print a.add(1); } tx { print a.add(1); }
 client 2 tx { print b.add(1); } tx { print b.add(1); }
 ",
     repos: 2,
-    write: 0,
 };
 
 #[test]
 fn two_clients_inside(rt: HostRuntime) -> Result<(), Fail> {
     let hold = Hold::at(2, 4, 5);
-    let (status, _) = run(&rt, rt.alloc(), &hold, &TWO)?;
+    let status = run(&rt, rt.alloc(), &hold, &TWO)?;
     assert!(rt; status == Status::Done);
     assert!(rt; hold.in_vain.load(SeqCst) == 0);
     Ok(())
@@ -84,7 +83,7 @@ fn two_clients_inside(rt: HostRuntime) -> Result<(), Fail> {
 #[test]
 fn two_locks(rt: HostRuntime) -> Result<(), Fail> {
     let hold = Hold::at(1_000, 1_001, 5);
-    let (status, _) = run(&rt, rt.alloc(), &hold, &TWO)?;
+    let status = run(&rt, rt.alloc(), &hold, &TWO)?;
     assert!(rt; status == Status::Done);
     assert!(rt; hold.in_vain.load(SeqCst) == 0);
     Ok(())

@@ -8,12 +8,11 @@ use std::thread::Threads;
 use thor_top::{Status, thor};
 use thor_value::{Ints, NoMemory, Text, Texts};
 
-/// What is run: the words, the script, on how many repositories, and which call of the sink fails, 0 for none.
+/// What is run: the words, the script, and on how many repositories.
 pub struct Asked<'a> {
     pub words: &'a [&'a [u8]],
     pub script: &'a [u8],
     pub repos: u8,
-    pub write: i64,
 }
 
 /// Repositories in memory, all of them empty.
@@ -31,15 +30,6 @@ fn empty(alloc: Global, repos: u8) -> Result<Vec<MemParts<TickClock>>, NoMemory>
     Ok(parts)
 }
 
-/// The list of one number, or the empty list for 0.
-fn only(alloc: Global, number: i64) -> Result<Ints, NoMemory> {
-    let mut numbers = Ints::new(alloc);
-    if number != 0 {
-        numbers.push(number)?;
-    }
-    Ok(numbers)
-}
-
 fn texts(alloc: Global, words: &[&[u8]]) -> Result<Texts, NoMemory> {
     let mut texts = Texts::new(alloc);
     for word in words {
@@ -48,17 +38,17 @@ fn texts(alloc: Global, words: &[&[u8]]) -> Result<Texts, NoMemory> {
     Ok(texts)
 }
 
-/// Runs the program through a gate. The answer is its status, and what the sink took.
+/// Runs the program through a gate. The answer is its status.
 pub fn run<R: Threads + Wait + Sync, G: Gate + Sync>(
     rt: &R,
     alloc: Global,
     gate: &G,
     asked: &Asked<'_>,
-) -> Result<(Status, Text), NoMemory> {
+) -> Result<Status, NoMemory> {
     let words = texts(alloc, asked.words)?;
     let script = Text::from_slice(alloc, asked.script)?;
     let mut source = MemSource::new(script, Ints::new(alloc));
-    let mut sink = MemSink::new(only(alloc, asked.write)?);
+    let mut sink = MemSink::new(Ints::new(alloc));
     let parts = empty(alloc, asked.repos)?;
     let outcome = thor(
         rt,
@@ -69,5 +59,5 @@ pub fn run<R: Threads + Wait + Sync, G: Gate + Sync>(
         parts,
         gate,
     );
-    Ok((outcome.status, Text::from_slice(alloc, sink.taken())?))
+    Ok(outcome.status)
 }
