@@ -165,17 +165,22 @@ fn holds(alloc: Global, cache: &mut Cache, step: &Step) -> Result<bool, NoMemory
     Ok(true)
 }
 
-/// How many steps are as they say, in a client that holds two pages, before one that isn't.
-fn held(alloc: Global, steps: &[Step]) -> Result<usize, NoMemory> {
-    let mut cache = Cache::new(alloc, 2)?;
+/// How many steps come out as they say before one that doesn't.
+fn walk(alloc: Global, cache: &mut Cache, steps: &[Step]) -> Result<usize, NoMemory> {
     let mut count = 0usize;
     for step in steps {
-        if !holds(alloc, &mut cache, step)? {
+        if !holds(alloc, cache, step)? {
             return Ok(count);
         }
         count = count.saturating_add(1);
     }
     Ok(count)
+}
+
+/// The same in a client that holds two pages.
+fn held(alloc: Global, steps: &[Step]) -> Result<usize, NoMemory> {
+    let mut cache = Cache::new(alloc, 2)?;
+    walk(alloc, &mut cache, steps)
 }
 
 #[test]

@@ -1,5 +1,7 @@
 //! Disks in memory with a stop, disks over files, and clocks.
 
+ghost use Rattle.std.specs.Prelude.{◌<◌};
+
 use disk_trait::{
     Call, Clock, Did, FARTHEST_END, FileParts, Fused, MemParts, Outage, Parts, SystemClock,
     TickClock,

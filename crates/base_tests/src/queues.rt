@@ -237,7 +237,7 @@ fn fills(alloc: Global, queue: &mut Queue) -> Result<bool, NoMemory> {
 fn add(queue: &mut Queue, tx: Ts, ros: &Orefs, writes: &Writes) -> Result<bool, NoMemory> {
     if !is_in_order(ros, writes)
         || queue.has(tx)
-        || queue.validate(tx, false, ros, writes).is_err()
+        || !queue.validate(tx, false, ros, writes).is_ok()
     {
         return Ok(false);
     }
@@ -255,7 +255,11 @@ fn finds_room(alloc: Global, queue: &mut Queue) -> Result<bool, NoMemory> {
     let passes = meets(alloc, queue, &LAST, false, &Stands::Nothing)?;
     let ros = names(alloc, LAST.1)?;
     let writes = writes(alloc, LAST.2)?;
-    Ok(refused && passes && add(queue, ts(3_000), &ros, &writes)?)
+    if refused && passes {
+        add(queue, ts(3_000), &ros, &writes)
+    } else {
+        Ok(false)
+    }
 }
 
 #[test]

@@ -23,10 +23,10 @@ const SHIFTED: &[u8] = b"free class Box { int n; }";
 
 /// The class of a text, last upgraded in an epoch.
 fn schema(alloc: Global, text: &[u8], number: u32) -> Option<Schema> {
-    let classes = classes(alloc, text)?;
+    let upgraded = Epochs::from_slice(alloc, &[number]).ok()?;
     Some(Schema {
-        classes,
-        upgraded: Epochs::from_slice(alloc, &[number]).ok()?,
+        classes: classes(alloc, text)?,
+        upgraded,
         roots: RootDeclarations::new(alloc),
     })
 }
@@ -38,11 +38,19 @@ fn shifted(alloc: Global) -> Option<UpgradedSchema> {
     Some(UpgradedSchema { upgrade, schema })
 }
 
+fn upgrades(alloc: Global) -> Option<UpgradedSchemas> {
+    let one = shifted(alloc)?;
+    let mut upgrades = UpgradedSchemas::new(alloc);
+    match upgrades.push(one) {
+        Ok(()) => Some(upgrades),
+        Err(_) => None,
+    }
+}
+
 /// The schema before that upgrade, and behind it.
 fn schemas(alloc: Global) -> Option<Schemas> {
-    let mut upgraded = UpgradedSchemas::new(alloc);
-    upgraded.push(shifted(alloc)?).ok()?;
     let first = schema(alloc, BOX, 0)?;
+    let upgraded = upgrades(alloc)?;
     Some(Schemas { first, upgraded })
 }
 
@@ -168,16 +176,24 @@ fn first_number(store: &Plain) -> i64 {
 /// which entry isn't legal.
 type Told = Result<(usize, i64), usize>;
 
-/// What a replay from the two objects tells.
-fn replayed(alloc: Global, history: &Dids, schemas: &Schemas) -> Option<Told> {
+fn told_from(alloc: Global, history: &Dids, store: &Plain, schemas: &Schemas) -> Option<Told>
+    requires { IsSorted store.now.objects }
+{
     if !are_made(schemas) {
         return None;
     }
-    let store = store(alloc).ok()?;
-    match replay(alloc, history, &store, schemas) {
+    match replay(alloc, history, store, schemas) {
         Ok(behind) => Some(Ok((behind.objects.len(), first_number(&behind)))),
         Err(ReplayError::NotLegal { index }) => Some(Err(index)),
         Err(ReplayError::NoMemory) => None,
+    }
+}
+
+/// What a replay from the two objects tells.
+fn replayed(alloc: Global, history: &Dids, schemas: &Schemas) -> Option<Told> {
+    match store(alloc) {
+        Ok(store) => told_from(alloc, history, &store, schemas),
+        Err(_) => None,
     }
 }
 

@@ -1,6 +1,12 @@
 //! Bodies of log records and checkpoints: worked bytes, most of them from stores that another program wrote.
 
-use log_bytes::{Body, BodyFault, put_state, read_body, read_state, spell_entry, spell_installed};
+ghost use Rattle.std.specs.Prelude.{◌<◌};
+ghost use Rattle.log_bytes.specs.Grammar.{BodyFits};
+ghost use Rattle.log_bytes.specs.Checkpoint.{StateFits};
+ghost use Rattle.log_bytes.specs.declared.body.Body.TheVariants.{Entry as AnEntry};
+
+use commit_log::Entry;
+use log_bytes::{Body, State, put_state, read_body, read_state, spell_entry, spell_installed};
 use std::alloc::Global;
 use std::test::Fail;
 use thor_value::{NoMemory, Text, TryCopy};
@@ -66,15 +72,43 @@ const SPOILED: &[(&[u8], usize, u8)] = &[
     (UPGRADED, 70, 5),
 ];
 
-/// Reads a body and spells it again, an entry from a copy.
+/// Spells a copy of an entry.
+fn copy_spelled(alloc: Global, entry: &Entry) -> Result<Text, NoMemory>
+    requires { BodyFits (AnEntry entry.now) }
+{
+    match entry.copy() {
+        Ok(copied) => spell_entry(alloc, &copied),
+        Err(refused) => Err(refused),
+    }
+}
+
+/// Whether a copy of an entry is spelled so.
+fn is_spelled(alloc: Global, entry: &Entry, bytes: &[u8]) -> bool
+    requires { BodyFits (AnEntry entry.now) }
+{
+    match copy_spelled(alloc, entry) {
+        Ok(spelled) => spelled.as_slice() == bytes,
+        Err(_) => false,
+    }
+}
+
+/// Whether an installed side is spelled so.
+fn is_spelled_installed(alloc: Global, page: u32, side: u8, bytes: &[u8]) -> bool
+    requires { side < 2 }
+{
+    match spell_installed(alloc, page, side) {
+        Ok(spelled) => spelled.as_slice() == bytes,
+        Err(_) => false,
+    }
+}
+
+/// Whether the bytes are a body that is spelled so again, an entry from a copy.
 #[tactic(auto, unfolding(log_bytes::specs::Grammar::body_format))]
-fn again(alloc: Global, bytes: &[u8]) -> Result<Text, BodyFault> {
-    match read_body(alloc, bytes)? {
-        Body::Entry(entry) => {
-            let copied = entry.copy()?;
-            Ok(spell_entry(alloc, &copied)?)
-        }
-        Body::Installed { page, side } => Ok(spell_installed(alloc, page, side)?),
+fn is_spelled_again(alloc: Global, bytes: &[u8]) -> bool {
+    match read_body(alloc, bytes) {
+        Ok(Body::Entry(entry)) => is_spelled(alloc, &entry, bytes),
+        Ok(Body::Installed { page, side }) => is_spelled_installed(alloc, page, side, bytes),
+        Err(_) => false,
     }
 }
 
@@ -105,9 +139,8 @@ fn is_apart(alloc: Global, bytes: &[u8]) -> Result<bool, NoMemory> {
 }
 
 /// Whether a body is spelled so again, and nothing with a byte more or some fewer is a body.
-fn has_one_spelling(alloc: Global, bytes: &[u8]) -> Result<bool, BodyFault> {
-    let spelled = again(alloc, bytes)?;
-    Ok(spelled.as_slice() == bytes && is_apart(alloc, bytes)?)
+fn has_one_spelling(alloc: Global, bytes: &[u8]) -> Result<bool, NoMemory> {
+    Ok(is_spelled_again(alloc, bytes) && is_apart(alloc, bytes)?)
 }
 
 #[test]
@@ -125,22 +158,35 @@ fn bodies_have_one_spelling(rt: HostRuntime) -> Result<(), Fail> {
     Ok(())
 }
 
-/// Reads a checkpoint and spells it again, behind a byte.
-#[tactic(auto, unfolding(log_bytes::specs::Checkpoint::state_format))]
-fn state_again(alloc: Global, bytes: &[u8]) -> Result<Text, BodyFault> {
-    let state = read_state(alloc, bytes)?;
+/// Spells a checkpoint behind a byte.
+fn state_spelled(alloc: Global, state: &State) -> Result<Text, NoMemory>
+    requires { StateFits state.now }
+{
     let mut out = Text::new(alloc);
     out.push(9)?;
-    put_state(&state, &mut out)?;
+    put_state(state, &mut out)?;
     Ok(out)
 }
 
-/// Whether a checkpoint is spelled so again.
-fn state_has_one_spelling(alloc: Global, bytes: &[u8]) -> Result<bool, BodyFault> {
-    let spelled = state_again(alloc, bytes)?;
-    match spelled.as_slice().split_first() {
-        Some((first, state)) => Ok(*first == 9 && state == bytes),
-        None => Ok(false),
+/// Whether a checkpoint is spelled so.
+fn is_state_spelled(alloc: Global, state: &State, bytes: &[u8]) -> bool
+    requires { StateFits state.now }
+{
+    match state_spelled(alloc, state) {
+        Ok(spelled) => match spelled.as_slice().split_first() {
+            Some((first, rest)) => *first == 9 && rest == bytes,
+            None => false,
+        },
+        Err(_) => false,
+    }
+}
+
+/// Whether the bytes are a checkpoint that is spelled so again.
+#[tactic(auto, unfolding(log_bytes::specs::Checkpoint::state_format))]
+fn state_has_one_spelling(alloc: Global, bytes: &[u8]) -> bool {
+    match read_state(alloc, bytes) {
+        Ok(state) => is_state_spelled(alloc, &state, bytes),
+        Err(_) => false,
     }
 }
 
@@ -176,7 +222,7 @@ const NO_STATES: &[(usize, u8)] = &[
 
 #[test]
 fn checkpoints_have_one_spelling(rt: HostRuntime) -> Result<(), Fail> {
-    assert!(rt; state_has_one_spelling(rt.alloc(), FULL)?);
+    assert!(rt; state_has_one_spelling(rt.alloc(), FULL));
     for (at, byte) in NO_STATES {
         assert!(rt; is_none(rt.alloc(), FULL, *at, *byte)?);
     }

@@ -175,17 +175,24 @@ fn holds(alloc: Global, mob: &mut Mob, step: &Step) -> Result<bool, NoMemory>
     }
 }
 
-/// How many steps come out as they say before one that doesn't, in a buffer of 32 bytes.
-fn held(alloc: Global) -> Result<usize, NoMemory> {
-    let mut mob = Mob::new(alloc, 32)?;
+/// How many steps come out as they say before one that doesn't.
+fn walk(alloc: Global, mob: &mut Mob) -> Result<usize, NoMemory>
+    requires { AreOf 1 mob.old.objects }
+{
     let mut count = 0usize;
     for step in STEPS {
-        if !holds(alloc, &mut mob, step)? {
+        if !holds(alloc, mob, step)? {
             return Ok(count);
         }
         count = count.saturating_add(1);
     }
     Ok(count)
+}
+
+/// The same in a buffer of 32 bytes.
+fn held(alloc: Global) -> Result<usize, NoMemory> {
+    let mut mob = Mob::new(alloc, 32)?;
+    walk(alloc, &mut mob)
 }
 
 #[test]

@@ -62,16 +62,20 @@ fn holds(links: &mut Links, step: &Step) -> Result<bool, NoMemory> {
 }
 
 /// How many steps come out as they say before one that doesn't.
-fn held(alloc: Global) -> Result<usize, NoMemory> {
-    let mut links = Links::new(alloc)?;
+fn walk(links: &mut Links) -> Result<usize, NoMemory> {
     let mut count = 0usize;
     for step in STEPS {
-        if !holds(&mut links, step)? {
+        if !holds(links, step)? {
             return Ok(count);
         }
         count = count.saturating_add(1);
     }
     Ok(count)
+}
+
+fn held(alloc: Global) -> Result<usize, NoMemory> {
+    let mut links = Links::new(alloc)?;
+    walk(&mut links)
 }
 
 #[test]

@@ -79,16 +79,20 @@ fn holds(alloc: Global, outbox: &mut Outbox, step: &Step) -> Result<bool, NoMemo
 }
 
 /// How many steps come out as they say before one that doesn't.
-fn held(alloc: Global) -> Result<usize, NoMemory> {
-    let mut outbox = Outbox::new(alloc)?;
+fn walk(alloc: Global, outbox: &mut Outbox) -> Result<usize, NoMemory> {
     let mut count = 0usize;
     for step in STEPS {
-        if !holds(alloc, &mut outbox, step)? {
+        if !holds(alloc, outbox, step)? {
             return Ok(count);
         }
         count = count.saturating_add(1);
     }
     Ok(count)
+}
+
+fn held(alloc: Global) -> Result<usize, NoMemory> {
+    let mut outbox = Outbox::new(alloc)?;
+    walk(alloc, &mut outbox)
 }
 
 #[test]

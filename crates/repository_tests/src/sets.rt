@@ -113,13 +113,10 @@ fn holds(sets: &mut Sets, read: &Orefs, written: &Writes, step: &Step) -> Result
 }
 
 /// How many steps come out as they say before one that doesn't.
-fn held(alloc: Global) -> Result<usize, NoMemory> {
-    let written = writes(alloc)?;
-    let read = Orefs::from_slice(alloc, &[X, Y])?;
-    let mut sets = Sets::new(alloc)?;
+fn walk(sets: &mut Sets, read: &Orefs, written: &Writes) -> Result<usize, NoMemory> {
     let mut count = 0usize;
     for step in STEPS {
-        if !holds(&mut sets, &read, &written, step)? {
+        if !holds(sets, read, written, step)? {
             return Ok(count);
         }
         count = count.saturating_add(1);
@@ -127,9 +124,16 @@ fn held(alloc: Global) -> Result<usize, NoMemory> {
     Ok(count)
 }
 
+fn held(alloc: Global, written: &Writes) -> Result<usize, NoMemory> {
+    let read = Orefs::from_slice(alloc, &[X, Y])?;
+    let mut sets = Sets::new(alloc)?;
+    walk(&mut sets, &read, written)
+}
+
 #[test]
 fn a_write_is_seen_by_the_others_that_have_the_page(rt: HostRuntime) -> Result<(), Fail> {
-    let count = held(rt.alloc())?;
+    let written = writes(rt.alloc())?;
+    let count = held(rt.alloc(), &written)?;
     assert!(rt; count == STEPS.len(), "behind {count} steps");
     Ok(())
 }

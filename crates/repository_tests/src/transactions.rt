@@ -156,16 +156,20 @@ fn is_seen(table: &Table, step: &Step) -> bool {
 }
 
 /// How many steps come out as they say before one that doesn't.
-fn held(alloc: Global, steps: &[Step]) -> Result<usize, NoMemory> {
-    let mut table = Table::new(alloc)?;
+fn walk(alloc: Global, table: &mut Table, steps: &[Step]) -> Result<usize, NoMemory> {
     let mut count = 0usize;
     for step in steps {
-        if !holds(alloc, &mut table, step)? {
+        if !holds(alloc, table, step)? {
             return Ok(count);
         }
         count = count.saturating_add(1);
     }
     Ok(count)
+}
+
+fn held(alloc: Global, steps: &[Step]) -> Result<usize, NoMemory> {
+    let mut table = Table::new(alloc)?;
+    walk(alloc, &mut table, steps)
 }
 
 #[test]
