@@ -73,6 +73,18 @@ const PAGES: &[Step] = &[
     Step::DropRepo(1),
     Step::Page((1, 0, 0), false),
     Step::Page((0, 0, 0), true),
+    // What the try has written in another repository is still given up.
+    Step::Write((0, 0, 0), 9),
+    Step::DropRepo(1),
+    Step::Undo,
+    Step::Number((0, 0, 0), Some(1)),
+    // A write uses its page.
+    Step::Write((0, 1, 0), 2),
+    Step::Write((0, 0, 0), 5),
+    Step::Write((0, 2, 0), 6),
+    Step::Evict((0, 2, 0)),
+    Step::Number((0, 0, 0), Some(5)),
+    Step::Page((0, 1, 0), false),
 ];
 
 fn name(at: At) -> Oref {

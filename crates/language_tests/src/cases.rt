@@ -33,9 +33,9 @@ pub struct Case {
     pub want: Want,
 }
 
-/// The classes 0 to 5: an A owns an M, which owns a Z; an H owns a chain of L.
+/// The classes 0 to 8: an A owns an M, which owns a Z; an H owns a chain of L; an R owns an M, a T two Z.
 pub const SETUP: &[u8] =
-    b"free class A { M m; int s; A o; } part class M { Z z; } part class Z { int v; } free class H { L n; int v; } part class L { L n; int v; } free class N { int v; }";
+    b"free class A { M m; int s; A o; } part class M { Z z; } part class Z { int v; } free class H { L n; int v; } part class L { L n; int v; } free class N { int v; } free class K { K k; } free class R { M m; int v; } free class T { Z a; Z b; int v; }";
 
 /// The upgrades to the epochs 1, 2 and 3, with the classes behind them. The second hands a Z over to another field.
 pub const UPGRADES: &[(&[u8], &[u8])] = &[
@@ -45,11 +45,11 @@ pub const UPGRADES: &[(&[u8], &[u8])] = &[
     ),
     (
         b"upgrade { class M { Z y = old.z; int w = old.z.v + 1; } }",
-        b"free class A { M m; int s; A o; } part class M { Z y; int w; } part class Z { int v; } free class H { L n; int v; } part class L { L n; int v; } free class N { int v; }",
+        b"free class A { M m; int s; A o; } part class M { Z y; int w; } part class Z { int v; } free class H { L n; int v; } part class L { L n; int v; } free class N { int v; } free class K { K k; } free class R { M m; int v; } free class T { Z a; Z b; int v; }",
     ),
     (
-        b"upgrade { class A { M p = old.m; int s = old.m.w * 2 + old.m.y.v; A o = old.o; int t = -old.s; } class Z { int v = old.v + 5; } }",
-        b"free class A { M p; int s; A o; int t; } part class M { Z y; int w; } part class Z { int v; } free class H { L n; int v; } part class L { L n; int v; } free class N { int v; }",
+        b"upgrade { class A { M p = old.m; int s = old.m.w * 2 + old.m.y.v; A o = old.o; int t = -old.s; } class Z { int v = old.v + 5; } class K { Gone g = old.k; } class R { M m = old.m; int v = old.m.w; } class T { Z a = old.a; Z b = old.b; int v = old.a.v + old.b.v; } }",
+        b"free class A { M p; int s; A o; int t; } part class M { Z y; int w; } part class Z { int v; } free class H { L n; int v; } part class L { L n; int v; } free class N { int v; } free class K { Gone g; } free class R { M m; int v; } free class T { Z a; Z b; int v; }",
     ),
 ];
 
@@ -186,6 +186,29 @@ const FUTURE: Stored = Stored {
     fields: &[Int(3)],
 };
 
+/// Its field becomes one of a class that isn't there.
+const KIN: Stored = Stored {
+    slot: 0,
+    class: 6,
+    ver: 0,
+    fields: &[Slot(0)],
+};
+
+/// It reads of its part what the part's upgrade read of its own.
+const READER: Stored = Stored {
+    slot: 0,
+    class: 7,
+    ver: 0,
+    fields: &[Slot(1), Int(0)],
+};
+
+const TWO_PARTS: Stored = Stored {
+    slot: 0,
+    class: 8,
+    ver: 0,
+    fields: &[Slot(2), Slot(3), Int(0)],
+};
+
 pub const CASES: &[Case] = &[
     // the first object on the path lacks
     Case {
@@ -291,5 +314,32 @@ pub const CASES: &[Case] = &[
         at_hand: &[],
         epoch: 3,
         want: Want::All(&[], &[Int(3)]),
+    },
+    // a reference for a field of a class that isn't there
+    Case {
+        object: KIN,
+        at_hand: &[],
+        epoch: 3,
+        want: Want::All(&[], &[Null]),
+    },
+    // what a part's upgrade reads is wanted with the part, and read before
+    Case {
+        object: READER,
+        at_hand: &[MIDDLE],
+        epoch: 3,
+        want: Want::Part(2),
+    },
+    Case {
+        object: READER,
+        at_hand: &[MIDDLE, LAST],
+        epoch: 3,
+        want: Want::All(&[1, 2], &[Slot(1), Int(71)]),
+    },
+    // of two parts that lack the first is wanted
+    Case {
+        object: TWO_PARTS,
+        at_hand: &[],
+        epoch: 3,
+        want: Want::Part(2),
     },
 ];

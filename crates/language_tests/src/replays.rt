@@ -108,11 +108,13 @@ fn block(alloc: Global, text: &[u8]) -> Option<Block> {
     parse_block(alloc, &tokens).ok()
 }
 
-fn tx(alloc: Global, creates: bool) -> Option<What> {
-    let text: &[u8] = if creates {
+fn tx(alloc: Global, creates: usize) -> Option<What> {
+    let text: &[u8] = if creates == 0 {
+        b"{ print 7; }"
+    } else if creates == 1 {
         b"{ print 7; new Box(); }"
     } else {
-        b"{ print 7; }"
+        b"{ print 7; new Box(); new Box(); }"
     };
     Some(What::Tx(block(alloc, text)?))
 }
@@ -140,7 +142,7 @@ fn did_of(alloc: Global, entry: &Entry) -> Option<Did> {
         Entry::Tx(time, printed, fresh) => {
             let answer = Ints::from_slice(alloc, &[*printed]).ok()?;
             let created = Orefs::from_slice(alloc, fresh).ok()?;
-            let what = tx(alloc, !fresh.is_empty())?;
+            let what = tx(alloc, fresh.len())?;
             Some(did(what, *time, 0, created, answer))
         }
         Entry::Upgrade(time, number) => {
@@ -260,6 +262,16 @@ const NOT_LEGAL: &[Row] = &[
     (&[Entry::Tx(7, 7, &[]), Entry::Tx(8, 6, &[])], Err(1)),
     (&[Entry::Tx(7, 7, &[]), Entry::Tx(7, 7, &[])], Err(1)),
     (&[Entry::Tx(7, 7, &[TAKEN])], Err(0)),
+    // The third time is below the second, and one name is given twice.
+    (
+        &[
+            Entry::Tx(7, 7, &[]),
+            Entry::Tx(9, 7, &[]),
+            Entry::Tx(8, 7, &[]),
+        ],
+        Err(2),
+    ),
+    (&[Entry::Tx(7, 7, &[CREATED, CREATED])], Err(0)),
 ];
 
 #[test]

@@ -39,6 +39,7 @@ const STEPS: &[Step] = &[
     Step::Bytes(48),
     Step::Number((7, 1), None),
     Step::All(&[((7, 3), 4), ((5, 0), 2), ((7, 0), 5)]),
+    Step::Oldest(Some((7, 3))),
     Step::Slot(7, None, Some(0)),
     Step::Slot(7, Some(0), Some(3)),
     Step::Slot(7, Some(3), None),

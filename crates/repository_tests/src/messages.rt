@@ -115,4 +115,5 @@ fn verdicts_tell_what_they_are_made_of(rt: HostRuntime) {
         session: 1,
     };
     assert!(rt; verdict.tx() == tx && verdict.commit() && at == at);
+    assert!(rt; !Verdict::new(tx, false).commit());
 }

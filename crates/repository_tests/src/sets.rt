@@ -60,6 +60,10 @@ const STEPS: &[Step] = &[
     Step::Invalid(1, None, None),
     Step::Touch(2, 8),
     Step::Invalid(1, None, None),
+    // Behind its end it has the pages alone that it has anew.
+    Step::Cache(1, 8),
+    Step::Touch(2, 9),
+    Step::Invalid(1, None, Some((Y, 9))),
 ];
 
 /// Writes of empty objects.

@@ -74,6 +74,13 @@ const ABORTED: &[Step] = &[
     Step::Open(ALONE),
     Step::Finish(ALONE, true),
     Step::Ask(ALONE, Standing::Aborted),
+    // A decision is forgotten that is kept, and no other; what is open stays.
+    Step::Keep(FIRST),
+    Step::Forget(SECOND),
+    Step::Ask(FIRST, Standing::Committed),
+    Step::Open(ALONE),
+    Step::Forget(ALONE),
+    Step::Ask(ALONE, Standing::Open),
 ];
 
 fn request(alloc: Global, tx: Ts) -> Request
