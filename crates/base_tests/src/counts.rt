@@ -1,6 +1,6 @@
 //! Worked rows of the counts that disks have: those that stand at their greatest stay there.
 
-ghost use Rattle.std.specs.Prelude.{◌≡◌, ◌-◌, ◌^◌, ◌∷◌, [], true, false};
+ghost use Rattle.std.specs.Prelude.{◌≡◌, ◌-◌, ◌^◌, ◌∷◌, [], ℕ, true, false};
 ghost use Rattle.disk_trait.specs.Counts.{counted};
 ghost use Rattle.disk_trait.specs.Fuse.{burnt};
 ghost use Rattle.disk_trait.specs.Fused.{fell_of};
@@ -16,7 +16,7 @@ fn faults()
 fn falls()
     ensures fallen { burnt (record { left = 1; falls = 0 ∷ (2 ^ 64 - 1) ∷ 3 ∷ [] }) 1 ≡ record { left = 0; falls = 0 ∷ (2 ^ 64 - 1) ∷ 3 ∷ [] } }
     ensures another { burnt (record { left = 1; falls = 0 ∷ (2 ^ 64 - 1) ∷ 3 ∷ [] }) 2 ≡ record { left = 0; falls = 0 ∷ (2 ^ 64 - 1) ∷ 4 ∷ [] } }
-    ensures told { fell_of (record { parts = 0; fuse = record { left = 0; falls = (2 ^ 64 - 1) ∷ (2 ^ 64 - 1) ∷ 3 ∷ [] } }) ≡ 2 ^ 64 - 1 }
+    ensures told { fell_of {P = ℕ} (record { parts = 0; fuse = record { left = 0; falls = (2 ^ 64 - 1) ∷ (2 ^ 64 - 1) ∷ 3 ∷ [] } }) ≡ 2 ^ 64 - 1 }
 {}
 
 #[test]
