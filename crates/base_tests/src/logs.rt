@@ -4,7 +4,8 @@ ghost use Rattle.std.specs.Prelude.{IfOk};
 ghost use Rattle.disk_trait.specs.Disks.{IsSettled};
 ghost use Rattle.disk_trait.specs.MemParts.{mem_disks};
 
-use disk_trait::{Clock, FileParts, Fused, MemParts, Parts, SystemClock, TickClock};
+use crate::disks::{files, folder};
+use disk_trait::{Clock, Fused, MemParts, Parts, TickClock};
 use log_frame::{Log, LogFault};
 use std::alloc::Global;
 use std::fs;
@@ -219,26 +220,20 @@ fn told<P: Parts>(
 }
 
 /// Whether disks over files have no log, and a log with a record once it is written and they are opened again.
-fn file_keeps_its_log(rt: &HostRuntime, log0: &str, log1: &str, pages: &str) -> Result<bool, Fail> {
-    let mut files = FileParts::open(rt, log0, log1, pages, TickClock::new(1));
-    if count(rt.alloc(), &mut files) != Ok(None) {
+fn file_keeps_its_log(rt: &HostRuntime, folder: &str) -> Result<bool, Fail> {
+    let mut first = files(rt, folder, "pages")?;
+    if count(rt.alloc(), &mut first) != Ok(None) {
         return Ok(false);
     }
-    grow(rt.alloc(), &mut files)?;
-    let mut files = FileParts::open(rt, log0, log1, pages, TickClock::new(1));
-    Ok(told(rt.alloc(), &mut files)? == Some((1, 0, 1, true)))
+    grow(rt.alloc(), &mut first)?;
+    let mut again = files(rt, folder, "pages")?;
+    Ok(told(rt.alloc(), &mut again)? == Some((1, 0, 1, true)))
 }
 
 #[test]
 fn a_real_file_keeps_its_log(rt: HostRuntime) -> Result<(), Fail> {
-    let alloc = rt.alloc();
-    let now = SystemClock::new(rt.clone()?).now();
-    let folder = format!(in alloc; "/tmp/kilntaupe-log-frame-{now}")?;
-    fs::create_dir(&rt, folder.as_str())?;
-    let log0 = format!(in alloc; "{folder}/log0")?;
-    let log1 = format!(in alloc; "{folder}/log1")?;
-    let pages = format!(in alloc; "{folder}/pages")?;
-    let kept = file_keeps_its_log(&rt, &log0, &log1, &pages)?;
+    let folder = folder(&rt, "log-frame")?;
+    let kept = file_keeps_its_log(&rt, folder.as_str())?;
     fs::remove_dir_all(&rt, folder.as_str())?;
     assert!(rt; kept);
     Ok(())

@@ -198,10 +198,10 @@ module _ (b : Base) where
 
   decides_admitted : (S : State) (q : Request) → IsSorted S.known → Decides (is_admitted b S q) (Admits b S q)
   decides_admitted S q sorted = turned
-      (decides_vouched S q sorted also decides_eq q.epoch (epoch_of S) also decides_known S (is_accepted q) (Accepts q) sorted (λ t o. decides_accepted q t o)
+      (decides_vouched S q sorted also decides_eq q.epoch (epoch_of S) also decides_less (ts_cmp b.top q.tx) also decides_known S (is_accepted q) (Accepts q) sorted (λ t o. decides_accepted q t o)
       also decides_lt (len (undecided_in b S)) room_for)
-      (λ p. record { vouched = p.0.0.0; current = p.0.0.1; accepted = p.0.1; room = p.1 })
-      (λ h. (((h.vouched, h.current), h.accepted), h.room))
+      (λ p. record { vouched = p.0.0.0.0; current = p.0.0.0.1; above = p.0.0.1; accepted = p.0.1; room = p.1 })
+      (λ h. ((((h.vouched, h.current), h.above), h.accepted), h.room))
 
   decides_alone : (q : Request) → Decides (is_alone b q) (IsAlone b q)
   decides_alone q = decides_empty q.others also decides_eq q.tx.repo b.repo

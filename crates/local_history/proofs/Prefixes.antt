@@ -10,6 +10,7 @@ use Rattle.std.proofs.Common.{◌≡◌, ◌≤◌, ◌<◌, ℕ, ◌+◌, List,
 use Rattle.std.proofs.Math.Seq.{take-append_seam, take-length}
 use Rattle.std.proofs.lemmas.List.{length-append, take-append-le}
 use Rattle.std.specs.Prelude.{◌⊎◌, Some}
+use Rattle.thor_value.specs.Names.{Before}
 use Rattle.thor_value.specs.declared.names.Ts.{Ts}
 
 pub le_cases : (m n : ℕ) → m ≤ n + 1 → (m ≤ n) ⊎ (m ≡ n + 1)
@@ -57,6 +58,10 @@ module _ (b : Base) where
             let old : Admits b (state b (take o.place H)) o.request = subst (λ n. Admits b (state b (take n H)) o.request) (sym at) (subst (Admits b (state b (take x.0.place H))) (sym x.2.1) (ih t x.0 x.1)) in
             subst (λ G. Admits b (state b G) o.request) (sym (take-append-le o.place H (e ∷ []) l')) old
       ])
+
+  -- a transaction is above all that committed in earlier runs
+  pub above_base : (H : List Entry) → sound b H → (t : Ts) (o : Known) → known_by b H t ≡ Some o → Before b.top t
+  above_base H sd t o is = subst (Before b.top) (fits H sd t o is).named (judged H sd t o is).above
 
   -- a transaction that stands below the place n stood in the history below n
   pub stood : (H : List Entry) → sound b H → (n : ℕ) → n ≤ length H → (t : Ts) (w : Known) → known_by b H t ≡ Some w → w.place < n

@@ -20,6 +20,15 @@ at_most_then t u v h k e = elim (in_order u v) [
   ]
 ]
 
+pub at_most_before : (t u v : Ts) → AtMost t u → Before u v → Before t v
+at_most_before t u v h e = elim (in_order t u) [
+  | inl l ↦ ts_total.trans t u v l e
+  | inr m ↦ elim m [
+    | inl same ↦ subst (λ w. Before w v) (sym same) e
+    | inr l ↦ absurd (h l)
+  ]
+]
+
 pub before_at_most : (t u : Ts) → Before t u → AtMost t u
 before_at_most t u e k = not_both_ways t u e k
 

@@ -84,7 +84,7 @@ is_vouched b S q =
 
 -- whether q owes nothing to S
 abbrev pub is_admitted : Base → State → Request → Bool
-is_admitted b S q = is_vouched b S q && nat_eq q.epoch (epoch_of S) && each_known b S (is_accepted q) && nat_lt (len (undecided_in b S)) room_for
+is_admitted b S q = is_vouched b S q && nat_eq q.epoch (epoch_of S) && is_before b.top q.tx && each_known b S (is_accepted q) && nat_lt (len (undecided_in b S)) room_for
 
 -- whether q's transaction has this one participant
 abbrev pub is_alone : Base → Request → Bool

@@ -248,6 +248,17 @@ left_prepared = Life 2 ∷ prepare_far 9 4 ∷ Finished (at 9) true ∷ []
 abbrev pub prepared_anew : List Entry
 prepared_anew = Life 2 ∷ Finished (at 9) true ∷ prepare_far 9 4 ∷ []
 
+-- where the greatest timestamp that committed in earlier runs is 5: an upgrade and another transaction that
+-- aren't above it
+abbrev pub grown_old : Base
+grown_old = record home { top = at 5 }
+
+abbrev pub upgrade_below_base : List Entry
+upgrade_below_base = Life 1 ∷ prepare_upgrade 2 ∷ []
+
+abbrev pub at_base : List Entry
+at_base = Life 1 ∷ set_x 5 5 ∷ []
+
 -- its own coordinator finishes a transaction, which nobody decided
 abbrev pub finished_at_home : List Entry
 finished_at_home = Life 1 ∷ prepare_x 1 5 ∷ Finished (at 1) true ∷ []

@@ -55,6 +55,8 @@ pub record Admits (b : Base) (S : State) (q : Request) : Type 0 where
   pub vouched : Vouches b S q
   -- its client has seen the upgrades that are installed, and no others
   pub current : q.epoch ≡ epoch_of S
+  -- it is above all that committed in earlier runs
+  pub above : Before b.top q.tx
   -- it can come behind each transaction that is here
   pub accepted : (t : Ts) → IfSome (known_in b S t) (Accepts q t)
   -- a queue of the undecided ones has room for it

@@ -1,7 +1,8 @@
 //! The definitions of local histories, computed on small histories (`specs/Examples.antt`).
 
+ghost use Rattle.commit_log.specs.declared.entry.Entry.TheVariants.{Life};
 ghost use Rattle.local_history.specs.Checking.{is_sound};
-ghost use Rattle.local_history.specs.Examples.{again, at, away, before_upgrade, beside_itself, blind_writers, box, coordinated_above, coordinated_outside, created, created_twice, decided_late, decided_when_lost, earlier, far, finished_at_home, home, later_read, later_write, left_behind, left_over, left_prepared, lost_by_life, mended, only, other_life, other_version, out_of_order, out_of_range, outlives, prepared_alone, prepared_anew, reading_upgraded, reading_x, same_life, setting_x, settled_by_opening, settled_twice, skipped_life, two_commits, upgrade_in_haste, upgrade_that_writes, upgraded, upgraded_alone, upgraded_by_one, upgrading, with_nobody, without_life, writes_nowhere, x, y, z};
+ghost use Rattle.local_history.specs.Examples.{again, at, at_base, away, before_upgrade, beside_itself, blind_writers, box, coordinated_above, coordinated_outside, created, created_twice, decided_late, decided_when_lost, earlier, far, finished_at_home, grown_old, home, later_read, later_write, left_behind, left_over, left_prepared, lost_by_life, mended, only, other_life, other_version, out_of_order, out_of_range, outlives, prepared_alone, prepared_anew, reading_upgraded, reading_x, same_life, set_x, setting_x, settled_by_opening, settled_twice, skipped_life, two_commits, upgrade_below_base, upgrade_in_haste, upgrade_that_writes, upgraded, upgraded_alone, upgraded_by_one, upgrading, with_nobody, without_life, writes_nowhere, x, y, z};
 ghost use Rattle.local_history.specs.History.{Aborted, Committed, Open, epoch_of, objects_at, known_by, state};
 ghost use Rattle.local_history.specs.Opening.{IsBase};
 ghost use Rattle.local_history.specs.Order.{HasOrder};
@@ -37,12 +38,15 @@ pub fn unsound_examples()
 {}
 
 /// What an opening settles is settled once, as its coordinator decided, and never asked for again. The
-/// base counts it already.
+/// base counts it already. A request is above all that the base counts.
 pub fn opening_examples()
     ensures twice { is_sound (left_over true) settled_twice ≡ false }
     ensures otherwise { is_sound (left_over true) (settled_by_opening false) ≡ false }
     ensures prepared { is_sound (left_over true) left_prepared ≡ false }
     ensures prepared_anew { is_sound (left_over true) prepared_anew ≡ false }
+    ensures below { is_sound grown_old upgrade_below_base ≡ false }
+    ensures equal { is_sound grown_old at_base ≡ false }
+    ensures above { is_sound grown_old (Life 1 ∷ set_x 6 5 ∷ []) ≡ true }
     ensures object { get (left_over true).objects far ≡ Some (box 4) }
     ensures aborted { get (left_over false).objects far ≡ Some (box 0) }
     ensures top { (left_over true).top ≡ at 9 }

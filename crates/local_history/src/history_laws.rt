@@ -18,7 +18,7 @@ ghost use Rattle.std.specs.List.{filter};
 ghost use Rattle.std.specs.Option.{IfSome, IsSomeAnd, option_or};
 ghost use Rattle.std.specs.Prelude.{List, None, Option, [], ◌∷◌, ◌++◌, ℕ, ◌≡◌, ◌≢◌, ◌<◌, ◌≤◌, false, length, nat_lt, take, true};
 ghost use Rattle.thor_value.specs.FiniteMap.{Map, empty, get, overwrite};
-ghost use Rattle.thor_value.specs.Names.{oref_cmp};
+ghost use Rattle.thor_value.specs.Names.{Before, oref_cmp};
 ghost use Rattle.thor_value.specs.declared.names.Oref.{Oref};
 ghost use Rattle.thor_value.specs.declared.names.Ts.{Ts};
 ghost use Rattle.thor_value.specs.declared.values.Obj.{Obj};
@@ -69,13 +69,16 @@ pub fn outcomes_are_final()
 {}
 
 /// A transaction's request is the entry at its place and owed what it owed to the history below; two
-/// transactions stand at two places; the commits are those of the transactions that stand committed.
+/// transactions stand at two places; the commits are those of the transactions that stand committed. Each
+/// transaction is above all that committed in earlier runs.
 pub fn requests_are_recorded()
     ensures recorded { (b : Base) (H : List Entry) → sound b H → (t : Ts) (o : Known) →
         known_by b H t ≡ Some o → Recorded b H t o }
     ensures apart { (b : Base) (H : List Entry) → sound b H → (s t : Ts) (o w : Known) →
         known_by b H s ≡ Some o → known_by b H t ≡ Some w → o.place ≡ w.place → s ≡ t }
     ensures commits { (b : Base) (H : List Entry) → sound b H → CommitsListed b H }
+    ensures above { (b : Base) (H : List Entry) → sound b H → (t : Ts) (o : Known) →
+        known_by b H t ≡ Some o → Before b.top t }
 {}
 
 /// The objects, the installed upgrades and the greatest committed timestamp are the base's with the

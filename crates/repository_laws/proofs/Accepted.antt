@@ -4,7 +4,7 @@ use Rattle.commit_log.specs.declared.entry.Entry.{Entry}
 use Rattle.commit_log.specs.declared.request.Request.{Request}
 use Rattle.held_state.specs.declared.held.Held.{Held}
 use Rattle.local_history.proofs.Growth.{sound-end}
-use Rattle.local_history.proofs.Stamps.{at_most_itself, at_most_then, before_at_most, first_at_most}
+use Rattle.local_history.proofs.Stamps.{before_at_most}
 use Rattle.local_history.specs.History.{Base, is_open, is_undecided, known_in, state}
 use Rattle.local_history.specs.Laws.{Continues}
 use Rattle.local_history.specs.Participants.{IsAlone, IsShared}
@@ -20,43 +20,17 @@ use Rattle.session_outbox.proofs.Traces.{entries-items}
 use Rattle.session_outbox.specs.Session.{session}
 use Rattle.session_outbox.specs.Trace.{entries}
 use Rattle.session_outbox.specs.Verdict.{stale}
-use Rattle.std.proofs.Common.{Bool, List, [], ap, cond, inl, refl, subst, sym, ℕ, ◌≡◌, ◌∙◌, ◌∷◌}
-use Rattle.std.specs.List.{fold}
-use Rattle.std.specs.Ordering.{is_lt}
-use Rattle.std.specs.Prelude.{None, Some, false, true, ◌≢◌}
-use Rattle.std.specs.declared.cmp.Ordering.TheVariants.{Equal, Greater, Less}
-use Rattle.std.specs.declared.cmp.Ordering.{Ordering}
-use Rattle.thor_value.specs.FiniteMap.{Set, keys}
-use Rattle.thor_value.specs.Names.{AtMost, later_of, ts_cmp}
+use Rattle.std.proofs.Common.{Bool, List, ap, inl, subst, sym, ℕ, ◌≡◌, ◌∙◌}
+use Rattle.std.specs.Prelude.{Some, false, true, ◌≢◌}
+use Rattle.thor_value.specs.FiniteMap.{Set}
+use Rattle.thor_value.specs.Names.{AtMost, ts_cmp}
 use Rattle.thor_value.specs.declared.names.Ts.{Ts}
 use Rattle.trace_record.specs.Recorded.{Recorded}
 use Rattle.two_phase.specs.Contents.{open_at}
-use Rattle.validation_window.proofs.Validated.{nothing_holds}
-use Rattle.validation_window.specs.Refusals.{bar, full, too_old}
-use Rattle.validation_window.specs.Window.{Window, window}
-use Rattle.validation_window.specs.declared.refusal.Refusal.TheVariants as refused
-use Rattle.validation_window.specs.declared.refusal.Refusal.{Refusal}
+use Rattle.validation_window.proofs.Validated.{above_threshold, nothing_holds}
+use Rattle.validation_window.specs.Refusals.{full}
+use Rattle.validation_window.specs.Window.{window}
 use Rattle.volatile_state.specs.Volatile.{Memory}
-
-latest-rises : (t : Ts) (ts : List Ts) → AtMost t (fold later_of t ts)
-latest-rises t [] = at_most_itself t
-latest-rises t (u ∷ ts) = at_most_then t (later_of t u) (fold later_of (later_of t u) ts) (first_at_most t u) (latest-rises (later_of t u) ts)
-
-bar-above : (W : Window) (q : Request) → AtMost W.threshold (bar W q)
-bar-above W q = by (is_upgrade q)
-  where
-    by : (x : Bool) → AtMost W.threshold (cond x (fold later_of W.threshold (keys W.members)) W.threshold)
-    by true = latest-rises W.threshold (keys W.members)
-    by false = at_most_itself W.threshold
-
-below-it : (o : Ordering) (r : Refusal) → cond (is_lt o) None (Some r) ≡ None → o ≡ Less
-below-it Less r e = refl
-below-it Equal r e = cc
-below-it Greater r e = cc
-
--- what isn't too old isn't below the threshold
-not-below : (W : Window) (q : Request) → too_old W q ≡ None → AtMost W.threshold q.tx
-not-below W q e = at_most_then W.threshold (bar W q) q.tx (bar-above W q) (before_at_most (bar W q) q.tx (below-it (ts_cmp (bar W q) q.tx) (refused.TooOld (bar W q)) e))
 
 module _ (b : Base) (r : Recorded) (h : Held) (M : Memory) (s : ℕ) (q : Request) (a : Agrees b r h M) (sessions : SessionsAnswer b (trace_of r) M.sessions) (accepted : IsAccepted b r h M s q) where
   history : entries (trace_of r) ≡ r.history
@@ -69,7 +43,8 @@ module _ (b : Base) (r : Recorded) (h : Held) (M : Memory) (s : ℕ) (q : Reques
   not-too-old =
       let p = passed b (entries (trace_of r)) s q (session b (trace_of r) s) (accepted-by-trace b r h M s q a sessions accepted) in
       let none = nothing_holds (state b (entries (trace_of r))) (window b (entries (trace_of r))) (stale b (entries (trace_of r)) s p.0 q) (full b (window b (entries (trace_of r))) q) q p.3 in
-      subst (λ (H : List Entry). AtMost (window b H).threshold q.tx) history (not-below (window b (entries (trace_of r))) q none.old)
+      subst (λ (H : List Entry). AtMost (window b H).threshold q.tx) history
+      (before_at_most (window b (entries (trace_of r))).threshold q.tx (above_threshold (window b (entries (trace_of r))) q none.old))
 
   vouched-by : Vouches b (state_of b r) q → Vouches b (state b (entries (trace_of r))) q
   vouched-by v = subst (λ (H : List Entry). Vouches b (state b H) q) (sym history) v

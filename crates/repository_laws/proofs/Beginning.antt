@@ -3,7 +3,6 @@ use Rattle.commit_log.specs.declared.entry.Entry.TheVariants.{Life}
 use Rattle.commit_log.specs.declared.request.Request.{Request}
 use Rattle.held_state.specs.Entering.{entered}
 use Rattle.held_state.specs.declared.held.Held.{Held}
-use Rattle.local_history.proofs.Stamps.{at_most_itself}
 use Rattle.local_history.specs.History.{Base}
 use Rattle.repository_laws.proofs.Entries.{agrees-life}
 use Rattle.repository_laws.proofs.Maps.{sorted-stays}
@@ -44,8 +43,6 @@ module _ (b : Base) (h : Held) (c : CanBegin b h) where
     trace = refl;
     sound = tt;
     settled = c.left;
-    floor = at_most_itself b.top;
-    above = λ t o is. cc;
     forgotten = λ t e. cc;
   }
 

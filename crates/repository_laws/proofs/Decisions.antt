@@ -4,6 +4,8 @@ use Rattle.commit_log.specs.declared.entry.Entry.{Entry}
 use Rattle.commit_log.specs.declared.request.Request.{Request}
 use Rattle.held_state.specs.Entering.{decided_by, entered, finished_by}
 use Rattle.held_state.specs.declared.held.Held.{Held}
+use Rattle.local_history.proofs.Prefixes.{above_base}
+use Rattle.local_history.proofs.Stamps.{before_at_most}
 use Rattle.local_history.proofs.Places.{placed}
 use Rattle.local_history.proofs.Telling.{tell}
 use Rattle.local_history.proofs.Making.{make}
@@ -90,7 +92,7 @@ module _ (b : Base) (r : Recorded) (h : Held) (requested : Set ts_cmp) (t : Ts) 
       by false e = threshold-plain h.threshold q.kind q.tx e ∙ ap (λ u. later_of u q.tx) a.threshold
       by true e =
           let p = found in
-          let top : AtMost S.top t = top-open b r.history a.owed.sound t p.0 (a.owed.above t p.0 p.1) p.1 p.2 (ap is_upgrade p.3 ∙ e) in
+          let top : AtMost S.top t = top-open b r.history a.owed.sound t p.0 (before_at_most b.top t (above_base b r.history a.owed.sound t p.0 p.1)) p.1 p.2 (ap is_upgrade p.3 ∙ e) in
           threshold-upgrade h.threshold q.kind q.tx e ∙ sym (later-second S.top q.tx (subst (AtMost S.top) (sym named) top))
 
   not-forgotten : is_forgotten (trace_of r) t ≡ false
@@ -231,13 +233,13 @@ module _ (b : Base) (r : Recorded) (h : Held) (requested : Set ts_cmp) (t : Ts) 
       }) gone-kept (came p.0 p.1 (record p.0 { fate = Aborted })))
 
   pub held-decided : (c : Bool) → owes b S (Decided t c) → HeldAgrees b (with_entry r (Decided t c)) (entered h (Decided t c)) requested
-  held-decided true ow = held-behind b r h requested (Decided t true) (entered h (Decided t true)) requested a ow tt
+  held-decided true ow = held-behind b r h requested (Decided t true) (entered h (Decided t true)) requested a ow
       (subst (λ o. Parts b r (put b S (Decided t true)) h (record (decided_by h t true o) { count = h.count + 1 }) requested) (sym there) parts-decided-true)
-  held-decided false ow = held-behind b r h requested (Decided t false) (entered h (Decided t false)) requested a ow tt
+  held-decided false ow = held-behind b r h requested (Decided t false) (entered h (Decided t false)) requested a ow
       (subst (λ o. Parts b r (put b S (Decided t false)) h (record (decided_by h t false o) { count = h.count + 1 }) requested) (sym there) parts-decided-false)
 
   pub held-finished : (c : Bool) → owes b S (Finished t c) → HeldAgrees b (with_entry r (Finished t c)) (entered h (Finished t c)) requested
-  held-finished true ow = held-behind b r h requested (Finished t true) (entered h (Finished t true)) requested a ow tt
+  held-finished true ow = held-behind b r h requested (Finished t true) (entered h (Finished t true)) requested a ow
       (subst (λ o. Parts b r (put b S (Finished t true)) h (record (finished_by h t true o) { count = h.count + 1 }) requested) (sym there) parts-finished-true)
-  held-finished false ow = held-behind b r h requested (Finished t false) (entered h (Finished t false)) requested a ow tt
+  held-finished false ow = held-behind b r h requested (Finished t false) (entered h (Finished t false)) requested a ow
       (subst (λ o. Parts b r (put b S (Finished t false)) h (record (finished_by h t false o) { count = h.count + 1 }) requested) (sym there) parts-finished-false)

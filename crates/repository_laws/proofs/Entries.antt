@@ -14,7 +14,7 @@ use Rattle.repository_laws.proofs.Owed.{trace-behind}
 use Rattle.repository_laws.proofs.Requests.{held-one, held-prepared, held-upgraded}
 use Rattle.repository_laws.proofs.Traced.{drawn-end}
 use Rattle.repository_laws.specs.Agreeing.{Agrees, HeldAgrees, state_of, trace_of}
-use Rattle.repository_laws.specs.Coming.{IsNotBelow, Moves, decided_queue}
+use Rattle.repository_laws.specs.Coming.{Moves, decided_queue}
 use Rattle.session_outbox.proofs.Traces.{entries-items}
 use Rattle.session_outbox.specs.Calls.{drawn_after, last_drawn}
 use Rattle.session_outbox.specs.Trace.{E}
@@ -23,7 +23,6 @@ use Rattle.std.specs.List.{AllByRecursion}
 use Rattle.std.specs.Option.{option_map}
 use Rattle.std.specs.Prelude.{Option, Some, false, is_some, true, ◌&&◌}
 use Rattle.thor_value.specs.FiniteMap.{get, has}
-use Rattle.thor_value.specs.Names.{AtMost}
 use Rattle.thor_value.specs.declared.names.Ts.{Ts}
 use Rattle.trace_record.specs.Recorded.{Recorded, with_entry}
 use Rattle.two_phase.specs.Contents.{open_at}
@@ -42,36 +41,36 @@ module _ (b : Base) (r : Recorded) (h : Held) (M N : Memory) (a : Agrees b r h M
   S = state_of b r
 
   -- the time drawn last behind an entry
-  drawn-entry : (e : Entry) → owes b S e → IsNotBelow (window b r.history).threshold e → last_drawn b (trace_of (with_entry r e)) ≡ drawn_after S (last_drawn b (trace_of r)) (E e)
-  drawn-entry e ow low =
-      ap (last_drawn b) (trace-behind b r a.held.owed e ow low) ∙ (drawn-end b (trace_of r) (E e)
+  drawn-entry : (e : Entry) → owes b S e → last_drawn b (trace_of (with_entry r e)) ≡ drawn_after S (last_drawn b (trace_of r)) (E e)
+  drawn-entry e ow =
+      ap (last_drawn b) (trace-behind b r a.held.owed e ow) ∙ (drawn-end b (trace_of r) (E e)
       ∙ ap (λ (H : List Entry). drawn_after (state b H) (last_drawn b (trace_of r)) (E e)) (entries-items r.history r.marks a.held.owed.trace))
 
   enters : (q : Request) (d : Bool) → queue.enter M.queue (transaction_of q) d ≡ queue.enter (queue_of (window b r.history)) (windowed.transaction_of q) d
   enters q d = ap (λ (Q : Contents). queue.enter Q (transaction_of q) d) a.queue ∙ ap (λ (x : Transaction). queue.enter (queue_of (window b r.history)) x d) (same-transaction q)
 
-  pub agrees-prepared : (q : Request) → owes b S (Prepared q) → AtMost (window b r.history).threshold q.tx → has h.table.transactions q.tx ≡ false → AllByRecursion (λ w. w.0.page < h.next_grant) q.writes → Moves h M (Prepared q) N
+  pub agrees-prepared : (q : Request) → owes b S (Prepared q) → has h.table.transactions q.tx ≡ false → AllByRecursion (λ w. w.0.page < h.next_grant) q.writes → Moves h M (Prepared q) N
       → Agrees b (with_entry r (Prepared q)) (entered h (Prepared q)) N
-  agrees-prepared q ow low unkept granted m = record {
-    held = subst (HeldAgrees b (with_entry r (Prepared q)) (entered h (Prepared q))) (sym m.requested) (held-prepared b r h M.requested q a.held low unkept granted ow);
+  agrees-prepared q ow unkept granted m = record {
+    held = subst (HeldAgrees b (with_entry r (Prepared q)) (entered h (Prepared q))) (sym m.requested) (held-prepared b r h M.requested q a.held unkept granted ow);
     queue = m.queue ∙ (enters q false ∙ sym (follows b r.history (Prepared q) a.held.owed.sound));
-    drawn = m.drawn ∙ (a.drawn ∙ sym (drawn-entry (Prepared q) ow low));
+    drawn = m.drawn ∙ (a.drawn ∙ sym (drawn-entry (Prepared q) ow));
   }
 
-  pub agrees-one : (q : Request) → owes b S (One q) → AtMost (window b r.history).threshold q.tx → has h.table.transactions q.tx ≡ false → AllByRecursion (λ w. w.0.page < h.next_grant) q.writes → Moves h M (One q) N
+  pub agrees-one : (q : Request) → owes b S (One q) → has h.table.transactions q.tx ≡ false → AllByRecursion (λ w. w.0.page < h.next_grant) q.writes → Moves h M (One q) N
       → Agrees b (with_entry r (One q)) (entered h (One q)) N
-  agrees-one q ow low unkept granted m = record {
-    held = subst (HeldAgrees b (with_entry r (One q)) (entered h (One q))) (sym m.requested) (held-one b r h M.requested q a.held low unkept granted ow);
+  agrees-one q ow unkept granted m = record {
+    held = subst (HeldAgrees b (with_entry r (One q)) (entered h (One q))) (sym m.requested) (held-one b r h M.requested q a.held unkept granted ow);
     queue = m.queue ∙ (ap (λ x. cond x (queue.cleared q.tx) (queue.enter M.queue (transaction_of q) true)) (same-kind q.kind ∙ ow.2) ∙ (enters q true ∙ sym (follows b r.history (One q) a.held.owed.sound)));
-    drawn = m.drawn ∙ (a.drawn ∙ sym (drawn-entry (One q) ow low));
+    drawn = m.drawn ∙ (a.drawn ∙ sym (drawn-entry (One q) ow));
   }
 
-  pub agrees-upgraded : (q : Request) → owes b S (Upgraded q) → AtMost (window b r.history).threshold q.tx → has h.table.transactions q.tx ≡ false → AllByRecursion (λ w. w.0.page < h.next_grant) q.writes → Moves h M (Upgraded q) N
+  pub agrees-upgraded : (q : Request) → owes b S (Upgraded q) → has h.table.transactions q.tx ≡ false → AllByRecursion (λ w. w.0.page < h.next_grant) q.writes → Moves h M (Upgraded q) N
       → Agrees b (with_entry r (Upgraded q)) (entered h (Upgraded q)) N
-  agrees-upgraded q ow low unkept granted m = record {
-    held = subst (HeldAgrees b (with_entry r (Upgraded q)) (entered h (Upgraded q))) (sym m.requested) (held-upgraded b r h M.requested q a.held low unkept granted ow);
+  agrees-upgraded q ow unkept granted m = record {
+    held = subst (HeldAgrees b (with_entry r (Upgraded q)) (entered h (Upgraded q))) (sym m.requested) (held-upgraded b r h M.requested q a.held unkept granted ow);
     queue = m.queue ∙ (ap (λ x. cond x (queue.cleared q.tx) (queue.enter M.queue (transaction_of q) true)) (same-kind q.kind ∙ ow.2) ∙ sym (follows b r.history (Upgraded q) a.held.owed.sound));
-    drawn = m.drawn ∙ (a.drawn ∙ sym (drawn-entry (Upgraded q) ow low));
+    drawn = m.drawn ∙ (a.drawn ∙ sym (drawn-entry (Upgraded q) ow));
   }
 
   -- the queue behind a decision
@@ -90,14 +89,14 @@ module _ (b : Base) (r : Recorded) (h : Held) (M N : Memory) (a : Agrees b r h M
   agrees-decided t q c there ow m = record {
     held = subst (HeldAgrees b (with_entry r (Decided t c)) (entered h (Decided t c))) (sym m.requested) (held-decided b r h M.requested t q a.held there c ow);
     queue = m.queue ∙ (closes t q c there ∙ sym (follows b r.history (Decided t c) a.held.owed.sound));
-    drawn = m.drawn ∙ (a.drawn ∙ sym (drawn-entry (Decided t c) ow tt));
+    drawn = m.drawn ∙ (a.drawn ∙ sym (drawn-entry (Decided t c) ow));
   }
 
   pub agrees-finished : (t : Ts) (q : Request) (c : Bool) → open_at h.table t ≡ Some q → owes b S (Finished t c) → Moves h M (Finished t c) N → Agrees b (with_entry r (Finished t c)) (entered h (Finished t c)) N
   agrees-finished t q c there ow m = record {
     held = subst (HeldAgrees b (with_entry r (Finished t c)) (entered h (Finished t c))) (sym m.requested) (held-finished b r h M.requested t q a.held there c ow);
     queue = m.queue ∙ (closes t q c there ∙ sym (follows b r.history (Finished t c) a.held.owed.sound));
-    drawn = m.drawn ∙ (a.drawn ∙ sym (drawn-entry (Finished t c) ow tt));
+    drawn = m.drawn ∙ (a.drawn ∙ sym (drawn-entry (Finished t c) ow));
   }
 
 -- ---- a life, whatever the queue was
@@ -107,7 +106,7 @@ agrees-life b r h M N n a ow m = record {
   held = subst (HeldAgrees b (with_entry r (Life n)) (entered h (Life n))) (sym m.requested) (held-life b r h M.requested n a ow);
   queue = queue-life b r h M N n a m;
   drawn = m.drawn ∙ (ap (λ (t : Ts). t.time) a.threshold ∙ sym
-      (ap (last_drawn b) (trace-behind b r a.owed (Life n) ow tt) ∙ (drawn-end b (trace_of r) (E (Life n))
+      (ap (last_drawn b) (trace-behind b r a.owed (Life n) ow) ∙ (drawn-end b (trace_of r) (E (Life n))
       ∙ ap (λ (H : List Entry). drawn_after (state b H) (last_drawn b (trace_of r)) (E (Life n))) (entries-items r.history r.marks a.owed.trace))));
 }
 

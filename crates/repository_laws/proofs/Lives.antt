@@ -65,7 +65,7 @@ module _ (b : Base) (r : Recorded) (h : Held) (requested : Set ts_cmp) (n : ℕ)
   }
 
   pub held-life : owes b S (Life n) → HeldAgrees b (with_entry r (Life n)) (entered h (Life n)) requested
-  held-life ow = held-behind b r h requested (Life n) (entered h (Life n)) requested a ow tt (parts-with h.repo a.repo)
+  held-life ow = held-behind b r h requested (Life n) (entered h (Life n)) requested a ow (parts-with h.repo a.repo)
 
 -- ---- the queue
 

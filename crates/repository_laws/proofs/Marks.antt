@@ -54,8 +54,6 @@ module _ (b : Base) (r : Recorded) (m : Mark) (plain : IsPlain r.history m) wher
     trace = is-trace-marked o.trace;
     sound = o.sound;
     settled = o.settled;
-    floor = o.floor;
-    above = o.above;
     forgotten = λ t h. by t (forgets t (M m)) refl h;
   }
     where

@@ -6,7 +6,6 @@ use Rattle.local_history.specs.Sound.{owes}
 use Rattle.repository_laws.proofs.Owed.{forgotten-behind, owed-behind, state-behind, trace-behind}
 use Rattle.repository_laws.proofs.Traced.{next-same}
 use Rattle.repository_laws.specs.Agreeing.{HeldAgrees, IsOwed, state_of, trace_of}
-use Rattle.repository_laws.specs.Coming.{IsNotBelow}
 use Rattle.repository_laws.specs.Tables.{TableAgrees}
 use Rattle.session_outbox.proofs.Traces.{entries-items}
 use Rattle.session_outbox.specs.Calls.{is_forgotten, is_kept, next_page}
@@ -28,7 +27,6 @@ use Rattle.thor_value.specs.declared.names.Ts.{Ts}
 use Rattle.thor_value.specs.declared.values.Obj.{Obj}
 use Rattle.trace_record.specs.Recorded.{Recorded, with_entry}
 use Rattle.two_phase.specs.Contents.{keeps}
-use Rattle.validation_window.specs.Window.{window}
 
 -- What is held behind an entry, part by part, where S is the state behind it.
 pub record Parts (b : Base) (r : Recorded) (S : State) (h new : Held) (requested : Set ts_cmp) : Type 0 where
@@ -50,11 +48,10 @@ kept-by b r o t = ap (λ (H : List Entry). has (state b H).kept t && not (is_for
 counted : (n k : ℕ) (H : List Entry) (e : Entry) → n ≡ k + length H → n + 1 ≡ k + length (H ++ e ∷ [])
 counted n k H e h = let l : length (H ++ e ∷ []) ≡ length H + 1 = length-append H (e ∷ []) in omega arith
 
-pub held-behind : (b : Base) (r : Recorded) (h : Held) (before : Set ts_cmp) (e : Entry) (new : Held) (requested : Set ts_cmp) → HeldAgrees b r h before → owes b (state_of b r) e → IsNotBelow (window b r.history).threshold e
-    → Parts b r (put b (state_of b r) e) h new requested → HeldAgrees b (with_entry r e) new requested
-held-behind b r h before e new requested a ow above p =
-    let S : state_of b (with_entry r e) ≡ put b (state_of b r) e = state-behind b r a.owed e ow above in
-    let o : IsOwed b (with_entry r e) = owed-behind b r a.owed e ow above in
+pub held-behind : (b : Base) (r : Recorded) (h : Held) (before : Set ts_cmp) (e : Entry) (new : Held) (requested : Set ts_cmp) → HeldAgrees b r h before → owes b (state_of b r) e → Parts b r (put b (state_of b r) e) h new requested → HeldAgrees b (with_entry r e) new requested
+held-behind b r h before e new requested a ow p =
+    let S : state_of b (with_entry r e) ≡ put b (state_of b r) e = state-behind b r a.owed e ow in
+    let o : IsOwed b (with_entry r e) = owed-behind b r a.owed e ow in
     record {
       owed = o;
       repo = p.repo ∙ a.repo;
@@ -63,8 +60,8 @@ held-behind b r h before e new requested a ow above p =
       threshold = p.threshold ∙ sym (ap (λ (Z : State). Z.top) S);
       upgrades = p.upgrades ∙ sym (ap (λ (Z : State). Z.texts) S);
       table = subst (λ (Z : State). TableAgrees b Z new.table) (sym S) p.table;
-      kept = λ t l. p.kept t l ∙ (ap (λ x. has (put b (state_of b r) e).kept t && not x) (sym (forgotten-behind b r a.owed e ow above t)) ∙ (ap (λ (Z : State). has Z.kept t && not (is_forgotten (trace_of (with_entry r e)) t)) (sym S) ∙ sym (kept-by b (with_entry r e) o t)));
-      next = p.next ∙ (a.next ∙ sym (ap (next_page b) (trace-behind b r a.owed e ow above) ∙ next-same b (trace_of r) (E e) refl));
+      kept = λ t l. p.kept t l ∙ (ap (λ x. has (put b (state_of b r) e).kept t && not x) (sym (forgotten-behind b r a.owed e ow t)) ∙ (ap (λ (Z : State). has Z.kept t && not (is_forgotten (trace_of (with_entry r e)) t)) (sym S) ∙ sym (kept-by b (with_entry r e) o t)));
+      next = p.next ∙ (a.next ∙ sym (ap (next_page b) (trace-behind b r a.owed e ow) ∙ next-same b (trace_of r) (E e) refl));
       pages = p.pages;
       came = λ t k. p.came t (sym (ap (λ (Z : State). is_some (get Z.known t)) S) ∙ k);
     }

@@ -30,8 +30,7 @@ use Rattle.trace_record.specs.Recorded.{Recorded, with_entry}
 use Rattle.two_phase.specs.Contents.{Contents, finished, keeps, open_at, request_of}
 use Rattle.two_phase.specs.declared.transaction.Transaction.TheVariants as kept
 use Rattle.two_phase.specs.declared.transaction.Transaction.{Transaction}
-use Rattle.validation_window.specs.Window.{window}
-use Rattle.local_history.proofs.Stamps.{at_most_then}
+use Rattle.local_history.proofs.Stamps.{before_at_most}
 
 no-open : (o : Option Transaction) → is_some o ≡ false → option_and_then request_of o ≡ None
 no-open None e = refl
@@ -42,7 +41,7 @@ no-keeps None e = refl
 no-keeps (Some v) e = cc
 
 module _ (b : Base) (r : Recorded) (h : Held) (requested : Set ts_cmp) (q : Request) (a : HeldAgrees b r h requested)
-    (low : AtMost (window b r.history).threshold q.tx) (unkept : has h.table.transactions q.tx ≡ false) (granted : AllByRecursion (λ w. w.0.page < h.next_grant) q.writes) where
+    (unkept : has h.table.transactions q.tx ≡ false) (granted : AllByRecursion (λ w. w.0.page < h.next_grant) q.writes) where
   abbrev S : State
   S = state_of b r
 
@@ -98,7 +97,7 @@ module _ (b : Base) (r : Recorded) (h : Held) (requested : Set ts_cmp) (q : Requ
   entered-prepared = sym (ap (λ o. opened (opened_in (finished h.table q.tx o) q)) none-open)
 
   pub held-prepared : owes b S (Prepared q) → HeldAgrees b (with_entry r (Prepared q)) (entered h (Prepared q)) (add requested q.tx)
-  held-prepared ow = held-behind b r h requested (Prepared q) (entered h (Prepared q)) (add requested q.tx) a ow low
+  held-prepared ow = held-behind b r h requested (Prepared q) (entered h (Prepared q)) (add requested q.tx) a ow
       (subst (λ n. Parts b r (put b S (Prepared q)) h n (add requested q.tx)) entered-prepared prepared-parts)
 
   -- ---- one that commits here alone
@@ -135,11 +134,11 @@ module _ (b : Base) (r : Recorded) (h : Held) (requested : Set ts_cmp) (q : Requ
   }
 
   pub held-one : owes b S (One q) → HeldAgrees b (with_entry r (One q)) (entered h (One q)) (add requested q.tx)
-  held-one ow = held-behind b r h requested (One q) (entered h (One q)) (add requested q.tx) a ow low (one-parts ow.2)
+  held-one ow = held-behind b r h requested (One q) (entered h (One q)) (add requested q.tx) a ow (one-parts ow.2)
 
   upgraded-parts : Admits b S q → is_upgrade q ≡ true → Parts b r (put b S (Upgraded q)) h (entered h (Upgraded q)) (add requested q.tx)
   upgraded-parts ad kind =
-      let above : AtMost b.top q.tx = at_most_then b.top (window b r.history).threshold q.tx a.owed.floor low in
+      let above : AtMost b.top q.tx = before_at_most b.top q.tx ad.above in
       record {
         repo = refl;
         life = a.life;
@@ -158,4 +157,4 @@ module _ (b : Base) (r : Recorded) (h : Held) (requested : Set ts_cmp) (q : Requ
       }
 
   pub held-upgraded : owes b S (Upgraded q) → HeldAgrees b (with_entry r (Upgraded q)) (entered h (Upgraded q)) (add requested q.tx)
-  held-upgraded ow = held-behind b r h requested (Upgraded q) (entered h (Upgraded q)) (add requested q.tx) a ow low (upgraded-parts ow.0 ow.2)
+  held-upgraded ow = held-behind b r h requested (Upgraded q) (entered h (Upgraded q)) (add requested q.tx) a ow (upgraded-parts ow.0 ow.2)

@@ -4,7 +4,7 @@ use Rattle.commit_log.specs.declared.entry.Entry.{Entry}
 use Rattle.held_state.specs.Entering.{entered}
 use Rattle.held_state.specs.declared.held.Held.{Held}
 use Rattle.local_history.specs.History.{Base, State}
-use Rattle.repository_laws.proofs.Accepted.{not-too-old, owes-decided, owes-finished, owes-one, owes-prepared, owes-upgraded}
+use Rattle.repository_laws.proofs.Accepted.{owes-decided, owes-finished, owes-one, owes-prepared, owes-upgraded}
 use Rattle.repository_laws.proofs.Decisions.{held-decided, held-finished}
 use Rattle.repository_laws.proofs.Entries.{agrees-decided, agrees-finished, agrees-life, agrees-one, agrees-prepared, agrees-upgraded}
 use Rattle.repository_laws.proofs.Lives.{held-life}
@@ -92,15 +92,15 @@ module _ (b : Base) (x : Repository) (N : Memory) (a : IsInAgreement b x) where
   comes (One q) may m =
       let c : RequestComes b x q = may.0 in
       agrees-one b x.trace x.held x.memory N a q (owes-one b x.trace x.held x.memory c.session q a c.sessions c.accepted c.vouched.vouched may.1 may.2)
-      (not-too-old b x.trace x.held x.memory c.session q a c.sessions c.accepted) c.accepted.unkept c.vouched.granted m
+      c.accepted.unkept c.vouched.granted m
   comes (Prepared q) may m =
       let c : RequestComes b x q = may.0 in
       agrees-prepared b x.trace x.held x.memory N a q (owes-prepared b x.trace x.held x.memory c.session q a c.sessions c.accepted c.vouched.vouched may.1)
-      (not-too-old b x.trace x.held x.memory c.session q a c.sessions c.accepted) c.accepted.unkept c.vouched.granted m
+      c.accepted.unkept c.vouched.granted m
   comes (Upgraded q) may m =
       let c : RequestComes b x q = may.0 in
       agrees-upgraded b x.trace x.held x.memory N a q (owes-upgraded b x.trace x.held x.memory c.session q a c.sessions c.accepted c.vouched.vouched may.1 may.2)
-      (not-too-old b x.trace x.held x.memory c.session q a c.sessions c.accepted) c.accepted.unkept c.vouched.granted m
+      c.accepted.unkept c.vouched.granted m
   comes (Decided t c) may m =
       let q = there (open_at x.held.table t) may.0 in
       agrees-decided b x.trace x.held x.memory N a t q.0 c q.1 (owes-decided b x.trace x.held x.memory.requested t q.0 a.held q.1 c may.1) m
@@ -155,15 +155,15 @@ module _ (b : Base) (x : Repository) (a : IsInAgreement b x) where
   held-comes (Life n) may = held-life b x.trace x.held x.memory.requested n a.held (may ∙ ap (λ k. k + 1) a.held.life)
   held-comes (One q) may =
       let c : RequestComes b x q = may.0 in
-      held-one b x.trace x.held x.memory.requested q a.held (not-too-old b x.trace x.held x.memory c.session q a c.sessions c.accepted) c.accepted.unkept c.vouched.granted
+      held-one b x.trace x.held x.memory.requested q a.held c.accepted.unkept c.vouched.granted
       (owes-one b x.trace x.held x.memory c.session q a c.sessions c.accepted c.vouched.vouched may.1 may.2)
   held-comes (Prepared q) may =
       let c : RequestComes b x q = may.0 in
-      held-prepared b x.trace x.held x.memory.requested q a.held (not-too-old b x.trace x.held x.memory c.session q a c.sessions c.accepted) c.accepted.unkept c.vouched.granted
+      held-prepared b x.trace x.held x.memory.requested q a.held c.accepted.unkept c.vouched.granted
       (owes-prepared b x.trace x.held x.memory c.session q a c.sessions c.accepted c.vouched.vouched may.1)
   held-comes (Upgraded q) may =
       let c : RequestComes b x q = may.0 in
-      held-upgraded b x.trace x.held x.memory.requested q a.held (not-too-old b x.trace x.held x.memory c.session q a c.sessions c.accepted) c.accepted.unkept c.vouched.granted
+      held-upgraded b x.trace x.held x.memory.requested q a.held c.accepted.unkept c.vouched.granted
       (owes-upgraded b x.trace x.held x.memory c.session q a c.sessions c.accepted c.vouched.vouched may.1 may.2)
   held-comes (Decided t c) may =
       let q = there (open_at x.held.table t) may.0 in

@@ -1,13 +1,13 @@
 -- When what a repository keeps in memory says what its history says.
 use Rattle.held_state.specs.declared.held.Held.{Held}
-use Rattle.local_history.specs.History.{Base, Known, State, known_by, state}
+use Rattle.local_history.specs.History.{Base, State, state}
 use Rattle.local_history.specs.Sound.{sound}
 use Rattle.repository_laws.specs.Tables.{TableAgrees}
 use Rattle.session_outbox.specs.Calls.{is_forgotten, is_kept, last_drawn, next_page}
 use Rattle.session_outbox.specs.Trace.{IsTrace, Item, items}
-use Rattle.std.specs.Prelude.{List, None, Some, is_some, length, true, ◌+◌, ◌<◌, ◌≡◌, ◌≤◌}
+use Rattle.std.specs.Prelude.{List, None, is_some, length, true, ◌+◌, ◌<◌, ◌≡◌, ◌≤◌}
 use Rattle.thor_value.specs.FiniteMap.{Set, get, has}
-use Rattle.thor_value.specs.Names.{AtMost, ts_cmp}
+use Rattle.thor_value.specs.Names.{ts_cmp}
 use Rattle.thor_value.specs.declared.names.Ts.{Ts}
 use Rattle.trace_record.specs.Recorded.{Recorded}
 use Rattle.two_phase.specs.Contents.{keeps}
@@ -29,9 +29,6 @@ pub record IsOwed (b : Base) (r : Recorded) : Type 0 where
   pub sound : sound b r.history
   -- of the transactions that earlier runs left prepared none has still to be settled
   pub settled : (t : Ts) → get (state_of b r).left t ≡ None
-  -- no transaction is below those that committed in earlier runs
-  pub floor : AtMost b.top (window b r.history).threshold
-  pub above : (t : Ts) (o : Known) → known_by b r.history t ≡ Some o → AtMost b.top t
   -- a decision that was forgotten had been made here
   pub forgotten : (t : Ts) → is_forgotten (trace_of r) t ≡ true → has (state_of b r).kept t ≡ true
 

@@ -6,7 +6,7 @@ use Rattle.held_state.specs.declared.held.Held.{Held}
 use Rattle.std.specs.Option.{option_map}
 use Rattle.std.specs.Prelude.{Bool, None, Option, Some, cond, false, nat_eq, true, ◌&&◌, ◌≡◌, ℕ}
 use Rattle.thor_value.specs.FiniteMap.{IsSorted, Set, add, get, has}
-use Rattle.thor_value.specs.Names.{AtMost, ts_cmp}
+use Rattle.thor_value.specs.Names.{ts_cmp}
 use Rattle.thor_value.specs.declared.names.Ts.{Ts}
 use Rattle.two_phase.specs.Contents as table
 use Rattle.two_phase.specs.Contents.{open_at}
@@ -15,15 +15,6 @@ use Rattle.validation_queue.specs.Contents as queue
 use Rattle.validation_queue.specs.Contents.{Contents}
 use Rattle.validation_queue.specs.declared.member.Member as queued
 use Rattle.volatile_state.specs.Volatile.{Memory, is_upgrade_kind, stands_at, transaction_of}
-
--- a request isn't below a timestamp
-abbrev pub IsNotBelow : Ts → Entry → Type 0
-IsNotBelow t (Life n) = Unit {0}
-IsNotBelow t (One q) = AtMost t q.tx
-IsNotBelow t (Prepared q) = AtMost t q.tx
-IsNotBelow t (Decided u c) = Unit {0}
-IsNotBelow t (Finished u c) = Unit {0}
-IsNotBelow t (Upgraded q) = AtMost t q.tx
 
 -- the queue, the transactions that came and the time drawn last become these; of the sessions nothing is said
 pub record Becomes (M : Memory) (behind : Contents) (came : Set ts_cmp) (time : ℕ) : Type 0 where

@@ -11,27 +11,25 @@ ghost use Rattle.repository_laws.specs.Coming.{Moves};
 ghost use Rattle.std.specs.List.{AllByRecursion};
 ghost use Rattle.std.specs.Prelude.{Bool, Some, false, true, ℕ, ◌<◌, ◌≡◌, ◌≢◌};
 ghost use Rattle.thor_value.specs.FiniteMap.{has};
-ghost use Rattle.thor_value.specs.Names.{AtMost};
 ghost use Rattle.thor_value.specs.declared.names.Ts.{Ts};
 ghost use Rattle.trace_record.specs.Recorded.{Recorded, with_entry};
 ghost use Rattle.two_phase.specs.Contents.{open_at};
-ghost use Rattle.validation_window.specs.Window.{window};
 ghost use Rattle.volatile_state.specs.Volatile.{Memory, entered as entered_memory};
 
-/// Memory and history agree behind a request that owes nothing, isn't below the window's threshold, isn't in the table
-/// and writes on pages that were granted. What `volatile_state` says of a request that is prepared is what its law asks
+/// Memory and history agree behind a request that owes nothing, isn't in the table and writes on pages that were
+/// granted. What `volatile_state` says of a request that is prepared is what its law asks
 /// of the memory.
 pub fn requests_agree()
     ensures prepared { (b : Base) (r : Recorded) (h : Held) (M N : Memory) (q : Request) → Agrees b r h M →
-        owes b (state_of b r) (Prepared q) → AtMost (window b r.history).threshold q.tx →
+        owes b (state_of b r) (Prepared q) →
         has h.table.transactions q.tx ≡ false → AllByRecursion (λ w. w.0.page < h.next_grant) q.writes →
         Moves h M (Prepared q) N → Agrees b (with_entry r (Prepared q)) (entered h (Prepared q)) N }
     ensures one { (b : Base) (r : Recorded) (h : Held) (M N : Memory) (q : Request) → Agrees b r h M →
-        owes b (state_of b r) (One q) → AtMost (window b r.history).threshold q.tx →
+        owes b (state_of b r) (One q) →
         has h.table.transactions q.tx ≡ false → AllByRecursion (λ w. w.0.page < h.next_grant) q.writes →
         Moves h M (One q) N → Agrees b (with_entry r (One q)) (entered h (One q)) N }
     ensures upgraded { (b : Base) (r : Recorded) (h : Held) (M N : Memory) (q : Request) → Agrees b r h M →
-        owes b (state_of b r) (Upgraded q) → AtMost (window b r.history).threshold q.tx →
+        owes b (state_of b r) (Upgraded q) →
         has h.table.transactions q.tx ≡ false → AllByRecursion (λ w. w.0.page < h.next_grant) q.writes →
         Moves h M (Upgraded q) N → Agrees b (with_entry r (Upgraded q)) (entered h (Upgraded q)) N }
     ensures memory { (h : Held) (M : Memory) (q : Request) → Moves h M (Prepared q) (entered_memory M q false) }

@@ -3,6 +3,7 @@ use Rattle.commit_log.specs.declared.entry.Entry.TheVariants.{One, Prepared, Upg
 use Rattle.commit_log.specs.declared.entry.Entry.{Entry}
 use Rattle.commit_log.specs.declared.request.Request.{Request}
 use Rattle.local_history.proofs.Growth.{sound-end}
+use Rattle.session_outbox.proofs.Above.{request-above}
 use Rattle.validation_window.proofs.Room.{room_left}
 use Rattle.validation_window.proofs.Validated.{neither, nothing_holds, validated}
 use Rattle.local_history.specs.History.{Base, state}
@@ -35,7 +36,7 @@ module _ (b : Base) (T : List Item) (s : ℕ) (q : Request) (sd : sound b (entri
       let p = passed b (entries T) s q (session b T s) e in
       let a = validated b (entries T) q _ _ sd h.once p.3 in
       let none = nothing_holds (state b (entries T)) (window b (entries T)) _ _ q p.3 in
-      record { vouched = h; current = a.0; accepted = a.1; room = room_left b (entries T) sd (neither _ _ none.limits).0 }
+      record { vouched = h; current = a.0; above = request-above b (entries T) sd q none.old; accepted = a.1; room = room_left b (entries T) sd (neither _ _ none.limits).0 }
 
   continued : (e : Entry) → owes b (state b (entries T)) e → Continues b (entries T) e
   continued e o = (o, sound-end b (entries T) e sd o)

@@ -16,5 +16,6 @@ pub mod Outlived
 pub mod Fences
 pub mod EpochsTold
 pub mod Thresholds
+pub mod Above
 pub mod OwnExample
 pub mod GapExample

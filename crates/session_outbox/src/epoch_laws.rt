@@ -9,6 +9,8 @@ ghost use Rattle.local_history.specs.Sound.{sound};
 ghost use Rattle.session_outbox.specs.Trace.{Item, entries};
 ghost use Rattle.std.specs.Option.{IfSome};
 ghost use Rattle.std.specs.Prelude.{List, ℕ};
+ghost use Rattle.thor_value.specs.Names.{AtMost};
+ghost use Rattle.validation_window.specs.Window.{window};
 
 /// A request's epoch is the base's plus the upgrades before it, by place and by timestamp alike.
 pub fn fences_count()
@@ -24,7 +26,8 @@ pub fn epochs_are_told()
 {}
 
 /// The window's threshold and the greatest timestamp are those of transactions that committed, or the
-/// base's.
+/// base's. So the threshold isn't below what committed in earlier runs.
 pub fn thresholds_commit()
-    ensures { (b : Base) (H : List Entry) → sound b H → ThresholdsCommit b H }
+    ensures committed { (b : Base) (H : List Entry) → sound b H → ThresholdsCommit b H }
+    ensures above { (b : Base) (H : List Entry) → sound b H → AtMost b.top (window b H).threshold }
 {}

@@ -2,7 +2,7 @@
 use Rattle.commit_log.specs.declared.entry.Entry.{Entry}
 use Rattle.commit_log.specs.declared.request.Request.{Request}
 use Rattle.validation_window.proofs.Covered.{held}
-use Rattle.local_history.proofs.Stamps.{at_most_itself, at_most_then, first_at_most, second_at_most}
+use Rattle.local_history.proofs.Stamps.{at_most_before, at_most_itself, at_most_then, first_at_most, second_at_most}
 use Rattle.local_history.proofs.Decided.{written_keys}
 use Rattle.local_history.proofs.Meeting.{in_order, not_both_ways, or_cases, or_first, or_second}
 use Rattle.validation_window.specs.Covers.{MemberFits}
@@ -176,6 +176,10 @@ less_is : (o : Ordering) → is_lt o ≡ true → o ≡ Less
 less_is Less e = refl
 less_is Equal e = cc
 less_is Greater e = cc
+
+-- what isn't too old is above the threshold
+pub above_threshold : (W : Window) (q : Request) → too_old W q ≡ None → Before W.threshold q.tx
+above_threshold W q old = at_most_before W.threshold (bar W q) q.tx (bar_above W q) (less_is (ts_cmp (bar W q) q.tx) (only_if (is_before (bar W q) q.tx) _ old))
 
 is_before_true : (t u : Ts) → Before t u → is_before t u ≡ true
 is_before_true t u e = ap is_lt e

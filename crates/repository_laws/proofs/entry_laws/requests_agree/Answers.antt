@@ -4,8 +4,8 @@ use Rattle.repository_laws.proofs.entry_laws.requests_agree.Goals as goal
 
 pub returns : goal.returns
 returns c = record {
-  prepared = λ b r h M N q a ow low unkept granted m. agrees-prepared b r h M N a q ow low unkept granted m;
-  one = λ b r h M N q a ow low unkept granted m. agrees-one b r h M N a q ow low unkept granted m;
-  upgraded = λ b r h M N q a ow low unkept granted m. agrees-upgraded b r h M N a q ow low unkept granted m;
+  prepared = λ b r h M N q a ow unkept granted m. agrees-prepared b r h M N a q ow unkept granted m;
+  one = λ b r h M N q a ow unkept granted m. agrees-one b r h M N a q ow unkept granted m;
+  upgraded = λ b r h M N q a ow unkept granted m. agrees-upgraded b r h M N a q ow unkept granted m;
   memory = λ h M q. record { queue = refl; requested = refl; drawn = refl };
 }
