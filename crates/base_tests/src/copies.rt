@@ -6,7 +6,6 @@ ghost use Rattle.client_cache.specs.Placing.{IsObjectPage};
 use client_cache::{Cache, Looked};
 use page_format::Page;
 use std::alloc::Global;
-use std::test::Fail;
 use thor_value::{NoMemory, Obj, Oref, Orefs, Text, Value, Values};
 
 /// A name: its repository, its page and its slot.
@@ -184,15 +183,11 @@ fn held(alloc: Global, steps: &[Step]) -> Result<usize, NoMemory> {
 }
 
 #[test]
-fn tries_leave_copies_as_they_were(rt: HostRuntime) -> Result<(), Fail> {
-    let count = held(rt.alloc(), TRIES)?;
-    assert!(rt; count == TRIES.len(), "behind {count} steps");
-    Ok(())
+fn tries_leave_copies_as_they_were(rt: HostRuntime) {
+    assert!(rt; held(rt.alloc(), TRIES) == Ok(TRIES.len()));
 }
 
 #[test]
-fn pages_used_least_recently_leave(rt: HostRuntime) -> Result<(), Fail> {
-    let count = held(rt.alloc(), PAGES)?;
-    assert!(rt; count == PAGES.len(), "behind {count} steps");
-    Ok(())
+fn pages_used_least_recently_leave(rt: HostRuntime) {
+    assert!(rt; held(rt.alloc(), PAGES) == Ok(PAGES.len()));
 }

@@ -2,7 +2,6 @@
 
 use method_eval::Names;
 use std::alloc::Global;
-use std::test::Fail;
 use thor_value::{NoMemory, Oref, Orefs};
 
 /// What is done to names, or seen of them.
@@ -155,39 +154,45 @@ fn all_hold(names: &mut Names, steps: &[Step]) -> Result<bool, NoMemory> {
     Ok(true)
 }
 
-#[test]
-fn a_page_gives_its_twelve_names_in_order(rt: HostRuntime) -> Result<(), Fail> {
-    assert!(rt; all_hold(&mut Names::new(rt.alloc()), TWELVE)?);
-    Ok(())
+/// Whether each step comes out as it says with names of which none is granted yet.
+fn from_none(alloc: Global, steps: &[Step]) -> Result<bool, NoMemory> {
+    let mut names = Names::new(alloc);
+    all_hold(&mut names, steps)
 }
 
 #[test]
-fn names_that_are_taken_back_are_given_again(rt: HostRuntime) -> Result<(), Fail> {
-    assert!(rt; all_hold(&mut Names::new(rt.alloc()), TAKEN_BACK)?);
-    Ok(())
+fn a_page_gives_its_twelve_names_in_order(rt: HostRuntime) {
+    assert!(rt; from_none(rt.alloc(), TWELVE) == Ok(true));
 }
 
 #[test]
-fn a_page_that_comes_again_lacks_the_spent_names(rt: HostRuntime) -> Result<(), Fail> {
-    assert!(rt; all_hold(&mut Names::new(rt.alloc()), AGAIN)?);
-    Ok(())
+fn names_that_are_taken_back_are_given_again(rt: HostRuntime) {
+    assert!(rt; from_none(rt.alloc(), TAKEN_BACK) == Ok(true));
 }
 
 #[test]
-fn repositories_have_names_of_their_own(rt: HostRuntime) -> Result<(), Fail> {
-    assert!(rt; all_hold(&mut Names::new(rt.alloc()), SEVERAL)?);
-    Ok(())
+fn a_page_that_comes_again_lacks_the_spent_names(rt: HostRuntime) {
+    assert!(rt; from_none(rt.alloc(), AGAIN) == Ok(true));
+}
+
+#[test]
+fn repositories_have_names_of_their_own(rt: HostRuntime) {
+    assert!(rt; from_none(rt.alloc(), SEVERAL) == Ok(true));
 }
 
 fn listed(alloc: Global) -> Result<Orefs, NoMemory> {
     Orefs::from_slice(alloc, &[FIRST, SECOND, THIRD])
 }
 
+/// Whether each step comes out as it says where these names alone are given.
+fn from_listed(alloc: Global, steps: &[Step]) -> Result<bool, NoMemory> {
+    let mut names = Names::only_listed(alloc, &listed(alloc)?)?;
+    all_hold(&mut names, steps)
+}
+
 #[test]
-fn listed_names_are_given_and_no_others(rt: HostRuntime) -> Result<(), Fail> {
-    let mut names = Names::only_listed(rt.alloc(), &listed(rt.alloc())?)?;
-    assert!(rt; all_hold(&mut names, LISTED)?);
-    Ok(())
+fn listed_names_are_given_and_no_others(rt: HostRuntime) {
+    assert!(rt; from_listed(rt.alloc(), LISTED) == Ok(true));
 }
 
 /// Whether the stand-in names come, a page of them and one more.
@@ -205,10 +210,15 @@ fn stands_in(names: &mut Names) -> bool {
     names.next(0) == Some(BEHIND_ALL)
 }
 
+/// Whether they come behind these names.
+fn stands_in_behind(alloc: Global) -> Result<bool, NoMemory> {
+    let mut names = Names::listed(alloc, &listed(alloc)?)?;
+    let first = all_hold(&mut names, STAND_INS);
+    let then = stands_in(&mut names);
+    Ok(first? && then)
+}
+
 #[test]
-fn stand_in_names_come_behind_the_listed_ones(rt: HostRuntime) -> Result<(), Fail> {
-    let mut names = Names::listed(rt.alloc(), &listed(rt.alloc())?)?;
-    assert!(rt; all_hold(&mut names, STAND_INS)?);
-    assert!(rt; stands_in(&mut names));
-    Ok(())
+fn stand_in_names_come_behind_the_listed_ones(rt: HostRuntime) {
+    assert!(rt; stands_in_behind(rt.alloc()) == Ok(true));
 }

@@ -8,7 +8,6 @@ ghost use Rattle.log_bytes.specs.declared.body.Body.TheVariants.{Entry as AnEntr
 use commit_log::Entry;
 use log_bytes::{Body, State, put_state, read_body, read_state, spell_entry, spell_installed};
 use std::alloc::Global;
-use std::test::Fail;
 use thor_value::{NoMemory, Text, TryCopy};
 
 /// A transaction that set a number to 1, committed alone.
@@ -102,13 +101,13 @@ fn is_spelled_installed(alloc: Global, page: u32, side: u8, bytes: &[u8]) -> boo
     }
 }
 
-/// Whether the bytes are a body that is spelled so again, an entry from a copy.
+/// Whether a body is spelled so again, an entry from a copy; nothing where the bytes are none.
 #[tactic(auto, unfolding(log_bytes::specs::Grammar::body_format))]
-fn is_spelled_again(alloc: Global, bytes: &[u8]) -> bool {
+fn is_spelled_again(alloc: Global, bytes: &[u8]) -> Option<bool> {
     match read_body(alloc, bytes) {
-        Ok(Body::Entry(entry)) => is_spelled(alloc, &entry, bytes),
-        Ok(Body::Installed { page, side }) => is_spelled_installed(alloc, page, side, bytes),
-        Err(_) => false,
+        Ok(Body::Entry(entry)) => Some(is_spelled(alloc, &entry, bytes)),
+        Ok(Body::Installed { page, side }) => Some(is_spelled_installed(alloc, page, side, bytes)),
+        Err(_) => None,
     }
 }
 
@@ -123,39 +122,49 @@ fn changed(alloc: Global, bytes: &[u8], at: usize, byte: u8) -> Result<Text, NoM
     Ok(changed)
 }
 
-fn is_body(alloc: Global, bytes: &[u8]) -> bool {
-    read_body(alloc, bytes).is_ok()
-}
-
 /// Whether no beginning of the bytes is a body, nor they with a byte behind them.
 fn is_apart(alloc: Global, bytes: &[u8]) -> Result<bool, NoMemory> {
     for len in 0..bytes.len() {
-        if is_body(alloc, bytes.split_at(len).0) {
+        if is_spelled_again(alloc, bytes.split_at(len).0).is_some() {
             return Ok(false);
         }
     }
     let longer = changed(alloc, bytes, bytes.len(), 0)?;
-    Ok(!is_body(alloc, longer.as_slice()))
+    Ok(is_spelled_again(alloc, longer.as_slice()).is_none())
 }
 
 /// Whether a body is spelled so again, and nothing with a byte more or some fewer is a body.
 fn has_one_spelling(alloc: Global, bytes: &[u8]) -> Result<bool, NoMemory> {
-    Ok(is_spelled_again(alloc, bytes) && is_apart(alloc, bytes)?)
+    Ok(is_spelled_again(alloc, bytes) == Some(true) && is_apart(alloc, bytes)?)
+}
+
+/// Whether each of the bodies is spelled so again, and the first transaction as one that brings an object to the
+/// present epoch.
+fn all_have_one_spelling(alloc: Global) -> Result<bool, NoMemory> {
+    for body in BODIES {
+        if !has_one_spelling(alloc, body)? {
+            return Ok(false);
+        }
+    }
+    let transform = changed(alloc, ONE, 23, 1)?;
+    has_one_spelling(alloc, transform.as_slice())
+}
+
+/// Whether none of the spoiled ones is a body.
+fn none_is_body(alloc: Global) -> Result<bool, NoMemory> {
+    for (body, at, byte) in SPOILED {
+        let spoiled = changed(alloc, body, *at, *byte)?;
+        if is_spelled_again(alloc, spoiled.as_slice()).is_some() {
+            return Ok(false);
+        }
+    }
+    Ok(true)
 }
 
 #[test]
-fn bodies_have_one_spelling(rt: HostRuntime) -> Result<(), Fail> {
-    for body in BODIES {
-        assert!(rt; has_one_spelling(rt.alloc(), body)?);
-    }
-    // The first transaction, as one that brings an object to the present epoch.
-    let transform = changed(rt.alloc(), ONE, 23, 1)?;
-    assert!(rt; has_one_spelling(rt.alloc(), transform.as_slice())?);
-    for (body, at, byte) in SPOILED {
-        let spoiled = changed(rt.alloc(), body, *at, *byte)?;
-        assert!(rt; !is_body(rt.alloc(), spoiled.as_slice()));
-    }
-    Ok(())
+fn bodies_have_one_spelling(rt: HostRuntime) {
+    assert!(rt; all_have_one_spelling(rt.alloc()) == Ok(true));
+    assert!(rt; none_is_body(rt.alloc()) == Ok(true));
 }
 
 /// Spells a checkpoint behind a byte.
@@ -181,25 +190,24 @@ fn is_state_spelled(alloc: Global, state: &State, bytes: &[u8]) -> bool
     }
 }
 
-/// Whether the bytes are a checkpoint that is spelled so again.
+/// Whether a checkpoint is spelled so again; nothing where the bytes are none.
 #[tactic(auto, unfolding(log_bytes::specs::Checkpoint::state_format))]
-fn state_has_one_spelling(alloc: Global, bytes: &[u8]) -> bool {
+fn state_has_one_spelling(alloc: Global, bytes: &[u8]) -> Option<bool> {
     match read_state(alloc, bytes) {
-        Ok(state) => is_state_spelled(alloc, &state, bytes),
-        Err(_) => false,
+        Ok(state) => Some(is_state_spelled(alloc, &state, bytes)),
+        Err(_) => None,
     }
-}
-
-fn is_state(alloc: Global, bytes: &[u8]) -> bool {
-    read_state(alloc, bytes).is_ok()
 }
 
 /// Whether the bytes are no checkpoint where they are cut, with this byte in place of another, or with one
 /// behind them.
 fn is_none(alloc: Global, bytes: &[u8], at: usize, byte: u8) -> Result<bool, NoMemory> {
     let spoiled = changed(alloc, bytes, at, byte)?;
-    let cut = is_state(alloc, bytes.split_at(at.min(bytes.len())).0);
-    Ok(!is_state(alloc, spoiled.as_slice()) && (!cut || at == bytes.len()))
+    let cut = bytes.split_at(at.min(bytes.len())).0;
+    Ok(
+        state_has_one_spelling(alloc, spoiled.as_slice()).is_none()
+            && (at == bytes.len() || state_has_one_spelling(alloc, cut).is_none()),
+    )
 }
 
 /// A byte of the checkpoint that makes it none: the format, a count of 2^62, a threshold's repository,
@@ -220,11 +228,18 @@ const NO_STATES: &[(usize, u8)] = &[
     (366, 0),
 ];
 
-#[test]
-fn checkpoints_have_one_spelling(rt: HostRuntime) -> Result<(), Fail> {
-    assert!(rt; state_has_one_spelling(rt.alloc(), FULL));
+/// Whether none of those is a checkpoint.
+fn none_is_state(alloc: Global) -> Result<bool, NoMemory> {
     for (at, byte) in NO_STATES {
-        assert!(rt; is_none(rt.alloc(), FULL, *at, *byte)?);
+        if !is_none(alloc, FULL, *at, *byte)? {
+            return Ok(false);
+        }
     }
-    Ok(())
+    Ok(true)
+}
+
+#[test]
+fn checkpoints_have_one_spelling(rt: HostRuntime) {
+    assert!(rt; state_has_one_spelling(rt.alloc(), FULL) == Some(true));
+    assert!(rt; none_is_state(rt.alloc()) == Ok(true));
 }

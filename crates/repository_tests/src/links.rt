@@ -2,7 +2,6 @@
 
 use link_table::Links;
 use std::alloc::Global;
-use std::test::Fail;
 use thor_value::NoMemory;
 
 /// What is done to pairs, or seen of them.
@@ -79,8 +78,6 @@ fn held(alloc: Global) -> Result<usize, NoMemory> {
 }
 
 #[test]
-fn pairs_are_walked_from_both_sides(rt: HostRuntime) -> Result<(), Fail> {
-    let count = held(rt.alloc())?;
-    assert!(rt; count == STEPS.len(), "behind {count} steps");
-    Ok(())
+fn pairs_are_walked_from_both_sides(rt: HostRuntime) {
+    assert!(rt; held(rt.alloc()) == Ok(STEPS.len()));
 }

@@ -2,7 +2,6 @@
 
 use cached_sets::Sets;
 use std::alloc::Global;
-use std::test::Fail;
 use thor_value::{NoMemory, Obj, Oref, Orefs, Values, Writes};
 use validation_queue::is_in_order;
 
@@ -124,16 +123,18 @@ fn walk(sets: &mut Sets, read: &Orefs, written: &Writes) -> Result<usize, NoMemo
     Ok(count)
 }
 
-fn held(alloc: Global, written: &Writes) -> Result<usize, NoMemory> {
+fn held_behind(alloc: Global, written: &Writes) -> Result<usize, NoMemory> {
     let read = Orefs::from_slice(alloc, &[X, Y])?;
     let mut sets = Sets::new(alloc)?;
     walk(&mut sets, &read, written)
 }
 
+fn held(alloc: Global) -> Result<usize, NoMemory> {
+    let written = writes(alloc)?;
+    held_behind(alloc, &written)
+}
+
 #[test]
-fn a_write_is_seen_by_the_others_that_have_the_page(rt: HostRuntime) -> Result<(), Fail> {
-    let written = writes(rt.alloc())?;
-    let count = held(rt.alloc(), &written)?;
-    assert!(rt; count == STEPS.len(), "behind {count} steps");
-    Ok(())
+fn a_write_is_seen_by_the_others_that_have_the_page(rt: HostRuntime) {
+    assert!(rt; held(rt.alloc()) == Ok(STEPS.len()));
 }

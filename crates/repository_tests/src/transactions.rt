@@ -4,7 +4,6 @@ ghost use Rattle.std.specs.Prelude.{◌≡◌};
 
 use commit_log::{Kind, Request};
 use std::alloc::Global;
-use std::test::Fail;
 use thor_value::{Answer, Ints, NoMemory, Orefs, Repos, Ts, Who, Writes};
 use two_phase::{Standing, Table};
 
@@ -173,15 +172,11 @@ fn held(alloc: Global, steps: &[Step]) -> Result<usize, NoMemory> {
 }
 
 #[test]
-fn transactions_are_open_then_kept_then_forgotten(rt: HostRuntime) -> Result<(), Fail> {
-    let count = held(rt.alloc(), KEPT)?;
-    assert!(rt; count == KEPT.len(), "behind {count} steps");
-    Ok(())
+fn transactions_are_open_then_kept_then_forgotten(rt: HostRuntime) {
+    assert!(rt; held(rt.alloc(), KEPT) == Ok(KEPT.len()));
 }
 
 #[test]
-fn aborted_and_finished_ones_leave(rt: HostRuntime) -> Result<(), Fail> {
-    let count = held(rt.alloc(), ABORTED)?;
-    assert!(rt; count == ABORTED.len(), "behind {count} steps");
-    Ok(())
+fn aborted_and_finished_ones_leave(rt: HostRuntime) {
+    assert!(rt; held(rt.alloc(), ABORTED) == Ok(ABORTED.len()));
 }
