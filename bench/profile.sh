@@ -17,6 +17,11 @@ shift
 [ $# -gt 0 ] || set -- gen 30
 work=$(mktemp -d "${TMPDIR:-/tmp}/profile.XXXXXX")
 trap 'rm -rf "$work"' EXIT
+# (valgrind gives up on sections for debuggers that it doesn't know; the names of functions stay)
+if [ "$(head -c 4 "$program" | tail -c 3)" = ELF ]; then
+    objcopy --strip-debug "$program" "$work/program"
+    program=$work/program
+fi
 status=0
 valgrind --tool=callgrind --trace-children=yes --callgrind-out-file="$work/counts.%p" "$program" "$@" \
     > "$work/out" 2> "$work/said" || status=$?

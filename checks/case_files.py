@@ -28,6 +28,7 @@ A case of several runs on one store goes on behind the output:
     nofolder                   in the next run the store's folder isn't there
     source broken              in the next run reading the script fails
     sink broken                in the next run each write of the output fails
+    sink N                     in the next run the output goes to a file, and no file can grow past N bytes
     --- then | words of the command line
     the script
     --- exit status

@@ -3,7 +3,7 @@ _kilntaupe() {
     local word=${COMP_WORDS[COMP_CWORD]} before=${COMP_WORDS[COMP_CWORD - 1]} options="--repos --store"
     COMPREPLY=()
     if [ "$COMP_CWORD" -eq 1 ]; then
-        mapfile -t COMPREPLY < <(compgen -W "check play gen --help --version" -- "$word")
+        mapfile -t COMPREPLY < <(compgen -W "check play run gen --help --version" -- "$word")
         return
     fi
     [ "${COMP_WORDS[1]} $COMP_CWORD" != "gen 2" ] || return

@@ -1,12 +1,11 @@
 -- Which entries committed a transaction, and what they leave of it at its coordinator.
 use Rattle.atomic_histories.proofs.Grown.{begun-alone, begun-commits, committed-stays}
-use Rattle.atomic_histories.specs.Asking.{forgets, is_forgotten, is_last_alone, keeps}
 use Rattle.commit_log.specs.declared.entry.Entry.TheVariants.{Decided, Finished, Life, One, Prepared, Upgraded}
 use Rattle.commit_log.specs.declared.entry.Entry.{Entry}
 use Rattle.commit_log.specs.declared.request.Request.{Request}
 use Rattle.local_history.proofs.Growth.{by_growth, sound-end, state-end}
 use Rattle.local_history.proofs.Listed.{end_cases, get_before, get_end, some_and}
-use Rattle.local_history.proofs.Making.{alone-put}
+use Rattle.local_history.proofs.Making.{alone-put, make}
 use Rattle.local_history.proofs.Places.{came_end, placed, stays}
 use Rattle.local_history.proofs.Settling.{at-key, caused-end}
 use Rattle.local_history.proofs.Steps.{by_settling}
@@ -15,10 +14,9 @@ use Rattle.local_history.specs.History.{Aborted, Base, Committed, Fate, IsCommit
 use Rattle.local_history.specs.Laws.{Asks}
 use Rattle.local_history.specs.Outcomes.{Causes, SettledAt, alone_at}
 use Rattle.local_history.specs.Sound.{owes, sound}
-use Rattle.session_outbox.specs.Trace.{E, Item, M, entries}
-use Rattle.session_outbox.specs.declared.mark.Mark.TheVariants as the
-use Rattle.session_outbox.specs.declared.mark.Mark.{Mark}
-use Rattle.std.proofs.Common.{Bool, List, [], ap, eq-eqb, false, inl, inr, length, refl, subst, suc, sym, true, zero, ℕ, ◌++◌, ◌<◌, ◌≡◌, ◌∙◌, ◌∷◌}
+use Rattle.session_outbox.specs.Calls.{is_forgotten, is_kept}
+use Rattle.session_outbox.specs.Trace.{Item, entries}
+use Rattle.std.proofs.Common.{Bool, List, [], ap, eq-eqb, false, inl, inr, length, refl, subst, sym, true, ℕ, ◌++◌, ◌<◌, ◌≡◌, ◌∙◌, ◌∷◌}
 use Rattle.std.proofs.lemmas.Cmp.{tied_itself}
 use Rattle.std.proofs.lemmas.Map.Views.{tells_apart}
 use Rattle.std.proofs.lemmas.Option.{same_Some}
@@ -32,27 +30,31 @@ use Rattle.std.specs.declared.cmp.Ordering.TheVariants.{Equal, Greater, Less}
 use Rattle.std.specs.declared.cmp.Ordering.{Ordering}
 use Rattle.thor_value.proofs.FiniteMap.{get-keep}
 use Rattle.thor_value.proofs.NameOrders.{ts_exact, ts_total}
-use Rattle.thor_value.specs.FiniteMap.{get}
+use Rattle.thor_value.specs.FiniteMap.{Map, get, has, values}
 use Rattle.thor_value.specs.Names.{same_ts, ts_cmp}
 use Rattle.thor_value.specs.declared.names.Ts.{Ts}
 
 -- ---- tests
 
-or-cases : (x y : Bool) → (x || y) ≡ true → (x ≡ true) ⊎ (y ≡ true)
+pub or-cases : (x y : Bool) → (x || y) ≡ true → (x ≡ true) ⊎ (y ≡ true)
 or-cases true y h = inl refl
 or-cases false y h = inr h
 
-and-both : (x y : Bool) → (x && y) ≡ true → (x ≡ true) × (y ≡ true)
+pub and-both : (x y : Bool) → (x && y) ≡ true → (x ≡ true) × (y ≡ true)
 and-both true y h = (refl, h)
 and-both false y h = cc
 
-or-right : (x y : Bool) → y ≡ true → (x || y) ≡ true
+pub or-right : (x y : Bool) → y ≡ true → (x || y) ≡ true
 or-right true y h = refl
 or-right false y h = h
 
-neither : (x y : Bool) → (x || y) ≡ false → (x ≡ false) × (y ≡ false)
+pub neither : (x y : Bool) → (x || y) ≡ false → (x ≡ false) × (y ≡ false)
 neither true y h = cc
 neither false y h = (refl, h)
+
+pub and-true : (x y : Bool) → x ≡ true → y ≡ true → (x && y) ≡ true
+and-true true y p q = q
+and-true false y p q = cc
 
 pub is-same : (t u : Ts) → same_ts t u ≡ true → t ≡ u
 is-same t u h = tells_apart ts_exact t u h
@@ -61,6 +63,10 @@ pub same-itself : (t : Ts) → same_ts t t ≡ true
 same-itself t = ap is_eq (tied_itself ts_total t)
 
 -- ---- last single commits
+
+-- whether t is among these
+abbrev pub last_in : Map nat_cmp Ts → Ts → Bool
+last_in m t = list_any (same_ts t) (values m)
 
 among-insert : (t : Ts) (es : List (ℕ × Ts)) (c : ℕ) (u : Ts) → list_any (same_ts t) (values_of (insert_entry nat_cmp es c u)) ≡ true → (same_ts t u ≡ true) ⊎ (list_any (same_ts t) (values_of es) ≡ true)
 among-insert t [] c u h = elim (or-cases (same_ts t u) false h) [ inl a ↦ inl a | inr a ↦ cc ]
@@ -124,12 +130,12 @@ module _ (b : Base) where
   same-alone S t c = by_settling b (λ T. T.alone ≡ S.alone) S t c (known_in b S t) refl (λ p is o k. refl) (λ p is o. refl)
 
   abbrev Single : List Entry → Ts → Type 0
-  Single H t = CommittedIn H t ⊎ (is_last_alone b.alone t ≡ true)
+  Single H t = CommittedIn H t ⊎ (last_in b.alone t ≡ true)
 
   -- a last single commit has committed, here or in an earlier run
-  pub singles-committed : (H : List Entry) → sound b H → (t : Ts) → is_last_alone (state b H).alone t ≡ true → Single H t
-  singles-committed = by_growth b (λ H. (t : Ts) → is_last_alone (state b H).alone t ≡ true → Single H t) (λ t h. inr h)
-      (λ H e sd ih ow t h. step H e sd ow t (ih t) (subst (λ S. is_last_alone S.alone t ≡ true) (state-end b H e) h))
+  pub singles-committed : (H : List Entry) → sound b H → (t : Ts) → last_in (state b H).alone t ≡ true → Single H t
+  singles-committed = by_growth b (λ H. (t : Ts) → last_in (state b H).alone t ≡ true → Single H t) (λ t h. inr h)
+      (λ H e sd ih ow t h. step H e sd ow t (ih t) (subst (λ S. last_in S.alone t ≡ true) (state-end b H e) h))
     where
       single : List Entry → Request → Known
       single H q = record { place = (state b H).length; request = q; fate = Committed (state b H).length }
@@ -138,11 +144,11 @@ module _ (b : Base) where
       older H e sd ow t (inl k) = inl (committed-on H e (sound-end b H e sd ow) t k)
       older H e sd ow t (inr k) = inr k
 
-      step : (H : List Entry) (e : Entry) → sound b H → owes b (state b H) e → (t : Ts) → (is_last_alone (state b H).alone t ≡ true → Single H t) → is_last_alone (put b (state b H) e).alone t ≡ true → Single (H ++ e ∷ []) t
+      step : (H : List Entry) (e : Entry) → sound b H → owes b (state b H) e → (t : Ts) → (last_in (state b H).alone t ≡ true → Single H t) → last_in (put b (state b H) e).alone t ≡ true → Single (H ++ e ∷ []) t
       step H (Life n) sd ow t ih h = older H (Life n) sd ow t (ih h)
       step H (Prepared q) sd ow t ih h = older H (Prepared q) sd ow t (ih h)
-      step H (Decided u c) sd ow t ih h = older H (Decided u c) sd ow t (ih (subst (λ m. is_last_alone m t ≡ true) (same-alone (state b H) u c) h))
-      step H (Finished u c) sd ow t ih h = older H (Finished u c) sd ow t (ih (subst (λ m. is_last_alone m t ≡ true) (same-alone (state b H) u c) h))
+      step H (Decided u c) sd ow t ih h = older H (Decided u c) sd ow t (ih (subst (λ m. last_in m t ≡ true) (same-alone (state b H) u c) h))
+      step H (Finished u c) sd ow t ih h = older H (Finished u c) sd ow t (ih (subst (λ m. last_in m t ≡ true) (same-alone (state b H) u c) h))
       step H (One q) sd ow t ih h = elim (among-insert t (state b H).alone.pairs q.who.client q.tx h) [
         | inl same ↦ inl (subst (CommittedIn (H ++ One q ∷ [])) (sym (is-same t q.tx same)) (here H (One q) q.tx (or_lost b (state b H) q.tx (single H q), at-key b (state b H) q.tx (single H q), tt)))
         | inr old ↦ older H (One q) sd ow t (ih old)
@@ -231,64 +237,11 @@ module _ (b : Base) where
 
 -- ---- what a trace keeps
 
-pub kept-decided : (T : List Item) (k : Bool) (t : Ts) → fold (keeps t) k T ≡ true → (k ≡ true) ⊎ ((m : ℕ) × (slice_get (entries T) m ≡ Some (Decided t true)))
-kept-decided [] k t h = inl h
-kept-decided (E e ∷ T) k t h = elim (kept-decided T (keeps t k (E e)) t h) [
-  | inl a ↦ by e a
-  | inr p ↦ inr (suc p.0, p.1)
-]
-  where
-    by : (e : Entry) → keeps t k (E e) ≡ true → (k ≡ true) ⊎ ((m : ℕ) × (slice_get (e ∷ entries T) m ≡ Some (Decided t true)))
-    by (Life n) a = inl a
-    by (One q) a = inl a
-    by (Prepared q) a = inl a
-    by (Finished u c) a = inl a
-    by (Upgraded q) a = inl a
-    by (Decided u c) a = elim (or-cases k (c && same_ts t u) a) [
-      | inl y ↦ inl y
-      | inr y ↦
-          let both = and-both c (same_ts t u) y in
-          inr (0, ap (λ (d : Bool). Some (Decided u d)) both.0 ∙ ap (λ (v : Ts). Some (Decided v true)) (sym (is-same t u both.1)))
-    ]
-kept-decided (M m ∷ T) k t h = elim (kept-decided T (keeps t k (M m)) t h) [
-  | inl a ↦ inl (by m a)
-  | inr p ↦ inr p
-]
-  where
-    by : (m : Mark) → keeps t k (M m) ≡ true → k ≡ true
-    by (the.Entry place) a = a
-    by (the.Connected s client) a = a
-    by (the.Fetched s page upto) a = a
-    by (the.Granted s page) a = a
-    by (the.Took s place) a = a
-    by (the.Drew s ts) a = a
-    by (the.Forgot u) a = (and-both k (not (same_ts t u)) a).0
-    by (the.Refused s q r) a = a
+module _ (b : Base) (T : List Item) (sd : sound b (entries T)) where
+  -- a decision that is kept was made
+  pub kept-decided : (t : Ts) → is_kept b T t ≡ true → DecidedIn b (entries T) t
+  kept-decided t k = ((make b (entries T) sd).kept t).0 (and-both (has (state b (entries T)).kept t) (not (is_forgotten T t)) k).0
 
-pub still-kept : (T : List Item) (k : Bool) (t : Ts) → is_forgotten T t ≡ false → (k ≡ true) ⊎ ((m : ℕ) × (slice_get (entries T) m ≡ Some (Decided t true))) → fold (keeps t) k T ≡ true
-still-kept [] k t h (inl a) = a
-still-kept [] k t h (inr p) = cc
-still-kept (E e ∷ T) k t h (inl a) = still-kept T (keeps t k (E e)) t h (inl (by e))
-  where
-    by : (e : Entry) → keeps t k (E e) ≡ true
-    by (Life n) = a
-    by (One q) = a
-    by (Prepared q) = a
-    by (Finished u c) = a
-    by (Upgraded q) = a
-    by (Decided u c) = ap (λ (x : Bool). x || (c && same_ts t u)) a
-still-kept (E e ∷ T) k t h (inr (zero, is)) =
-    still-kept T (keeps t k (E e)) t h (inl (subst (λ (f : Entry). keeps t k (E f) ≡ true) (sym (same_Some e (Decided t true) is)) (or-right k (same_ts t t) (same-itself t))))
-still-kept (E e ∷ T) k t h (inr (suc m, is)) = still-kept T (keeps t k (E e)) t h (inr (m, is))
-still-kept (M m ∷ T) k t h (inl a) = still-kept T (keeps t k (M m)) t (neither (forgets t (M m)) (is_forgotten T t) h).1 (inl (by m (neither (forgets t (M m)) (is_forgotten T t) h).0))
-  where
-    by : (m : Mark) → forgets t (M m) ≡ false → keeps t k (M m) ≡ true
-    by (the.Entry place) f = a
-    by (the.Connected s client) f = a
-    by (the.Fetched s page upto) f = a
-    by (the.Granted s page) f = a
-    by (the.Took s place) f = a
-    by (the.Drew s ts) f = a
-    by (the.Forgot u) f = ap (λ (x : Bool). x && not (same_ts t u)) a ∙ ap not f
-    by (the.Refused s q r) f = a
-still-kept (M m ∷ T) k t h (inr p) = still-kept T (keeps t k (M m)) t (neither (forgets t (M m)) (is_forgotten T t) h).1 (inr p)
+  -- and one that was made and isn't forgotten is kept
+  pub still-kept : (t : Ts) → is_forgotten T t ≡ false → DecidedIn b (entries T) t → is_kept b T t ≡ true
+  still-kept t f d = and-true (has (state b (entries T)).kept t) (not (is_forgotten T t)) (((make b (entries T) sd).kept t).1 d) (ap not f)

@@ -1,13 +1,14 @@
 -- What is forgotten stays finished, whatever comes.
 use Rattle.atomic_histories.proofs.Grown.{committed-grown, committed-stays, onward}
 use Rattle.atomic_histories.proofs.Traced.{entry-added, mark-added}
-use Rattle.atomic_histories.specs.Asking.{ForgottenAreFinished, IsFinished, forgets, is_forgotten}
+use Rattle.atomic_histories.specs.Asking.{ForgottenAreFinished, IsFinished}
 use Rattle.atomic_histories.specs.Growing.{Continues, grown}
 use Rattle.atomic_histories.specs.Several.{AreSound, Repositories, Several, histories, part, with_item}
 use Rattle.commit_log.specs.declared.entry.Entry.{Entry}
 use Rattle.commit_log.specs.declared.request.Request.{Request}
 use Rattle.local_history.specs.History.{known_by}
 use Rattle.local_history.specs.Participants.{takes_part}
+use Rattle.session_outbox.specs.Calls.{forgets, is_forgotten}
 use Rattle.session_outbox.specs.Trace.{E, Item, M}
 use Rattle.session_outbox.specs.declared.mark.Mark.{Mark}
 use Rattle.std.proofs.Common.{Bool, List, [], ap, false, inl, inr, refl, subst, true, ℕ, ◌++◌, ◌≡◌, ◌∙◌, ◌∷◌}

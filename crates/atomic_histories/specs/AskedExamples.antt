@@ -23,5 +23,5 @@ trace_of (suc zero) =
     ∷ E (Prepared (setting (at 6) (v ∷ []) v 1 (0 ∷ []))) ∷ []
 trace_of (suc (suc n)) = []
 
-abbrev pub asked : Repositories
-asked = record { repos = 2; base = base_of; trace = trace_of }
+abbrev pub coordinated : Repositories
+coordinated = record { repos = 2; base = base_of; trace = trace_of }

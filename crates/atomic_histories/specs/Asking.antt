@@ -1,58 +1,27 @@
--- What a coordinator answers who is asked about a transaction, by its trace, and when it may forget a decision.
--- (Presumed abort, as by Mohan and others, 1986: what is neither undecided nor kept was aborted.)
+-- What coordinators answer who are asked about a transaction, and when they may forget a decision. What one answers by
+-- its trace is `asked` of session_outbox. (Presumed abort, as by Mohan and others, 1986: what is neither undecided nor
+-- kept was aborted.)
 use Rattle.atomic_histories.specs.Several.{HasCommitted, Repositories, Several, histories, part}
-use Rattle.commit_log.specs.declared.entry.Entry.TheVariants.{Decided}
-use Rattle.local_history.specs.History.{Aborted, Base, IsCommitted, Known, State, is_undecided, known_by, state}
+use Rattle.local_history.specs.History.{Aborted, IsCommitted, Known, State, state}
 use Rattle.local_history.specs.Participants.{takes_part}
-use Rattle.session_outbox.specs.Trace.{E, Item, M, entries}
-use Rattle.session_outbox.specs.declared.mark.Mark.TheVariants as the
-use Rattle.std.specs.List.{fold, list_any}
-use Rattle.std.specs.Ordering.{nat_cmp}
-use Rattle.std.specs.Prelude.{Bool, List, None, Some, [], cond, false, not, true, ℕ, ◌&&◌, ◌≡◌, ◌≢◌, ◌≤◌, ◌||◌, ◌⊎◌}
-use Rattle.thor_value.specs.FiniteMap.{Map, get, values}
-use Rattle.thor_value.specs.Names.{same_ts}
+use Rattle.session_outbox.specs.Calls.{Asked, Settled, Undecided, asked, is_forgotten, is_last_alone}
+use Rattle.session_outbox.specs.Trace.{entries}
+use Rattle.std.specs.Prelude.{None, Some, [], false, true, ℕ, ◌≡◌, ◌≢◌, ◌≤◌, ◌⊎◌}
+use Rattle.thor_value.specs.FiniteMap.{get}
 use Rattle.thor_value.specs.declared.names.Ts.{Ts}
-use Rattle.two_phase.specs.declared.standing.Standing.TheVariants as answer
+use Rattle.two_phase.specs.declared.standing.Standing.TheVariants.{Committed, Open}
+use Rattle.two_phase.specs.declared.standing.Standing.TheVariants as table
 use Rattle.two_phase.specs.declared.standing.Standing.{Standing}
 
--- ---- one repository
-
--- whether the decision to commit t is kept behind one more item, where `kept` tells whether it was before
-abbrev pub keeps : Ts → Bool → Item → Bool
-keeps t kept (E (Decided u c)) = kept || (c && same_ts t u)
-keeps t kept (E e) = kept
-keeps t kept (M (the.Forgot u)) = kept && not (same_ts t u)
-keeps t kept (M m) = kept
-
--- whether the decision to commit t was made here, and not forgotten since
-abbrev pub is_kept : List Item → Ts → Bool
-is_kept T t = fold (keeps t) false T
-
-abbrev pub forgets : Ts → Item → Bool
-forgets t (E e) = false
-forgets t (M (the.Forgot u)) = same_ts t u
-forgets t (M m) = false
-
--- whether t was forgotten
-abbrev pub is_forgotten : List Item → Ts → Bool
-is_forgotten T t = list_any (forgets t) T
-
--- whether t is the last transaction of some client that committed here with no other participant
-abbrev pub is_last_alone : Map nat_cmp Ts → Ts → Bool
-is_last_alone alone t = list_any (same_ts t) (values alone)
-
--- how a repository answers that is asked about t: it is undecided here, or it has committed as far as is kept here, or
--- neither
-abbrev pub answered : Base → List Item → Ts → Standing
-answered b T t =
-    cond (is_undecided (known_by b (entries T) t)) answer.Open
-    (cond (is_kept T t || is_last_alone (state b (entries T)).alone t) answer.Committed answer.Aborted)
-
--- ---- several repositories
+-- what a coordinator answers by its table
+abbrev pub answer_by : Standing → Asked
+answer_by Open = Undecided
+answer_by Committed = Settled true
+answer_by table.Aborted = Settled false
 
 -- how the coordinator of t answers about it
-abbrev pub told : Repositories → Ts → Standing
-told R t = answered (R.base t.repo) (R.trace t.repo) t
+abbrev pub told : Repositories → Ts → Asked
+told R t = asked (R.base t.repo) (R.trace t.repo) t
 
 -- the state of the coordinator of t
 abbrev pub state_of : Repositories → Ts → State
@@ -70,7 +39,7 @@ ForgottenAreFinished R = (r : ℕ) (t : Ts) → is_forgotten (R.trace r) t ≡ t
 
 -- The last single commits that the repositories began with are of earlier lives of theirs.
 abbrev pub SinglesWereBefore : Repositories → Type 0
-SinglesWereBefore R = (r : ℕ) (t : Ts) → is_last_alone (R.base r).alone t ≡ true → t.life ≤ (R.base r).life
+SinglesWereBefore R = (r : ℕ) (t : Ts) → is_last_alone (R.base r) [] t ≡ true → t.life ≤ (R.base r).life
 
 -- t committed with no other participant, and another transaction of its client has done so since
 pub record IsFollowed (R : Repositories) (t : Ts) (w : Known) : Type 0 where

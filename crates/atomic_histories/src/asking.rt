@@ -1,17 +1,17 @@
 //! What is proved of a coordinator that is asked about a transaction.
 
-ghost use Rattle.atomic_histories.specs.Asking.{ForgottenAreFinished, IsFinished, IsGivenUp, SinglesWereBefore, answered, forgets, is_forgotten, is_kept, is_last_alone, state_of, told};
+ghost use Rattle.atomic_histories.specs.Asking.{ForgottenAreFinished, IsFinished, IsGivenUp, SinglesWereBefore, answer_by, told};
 ghost use Rattle.atomic_histories.specs.Growing.{Continues, MayFinish};
 ghost use Rattle.atomic_histories.specs.Several.{Alike, AreSound, HasCommitted, IsAtomic, Repositories, histories, part, with_item};
 ghost use Rattle.commit_log.specs.declared.entry.Entry.{Entry};
 ghost use Rattle.local_history.specs.History.{Base, Known, Open, is_undecided, known_by, state};
+ghost use Rattle.session_outbox.specs.Calls.{Settled, Undecided, asked, forgets, is_forgotten, is_kept, is_last_alone};
 ghost use Rattle.session_outbox.specs.Trace.{E, Item, M, entries};
 ghost use Rattle.session_outbox.specs.declared.mark.Mark.{Mark};
 ghost use Rattle.std.specs.Prelude.{List, Some, [], false, is_some, true, ℕ, ◌≡◌, ◌≢◌, ◌⊎◌};
 ghost use Rattle.thor_value.specs.FiniteMap.{get};
 ghost use Rattle.thor_value.specs.declared.names.Ts.{Ts};
 ghost use Rattle.two_phase.specs.Contents.{Contents, keeps, open_at, standing};
-ghost use Rattle.two_phase.specs.declared.standing.Standing.TheVariants as answer;
 
 /// What a coordinator answers who is asked about a transaction is told rightly. What it says is undecided is so
 /// wherever it stands. What it says is committed has committed, or did so alone in an earlier run. What it says is
@@ -19,28 +19,29 @@ ghost use Rattle.two_phase.specs.declared.standing.Standing.TheVariants as answe
 /// client; what has committed otherwise it says is committed. So whoever has the transaction undecided at another
 /// repository may finish it as it is told.
 pub fn what_is_asked_is_told_rightly()
-    ensures undecided { (R : Repositories) → AreSound (histories R) → IsAtomic (histories R) → (t : Ts) → told R t ≡ answer.Open →
+    ensures undecided { (R : Repositories) → AreSound (histories R) → IsAtomic (histories R) → (t : Ts) → told R t ≡ Undecided →
         (n : ℕ) (o : Known) → part (histories R) n t ≡ Some o → o.fate ≡ Open }
-    ensures committed { (R : Repositories) → AreSound (histories R) → (t : Ts) → told R t ≡ answer.Committed →
-        ((w : Known) × HasCommitted (histories R) t w) ⊎ (is_last_alone (R.base t.repo).alone t ≡ true) }
-    ensures aborted { (R : Repositories) → AreSound (histories R) → (t : Ts) → told R t ≡ answer.Aborted → IsGivenUp R t }
+    ensures committed { (R : Repositories) → AreSound (histories R) → (t : Ts) → told R t ≡ Settled true →
+        ((w : Known) × HasCommitted (histories R) t w) ⊎ (is_last_alone (R.base t.repo) [] t ≡ true) }
+    ensures aborted { (R : Repositories) → AreSound (histories R) → (t : Ts) → told R t ≡ Settled false → IsGivenUp R t }
     ensures remembered { (R : Repositories) → AreSound (histories R) → (t : Ts) (w : Known) → HasCommitted (histories R) t w →
         is_forgotten (R.trace t.repo) t ≡ false →
-        (w.request.others ≢ []) ⊎ (is_last_alone (state_of R t).alone t ≡ true) → told R t ≡ answer.Committed }
+        (w.request.others ≢ []) ⊎ (is_last_alone (R.base t.repo) (R.trace t.repo) t ≡ true) → told R t ≡ Settled true }
     ensures commits { (R : Repositories) → AreSound (histories R) → IsAtomic (histories R) → SinglesWereBefore R →
         (n : ℕ) (t : Ts) (o : Known) → n ≢ t.repo → part (histories R) n t ≡ Some o → o.fate ≡ Open →
-        told R t ≡ answer.Committed → MayFinish (histories R) t true }
+        told R t ≡ Settled true → MayFinish (histories R) t true }
     ensures aborts { (R : Repositories) → AreSound (histories R) → IsAtomic (histories R) → Alike (histories R) → ForgottenAreFinished R →
         (n : ℕ) (t : Ts) (o : Known) → n ≢ t.repo → part (histories R) n t ≡ Some o → o.fate ≡ Open →
-        told R t ≡ answer.Aborted → MayFinish (histories R) t false }
+        told R t ≡ Settled false → MayFinish (histories R) t false }
 {}
 
-/// A table of transactions in two phases answers as its repository's trace has it, where what it has agrees with that:
-/// open is what is undecided, kept is what the trace keeps, and the last single commits are the history's.
+/// A table of transactions in two phases answers about what its repository coordinates as the trace has it, where what
+/// it has agrees with that: open is what is undecided, kept is what the trace keeps, and the last single commits are
+/// the history's.
 pub fn tables_answer_as_their_traces()
-    ensures { (b : Base) (T : List Item) (c : Contents) (t : Ts) →
-        is_some (open_at c t) ≡ is_undecided (known_by b (entries T) t) → keeps (get c.transactions t) ≡ is_kept T t →
-        c.alone ≡ (state b (entries T)).alone → standing c t ≡ answered b T t }
+    ensures { (b : Base) (T : List Item) (c : Contents) (t : Ts) → t.repo ≡ b.repo →
+        is_some (open_at c t) ≡ is_undecided (known_by b (entries T) t) → keeps (get c.transactions t) ≡ is_kept b T t →
+        c.alone ≡ (state b (entries T)).alone → answer_by (standing c t) ≡ asked b T t }
 {}
 
 /// What is forgotten has committed at each participant, and stays so: where whoever forgets it knows that.

@@ -2,15 +2,15 @@
 //! clause of what two-phase commit keeps is needed.
 
 ghost use Rattle.atomic_histories.specs.AcrossExamples.{abroad, at, box, crossing, dropped, hasty, parted, unheard, z};
-ghost use Rattle.atomic_histories.specs.AskedExamples.{asked};
+ghost use Rattle.atomic_histories.specs.AskedExamples.{coordinated};
 ghost use Rattle.atomic_histories.specs.Asking.{told};
 ghost use Rattle.atomic_histories.specs.AtomicTest.{is_agreed, is_everywhere, is_given_up, is_known_there};
 ghost use Rattle.atomic_histories.specs.Several.{committed, histories};
 ghost use Rattle.local_history.specs.Checking.{is_sound};
 ghost use Rattle.local_history.specs.History.{objects_at};
+ghost use Rattle.session_outbox.specs.Calls.{Settled, Undecided};
 ghost use Rattle.std.specs.Prelude.{Some, ◌&&◌, ◌≡◌, true, false};
 ghost use Rattle.thor_value.specs.FiniteMap.{get};
-ghost use Rattle.two_phase.specs.declared.standing.Standing.TheVariants as answer;
 
 /// Two transactions that cross, of which one is aborted, and a third that reads what the other wrote.
 pub fn crossing_transactions()
@@ -58,13 +58,13 @@ pub fn needs_all_participants()
 /// one that committed alone and was followed by another of its client, of that one, of one that is undecided, and of
 /// one that never came.
 pub fn answers_of_a_coordinator()
-    ensures sound { (is_sound (asked.base 0) ((histories asked).history 0) && is_sound (asked.base 1) ((histories asked).history 1)) ≡ true }
-    ensures atomic { (is_known_there (histories asked) && is_everywhere (histories asked) && is_agreed (histories asked) && is_given_up (histories asked)) ≡ true }
-    ensures forgotten { told asked (at 1) ≡ answer.Aborted }
-    ensures aborted { told asked (at 2) ≡ answer.Aborted }
-    ensures kept { told asked (at 3) ≡ answer.Committed }
-    ensures followed { told asked (at 4) ≡ answer.Aborted }
-    ensures alone { told asked (at 5) ≡ answer.Committed }
-    ensures undecided { told asked (at 6) ≡ answer.Open }
-    ensures unseen { told asked (at 7) ≡ answer.Aborted }
+    ensures sound { (is_sound (coordinated.base 0) ((histories coordinated).history 0) && is_sound (coordinated.base 1) ((histories coordinated).history 1)) ≡ true }
+    ensures atomic { (is_known_there (histories coordinated) && is_everywhere (histories coordinated) && is_agreed (histories coordinated) && is_given_up (histories coordinated)) ≡ true }
+    ensures forgotten { told coordinated (at 1) ≡ Settled false }
+    ensures aborted { told coordinated (at 2) ≡ Settled false }
+    ensures kept { told coordinated (at 3) ≡ Settled true }
+    ensures followed { told coordinated (at 4) ≡ Settled false }
+    ensures alone { told coordinated (at 5) ≡ Settled true }
+    ensures undecided { told coordinated (at 6) ≡ Undecided }
+    ensures unseen { told coordinated (at 7) ≡ Settled false }
 {}

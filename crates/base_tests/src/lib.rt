@@ -2,7 +2,15 @@
 #![tactic(auto)]
 
 #[cfg(test)]
+mod boards;
+#[cfg(test)]
 mod bytes;
+#[cfg(test)]
+mod copies;
+#[cfg(test)]
+mod counts;
+#[cfg(test)]
+mod disks;
 #[cfg(test)]
 mod logs;
 #[cfg(test)]
@@ -11,6 +19,8 @@ mod objects;
 mod pages;
 #[cfg(test)]
 mod queues;
+#[cfg(test)]
+mod samples;
 #[cfg(test)]
 mod streams;
 #[cfg(test)]

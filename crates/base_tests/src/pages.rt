@@ -49,18 +49,37 @@ fn all_have_room(page: &mut Page, puts: &[(u8, &[u8])]) -> bool {
     room
 }
 
+/// Whether a page has these objects in these slots.
+fn has_all(page: &Page, gets: &[(u8, Option<&[u8]>)]) -> bool {
+    for (slot, object) in gets {
+        if page.get(*slot) != *object {
+            return false;
+        }
+    }
+    true
+}
+
+/// The page of these objects, in the order in which they are put into it.
+fn page_of(alloc: Global, number: u32, puts: &[(u8, &[u8])]) -> Result<Page, Fail> {
+    let mut page = Page::empty(alloc, number)?;
+    if !all_have_room(&mut page, puts) {
+        return Err("they have room".into());
+    }
+    Ok(page)
+}
+
+/// Whether a page is spelled so, from a copy.
+fn is_spelled(page: &Page, wanted: &Text) -> Result<bool, Fail> {
+    Ok(page.copy()?.spell()?.as_slice() == wanted.as_slice())
+}
+
 #[test]
 fn pages_are_spelled_and_read(rt: HostRuntime) -> Result<(), Fail> {
     for (number, puts, front, gets) in PAGES {
-        let want = filled(rt.alloc(), front, 4096)?;
-        let mut page = Page::empty(rt.alloc(), *number)?;
-        assert!(rt; all_have_room(&mut page, puts));
-        assert!(rt; page.copy()?.spell()?.as_slice() == want.as_slice());
-        let read = Page::parse(rt.alloc(), want.as_slice())?;
-        assert!(rt; read.number() == *number);
-        for (slot, object) in *gets {
-            assert!(rt; read.get(*slot) == *object);
-        }
+        let wanted = filled(rt.alloc(), front, 4096)?;
+        assert!(rt; is_spelled(&page_of(rt.alloc(), *number, puts)?, &wanted)?);
+        let read = Page::parse(rt.alloc(), wanted.as_slice())?;
+        assert!(rt; read.number() == *number && has_all(&read, gets));
     }
     Ok(())
 }
@@ -80,21 +99,33 @@ const ROOMS: &[(usize, &[(u8, usize, bool)])] = &[
     (255, &[(255, 0, false), (254, 1, true)]),
 ];
 
+/// A page with so many objects without a byte.
+fn with_empty(alloc: Global, count: usize) -> Result<Page, Fail> {
+    let mut page = Page::empty(alloc, 1)?;
+    for slot in 0..255u8 {
+        if usize::from(slot) < count && page.put(slot, &[]).is_err() {
+            return Err("there is room".into());
+        }
+    }
+    Ok(page)
+}
+
+/// Whether an object of so many zeros has room, or not.
+fn has_room(alloc: Global, page: &mut Page, slot: u8, bytes: usize) -> Result<bool, Fail> {
+    let object = filled(alloc, &[], bytes)?;
+    match page.put(slot, object.as_slice()) {
+        Ok(()) => Ok(true),
+        Err(Full::NoRoom) => Ok(false),
+        Err(_) => Err("memory".into()),
+    }
+}
+
 #[test]
 fn page_is_full_at_4096_bytes_and_255_objects(rt: HostRuntime) -> Result<(), Fail> {
     for (count, puts) in ROOMS {
-        let mut page = Page::empty(rt.alloc(), 1)?;
-        for slot in 0..255u8 {
-            if usize::from(slot) < *count {
-                assert!(rt; page.put(slot, &[]).is_ok());
-            }
-        }
+        let mut page = with_empty(rt.alloc(), *count)?;
         for (slot, bytes, room) in *puts {
-            let object = filled(rt.alloc(), &[], *bytes)?;
-            match page.put(*slot, object.as_slice()) {
-                Ok(()) => assert!(rt; *room),
-                Err(full) => assert!(rt; !*room && full == Full::NoRoom),
-            }
+            assert!(rt; has_room(rt.alloc(), &mut page, *slot, *bytes)? == *room);
         }
     }
     Ok(())
@@ -123,42 +154,67 @@ fn bytes_that_are_no_page_are_damaged(rt: HostRuntime) -> Result<(), Fail> {
     Ok(())
 }
 
+/// Pages with their sides, and whether they rise and the sides are two.
+const SIDES: &[(&[(u32, u8)], bool)] = &[
+    (&[], true),
+    (&[(0, 1)], true),
+    (&[(3, 0), (7, 1), (u32::MAX, 0)], true),
+    (&[(3, 0), (3, 1)], false),
+    (&[(4, 0), (3, 1)], false),
+    (&[(1, 2)], false),
+];
+
+/// The same pairs in a copy of the sides that are made of some; nothing where none are made.
+fn copied(alloc: Global, pairs: &[(u32, u8)]) -> Result<Option<Sides>, NoMemory> {
+    match Sides::from_pairs(Sequence::from_slice(alloc, pairs)?) {
+        Some(sides) => Ok(Some(sides.copy()?)),
+        None => Ok(None),
+    }
+}
+
+/// Whether sides are made of these pairs as it is said, and have them.
+fn are_made(alloc: Global, pairs: &[(u32, u8)], fits: bool) -> Result<bool, NoMemory> {
+    match copied(alloc, pairs)? {
+        Some(sides) => Ok(fits && sides.as_slice() == pairs),
+        None => Ok(!fits),
+    }
+}
+
 #[test]
 fn pages_rise_with_their_sides(rt: HostRuntime) -> Result<(), Fail> {
-    let alloc = rt.alloc();
-    let rows: [(&[(u32, u8)], bool); 6] = [
-        (&[], true),
-        (&[(0, 1)], true),
-        (&[(3, 0), (7, 1), (u32::MAX, 0)], true),
-        (&[(3, 0), (3, 1)], false),
-        (&[(4, 0), (3, 1)], false),
-        (&[(1, 2)], false),
-    ];
-    for (pairs, fits) in rows {
-        let made = Sides::from_pairs(Sequence::from_slice(alloc, pairs)?);
-        assert_eq!(rt; made.is_some(), fits);
-        if let Some(sides) = made {
-            assert_eq!(rt; sides.copy()?.as_slice(), pairs);
-        }
+    for (pairs, fits) in SIDES {
+        assert!(rt; are_made(rt.alloc(), pairs, *fits)?);
     }
     Ok(())
 }
 
-#[test]
-fn side_in_use_is_put_in_place(rt: HostRuntime) -> Result<(), Fail> {
-    let alloc = rt.alloc();
+/// Puts side 1 of a page in use, in room that is made before.
+fn put(sides: &mut Sides, room: &mut Room, page: u32) -> Result<(), NoMemory> {
+    room.grow(sides.as_slice().len() + 1)?;
+    sides.put_within(room, page, 1);
+    Ok(())
+}
+
+/// Sides of six pages, two of which are changed.
+fn six(alloc: Global) -> Result<Sides, NoMemory> {
     let mut sides = Sides::new(alloc);
     let mut room = Room::new(alloc);
     for page in [9u32, 2, 5, 0, 7, 5] {
-        room.grow(sides.as_slice().len() + 1)?;
-        sides.put_within(&mut room, page, 1);
+        put(&mut sides, &mut room, page)?;
     }
     sides.put(5, 0)?;
     sides.put(6, 0)?;
-    let want: [(u32, u8); 6] = [(0, 1), (2, 1), (5, 0), (6, 0), (7, 1), (9, 1)];
-    assert_eq!(rt; sides.as_slice(), want.as_slice());
-    assert_eq!(rt; sides.in_use(5), Some(0));
-    assert_eq!(rt; sides.in_use(9), Some(1));
-    assert_eq!(rt; sides.in_use(8), None);
+    Ok(sides)
+}
+
+const SIX: &[(u32, u8)] = &[(0, 1), (2, 1), (5, 0), (6, 0), (7, 1), (9, 1)];
+
+#[test]
+fn side_in_use_is_put_in_place(rt: HostRuntime) -> Result<(), Fail> {
+    let sides = six(rt.alloc())?;
+    assert!(rt; sides.as_slice() == SIX);
+    for (page, side) in [(5, Some(0)), (9, Some(1)), (8, None)] {
+        assert!(rt; sides.in_use(page) == side, "page {page}");
+    }
     Ok(())
 }

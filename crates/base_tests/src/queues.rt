@@ -1,9 +1,8 @@
 //! Queues and requests in tables, each request with what stands against it.
 
 use std::alloc::Global;
-use std::process::Abort;
-use std::test::*;
-use thor_value::{Obj, Oref, Orefs, Sequence, Ts, Writes};
+use std::test::Fail;
+use thor_value::{NoMemory, Obj, Oref, Orefs, Ts, Values, Writes};
 use validation_queue::{Clash, Queue, is_in_order};
 
 /// A transaction as a table has it: its time, and the slots of the objects that it read and of those
@@ -100,120 +99,173 @@ fn expected(stands: &Stands) -> Result<(), Clash> {
     }
 }
 
-fn names(alloc: Global, slots: &[u8]) -> Result<Orefs, Fail> {
-    let mut names = Sequence::new(alloc);
+fn names(alloc: Global, slots: &[u8]) -> Result<Orefs, NoMemory> {
+    let mut names = Orefs::new(alloc);
     for slot in slots {
         names.push(oref(*slot))?;
     }
     Ok(names)
 }
 
-fn writes(alloc: Global, slots: &[u8]) -> Result<Writes, Fail> {
-    let mut writes = Sequence::new(alloc);
+fn writes(alloc: Global, slots: &[u8]) -> Result<Writes, NoMemory> {
+    let mut writes = Writes::new(alloc);
     for slot in slots {
         let object = Obj {
             class: 0,
             ver: 0,
-            fields: Sequence::new(alloc),
+            fields: Values::new(alloc),
         };
         writes.push((oref(*slot), object))?;
     }
     Ok(writes)
 }
 
-/// Loads a transaction, and decides it where that is asked for.
-fn load<R: Abort>(
-    rt: &R,
-    alloc: Global,
+/// Enters a transaction into a queue, and decides it where that is asked for. The answer is whether it could be
+/// entered.
+fn enter(
     queue: &mut Queue,
-    row: &Row,
+    tx: Ts,
+    ros: &Orefs,
+    writes: &Writes,
     decided: bool,
-) -> Result<(), Fail> {
-    let (time, read, written) = *row;
-    let ros = names(alloc, read)?;
-    let writes = writes(alloc, written)?;
-    assert!(rt; is_in_order(&ros, &writes));
-    let tx = ts(time);
-    assert!(rt; !queue.has(tx));
-    assert!(rt; queue.len() < 1_024);
-    queue.load(tx, false, &ros, &writes)?;
+) -> Result<bool, NoMemory> {
+    if !is_in_order(ros, writes) || queue.has(tx) || queue.len() >= 1_024 {
+        return Ok(false);
+    }
+    queue.load(tx, false, ros, writes)?;
     if decided {
         queue.decide(tx, true);
     }
-    Ok(())
+    Ok(true)
 }
 
-/// Expects what stands against a request, and adds it where nothing does.
-fn expect<R: Abort>(
-    rt: &R,
+fn load(alloc: Global, queue: &mut Queue, row: &Row, decided: bool) -> Result<bool, NoMemory> {
+    let (time, read, written) = *row;
+    let ros = names(alloc, read)?;
+    let writes = writes(alloc, written)?;
+    enter(queue, ts(time), &ros, &writes, decided)
+}
+
+/// Whether this stands against a request, whose names are in order.
+fn is_answered(
+    queue: &Queue,
+    tx: Ts,
+    upgrade: bool,
+    ros: &Orefs,
+    writes: &Writes,
+    stands: &Stands,
+) -> bool {
+    is_in_order(ros, writes) && queue.validate(tx, upgrade, ros, writes) == expected(stands)
+}
+
+fn meets(
     alloc: Global,
     queue: &Queue,
     row: &Row,
     upgrade: bool,
     stands: &Stands,
-) -> Result<(), Fail> {
+) -> Result<bool, NoMemory> {
     let (time, read, written) = *row;
     let ros = names(alloc, read)?;
     let writes = writes(alloc, written)?;
-    assert!(rt; is_in_order(&ros, &writes));
-    let answer = queue.validate(ts(time), upgrade, &ros, &writes);
-    assert!(rt; answer == expected(stands));
-    Ok(())
+    Ok(is_answered(queue, ts(time), upgrade, &ros, &writes, stands))
+}
+
+/// Whether each of the transactions can be loaded.
+fn all_load(alloc: Global, queue: &mut Queue) -> Result<bool, NoMemory> {
+    for (row, decided) in MEMBERS {
+        if !load(alloc, queue, row, *decided)? {
+            return Ok(false);
+        }
+    }
+    Ok(true)
+}
+
+/// How many requests and upgrades meet what stands against them, before one that doesn't.
+fn met(alloc: Global, queue: &Queue) -> Result<usize, NoMemory> {
+    let mut count = 0usize;
+    for (row, stands) in REQUESTS {
+        if !meets(alloc, queue, row, false, stands)? {
+            return Ok(count);
+        }
+        count = count.saturating_add(1);
+    }
+    for (time, stands) in UPGRADES {
+        if !meets(alloc, queue, &(*time, &[], &[]), true, stands)? {
+            return Ok(count);
+        }
+        count = count.saturating_add(1);
+    }
+    Ok(count)
+}
+
+/// The first undecided transaction, what blocks an upgrade, and what blocks another request.
+fn waits(queue: &Queue) -> (Option<Ts>, Option<Ts>, Option<Ts>) {
+    (
+        queue.undecided(),
+        queue.blocking(true),
+        queue.blocking(false),
+    )
 }
 
 #[test]
 fn requests_clash_with_the_queue(rt: HostRuntime) -> Result<(), Fail> {
-    let alloc = rt.alloc();
-    let mut queue = Queue::new(alloc, ts(10))?;
-    for (row, decided) in MEMBERS {
-        load(&rt, alloc, &mut queue, row, *decided)?;
-    }
-    for (row, stands) in REQUESTS {
-        expect(&rt, alloc, &queue, row, false, stands)?;
-    }
-    for (time, stands) in UPGRADES {
-        expect(&rt, alloc, &queue, &(*time, &[], &[]), true, stands)?;
-    }
-    assert!(rt; queue.undecided() == Some(ts(30)));
-    assert!(rt; queue.blocking(true) == Some(ts(30)));
-    assert!(rt; queue.blocking(false).is_none());
+    let mut queue = Queue::new(rt.alloc(), ts(10))?;
+    assert!(rt; all_load(rt.alloc(), &mut queue)?);
+    let count = met(rt.alloc(), &queue)?;
+    assert!(rt;
+        count == REQUESTS.len() + UPGRADES.len(),
+        "behind {count} requests"
+    );
+    assert!(rt; waits(&queue) == (Some(ts(30)), Some(ts(30)), None));
     queue.clear(ts(80));
-    assert!(rt; queue.threshold() == ts(80));
-    assert!(rt; queue.undecided().is_none());
+    assert!(rt; queue.threshold() == ts(80) && queue.undecided().is_none());
     Ok(())
 }
 
-/// A queue of 1,024 transactions that are undecided, from the time 1,000 on.
-fn full<R: Abort>(rt: &R, alloc: Global) -> Result<Queue, Fail> {
-    let mut queue = Queue::new(alloc, ts(10))?;
+/// Whether 1,024 undecided transactions can be loaded, from the time 1,000 on.
+fn fills(alloc: Global, queue: &mut Queue) -> Result<bool, NoMemory> {
     for time in 1_000..2_024u64 {
-        load(rt, alloc, &mut queue, &(time, &[], &[]), false)?;
+        if !load(alloc, queue, &(time, &[], &[]), false)? {
+            return Ok(false);
+        }
     }
-    Ok(queue)
+    Ok(true)
 }
 
-/// Adds a transaction against which nothing stands, as a decided one.
-fn add<R: Abort>(rt: &R, alloc: Global, queue: &mut Queue, row: &Row) -> Result<(), Fail> {
-    let (time, read, written) = *row;
-    let ros = names(alloc, read)?;
-    let writes = writes(alloc, written)?;
-    let tx = ts(time);
-    assert!(rt; is_in_order(&ros, &writes));
-    assert!(rt; !queue.has(tx));
-    assert!(rt; queue.validate(tx, false, &ros, &writes).is_ok());
-    queue.add(tx, false, &ros, &writes, true)?;
-    Ok(())
+/// Adds a transaction against which nothing stands, as a decided one. The answer is whether nothing did.
+fn add(queue: &mut Queue, tx: Ts, ros: &Orefs, writes: &Writes) -> Result<bool, NoMemory> {
+    if !is_in_order(ros, writes)
+        || queue.has(tx)
+        || !queue.validate(tx, false, ros, writes).is_ok()
+    {
+        return Ok(false);
+    }
+    queue.add(tx, false, ros, writes, true)?;
+    Ok(true)
+}
+
+/// A request, for which a full queue has room where a decided transaction may go.
+const LAST: Row = (3_000, &[1], &[1]);
+
+/// Whether the request is refused for want of room, and is added once a transaction is decided.
+fn finds_room(alloc: Global, queue: &mut Queue) -> Result<bool, NoMemory> {
+    let refused = meets(alloc, queue, &LAST, false, &Stands::Room)?;
+    queue.decide(ts(1_500), true);
+    let passes = meets(alloc, queue, &LAST, false, &Stands::Nothing)?;
+    let ros = names(alloc, LAST.1)?;
+    let writes = writes(alloc, LAST.2)?;
+    if refused && passes {
+        add(queue, ts(3_000), &ros, &writes)
+    } else {
+        Ok(false)
+    }
 }
 
 #[test]
 fn a_full_queue_lets_a_decided_one_go(rt: HostRuntime) -> Result<(), Fail> {
-    let alloc = rt.alloc();
-    let mut queue = full(&rt, alloc)?;
-    let row: Row = (3_000, &[1], &[1]);
-    expect(&rt, alloc, &queue, &row, false, &Stands::Room)?;
-    queue.decide(ts(1_500), true);
-    expect(&rt, alloc, &queue, &row, false, &Stands::Nothing)?;
-    add(&rt, alloc, &mut queue, &row)?;
+    let mut queue = Queue::new(rt.alloc(), ts(10))?;
+    assert!(rt; fills(rt.alloc(), &mut queue)? && finds_room(rt.alloc(), &mut queue)?);
     assert!(rt; queue.len() == 1_024 && queue.threshold() == ts(1_500));
     assert!(rt; queue.has(ts(3_000)) && !queue.has(ts(1_500)));
     queue.decide(ts(1_000), false);

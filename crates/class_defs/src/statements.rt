@@ -1,7 +1,7 @@
 ghost use Rattle.std.specs.Prelude.{◌≡◌, IfOk};
 
 use crate::expressions::{Expr, Name, TypeName};
-use thor_value::{NoMemory, Sequence, TryCopy};
+use thor_value::{NoMemory, Sequence, TryCopy, both};
 
 /// A statement of a method's body or of an item.
 #[derive(Debug, Drop)]
@@ -86,42 +86,58 @@ fn copy_stmt(stmt: &Stmt) -> Result<Stmt, NoMemory>
             name,
             line,
             value,
-        } => Ok(Stmt::Var {
-            type_name: type_name.copy()?,
-            name: name.copy()?,
-            line: *line,
-            value: value.copy()?,
-        }),
-        Stmt::Assign { name, line, value } => Ok(Stmt::Assign {
-            name: name.copy()?,
-            line: *line,
-            value: value.copy()?,
-        }),
-        Stmt::FieldAssign { field, line, value } => Ok(Stmt::FieldAssign {
-            field: field.copy()?,
-            line: *line,
-            value: value.copy()?,
-        }),
+        } => {
+            let (type_name, name) = both(type_name.copy()?, name.copy())?;
+            let (declared, value) = both((type_name, name), value.copy())?;
+            let (type_name, name) = declared;
+            Ok(Stmt::Var {
+                type_name,
+                name,
+                line: *line,
+                value,
+            })
+        }
+        Stmt::Assign { name, line, value } => {
+            let (name, value) = both(name.copy()?, value.copy())?;
+            Ok(Stmt::Assign {
+                name,
+                line: *line,
+                value,
+            })
+        }
+        Stmt::FieldAssign { field, line, value } => {
+            let (field, value) = both(field.copy()?, value.copy())?;
+            Ok(Stmt::FieldAssign {
+                field,
+                line: *line,
+                value,
+            })
+        }
         Stmt::Return { value } => Ok(Stmt::Return {
             value: value.copy()?,
         }),
-        Stmt::If { condition, then } => Ok(Stmt::If {
-            condition: condition.copy()?,
-            then: copy_block(then)?,
-        }),
+        Stmt::If { condition, then } => {
+            let (condition, then) = both(condition.copy()?, copy_block(then))?;
+            Ok(Stmt::If { condition, then })
+        }
         Stmt::IfElse {
             condition,
             then,
             otherwise,
-        } => Ok(Stmt::IfElse {
-            condition: condition.copy()?,
-            then: copy_block(then)?,
-            otherwise: copy_block(otherwise)?,
-        }),
-        Stmt::While { condition, body } => Ok(Stmt::While {
-            condition: condition.copy()?,
-            body: copy_block(body)?,
-        }),
+        } => {
+            let (condition, then) = both(condition.copy()?, copy_block(then))?;
+            let (tested, otherwise) = both((condition, then), copy_block(otherwise))?;
+            let (condition, then) = tested;
+            Ok(Stmt::IfElse {
+                condition,
+                then,
+                otherwise,
+            })
+        }
+        Stmt::While { condition, body } => {
+            let (condition, body) = both(condition.copy()?, copy_block(body))?;
+            Ok(Stmt::While { condition, body })
+        }
         Stmt::Print { value } => Ok(Stmt::Print {
             value: value.copy()?,
         }),

@@ -4,7 +4,7 @@ use Rattle.std.specs.Prelude.{◌≡◌, ℕ, ◌+◌, ◌&&◌, ◌||◌, ◌==
 use Rattle.std.specs.Str.{bytes_eq, is_utf8}
 use Rattle.script_text.specs.Numbers.{digits_value}
 use Rattle.command_words.specs.declared.command.Command.{Command}
-use Rattle.command_words.specs.declared.command.Command.TheVariants.{Check, Play, Gen}
+use Rattle.command_words.specs.declared.command.Command.TheVariants.{Check, Play, Run, Gen}
 use Rattle.command_words.specs.declared.command.Given.{Given}
 use Rattle.command_words.specs.declared.command.Plan.{Plan}
 use Rattle.command_words.specs.declared.command.WordsFault.{WordsFault}
@@ -95,6 +95,7 @@ plan_by command given = record {
 -- `check` takes the repositories and the folder alone
 abbrev pub plan_for : Command → Given → Option Plan
 plan_for Play given = Some (plan_by Play given)
+plan_for Run given = Some (plan_by Run given)
 plan_for (Gen n) given = Some (plan_by (Gen n) given)
 plan_for Check given = if is_some given.tries || is_some given.mob || is_some given.cache then None else Some (plan_by Check given)
 
@@ -103,7 +104,10 @@ abbrev pub plan_with : Command → List (List ℕ) → Option Plan
 plan_with command words = option_and_then (plan_for command) (with_options none_given words)
 
 abbrev pub command_named : List ℕ → Option Command
-command_named word = if bytes_eq word (codes "check") then Some Check else (if bytes_eq word (codes "play") then Some Play else None)
+command_named word =
+    if bytes_eq word (codes "check") then Some Check
+    else (if bytes_eq word (codes "play") then Some Play
+    else (if bytes_eq word (codes "run") then Some Run else None))
 
 -- `gen` is followed by one number, 1 to 1,000, and then by the options
 abbrev pub plan_of_gen : List (List ℕ) → Option Plan

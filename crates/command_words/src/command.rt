@@ -16,6 +16,8 @@ pub enum Command {
     Check,
     /// To run the script, one event after the other.
     Play,
+    /// To run the script, each client and each repository on its own.
+    Run,
     /// To run the generated script of this number, 1 to 1,000, and to add its accounts up.
     Gen { n: u16 },
 }
@@ -261,6 +263,7 @@ fn command_named(word: &[u8]) -> Option<Command>
     match word {
         b"check" => Some(Command::Check),
         b"play" => Some(Command::Play),
+        b"run" => Some(Command::Run),
         _ => None,
     }
 }

@@ -4,8 +4,6 @@
 
 mod entry;
 mod request;
-#[cfg(test)]
-mod tests;
 
 pub use entry::Entry;
 pub use request::{Kind, Request};

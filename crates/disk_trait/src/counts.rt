@@ -22,22 +22,6 @@ impl Counts {
         }
     }
 
-    /// Counts that can rise no more.
-    #[cfg(test)]
-    pub(crate) fn at_greatest() -> Counts {
-        Counts {
-            time: u64::MAX,
-            faults: [u64::MAX; 3],
-        }
-    }
-
-    #[cfg(test)]
-    pub(crate) fn faults(&self, disk: u8) -> u64
-        requires { disk < 3 }
-    {
-        self.faults[usize::from(disk)]
-    }
-
     /// Counts a call on a disk, which failed where there is no answer.
     pub(crate) fn after<T>(&mut self, disk: u8, answer: Option<T>) -> Result<T, Outage>
         requires { disk < 3 }

@@ -22,15 +22,6 @@ impl Fuse {
         }
     }
 
-    /// A stop that fell as often as a count can tell.
-    #[cfg(test)]
-    pub(crate) fn at_greatest() -> Fuse {
-        Fuse {
-            left: 0,
-            falls: [u64::MAX; 3],
-        }
-    }
-
     pub(crate) fn arm(&mut self, calls: u32)
         ensures { self.new ≡ record self.old { left = calls } }
     {

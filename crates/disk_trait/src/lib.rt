@@ -21,6 +21,3 @@ pub use fused::Fused;
 pub use mem_parts::MemParts;
 pub use parts::{FARTHEST_END, Outage, Parts};
 pub use record::{Call, Change, Did};
-
-#[cfg(test)]
-mod tests;

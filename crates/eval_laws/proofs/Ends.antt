@@ -1,5 +1,6 @@
 -- How a run ends, and what it has read by then: what each action says of it, and what one action and then another say.
-use Rattle.std.proofs.Common.{◌≡◌, ◌⊎◌, Bool, true, false, cond, List, [], ◌∷◌, ◌++◌, Option, Some, None, Result, Ok, Err, refl, ap, sym, ◌∙◌, subst, inl, inr, ℕ}
+use Rattle.std.proofs.Common.{◌≡◌, ◌⊎◌, Bool, true, false, cond, List, [], ◌∷◌, ◌++◌, Option, Some, None, Result, Ok, Err, refl, ap, sym, ◌∙◌, inl, inr}
+use Rattle.std.specs.List.{AllByRecursion}
 use Rattle.std.specs.Prelude.{◌||◌, find, is_some, nat_lt, ◌+◌}
 use Rattle.thor_value.proofs.FiniteMap.{get-insert}
 use Rattle.thor_value.proofs.NameOrders.{oref_total}
@@ -20,11 +21,15 @@ use Rattle.class_defs.specs.declared.machine.Stop.TheVariants as stop
 abbrev pub known : Machine → Oref → Bool
 known m x = has m.reads x || is_some (find (same_oref x) m.created)
 
+-- and each of these was
+abbrev pub AllKnown : Machine → List Oref → Type 0
+AllKnown m xs = AllByRecursion (λ x. known m x ≡ true) xs
+
 abbrev pub ThisKnown : Machine → Option Receiver → Type 0
 ThisKnown m None = Unit {0}
-ThisKnown m (Some r) = known m r.oref ≡ true
+ThisKnown m (Some r) = (known m r.oref ≡ true) × AllKnown m r.owners
 
--- `this` was read or created, and so was what was written
+-- `this` was read or created with its owners, and so was what was written
 pub record Sound (m : Machine) : Type 0 where
   pub this : ThisKnown m m.this
   pub written : (x : Oref) → has m.writes x ≡ true → known m x ≡ true
@@ -33,19 +38,24 @@ pub record Sound (m : Machine) : Type 0 where
 abbrev pub Grows : Machine → Machine → Type 0
 Grows m n = (x : Oref) → known m x ≡ true → known n x ≡ true
 
+pub all_grow : (m n : Machine) → Grows m n → (xs : List Oref) → AllKnown m xs → AllKnown n xs
+all_grow m n g [] h = tt
+all_grow m n g (x ∷ xs) h = (g x h.0, all_grow m n g xs h.1)
+
 pub this_grows : (m n : Machine) → Grows m n → (t : Option Receiver) → ThisKnown m t → ThisKnown n t
 this_grows m n g None h = tt
-this_grows m n g (Some r) h = g r.oref h
+this_grows m n g (Some r) h = (g r.oref h.0, all_grow m n g r.owners h.1)
 
 module _ (w : World) where
   -- what was read is at hand
   abbrev pub AtHand : Machine → Type 0
   AtHand m = (x : Oref) → has m.reads x ≡ true → is_some (w.at_hand x) ≡ true
 
-  -- an object that is needed isn't at hand; where a name is needed, there is none
+  -- an object that is needed isn't at hand, and the owners that are told with it were read or created; where a name is
+  -- needed, there is none
   abbrev pub StopIs : Machine → Stop → Type 0
   StopIs m (stop.Fault f) = Unit {0}
-  StopIs m (stop.Need x owners) = w.at_hand x ≡ None
+  StopIs m (stop.Need x owners) = (w.at_hand x ≡ None) × AllKnown m owners
   StopIs m (stop.NeedName repo) = take_name repo m.names ≡ None
 
   abbrev pub EndIs : {A : Type 0} → Result A Stop → Machine → Type 0

@@ -18,7 +18,7 @@ use Rattle.class_defs.specs.declared.machine.Receiver.{Receiver}
 use Rattle.class_defs.specs.declared.machine.Stop.{Stop}
 use Rattle.class_defs.specs.declared.machine.Stop.TheVariants as stop
 use Rattle.class_defs.specs.declared.store.Object.{Object}
-use Rattle.eval_laws.proofs.Ends.{AtHand, Goes, Grows, Sound, ThisKnown, Went, either, faults, found_last, found_on, gives, has-before, has-insert, has-inserted, known, stops, this_grows, value}
+use Rattle.eval_laws.proofs.Ends.{AllKnown, AtHand, Goes, Grows, Sound, ThisKnown, Went, either, found_last, found_on, gives, has-before, has-insert, has-inserted, known, stops, this_grows, value}
 
 none_seen : (o p : Option Object) → first_of o p ≡ None → p ≡ None
 none_seen None p e = e
@@ -45,35 +45,35 @@ module _ (w : World) where
       by (inl e) = ap (λ z. is_some (w.at_hand z)) e ∙ there
       by (inr g) = hand y g
 
-  again : (o : Option Object) (owners : List Oref) (x : Oref) (m : Machine) → Sound m → seen w m x ≡ o
+  again : (o : Option Object) (owners : List Oref) (x : Oref) (m : Machine) → Sound m → AllKnown m owners → seen w m x ≡ o
       → Went w ℕ m (class_found o x owners m).0 (class_found o x owners m).1
   unfolding seen
-  again (Some o) owners x m s is = gives w m m o.class (λ y h. h) (λ h. h) s
-  again None owners x m s is = stops w (stop.Need x owners) m (none_seen (get m.writes x) (w.at_hand x) is)
+  again (Some o) owners x m s os is = gives w m m o.class (λ y h. h) (λ h. h) s
+  again None owners x m s os is = stops w (stop.Need x owners) m (none_seen (get m.writes x) (w.at_hand x) is, os)
 
-  newly : (o : Option Object) (owners : List Oref) (x : Oref) (m : Machine) → Sound m → known m x ≡ false → seen w m x ≡ o
+  newly : (o : Option Object) (owners : List Oref) (x : Oref) (m : Machine) → Sound m → AllKnown m owners → known m x ≡ false → seen w m x ≡ o
       → let k : ℕ → Machine → Result ℕ Stop × Machine = λ c n. (Ok c, read n x) in
       Went w ℕ m (after (class_found o x owners m).0 (class_found o x owners m).1 k).0 (after (class_found o x owners m).0 (class_found o x owners m).1 k).1
   unfolding seen
-  newly (Some o) owners x m s new is =
+  newly (Some o) owners x m s os new is =
       gives w m (read m x) o.class (read_grows m x) (read_hand m x (some_seen (get m.writes x) (w.at_hand x) o is (unwritten (has m.writes x) refl)))
       (record { this = this_grows m (read m x) (read_grows m x) m.this s.this; written = λ y h. read_grows m x y (s.written y h) })
     where
       unwritten : (b : Bool) → has m.writes x ≡ b → has m.writes x ≡ false
       unwritten true e = absurd (let k = s.written x e in cc)
       unwritten false e = e
-  newly None owners x m s new is = stops w (stop.Need x owners) m (none_seen (get m.writes x) (w.at_hand x) is)
+  newly None owners x m s os new is = stops w (stop.Need x owners) m (none_seen (get m.writes x) (w.at_hand x) is, os)
 
-  touched : (b l : Bool) (owners : List Oref) (x : Oref) (m : Machine) → Sound m → known m x ≡ b
+  touched : (b l : Bool) (owners : List Oref) (x : Oref) (m : Machine) → Sound m → AllKnown m owners → known m x ≡ b
       → let r = cond b (class_found (seen w m x) x owners m) (cond l ((class_found (seen w m x) x owners >>= (λ c. λ n. (Ok c, read n x))) m) (Err (stop.Fault fault.Large), m)) in
       Went w ℕ m r.0 r.1
-  touched true l owners x m s is = again (seen w m x) owners x m s refl
-  touched false true owners x m s is = newly (seen w m x) owners x m s is refl
-  touched false false owners x m s is = stops w (stop.Fault fault.Large) m tt
+  touched true l owners x m s os is = again (seen w m x) owners x m s os refl
+  touched false true owners x m s os is = newly (seen w m x) owners x m s os is refl
+  touched false false owners x m s os is = stops w (stop.Fault fault.Large) m tt
 
-  pub touch_goes : (owners : List Oref) (x : Oref) → Goes w (touch w owners x)
+  pub touch_goes : (owners : List Oref) (x : Oref) (m : Machine) → Sound m → AllKnown m owners → Went w ℕ m (touch w owners x m).0 (touch w owners x m).1
   unfolding touch
-  touch_goes owners x m s = touched (known m x) (nat_lt (len m.reads) READ_LIMIT) owners x m s refl
+  touch_goes owners x m s os = touched (known m x) (nat_lt (len m.reads) READ_LIMIT) owners x m s os refl
 
   touched_known : (b l : Bool) (o : Option Object) (owners : List Oref) (x : Oref) (m : Machine) (c : ℕ) → known m x ≡ b
       → let r = cond b (class_found o x owners m) (cond l ((class_found o x owners >>= (λ c. λ n. (Ok c, read n x))) m) (Err (stop.Fault fault.Large), m)) in
@@ -105,7 +105,7 @@ module _ (w : World) where
   assigned : (m : Machine) (t : Option Receiver) (name : List ℕ) (v : Value) → Sound m → ThisKnown m t
       → Went w (Unit {0}) m (Ok tt) (assign_receiver w t name v m)
   assigned m None name v s k = gives w m m tt (λ y h. h) (λ h. h) s
-  assigned m (Some r) name v s k = written_goes m (seen w m r.oref) (field_named w.schema.classes r.class name) v r.oref s k
+  assigned m (Some r) name v s k = written_goes m (seen w m r.oref) (field_named w.schema.classes r.class name) v r.oref s k.0
 
   pub assign_field_goes : (name : List ℕ) (v : Value) → Goes w (change (assign_field w name v))
   unfolding assign_field

@@ -1,5 +1,5 @@
 -- What statements and whole transactions say of how a run ends.
-use Rattle.std.proofs.Common.{◌≡◌, Bool, true, false, cond, List, [], ◌∷◌, ◌++◌, Option, None, Result, refl, ℕ, zero, suc, take, length}
+use Rattle.std.proofs.Common.{Bool, true, false, cond, List, [], ◌∷◌, ◌++◌, Option, ℕ, zero, suc, take, length}
 use Rattle.thor_value.specs.declared.names.Oref.{Oref}
 use Rattle.thor_value.specs.declared.values.Fault.TheVariants as fault
 use Rattle.thor_value.specs.declared.values.Value.{Value}

@@ -1,10 +1,10 @@
 -- What evaluations answer, by how their runs end.
-use Rattle.std.proofs.Common.{◌≡◌, Bool, true, false, cond, map, List, [], ◌∷◌, Option, Some, None, Result, Ok, Err, refl, ap, sym, subst, ◌∙◌, ℕ}
+use Rattle.std.proofs.Common.{◌≡◌, ◌⊎◌, inl, inr, Bool, true, false, cond, map, List, [], ◌∷◌, Option, Some, None, Result, Ok, Err, refl, ap, subst, ◌∙◌, ℕ}
 use Rattle.std.specs.BTreeMap.{is_at}
 use Rattle.std.specs.List.{AllByRecursion}
 use Rattle.std.specs.Map.{lookup}
-use Rattle.std.specs.Prelude.{Contains, is_some}
-use Rattle.thor_value.specs.FiniteMap.{get, keys}
+use Rattle.std.specs.Prelude.{Contains, find, is_some, ◌||◌}
+use Rattle.thor_value.specs.FiniteMap.{get, has, keys}
 use Rattle.thor_value.specs.Names.{oref_cmp, same_oref}
 use Rattle.thor_value.specs.declared.names.Oref.{Oref}
 use Rattle.thor_value.specs.declared.values.Answer.{Answer}
@@ -24,10 +24,9 @@ use Rattle.class_defs.specs.declared.store.Schema.{Schema}
 use Rattle.method_eval.specs.Answers.{evaluation, ran_at}
 use Rattle.method_eval.specs.Names.{supply}
 use Rattle.method_eval.specs.Viewed.{current, seen_in}
-use Rattle.method_eval.specs.declared.view.Ran.{Ran}
 use Rattle.method_eval.specs.declared.view.Ran.TheVariants.{Done, Need, NeedName}
 use Rattle.method_eval.specs.declared.view.View.{View}
-use Rattle.eval_laws.proofs.Ends.{AtHand, EndIs}
+use Rattle.eval_laws.proofs.Ends.{AllKnown, AtHand, EndIs}
 use Rattle.eval_laws.proofs.EndsRun.{transaction_ends}
 use Rattle.run_laws.proofs.TouchedStores.{state_alike}
 
@@ -37,8 +36,17 @@ module _ (w : World) (epoch : ℕ) (m : Machine) where
   need_of : (o : Result Flow Stop) (x : Oref) (owners : List Oref) → EndIs w o m → ran_at epoch o m ≡ Need x owners → w.at_hand x ≡ None
   need_of (Ok flow) x owners h is = cc
   need_of (Err (stop.Fault f)) x owners h is = cc
-  need_of (Err (stop.Need y others)) x owners h is = let e : y ≡ x = cc in subst (λ z. w.at_hand z ≡ None) e h
+  need_of (Err (stop.Need y others)) x owners h is = let e : y ≡ x = cc in subst (λ z. w.at_hand z ≡ None) e h.0
   need_of (Err (stop.NeedName repo)) x owners h is = cc
+
+  owners_of : (o : Result Flow Stop) (x : Oref) (owners : List Oref) → EndIs w o m → ran_at epoch o m ≡ Need x owners → (o ≡ Err (stop.Need x owners)) × AllKnown m owners
+  owners_of (Ok flow) x owners h is = cc
+  owners_of (Err (stop.Fault f)) x owners h is = cc
+  owners_of (Err (stop.Need y others)) x owners h is =
+      let e : y ≡ x = cc in
+      let f : others ≡ owners = cc in
+      (ap (λ z. Err (stop.Need z others)) e ∙ ap (λ zs. Err (stop.Need x zs)) f, subst (AllKnown m) f h.1)
+  owners_of (Err (stop.NeedName repo)) x owners h is = cc
 
   name_of : (o : Result Flow Stop) (repo : ℕ) → EndIs w o m → ran_at epoch o m ≡ NeedName repo → (o ≡ Err (stop.NeedName repo)) × (take_name repo m.names ≡ None)
   name_of (Ok flow) repo h is = cc
@@ -77,6 +85,26 @@ module _ (tx : List Stmt) (schema : Schema) (view : View) where
   pub needed : (x : Oref) (owners : List Oref) → evaluation tx schema view ≡ Need x owners → current schema (get view.objects x) ≡ None
   unfolding evaluation
   needed x owners is = need_of w view.epoch ended.1 ended.0 x owners (transaction_ends w tx (supply view.names).waiting (supply view.names).stand_in).ended is
+
+  -- the owners that are told with an object that is needed are at hand, or were made by this evaluation
+  pub owners_needed : (x : Oref) (owners : List Oref) → evaluation tx schema view ≡ Need x owners
+      → (m : Machine) × (execute_all w tx (begun (supply view.names).waiting (supply view.names).stand_in) ≡ (Err (stop.Need x owners), m))
+      × AllByRecursion (λ a. (is_some (current schema (get view.objects a)) ≡ true) ⊎ (is_some (find (same_oref a) m.created) ≡ true)) owners
+  unfolding evaluation
+  owners_needed x owners is =
+      let went = transaction_ends w tx (supply view.names).waiting (supply view.names).stand_in in
+      let told = owners_of w view.epoch ended.1 ended.0 x owners went.ended is in
+      let none : AtHand w (begun (supply view.names).waiting (supply view.names).stand_in) = λ y h. cc in
+      (ended.1, ap (λ (o : Result Flow Stop). (o, ended.1)) told.0, each owners told.1 (went.hand none))
+    where
+      either : (b c : Bool) (a : Oref) → (b ≡ true → is_some (current schema (get view.objects a)) ≡ true) → (b || c) ≡ true → (is_some (current schema (get view.objects a)) ≡ true) ⊎ (c ≡ true)
+      either true c a f h = inl (f refl)
+      either false c a f h = inr h
+
+      each : (xs : List Oref) → AllKnown ended.1 xs → AtHand w ended.1
+          → AllByRecursion (λ a. (is_some (current schema (get view.objects a)) ≡ true) ⊎ (is_some (find (same_oref a) ended.1.created) ≡ true)) xs
+      each [] h hand = tt
+      each (a ∷ xs) h hand = (either (has ended.1.reads a) (is_some (find (same_oref a) ended.1.created)) a (hand a) h.0, each xs h.1 hand)
 
   pub name_needed : (repo : ℕ) → evaluation tx schema view ≡ NeedName repo
       → (m : Machine) × (execute_all w tx (begun (supply view.names).waiting (supply view.names).stand_in) ≡ (Err (stop.NeedName repo), m)) × (take_name repo m.names ≡ None)

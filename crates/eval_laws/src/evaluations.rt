@@ -1,9 +1,10 @@
 //! What an evaluation answers. Each law is a function with an empty body, whose clauses are proved once for all
 //! callers.
 
-ghost use Rattle.std.specs.Prelude.{◌≡◌, ℕ, true, List, None, Err, Contains, is_some};
+ghost use Rattle.std.specs.Prelude.{◌≡◌, ◌⊎◌, ℕ, true, List, None, Err, Contains, find, is_some};
 ghost use Rattle.std.specs.List.{AllByRecursion};
 ghost use Rattle.thor_value.specs.FiniteMap.{get};
+ghost use Rattle.thor_value.specs.Names.{same_oref};
 ghost use Rattle.thor_value.specs.declared.names.Oref.{Oref};
 ghost use Rattle.thor_value.specs.declared.values.Answer.{Answer};
 ghost use Rattle.thor_value.specs.declared.values.Obj.{Obj};
@@ -25,12 +26,18 @@ ghost use Rattle.eval_laws.specs.Telling.{TellsOfRun};
 
 /// An evaluation asks for what isn't at hand, and only for that.
 ///
-/// An object that it needs isn't in the view or is due. Each object that it has read was in the view and wasn't due: so it
+/// An object that it needs isn't in the view or is due; the owners that it tells with that are in the view and not due, or it
+/// has made them itself. Each object that it has read was in the view and wasn't due: so it
 /// doesn't go on past one that is missing. Where it needs a name, the names that it has left have none for a new object
 /// there.
 pub fn what_is_needed_is_not_at_hand()
     ensures need { (tx : List Stmt) → (schema : Schema) → (view : View) → (x : Oref) → (owners : List Oref)
         → evaluation tx schema view ≡ Need x owners → current schema (get view.objects x) ≡ None }
+    ensures owners { (tx : List Stmt) → (schema : Schema) → (view : View) → (x : Oref) → (owners : List Oref)
+        → evaluation tx schema view ≡ Need x owners
+        → (m : Machine)
+        × (execute_all (seen_in schema view.objects) tx (begun (supply view.names).waiting (supply view.names).stand_in) ≡ (Err (stop.Need x owners), m))
+        × AllByRecursion (λ a. (is_some (current schema (get view.objects a)) ≡ true) ⊎ (is_some (find (same_oref a) m.created) ≡ true)) owners }
     ensures read { (tx : List Stmt) → (schema : Schema) → (view : View)
         → (answer : Answer) → (reads : List Oref) → (writes : List (Oref × Obj)) → (fresh : List Oref)
         → evaluation tx schema view ≡ Done answer reads writes fresh

@@ -1,10 +1,10 @@
-//! Copies of what a script is read into.
+//! Copies of what a script is read into, its numbers, and want of memory.
 
 use schedule::{Events, parse_schedule};
-use script_text::{Token, Tokens, digits_value, scan};
+use script_text::{SyntaxError, Token, Tokens, digits_value, scan};
 use std::alloc::Global;
 use std::test::Fail;
-use thor_value::TryCopy;
+use thor_value::{NoMemory, TryCopy};
 
 fn scanned(alloc: Global) -> Result<Tokens, Fail> {
     Ok(scan(alloc, b"s1 d12 . 7").ok().ok_or("tokens")?)
@@ -45,4 +45,9 @@ fn events_are_copied(rt: HostRuntime) -> Result<(), Fail> {
 fn the_greatest_number_has_its_value(rt: HostRuntime) {
     let value = digits_value(u64::MAX, b"18446744073709551615");
     assert!(rt; value == Some(u64::MAX));
+}
+
+#[test]
+fn want_of_memory_is_no_fault(rt: HostRuntime) {
+    assert!(rt; SyntaxError::from(NoMemory) == SyntaxError::NoMemory);
 }

@@ -4,7 +4,7 @@ ghost use Rattle.std.specs.Prelude.{◌≡◌, ◌++◌, ◌≤◌, ◌<◌, ◌
 ghost use Rattle.std.specs.Ordering.{nat_cmp};
 ghost use Rattle.thor_value.specs.FiniteMap.{empty};
 ghost use Rattle.thor_value.specs.Spelling.{TsFits};
-ghost use Rattle.log_bytes.specs.Checkpoint.{StateFits, alone_format, are_new, are_sides, client_of, count_format, head_format, kept_format, kept_state_format, mob_format, pages_format, prepared_format, root_format, sides_format, state_format, state_parts, texts_format, tx_of, version_format};
+ghost use Rattle.log_bytes.specs.Checkpoint.{StateFits, alone_format, are_new, are_sides, client_of, count_format, head_format, kept_format, kept_state_format, mob_format, pages_format, prepared_format, root_format, sides_format, state_format, state_of, state_parts, texts_format, tx_of, version_format};
 ghost use Rattle.std.specs.List.{AllByRecursion};
 ghost use Rattle.log_bytes.specs.Format.{Answered, Gives, IsSpelled, ◌then◌, list, u8_format, u32_format, value_of};
 ghost use Rattle.log_bytes.specs.Grammar.{rise, ts_format};
@@ -21,7 +21,7 @@ use crate::wholes::{read_whole, short_text};
 use class_defs::{Root, Roots};
 use page_format::Sides;
 use std::alloc::Global;
-use thor_value::{NoMemory, Obj, Oref, OrefMap, Sequence, Stamps, Text, Texts, Ts, Writes};
+use thor_value::{NoMemory, Obj, Oref, OrefMap, Sequence, Stamps, Text, Texts, Ts, Writes, both};
 
 /// The one format of a store.
 const FORMAT: u8 = 1;
@@ -202,6 +202,89 @@ fn read_alone(alloc: Global, bytes: &[u8]) -> Result<(Alones, &[u8]), BodyFault>
     }
 }
 
+/// How far a history has come: the count of its entries, the threshold and the next page.
+type Reached = (u64, (Ts, u32));
+
+fn read_reached(alloc: Global, bytes: &[u8]) -> Result<(Reached, &[u8]), BodyFault>
+    ensures { Gives (λ x. (x.0, x.1.now)) result ((count_format then ts_format then pages_format).reading bytes.now) }
+{
+    let (count, rest) = read_count(alloc, bytes)?;
+    let (threshold, rest) = Ts::read(alloc, rest)?;
+    let (next_page, rest) = read_pages(alloc, rest)?;
+    Ok(((count, (threshold, next_page)), rest))
+}
+
+/// The numbers of a state.
+type Head = (u8, (u8, (u8, (u32, Reached))));
+
+/// Reads the numbers of a state.
+fn read_head(alloc: Global, bytes: &[u8]) -> Result<(Head, &[u8]), BodyFault>
+    ensures { Gives (λ x. (x.0, x.1.now)) result (head_format.reading bytes.now) }
+{
+    let (format, rest) = read_version(alloc, bytes)?;
+    let (repo, rest) = u8::read(alloc, rest)?;
+    let (repos, rest) = u8::read(alloc, rest)?;
+    let (life, rest) = u32::read(alloc, rest)?;
+    let (reached, rest) = read_reached(alloc, rest)?;
+    Ok(((format, (repo, (repos, (life, reached)))), rest))
+}
+
+/// The prepared requests, the kept decisions and the last single commits.
+type Transactions = (Requests, (Stamps, Alones));
+
+fn read_transactions(alloc: Global, bytes: &[u8]) -> Result<(Transactions, &[u8]), BodyFault>
+    ensures { Gives (λ x. (x.0, x.1.now)) result ((prepared_format then kept_format then alone_format).reading bytes.now) }
+{
+    let (prepared, rest) = read_prepared(alloc, bytes)?;
+    let (prepared, (kept, rest)) = both(prepared, read_kept(alloc, rest))?;
+    let ((prepared, kept), (alone, rest)) = both((prepared, kept), read_alone(alloc, rest))?;
+    Ok(((prepared, (kept, alone)), rest))
+}
+
+/// The installed pages, the buffered objects and what is kept of transactions.
+type Held = (Sides, (Writes, Transactions));
+
+fn read_held(alloc: Global, bytes: &[u8]) -> Result<(Held, &[u8]), BodyFault>
+    ensures { Gives (λ x. (x.0, x.1.now)) result (kept_state_format.reading bytes.now) }
+{
+    let (installed, rest) = read_sides(alloc, bytes)?;
+    let (installed, (mob, rest)) = both(installed, read_mob(alloc, rest))?;
+    let ((installed, mob), (transactions, rest)) = both(
+        (installed, mob),
+        read_transactions(alloc, rest),
+    )?;
+    Ok(((installed, (mob, transactions)), rest))
+}
+
+/// The text of the classes, the roots and the texts of the upgrades.
+type Declared = (Text, (Roots, Texts));
+
+/// The state of these parts.
+fn state_of(head: Head, declared: Declared, held: Held) -> State
+    ensures { result ≡ state_of (head, (declared, held)) }
+{
+    let (format, (repo, (repos, (life, (count, (threshold, next_page)))))) = head;
+    let (classes, (roots, upgrades)) = declared;
+    let (installed, (mob, (prepared, (kept, alone)))) = held;
+    State {
+        format,
+        repo,
+        repos,
+        life,
+        count,
+        threshold,
+        next_page,
+        classes,
+        roots,
+        upgrades,
+        installed,
+        mob,
+        prepared,
+        kept,
+        alone,
+    }
+}
+
 impl Spelled for State {
     ghost use Rattle.log_bytes.specs.Checkpoint.{state_format};
 
@@ -209,41 +292,10 @@ impl Spelled for State {
 
     #[tactic(auto, unfolding(crate::specs::Checkpoint::state_format))]
     fn read(alloc: Global, bytes: &[u8]) -> Result<(State, &[u8]), BodyFault> {
-        let (format, rest) = read_version(alloc, bytes)?;
-        let (repo, rest) = u8::read(alloc, rest)?;
-        let (repos, rest) = u8::read(alloc, rest)?;
-        let (life, rest) = u32::read(alloc, rest)?;
-        let (count, rest) = read_count(alloc, rest)?;
-        let (threshold, rest) = Ts::read(alloc, rest)?;
-        let (next_page, rest) = read_pages(alloc, rest)?;
-        let (classes, rest) = Text::read(alloc, rest)?;
-        let (roots, rest) = Roots::read(alloc, rest)?;
-        let (upgrades, rest) = Texts::read(alloc, rest)?;
-        let (installed, rest) = read_sides(alloc, rest)?;
-        let (mob, rest) = read_mob(alloc, rest)?;
-        let (prepared, rest) = read_prepared(alloc, rest)?;
-        let (kept, rest) = read_kept(alloc, rest)?;
-        let (alone, rest) = read_alone(alloc, rest)?;
-        Ok((
-            State {
-                format,
-                repo,
-                repos,
-                life,
-                count,
-                threshold,
-                next_page,
-                classes,
-                roots,
-                upgrades,
-                installed,
-                mob,
-                prepared,
-                kept,
-                alone,
-            },
-            rest,
-        ))
+        let (head, rest) = read_head(alloc, bytes)?;
+        let (declared, rest) = Declared::read(alloc, rest)?;
+        let (declared, (held, rest)) = both(declared, read_held(alloc, rest))?;
+        Ok((state_of(head, declared, held), rest))
     }
 
     #[tactic(auto, unfolding(crate::specs::Checkpoint::state_format), using(std::proofs::Common::append_assoc))]

@@ -13,7 +13,7 @@ use crate::spelled::Spelled;
 use commit_log::{Kind, Request};
 use std::alloc::Global;
 use thor_value::{
-    Answer, Fault, Ints, NoMemory, Obj, Oref, Orefs, Repos, Sequence, Text, Ts, Who, Writes,
+    Answer, Fault, Ints, NoMemory, Obj, Oref, Orefs, Repos, Sequence, Text, Ts, Who, Writes, both,
 };
 
 impl Spelled for Who {
@@ -153,6 +153,44 @@ fn put_repos(repos: &Repos, out: &mut Text) -> Result<(), NoMemory>
     put_several(repos.as_slice(), out)
 }
 
+/// Reads the answer of a request, and its other repositories.
+fn read_end(alloc: Global, bytes: &[u8]) -> Result<((Answer, Repos), &[u8]), BodyFault>
+    ensures { Gives (λ x. (x.0, x.1.now)) result ((answer_format then repos_format).reading bytes.now) }
+{
+    let (answer, rest) = Answer::read(alloc, bytes)?;
+    let (answer, (others, rest)) = both(answer, read_repos(alloc, rest))?;
+    Ok(((answer, others), rest))
+}
+
+/// What a request says of objects, and its end.
+type Said = (Orefs, (Writes, (Orefs, (Answer, Repos))));
+
+/// Reads what a request says of objects, and its end.
+fn read_said(alloc: Global, bytes: &[u8]) -> Result<(Said, &[u8]), BodyFault>
+    ensures { Gives (λ x. (x.0, x.1.now)) result ((list oref_format then list (oref_format then obj_format) then list oref_format then answer_format then repos_format).reading bytes.now) }
+{
+    let (ros, rest) = Orefs::read(alloc, bytes)?;
+    let (ros, (writes, rest)) = both(ros, Writes::read(alloc, rest))?;
+    let (read, (fresh, rest)) = both((ros, writes), Orefs::read(alloc, rest))?;
+    let ((read, fresh), (end, rest)) = both((read, fresh), read_end(alloc, rest))?;
+    let (ros, writes) = read;
+    Ok(((ros, (writes, (fresh, end))), rest))
+}
+
+/// What a request is of, what its client had seen, and what it says.
+type Asked = (Kind, (u32, (u64, Said)));
+
+/// Reads a request behind its sender.
+fn read_asked(alloc: Global, bytes: &[u8]) -> Result<(Asked, &[u8]), BodyFault>
+    ensures { Gives (λ x. (x.0, x.1.now)) result ((kind_format then u32_format then u64_format then list oref_format then list (oref_format then obj_format) then list oref_format then answer_format then repos_format).reading bytes.now) }
+{
+    let (kind, rest) = Kind::read(alloc, bytes)?;
+    let (kind, (epoch, rest)) = both(kind, u32::read(alloc, rest))?;
+    let (kind, (upto, rest)) = both(kind, u64::read(alloc, rest))?;
+    let (kind, (said, rest)) = both(kind, read_said(alloc, rest))?;
+    Ok(((kind, (epoch, (upto, said))), rest))
+}
+
 impl Spelled for Request {
     ghost use Rattle.log_bytes.specs.Grammar.{request_format};
 
@@ -163,14 +201,9 @@ impl Spelled for Request {
         let (tx, rest) = Ts::read(alloc, bytes)?;
         let (who, rest) = Who::read(alloc, rest)?;
         let (session, rest) = u32::read(alloc, rest)?;
-        let (kind, rest) = Kind::read(alloc, rest)?;
-        let (epoch, rest) = u32::read(alloc, rest)?;
-        let (upto, rest) = u64::read(alloc, rest)?;
-        let (ros, rest) = Orefs::read(alloc, rest)?;
-        let (writes, rest) = Writes::read(alloc, rest)?;
-        let (fresh, rest) = Orefs::read(alloc, rest)?;
-        let (answer, rest) = Answer::read(alloc, rest)?;
-        let (others, rest) = read_repos(alloc, rest)?;
+        let (asked, rest) = read_asked(alloc, rest)?;
+        let (kind, (epoch, (upto, said))) = asked;
+        let (ros, (writes, (fresh, (answer, others)))) = said;
         Ok((
             Request {
                 tx,

@@ -122,6 +122,11 @@ fn item_names(
 ) -> Result<(), NoMemory>
     ensures { OnOk result (found.new ≡ least_with found.old (spec.item_names schema.now item.now)) }
 {
+    let mut locals = Names::new(alloc);
+    names_in(item, &mut locals)?;
+    if locals.is_empty() {
+        return Ok(());
+    }
     let mut names = Names::new(alloc);
     names_of(schema.roots.as_slice(), &mut names)?;
     let roots = names.len();

@@ -1,4 +1,4 @@
-ghost use Rattle.std.specs.Prelude.{◌≡◌, ◌≤◌, length, IfOk};
+ghost use Rattle.std.specs.Prelude.{◌≡◌, ◌≤◌, [], length, IfOk};
 ghost use Rattle.thor_value.specs.FiniteMap.{keys};
 ghost use Rattle.class_defs.specs.Run.{begun, execute_all};
 ghost use Rattle.class_defs.specs.Stored.{in_epoch};
@@ -13,7 +13,9 @@ use crate::view::{Ran, View};
 use crate::world::{Program, World};
 use class_defs::{Block, Flow, Machine, Object, Schema, Stop};
 use std::alloc::Global;
-use thor_value::{Answer, Ints, NoMemory, Obj, Oref, OrefMap, Orefs, Sequence, Writes};
+use thor_value::{
+    Answer, Fault, Ints, NoMemory, Obj, Oref, OrefMap, Orefs, Sequence, Writes, both,
+};
 
 pub(crate) fn begun(alloc: Global, view: &View) -> Result<Machine, NoMemory>
     ensures { IfOk result (λ machine. machine ≡ begun (supply view.now.names).waiting (supply view.now.names).stand_in) }
@@ -72,18 +74,42 @@ fn stored_at(alloc: Global, epoch: u32, written: OrefMap<Object>) -> Result<Writ
 fn done(alloc: Global, epoch: u32, machine: Machine) -> Result<Ran, NoMemory>
     ensures { IfOk result (λ ran. ran ≡ Ran.Done (Answer.Ints machine.printed) (keys machine.reads) (stored_at epoch machine.writes.pairs) machine.created) }
 {
-    let reads = machine.reads.names(alloc)?;
+    let reads = machine.reads.names(alloc);
+    let (machine, reads) = both(machine, reads)?;
     let Machine {
+        steps: _,
+        depth: _,
+        this,
+        locals,
+        reads: read,
         writes,
         created,
         printed,
-        ..
+        names,
     } = machine;
+    drop(this);
+    drop(locals);
+    drop(read);
+    drop(names);
     Ok(Ran::Done {
         answer: Answer::Ints(printed),
         reads,
         writes: stored_at(alloc, epoch, writes)?,
         fresh: created,
+    })
+}
+
+/// What a run gives that ended with a fault.
+fn failed(alloc: Global, fault: Fault, machine: Machine) -> Result<Ran, NoMemory>
+    ensures { IfOk result (λ ran. ran ≡ Ran.Done (Answer.Fault fault) (keys machine.reads) [] []) }
+{
+    let reads = machine.reads.names(alloc);
+    drop(machine);
+    Ok(Ran::Done {
+        answer: Answer::Fault(fault),
+        reads: reads?,
+        writes: Writes::new(alloc),
+        fresh: Orefs::new(alloc),
     })
 }
 
@@ -98,14 +124,15 @@ fn ran_at(
 {
     match outcome {
         Ok(_) => done(alloc, epoch, machine),
-        Err(Stop::Fault(fault)) => Ok(Ran::Done {
-            answer: Answer::Fault(fault),
-            reads: machine.reads.names(alloc)?,
-            writes: Writes::new(alloc),
-            fresh: Orefs::new(alloc),
-        }),
-        Err(Stop::Need { oref, owners }) => Ok(Ran::Need { oref, owners }),
-        Err(Stop::NeedName { repo }) => Ok(Ran::NeedName { repo }),
+        Err(Stop::Fault(fault)) => failed(alloc, fault, machine),
+        Err(Stop::Need { oref, owners }) => {
+            drop(machine);
+            Ok(Ran::Need { oref, owners })
+        }
+        Err(Stop::NeedName { repo }) => {
+            drop(machine);
+            Ok(Ran::NeedName { repo })
+        }
     }
 }
 
@@ -130,6 +157,9 @@ pub fn eval<'a>(
     match execute_all(&world, &mut machine, tx) {
         Ok(flow) => ran_at(alloc, view.epoch, Ok(flow), machine),
         Err(Halt::Stopped(stop)) => ran_at(alloc, view.epoch, Err(stop), machine),
-        Err(Halt::NoMemory) => Err(NoMemory),
+        Err(Halt::NoMemory) => {
+            drop(machine);
+            Err(NoMemory)
+        }
     }
 }

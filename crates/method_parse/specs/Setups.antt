@@ -1,6 +1,7 @@
 -- How classes, roots, a whole block and a whole setup are read.
 use Rattle.std.specs.Prelude.{ℕ, Bool, ◌||◌, List, [], ◌∷◌, ◌++◌, length, Result, Ok, Err, codes}
 use Rattle.class_defs.specs.declared.classes.ClassKind.{ClassKind}
+use Rattle.class_defs.specs.declared.expressions.Name.{Name}
 use Rattle.class_defs.specs.declared.classes.ClassKind.TheVariants.{Free, Part}
 use Rattle.class_defs.specs.declared.classes.Field.{Field}
 use Rattle.class_defs.specs.declared.classes.Parameter.{Parameter}
@@ -113,6 +114,23 @@ more_classes classes = do
 
 abbrev pub begins_class : Token → Bool
 begins_class token = is (codes "free") token || is (codes "part") token
+
+-- what stands behind the class of a root
+unfoldable pub root_of_class : Name → Name → Reader WrittenRoot
+root_of_class called class = do
+  open_line ← word (codes "(")
+  close_line ← word (codes ")")
+  place ← at
+  end ← word (codes ";")
+  give (record { name = called; class = class; at = place })
+
+-- what stands behind the name of a root
+unfoldable pub root_named : Name → Reader WrittenRoot
+root_named called = do
+  equals ← word (codes "=")
+  new_line ← word (codes "new")
+  class ← name
+  root_of_class called class
 
 unfoldable pub root : Reader WrittenRoot
 root = do

@@ -1,9 +1,10 @@
 //! Expressions, by descent: each function reads one rule of the grammar. The room for brackets and for
 //! the depth shrinks on the way down, so the text sets no bound on the recursion.
 
-ghost use Rattle.std.specs.Prelude.{◌≡◌, ◌<◌, ◌≤◌, ◌-◌, IfOk};
+ghost use Rattle.std.specs.Prelude.{◌≡◌, ◌<◌, ◌≤◌, ◌+◌, ◌-◌, ◌^◌, max, IfOk};
+ghost use Rattle.class_defs.specs.declared.expressions.Expr.TheVariants.{Binary as ABinary};
 ghost use Rattle.method_parse.specs.Reader.{Gives};
-ghost use Rattle.method_parse.specs.Expressions.{at, operator, argument, more_arguments, some_arguments, listed, arguments, after_field, after_this, parens, created, primary_by, primary, called, calls, unary, joined, joins, at_level, expression_in, inner_of, parts_of};
+ghost use Rattle.method_parse.specs.Expressions.{at, operator, argument, more_arguments, some_arguments, listed, arguments, after_field, after_this, parens, created, primary_by, primary, call, called, calls, unary, joined, joins, at_level, expression_in, inner_of, parts_of};
 
 use crate::deep::{Arguments, Deep, Level, Room, Start};
 use crate::error::ParseError;
@@ -14,7 +15,7 @@ use crate::take::{name, next_is, number, word};
 use class_defs::{At, Expr, Exprs, Name, Operator, Place};
 use script_text::Token;
 use std::alloc::Global;
-use thor_value::Boxed;
+use thor_value::{Boxed, NoMemory, both};
 
 /// `at` and a number, or nothing.
 #[tactic(auto, unfolding(crate::specs::Expressions::at))]
@@ -281,7 +282,7 @@ fn parens(
 {
     let (line, rest) = word(tokens, b"(")?;
     let (read, rest) = inner(alloc, place, room, rest)?;
-    let (_, rest) = word(rest, b")")?;
+    let (read, (_, rest)) = both(read, word(rest, b")"))?;
     let inner = Boxed::new(alloc, read.expr)?;
     let expr = Expr::Parens { inner, line };
     let depth = read.depth + 1;
@@ -339,6 +340,23 @@ fn primary(
     }
 }
 
+/// A call on an expression.
+fn call(alloc: Global, receiver: Deep, method: Name, arguments: Arguments) -> Result<Deep, NoMemory>
+    requires receiver { receiver.depth < 2 ^ 32 - 1 }
+    requires arguments { arguments.depth < 2 ^ 32 - 1 }
+    ensures { IfOk result (λ deep. deep ≡ call receiver method arguments) }
+{
+    let depth = receiver.depth.max(arguments.depth) + 1;
+    let (behind, receiver) = both((method, arguments.exprs), Boxed::new(alloc, receiver.expr))?;
+    let (method, arguments) = behind;
+    let expr = Expr::Call {
+        receiver,
+        method,
+        arguments,
+    };
+    Ok(Deep { expr, depth })
+}
+
 /// One more call.
 #[cycle(expression)]
 #[tactic(auto, unfolding(crate::specs::Expressions::called))]
@@ -355,16 +373,11 @@ fn called(
     ensures read { Gives (λ x. (x.0, x.1.now)) result (called (inner_of place room) receiver tokens.now) }
     ensures within { IfOk result (λ x. x.0.depth ≤ room.depth) }
 {
-    let (_, rest) = word(tokens, b".")?;
-    let (method, rest) = name(rest)?;
-    let (read, rest) = arguments(alloc, place, room, rest)?;
-    let depth = receiver.depth.max(read.depth) + 1;
-    let expr = Expr::Call {
-        receiver: Boxed::new(alloc, receiver.expr)?,
-        method,
-        arguments: read.exprs,
-    };
-    Ok((Deep { expr, depth }, rest))
+    let (receiver, (_, rest)) = both(receiver, word(tokens, b"."))?;
+    let (receiver, (method, rest)) = both(receiver, name(rest))?;
+    let (called, (read, rest)) = both((receiver, method), arguments(alloc, place, room, rest))?;
+    let (receiver, method) = called;
+    Ok((call(alloc, receiver, method, read)?, rest))
 }
 
 /// The calls on an expression, one on the other.
@@ -419,6 +432,30 @@ fn unary(
     Ok((Deep { expr, depth }, rest))
 }
 
+/// An operator, whose line is given, between two operands.
+fn binary(
+    alloc: Global,
+    operator: Operator,
+    line: u32,
+    left: Deep,
+    right: Deep,
+) -> Result<Deep, NoMemory>
+    requires left { left.depth < 2 ^ 32 - 1 }
+    requires right { right.depth < 2 ^ 32 - 1 }
+    ensures { IfOk result (λ deep. deep ≡ record { expr = ABinary operator left.expr right.expr line; depth = max left.depth right.depth + 1 }) }
+{
+    let depth = left.depth.max(right.depth) + 1;
+    let (right, left) = both(right.expr, Boxed::new(alloc, left.expr))?;
+    let (left, right) = both(left, Boxed::new(alloc, right))?;
+    let expr = Expr::Binary {
+        operator,
+        left,
+        right,
+        line,
+    };
+    Ok(Deep { expr, depth })
+}
+
 /// One more operator of a level, and its right operand.
 #[cycle(expression)]
 #[tactic(auto, unfolding(crate::specs::Expressions::joined))]
@@ -435,16 +472,10 @@ fn joined(
     ensures read { Gives (λ x. (x.0, x.1.now)) result (joined level (parts_of place room) left tokens.now) }
     ensures within { IfOk result (λ x. x.0.depth ≤ room.depth) }
 {
-    let ((operator, line), rest) = operator(level, tokens)?;
-    let (right, rest) = operand(alloc, place, room, tighter(level), rest)?;
-    let depth = left.depth.max(right.depth) + 1;
-    let expr = Expr::Binary {
-        operator,
-        left: Boxed::new(alloc, left.expr)?,
-        right: Boxed::new(alloc, right.expr)?,
-        line,
-    };
-    Ok((Deep { expr, depth }, rest))
+    let (left, (operator, rest)) = both(left, operator(level, tokens))?;
+    let (left, (right, rest)) = both(left, operand(alloc, place, room, tighter(level), rest))?;
+    let (operator, line) = operator;
+    Ok((binary(alloc, operator, line, left, right)?, rest))
 }
 
 /// The operators of a level behind an operand, each with its right operand.

@@ -2,15 +2,15 @@
 
 ghost use Rattle.std.specs.Prelude.{◌≡◌};
 ghost use Rattle.method_parse.specs.Reader.{Gives, next};
-ghost use Rattle.method_parse.specs.Setups.{begins_type, begins_class, field, more_fields, fields, parameter, more_parameters, other_parameters, some_parameters, listed, parameters, method, more_methods, methods, kind, class, more_classes, classes, root, more_roots, roots, setup};
+ghost use Rattle.method_parse.specs.Setups.{begins_type, begins_class, field, more_fields, fields, parameter, more_parameters, other_parameters, some_parameters, listed, parameters, method, more_methods, methods, kind, class, more_classes, classes, root, root_named, root_of_class, more_roots, roots, setup};
 
 use crate::error::ParseError;
 use crate::expressions::at;
 use crate::statements::block_in;
 use crate::take::{is, is_name, name, next_is, type_word, word};
 use class_defs::{
-    Class, ClassKind, Classes, Declarations, Field, Fields, Method, Methods, Parameter, Parameters,
-    Place, WrittenRoot, WrittenRoots,
+    Class, ClassKind, Classes, Declarations, Field, Fields, Method, Methods, Name, Parameter,
+    Parameters, Place, WrittenRoot, WrittenRoots,
 };
 use script_text::Token;
 use std::alloc::Global;
@@ -276,16 +276,36 @@ fn classes(alloc: Global, tokens: &[Token]) -> Result<(Classes, &[Token]), Parse
     Ok((read, rest))
 }
 
-#[tactic(auto, unfolding(crate::specs::Setups::root))]
+#[tactic(auto, unfolding(crate::specs::Setups::root, crate::specs::Setups::root_named, crate::specs::Setups::root_of_class))]
 fn root(tokens: &[Token]) -> Result<(WrittenRoot, &[Token]), ParseError>
     ensures { Gives (λ x. (x.0, x.1.now)) result (root tokens.now) }
 {
     let (_, rest) = word(tokens, b"root")?;
     let (called, rest) = name(rest)?;
-    let (_, rest) = word(rest, b"=")?;
+    root_named(called, rest)
+}
+
+/// What stands behind the name of a root.
+#[tactic(auto, unfolding(crate::specs::Setups::root_named))]
+fn root_named(called: Name, tokens: &[Token]) -> Result<(WrittenRoot, &[Token]), ParseError>
+    ensures { Gives (λ x. (x.0, x.1.now)) result (root_named called tokens.now) }
+{
+    let (_, rest) = word(tokens, b"=")?;
     let (_, rest) = word(rest, b"new")?;
     let (class, rest) = name(rest)?;
-    let (_, rest) = word(rest, b"(")?;
+    root_of_class(called, class, rest)
+}
+
+/// What stands behind the class of a root.
+#[tactic(auto, unfolding(crate::specs::Setups::root_of_class))]
+fn root_of_class(
+    called: Name,
+    class: Name,
+    tokens: &[Token],
+) -> Result<(WrittenRoot, &[Token]), ParseError>
+    ensures { Gives (λ x. (x.0, x.1.now)) result (root_of_class called class tokens.now) }
+{
+    let (_, rest) = word(tokens, b"(")?;
     let (_, rest) = word(rest, b")")?;
     let (at, rest) = at(rest)?;
     let (_, rest) = word(rest, b";")?;

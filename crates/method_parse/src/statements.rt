@@ -12,6 +12,7 @@ use crate::take::{name, next_is, type_word, word};
 use class_defs::{Block, Expr, Name, Place, Stmt};
 use script_text::Token;
 use std::alloc::Global;
+use thor_value::both;
 
 /// How high an expression may be as a tree.
 const MAX_DEPTH: u32 = 32;
@@ -43,7 +44,7 @@ fn ended(
     ensures { Gives (λ x. (x.0, x.1.now)) result (ended place brackets tokens.now) }
 {
     let (value, rest) = expression(alloc, place, brackets, tokens)?;
-    let (_, rest) = word(rest, b";")?;
+    let (value, (_, rest)) = both(value, word(rest, b";"))?;
     Ok((value, rest))
 }
 
@@ -60,7 +61,7 @@ fn condition(
 {
     let (_, rest) = word(tokens, b"(")?;
     let (value, rest) = expression(alloc, place, brackets - 1, rest)?;
-    let (_, rest) = word(rest, b")")?;
+    let (value, (_, rest)) = both(value, word(rest, b")"))?;
     Ok((value, rest))
 }
 
@@ -210,8 +211,9 @@ fn after_branch(
     if !next_is(tokens, b"else") {
         return Ok((Stmt::If { condition, then }, tokens));
     }
-    let (_, rest) = word(tokens, b"else")?;
-    let (otherwise, rest) = block_in(alloc, place, brackets, rest)?;
+    let (branch, (_, rest)) = both((condition, then), word(tokens, b"else"))?;
+    let (branch, (otherwise, rest)) = both(branch, block_in(alloc, place, brackets, rest))?;
+    let (condition, then) = branch;
     let stmt = Stmt::IfElse {
         condition,
         then,
@@ -233,7 +235,7 @@ fn branch(
 {
     let (_, rest) = word(tokens, b"if")?;
     let (condition, rest) = condition(alloc, place, brackets, rest)?;
-    let (then, rest) = block_in(alloc, place, brackets, rest)?;
+    let (condition, (then, rest)) = both(condition, block_in(alloc, place, brackets, rest))?;
     after_branch(alloc, place, brackets, condition, then, rest)
 }
 
@@ -250,7 +252,7 @@ fn while_loop(
 {
     let (_, rest) = word(tokens, b"while")?;
     let (condition, rest) = condition(alloc, place, brackets, rest)?;
-    let (body, rest) = block_in(alloc, place, brackets, rest)?;
+    let (condition, (body, rest)) = both(condition, block_in(alloc, place, brackets, rest))?;
     Ok((Stmt::While { condition, body }, rest))
 }
 
@@ -330,7 +332,7 @@ fn braces(
 {
     let (_, rest) = word(tokens, b"{")?;
     let (stmts, rest) = statements(alloc, place, brackets, rest)?;
-    let (_, rest) = word(rest, b"}")?;
+    let (stmts, (_, rest)) = both(stmts, word(rest, b"}"))?;
     Ok((stmts, rest))
 }
 

@@ -19,6 +19,9 @@ use thor_value::{NoMemory, Obj, Oref, Text, TryCopy};
 /// The slots of a page that objects are named by.
 const SLOTS: u8 = 12;
 
+/// As many bytes as most objects have at most: there is room for them at once.
+const USUAL: usize = 64;
+
 /// A page with all objects that the buffer has of it.
 pub(crate) fn image_of(alloc: Global, base: &Page, mob: &Mob, repo: u8) -> Result<Page, NoMemory>
     requires objects { HasObjects base.now }
@@ -59,7 +62,7 @@ fn put_object(alloc: Global, image: &mut Page, slot: u8, object: &Obj) -> Result
     ensures ok { OnOk result (image.new ≡ overlaid image.old slot (Some object.now)) }
     ensures objects { HasObjects image.new }
 {
-    let mut bytes = Text::new(alloc);
+    let mut bytes = Text::from_vec(Vec::with_capacity(alloc, USUAL)?);
     put_obj(object, &mut bytes)?;
     match put_bytes(image, slot, bytes.as_slice()) {
         Ok(()) => Ok(()),

@@ -84,6 +84,30 @@ pub fn evaluate_for(
     Ok(Doing::Evaluate { nested, expr })
 }
 
+/// A part of a node is evaluated.
+pub fn go_into(inner: u32, part: &Shared<ExprNode>) -> Result<Doing, NoMemory>
+    ensures { IfOk result (λ doing. doing ≡ Doing.Evaluate inner (plain part.now)) }
+{
+    Ok(Doing::Evaluate {
+        nested: inner,
+        expr: SharedExpr::of(part)?,
+    })
+}
+
+/// A part of a node is evaluated, and the frame stands behind it.
+pub fn go_into_for(
+    stack: &mut Stack<Frame>,
+    frame: Frame,
+    inner: u32,
+    part: &Shared<ExprNode>,
+) -> Result<Doing, NoMemory>
+    ensures doing { IfOk result (λ doing. doing ≡ Doing.Evaluate inner (plain part.now)) }
+    ensures stack { OnOk result (stack.new ≡ frame ∷ stack.old) }
+{
+    stack.push(frame)?;
+    go_into(inner, part)
+}
+
 /// The part of a statement that is evaluated first.
 #[tactic(auto, using(crate::proofs::Nodes::stmt_nodes))]
 fn first_part(node: &StmtNode) -> &Shared<ExprNode>
@@ -160,8 +184,7 @@ pub fn begin(
 {
     take_step(machine)?;
     let frame = waiting_frame(program, inner, node)?;
-    let part = SharedExpr::of(first_part(node))?;
-    Ok(evaluate_for(stack, frame, inner, part)?)
+    Ok(go_into_for(stack, frame, inner, first_part(node))?)
 }
 
 /// A block begins.

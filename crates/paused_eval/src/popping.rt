@@ -1,18 +1,19 @@
-ghost use Rattle.std.specs.Prelude.{◌≡◌, Option, None};
+ghost use Rattle.std.specs.Prelude.{◌≡◌, Option, None, IfOk};
 ghost use Rattle.std.specs.Option.{option_copied};
 ghost use Rattle.thor_value.specs.declared.names.Oref.{Oref};
 ghost use Rattle.class_defs.specs.declared.store.Object.{Object};
 ghost use Rattle.paused_defs.specs.Reaches.{over};
 ghost use Rattle.paused_defs.specs.Resume as spec;
+ghost use Rattle.paused_defs.specs.Resume.{taken};
 ghost use Rattle.paused_eval.specs.Does.{Moves, field_assigned};
 
 use crate::moves::{
     collect, ended, evaluate_for, give, given, go_on, open_block, pass, tested, turned,
 };
-use class_defs::{Flow, Machine, combined, number};
+use class_defs::{Flow, Locals, Machine, Receiver, combined, number};
 use method_eval::{Halt, Program, assign_local, declare, holds};
 use paused_defs::{Doing, Frame, Shared, Stack};
-use thor_value::{Text, Value, Values};
+use thor_value::{NoMemory, Text, Value, Values};
 
 /// The name of the field that a frame assigns.
 pub fn field_assigned(frame: &Frame) -> Option<&Shared<Text>>
@@ -38,6 +39,26 @@ pub fn field_assigned(frame: &Frame) -> Option<&Shared<Text>>
         Frame::Test { .. } => None,
         Frame::Again { .. } => None,
     }
+}
+
+/// The arguments that were evaluated, with one more where one was given.
+fn with_argument(done: Values, flow: Flow) -> Result<Values, NoMemory>
+    ensures { IfOk result (λ values. values ≡ taken done flow) }
+{
+    let mut done = done;
+    if let Flow::Returned(value) = flow {
+        done.push(value)?;
+    }
+    Ok(done)
+}
+
+/// A body has ended: what held outside of it holds again.
+fn leave_body(machine: &mut Machine, depth: u32, this: Option<Receiver>, locals: Locals)
+    ensures { machine.new ≡ spec.outside depth this locals machine.old }
+{
+    machine.depth = depth;
+    machine.this = this;
+    machine.locals = locals;
 }
 
 /// Gives the frame that was on the top what it waits for. It assigns no field.
@@ -79,12 +100,10 @@ pub fn pop(
             kind,
             target,
             method,
-            mut done,
+            done,
             rest,
         } => {
-            if let Flow::Returned(value) = flow {
-                done.push(value)?;
-            }
+            let done = with_argument(done, flow)?;
             collect(stack, nested, kind, target, method, done, rest)
         }
         Frame::BodyEnd {
@@ -93,9 +112,7 @@ pub fn pop(
             locals,
             result,
         } => {
-            machine.depth = depth;
-            machine.this = this;
-            machine.locals = locals;
+            leave_body(machine, depth, this, locals);
             give(ended(result, flow))
         }
         Frame::Declare { kind, name } => {

@@ -94,6 +94,19 @@ fn run(
     ))
 }
 
+/// A run's state is put back where it was taken.
+fn give_back(machine: &mut Machine, written: &mut WrittenNames, progress: Progress)
+    ensures machine { machine.new ≡ progress.machine }
+    ensures written { written.new ≡ progress.written }
+{
+    let Progress {
+        machine: left,
+        written: names,
+    } = progress;
+    drop(mem::replace(machine, left));
+    drop(mem::replace(written, names));
+}
+
 /// The same over a client's copies and names. After `NoMemory` what the try has written is given up.
 #[tactic(auto, using(crate::proofs::Hands::none_written))]
 pub fn run_over(
@@ -131,11 +144,13 @@ pub fn run_over(
         begun_with,
     ) {
         Ok(ended) => {
-            *machine = progress.machine;
-            *written = progress.written;
+            drop(bodies);
+            give_back(machine, written, progress);
             Ok(ended)
         }
         Err(NoMemory) => {
+            drop(bodies);
+            drop(progress);
             cache.undo();
             Err(NoMemory)
         }

@@ -233,14 +233,10 @@ fn given(
         None => Ok(Doing::Give { flow }),
         Some(frame) => {
             if let Some(field) = field_assigned(&frame) {
-                return assign(
-                    program,
-                    epoch,
-                    cache,
-                    progress,
-                    field.get().as_slice(),
-                    flow,
-                );
+                let name = field.get().as_slice();
+                let came = assign(program, epoch, cache, progress, name, flow);
+                drop(frame);
+                return came;
             }
             pop(program, &mut progress.machine, stack, frame, flow)
         }

@@ -1,4 +1,4 @@
-ghost use Rattle.std.specs.Prelude.{◌≡◌, Option, None};
+ghost use Rattle.std.specs.Prelude.{◌≡◌, ◌∷◌, map, Option, None, IfOk, OnOk};
 ghost use Rattle.std.specs.Option.{option_copied};
 ghost use Rattle.thor_value.specs.declared.names.Oref.{Oref};
 ghost use Rattle.class_defs.specs.Steps as steps;
@@ -10,12 +10,12 @@ ghost use Rattle.paused_defs.specs.Reaches.{over};
 ghost use Rattle.paused_defs.specs.Resume as spec;
 ghost use Rattle.paused_eval.specs.Does.{Moves, field_read};
 
-use crate::moves::{evaluate_for, give, take_step};
+use crate::moves::{give, go_into, go_into_for, take_step};
 use crate::types::type_of;
-use class_defs::Machine;
+use class_defs::{At, ExprType, Machine, Operator};
 use method_eval::{Halt, Program, named_value};
-use paused_defs::{Doing, ExprNode, Frame, Shared, SharedExpr, SharedExprs, Stack};
-use thor_value::{Text, Value};
+use paused_defs::{Doing, ExprNode, ExprNodes, Frame, Shared, SharedExpr, SharedExprs, Stack};
+use thor_value::{NoMemory, Text, Value};
 
 /// The name of the field that a node reads.
 #[tactic(auto, using(crate::proofs::Nodes::expr_nodes))]
@@ -53,8 +53,117 @@ pub fn field_read(node: &ExprNode) -> Option<&Shared<Text>>
     }
 }
 
+/// An object is to be made.
+fn create(class: &Shared<Text>, at: Option<At>) -> Result<Doing, NoMemory>
+    ensures { IfOk result (λ doing. doing ≡ Doing.Create class.now at) }
+{
+    Ok(Doing::Create {
+        class: class.share()?,
+        at,
+    })
+}
+
+/// The operand of a sign is evaluated.
+fn negate(
+    stack: &mut Stack<Frame>,
+    inner: u32,
+    operand: &Shared<ExprNode>,
+) -> Result<Doing, NoMemory>
+    ensures doing { IfOk result (λ doing. doing ≡ Doing.Evaluate inner (plain operand.now)) }
+    ensures stack { OnOk result (stack.new ≡ Frame.Negate ∷ stack.old) }
+{
+    go_into_for(stack, Frame::Negate, inner, operand)
+}
+
+/// The left side of an operator is evaluated first.
+fn combine(
+    stack: &mut Stack<Frame>,
+    inner: u32,
+    operator: Operator,
+    left: &Shared<ExprNode>,
+    right: &Shared<ExprNode>,
+) -> Result<Doing, NoMemory>
+    ensures doing { IfOk result (λ doing. doing ≡ Doing.Evaluate inner (plain left.now)) }
+    ensures stack { OnOk result (stack.new ≡ Frame.Right inner operator (plain right.now) ∷ stack.old) }
+{
+    let frame = Frame::Right {
+        nested: inner,
+        operator,
+        right: SharedExpr::of(right)?,
+    };
+    go_into_for(stack, frame, inner, left)
+}
+
+/// The receiver of a call is evaluated first.
+fn call(
+    stack: &mut Stack<Frame>,
+    inner: u32,
+    kind: ExprType,
+    receiver: &Shared<ExprNode>,
+    method: &Shared<Text>,
+    arguments: &Shared<ExprNodes>,
+) -> Result<Doing, NoMemory>
+    ensures doing { IfOk result (λ doing. doing ≡ Doing.Evaluate inner (plain receiver.now)) }
+    ensures stack { OnOk result (stack.new ≡ Frame.Callee inner kind method.now (map plain arguments.now) ∷ stack.old) }
+{
+    let frame = Frame::Callee {
+        nested: inner,
+        kind,
+        method: method.share()?,
+        arguments: SharedExprs::of(arguments)?,
+    };
+    go_into_for(stack, frame, inner, receiver)
+}
+
+/// What a node of an expression does first, whose step is taken. It isn't a field.
+#[tactic(auto, using(crate::proofs::Nodes::expr_nodes))]
+fn first(
+    program: &Program<'_>,
+    machine: &Machine,
+    stack: &mut Stack<Frame>,
+    inner: u32,
+    node: &ExprNode,
+) -> Result<Doing, Halt>
+    requires { field_read (out-Expr (plain node.now)) ≡ None }
+    ensures { (f : Oref → Option Object) → Moves result stack.new machine.now machine.now (spec.start (over program.now.schema.now f) inner (out-Expr (plain node.now)) stack.old) }
+{
+    match node {
+        ExprNode::Int { value, line: _ } => give(Value::Int(*value)),
+        ExprNode::Null { line: _ } => give(Value::Null),
+        ExprNode::This { line: _ } => give(match &machine.this {
+            Some(this) => Value::Ref(this.oref),
+            None => Value::Null,
+        }),
+        ExprNode::Field { name: _, line: _ } => unreachable!(),
+        ExprNode::Variable { name, line: _ } => {
+            give(named_value(program, machine, name.get().as_slice()))
+        }
+        ExprNode::New { class, line: _, at } => Ok(create(class, *at)?),
+        ExprNode::Parens {
+            inner: part,
+            line: _,
+        } => Ok(go_into(inner, part)?),
+        ExprNode::Negate { operand, line: _ } => Ok(negate(stack, inner, operand)?),
+        ExprNode::Binary {
+            operator,
+            left,
+            right,
+            line: _,
+        } => Ok(combine(stack, inner, *operator, left, right)?),
+        ExprNode::Call {
+            receiver,
+            method,
+            line: _,
+            arguments,
+        } => {
+            let kind = type_of(program, machine, receiver.get());
+            Ok(call(stack, inner, kind, receiver, method, arguments)?)
+        }
+    }
+}
+
 /// A node of an expression begins, whose parts may be `inner` deep. It isn't a field.
-#[tactic(auto, using(crate::proofs::Nodes::expr_nodes), unfolding(class_defs::specs::Steps::step))]
+#[tactic(auto, unfolding(class_defs::specs::Steps::step))]
 pub fn start(
     program: &Program<'_>,
     machine: &mut Machine,
@@ -66,58 +175,5 @@ pub fn start(
     ensures { (f : Oref → Option Object) → Moves result stack.new machine.old machine.new (steps.◌>>◌ step (spec.start (over program.now.schema.now f) inner (out-Expr (plain node.now)) stack.old)) }
 {
     take_step(machine)?;
-    match node {
-        ExprNode::Int { value, line: _ } => give(Value::Int(*value)),
-        ExprNode::Null { line: _ } => give(Value::Null),
-        ExprNode::This { line: _ } => give(match &machine.this {
-            Some(this) => Value::Ref(this.oref),
-            None => Value::Null,
-        }),
-        ExprNode::Field { name: _, line: _ } => unreachable!(),
-        ExprNode::Variable { name, line: _ } => {
-            let value = named_value(program, machine, name.get().as_slice());
-            give(value)
-        }
-        ExprNode::New { class, line: _, at } => Ok(Doing::Create {
-            class: class.share()?,
-            at: *at,
-        }),
-        ExprNode::Parens {
-            inner: part,
-            line: _,
-        } => Ok(Doing::Evaluate {
-            nested: inner,
-            expr: SharedExpr::of(part)?,
-        }),
-        ExprNode::Negate { operand, line: _ } => {
-            Ok(evaluate_for(stack, Frame::Negate, inner, SharedExpr::of(operand)?)?)
-        }
-        ExprNode::Binary {
-            operator,
-            left,
-            right,
-            line: _,
-        } => {
-            let frame = Frame::Right {
-                nested: inner,
-                operator: *operator,
-                right: SharedExpr::of(right)?,
-            };
-            Ok(evaluate_for(stack, frame, inner, SharedExpr::of(left)?)?)
-        }
-        ExprNode::Call {
-            receiver,
-            method,
-            line: _,
-            arguments,
-        } => {
-            let frame = Frame::Callee {
-                nested: inner,
-                kind: type_of(program, machine, receiver.get()),
-                method: method.share()?,
-                arguments: SharedExprs::of(arguments)?,
-            };
-            Ok(evaluate_for(stack, frame, inner, SharedExpr::of(receiver)?)?)
-        }
-    }
+    first(program, machine, stack, inner, node)
 }

@@ -1,55 +1,102 @@
 //! The messages that wait for sessions.
 
 use message_outbox::{At, Message, Outbox, Verdict};
-use std::test::Fail;
-use thor_value::{Sequence, Ts};
+use std::alloc::Global;
+use thor_value::{NoMemory, Orefs, Text, Ts};
 
-/// The place of what was taken.
-fn place(message: Option<Message>) -> Option<u64> {
-    match message {
+/// A message without its text and its names, with its place.
+enum Form {
+    Grant(u64),
+    Page(u64),
+    Invalid(u64),
+    Upgrade(u64),
+}
+
+/// What is done for a session.
+enum Step {
+    Push(u32, Form),
+    /// A message is taken; its place.
+    Take(u32, Option<u64>),
+    Drop(u32),
+}
+
+const STEPS: &[Step] = &[
+    Step::Take(1, None),
+    Step::Push(1, Form::Grant(2)),
+    Step::Push(2, Form::Page(3)),
+    Step::Push(1, Form::Invalid(3)),
+    Step::Push(2, Form::Upgrade(4)),
+    Step::Take(2, Some(3)),
+    Step::Take(1, Some(2)),
+    Step::Take(1, Some(3)),
+    Step::Take(1, None),
+    Step::Push(1, Form::Grant(5)),
+    Step::Take(1, Some(5)),
+    Step::Drop(2),
+    Step::Take(2, None),
+];
+
+fn message(alloc: Global, form: &Form) -> Message {
+    match form {
+        Form::Grant(place) => Message::Grant {
+            page: 4,
+            place: *place,
+        },
+        Form::Page(place) => Message::Page {
+            page: 4,
+            bytes: Text::new(alloc),
+            place: *place,
+        },
+        Form::Invalid(place) => Message::Invalid {
+            orefs: Orefs::new(alloc),
+            place: *place,
+        },
+        Form::Upgrade(place) => Message::Upgrade {
+            number: 1,
+            text: Text::new(alloc),
+            place: *place,
+        },
+    }
+}
+
+/// The place of what is taken.
+fn taken(outbox: &mut Outbox, session: u32) -> Option<u64> {
+    match outbox.take(session) {
         Some(message) => Some(message.place()),
         None => None,
     }
 }
 
-#[test]
-fn each_session_takes_its_messages_in_order(rt: HostRuntime) -> Result<(), Fail> {
-    let alloc = rt.alloc();
+/// Takes a step. The answer is whether it comes out as it says.
+fn holds(alloc: Global, outbox: &mut Outbox, step: &Step) -> Result<bool, NoMemory> {
+    match step {
+        Step::Push(session, form) => outbox.push(*session, message(alloc, form))?,
+        Step::Take(session, place) => return Ok(taken(outbox, *session) == *place),
+        Step::Drop(session) => outbox.drop_session(*session),
+    }
+    Ok(true)
+}
+
+/// How many steps come out as they say before one that doesn't.
+fn walk(alloc: Global, outbox: &mut Outbox) -> Result<usize, NoMemory> {
+    let mut count = 0usize;
+    for step in STEPS {
+        if !holds(alloc, outbox, step)? {
+            return Ok(count);
+        }
+        count = count.saturating_add(1);
+    }
+    Ok(count)
+}
+
+fn held(alloc: Global) -> Result<usize, NoMemory> {
     let mut outbox = Outbox::new(alloc)?;
-    assert!(rt; place(outbox.take(1)) == None);
-    outbox.push(1, Message::Grant { page: 4, place: 2 })?;
-    outbox.push(
-        2,
-        Message::Page {
-            page: 4,
-            bytes: Sequence::from_slice(alloc, b"page")?,
-            place: 3,
-        },
-    )?;
-    outbox.push(
-        1,
-        Message::Invalid {
-            orefs: Sequence::new(alloc),
-            place: 3,
-        },
-    )?;
-    outbox.push(
-        2,
-        Message::Upgrade {
-            number: 1,
-            text: Sequence::new(alloc),
-            place: 4,
-        },
-    )?;
-    assert!(rt; place(outbox.take(2)) == Some(3));
-    assert!(rt; place(outbox.take(1)) == Some(2));
-    assert!(rt; place(outbox.take(1)) == Some(3));
-    assert!(rt; place(outbox.take(1)) == None);
-    outbox.push(1, Message::Grant { page: 5, place: 5 })?;
-    assert!(rt; place(outbox.take(1)) == Some(5));
-    outbox.drop_session(2);
-    assert!(rt; place(outbox.take(2)) == None);
-    Ok(())
+    walk(alloc, &mut outbox)
+}
+
+#[test]
+fn each_session_takes_its_messages_in_order(rt: HostRuntime) {
+    assert!(rt; held(rt.alloc()) == Ok(STEPS.len()));
 }
 
 #[test]
@@ -60,11 +107,10 @@ fn verdicts_tell_what_they_are_made_of(rt: HostRuntime) {
         life: 1,
     };
     let verdict = Verdict::new(tx, true);
-    assert!(rt; verdict.tx() == tx);
-    assert!(rt; verdict.commit());
     let at = At {
         repo: 0,
         session: 1,
     };
-    assert!(rt; at == at);
+    assert!(rt; verdict.tx() == tx && verdict.commit() && at == at);
+    assert!(rt; !Verdict::new(tx, false).commit());
 }

@@ -16,7 +16,7 @@ use std::test::Fail;
 use thor_value::{NoMemory, Obj, Oref, Sequence, Value, Writes};
 
 /// Page 0 with objects of the numbers 6 and 7 in slots 5 and 11.
-const FRONT: [u8; 46] = [
+const FRONT: &[u8] = &[
     84, 80, 1, 2, 0, 0, 0, 0, 5, 0, 16, 0, 0, 0, 0, 0, 0, 1, 1, 0, 0, 0, 0, 0, 0, 0, 6, 11, 0, 16,
     0, 0, 0, 0, 0, 0, 1, 1, 0, 0, 0, 0, 0, 0, 0, 7,
 ];
@@ -127,28 +127,43 @@ fn flushed(
 ) -> Result<(Result<Flushed, StoreFault>, Option<i64>), StoreFault>
     requires { side < 2 }
 {
-    let mut disk = parts(alloc, &FRONT, fails)?;
+    let mut disk = parts(alloc, FRONT, fails)?;
     let answer = flush(alloc, &mut disk, pick);
     let mut opened = parts(alloc, disk.bytes(2), 0)?;
     Ok((answer, number(alloc, &mut opened, side, slot)?))
 }
 
+/// Slots and the numbers there before the flush.
+const BEFORE: &[(u8, Option<i64>)] = &[(0, None), (5, Some(6)), (11, Some(7))];
+
+/// And behind it.
+const BEHIND: &[(u8, Option<i64>)] = &[(0, Some(1)), (5, Some(6)), (11, Some(2))];
+
+/// Whether a flush of which this call fails leaves all numbers.
+fn leaves_all(alloc: Global, fails: u64, pick: u64) -> Result<bool, Fail> {
+    for (slot, number) in BEFORE {
+        let found = flushed(alloc, fails, pick, 0, *slot)?;
+        if found != (Err(StoreFault::Failed), *number) {
+            return Ok(false);
+        }
+    }
+    Ok(true)
+}
+
 #[test]
 fn a_flush_that_fails_leaves_all_objects(rt: HostRuntime) -> Result<(), Fail> {
-    let alloc = rt.alloc();
-    let before = [(0, None), (5, Some(6)), (11, Some(7))];
     // The flush reads, writes and syncs.
     for fails in 1..4u64 {
         for pick in [0, 1, 2, 9u64] {
-            for (slot, number) in before {
-                let found = flushed(alloc, fails, pick, 0, slot)?;
-                assert_eq!(rt; found, (Err(StoreFault::Failed), number));
-            }
+            assert!(rt;
+                leaves_all(rt.alloc(), fails, pick)?,
+                "call {fails} pick {pick}"
+            );
         }
     }
-    let done = Ok(Flushed::Installed { page: 0, side: 1 });
-    for (slot, number) in [(0, Some(1)), (5, Some(6)), (11, Some(2))] {
-        assert_eq!(rt; flushed(alloc, 0, 9, 1, slot)?, (done, number));
+    for (slot, number) in BEHIND {
+        let found = flushed(rt.alloc(), 0, 9, 1, *slot)?;
+        assert!(rt; found == (Ok(Flushed::Installed { page: 0, side: 1 }), *number));
     }
     Ok(())
 }

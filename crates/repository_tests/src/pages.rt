@@ -59,83 +59,89 @@ fn parts(alloc: Global, front: &[u8], fails: &[(u8, u64)]) -> Result<MemParts<Ti
     ))
 }
 
+/// Whether page 3 goes to side 0, then 1, then 0, and its first bytes stand there. There are two calls for each
+/// install; the read finds the page held.
+fn sides_alternate(alloc: Global, page: &Page) -> Result<bool, Fail>
+    requires { HasObjects page.now }
+{
+    let mut parts = parts(alloc, &[], &[])?;
+    let installed = install_thrice(alloc, &mut parts, page)?;
+    let bytes = parts.bytes(2);
+    let begins = bytes.get(28672..28680) == Some([84, 80, 1, 0, 0, 0, 0, 3].as_slice());
+    Ok(installed == ([0, 1, 0], 1) && parts.calls(2).len() == 6 && bytes.len() == 32768 && begins)
+}
+
 #[test]
 fn a_page_goes_to_side_0_then_1_then_0(rt: HostRuntime) -> Result<(), Fail> {
-    let alloc = rt.alloc();
-    let mut parts = parts(alloc, &[], &[])?;
-    let page = Page::empty(alloc, 3)?;
-    let (sides, count) = install_thrice(alloc, &mut parts, &page)?;
-    assert_eq!(rt; sides, [0, 1, 0]);
-    assert_eq!(rt; count, 1);
-    // Two calls for each install; the read finds the page held.
-    assert_eq!(rt; parts.calls(2).len(), 6);
-    // Page 3, side 1.
-    let bytes = parts.bytes(2);
-    assert_eq!(rt; bytes.len(), 32768);
-    assert_eq!(rt;
-        bytes.get(28672..28680),
-        Some([84, 80, 1, 0, 0, 0, 0, 3].as_slice())
-    );
+    let page = Page::empty(rt.alloc(), 3)?;
+    assert!(rt; sides_alternate(rt.alloc(), &page)?);
     Ok(())
+}
+
+/// What the installs answer where a call fails.
+fn failed(alloc: Global, page: &Page, call: u64) -> Result<Option<StoreFault>, Fail>
+    requires { HasObjects page.now }
+{
+    let mut parts = parts(alloc, &[], &[(2, call)])?;
+    Ok(install_thrice(alloc, &mut parts, page).err())
 }
 
 #[test]
 fn a_failing_call_is_told(rt: HostRuntime) -> Result<(), Fail> {
-    let alloc = rt.alloc();
-    let page = Page::empty(alloc, 3)?;
+    let page = Page::empty(rt.alloc(), 3)?;
     for call in 1..7u64 {
-        let mut parts = parts(alloc, &[], &[(2, call)])?;
-        let answer = install_thrice(alloc, &mut parts, &page);
-        assert_eq!(rt; answer, Err(StoreFault::Failed), "call {call}");
+        let fault = failed(rt.alloc(), &page, call)?;
+        assert!(rt; fault == Some(StoreFault::Failed), "call {call}");
     }
     Ok(())
 }
 
+/// The front of page 0, and how many objects are read of it, where it is none a damage is told.
+const FRONTS: &[(&[u8], Option<u8>)] = &[
+    (&[84, 80, 1, 0, 0, 0, 0, 0], Some(0)),
+    // An object of class 0 and version 0 without fields, in slot 11.
+    (
+        &[84, 80, 1, 1, 0, 0, 0, 0, 11, 0, 7, 0, 0, 0, 0, 0, 0, 0],
+        Some(1),
+    ),
+    // No page; another page; a slot of 12.
+    (&[84, 81, 1, 0, 0, 0, 0, 0], None),
+    (&[84, 80, 1, 0, 0, 0, 0, 1], None),
+    (
+        &[84, 80, 1, 1, 0, 0, 0, 0, 12, 0, 7, 0, 0, 0, 0, 0, 0, 0],
+        None,
+    ),
+    // An object that is cut, one with a byte behind it, one of 33 fields, one with no value in a field.
+    (
+        &[84, 80, 1, 1, 0, 0, 0, 0, 11, 0, 6, 0, 0, 0, 0, 0, 0],
+        None,
+    ),
+    (
+        &[84, 80, 1, 1, 0, 0, 0, 0, 11, 0, 8, 0, 0, 0, 0, 0, 0, 0, 0],
+        None,
+    ),
+    (
+        &[84, 80, 1, 1, 0, 0, 0, 0, 11, 0, 7, 0, 0, 0, 0, 0, 0, 33],
+        None,
+    ),
+    (
+        &[84, 80, 1, 1, 0, 0, 0, 0, 11, 0, 8, 0, 0, 0, 0, 0, 0, 1, 9],
+        None,
+    ),
+];
+
+/// Whether page 0 is read so where the disk begins with these bytes, in one call of the disk. Page 1 was never
+/// installed.
+fn is_read(alloc: Global, front: &[u8], want: Option<u8>) -> Result<bool, Fail> {
+    let mut parts = parts(alloc, front, &[])?;
+    let read = read_twice(alloc, &mut parts);
+    Ok(read == want.ok_or(StoreFault::Damaged { place: 0 }) && parts.calls(2).len() == 1)
+}
+
 #[test]
 fn a_page_is_read_or_damaged(rt: HostRuntime) -> Result<(), Fail> {
-    let alloc = rt.alloc();
-    let rows: [(&[u8], Option<u8>); 9] = [
-        (&[84, 80, 1, 0, 0, 0, 0, 0], Some(0)),
-        // An object of class 0 and version 0 without fields, in slot 11.
-        (
-            &[84, 80, 1, 1, 0, 0, 0, 0, 11, 0, 7, 0, 0, 0, 0, 0, 0, 0],
-            Some(1),
-        ),
-        // No page; another page; a slot of 12.
-        (&[84, 81, 1, 0, 0, 0, 0, 0], None),
-        (&[84, 80, 1, 0, 0, 0, 0, 1], None),
-        (
-            &[84, 80, 1, 1, 0, 0, 0, 0, 12, 0, 7, 0, 0, 0, 0, 0, 0, 0],
-            None,
-        ),
-        // An object that is cut, one with a byte behind it, one of 33 fields, one with no value in a field.
-        (
-            &[84, 80, 1, 1, 0, 0, 0, 0, 11, 0, 6, 0, 0, 0, 0, 0, 0],
-            None,
-        ),
-        (
-            &[84, 80, 1, 1, 0, 0, 0, 0, 11, 0, 8, 0, 0, 0, 0, 0, 0, 0, 0],
-            None,
-        ),
-        (
-            &[84, 80, 1, 1, 0, 0, 0, 0, 11, 0, 7, 0, 0, 0, 0, 0, 0, 33],
-            None,
-        ),
-        (
-            &[84, 80, 1, 1, 0, 0, 0, 0, 11, 0, 8, 0, 0, 0, 0, 0, 0, 1, 9],
-            None,
-        ),
-    ];
-    for (front, want) in rows {
-        let mut parts = parts(alloc, front, &[])?;
-        let read = read_twice(alloc, &mut parts);
-        assert_eq!(rt;
-            read,
-            want.ok_or(StoreFault::Damaged { place: 0 }),
-            "front {front:?}"
-        );
-        // Page 0 is read once, and page 1 was never installed.
-        assert_eq!(rt; parts.calls(2).len(), 1);
+    for (front, want) in FRONTS {
+        assert!(rt; is_read(rt.alloc(), front, *want)?, "front {front:?}");
     }
     Ok(())
 }

@@ -3,4 +3,5 @@ pub mod JudgingLaws
 pub mod NamedUpgrades
 pub mod UpgradingLaws
 pub mod OpenedFits
+pub mod OpenedOwned
 pub mod Extending

@@ -1,5 +1,5 @@
 -- That the store with which a fresh store opens fits the schema of a setup that breaks no rule.
-use Rattle.std.proofs.Common.{◌≡◌, ◌≤◌, ◌<◌, arith, Bool, true, false, cond, List, [], ◌∷◌, ◌++◌, Option, Some, None, unwrap_or, refl, ap, sym, ◌∙◌, subst, ℕ, suc, length, map}
+use Rattle.std.proofs.Common.{◌≡◌, ◌≤◌, ◌<◌, arith, Bool, true, false, cond, List, [], ◌∷◌, ◌++◌, Option, Some, unwrap_or, refl, ap, sym, ◌∙◌, subst, ℕ, length, map}
 use Rattle.std.proofs.Math.Nat.{div-add-mod}
 use Rattle.std.proofs.lemmas.Bool.Decides.{nat_tests}
 use Rattle.std.proofs.lemmas.List.Elements.{filter-append}
@@ -23,7 +23,6 @@ use Rattle.class_defs.specs.SchemaRules.{class_names, classes_from, root_names, 
 use Rattle.class_defs.specs.Steps.{beginning}
 use Rattle.class_defs.specs.Types.{class_named, fields_of, type_named}
 use Rattle.class_defs.specs.declared.classes.Class.{Class}
-use Rattle.class_defs.specs.declared.classes.Field.{Field}
 use Rattle.class_defs.specs.declared.declarations.Declarations.{Declarations}
 use Rattle.class_defs.specs.declared.declarations.WrittenRoot.{WrittenRoot}
 use Rattle.class_defs.specs.declared.store.Object.{Object}
@@ -38,7 +37,7 @@ filled_by : (P : Oref → Object → Type 0) (x y : Oref) (v o : Object) (old : 
 filled_by P x y v o old true same p h is = subst (λ z. P z o) (sym (one_name y x true same refl)) (subst (P x) (same_Some v o is) p)
 filled_by P x y v o old false same p h is = h is
 
-all_filled : (P : Oref → Object → Type 0) (kvs : List (Oref × Object)) → AllByRecursion (λ (kv : Oref × Object). P kv.0 kv.1) kvs
+pub all_filled : (P : Oref → Object → Type 0) (kvs : List (Oref × Object)) → AllByRecursion (λ (kv : Oref × Object). P kv.0 kv.1) kvs
     → (m : Map oref_cmp Object) → ((x : Oref) (o : Object) → get m x ≡ Some o → P x o)
     → (x : Oref) (o : Object) → get (overwrite m kvs) x ≡ Some o → P x o
 all_filled P [] all m h x o is = h x o is
@@ -98,10 +97,10 @@ module _ (schema : Schema) where
       ∙ get-insert oref_total m name o.1 (root_name home k)
       ∙ ap (λ b. cond b (Some o.1) (get m (root_name home k))) far
 
-  abbrev IsThere : Map oref_cmp Object → RootDeclaration → Type 0
+  abbrev pub IsThere : Map oref_cmp Object → RootDeclaration → Type 0
   IsThere objects r = get objects r.oref ≡ Some (root_object schema r).1
 
-  roots_there : (before rs : List WrittenRoot) (m : Map oref_cmp Object)
+  pub roots_there : (before rs : List WrittenRoot) (m : Map oref_cmp Object)
       → AllByRecursion (IsThere (overwrite m (map (root_object schema) (placed_behind before rs)))) (placed_behind before rs)
   roots_there before [] m = tt
   roots_there before (r ∷ rs) m =
@@ -116,12 +115,12 @@ module _ (schema : Schema) where
 -- ---- the object of a root fits
 
 -- the class of a root is there
-record Classed (schema : Schema) (r : RootDeclaration) : Type 0 where
-  class : ℕ
-  named : class_named schema.classes r.class.text ≡ Some class
-  stands : is_some (slice_get schema.classes class) ≡ true
+pub record Classed (schema : Schema) (r : RootDeclaration) : Type 0 where
+  pub class : ℕ
+  pub named : class_named schema.classes r.class.text ≡ Some class
+  pub stands : is_some (slice_get schema.classes class) ≡ true
 
-root_classed : (schema : Schema) (repos : ℕ) (r : RootDeclaration) → root_rules schema.classes repos r ≡ [] → Classed schema r
+pub root_classed : (schema : Schema) (repos : ℕ) (r : RootDeclaration) → root_rules schema.classes repos r ≡ [] → Classed schema r
 root_classed schema repos r h =
     let free = (nothing (is_free_class schema.classes r.class) _ h).0 in
     let known = held (is_some (class_named schema.classes r.class.text)) _ _ (nothing (is_class schema.classes r.class) _ free).0 in
@@ -167,7 +166,7 @@ roots_fit schema repos objects (r ∷ rs) h at = (root_fits schema repos objects
 
 -- ---- the opened store
 
-roots_rules : (schema : Schema) (repos : ℕ) → schema_rules schema repos ≡ [] → AllByRecursion (λ r. root_rules schema.classes repos r ≡ []) schema.roots
+pub roots_rules : (schema : Schema) (repos : ℕ) → schema_rules schema repos ≡ [] → AllByRecursion (λ r. root_rules schema.classes repos r ≡ []) schema.roots
 unfolding schema_rules
 roots_rules schema repos sound =
     each_nothing (root_rules schema.classes repos) schema.roots
@@ -175,13 +174,13 @@ roots_rules schema repos sound =
     sound).1
 
 module _ (setup : Declarations) (repos : ℕ) (sound : schema_rules (schema_of setup) repos ≡ []) where
-  abbrev schema : Schema
+  abbrev pub schema : Schema
   schema = schema_of setup
 
-  abbrev objects : Map oref_cmp Object
+  abbrev pub objects : Map oref_cmp Object
   objects = overwrite empty (map (root_object schema) schema.roots)
 
-  all_owed : (x : Oref) (o : Object) → get objects x ≡ Some o → ObjectFits (get objects) schema.classes o
+  pub all_owed : (x : Oref) (o : Object) → get objects x ≡ Some o → ObjectFits (get objects) schema.classes o
   all_owed =
       all_filled (λ x o. ObjectFits (get objects) schema.classes o) (map (root_object schema) schema.roots)
       (roots_owed schema repos sound (get objects) schema.roots (roots_rules schema repos sound))

@@ -13,5 +13,5 @@ pub use epoch_laws::{upgrades_are_accepted_in_order, upgrades_of_scripts_name_cl
 pub use epochs::{last_schema, with_upgrades};
 pub use judging::judge;
 pub use opening::{opened_store, roots_of, schema_of};
-pub use opening_laws::opened_stores_fit;
+pub use opening_laws::{opened_stores_are_well_owned, opened_stores_fit};
 pub use upgrading::upgrade_count;

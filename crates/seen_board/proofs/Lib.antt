@@ -5,4 +5,3 @@ pub mod Next
 pub mod Owned
 pub mod Prefixes
 pub mod Rows
-pub mod SampleLemmas

@@ -3,5 +3,4 @@ pub mod Knowledge
 pub mod Meaning
 pub mod Rows
 pub mod Rule
-pub mod Samples
 pub mod Steps

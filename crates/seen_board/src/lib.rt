@@ -23,8 +23,3 @@ pub use naming::Naming;
 pub use owner::Owner;
 pub use pass::Pass;
 pub use rule::BoardRule;
-
-#[cfg(test)]
-mod samples;
-#[cfg(test)]
-mod tests;

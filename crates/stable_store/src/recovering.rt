@@ -43,14 +43,22 @@ impl<P: Parts> Stable<P> {
         let Recovered { state, log, .. } = recovered;
         match reaches(&mut parts, state.objects().pages().sides()) {
             Ok(true) => Ok(Stable::new(parts, log, state)),
-            Ok(false) | Err(Outage::Failed) => Err(OpenFault {
-                parts,
-                cause: OpenCause::Failed,
-            }),
-            Err(Outage::NoMemory) => Err(OpenFault {
-                parts,
-                cause: OpenCause::NoMemory,
-            }),
+            Ok(false) | Err(Outage::Failed) => {
+                drop(log);
+                drop(state);
+                Err(OpenFault {
+                    parts,
+                    cause: OpenCause::Failed,
+                })
+            }
+            Err(Outage::NoMemory) => {
+                drop(log);
+                drop(state);
+                Err(OpenFault {
+                    parts,
+                    cause: OpenCause::NoMemory,
+                })
+            }
         }
     }
 
@@ -73,9 +81,14 @@ impl<P: Parts> Stable<P> {
         self.take_down();
         let recovered = self.recover(alloc, pick)?;
         match mem::replace(&mut self.phase, Phase::Down { pending: None }) {
-            Phase::Up { log: _ } => Err(Refusal::NoMemory),
+            Phase::Up { log } => {
+                drop(log);
+                drop(recovered);
+                Err(Refusal::NoMemory)
+            }
             Phase::Down { pending } => self.take_over(recovered, pending),
             Phase::Torn { entry } => {
+                drop(recovered);
                 self.set_phase(Phase::Torn { entry });
                 Err(Refusal::NoMemory)
             }
@@ -114,8 +127,14 @@ impl<P: Parts> Stable<P> {
         let repo = self.repo();
         match reaches(&mut self.parts, recovered.state.objects().pages().sides()) {
             Ok(true) => Ok(recovered),
-            Ok(false) => Err(Refusal::Damaged { repo, place: 0 }),
-            Err(outage) => Err(of_outage(repo, outage)),
+            Ok(false) => {
+                drop(recovered);
+                Err(Refusal::Damaged { repo, place: 0 })
+            }
+            Err(outage) => {
+                drop(recovered);
+                Err(of_outage(repo, outage))
+            }
         }
     }
 
@@ -135,7 +154,8 @@ impl<P: Parts> Stable<P> {
         let Recovered { state, log, .. } = recovered;
         let agrees = compare(&self.held, pending.as_ref(), &state);
         match (agrees, pending) {
-            (Agreement::AsHeld, _) => {
+            (Agreement::AsHeld, pending) => {
+                drop(pending);
                 self.come_up(state, log);
                 Ok(Taken::Held)
             }
@@ -144,6 +164,8 @@ impl<P: Parts> Stable<P> {
                 Ok(Taken::Pending(entry))
             }
             (_, pending) => {
+                drop(state);
+                drop(log);
                 self.set_phase(Phase::Down { pending });
                 Err(Refusal::Damaged {
                     repo: self.repo(),

@@ -101,7 +101,9 @@ impl<P: Parts> Stable<P> {
 
     /// The parts.
     pub fn into_parts(self) -> P {
-        let Stable { parts, .. } = self;
+        let Stable { parts, phase, held } = self;
+        drop(phase);
+        drop(held);
         parts.inner()
     }
 
@@ -120,7 +122,7 @@ impl<P: Parts> Stable<P> {
     pub(crate) fn set_phase(&mut self, phase: Phase)
         ensures { self.new ≡ record self.old { phase = phase } }
     {
-        self.phase = phase;
+        drop(mem::replace(&mut self.phase, phase));
     }
 
     /// Takes the repository down, with an entry that the log has and that couldn't be entered.
@@ -212,6 +214,7 @@ impl<P: Parts> Stable<P> {
         ensures held { held_of self.new ≡ held_of self.old }
     {
         let Some(mut log) = self.take_log() else {
+            drop(entry);
             return Err(Refusal::Down { repo: self.repo() });
         };
         match log.append(&mut self.parts, &entry) {
@@ -220,6 +223,7 @@ impl<P: Parts> Stable<P> {
                 Ok(entry)
             }
             Err(fault) => {
+                drop(log);
                 self.set_phase(Phase::Down {
                     pending: Some(entry),
                 });
@@ -287,7 +291,10 @@ impl<P: Parts> Stable<P> {
                 self.set_phase(Phase::Up { log });
                 Ok(image)
             }
-            Err(fault) => Err(of_store(self.repo(), fault)),
+            Err(fault) => {
+                drop(log);
+                Err(of_store(self.repo(), fault))
+            }
         }
     }
 
@@ -307,7 +314,10 @@ impl<P: Parts> Stable<P> {
                 self.set_phase(Phase::Up { log });
                 Ok(flushed)
             }
-            Err(refusal) => Err(refusal),
+            Err(refusal) => {
+                drop(log);
+                Err(refusal)
+            }
         }
     }
 
@@ -362,10 +372,20 @@ impl<P: Parts> Stable<P> {
             return Err(Refusal::Down { repo: self.repo() });
         };
         if log.sequence() >= END - 1 || self.held.count() >= END {
+            drop(log);
             return Err(Refusal::NoMemory);
         }
-        let state = self.held.state()?;
-        if let Err(fault) = log.checkpoint(&mut self.parts, &state) {
+        let state = match self.held.state() {
+            Ok(state) => state,
+            Err(NoMemory) => {
+                drop(log);
+                return Err(Refusal::NoMemory);
+            }
+        };
+        let begun = log.checkpoint(&mut self.parts, &state);
+        drop(state);
+        if let Err(fault) = begun {
+            drop(log);
             return Err(of_log(self.repo(), fault));
         }
         self.set_phase(Phase::Up { log });

@@ -12,6 +12,8 @@ usage: kilntaupe COMMAND [OPTION..] < SCRIPT
 commands:
   check     tells whether the script breaks a rule: `ok`, or its first line at fault
   play      runs the script, one event of its schedule after the other, and writes a report
+  run       runs the script's items with a thread for each client, without its schedule but for
+            the restarts, and writes a report
   gen N     runs a generated script (a bank under load, N from 1 to 1000, with 100 items
             for each) and writes a summary in the place of a report; reads no script
 
@@ -19,7 +21,7 @@ options, each at most once, as `--name value` or `--name=value`:
   --repos N     repositories, 1 to 8 (without it 1)
   --store DIR   keeps the store in files of this folder, which has to be there;
                 without it the store is in memory and gone at the end
-for play and gen alone:
+for play, run and gen alone:
   --tries N     tries that an item has, 1 to 100 (without it 16)
   --mob N       bytes of a repository's buffer, 1 to 16777216 (without it 1048576)
   --cache N     pages of a client's cache, 1 to 4096 (without it 64)
@@ -28,7 +30,7 @@ for play and gen alone:
   --version     writes the version
 
 exit status:
-  0  done: for play and gen, every item is done or ended in a fault
+  0  done: but for check, every item is done or ended in a fault
   1  an item was refused, or what became of it isn't known
   2  the words are not a command           output: words
   3  the script is refused                 output: script LINE RULE

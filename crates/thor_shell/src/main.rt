@@ -5,27 +5,31 @@
 #![tactic(auto)]
 
 mod advice;
+mod clocks;
 mod folder;
 mod help;
 mod parts;
 mod wrong_word;
 
 use crate::advice::advise;
+use crate::clocks::{Clocks, Counting, Machine};
 use crate::folder::{Folder, enter, settle};
 use crate::help::{HELP, VERSION};
 use crate::parts::{closed, files, memory};
 use crate::wrong_word::fault_of;
-use command_words::{Plan, WordsFault, read_words};
-use disk_trait::{FileParts, Parts, TickClock};
-use outside::{StdSink, StdSource, write_all};
+use command_words::{Command, Plan, WordsFault, read_words};
+use disk_trait::{FileParts, Parts};
+use outside::{OpenGate, StdSink, StdSource, write_all};
 use std::env;
 use std::io::ErrorKind;
 use std::process::ExitCode;
+use std::sync::Wait;
+use std::thread::Threads;
 use thor_top::{Status, thor};
 use thor_value::{NoMemory, Text, Texts};
 
 fn main(rt: HostRuntime) -> ExitCode {
-    let status = match answer(rt) {
+    let status = match answer(rt, &rt) {
         Ok(status) => status,
         Err(NoMemory) => Status::NoMemory,
     };
@@ -33,11 +37,16 @@ fn main(rt: HostRuntime) -> ExitCode {
 }
 
 /// Answers the words behind the program's name.
-fn answer(rt: HostRuntime) -> Result<Status, NoMemory> {
+fn answer<R: Threads + Wait + Sync>(rt: HostRuntime, threads: &R) -> Result<Status, NoMemory> {
     match words(rt)? {
-        Some(words) => answer_to(rt, &words),
+        Some(words) => answer_to(rt, threads, &words),
         None => {
-            let status = perform(rt, &Texts::new(rt.alloc()), memory(rt.alloc(), 1)?);
+            let status = perform(
+                rt,
+                threads,
+                &Texts::new(rt.alloc()),
+                memory(rt.alloc(), 1, &Counting)?,
+            );
             advise(rt, "a word isn't UTF-8 text (--help tells more)");
             Ok(status)
         }
@@ -45,7 +54,11 @@ fn answer(rt: HostRuntime) -> Result<Status, NoMemory> {
 }
 
 /// Tells what was asked about the program, or does what the words ask for.
-fn answer_to(rt: HostRuntime, words: &Texts) -> Result<Status, NoMemory> {
+fn answer_to<R: Threads + Wait + Sync>(
+    rt: HostRuntime,
+    threads: &R,
+    words: &Texts,
+) -> Result<Status, NoMemory> {
     if has(words, b"--help") {
         return Ok(tell(rt, HELP));
     }
@@ -53,18 +66,32 @@ fn answer_to(rt: HostRuntime, words: &Texts) -> Result<Status, NoMemory> {
         return Ok(tell(rt, VERSION));
     }
     match read_words(rt.alloc(), words.as_slice()) {
-        Ok(plan) => match &plan.store {
-            Some(folder) => perform_stored(rt, words, &plan, folder),
-            None => Ok(perform(rt, words, memory(rt.alloc(), plan.repos)?)),
+        Ok(plan) => match plan.command {
+            Command::Run => perform_on(rt, threads, words, &plan, &Machine { rt }),
+            _ => perform_on(rt, threads, words, &plan, &Counting),
         },
         Err(WordsFault::Words) => {
-            let status = perform(rt, words, memory(rt.alloc(), 1)?);
+            let status = perform(rt, threads, words, memory(rt.alloc(), 1, &Counting)?);
             if let Ok(advice) = fault_of(rt.alloc(), words.as_slice()) {
                 advise(rt, &advice);
             }
             Ok(status)
         }
         Err(WordsFault::NoMemory) => Err(NoMemory),
+    }
+}
+
+/// Does what the words ask for, with these clocks.
+fn perform_on<R: Threads + Wait + Sync, C: Clocks>(
+    rt: HostRuntime,
+    threads: &R,
+    words: &Texts,
+    plan: &Plan,
+    clocks: &C,
+) -> Result<Status, NoMemory> {
+    match &plan.store {
+        Some(folder) => perform_stored(rt, threads, words, plan, folder, clocks),
+        None => Ok(perform(rt, threads, words, memory(rt.alloc(), plan.repos, clocks)?)),
     }
 }
 
@@ -85,21 +112,23 @@ fn tell(rt: HostRuntime, text: &str) -> Status {
 }
 
 /// The same on the repositories of a folder, which no other process has in use meanwhile.
-fn perform_stored(
+fn perform_stored<R: Threads + Wait + Sync, C: Clocks>(
     rt: HostRuntime,
+    threads: &R,
     words: &Texts,
     plan: &Plan,
     folder: &Text,
+    clocks: &C,
 ) -> Result<Status, NoMemory> {
     match enter(rt, folder)? {
         Folder::Entered(lock) => {
-            let status = perform(rt, words, settled(rt, folder, plan.repos)?);
+            let status = perform(rt, threads, words, settled(rt, folder, plan.repos, clocks)?);
             let _ = lock.unlock();
             advise_behind(rt, status);
             Ok(status)
         }
         Folder::Shut(advice) => {
-            let status = perform(rt, words, closed(rt, plan.repos)?);
+            let status = perform(rt, threads, words, closed(rt, plan.repos, clocks)?);
             advise(rt, advice);
             Ok(status)
         }
@@ -107,16 +136,17 @@ fn perform_stored(
 }
 
 /// The files of a folder, with their names in it; where these may be lost by a crash, files that can't be opened.
-fn settled(
+fn settled<C: Clocks>(
     rt: HostRuntime,
     folder: &Text,
     repos: u8,
-) -> Result<Vec<FileParts<TickClock>>, NoMemory> {
-    let parts = files(rt, folder, repos)?;
+    clocks: &C,
+) -> Result<Vec<FileParts<C::Clock>>, NoMemory> {
+    let parts = files(rt, folder, repos, clocks)?;
     if settle(rt, folder) {
         Ok(parts)
     } else {
-        closed(rt, repos)
+        closed(rt, repos, clocks)
     }
 }
 
@@ -136,10 +166,24 @@ fn advise_behind(rt: HostRuntime, status: Status) {
 }
 
 /// Calls the top call between standard input and standard output.
-fn perform<P: Parts>(rt: HostRuntime, words: &Texts, parts: Vec<P>) -> Status {
+fn perform<R: Threads + Wait + Sync, P: Parts + Send>(
+    rt: HostRuntime,
+    threads: &R,
+    words: &Texts,
+    parts: Vec<P>,
+) -> Status {
     let mut source = StdSource::new(rt.stdin());
     let mut sink = StdSink::new(rt.stdout());
-    thor(rt.alloc(), words.as_slice(), &mut source, &mut sink, parts).status
+    thor(
+        threads,
+        rt.alloc(),
+        words.as_slice(),
+        &mut source,
+        &mut sink,
+        parts,
+        &OpenGate,
+    )
+    .status
 }
 
 /// The words behind the program's name; nothing where one of them isn't UTF-8.

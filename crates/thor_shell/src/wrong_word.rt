@@ -8,7 +8,7 @@ use thor_value::{NoMemory, Text, Texts, TryCopy};
 /// A word that is right wherever a value is wanted.
 const A_VALUE: &[u8] = b"1";
 
-const COMMANDS: &str = "a command: check, play or gen N";
+const COMMANDS: &str = "a command: check, play, run or gen N";
 
 const OPTIONS: &str =
     "an option that wasn't given yet: --tries 1 to 100, --mob 1 to 16777216, --cache 1 to 4096, --repos 1 to 8, --store FOLDER";

@@ -1,11 +1,7 @@
-//! Tests of the top call, and of what stands right below it: what no clause says and no case of `checks` shows.
+//! Tests of the top call: what no clause says and no case of `checks` shows.
 #![tactic(auto)]
 
 #[cfg(test)]
-mod faults;
-#[cfg(test)]
-mod names;
-#[cfg(test)]
-mod reports;
+mod at_once;
 #[cfg(test)]
 mod running;

@@ -1,17 +1,18 @@
 //! What the tests of the top call share: a script that is run on repositories in memory.
 
 use disk_trait::{MemParts, TickClock};
-use outside::{MemSink, MemSource};
+use outside::{Gate, MemSink, MemSource};
 use std::alloc::Global;
+use std::sync::Wait;
+use std::thread::Threads;
 use thor_top::{Status, thor};
 use thor_value::{Ints, NoMemory, Text, Texts};
 
-/// What is run: the words, the script, on how many repositories, and which call of the sink fails, 0 for none.
+/// What is run: the words, the script, and on how many repositories.
 pub struct Asked<'a> {
     pub words: &'a [&'a [u8]],
     pub script: &'a [u8],
     pub repos: u8,
-    pub write: i64,
 }
 
 /// Repositories in memory, all of them empty.
@@ -29,15 +30,6 @@ fn empty(alloc: Global, repos: u8) -> Result<Vec<MemParts<TickClock>>, NoMemory>
     Ok(parts)
 }
 
-/// The list of one number, or the empty list for 0.
-fn only(alloc: Global, number: i64) -> Result<Ints, NoMemory> {
-    let mut numbers = Ints::new(alloc);
-    if number != 0 {
-        numbers.push(number)?;
-    }
-    Ok(numbers)
-}
-
 fn texts(alloc: Global, words: &[&[u8]]) -> Result<Texts, NoMemory> {
     let mut texts = Texts::new(alloc);
     for word in words {
@@ -46,13 +38,26 @@ fn texts(alloc: Global, words: &[&[u8]]) -> Result<Texts, NoMemory> {
     Ok(texts)
 }
 
-/// Runs the program. The answer is its status, and what the sink took.
-pub fn run(alloc: Global, asked: &Asked<'_>) -> Result<(Status, Text), NoMemory> {
+/// Runs the program through a gate. The answer is its status.
+pub fn run<R: Threads + Wait + Sync, G: Gate + Sync>(
+    rt: &R,
+    alloc: Global,
+    gate: &G,
+    asked: &Asked<'_>,
+) -> Result<Status, NoMemory> {
     let words = texts(alloc, asked.words)?;
     let script = Text::from_slice(alloc, asked.script)?;
     let mut source = MemSource::new(script, Ints::new(alloc));
-    let mut sink = MemSink::new(only(alloc, asked.write)?);
+    let mut sink = MemSink::new(Ints::new(alloc));
     let parts = empty(alloc, asked.repos)?;
-    let outcome = thor(alloc, words.as_slice(), &mut source, &mut sink, parts);
-    Ok((outcome.status, Text::from_slice(alloc, sink.taken())?))
+    let outcome = thor(
+        rt,
+        alloc,
+        words.as_slice(),
+        &mut source,
+        &mut sink,
+        parts,
+        gate,
+    );
+    Ok(outcome.status)
 }

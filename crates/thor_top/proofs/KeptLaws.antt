@@ -1,7 +1,7 @@
 -- What a run tells refuses nothing.
 use Rattle.std.proofs.Common.{◌≡◌, Err, IfOk, List, Ok, Result, subst, ℕ}
 use Rattle.command_words.specs.declared.command.Command.{Command}
-use Rattle.command_words.specs.declared.command.Command.TheVariants.{Check, Gen, Play}
+use Rattle.command_words.specs.declared.command.Command.TheVariants.{Check, Gen, Play, Run}
 use Rattle.script_parse.specs.declared.script.Script.{Script}
 use Rattle.thor_top.specs.Kept.{Refuses, RefusesBy, WritesNothing}
 use Rattle.thor_top.specs.Reports.{TellsRun}
@@ -31,6 +31,10 @@ reply_refuses_nothing form repos script (Err e) tells refuses = refuses
 pub play_writes : (command : Command) (form : Form) (repos : ℕ) (script : Script) (r : Result Reply NoMemory) → command ≡ Play
     → IfOk r (λ reply. TellsRun form repos script reply.status reply.text) → WritesNothing command r → ⊥
 play_writes command form repos script r is tells writes = reply_refuses_nothing form repos script r tells (subst (λ (c : Command). WritesNothing c r) is writes)
+
+pub threads_write : (command : Command) (form : Form) (repos : ℕ) (script : Script) (r : Result Reply NoMemory) → command ≡ Run
+    → IfOk r (λ reply. TellsRun form repos script reply.status reply.text) → WritesNothing command r → ⊥
+threads_write command form repos script r is tells writes = reply_refuses_nothing form repos script r tells (subst (λ (c : Command). WritesNothing c r) is writes)
 
 pub gen_writes : (command : Command) (n : ℕ) (form : Form) (repos : ℕ) (script : Script) (r : Result Reply NoMemory) → command ≡ Gen n
     → IfOk r (λ reply. TellsRun form repos script reply.status reply.text) → WritesNothing command r → ⊥

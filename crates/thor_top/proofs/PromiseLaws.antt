@@ -1,14 +1,14 @@
 -- What the program wrote, by the promise: what is said by the status (`Wrote`) keeps each.
 use Rattle.command_words.specs.Words.{plan_of}
 use Rattle.command_words.specs.declared.command.Command.{Command}
-use Rattle.command_words.specs.declared.command.Command.TheVariants.{Check, Gen, Play}
+use Rattle.command_words.specs.declared.command.Command.TheVariants.{Check, Gen, Play, Run}
 use Rattle.command_words.specs.declared.command.Plan.{Plan}
 use Rattle.generator.specs.Bank.{script_text}
 use Rattle.outside.specs.Streams.{IsMoreThan, Put}
 use Rattle.std.proofs.Common.{◌≡◌, ◌∙◌, inl, inr, List, ℕ, Option, refl, subst, sym}
 use Rattle.std.proofs.lemmas.Option.{same_Some}
 use Rattle.std.specs.Prelude.{Bool, [], ◌++◌, ◌∷◌, ◌⊎◌, codes, false, true}
-use Rattle.thor_top.specs.Promises.{AreNoWords, HasBytes, HasTold, SaysOk, IsFront, SaysLimit, IsPlanned, SaysReport, SaysRule, SaysSummary, IsTooLong, SaysDisk, OfScript, OnAnswer, Reads}
+use Rattle.thor_top.specs.Promises.{AreNoWords, HasBytes, HasTold, SaysOk, IsFront, SaysLimit, IsPlanned, SaysReport, SaysRule, SaysSummary, IsTooLong, SaysDisk, OfScript, OnAnswer, Reads, Runs}
 use Rattle.thor_top.specs.Texts.{limit_text}
 use Rattle.thor_top.specs.Top.{IsDone, IsPlan, IsUnfinished, Says, SaysFor, SaysOf, SaysRead, Tells, Told, WasRead, Wrote}
 use Rattle.thor_top.specs.declared.status.Status.{Status}
@@ -53,6 +53,7 @@ module _ (words : List (List ℕ)) (repos : ℕ) (before after : Told) (had take
   heard : (c : Command) (plan : Plan) (s : Status) (text : List ℕ) → HasText s → SaysFor c plan before after s text → (bytes : List ℕ) × (HasBytes c plan.repos before after bytes × Tells plan bytes s text)
   heard Check plan s text h says = read plan s text h says
   heard Play plan s text h says = read plan s text h says
+  heard Run plan s text h says = read plan s text h says
   heard (Gen n) plan s text h says = (script_text n plan.repos, ((says.0, refl), says.1))
 
   told : (plan : Plan) (s : Status) (text : List ℕ) → IsPlan words repos plan → HasText s → IsOther s → Says words repos before after s text → Put had text taken
@@ -68,6 +69,18 @@ module _ (words : List (List ℕ)) (repos : ℕ) (before after : Told) (had take
   of_unfinished : (plan : Plan) (bytes text : List ℕ) (c : Command) → plan.command ≡ c → Tells plan bytes status.Unfinished text → OfScript (λ script t. IsUnfinished c plan.repos script t) bytes text
   of_unfinished plan bytes text c e (inl t) = absurd t
   of_unfinished plan bytes text c e (inr t) = record { script = t.0; written = t.1.0; within = t.1.1.0; says = subst (λ d. IsUnfinished d plan.repos t.0 text) e t.1.1.1 }
+
+  ran_done : (plan : Plan) (bytes text : List ℕ) (c : Command) → plan.command ≡ c → Runs c → Tells plan bytes status.Done text → SaysReport plan true bytes text
+  ran_done plan bytes text Check e runs t = absurd runs
+  ran_done plan bytes text Play e runs t = of_done plan bytes text Play e t
+  ran_done plan bytes text Run e runs t = of_done plan bytes text Run e t
+  ran_done plan bytes text (Gen n) e runs t = absurd runs
+
+  ran_unfinished : (plan : Plan) (bytes text : List ℕ) (c : Command) → plan.command ≡ c → Runs c → Tells plan bytes status.Unfinished text → SaysReport plan false bytes text
+  ran_unfinished plan bytes text Check e runs t = absurd runs
+  ran_unfinished plan bytes text Play e runs t = of_unfinished plan bytes text Play e t
+  ran_unfinished plan bytes text Run e runs t = of_unfinished plan bytes text Run e t
+  ran_unfinished plan bytes text (Gen n) e runs t = absurd runs
 
   of_rule : (plan : Plan) (bytes text : List ℕ) → Tells plan bytes status.Script text → SaysRule plan bytes text
   of_rule plan bytes text (inl t) = inl t
@@ -85,9 +98,9 @@ module _ (words : List (List ℕ)) (repos : ℕ) (before after : Told) (had take
   of_damage plan bytes text (inl t) = absurd t
   of_damage plan bytes text (inr t) = t
 
-  pub report : (s : Status) → Wrote words repos before after had taken s → (plan : Plan) → IsPlan words repos plan → plan.command ≡ Play → OnAnswer (λ finished. HasTold plan before after had taken (SaysReport plan finished)) s
-  report status.Done w plan h is = told plan status.Done w.0 h tt (λ e. cc) w.1.0 w.1.1 (SaysReport plan true) (λ bytes. of_done plan bytes w.0 Play is)
-  report status.Unfinished w plan h is = told plan status.Unfinished w.0 h tt (λ e. cc) w.1.0 w.1.1 (SaysReport plan false) (λ bytes. of_unfinished plan bytes w.0 Play is)
+  pub report : (s : Status) → Wrote words repos before after had taken s → (plan : Plan) → IsPlan words repos plan → Runs plan.command → OnAnswer (λ finished. HasTold plan before after had taken (SaysReport plan finished)) s
+  report status.Done w plan h runs = told plan status.Done w.0 h tt (λ e. cc) w.1.0 w.1.1 (SaysReport plan true) (λ bytes. ran_done plan bytes w.0 plan.command refl runs)
+  report status.Unfinished w plan h runs = told plan status.Unfinished w.0 h tt (λ e. cc) w.1.0 w.1.1 (SaysReport plan false) (λ bytes. ran_unfinished plan bytes w.0 plan.command refl runs)
   report status.Words w plan h is = tt
   report status.Script w plan h is = tt
   report status.SourceFault w plan h is = tt
@@ -136,6 +149,8 @@ module _ (words : List (List ℕ)) (repos : ℕ) (before after : Told) (had take
   over Check plan text (inr t) = inr (tt, t)
   over Play plan text (inl t) = inl t
   over Play plan text (inr t) = inr (tt, t)
+  over Run plan text (inl t) = inl t
+  over Run plan text (inr t) = inr (tt, t)
   over (Gen n) plan text says = inl (script_text n plan.repos, ((says.0, refl), says.1))
 
   pub limit : (s : Status) → Wrote words repos before after had taken s → (plan : Plan) → IsPlan words repos plan → s ≡ status.Limit → HasTold plan before after had taken SaysLimit ⊎ (Reads plan.command × IsTooLong before had taken)
@@ -149,6 +164,7 @@ module _ (words : List (List ℕ)) (repos : ℕ) (before after : Told) (had take
   no_words : (c : Command) (plan : Plan) (text : List ℕ) → SaysFor c plan before after status.Words text → ⊥
   no_words Check plan text says = says
   no_words Play plan text says = says
+  no_words Run plan text says = says
   no_words (Gen n) plan text says = elim says.1 [
     | inl t ↦ t
     | inr t ↦ t.1.1
@@ -164,6 +180,7 @@ module _ (words : List (List ℕ)) (repos : ℕ) (before after : Told) (had take
   source_text : (c : Command) (plan : Plan) (text : List ℕ) → SaysFor c plan before after status.SourceFault text → text ≡ codes "source" ++ 10 ∷ []
   source_text Check plan text says = says.1
   source_text Play plan text says = says.1
+  source_text Run plan text says = says.1
   source_text (Gen n) plan text says = absurd (elim says.1 [
     | inl t ↦ t
     | inr t ↦ t.1.1

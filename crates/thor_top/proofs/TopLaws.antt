@@ -5,7 +5,7 @@ use Rattle.command_words.specs.declared.command.Plan.{Plan}
 use Rattle.generator.specs.Bank.{script_text}
 use Rattle.outside.specs.Faults.{Rose}
 use Rattle.command_words.specs.declared.command.Command.{Command}
-use Rattle.command_words.specs.declared.command.Command.TheVariants.{Check, Play, Gen}
+use Rattle.command_words.specs.declared.command.Command.TheVariants.{Check, Play, Run, Gen}
 use Rattle.thor_top.specs.Top.{Says, SaysFor, SaysRead, Tells, Told, WasRead}
 use Rattle.thor_top.specs.declared.reply.Reply.{Reply}
 use Rattle.thor_top.specs.declared.status.Status.{Status}
@@ -41,6 +41,7 @@ generated_rose plan n before after text (inr t) = absurd t.1.1
 for_rose : (command : Command) (plan : Plan) (before after : Told) (text : List ℕ) → SaysFor command plan before after status.SourceFault text → Rose before.faults after.faults
 for_rose Check plan before after text says = says.0
 for_rose Play plan before after text says = says.0
+for_rose Run plan before after text says = says.0
 for_rose (Gen n) plan before after text says = generated_rose plan n before after text says.1
 
 says_rose : (words : List (List ℕ)) (count : ℕ) (before after : Told) (text : List ℕ) → Says words count before after status.SourceFault text → Rose before.faults after.faults

@@ -2,7 +2,7 @@
 -- whatever a check answers.
 use Rattle.std.specs.Prelude.{Result, Ok, Err}
 use Rattle.command_words.specs.declared.command.Command.{Command}
-use Rattle.command_words.specs.declared.command.Command.TheVariants.{Check, Play, Gen}
+use Rattle.command_words.specs.declared.command.Command.TheVariants.{Check, Play, Run, Gen}
 use Rattle.thor_top.specs.declared.reply.Reply.{Reply}
 use Rattle.thor_top.specs.declared.status.Status.{Status}
 use Rattle.thor_top.specs.declared.status.Status.TheVariants as status
@@ -30,4 +30,5 @@ RefusesBy (Err e) = ⊥
 abbrev pub WritesNothing : Command → Result Reply NoMemory → Type 0
 WritesNothing Check r = Unit {0}
 WritesNothing Play r = RefusesBy r
+WritesNothing Run r = RefusesBy r
 WritesNothing (Gen n) r = RefusesBy r

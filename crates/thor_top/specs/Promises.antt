@@ -1,7 +1,7 @@
 -- What the program promises, by the promise (this project's). Each speaks of some statuses, and says nothing of the others.
 use Rattle.std.specs.Prelude.{◌≡◌, ◌⊎◌, ℕ, Bool, List, [], ◌∷◌, Option, codes, ◌++◌, true, false}
 use Rattle.command_words.specs.declared.command.Command.{Command}
-use Rattle.command_words.specs.declared.command.Command.TheVariants.{Check, Gen, Play}
+use Rattle.command_words.specs.declared.command.Command.TheVariants.{Check, Gen, Play, Run}
 use Rattle.command_words.specs.declared.command.Plan.{Plan}
 use Rattle.generator.specs.Bank.{script_text}
 use Rattle.outside.specs.Streams.{IsMoreThan, Put, PutFront}
@@ -18,11 +18,12 @@ use Rattle.thor_top.specs.declared.status.Status.TheVariants as status
 
 -- ---- what was read, and what was written
 
--- The bytes that are taken for a script: `check` and `play` read the source to its end; `gen` makes them, and leaves the
--- source as it was.
+-- The bytes that are taken for a script: `check`, `play` and `run` read the source to its end; `gen` makes them, and leaves
+-- the source as it was.
 abbrev pub HasBytes : Command → ℕ → Told → Told → List ℕ → Type 0
 HasBytes Check repos before after bytes = WasRead before.left after.left bytes
 HasBytes Play repos before after bytes = WasRead before.left after.left bytes
+HasBytes Run repos before after bytes = WasRead before.left after.left bytes
 HasBytes (Gen n) repos before after bytes = (after ≡ before) × (bytes ≡ script_text n repos)
 
 -- By this plan, the sink took a text that says this of the bytes that were taken for a script.
@@ -55,6 +56,13 @@ OnAnswer P status.Damaged = Unit {0}
 OnAnswer P status.Limit = Unit {0}
 OnAnswer P status.NoMemory = Unit {0}
 
+-- the command runs the script of the source: `play` and `run`
+abbrev pub Runs : Command → Type 0
+Runs Check = ⊥
+Runs Play = Unit {0}
+Runs Run = Unit {0}
+Runs (Gen n) = ⊥
+
 -- the text is the report of the script's run
 abbrev pub SaysReport : Plan → Bool → List ℕ → List ℕ → Type 0
 SaysReport plan finished bytes text = OfScript (λ script text. IsReport form.Report plan.repos script finished text) bytes text
@@ -84,6 +92,7 @@ SaysLimit bytes text = (script : Script) × (IsWritten bytes script × ((limit :
 abbrev pub Reads : Command → Type 0
 Reads Check = Unit {0}
 Reads Play = Unit {0}
+Reads Run = Unit {0}
 Reads (Gen n) = ⊥
 
 -- The source has more bytes than a script may have, and the sink took that limit.

@@ -16,7 +16,7 @@ use Rattle.thor_top.specs.Reports.{IsReport}
 use Rattle.thor_top.specs.Texts.{TellsUnopened, limit_text}
 use Rattle.command_words.specs.Words.{plan_of}
 use Rattle.command_words.specs.declared.command.Command.{Command}
-use Rattle.command_words.specs.declared.command.Command.TheVariants.{Check, Play, Gen}
+use Rattle.command_words.specs.declared.command.Command.TheVariants.{Check, Play, Run, Gen}
 use Rattle.command_words.specs.declared.command.Plan.{Plan}
 use Rattle.thor_top.specs.declared.form.Form.TheVariants as form
 use Rattle.thor_top.specs.declared.status.Status.{Status}
@@ -34,12 +34,14 @@ pub record IsChecked (repos : ℕ) (script : Script) (text : List ℕ) : Type 0 
 abbrev pub IsDone : Command → ℕ → Script → List ℕ → Type 0
 IsDone Check repos script text = IsChecked repos script text
 IsDone Play repos script text = IsReport form.Report repos script true text
+IsDone Run repos script text = IsReport form.Report repos script true text
 IsDone (Gen n) repos script text = IsReport form.Summary repos script true text
 
 -- and where one was refused
 abbrev pub IsUnfinished : Command → ℕ → Script → List ℕ → Type 0
 IsUnfinished Check repos script text = ⊥
 IsUnfinished Play repos script text = IsReport form.Report repos script false text
+IsUnfinished Run repos script text = IsReport form.Report repos script false text
 IsUnfinished (Gen n) repos script text = IsReport form.Summary repos script false text
 
 -- ---- refused scripts
@@ -131,10 +133,11 @@ SaysRead plan before after status.NoMemory text = ⊥
 abbrev pub SaysGenerated : ℕ → Plan → Told → Told → Status → List ℕ → Type 0
 SaysGenerated n plan before after s text = (after ≡ before) × Tells plan (script_text n plan.repos) s text
 
--- by the command: `check` and `play` read the source, `gen` doesn't
+-- by the command: `check`, `play` and `run` read the source, `gen` doesn't
 abbrev pub SaysFor : Command → Plan → Told → Told → Status → List ℕ → Type 0
 SaysFor Check plan before after s text = SaysRead plan before after s text
 SaysFor Play plan before after s text = SaysRead plan before after s text
+SaysFor Run plan before after s text = SaysRead plan before after s text
 SaysFor (Gen n) plan before after s text = SaysGenerated n plan before after s text
 
 -- what is true where the program ends with a status and has this text to write, by a plan

@@ -4,6 +4,7 @@
 mod answered;
 mod checking;
 mod form;
+mod in_turn;
 mod playing;
 mod reply;
 mod starting;

@@ -6,6 +6,7 @@ ghost use Rattle.script_check.specs.Upgrading.{extended, upgrades_of};
 ghost use Rattle.serial_model.specs.Replays.{AreMade};
 ghost use Rattle.thor_top.specs.Opening.{IsAccepted, IsBase, IsStore};
 ghost use Rattle.thor_top.specs.Reports.{IsReported, TellsOpened, TellsRun};
+ghost use Rattle.thor_top.specs.Running.{IsRunner};
 ghost use Rattle.thor_value.specs.FiniteMap.{IsSorted};
 
 use crate::answered::{Answered, unplayed};
@@ -118,32 +119,6 @@ fn yardstick_of<P: Parts>(
     }
 }
 
-/// Performs the events, and then all that is left of the items.
-fn perform<P: Parts>(cluster: &mut Cluster<P>, events: &[Event]) -> Result<(), NoMemory>
-    ensures { parts_of cluster.new ≡ parts_of cluster.old }
-{
-    for event in events {
-        cluster.event(*event)?;
-    }
-    cluster.drain()
-}
-
-/// Performs a run, and ends it.
-fn finished<P: Parts>(cluster: Cluster<P>, events: &[Event]) -> Finished<P>
-    ensures { vec_len result.parts ≡ parts_of cluster }
-{
-    let mut cluster = cluster;
-    let performed = perform(&mut cluster, events);
-    let Finished { parts, ran } = cluster.finish();
-    Finished {
-        parts,
-        ran: match performed {
-            Ok(()) => ran,
-            Err(NoMemory) => Err(NoMemory),
-        },
-    }
-}
-
 /// What is told of what was run.
 fn reported(
     alloc: Global,
@@ -180,21 +155,24 @@ fn reported(
 }
 
 /// Opens the store that was found, and runs a script that breaks no rule on it.
-fn open_and_run<P: Parts>(
+fn open_and_run<P: Parts, F: Fn(Cluster<P>, &[Event], u32) -> Finished<P>>(
     alloc: Global,
+    way: &F,
+    mob: u32,
     form: Form,
     script: &Script,
     yardstick: &Yardstick,
     found: Found<P>,
     run: Run,
 ) -> Answered<P>
-    requires { IsSorted yardstick.now.store.objects }
+    requires runs { IsRunner (F.IsAlwaysCallable way.now) parts_of (F.post way.now) }
+    requires sorted { IsSorted yardstick.now.store.objects }
     ensures reply { IfOk result.reply (λ reply. TellsOpened form yardstick.now.schemas yardstick.now.store script.now reply.status reply.text) }
     ensures parts { vec_len result.parts ≡ parts_in found }
 {
     match Cluster::open(alloc, found, run) {
         Ok(cluster) => {
-            let Finished { parts, ran } = finished(cluster, script.events.as_slice());
+            let Finished { parts, ran } = way(cluster, script.events.as_slice(), mob);
             let (reply, traces) = reported(alloc, form, script, yardstick, ran);
             Answered {
                 reply,
@@ -207,14 +185,16 @@ fn open_and_run<P: Parts>(
 }
 
 /// Runs a script that breaks no rule on the store that was found, and tells of it in a form.
-pub fn play<P: Parts>(
+pub fn play<P: Parts, F: Fn(Cluster<P>, &[Event], u32) -> Finished<P>>(
     alloc: Global,
+    way: &F,
     plan: &Plan,
     form: Form,
     script: &Script,
     base: &Schemas,
     found: Found<P>,
 ) -> Answered<P>
+    requires runs { IsRunner (F.IsAlwaysCallable way.now) parts_of (F.post way.now) }
     requires accepted { IsAccepted plan.now.repos script.now base.now }
     requires made { AreMade base.now }
     ensures reply { IfOk result.reply (λ reply. TellsRun form plan.now.repos script.now reply.status reply.text) }
@@ -227,7 +207,7 @@ pub fn play<P: Parts>(
         }
     };
     match run_of(alloc, plan, script, base) {
-        Ok(run) => open_and_run(alloc, form, script, &yardstick, found, run),
+        Ok(run) => open_and_run(alloc, way, plan.mob, form, script, &yardstick, found, run),
         Err(NoMemory) => unplayed(alloc, Err(NoMemory), found.into_parts()),
     }
 }

@@ -9,6 +9,7 @@ mod memory;
 mod name_laws;
 mod names;
 mod oref_map;
+mod pairing;
 mod sequence;
 mod values;
 
@@ -21,5 +22,6 @@ pub use memory::{NoMemory, TryCopy};
 pub use name_laws::{names_are_ordered, timestamps_are_ordered};
 pub use names::{Oref, Ts};
 pub use oref_map::OrefMap;
+pub use pairing::both;
 pub use sequence::Sequence;
 pub use values::{Answer, Fault, Obj, Value, Who};

@@ -1,18 +1,19 @@
 //! The expressions of new fields, by descent: each function reads one rule of the grammar. The room for the
 //! depth shrinks on the way down, so the text sets no bound on the recursion.
 
-ghost use Rattle.std.specs.Prelude.{◌≡◌, ◌<◌, ◌≤◌, IfOk};
+ghost use Rattle.std.specs.Prelude.{◌≡◌, ◌<◌, ◌≤◌, ◌+◌, ◌-◌, ◌^◌, max, IfOk};
+ghost use Rattle.class_defs.specs.declared.upgrades.Tf.TheVariants.{Binary as ABinary};
 ghost use Rattle.method_parse.specs.Reader.{Gives};
 ghost use Rattle.method_parse.specs.declared.deep.Level.TheVariants as levels;
 ghost use Rattle.upgrade_defs.specs.Expressions.{all_names, at_level, dotted, expression_in, integer, joined, joins, leaf, more_names, parens, parts_of, path, primary, sum, term, unary, value};
 
 use crate::deep::Deep;
 use crate::starts::{is_join, is_minus, is_open};
-use class_defs::{Name, Names, Tf};
+use class_defs::{Name, Names, Operator, Tf};
 use method_parse::{Level, ParseError, name, next_is, number, operator, tighter, word};
 use script_text::Token;
 use std::alloc::Global;
-use thor_value::Boxed;
+use thor_value::{Boxed, NoMemory, both};
 
 /// How high the expression of a new field may be as a tree. Parentheses count in it, so that their own limit
 /// of 64 is never met.
@@ -110,7 +111,7 @@ fn parens(alloc: Global, room: u32, tokens: &[Token]) -> Result<(Deep, &[Token])
 {
     let (line, rest) = word(tokens, b"(")?;
     let (read, rest) = operand(alloc, room, Level::Sum, rest)?;
-    let (_, rest) = word(rest, b")")?;
+    let (read, (_, rest)) = both(read, word(rest, b")"))?;
     let inner = Boxed::new(alloc, read.value)?;
     let value = Tf::Parens { inner, line };
     let depth = read.depth + 1;
@@ -153,6 +154,30 @@ fn unary(alloc: Global, room: u32, tokens: &[Token]) -> Result<(Deep, &[Token]),
     Ok((Deep { value, depth }, rest))
 }
 
+/// An operator, whose line is given, between two operands.
+fn binary(
+    alloc: Global,
+    operator: Operator,
+    line: u32,
+    left: Deep,
+    right: Deep,
+) -> Result<Deep, NoMemory>
+    requires left { left.depth < 2 ^ 32 - 1 }
+    requires right { right.depth < 2 ^ 32 - 1 }
+    ensures { IfOk result (λ deep. deep ≡ record { value = ABinary operator left.value right.value line; depth = max left.depth right.depth + 1 }) }
+{
+    let depth = left.depth.max(right.depth) + 1;
+    let (right, left) = both(right.value, Boxed::new(alloc, left.value))?;
+    let (left, right) = both(left, Boxed::new(alloc, right))?;
+    let value = Tf::Binary {
+        operator,
+        left,
+        right,
+        line,
+    };
+    Ok(Deep { value, depth })
+}
+
 /// One more operator of a level, and its right operand.
 #[cycle(expression)]
 #[tactic(auto, unfolding(crate::specs::Expressions::joined))]
@@ -168,16 +193,10 @@ fn joined(
     ensures read { Gives (λ x. (x.0, x.1.now)) result (joined level (parts_of room) left tokens.now) }
     ensures within { IfOk result (λ x. x.0.depth ≤ room) }
 {
-    let ((operator, line), rest) = operator(level, tokens)?;
-    let (right, rest) = operand(alloc, room, tighter(level), rest)?;
-    let depth = left.depth.max(right.depth) + 1;
-    let value = Tf::Binary {
-        operator,
-        left: Boxed::new(alloc, left.value)?,
-        right: Boxed::new(alloc, right.value)?,
-        line,
-    };
-    Ok((Deep { value, depth }, rest))
+    let (left, (operator, rest)) = both(left, operator(level, tokens))?;
+    let (left, (right, rest)) = both(left, operand(alloc, room, tighter(level), rest))?;
+    let (operator, line) = operator;
+    Ok((binary(alloc, operator, line, left, right)?, rest))
 }
 
 /// The operators of a level behind an operand, each with its right operand.

@@ -9,6 +9,7 @@ use class_defs::{ClassUpgrade, ClassUpgrades, FieldUpgrade, FieldUpgrades, Upgra
 use method_parse::{ParseError, methods, name, next_begins_type, next_is, type_word, word};
 use script_text::Token;
 use std::alloc::Global;
+use thor_value::both;
 
 /// How many new fields a class may have.
 const MAX_FIELDS: usize = 32;
@@ -21,7 +22,7 @@ fn field(alloc: Global, tokens: &[Token]) -> Result<(FieldUpgrade, &[Token]), Pa
     let (name, rest) = name(rest)?;
     let (_, rest) = word(rest, b"=")?;
     let (value, rest) = value(alloc, rest)?;
-    let (_, rest) = word(rest, b";")?;
+    let (value, (_, rest)) = both(value, word(rest, b";"))?;
     let field = FieldUpgrade {
         type_name,
         name,
@@ -125,6 +126,6 @@ pub fn upgrade(alloc: Global, tokens: &[Token]) -> Result<(Upgrade, &[Token]), P
     let (_, rest) = word(rest, b"{")?;
     let (first, rest) = more_classes(alloc, ClassUpgrades::new(alloc), rest)?;
     let (classes, rest) = all_classes(alloc, first, rest)?;
-    let (_, rest) = word(rest, b"}")?;
+    let (classes, (_, rest)) = both(classes, word(rest, b"}"))?;
     Ok((Upgrade { line, classes }, rest))
 }

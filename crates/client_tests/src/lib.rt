@@ -1,5 +1,0 @@
-//! Tests of what a client holds.
-#![tactic(auto)]
-
-#[cfg(test)]
-mod copies;

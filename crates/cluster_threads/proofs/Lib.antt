@@ -1,0 +1,3 @@
+mod ClientsCross
+mod RunsCross
+mod TreesCross

@@ -1,0 +1,97 @@
+-- Which parts of a paused run may cross threads, one type at a time.
+use denote.Param.Send.{IsSend, IsSync, enum_send, sendable}
+use denote.Builtin.{u8}
+use denote.Enum.Declared.{shape}
+use Rattle.std.proofs.Crossing.{crosses}
+use Rattle.thor_value.proofs.boxed.Boxed.TheSendSync as boxed
+use Rattle.thor_value.proofs.names.Oref.TheSendSync as oref
+use Rattle.thor_value.proofs.sequence.Sequence.TheSendSync as sequence
+use Rattle.thor_value.proofs.values.Value.TheSendSync as value
+use Rattle.thor_value.specs.contracts.sequence.Sequence as Sequence
+use Rattle.class_defs.proofs.expressions.At.TheSendSync as at
+use Rattle.class_defs.proofs.expressions.Operator.TheSendSync as operator
+use Rattle.class_defs.proofs.machine.Flow.TheSendSync as flow
+use Rattle.class_defs.proofs.machine.Local.TheSendSync as local
+use Rattle.class_defs.proofs.machine.Machine.TheSendSync as machine
+use Rattle.class_defs.proofs.machine.Receiver.TheSendSync as receiver
+use Rattle.class_defs.proofs.types.ExprType.TheSendSync as expr_type
+use Rattle.paused_defs.proofs.nodes.ExprNode.TheLaws.TheKnot as expr_node
+use Rattle.paused_defs.proofs.nodes.StmtNode.TheLaws.TheKnot as stmt_node
+use Rattle.paused_defs.proofs.shared.Shared.TheSendSync as shared
+use Rattle.paused_defs.proofs.stack.Stack.TheSendSync as stack
+use Rattle.paused_defs.specs.contracts.frames.Doing as Doing
+use Rattle.paused_defs.specs.contracts.frames.Frame as Frame
+use Rattle.paused_defs.specs.contracts.nodes.ExprNode as ExprNode
+use Rattle.paused_defs.specs.contracts.nodes.StmtNode as StmtNode
+use Rattle.paused_defs.specs.contracts.shared.Shared as Shared
+use Rattle.paused_defs.specs.contracts.syntax.SharedBlock as SharedBlock
+use Rattle.paused_defs.specs.contracts.syntax.SharedExpr as SharedExpr
+use Rattle.paused_defs.specs.contracts.syntax.SharedExprs as SharedExprs
+use Rattle.paused_defs.specs.contracts.syntax.SharedStmt as SharedStmt
+use Rattle.paused_eval.specs.contracts.paused.Paused as Paused
+use Rattle.cluster_threads.proofs.TreesCross.{type_name_send, type_name_sync}
+
+ruleset base = (sequence.the_send, sequence.the_sync, boxed.the_send, boxed.the_sync, shared.the_send, shared.the_sync, sendable)
+
+pub expr_node_send : IsSend (ExprNode.the_field).row
+expr_node_send = search (expr_node.crosses_both, at.the_field_send, at.the_field_sync, operator.the_field_send, operator.the_field_sync, base) depth 60 fits 20000
+
+pub expr_node_sync : IsSync (ExprNode.the_field).row
+expr_node_sync = search (expr_node.crosses_both, at.the_field_send, at.the_field_sync, operator.the_field_send, operator.the_field_sync, base) depth 60 fits 20000
+
+pub stmt_node_send : IsSend (StmtNode.the_field).row
+stmt_node_send = search (stmt_node.crosses_both, expr_node_send, expr_node_sync, type_name_send, type_name_sync, base) depth 60 fits 20000
+
+pub stmt_node_sync : IsSync (StmtNode.the_field).row
+stmt_node_sync = search (stmt_node.crosses_both, expr_node_send, expr_node_sync, type_name_send, type_name_sync, base) depth 60 fits 20000
+
+ruleset nodes = (expr_node_send, expr_node_sync, stmt_node_send, stmt_node_sync)
+
+pub expr_nodes_send : IsSend (Sequence.the_row (Shared.the_row ExprNode.the_row))
+expr_nodes_send = search (nodes, base) depth 30
+
+pub expr_nodes_sync : IsSync (Sequence.the_row (Shared.the_row ExprNode.the_row))
+expr_nodes_sync = search (nodes, base) depth 30
+
+pub stmt_nodes_send : IsSend (Sequence.the_row (Shared.the_row StmtNode.the_row))
+stmt_nodes_send = search (nodes, base) depth 30
+
+pub stmt_nodes_sync : IsSync (Sequence.the_row (Shared.the_row StmtNode.the_row))
+stmt_nodes_sync = search (nodes, base) depth 30
+
+pub text_send : IsSend (Shared.the_row (Sequence.the_row u8))
+text_send = search base depth 30
+
+pub shared_expr_send : IsSend SharedExpr.the_row
+shared_expr_send = search (nodes, base) depth 30
+
+pub shared_exprs_send : IsSend SharedExprs.the_row
+shared_exprs_send = search (expr_nodes_send, expr_nodes_sync, base) depth 30
+
+pub shared_stmt_send : IsSend SharedStmt.the_row
+shared_stmt_send = search (nodes, base) depth 30
+
+pub shared_block_send : IsSend SharedBlock.the_row
+shared_block_send = search (stmt_nodes_send, stmt_nodes_sync, base) depth 30
+
+ruleset syntax = (text_send, shared_expr_send, shared_exprs_send, shared_stmt_send, shared_block_send)
+
+ruleset leaves = (at.the_field_send, at.the_send, expr_type.the_field_send, flow.the_field_send, local.the_send, machine.the_field_send, operator.the_field_send, oref.the_field_send, oref.the_send, receiver.the_field_send, receiver.the_send, value.the_field_send, value.the_send)
+
+pub doing_send : IsSend (Doing.the_field).row
+doing_send = enum_send (shape Doing.the_type) (
+  (search base, (shared_expr_send, tt)),
+  (
+    (search base, (shared_stmt_send, tt)),
+    (
+      (text_send, (search (leaves, base) depth 20, tt)),
+      ((search base, (search base, (oref.the_field_send, (text_send, (search (leaves, base) depth 20, tt))))), ((flow.the_field_send, tt), tt)),
+    ),
+  ),
+)
+
+pub frame_send : IsSend (Frame.the_field).row
+frame_send = enum_send (shape Frame.the_type) (tt, ((search base, (operator.the_field_send, (shared_expr_send, tt))), ((operator.the_field_send, (value.the_field_send, tt)), ((search base, (expr_type.the_field_send, (text_send, (shared_exprs_send, tt)))), ((search base, (expr_type.the_field_send, (value.the_field_send, (text_send, (search (leaves, base) depth 20, (shared_exprs_send, tt)))))), ((search base, (search (leaves, base) depth 20, (search (leaves, base) depth 20, (expr_type.the_field_send, tt)))), ((expr_type.the_field_send, (text_send, tt)), ((text_send, tt), ((text_send, tt), (tt, ((search base, (shared_block_send, tt)), ((search base, (shared_block_send, (shared_block_send, tt))), (tt, (tt, ((search base, (shared_block_send, tt)), ((search base, tt), ((search base, (search base, (shared_expr_send, (shared_block_send, tt)))), ((search base, (search base, (shared_expr_send, (shared_block_send, tt)))), tt))))))))))))))))))
+
+pub paused_send : IsSend (Paused.the_field).row
+paused_send = search (doing_send, frame_send, stack.the_send, leaves, base, crosses) depth 30

@@ -1,0 +1,54 @@
+//! What a client does in its thread.
+
+use crate::locked_port::LockedPort;
+use disk_trait::Parts;
+use front_end::{FrontEnd, Opened, Step};
+use outside::Gate;
+use port::Port;
+use std::sync::Wait;
+use thor_value::NoMemory;
+
+/// A client of an opened store, which goes on by steps.
+pub(crate) trait Client<S>: Drop {
+    /// Takes one step, which makes one call at most.
+    fn step<Q: Port>(&mut self, port: &mut Q, opened: &S) -> Result<Step, NoMemory>;
+
+    /// Asks once for each Unknown item.
+    fn last<Q: Port>(&mut self, port: &mut Q, opened: &S) -> Result<(), NoMemory>;
+}
+
+impl Client<Opened> for FrontEnd {
+    fn step<Q: Port>(&mut self, port: &mut Q, opened: &Opened) -> Result<Step, NoMemory> {
+        FrontEnd::step(self, port, opened)
+    }
+
+    fn last<Q: Port>(&mut self, port: &mut Q, opened: &Opened) -> Result<(), NoMemory> {
+        FrontEnd::last(self, port, opened)
+    }
+}
+
+/// A client with what it calls.
+#[derive(Drop)]
+pub(crate) struct Job<'a, C: Client<S>, S, R: Wait, P: Parts, G: Gate> {
+    pub(crate) client: C,
+    pub(crate) port: LockedPort<'a, R, P, G>,
+    pub(crate) opened: &'a S,
+}
+
+/// Has a client take steps until all its items have ended. What it prompts with goes with its port.
+pub(crate) fn play_out<C: Client<S>, S, R: Wait, P: Parts, G: Gate>(
+    job: Job<'_, C, S, R, P, G>,
+) -> Result<C, NoMemory> {
+    let Job {
+        mut client,
+        mut port,
+        opened,
+    } = job;
+    for _ in 0..u64::MAX {
+        match client.step(&mut port, opened)? {
+            Step::Moved => {}
+            Step::Ended => break,
+        }
+    }
+    Ok(client)
+}

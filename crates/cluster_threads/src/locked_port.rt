@@ -1,0 +1,145 @@
+//! The calls of one client, each of which takes the lock of one repository.
+
+use crate::locks::Locks;
+use crate::prompts::Prompt;
+use cluster_core::Seat;
+use commit_log::Request;
+use crossbeam_channel::Sender;
+use disk_trait::Parts;
+use message_outbox::{Asked, At, Message, Verdict, Welcome};
+use outside::Gate;
+use port::Port;
+use std::sync::{MutexGuard, Wait};
+use std::thread;
+use thor_value::Ts;
+use validation_window::Refusal;
+
+/// The repositories behind their locks, as one client calls them. Each call is one event of one repository. The
+/// gate is passed before a call and behind it, with no lock held.
+#[derive(Drop)]
+pub(crate) struct LockedPort<'a, R: Wait, P: Parts, G: Gate> {
+    pub(crate) locks: &'a Locks<'a, R, P, G>,
+    /// The number of the client.
+    pub(crate) client: u8,
+    /// Where to prompt the repositories to be flushed, in their order; empty where nobody flushes.
+    pub(crate) prompts: Vec<Sender<Prompt>>,
+}
+
+impl<'a, R: Wait, P: Parts, G: Gate> LockedPort<'a, R, P, G> {
+    /// Takes the lock of a repository for a call.
+    fn begin(&self, repo: u8) -> Result<MutexGuard<'a, Seat<P>>, Refusal> {
+        self.locks.gate.pass(2 * u32::from(self.client));
+        match self.locks.enter(repo) {
+            Some(seat) => Ok(seat),
+            None => {
+                self.locks.gate.pass(2 * u32::from(self.client) + 1);
+                Err(Refusal::Down { repo })
+            }
+        }
+    }
+
+    /// Gives the lock back behind a call. Where the buffer is over half full then, it is prompted to be flushed. A
+    /// prompt that can't be sent is left out.
+    fn end(&self, repo: u8, seat: MutexGuard<'a, Seat<P>>) {
+        let is_full = self.locks.half < seat.mob_bytes();
+        drop(seat);
+        if is_full {
+            self.prompt(repo);
+        }
+        self.locks.gate.pass(2 * u32::from(self.client) + 1);
+    }
+
+    /// Lets other threads go first where a request was refused: one of theirs may be what it was refused for.
+    fn give_way(&self, answer: &Result<u64, Refusal>) {
+        if answer.is_err() {
+            thread::yield_now();
+        }
+    }
+
+    fn prompt(&self, repo: u8) {
+        if let Some(prompts) = self.prompts.get(usize::from(repo)) {
+            let _ = prompts.send(self.locks.rt, Prompt);
+        }
+    }
+}
+
+impl<'a, R: Wait, P: Parts, G: Gate> Port for LockedPort<'a, R, P, G> {
+    fn connect(&mut self, repo: u8, client: u8) -> Result<Welcome, Refusal> {
+        let mut seat = self.begin(repo)?;
+        let answer = seat.connect(repo, client);
+        self.end(repo, seat);
+        answer
+    }
+
+    fn fetch(&mut self, at: At, page: u32, upto: u64) -> Result<(), Refusal> {
+        let mut seat = self.begin(at.repo)?;
+        let answer = seat.fetch(at, page, upto);
+        self.end(at.repo, seat);
+        answer
+    }
+
+    fn grant(&mut self, at: At) -> Result<(), Refusal> {
+        let mut seat = self.begin(at.repo)?;
+        let answer = seat.grant(at);
+        self.end(at.repo, seat);
+        answer
+    }
+
+    fn receive(&mut self, at: At) -> Result<Option<Message>, Refusal> {
+        let mut seat = self.begin(at.repo)?;
+        let answer = seat.receive(at);
+        self.end(at.repo, seat);
+        answer
+    }
+
+    fn draw(&mut self, at: At, floor: u64) -> Result<Ts, Refusal> {
+        let mut seat = self.begin(at.repo)?;
+        let answer = seat.draw(at, floor);
+        self.end(at.repo, seat);
+        answer
+    }
+
+    fn prepare(&mut self, at: At, request: Request) -> Result<u64, Refusal> {
+        let mut seat = self.begin(at.repo)?;
+        let answer = seat.prepare(at, request);
+        self.end(at.repo, seat);
+        self.give_way(&answer);
+        answer
+    }
+
+    fn commit_one(&mut self, at: At, request: Request) -> Result<u64, Refusal> {
+        let mut seat = self.begin(at.repo)?;
+        let answer = seat.commit_one(at, request);
+        self.end(at.repo, seat);
+        self.give_way(&answer);
+        answer
+    }
+
+    fn decide(&mut self, at: At, tx: Ts, commit: bool) -> Result<Verdict, Refusal> {
+        let mut seat = self.begin(at.repo)?;
+        let answer = seat.decide(at, tx, commit);
+        self.end(at.repo, seat);
+        answer
+    }
+
+    fn finish(&mut self, repo: u8, verdict: &Verdict) -> Result<Option<u64>, Refusal> {
+        let mut seat = self.begin(repo)?;
+        let answer = seat.finish(repo, verdict);
+        self.end(repo, seat);
+        answer
+    }
+
+    fn forget(&mut self, repo: u8, tx: Ts) -> Result<(), Refusal> {
+        let mut seat = self.begin(repo)?;
+        let answer = seat.forget(repo, tx);
+        self.end(repo, seat);
+        answer
+    }
+
+    fn ask(&mut self, repo: u8, tx: Ts) -> Result<Asked, Refusal> {
+        let mut seat = self.begin(repo)?;
+        let answer = seat.ask(repo, tx);
+        self.end(repo, seat);
+        answer
+    }
+}
