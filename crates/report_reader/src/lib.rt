@@ -12,6 +12,6 @@ mod reading;
 mod report;
 mod unread;
 
-pub use laws::{printed_reports_are_read, texts_tell_reports};
+pub use laws::{printed_reports_are_read, printed_texts_tell_one_report, texts_tell_reports};
 pub use reading::read_report;
 pub use report::{Line, Lines, Report};
