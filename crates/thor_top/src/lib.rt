@@ -7,6 +7,7 @@ mod form;
 mod in_turn;
 mod playing;
 mod reply;
+mod running;
 mod starting;
 mod status;
 mod top;

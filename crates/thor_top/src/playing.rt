@@ -1,26 +1,28 @@
 //! A script's run.
 
-ghost use Rattle.cluster_core.specs.Counts.{parts_in, parts_of};
+ghost use Rattle.cluster_core.specs.Counts.{parts_in};
 ghost use Rattle.std.specs.Prelude.{◌≡◌, IfOk, IfSome, length, vec_len};
 ghost use Rattle.script_check.specs.Upgrading.{extended, upgrades_of};
 ghost use Rattle.serial_model.specs.Replays.{AreMade};
 ghost use Rattle.thor_top.specs.Opening.{IsAccepted, IsBase, IsStore};
 ghost use Rattle.thor_top.specs.Reports.{IsReported, TellsOpened, TellsRun};
-ghost use Rattle.thor_top.specs.Running.{IsRunner};
 ghost use Rattle.thor_value.specs.FiniteMap.{IsSorted};
 
 use crate::answered::{Answered, unplayed};
 use crate::checking::report;
 use crate::form::Form;
 use crate::reply::{Reply, unsettled};
+use crate::running::{Runtime, run_open};
 use class_defs::{Plain, Schemas, Setup};
 use cluster_core::{Cluster, ClusterFault, Finished, Found, Plan as Run, Ran, Start};
 use command_words::Plan;
 use disk_trait::Parts;
-use schedule::Event;
+use outside::Gate;
 use script_check::{opened_store, roots_of, with_upgrades};
 use script_parse::Script;
 use std::alloc::Global;
+use std::sync::Wait;
+use std::thread::Threads;
 use thor_value::{NoMemory, TryCopy};
 use trace_record::Traces;
 
@@ -155,24 +157,29 @@ fn reported(
 }
 
 /// Opens the store that was found, and runs a script that breaks no rule on it.
-fn open_and_run<P: Parts, F: Fn(Cluster<P>, &[Event], u32) -> Finished<P>>(
+fn open_and_run<R: Threads + Wait + Sync, P: Parts + Send, G: Gate + Sync>(
     alloc: Global,
-    way: &F,
-    mob: u32,
+    runtime: &Runtime<'_, R, G>,
+    plan: &Plan,
     form: Form,
     script: &Script,
     yardstick: &Yardstick,
     found: Found<P>,
     run: Run,
 ) -> Answered<P>
-    requires runs { IsRunner (F.IsAlwaysCallable way.now) parts_of (F.post way.now) }
     requires sorted { IsSorted yardstick.now.store.objects }
     ensures reply { IfOk result.reply (λ reply. TellsOpened form yardstick.now.schemas yardstick.now.store script.now reply.status reply.text) }
     ensures parts { vec_len result.parts ≡ parts_in found }
 {
     match Cluster::open(alloc, found, run) {
         Ok(cluster) => {
-            let Finished { parts, ran } = way(cluster, script.events.as_slice(), mob);
+            let Finished { parts, ran } = run_open(
+                alloc,
+                runtime,
+                plan,
+                cluster,
+                script.events.as_slice(),
+            );
             let (reply, traces) = reported(alloc, form, script, yardstick, ran);
             Answered {
                 reply,
@@ -185,16 +192,15 @@ fn open_and_run<P: Parts, F: Fn(Cluster<P>, &[Event], u32) -> Finished<P>>(
 }
 
 /// Runs a script that breaks no rule on the store that was found, and tells of it in a form.
-pub fn play<P: Parts, F: Fn(Cluster<P>, &[Event], u32) -> Finished<P>>(
+pub fn play<R: Threads + Wait + Sync, P: Parts + Send, G: Gate + Sync>(
     alloc: Global,
-    way: &F,
+    runtime: &Runtime<'_, R, G>,
     plan: &Plan,
     form: Form,
     script: &Script,
     base: &Schemas,
     found: Found<P>,
 ) -> Answered<P>
-    requires runs { IsRunner (F.IsAlwaysCallable way.now) parts_of (F.post way.now) }
     requires accepted { IsAccepted plan.now.repos script.now base.now }
     requires made { AreMade base.now }
     ensures reply { IfOk result.reply (λ reply. TellsRun form plan.now.repos script.now reply.status reply.text) }
@@ -207,7 +213,7 @@ pub fn play<P: Parts, F: Fn(Cluster<P>, &[Event], u32) -> Finished<P>>(
         }
     };
     match run_of(alloc, plan, script, base) {
-        Ok(run) => open_and_run(alloc, way, plan.mob, form, script, &yardstick, found, run),
+        Ok(run) => open_and_run(alloc, runtime, plan, form, script, &yardstick, found, run),
         Err(NoMemory) => unplayed(alloc, Err(NoMemory), found.into_parts()),
     }
 }

@@ -1,8 +1,7 @@
 ghost use Rattle.std.specs.Prelude.{◌≡◌, ◌≤◌, ◌⊎◌, ◌++◌, ◌∷◌, [], List, None, Some, IfOk, IfSome, codes, length, vec_len, ℕ};
 ghost use Rattle.std.specs.String.{string_bytes};
-ghost use Rattle.cluster_core.specs.Counts.{HasParts, parts_in, parts_of};
+ghost use Rattle.cluster_core.specs.Counts.{HasParts, parts_in};
 ghost use Rattle.cluster_core.specs.Same.{AreSame};
-ghost use Rattle.std.specs.Thread.{IsSend, IsSync};
 ghost use Rattle.command_words.specs.Words.{plan_of};
 ghost use Rattle.command_words.specs.declared.command.Command.TheVariants.{Check, Gen};
 ghost use Rattle.command_words.specs.declared.command.Plan.{Plan};
@@ -15,24 +14,21 @@ ghost use Rattle.thor_top.specs.Kept.{Refuses, RefusesBy, WritesNothing};
 ghost use Rattle.thor_top.specs.Opening.{IsAccepted, IsBase};
 ghost use Rattle.outside.specs.Streams.{Put};
 ghost use Rattle.thor_top.specs.Promises.{AreNoWords, HasTold, IsFront, IsPlanned, IsTooLong, OnAnswer, Reads, Runs, SaysDisk, SaysLimit, SaysOk, SaysReport, SaysRule, SaysSummary};
-ghost use Rattle.thor_top.specs.Running.{IsRunner};
 ghost use Rattle.thor_top.specs.Top.{IsOverLimit, IsPlan, IsWithinLimits, Says, SaysOf, SaysRead, Tells, TellsOf, Wrote};
 
 use crate::answered::{Answered, unplayed, untouched};
 use crate::form::Form;
-use crate::in_turn::run_in_turn;
 use crate::playing::play;
 use crate::reply::{Reply, limited, refused, says, unopened};
+use crate::running::Runtime;
 use crate::starting::base_of;
 use crate::status::Status;
 use class_defs::Schemas;
-use cluster_core::{Cluster, ClusterFault, Finished, Found};
-use cluster_threads::run_clients;
+use cluster_core::{ClusterFault, Found};
 use command_words::{Command, Plan, WordsFault, read_words};
 use disk_trait::Parts;
 use generator::generate;
 use outside::{Gate, ReadAll, Sink, Source, read_all, write_all};
-use schedule::Event;
 use script_check::{judge, last_schema, upgrade_count};
 use script_parse::{ReadError, Refusal, Script, read_script};
 use serial_model::are_made;
@@ -91,15 +87,14 @@ fn passed_limit<P: Parts>(script: &Script, found: &Found<P>) -> Option<u64>
 }
 
 /// The reply to a command on a script that breaks no rule.
-fn accepted<P: Parts, F: Fn(Cluster<P>, &[Event], u32) -> Finished<P>>(
+fn accepted<R: Threads + Wait + Sync, P: Parts + Send, G: Gate + Sync>(
     alloc: Global,
-    way: &F,
+    runtime: &Runtime<'_, R, G>,
     plan: &Plan,
     script: &Script,
     base: &Schemas,
     found: Found<P>,
 ) -> Answered<P>
-    requires runs { IsRunner (F.IsAlwaysCallable way.now) parts_of (F.post way.now) }
     requires accepted { IsAccepted plan.now.repos script.now base.now }
     requires made { AreMade base.now }
     requires within { IsWithinLimits script.now }
@@ -113,22 +108,21 @@ fn accepted<P: Parts, F: Fn(Cluster<P>, &[Event], u32) -> Finished<P>>(
             says(alloc, Status::Done, b"ok\n"),
             found.into_parts(),
         ),
-        Command::Play => play(alloc, way, plan, Form::Report, script, base, found),
-        Command::Run => play(alloc, way, plan, Form::Report, script, base, found),
-        Command::Gen { n: _ } => play(alloc, way, plan, Form::Summary, script, base, found),
+        Command::Play => play(alloc, runtime, plan, Form::Report, script, base, found),
+        Command::Run => play(alloc, runtime, plan, Form::Report, script, base, found),
+        Command::Gen { n: _ } => play(alloc, runtime, plan, Form::Summary, script, base, found),
     }
 }
 
 /// The reply to a command on a script, under schemas that are as upgrades make them.
-fn judged_on<P: Parts, F: Fn(Cluster<P>, &[Event], u32) -> Finished<P>>(
+fn judged_on<R: Threads + Wait + Sync, P: Parts + Send, G: Gate + Sync>(
     alloc: Global,
-    way: &F,
+    runtime: &Runtime<'_, R, G>,
     plan: &Plan,
     script: &Script,
     base: &Schemas,
     found: Found<P>,
 ) -> Answered<P>
-    requires runs { IsRunner (F.IsAlwaysCallable way.now) parts_of (F.post way.now) }
     requires base { IsBase script.now.setup base.now }
     requires made { AreMade base.now }
     requires epochs { length base.now.upgraded ≤ 1000 }
@@ -139,21 +133,20 @@ fn judged_on<P: Parts, F: Fn(Cluster<P>, &[Event], u32) -> Finished<P>>(
 {
     match judge(alloc, last_schema(base), script, plan.repos) {
         Ok(Some(refusal)) => unplayed(alloc, refused(alloc, refusal), found.into_parts()),
-        Ok(None) => accepted(alloc, way, plan, script, base, found),
+        Ok(None) => accepted(alloc, runtime, plan, script, base, found),
         Err(NoMemory) => unplayed(alloc, Err(NoMemory), found.into_parts()),
     }
 }
 
 /// The reply to a command on a script, under the schemas of the store.
-fn judged<P: Parts, F: Fn(Cluster<P>, &[Event], u32) -> Finished<P>>(
+fn judged<R: Threads + Wait + Sync, P: Parts + Send, G: Gate + Sync>(
     alloc: Global,
-    way: &F,
+    runtime: &Runtime<'_, R, G>,
     plan: &Plan,
     script: &Script,
     base: &Schemas,
     found: Found<P>,
 ) -> Answered<P>
-    requires runs { IsRunner (F.IsAlwaysCallable way.now) parts_of (F.post way.now) }
     requires base { IsBase script.now.setup base.now }
     requires within { IsWithinLimits script.now }
     ensures reply { IfOk result.reply (λ reply. TellsOf plan.now script.now reply.status reply.text) }
@@ -163,18 +156,17 @@ fn judged<P: Parts, F: Fn(Cluster<P>, &[Event], u32) -> Finished<P>>(
     if UPGRADE_LIMIT < base.upgraded.len() || !are_made(base) {
         return unplayed(alloc, Err(NoMemory), found.into_parts());
     }
-    judged_on(alloc, way, plan, script, base, found)
+    judged_on(alloc, runtime, plan, script, base, found)
 }
 
 /// The reply to a command on a script and the store that was found.
-fn reply_found<P: Parts, F: Fn(Cluster<P>, &[Event], u32) -> Finished<P>>(
+fn reply_found<R: Threads + Wait + Sync, P: Parts + Send, G: Gate + Sync>(
     alloc: Global,
-    way: &F,
+    runtime: &Runtime<'_, R, G>,
     plan: &Plan,
     script: &Script,
     found: Found<P>,
 ) -> Answered<P>
-    requires runs { IsRunner (F.IsAlwaysCallable way.now) parts_of (F.post way.now) }
     requires few { HasFew script.now.setup }
     requires clients { length script.now.clients ≤ 64 }
     requires events { length script.now.events ≤ 1000000 }
@@ -188,7 +180,7 @@ fn reply_found<P: Parts, F: Fn(Cluster<P>, &[Event], u32) -> Finished<P>>(
             over_limit(alloc, plan, script, limit),
             found.into_parts(),
         ),
-        None => reply_within(alloc, way, plan, script, found),
+        None => reply_within(alloc, runtime, plan, script, found),
     }
 }
 
@@ -201,14 +193,13 @@ fn over_limit(alloc: Global, plan: &Plan, script: &Script, limit: u64) -> Result
 }
 
 /// The reply to a command on a script that is within the limits, and the store that was found.
-fn reply_within<P: Parts, F: Fn(Cluster<P>, &[Event], u32) -> Finished<P>>(
+fn reply_within<R: Threads + Wait + Sync, P: Parts + Send, G: Gate + Sync>(
     alloc: Global,
-    way: &F,
+    runtime: &Runtime<'_, R, G>,
     plan: &Plan,
     script: &Script,
     found: Found<P>,
 ) -> Answered<P>
-    requires runs { IsRunner (F.IsAlwaysCallable way.now) parts_of (F.post way.now) }
     requires few { HasFew script.now.setup }
     requires within { IsWithinLimits script.now }
     ensures reply { IfOk result.reply (λ reply. TellsOf plan.now script.now reply.status reply.text) }
@@ -216,21 +207,20 @@ fn reply_within<P: Parts, F: Fn(Cluster<P>, &[Event], u32) -> Finished<P>>(
     ensures kept { (given : List P) → HasParts P.disks given found → WritesNothing plan.now.command result.reply → AreSame P.disks given result.parts.items }
 {
     match base_of(alloc, &script.setup, &found) {
-        Ok(Some(base)) => judged(alloc, way, plan, script, &base, found),
+        Ok(Some(base)) => judged(alloc, runtime, plan, script, &base, found),
         Ok(None) => unplayed(alloc, refused(alloc, Refusal::Setup), found.into_parts()),
         Err(NoMemory) => unplayed(alloc, Err(NoMemory), found.into_parts()),
     }
 }
 
 /// The reply to a command on a script that was read.
-fn reply_to<P: Parts, F: Fn(Cluster<P>, &[Event], u32) -> Finished<P>>(
+fn reply_to<R: Threads + Wait + Sync, P: Parts + Send, G: Gate + Sync>(
     alloc: Global,
-    way: &F,
+    runtime: &Runtime<'_, R, G>,
     plan: &Plan,
     script: &Script,
     parts: Vec<P>,
 ) -> Answered<P>
-    requires runs { IsRunner (F.IsAlwaysCallable way.now) parts_of (F.post way.now) }
     requires few { HasFew script.now.setup }
     ensures reply { IfOk result.reply (λ reply. TellsOf plan.now script.now reply.status reply.text) }
     ensures parts { vec_len result.parts ≡ vec_len parts }
@@ -243,46 +233,44 @@ fn reply_to<P: Parts, F: Fn(Cluster<P>, &[Event], u32) -> Finished<P>>(
         return untouched(alloc, limited(alloc, EVENT_LIMIT as u64), parts);
     }
     match Found::read(alloc, parts, plan.mob) {
-        Ok(found) => reply_found(alloc, way, plan, script, found),
+        Ok(found) => reply_found(alloc, runtime, plan, script, found),
         Err(ClusterFault { parts, why }) => unplayed(alloc, unopened(alloc, why), parts),
     }
 }
 
 /// The reply to a command on a script's bytes.
-fn reply_to_bytes<P: Parts, F: Fn(Cluster<P>, &[Event], u32) -> Finished<P>>(
+fn reply_to_bytes<R: Threads + Wait + Sync, P: Parts + Send, G: Gate + Sync>(
     alloc: Global,
-    way: &F,
+    runtime: &Runtime<'_, R, G>,
     plan: &Plan,
     bytes: &[u8],
     parts: Vec<P>,
 ) -> Answered<P>
-    requires runs { IsRunner (F.IsAlwaysCallable way.now) parts_of (F.post way.now) }
     ensures reply { IfOk result.reply (λ reply. Tells plan.now bytes.now reply.status reply.text) }
     ensures parts { vec_len result.parts ≡ vec_len parts }
     ensures kept { WritesNothing plan.now.command result.reply → AreSame P.disks parts.items result.parts.items }
 {
     match read_script(alloc, bytes) {
-        Ok(script) => reply_to(alloc, way, plan, &script, parts),
+        Ok(script) => reply_to(alloc, runtime, plan, &script, parts),
         Err(ReadError::Refused(refusal)) => untouched(alloc, refused(alloc, refusal), parts),
         Err(ReadError::NoMemory) => untouched(alloc, Err(NoMemory), parts),
     }
 }
 
 /// Reads the script and does what a plan asks for.
-fn read_and_reply<S: Source, P: Parts, F: Fn(Cluster<P>, &[Event], u32) -> Finished<P>>(
+fn read_and_reply<R: Threads + Wait + Sync, S: Source, P: Parts + Send, G: Gate + Sync>(
     alloc: Global,
-    way: &F,
+    runtime: &Runtime<'_, R, G>,
     plan: &Plan,
     source: &mut S,
     parts: Vec<P>,
 ) -> Answered<P>
-    requires runs { IsRunner (F.IsAlwaysCallable way.now) parts_of (F.post way.now) }
     ensures reply { IfOk result.reply (λ reply. SaysRead plan.now (record { left = S.left source.old; faults = S.faults source.old }) (record { left = S.left source.new; faults = S.faults source.new }) reply.status reply.text) }
     ensures parts { vec_len result.parts ≡ vec_len parts }
     ensures kept { WritesNothing plan.now.command result.reply → AreSame P.disks parts.items result.parts.items }
 {
     match read_all(alloc, source, SCRIPT_LIMIT) {
-        Ok(bytes) => reply_to_bytes(alloc, way, plan, bytes.as_slice(), parts),
+        Ok(bytes) => reply_to_bytes(alloc, runtime, plan, bytes.as_slice(), parts),
         Err(ReadAll::Failed) => {
             untouched(alloc, says(alloc, Status::SourceFault, b"source\n"), parts)
         }
@@ -302,100 +290,40 @@ fn generated(alloc: Global, n: u16, repos: u8) -> Result<String, NoMemory>
 }
 
 /// Does what a plan asks for with the generated script of a number.
-fn generate_and_reply<P: Parts, F: Fn(Cluster<P>, &[Event], u32) -> Finished<P>>(
+fn generate_and_reply<R: Threads + Wait + Sync, P: Parts + Send, G: Gate + Sync>(
     alloc: Global,
-    way: &F,
+    runtime: &Runtime<'_, R, G>,
     plan: &Plan,
     n: u16,
     parts: Vec<P>,
 ) -> Answered<P>
-    requires runs { IsRunner (F.IsAlwaysCallable way.now) parts_of (F.post way.now) }
     ensures reply { IfOk result.reply (λ reply. Tells plan.now (script_text n plan.now.repos) reply.status reply.text) }
     ensures parts { vec_len result.parts ≡ vec_len parts }
     ensures kept { WritesNothing plan.now.command result.reply → AreSame P.disks parts.items result.parts.items }
 {
     match generated(alloc, n, plan.repos) {
-        Ok(text) => reply_to_bytes(alloc, way, plan, text.as_bytes(), parts),
+        Ok(text) => reply_to_bytes(alloc, runtime, plan, text.as_bytes(), parts),
         Err(NoMemory) => untouched(alloc, Err(NoMemory), parts),
     }
 }
 
 /// Does what a plan asks for, with the script of the source or, where a number is given, with the generated one.
-fn reply_by_plan<S: Source, P: Parts, F: Fn(Cluster<P>, &[Event], u32) -> Finished<P>>(
+fn reply_by_plan<R: Threads + Wait + Sync, S: Source, P: Parts + Send, G: Gate + Sync>(
     alloc: Global,
-    way: &F,
+    runtime: &Runtime<'_, R, G>,
     plan: &Plan,
     source: &mut S,
     parts: Vec<P>,
 ) -> Answered<P>
-    requires runs { IsRunner (F.IsAlwaysCallable way.now) parts_of (F.post way.now) }
     ensures reply { IfOk result.reply (λ reply. SaysOf plan.now (record { left = S.left source.old; faults = S.faults source.old }) (record { left = S.left source.new; faults = S.faults source.new }) reply.status reply.text) }
     ensures parts { vec_len result.parts ≡ vec_len parts }
     ensures kept { WritesNothing plan.now.command result.reply → AreSame P.disks parts.items result.parts.items }
 {
     match plan.command {
         Command::Check | Command::Play | Command::Run => {
-            read_and_reply(alloc, way, plan, source, parts)
+            read_and_reply(alloc, runtime, plan, source, parts)
         }
-        Command::Gen { n } => generate_and_reply(alloc, way, plan, n, parts),
-    }
-}
-
-/// Does what a plan asks for, with clients that take turns.
-fn reply_in_turn<S: Source, P: Parts>(
-    alloc: Global,
-    plan: &Plan,
-    source: &mut S,
-    parts: Vec<P>,
-) -> Answered<P>
-    ensures reply { IfOk result.reply (λ reply. SaysOf plan.now (record { left = S.left source.old; faults = S.faults source.old }) (record { left = S.left source.new; faults = S.faults source.new }) reply.status reply.text) }
-    ensures parts { vec_len result.parts ≡ vec_len parts }
-    ensures kept { WritesNothing plan.now.command result.reply → AreSame P.disks parts.items result.parts.items }
-{
-    let way = |cluster: Cluster<P>, events: &[Event], _mob: u32| -> Finished<P>
-        ensures { vec_len result.parts ≡ parts_of cluster }
-    { run_in_turn(cluster, events) };
-    reply_by_plan(alloc, &way, plan, source, parts)
-}
-
-/// Does what a plan asks for, with a thread for each client.
-fn reply_on_threads<R: Threads + Wait + Sync, S: Source, P: Parts + Send, G: Gate + Sync>(
-    rt: &R,
-    alloc: Global,
-    gate: &G,
-    plan: &Plan,
-    source: &mut S,
-    parts: Vec<P>,
-) -> Answered<P>
-    ensures reply { IfOk result.reply (λ reply. SaysOf plan.now (record { left = S.left source.old; faults = S.faults source.old }) (record { left = S.left source.new; faults = S.faults source.new }) reply.status reply.text) }
-    ensures parts { vec_len result.parts ≡ vec_len parts }
-    ensures kept { WritesNothing plan.now.command result.reply → AreSame P.disks parts.items result.parts.items }
-{
-    let way = |cluster: Cluster<P>, events: &[Event], mob: u32| -> Finished<P>
-        requires { IsSync R.row × IsSend P.row × IsSync G.row }
-        ensures { vec_len result.parts ≡ parts_of cluster }
-    { run_clients(rt, alloc, cluster, events, mob, gate) };
-    reply_by_plan(alloc, &way, plan, source, parts)
-}
-
-/// Does what a plan asks for, on threads where it asks for that.
-fn reply_as_asked<R: Threads + Wait + Sync, S: Source, P: Parts + Send, G: Gate + Sync>(
-    rt: &R,
-    alloc: Global,
-    gate: &G,
-    plan: &Plan,
-    source: &mut S,
-    parts: Vec<P>,
-) -> Answered<P>
-    ensures reply { IfOk result.reply (λ reply. SaysOf plan.now (record { left = S.left source.old; faults = S.faults source.old }) (record { left = S.left source.new; faults = S.faults source.new }) reply.status reply.text) }
-    ensures parts { vec_len result.parts ≡ vec_len parts }
-    ensures kept { WritesNothing plan.now.command result.reply → AreSame P.disks parts.items result.parts.items }
-{
-    match plan.command {
-        Command::Run => reply_on_threads(rt, alloc, gate, plan, source, parts),
-        Command::Check | Command::Play | Command::Gen { n: _ } => {
-            reply_in_turn(alloc, plan, source, parts)
-        }
+        Command::Gen { n } => generate_and_reply(alloc, runtime, plan, n, parts),
     }
 }
 
@@ -416,7 +344,8 @@ fn answer<R: Threads + Wait + Sync, S: Source, P: Parts + Send, G: Gate + Sync>(
     match read_words(alloc, words) {
         Ok(plan) => {
             if usize::from(plan.repos) == parts.len() {
-                reply_as_asked(rt, alloc, gate, &plan, source, parts)
+                let runtime = Runtime { rt, gate };
+                reply_by_plan(alloc, &runtime, &plan, source, parts)
             } else {
                 untouched(alloc, says(alloc, Status::Words, b"words\n"), parts)
             }
