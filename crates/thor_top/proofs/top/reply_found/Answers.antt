@@ -1,7 +1,7 @@
 use Rattle.thor_top.proofs.top.reply_found.Goals as goal
 
 pub reply_within-requires-clause-within : goal.reply_within-requires-clause-within
-reply_within-requires-clause-within g c = c.passed_limit.ensures.within c.in-None.is
+reply_within-requires-clause-within g c κs within = c.passed_limit.ensures.within c.in-None.is
 
 pub returns-in-Some-clause-reply : goal.returns-in-Some-clause-reply
 returns-in-Some-clause-reply g c = rw c.unplayed.ensures.reply c.over_limit.ensures
