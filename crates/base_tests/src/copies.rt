@@ -79,6 +79,7 @@ const PAGES: &[Step] = &[
     Step::Number((0, 0, 0), Some(1)),
     // A write uses its page.
     Step::Write((0, 1, 0), 2),
+    Step::Evict((0, 1, 0)),
     Step::Write((0, 0, 0), 5),
     Step::Write((0, 2, 0), 6),
     Step::Evict((0, 2, 0)),
