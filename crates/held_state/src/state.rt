@@ -326,6 +326,7 @@ impl HeldState {
         ensures content { (P.disks parts.new).content 2 ≡ (P.disks parts.old).content 2 }
         ensures crash { NoNewImage (P.disks parts.old) (P.disks parts.new) 2 }
         ensures image { IfOk result (λ image. WhereTold (P.disks parts.old) 2 (λ disk. ShowsImage disk self.old.objects page image)) }
+        ensures number { IfOk result (λ image. image.number ≡ page) }
         ensures objects { IfOk result HasObjects }
         ensures held { self.new ≡ record self.old { objects = self.new.objects } }
         ensures said { said self.new ≡ said self.old }

@@ -5,6 +5,8 @@ ghost use Rattle.live_sessions.specs.Sessions.{is_live};
 ghost use Rattle.repo_core.specs.Behind.{Stands, is_marked, with_refusal};
 ghost use Rattle.session_outbox.specs.declared.mark.Mark.TheVariants.{Drew as Draws};
 ghost use Rattle.trace_record.specs.Recorded.{with_mark};
+ghost use Rattle.repo_core.specs.Refusing.{Leaves, StaysAsWas};
+ghost use Rattle.repo_core.specs.Calls.{DrawIsRefused};
 
 use crate::repo::Repo;
 use disk_trait::Parts;
@@ -29,7 +31,10 @@ impl<P: Parts> Repo<P> {
         ensures life { IfOk result (λ ts. ts.life ≡ self.old.held.life) }
         ensures drawn { IfOk result (λ ts. self.new.memory ≡ record self.old.memory { drawn = ts.time }) }
         ensures trace { IfOk result (λ ts. self.new.trace ≡ with_mark self.old.trace (Draws session ts)) }
+        ensures why { IfErr result (λ r. is_marked r ≡ true → DrawIsRefused self.old.memory session floor r) }
         ensures refused { IfErr result (λ r. self.new.trace ≡ with_refusal self.old.trace session None r) }
+        ensures left { IfErr result (Leaves self.old self.new None) }
+        ensures opened { self.new.opened_in ≡ self.old.opened_in }
     {
         self.check_up()?;
         match self.may_draw(session, floor) {
@@ -47,6 +52,9 @@ impl<P: Parts> Repo<P> {
         ensures live { OnOk result (is_live self.old.memory.sessions session ≡ true) }
         ensures time { IfOk result (λ time. (floor < time) × (self.old.memory.drawn < time) × (time < 2 ^ 62)) }
         ensures marked { IfErr result (λ r. is_marked r ≡ true) }
+        ensures why { IfErr result (DrawIsRefused self.old.memory session floor) }
+        ensures rests { StaysAsWas self.old self.new }
+        ensures opened { self.new.opened_in ≡ self.old.opened_in }
     {
         self.check_live(session)?;
         let now = self.stable.now();
@@ -67,6 +75,8 @@ impl<P: Parts> Repo<P> {
         ensures drawn { OnOk result (self.new.memory ≡ record self.old.memory { drawn = time }) }
         ensures trace { IfOk result (λ ts. self.new.trace ≡ with_mark self.old.trace (Draws session ts)) }
         ensures refused { IfErr result (λ r. (is_marked r ≡ false) × (self.new.trace ≡ self.old.trace)) }
+        ensures left { IfErr result (Leaves self.old self.new None) }
+        ensures opened { self.new.opened_in ≡ self.old.opened_in }
     {
         let ts = Ts {
             time,

@@ -1,6 +1,8 @@
 //! How an event begins and ends.
 
-ghost use Rattle.std.specs.Prelude.{◌≡◌, IfErr, Ok, OnErr, OnOk, false, true};
+ghost use Rattle.commit_log.specs.declared.entry.Entry.{Entry as AnEntry};
+ghost use Rattle.repo_core.specs.Refusing.{GoesDown, Leaves};
+ghost use Rattle.std.specs.Prelude.{◌≡◌, IfErr, Ok, OnErr, OnOk, Option, false, true};
 ghost use Rattle.live_sessions.specs.Sessions.{is_live};
 ghost use Rattle.trace_record.specs.Recorded.{with_mark};
 ghost use Rattle.validation_window.specs.declared.refusal.Refusal.TheVariants.{Down as IsDown, Gone as IsGone, NoMemory as IsNoMemory};
@@ -17,6 +19,7 @@ impl<P: Parts> Repo<P> {
         ensures up { OnOk result (self.now.is_up ≡ true) }
         ensures down { OnErr result (self.now.is_up ≡ false) }
         ensures refusal { IfErr result (λ r. r ≡ IsDown self.now.held.repo) }
+        ensures left { IfErr result (λ r. (e : Option AnEntry) → Leaves self.now self.now e r) }
     {
         if self.stable.is_up() {
             Ok(())
@@ -31,6 +34,8 @@ impl<P: Parts> Repo<P> {
     pub(crate) fn check_live(&self, session: u32) -> Result<(), Refusal>
         ensures live { OnOk result (is_live self.now.memory.sessions session ≡ true) }
         ensures refusal { IfErr result (λ r. r ≡ IsGone session) }
+        ensures gone { OnErr result (is_live self.now.memory.sessions session ≡ false) }
+        ensures left { IfErr result (λ r. (e : Option AnEntry) → Leaves self.now self.now e r) }
     {
         if self.memory.sessions().is_live(session) {
             Ok(())
@@ -51,6 +56,8 @@ impl<P: Parts> Repo<P> {
         ensures refused { OnErr result (self.new.trace ≡ self.old.trace) }
         ensures held { self.new.held ≡ self.old.held }
         ensures memory { self.new.memory ≡ self.old.memory }
+        ensures left { OnErr result ((e : Option AnEntry) → GoesDown self.old self.new e) }
+        ensures opened { self.new.opened_in ≡ self.old.opened_in }
     {
         let marked = match happened {
             Ok(()) => self.trace.put_mark(mark),

@@ -1,10 +1,12 @@
 //! A client asks for a page.
 
-ghost use Rattle.std.specs.Prelude.{◌≡◌, OnErr, OnOk, true};
+ghost use Rattle.std.specs.Prelude.{◌≡◌, OnErr, OnOk, true, IfErr, None, length};
 ghost use Rattle.live_sessions.specs.Sessions.{is_live};
 ghost use Rattle.repo_core.specs.Behind.{MovesObjects, Stands};
 ghost use Rattle.session_outbox.specs.declared.mark.Mark.TheVariants.{Fetched as Fetches};
 ghost use Rattle.trace_record.specs.Recorded.{with_mark};
+ghost use Rattle.repo_core.specs.Refusing.{Leaves};
+ghost use Rattle.repo_core.specs.Telling.{SendsPage};
 
 use crate::repo::Repo;
 use disk_trait::Parts;
@@ -18,8 +20,11 @@ impl<P: Parts> Repo<P> {
         ensures stands { Stands self.old.is_up result self.new.is_up }
         ensures live { OnOk result (is_live self.old.memory.sessions session ≡ true) }
         ensures held { MovesObjects self.old.held self.new.held }
+        ensures sent { OnOk result (SendsPage self.old.memory session page upto (length self.old.trace.history) self.new.memory) }
         ensures trace { OnOk result (self.new.trace ≡ with_mark self.old.trace (Fetches session page upto)) }
         ensures refused { OnErr result (self.new.trace ≡ self.old.trace) }
+        ensures left { IfErr result (Leaves self.old self.new None) }
+        ensures opened { self.new.opened_in ≡ self.old.opened_in }
     {
         self.check_up()?;
         self.check_live(session)?;

@@ -1,7 +1,8 @@
 //! A page is flushed.
 
-ghost use Rattle.std.specs.Prelude.{◌≡◌};
+ghost use Rattle.std.specs.Prelude.{◌≡◌, IfErr};
 ghost use Rattle.repo_core.specs.Behind.{MovesObjects, Stands};
+ghost use Rattle.repo_core.specs.Refusing.{Rests};
 
 use crate::repo::Repo;
 use disk_trait::Parts;
@@ -16,6 +17,8 @@ impl<P: Parts> Repo<P> {
         ensures held { MovesObjects self.old.held self.new.held }
         ensures memory { self.new.memory ≡ self.old.memory }
         ensures trace { self.new.trace ≡ self.old.trace }
+        ensures rests { IfErr result (Rests self.old self.new) }
+        ensures opened { self.new.opened_in ≡ self.old.opened_in }
     {
         self.stable.flush_page()
     }

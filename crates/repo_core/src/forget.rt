@@ -1,9 +1,10 @@
 //! A coordinator forgets a decision.
 
-ghost use Rattle.std.specs.Prelude.{◌≡◌, OnErr, OnOk};
+ghost use Rattle.std.specs.Prelude.{◌≡◌, OnErr, OnOk, IfErr, None};
 ghost use Rattle.repo_core.specs.Behind.{Stands, forgotten};
 ghost use Rattle.session_outbox.specs.declared.mark.Mark.TheVariants.{Forgot as Forgets};
 ghost use Rattle.trace_record.specs.Recorded.{with_mark};
+ghost use Rattle.repo_core.specs.Refusing.{Leaves};
 
 use crate::repo::Repo;
 use disk_trait::Parts;
@@ -21,6 +22,8 @@ impl<P: Parts> Repo<P> {
         ensures kept { OnErr result (self.new.held ≡ self.old.held) }
         ensures trace { OnOk result (self.new.trace ≡ with_mark self.old.trace (Forgets tx)) }
         ensures refused { OnErr result (self.new.trace ≡ self.old.trace) }
+        ensures left { IfErr result (Leaves self.old self.new None) }
+        ensures opened { self.new.opened_in ≡ self.old.opened_in }
     {
         self.check_up()?;
         self.mark(Ok(()), Mark::Forgot { tx })?;

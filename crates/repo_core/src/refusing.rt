@@ -1,13 +1,16 @@
 //! How draws, grants and requests are refused.
 
 ghost use Rattle.std.specs.Map.{keys_of};
-ghost use Rattle.std.specs.Prelude.{◌≡◌, IfErr, None, OnOk, cond, false, true};
+ghost use Rattle.commit_log.specs.declared.entry.Entry.{Entry as AnEntry};
+ghost use Rattle.repo_core.specs.Refusing.{Leaves};
+ghost use Rattle.std.specs.Prelude.{◌≡◌, IfErr, None, OnOk, Option, cond, false, true};
 ghost use Rattle.repo_core.specs.Behind.{epoch_of, is_marked, with_refusal};
 ghost use Rattle.commit_log.specs.RequestForm.{RequestFits};
 ghost use Rattle.stable_store.specs.Kept.{is_fault};
 ghost use Rattle.validation_queue.specs.Clashes.{clash};
 ghost use Rattle.validation_queue.specs.Names.{IsInOrder};
-ghost use Rattle.volatile_state.specs.Volatile.{transaction_of, verdict};
+ghost use Rattle.volatile_state.specs.Volatile.{transaction_of, verdict, answer};
+ghost use Rattle.repo_core.specs.Calls.{judged};
 
 use crate::repo::Repo;
 use commit_log::Request;
@@ -30,6 +33,8 @@ impl<P: Parts> Repo<P> {
         ensures held { self.new.held ≡ self.old.held }
         ensures memory { self.new.memory ≡ self.old.memory }
         ensures trace { self.new.trace ≡ with_refusal self.old.trace session request result }
+        ensures left { (e : Option AnEntry) → Leaves self.old self.new e result }
+        ensures opened { self.new.opened_in ≡ self.old.opened_in }
     {
         let mark = Mark::Refused {
             session,
@@ -51,6 +56,7 @@ impl<P: Parts> Repo<P> {
         ensures accepted { OnOk result (clash self.now.memory.queue (transaction_of request.now) ≡ None) }
         ensures nothing { OnOk result (verdict self.now.memory (epoch_of self.now.held) session request.now ≡ None) }
         ensures marked { IfErr result (λ r. is_marked r ≡ true) }
+        ensures answer { result ≡ answer (judged self.now.held self.now.memory session request.now) }
     {
         self.memory.judge(session, request, self.epoch())?;
         self.check_room(&request.writes)

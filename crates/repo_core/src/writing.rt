@@ -1,11 +1,11 @@
 //! How an entry is written: into the log, then into what is held in memory, then into the trace.
 
-ghost use Rattle.std.specs.Prelude.{◌≡◌, IfErr, IfOk, IsTrue, Ok, OnErr, OnOk, cond, false, length, nat_eq, true, ℕ};
+ghost use Rattle.std.specs.Prelude.{◌≡◌, IfErr, IfOk, IsTrue, Ok, OnErr, OnOk, cond, false, length, nat_eq, true, ℕ, Some};
 ghost use Rattle.commit_log.specs.declared.request.Request.{Request as ARequest};
 ghost use Rattle.commit_log.specs.declared.entry.Entry.TheVariants.{Life as ALife, Prepared as Prepares};
 ghost use Rattle.held_state.specs.Entering.{can_enter, entered};
 ghost use Rattle.held_state.specs.Keeps.{TableFits};
-ghost use Rattle.live_sessions.specs.Sessions.{ended};
+ghost use Rattle.live_sessions.specs.Sessions.{ended, acknowledged};
 ghost use Rattle.log_bytes.specs.Grammar.{BodyFits};
 ghost use Rattle.log_bytes.specs.declared.body.Body.TheVariants.{Entry as AnEntry};
 ghost use Rattle.repo_core.specs.Behind.{Stands, is_marked};
@@ -17,7 +17,11 @@ ghost use Rattle.thor_value.specs.declared.names.Ts.{Ts as ATs};
 ghost use Rattle.trace_record.specs.Recorded.{with_entry};
 ghost use Rattle.two_phase.specs.Contents.{open_at};
 ghost use Rattle.validation_queue.specs.Contents.{cleared, with_one};
-ghost use Rattle.volatile_state.specs.Volatile.{entered as entered_memory, transaction_of};
+ghost use Rattle.volatile_state.specs.Volatile.{entered as entered_memory, transaction_of, Outlasts};
+ghost use Rattle.repo_core.specs.Refusing.{GoesDown};
+ghost use Rattle.repo_core.specs.Telling.{Tells, TellsDecided};
+ghost use Rattle.volatile_state.specs.Telling.{CommitTold};
+ghost use Rattle.repository_laws.specs.Running.{came_with};
 
 use crate::repo::Repo;
 use commit_log::{Entry, Request};
@@ -41,8 +45,11 @@ impl<P: Parts> Repo<P> {
         ensures ended { (n : ℕ) → entry ≡ ALife n → OnOk result (self.new.memory.sessions ≡ ended self.old.memory.sessions) }
         ensures memory { (q : ARequest) → entry ≡ Prepares q → OnOk result (self.new.memory ≡ entered_memory self.old.memory q false) }
         ensures moves { IsTold self.old.memory entry → OnOk result (Moves self.old.held self.old.memory entry self.new.memory) }
+        ensures tells { OnOk result (Tells self.old.held self.old.memory.sessions (length self.old.trace.history) entry self.new.memory.sessions) }
         ensures trace { OnOk result (self.new.trace ≡ with_entry self.old.trace entry) }
         ensures refused { OnErr result (self.new.trace ≡ self.old.trace) }
+        ensures left { OnErr result (GoesDown self.old self.new (Some entry)) }
+        ensures opened { self.new.opened_in ≡ self.old.opened_in }
     {
         if self.trace.reserve().is_err() {
             self.stable.take_down();
@@ -71,6 +78,8 @@ impl<P: Parts> Repo<P> {
         ensures memory { self.new.memory ≡ self.old.memory }
         ensures trace { OnOk result (self.new.trace ≡ with_entry self.old.trace entry) }
         ensures refused { OnErr result (self.new.trace ≡ self.old.trace) }
+        ensures left { OnErr result (GoesDown self.old self.new (Some entry)) }
+        ensures opened { self.new.opened_in ≡ self.old.opened_in }
     {
         if told.is_err() {
             self.stable.pend(entry);
@@ -99,6 +108,9 @@ impl<P: Parts> Repo<P> {
         ensures ended { (n : ℕ) → entry.now ≡ ALife n → OnOk result (self.new.memory.sessions ≡ ended self.old.memory.sessions) }
         ensures prepared { (q : ARequest) → entry.now ≡ Prepares q → OnOk result (self.new.memory ≡ entered_memory self.old.memory q false) }
         ensures moves { IsTold self.old.memory entry.now → OnOk result (Moves self.old.held self.old.memory entry.now self.new.memory) }
+        ensures tells { OnOk result (Tells self.old.held self.old.memory.sessions (length self.old.trace.history) entry.now self.new.memory.sessions) }
+        ensures lasts { Outlasts self.old.memory self.new.memory }
+        ensures opened { self.new.opened_in ≡ self.old.opened_in }
     {
         let place = self.trace.place();
         let number = self.epoch().saturating_add(1);
@@ -121,6 +133,9 @@ impl<P: Parts> Repo<P> {
         ensures held { self.new.held ≡ self.old.held }
         ensures trace { self.new.trace ≡ self.old.trace }
         ensures moves { OnOk result (Becomes self.new.memory (alone_queue self.old.memory.queue request.now) (add self.old.memory.requested request.now.tx) self.old.memory.drawn) }
+        ensures news { OnOk result (CommitTold (acknowledged self.old.memory.sessions request.now.session request.now.upto) self.new.memory.sessions request.now number place) }
+        ensures lasts { Outlasts self.old.memory self.new.memory }
+        ensures opened { self.new.opened_in ≡ self.old.opened_in }
     {
         self.memory.enter(request, true)?;
         self.memory.tell(request, number, place)
@@ -138,6 +153,9 @@ impl<P: Parts> Repo<P> {
         ensures held { self.new.held ≡ self.old.held }
         ensures trace { self.new.trace ≡ self.old.trace }
         ensures moves { has self.old.memory.queue.members tx ≡ true → OnOk result (Becomes self.new.memory (decided_queue self.old.memory.queue tx commit (open_at self.old.held.table tx)) self.old.memory.requested self.old.memory.drawn) }
+        ensures news { OnOk result (TellsDecided self.old.memory.sessions self.new.memory.sessions number place commit (open_at self.old.held.table tx)) }
+        ensures lasts { Outlasts self.old.memory self.new.memory }
+        ensures opened { self.new.opened_in ≡ self.old.opened_in }
     {
         self.memory.decide(tx, commit);
         match self.stable.held().table().open_request(tx) {
@@ -152,9 +170,11 @@ impl<P: Parts> Repo<P> {
         requires { self.old.is_up ≡ true }
         ensures begins { OnOk result (BeginsLife self.old.held self.old.memory self.new.memory) }
         ensures ended { OnOk result (self.new.memory.sessions ≡ ended self.old.memory.sessions) }
+        ensures lasts { Outlasts self.old.memory self.new.memory }
         ensures up { self.new.is_up ≡ self.old.is_up }
         ensures held { self.new.held ≡ self.old.held }
         ensures trace { self.new.trace ≡ self.old.trace }
+        ensures opened { self.new.opened_in ≡ self.old.opened_in }
     {
         let repo = self.stable.repo();
         self.memory.begin(self.stable.held().threshold())?;
@@ -164,6 +184,9 @@ impl<P: Parts> Repo<P> {
     /// Notes the transaction of a pending entry, which the disks have, before the next life.
     pub(crate) fn note(&mut self, entry: &Entry) -> Result<(), NoMemory>
         ensures sessions { self.new.memory.sessions ≡ self.old.memory.sessions }
+        ensures requested { OnOk result (self.new.memory.requested ≡ came_with self.old.memory.requested entry.now) }
+        ensures lasts { Outlasts self.old.memory self.new.memory }
+        ensures opened { self.new.opened_in ≡ self.old.opened_in }
         ensures up { self.new.is_up ≡ self.old.is_up }
         ensures held { self.new.held ≡ self.old.held }
         ensures trace { self.new.trace ≡ self.old.trace }

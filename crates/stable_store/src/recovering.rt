@@ -3,7 +3,8 @@
 ghost use Rattle.std.specs.Prelude.{◌≡◌, IfErr, IfOk, OnErr, OnOk, false, true};
 ghost use Rattle.held_state.specs.Keeps.{Keeps};
 ghost use Rattle.log_bytes.specs.declared.state.State.{State};
-ghost use Rattle.stable_store.specs.Kept.{IsKept, IsOpen, IsResting, disks_of, held_of, is_fault, is_up, pending};
+ghost use Rattle.stable_store.specs.Kept.{IsKept, IsOpen, IsResting, disks_of, held_of, is_fault, is_torn, is_up, lowered, pending};
+ghost use Rattle.stable_store.specs.declared.stable.Phase.TheVariants.{Down as IsDown};
 ghost use Rattle.stable_store.specs.Taking.{AgreesWhere, CanTake, TakesFrom};
 ghost use Rattle.state_log.specs.Holds.{Holds};
 
@@ -76,6 +77,8 @@ impl<P: Parts> Stable<P> {
         ensures held { OnOk result (held_of self.new ≡ record (held_of self.old) { objects = (held_of self.new).objects }) }
         ensures pending { IfOk result (TakesFrom (pending self.old)) }
         ensures rests { OnErr result (held_of self.new ≡ held_of self.old) }
+        ensures stays { OnErr result (self.new.phase ≡ lowered self.old.phase) }
+        ensures whole { OnOk result (is_torn self.old ≡ false) }
     {
         self.parts.disarm();
         self.take_down();
@@ -150,6 +153,7 @@ impl<P: Parts> Stable<P> {
         ensures held { OnOk result (held_of self.new ≡ record (held_of self.old) { objects = (held_of self.new).objects }) }
         ensures pending { IfOk result (TakesFrom pending) }
         ensures rests { OnErr result (held_of self.new ≡ held_of self.old) }
+        ensures stays { OnErr result (self.new.phase ≡ IsDown pending) }
     {
         let Recovered { state, log, .. } = recovered;
         let agrees = compare(&self.held, pending.as_ref(), &state);
