@@ -5,32 +5,18 @@ use Rattle.held_state.specs.Entering.{entered}
 use Rattle.held_state.specs.declared.held.Held.{Held}
 use Rattle.live_sessions.specs.Sessions.{ended, no_sessions}
 use Rattle.repo_core.specs.Behind.{MovesObjects}
-use Rattle.repo_core.specs.Refusing.{GoesDown}
+use Rattle.repo_core.specs.Refusing.{GoesDown, Moved}
 use Rattle.repo_core.specs.Shown.{Shown}
 use Rattle.repository_laws.specs.Coming.{BeginsLife}
-use Rattle.repository_laws.specs.Running.{came_with}
+use Rattle.repository_laws.specs.Running.{held_with, recorded_with, requested_with}
 use Rattle.std.specs.Option.{IfSome}
-use Rattle.std.specs.Prelude.{None, Option, Some, false, true, ℕ, ◌+◌, ◌<◌, ◌≡◌, ◌≤◌, ◌⊎◌}
-use Rattle.thor_value.specs.FiniteMap.{IsSorted, Set, empty, get, has}
-use Rattle.thor_value.specs.Names.{ts_cmp}
+use Rattle.std.specs.Prelude.{None, Option, Some, false, ℕ, ◌+◌, ◌≡◌, ◌≤◌, ◌⊎◌}
+use Rattle.thor_value.specs.FiniteMap.{IsSorted, empty, get, has}
 use Rattle.thor_value.specs.declared.names.Ts.{Ts}
-use Rattle.trace_record.specs.Recorded.{Recorded, with_entry}
+use Rattle.trace_record.specs.Recorded.{with_entry}
 use Rattle.two_phase.specs.Contents.{Contents, keeps, open_at}
 use Rattle.validation_queue.specs.Contents.{cleared}
 use Rattle.volatile_state.specs.Volatile.{Memory, Outlasts}
-
--- with the pending entry, where it is taken
-abbrev pub held_with : Held → Option Entry → Held
-held_with h None = h
-held_with h (Some e) = entered h e
-
-abbrev pub recorded_with : Recorded → Option Entry → Recorded
-recorded_with r None = r
-recorded_with r (Some e) = with_entry r e
-
-abbrev pub requested_with : Set ts_cmp → Option Entry → Set ts_cmp
-requested_with m None = m
-requested_with m (Some e) = came_with m e
 
 -- The disks agree with what is held, or with that and the entry that was pending: this one is taken. The transactions that
 -- came count as such, that of the entry among them.
@@ -44,6 +30,8 @@ pub record Takes (old new : Shown) : Type 0 where
   pub trace : new.trace ≡ recorded_with old.trace taken
   pub requested : new.memory.requested ≡ requested_with old.memory.requested taken
   pub sessions : new.memory.sessions ≡ old.memory.sessions
+  pub limit : new.held.objects.mob.limit ≡ old.held.objects.mob.limit
+  pub sorted : IsSorted new.held.table.transactions
 
 -- Of the decisions that are kept those of lives before this one may go.
 pub record LetsGo (life : ℕ) (old new : Contents) : Type 0 where
@@ -81,7 +69,7 @@ pub record ComesUp (old new : Shown) : Type 0 where
 -- nothing was taken
 pub record TakesNone (old new : Shown) : Type 0 where
   pub torn : new.is_torn ≡ false → old.is_torn ≡ false
-  pub held : new.is_torn ≡ false → MovesObjects old.held new.held
+  pub held : new.is_torn ≡ false → Moved old new
   pub memory : Outlasts old.memory new.memory
   pub pending : new.is_torn ≡ false → (new.pending ≡ None) ⊎ ((old.is_up ≡ false) × (new.pending ≡ old.pending))
   pub trace : new.trace ≡ old.trace

@@ -1,25 +1,18 @@
 -- What sessions are told of entries and pages.
 use Rattle.commit_log.specs.declared.entry.Entry.TheVariants.{Decided, Finished, Life, One, Prepared, Upgraded}
 use Rattle.commit_log.specs.declared.entry.Entry.{Entry}
-use Rattle.commit_log.specs.declared.request.Request.{Request}
 use Rattle.held_state.specs.declared.held.Held.{Held}
 use Rattle.live_sessions.specs.Sessions.{Kept, acknowledged, ended, sent}
 use Rattle.message_outbox.specs.declared.message.Message.TheVariants.{Page}
 use Rattle.repo_core.specs.Behind.{epoch_of}
-use Rattle.std.specs.Prelude.{Bool, List, None, Option, Some, false, min, true, ℕ, ◌+◌, ◌-◌, ◌^◌, ◌≡◌}
+use Rattle.std.specs.Prelude.{List, min, ℕ, ◌+◌, ◌-◌, ◌^◌, ◌≡◌}
 use Rattle.two_phase.specs.Contents.{open_at}
-use Rattle.volatile_state.specs.Telling.{CommitTold}
+use Rattle.volatile_state.specs.Telling.{CommitTold, TellsDecided}
 use Rattle.volatile_state.specs.Volatile.{Memory}
 
 -- the number of the upgrade that is installed next, in a count that stays at 2 ^ 32 - 1
 abbrev pub next_epoch : Held → ℕ
 next_epoch h = min (epoch_of h + 1) (2 ^ 32 - 1)
-
--- sessions are told of a transaction that commits, of which this request is open
-abbrev pub TellsDecided : Kept → Kept → ℕ → ℕ → Bool → Option Request → Type 0
-TellsDecided before after number place false o = after ≡ before
-TellsDecided before after number place true None = after ≡ before
-TellsDecided before after number place true (Some q) = CommitTold before after q number place
 
 -- What sessions are told of an entry at a place, where h is held before it. Its client knows what it acknowledges.
 abbrev pub Tells : Held → Kept → ℕ → Entry → Kept → Type 0

@@ -6,7 +6,7 @@ ghost use Rattle.repo_core.specs.Calls.{MayRequest, judged};
 ghost use Rattle.repository_laws.specs.Coming.{Moves};
 ghost use Rattle.trace_record.specs.Recorded.{with_entry};
 ghost use Rattle.volatile_state.specs.Volatile.{verdict};
-ghost use Rattle.repo_core.specs.Refusing.{Leaves};
+ghost use Rattle.repo_core.specs.Refusing.{Leaves, made_of};
 ghost use Rattle.repo_core.specs.Telling.{Tells};
 
 use crate::repo::Repo;
@@ -22,14 +22,15 @@ impl<P: Parts> Repo<P> {
         ensures stands { Stands self.old.is_up result self.new.is_up }
         ensures accepted { OnOk result (verdict self.old.memory (epoch_of self.old.held) session request ≡ None) }
         ensures judged { OnOk result (judged self.old.held self.old.memory session request ≡ None) }
-        ensures why { IfErr result (λ r. is_marked r ≡ true → judged self.old.held self.old.memory session request ≡ Some r) }
+        ensures why { IfErr result (λ r. is_marked r ≡ true → (self.old.is_up ≡ true) × (judged self.old.held self.old.memory session request ≡ Some r)) }
         ensures place { IfOk result (λ place. place ≡ length self.old.trace.history) }
         ensures held { OnOk result (HasMoved self.old.held (alone_entry request.kind request) self.new.held) }
+        ensures limit { OnOk result (self.new.held.objects.mob.limit ≡ self.old.held.objects.mob.limit) }
         ensures memory { OnOk result (Moves self.old.held self.old.memory (alone_entry request.kind request) self.new.memory) }
         ensures tells { OnOk result (Tells self.old.held self.old.memory.sessions (length self.old.trace.history) (alone_entry request.kind request) self.new.memory.sessions) }
         ensures trace { OnOk result (self.new.trace ≡ with_entry self.old.trace (alone_entry request.kind request)) }
         ensures refused { IfErr result (λ r. self.new.trace ≡ with_refusal self.old.trace session (Some request) r) }
-        ensures left { IfErr result (Leaves self.old self.new (Some (alone_entry request.kind request))) }
+        ensures left { IfErr result (Leaves self.old self.new (made_of (judged self.old.held self.old.memory session request) (alone_entry request.kind request))) }
         ensures opened { self.new.opened_in ≡ self.old.opened_in }
     {
         self.check_up()?;

@@ -31,7 +31,7 @@ impl<P: Parts> Repo<P> {
         ensures life { IfOk result (λ ts. ts.life ≡ self.old.held.life) }
         ensures drawn { IfOk result (λ ts. self.new.memory ≡ record self.old.memory { drawn = ts.time }) }
         ensures trace { IfOk result (λ ts. self.new.trace ≡ with_mark self.old.trace (Draws session ts)) }
-        ensures why { IfErr result (λ r. is_marked r ≡ true → DrawIsRefused self.old.memory session floor r) }
+        ensures why { IfErr result (λ r. is_marked r ≡ true → (self.old.is_up ≡ true) × DrawIsRefused self.old.memory session floor r) }
         ensures refused { IfErr result (λ r. self.new.trace ≡ with_refusal self.old.trace session None r) }
         ensures left { IfErr result (Leaves self.old self.new None) }
         ensures opened { self.new.opened_in ≡ self.old.opened_in }

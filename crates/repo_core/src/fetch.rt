@@ -21,6 +21,7 @@ impl<P: Parts> Repo<P> {
         ensures live { OnOk result (is_live self.old.memory.sessions session ≡ true) }
         ensures held { MovesObjects self.old.held self.new.held }
         ensures sent { OnOk result (SendsPage self.old.memory session page upto (length self.old.trace.history) self.new.memory) }
+        ensures limit { self.new.held.objects.mob.limit ≡ self.old.held.objects.mob.limit }
         ensures trace { OnOk result (self.new.trace ≡ with_mark self.old.trace (Fetches session page upto)) }
         ensures refused { OnErr result (self.new.trace ≡ self.old.trace) }
         ensures left { IfErr result (Leaves self.old self.new None) }

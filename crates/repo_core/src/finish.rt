@@ -24,13 +24,14 @@ impl<P: Parts> Repo<P> {
     pub fn finish(&mut self, verdict: &Verdict) -> Result<Option<u64>, Refusal>
         ensures stands { Stands self.old.is_up result self.new.is_up }
         ensures held { OnOk result (is_some (open_at self.old.held.table verdict.now.tx) ≡ true → HasMoved self.old.held (Finishes verdict.now.tx verdict.now.commit) self.new.held) }
+        ensures limit { OnOk result (self.new.held.objects.mob.limit ≡ self.old.held.objects.mob.limit) }
         ensures memory { is_some (open_at self.old.held.table verdict.now.tx) ≡ true → has self.old.memory.queue.members verdict.now.tx ≡ true → OnOk result (Moves self.old.held self.old.memory (Finishes verdict.now.tx verdict.now.commit) self.new.memory) }
         ensures tells { is_some (open_at self.old.held.table verdict.now.tx) ≡ true → OnOk result (Tells self.old.held self.old.memory.sessions (length self.old.trace.history) (Finishes verdict.now.tx verdict.now.commit) self.new.memory.sessions) }
         ensures same { is_some (open_at self.old.held.table verdict.now.tx) ≡ false → OnOk result (self.new ≡ self.old) }
         ensures place { IfOk result (λ place. place ≡ cond (is_some (open_at self.old.held.table verdict.now.tx)) (Some (length self.old.trace.history)) None) }
         ensures trace { OnOk result (self.new.trace ≡ cond (is_some (open_at self.old.held.table verdict.now.tx)) (with_entry self.old.trace (Finishes verdict.now.tx verdict.now.commit)) self.old.trace) }
         ensures refused { OnErr result (self.new.trace ≡ self.old.trace) }
-        ensures left { IfErr result (Leaves self.old self.new (Some (Finishes verdict.now.tx verdict.now.commit))) }
+        ensures left { IfErr result (Leaves self.old self.new (cond (is_some (open_at self.old.held.table verdict.now.tx)) (Some (Finishes verdict.now.tx verdict.now.commit)) None)) }
         ensures opened { self.new.opened_in ≡ self.old.opened_in }
     {
         self.check_up()?;

@@ -16,6 +16,7 @@ impl<P: Parts> Repo<P> {
         ensures stands { Stands self.old.is_up result self.new.is_up }
         ensures held { MovesObjects self.old.held self.new.held }
         ensures memory { self.new.memory ≡ self.old.memory }
+        ensures limit { self.new.held.objects.mob.limit ≡ self.old.held.objects.mob.limit }
         ensures trace { self.new.trace ≡ self.old.trace }
         ensures rests { IfErr result (Rests self.old self.new) }
         ensures opened { self.new.opened_in ≡ self.old.opened_in }

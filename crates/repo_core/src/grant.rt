@@ -27,7 +27,7 @@ impl<P: Parts> Repo<P> {
         ensures below { OnOk result (self.old.held.next_grant < 65536) }
         ensures sent { OnOk result (self.new.memory ≡ record self.old.memory { sessions = sent self.old.memory.sessions session self.old.held.next_grant (AGrant self.old.held.next_grant (length self.old.trace.history)) }) }
         ensures trace { OnOk result (self.new.trace ≡ with_mark self.old.trace (Grants session self.old.held.next_grant)) }
-        ensures why { IfErr result (λ r. is_marked r ≡ true → GrantIsRefused self.old.held self.old.memory session r) }
+        ensures why { IfErr result (λ r. is_marked r ≡ true → (self.old.is_up ≡ true) × GrantIsRefused self.old.held self.old.memory session r) }
         ensures refused { IfErr result (λ r. self.new.trace ≡ with_refusal self.old.trace session None r) }
         ensures left { IfErr result (Leaves self.old self.new None) }
         ensures opened { self.new.opened_in ≡ self.old.opened_in }

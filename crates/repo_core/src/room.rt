@@ -74,6 +74,7 @@ fn make_room<P: Parts>(stable: &mut Stable<P>, writes: &Writes) -> Result<(), Re
     ensures stands { Stands true result (is_up stable.new) }
     ensures fault { IfErr result (λ r. (is_fault r ≡ true) × (is_marked r ≡ false)) }
     ensures held { MovesObjects (held_of stable.old) (held_of stable.new) }
+    ensures limit { (held_of stable.new).objects.mob.limit ≡ (held_of stable.old).objects.mob.limit }
     ensures rests { OnErr result (RestsWith None stable.new) }
 {
     for _ in 0..u32::MAX {
@@ -94,6 +95,7 @@ fn make_room_for<P: Parts>(stable: &mut Stable<P>, tx: Ts) -> Result<(), Refusal
     ensures stands { Stands true result (is_up stable.new) }
     ensures fault { IfErr result (λ r. (is_fault r ≡ true) × (is_marked r ≡ false)) }
     ensures held { MovesObjects (held_of stable.old) (held_of stable.new) }
+    ensures limit { (held_of stable.new).objects.mob.limit ≡ (held_of stable.old).objects.mob.limit }
     ensures rests { OnErr result (RestsWith None stable.new) }
 {
     for _ in 0..u32::MAX {

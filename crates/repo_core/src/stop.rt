@@ -12,6 +12,7 @@ impl<P: Parts> Repo<P> {
         ensures up { self.new.is_up ≡ cond (nat_eq calls 0) false self.old.is_up }
         ensures pending { self.old.is_up ≡ false → self.new.pending ≡ self.old.pending }
         ensures none { self.old.is_up ≡ true → self.new.pending ≡ None }
+        ensures whole { self.old.is_up ≡ true → self.new.is_torn ≡ false }
         ensures torn { self.new.is_torn ≡ self.old.is_torn }
         ensures opened { self.new.opened_in ≡ self.old.opened_in }
         ensures held { self.new.held ≡ self.old.held }

@@ -19,8 +19,8 @@ ghost use Rattle.two_phase.specs.Contents.{open_at};
 ghost use Rattle.validation_queue.specs.Contents.{cleared, with_one};
 ghost use Rattle.volatile_state.specs.Volatile.{entered as entered_memory, transaction_of, Outlasts};
 ghost use Rattle.repo_core.specs.Refusing.{GoesDown};
-ghost use Rattle.repo_core.specs.Telling.{Tells, TellsDecided};
-ghost use Rattle.volatile_state.specs.Telling.{CommitTold};
+ghost use Rattle.repo_core.specs.Telling.{Tells};
+ghost use Rattle.volatile_state.specs.Telling.{CommitTold, TellsDecided};
 ghost use Rattle.repository_laws.specs.Running.{came_with};
 
 use crate::repo::Repo;
@@ -42,6 +42,7 @@ impl<P: Parts> Repo<P> {
         ensures fault { IfErr result (λ r. (is_fault r ≡ true) × (is_marked r ≡ false)) }
         ensures place { IfOk result (λ place. place ≡ length self.old.trace.history) }
         ensures held { OnOk result (self.new.held ≡ entered self.old.held entry) }
+        ensures limit { OnOk result (self.new.held.objects.mob.limit ≡ self.old.held.objects.mob.limit) }
         ensures ended { (n : ℕ) → entry ≡ ALife n → OnOk result (self.new.memory.sessions ≡ ended self.old.memory.sessions) }
         ensures memory { (q : ARequest) → entry ≡ Prepares q → OnOk result (self.new.memory ≡ entered_memory self.old.memory q false) }
         ensures moves { IsTold self.old.memory entry → OnOk result (Moves self.old.held self.old.memory entry self.new.memory) }

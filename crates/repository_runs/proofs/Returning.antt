@@ -10,7 +10,8 @@ use Rattle.repository_runs.proofs.Falling.{Rests, down-right, life-begins, life-
 use Rattle.repository_runs.proofs.Next.{held-next, moved-held, moved-next}
 use Rattle.repository_runs.proofs.Recording.{behind-entry}
 use Rattle.repository_runs.specs.Happening.{MovesObjects}
-use Rattle.repository_runs.specs.Restarting.{ComesUp, FailsBehind, MayTake, Recovers, StaysPending, TakesNone, held_with, life_behind, recorded_with, requested_with}
+use Rattle.repository_laws.specs.Running.{held_with, recorded_with, requested_with}
+use Rattle.repository_runs.specs.Restarting.{ComesUp, FailsBehind, MayTake, Recovers, StaysPending, TakesNone, life_behind}
 use Rattle.repository_runs.specs.Standing.{Down, IsRecorded, IsRight, MayBeNext, NumbersAgree, Phase, Torn, Up}
 use Rattle.session_outbox.specs.Trace.{Item}
 use Rattle.std.proofs.Common.{List, inl, inr, subst, sym, ℕ, ◌≡◌}

@@ -287,6 +287,7 @@ impl<P: Parts> Stable<P> {
         ensures err { IfErr result (StandsAfter self.old self.new None) }
         ensures rests { is_up self.old ≡ true → OnErr result (RestsWith None self.new) }
         ensures held { held_of self.new ≡ record (held_of self.old) { objects = (held_of self.new).objects } }
+        ensures limit { (held_of self.new).objects.mob.limit ≡ (held_of self.old).objects.mob.limit }
     {
         let Some(log) = self.take_log() else {
             return Err(Refusal::Down { repo: self.repo() });
@@ -311,6 +312,7 @@ impl<P: Parts> Stable<P> {
         ensures err { IfErr result (StandsAfter self.old self.new None) }
         ensures rests { is_up self.old ≡ true → OnErr result (RestsWith None self.new) }
         ensures held { held_of self.new ≡ record (held_of self.old) { objects = (held_of self.new).objects } }
+        ensures limit { (held_of self.new).objects.mob.limit ≡ (held_of self.old).objects.mob.limit }
     {
         let Some(mut log) = self.take_log() else {
             return Err(Refusal::Down { repo: self.repo() });
@@ -333,6 +335,7 @@ impl<P: Parts> Stable<P> {
         ensures opened { OnOk result (IsOpen (disks_of P.disks self.new) log.new (held_of self.new)) }
         ensures keeps { Keeps (held_of self.new) }
         ensures held { held_of self.new ≡ record (held_of self.old) { objects = (held_of self.new).objects } }
+        ensures limit { (held_of self.new).objects.mob.limit ≡ (held_of self.old).objects.mob.limit }
         ensures phase { self.new.phase ≡ self.old.phase }
         ensures fault { IfErr result (λ r. is_fault r ≡ true) }
     {
@@ -349,6 +352,7 @@ impl<P: Parts> Stable<P> {
         ensures opened { OnOk result (IsOpen (disks_of P.disks self.new) log.new (held_of self.new)) }
         ensures keeps { Keeps (held_of self.new) }
         ensures held { held_of self.new ≡ record (held_of self.old) { objects = (held_of self.new).objects } }
+        ensures limit { (held_of self.new).objects.mob.limit ≡ (held_of self.old).objects.mob.limit }
         ensures phase { self.new.phase ≡ self.old.phase }
         ensures fault { IfErr result (λ r. is_fault r ≡ true) }
     {
