@@ -31,7 +31,6 @@ pub record Takes (old new : Shown) : Type 0 where
   pub requested : new.memory.requested ≡ requested_with old.memory.requested taken
   pub sessions : new.memory.sessions ≡ old.memory.sessions
   pub limit : new.held.objects.mob.limit ≡ old.held.objects.mob.limit
-  pub sorted : IsSorted new.held.table.transactions
 
 -- Of the decisions that are kept those of lives before this one may go.
 pub record LetsGo (life : ℕ) (old new : Contents) : Type 0 where

@@ -17,6 +17,7 @@ use validation_window::Refusal;
 impl<P: Parts> Repo<P> {
     /// Commits a transaction that has this one participant, and tells the other sessions. Answer and refusals
     /// are those of `prepare`.
+    #[tactic(auto, using(crate::proofs::Refused::leaves_down, crate::proofs::Refused::leaves_written, crate::proofs::Judged::accepted))]
     pub fn commit_one(&mut self, session: u32, request: Request) -> Result<u64, Refusal>
         requires { MayRequest self.old.held self.old.memory request true }
         ensures stands { Stands self.old.is_up result self.new.is_up }

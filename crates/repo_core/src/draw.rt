@@ -20,6 +20,7 @@ const CLOCK_END: u64 = 1 << 62;
 impl<P: Parts> Repo<P> {
     /// Draws a timestamp: its time is above the floor and above all that were drawn before, and isn't below
     /// the clock's. Refusals: `Gone`; `ClockEnd`, behind which the clock was asked once.
+    #[tactic(auto, using(crate::proofs::Refused::leaves_down, crate::proofs::Refused::leaves_same))]
     pub fn draw(&mut self, session: u32, floor: u64) -> Result<Ts, Refusal>
         ensures stands { Stands self.old.is_up result self.new.is_up }
         ensures live { OnOk result (is_live self.old.memory.sessions session ≡ true) }
@@ -44,6 +45,7 @@ impl<P: Parts> Repo<P> {
     }
 
     /// The time that is drawn next. It asks the clock, where the session is live.
+    #[tactic(auto, using(crate::proofs::Refused::stays_itself))]
     fn may_draw(&mut self, session: u32, floor: u64) -> Result<u64, Refusal>
         ensures up { self.new.is_up ≡ self.old.is_up }
         ensures held { self.new.held ≡ self.old.held }
@@ -67,6 +69,7 @@ impl<P: Parts> Repo<P> {
         }
     }
 
+    #[tactic(auto, using(crate::proofs::Refused::leaves_down))]
     fn take_time(&mut self, session: u32, time: u64) -> Result<Ts, Refusal>
         requires { self.old.is_up ≡ true }
         ensures stands { Stands true result self.new.is_up }

@@ -1,7 +1,7 @@
 //! How an event begins and ends.
 
 ghost use Rattle.commit_log.specs.declared.entry.Entry.{Entry as AnEntry};
-ghost use Rattle.repo_core.specs.Refusing.{GoesDown, Leaves};
+ghost use Rattle.repo_core.specs.Refusing.{GoesDown, Leaves, StaysAsWas};
 ghost use Rattle.std.specs.Prelude.{◌≡◌, IfErr, Ok, OnErr, OnOk, Option, false, true};
 ghost use Rattle.live_sessions.specs.Sessions.{is_live};
 ghost use Rattle.trace_record.specs.Recorded.{with_mark};
@@ -15,6 +15,7 @@ use validation_window::Refusal;
 
 impl<P: Parts> Repo<P> {
     /// Refuses a call on a repository that is down.
+    #[tactic(auto, using(crate::proofs::Refused::leaves_same))]
     pub(crate) fn check_up(&self) -> Result<(), Refusal>
         ensures up { OnOk result (self.now.is_up ≡ true) }
         ensures down { OnErr result (self.now.is_up ≡ false) }
@@ -31,6 +32,7 @@ impl<P: Parts> Repo<P> {
     }
 
     /// Refuses a call of a session that isn't live.
+    #[tactic(auto, using(crate::proofs::Refused::leaves_same))]
     pub(crate) fn check_live(&self, session: u32) -> Result<(), Refusal>
         ensures live { OnOk result (is_live self.now.memory.sessions session ≡ true) }
         ensures refusal { IfErr result (λ r. r ≡ IsGone session) }
@@ -46,6 +48,7 @@ impl<P: Parts> Repo<P> {
 
     /// Puts the mark of what has happened behind the trace, or takes the repository down where there was no
     /// memory for it or for what has happened.
+    #[tactic(auto, using(crate::proofs::Refused::falls_with, crate::proofs::Refused::moved_none, crate::proofs::Refused::lasts_same))]
     pub(crate) fn mark(&mut self, happened: Result<(), NoMemory>, mark: Mark) -> Result<(), Refusal>
         requires { self.old.is_up ≡ true }
         ensures happened { OnOk result (happened ≡ Ok tt) }
@@ -57,6 +60,7 @@ impl<P: Parts> Repo<P> {
         ensures held { self.new.held ≡ self.old.held }
         ensures memory { self.new.memory ≡ self.old.memory }
         ensures left { OnErr result ((e : Option AnEntry) → GoesDown self.old self.new e) }
+        ensures same { OnOk result (StaysAsWas self.old self.new) }
         ensures opened { self.new.opened_in ≡ self.old.opened_in }
     {
         let marked = match happened {

@@ -21,6 +21,7 @@ use validation_window::Refusal;
 impl<P: Parts> Repo<P> {
     /// Finishes a transaction by the coordinator's verdict. The answer is the place of the entry; `None`
     /// exactly where it isn't prepared here.
+    #[tactic(auto, using(crate::proofs::Refused::leaves_down, crate::proofs::Refused::leaves_finished))]
     pub fn finish(&mut self, verdict: &Verdict) -> Result<Option<u64>, Refusal>
         ensures stands { Stands self.old.is_up result self.new.is_up }
         ensures held { OnOk result (is_some (open_at self.old.held.table verdict.now.tx) ≡ true → HasMoved self.old.held (Finishes verdict.now.tx verdict.now.commit) self.new.held) }

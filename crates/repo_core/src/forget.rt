@@ -15,6 +15,7 @@ use validation_window::Refusal;
 impl<P: Parts> Repo<P> {
     /// Forgets the decision to commit a transaction, which every other participant has finished. It leaves
     /// the log with the next checkpoint.
+    #[tactic(auto, using(crate::proofs::Refused::leaves_down))]
     pub fn forget(&mut self, tx: Ts) -> Result<(), Refusal>
         ensures stands { Stands self.old.is_up result self.new.is_up }
         ensures memory { self.new.memory ≡ self.old.memory }

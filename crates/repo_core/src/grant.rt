@@ -20,6 +20,7 @@ const PAGES: u32 = 65_536;
 impl<P: Parts> Repo<P> {
     /// Puts a page that was never granted into the session's outbox, for the names of new objects. Refusals:
     /// `Gone`, `Full`.
+    #[tactic(auto, using(crate::proofs::Refused::leaves_down, crate::proofs::Refused::leaves_same))]
     pub fn grant(&mut self, session: u32) -> Result<(), Refusal>
         ensures stands { Stands self.old.is_up result self.new.is_up }
         ensures live { OnOk result (is_live self.old.memory.sessions session ≡ true) }
@@ -55,6 +56,7 @@ impl<P: Parts> Repo<P> {
         }
     }
 
+    #[tactic(auto, using(crate::proofs::Refused::leaves_down, crate::proofs::Refused::falls_behind, crate::proofs::Refused::moved_none))]
     fn send_grant(&mut self, session: u32, page: u32) -> Result<(), Refusal>
         requires up { self.old.is_up ≡ true }
         requires next { page ≡ self.old.held.next_grant }

@@ -122,7 +122,14 @@ impl<P: Parts> Repo<P> {
         ensures history { result.1.history ≡ self.trace.history }
         ensures marks { result.1.marks ≡ self.trace.marks }
     {
-        let Repo { stable, trace, .. } = self;
+        let Repo {
+            alloc: _,
+            stable,
+            memory,
+            trace,
+            opened_in: _,
+        } = self;
+        drop(memory);
         (stable.into_parts(), trace.into_trace())
     }
 }

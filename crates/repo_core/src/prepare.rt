@@ -17,6 +17,7 @@ use validation_window::Refusal;
 impl<P: Parts> Repo<P> {
     /// Prepares a transaction that has other participants, too. The answer is the place of its entry.
     /// Refusals: `Gone`, `Blocked`, `Epoch`, `TooOld`, `Stale`, `Earlier`, `Later`, `Full`.
+    #[tactic(auto, using(crate::proofs::Refused::leaves_down, crate::proofs::Refused::leaves_written, crate::proofs::Judged::accepted))]
     pub fn prepare(&mut self, session: u32, request: Request) -> Result<u64, Refusal>
         requires { MayRequest self.old.held self.old.memory request false }
         ensures stands { Stands self.old.is_up result self.new.is_up }

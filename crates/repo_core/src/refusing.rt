@@ -21,6 +21,7 @@ use validation_window::Refusal;
 impl<P: Parts> Repo<P> {
     /// Puts the mark of a refused draw, grant or request behind the trace. The answer is the refusal, or
     /// `NoMemory` where there was none for the mark.
+    #[tactic(auto, using(crate::proofs::Refused::leaves_so, crate::proofs::Refused::leaves_down))]
     pub(crate) fn refuse(
         &mut self,
         session: u32,

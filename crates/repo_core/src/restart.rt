@@ -18,6 +18,7 @@ use crate::repo::Repo;
 use commit_log::Entry;
 use disk_trait::Parts;
 use stable_store::{Stable, Taken};
+use thor_value::Ts;
 use validation_window::Refusal;
 
 impl<P: Parts> Repo<P> {
@@ -27,6 +28,7 @@ impl<P: Parts> Repo<P> {
     /// written; else the answer is `Damaged`, as it is where a log disk has no log of this repository. All
     /// sessions end. Decisions of earlier openings are kept no longer. After a refusal the repository is
     /// down, with the entry pending that was so, or with the Life.
+    #[tactic(auto, using(crate::proofs::Taking::comes_up_so, crate::proofs::Taking::fails_so))]
     pub fn restart(&mut self, pick: u64) -> Result<(), Refusal>
         ensures up { OnOk result (self.new.is_up ≡ true) }
         ensures down { OnErr result (self.new.is_up ≡ false) }
@@ -44,6 +46,7 @@ impl<P: Parts> Repo<P> {
     }
 
     /// Takes what the disks have, where it is what is held, or that with the pending entry.
+    #[tactic(auto, using(crate::proofs::Taking::takes_held))]
     fn take_over(&mut self, pick: u64) -> Result<(), Refusal>
         ensures up { OnOk result (self.new.is_up ≡ true) }
         ensures down { OnErr result (self.new.is_up ≡ false) }
@@ -60,12 +63,14 @@ impl<P: Parts> Repo<P> {
 
     /// Takes the pending entry, which the disks have. Want of memory, too, where it is none that can come next,
     /// which no run comes to.
+    #[tactic(auto, using(crate::proofs::Refused::falls_with, crate::proofs::Refused::falls_behind, crate::proofs::Refused::moved_none, crate::proofs::Refused::lasts_same))]
     fn take_pending(&mut self, entry: Entry) -> Result<(), Refusal>
         requires fits { BodyFits (AnEntry entry) }
         requires up { self.old.is_up ≡ true }
         ensures stands { Stands true result self.new.is_up }
         ensures fault { IfErr result (λ r. is_fault r ≡ true) }
         ensures sessions { self.new.memory.sessions ≡ self.old.memory.sessions }
+        ensures limit { OnOk result (self.new.held.objects.mob.limit ≡ self.old.held.objects.mob.limit) }
         ensures trace { OnOk result (self.new.trace ≡ with_entry self.old.trace entry) }
         ensures refused { OnErr result (self.new.trace ≡ self.old.trace) }
         ensures held { OnOk result (self.new.held ≡ entered self.old.held entry) }
@@ -83,6 +88,7 @@ impl<P: Parts> Repo<P> {
     }
 
     /// Begins the next life.
+    #[tactic(auto, using(crate::proofs::Refused::falls_with, crate::proofs::Refused::moved_none, crate::proofs::Refused::lasts_same))]
     pub(crate) fn write_life(&mut self) -> Result<(), Refusal>
         requires { self.old.is_up ≡ true }
         ensures stands { Stands true result self.new.is_up }
@@ -137,9 +143,21 @@ fn forget_before<P: Parts>(stable: &mut Stable<P>, life: u32)
         let Some(tx) = stable.held().table().next_kept(after) else {
             return;
         };
-        if tx.life < life {
-            stable.forget(tx);
-        }
+        forget_earlier(stable, tx, life);
         after = Some(tx);
+    }
+}
+
+/// Forgets a kept decision, where its transaction is of an earlier life than this one.
+#[tactic(auto, using(crate::proofs::Letting::goes_itself, crate::proofs::Letting::one_goes_in, crate::proofs::Letting::table_alone))]
+fn forget_earlier<P: Parts>(stable: &mut Stable<P>, tx: Ts, life: u32)
+    requires kept { IsKept P.disks stable.old }
+    ensures kept { IsKept P.disks stable.new }
+    ensures phase { stable.new.phase ≡ stable.old.phase }
+    ensures held { held_of stable.new ≡ record (held_of stable.old) { table = (held_of stable.new).table } }
+    ensures go { LetsGo life (held_of stable.old).table (held_of stable.new).table }
+{
+    if tx.life < life {
+        stable.forget(tx);
     }
 }

@@ -37,6 +37,7 @@ impl<P: Parts> Repo<P> {
     }
 
     /// Flushes pages until writes fit into the buffer beside what is there, or it is empty.
+    #[tactic(auto, using(crate::proofs::Refused::falls_with, crate::proofs::Refused::lasts_same))]
     pub(crate) fn make_room(&mut self, writes: &Writes) -> Result<(), Refusal>
         requires up { self.old.is_up ≡ true }
         requires fits { AllByRecursion CanStand writes.now }
@@ -50,6 +51,7 @@ impl<P: Parts> Repo<P> {
     }
 
     /// Does so for the writes of a transaction that is open here, where it commits.
+    #[tactic(auto, using(crate::proofs::Refused::falls_with, crate::proofs::Refused::lasts_same))]
     pub(crate) fn make_room_for(&mut self, tx: Ts, commit: bool) -> Result<(), Refusal>
         requires { self.old.is_up ≡ true }
         ensures stands { Stands true result self.new.is_up }

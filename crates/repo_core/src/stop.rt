@@ -8,6 +8,7 @@ use disk_trait::Parts;
 impl<P: Parts> Repo<P> {
     /// Takes the repository down: at once for 0, else behind so many disk calls from now, in the middle of an
     /// event. It takes the place of a stop that hasn't fallen.
+    #[tactic(auto, using(crate::proofs::Stopped::stop_pending, crate::proofs::Stopped::stop_none, crate::proofs::Stopped::stop_torn, crate::proofs::Stopped::stop_whole))]
     pub fn stop_after(&mut self, calls: u32)
         ensures up { self.new.is_up ≡ cond (nat_eq calls 0) false self.old.is_up }
         ensures pending { self.old.is_up ≡ false → self.new.pending ≡ self.old.pending }

@@ -35,6 +35,7 @@ impl<P: Parts> Repo<P> {
     /// Writes an entry. The answer is its place.
     ///
     /// After a refusal the repository is down, and the entry is pending if the log may have it.
+    #[tactic(auto, using(crate::proofs::Refused::falls_with, crate::proofs::Refused::falls_pending, crate::proofs::Refused::falls_behind, crate::proofs::Refused::moved_none, crate::proofs::Refused::lasts_same))]
     pub(crate) fn write(&mut self, entry: Entry) -> Result<u64, Refusal>
         requires can { CanWrite self.old.held self.old.memory entry }
         requires up { self.old.is_up ≡ true }
@@ -63,6 +64,7 @@ impl<P: Parts> Repo<P> {
 
     /// Takes an entry that the log has into what is held of the log's state, and into the trace, once the rest
     /// of what is in memory has it. After `NoMemory` the repository is down, and the entry is pending.
+    #[tactic(auto, using(crate::proofs::Refused::falls_with, crate::proofs::Refused::falls_pending, crate::proofs::Refused::falls_torn, held_state::proofs::Limits::entered_limit, crate::proofs::Refused::moved_none, crate::proofs::Refused::lasts_same))]
     pub(crate) fn record(
         &mut self,
         entry: Entry,
@@ -76,6 +78,7 @@ impl<P: Parts> Repo<P> {
         ensures told { OnOk result (told ≡ Ok tt) }
         ensures place { IfOk result (λ place. place ≡ length self.old.trace.history) }
         ensures held { OnOk result (self.new.held ≡ entered self.old.held entry) }
+        ensures limit { OnOk result (self.new.held.objects.mob.limit ≡ self.old.held.objects.mob.limit) }
         ensures memory { self.new.memory ≡ self.old.memory }
         ensures trace { OnOk result (self.new.trace ≡ with_entry self.old.trace entry) }
         ensures refused { OnErr result (self.new.trace ≡ self.old.trace) }
@@ -183,6 +186,7 @@ impl<P: Parts> Repo<P> {
     }
 
     /// Notes the transaction of a pending entry, which the disks have, before the next life.
+    #[tactic(auto, using(volatile_state::proofs::Lasting::lasts_itself))]
     pub(crate) fn note(&mut self, entry: &Entry) -> Result<(), NoMemory>
         ensures sessions { self.new.memory.sessions ≡ self.old.memory.sessions }
         ensures requested { OnOk result (self.new.memory.requested ≡ came_with self.old.memory.requested entry.now) }

@@ -16,13 +16,14 @@ use Rattle.repository_events.proofs.Stepping.{LimitStays, runs_one}
 use Rattle.repository_events.specs.Seen.{IsRun, IsWhole, StandsRight, phase, phase_from, seen}
 use Rattle.repository_events.specs.Vouching.{IsBase}
 use Rattle.repository_laws.specs.Running.{EarlierGo, Repository, held_with, requested_with}
+use Rattle.repository_runs.proofs.Returning.{may-take, take}
 use Rattle.repository_runs.proofs.Steps.{opens, runs}
 use Rattle.repository_runs.specs.Restarting.{ComesUp, FailsBehind, MayTake, Opens, Recovers, Restart, RestartFails, StaysPending, TakesNone, Tears, life_behind}
 use Rattle.repository_runs.specs.Standing.{Down, IsRight, Phase, Torn, Up}
 use Rattle.std.proofs.Common.{Bool, Err, Ok, OnErr, OnOk, Option, Result, [], ◌∷◌, ap, cond, false, inl, inr, refl, subst, sym, true, ℕ, ◌+◌, ◌∙◌, ◌≡◌}
 use Rattle.std.specs.Option.{IfSome}
 use Rattle.std.specs.Prelude.{IfOk, None, Some, ◌⊎◌}
-use Rattle.thor_value.specs.FiniteMap.{Set, has}
+use Rattle.thor_value.specs.FiniteMap.{IsSorted, Set, has}
 use Rattle.thor_value.specs.Names.{ts_cmp}
 use Rattle.thor_value.specs.declared.names.Ts.{Ts}
 use Rattle.trace_record.specs.Recorded.{nothing, with_entry}
@@ -45,6 +46,12 @@ may_take false true p taken whole was = absurd (no whole)
 may_take false false p None whole was = tt
 may_take false false p (Some e) whole was = was.1
 
+-- the table with what was taken is in order
+sorted : (b : Base) (x z : Shown) → StandsRight b x → (r : core.Recovers x z) → IsSorted r.taking.held.table.transactions
+sorted b x z k r =
+    let may : MayTake (phase x) r.takes.taken = may_take x.is_up x.is_torn x.pending r.takes.taken r.takes.whole r.takes.was in
+    subst (λ (h : Held). IsSorted h.table.transactions) (sym r.takes.held) (take b (seen x) r.takes.taken r.takes.moved r.takes.moves (may-take b (seen x) (phase x) r.takes.taken k.right may)).held.table.sorted
+
 -- what is recovered
 pub recovers : (b : Base) (x z : Shown) → StandsRight b x → core.Recovers x z → Recovers b (seen x) (phase x) (seen z)
 recovers b x z k r = record {
@@ -54,7 +61,7 @@ recovers b x z k r = record {
   moved = r.takes.moved;
   moves = r.takes.moves;
   table = z.held.table;
-  go = subst (λ (h : Held). EarlierGo b h.table z.held.table) r.takes.held (earlier_go b r.taking.opened_in r.taking.held.table z.held.table (r.opened ∙ k.opened) r.takes.sorted r.drops.go);
+  go = subst (λ (h : Held). EarlierGo b h.table z.held.table) r.takes.held (earlier_go b r.taking.opened_in r.taking.held.table z.held.table (r.opened ∙ k.opened) (sorted b x z k r) r.drops.go);
   held = r.drops.held ∙ ap (λ (h : Held). record h { table = z.held.table }) r.takes.held;
   came = λ t h. subst (λ (m : Set ts_cmp). has m t ≡ true) (sym (ap (λ (m : Memory). m.requested) r.memory ∙ r.takes.requested)) h;
   last = ap (λ (m : Memory). m.sessions.last) r.memory ∙ ap (λ (m : Kept). m.last) r.takes.sessions;
