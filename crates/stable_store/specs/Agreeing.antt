@@ -22,9 +22,9 @@ held_behind h (taken.Pending e) = entered h e
 
 -- The disks stand for a state whose objects were taken. Its numbers are those of what is held, or of that with the entry that
 -- was pending, where this was taken.
-pub record IsTaken (disks : Disks) (h : Held) (t : Taken) (objects : Kept) : Type 0 where
+pub record IsTaken (disks : Disks) (h : Held) (t : Taken) (kept : Kept) : Type 0 where
   pub found : Held
   pub log : Place
   pub stands : Holds disks log (said found)
-  pub objects : objects ≡ found.objects
+  pub objects : kept ≡ found.objects
   pub numbers : numbers_of found ≡ numbers_of (held_behind h t)

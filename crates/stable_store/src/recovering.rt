@@ -169,7 +169,7 @@ impl<P: Parts> Stable<P> {
         ensures stays { OnErr result (self.new.phase ≡ IsDown pending) }
     {
         let Recovered { state, log, .. } = recovered;
-        let agrees = compare(&self.held, pending.as_ref(), &state);
+        let agrees = compare(&self.held, &pending, &state);
         match (agrees, pending) {
             (Agreement::AsHeld, pending) => {
                 drop(pending);
