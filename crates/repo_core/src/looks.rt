@@ -122,14 +122,7 @@ impl<P: Parts> Repo<P> {
         ensures history { result.1.history ≡ self.trace.history }
         ensures marks { result.1.marks ≡ self.trace.marks }
     {
-        let Repo {
-            alloc: _,
-            stable,
-            memory,
-            trace,
-            opened_in: _,
-        } = self;
-        drop(memory);
+        let Repo { stable, trace, .. } = self;
         (stable.into_parts(), trace.into_trace())
     }
 }

@@ -13,6 +13,7 @@ use volatile_state::Memory;
 /// Each event is one call. After `Stopped`, `Damaged` and `NoMemory` the repository is down, and only
 /// `restart` brings it up; after every other refusal nothing has changed but the trace, and after `ClockEnd`
 /// the clock, which was asked once.
+#[derive(Drop)]
 pub struct Repo<P: Parts> {
     pub(crate) alloc: Global,
     pub(crate) stable: Stable<P>,
@@ -20,18 +21,6 @@ pub struct Repo<P: Parts> {
     pub(crate) trace: Recorder,
     /// The number of the life in which it was opened.
     pub(crate) opened_in: u32,
-}
-
-impl<P: Parts> Drop for Repo<P> {
-    fn drop(self) {
-        let Repo {
-            alloc: _,
-            stable: _,
-            memory: _,
-            trace: _,
-            opened_in: _,
-        } = self;
-    }
 }
 
 impl<P: Parts> Model for Repo<P> {
