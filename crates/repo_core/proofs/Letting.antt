@@ -35,8 +35,8 @@ open_without o p true same k = sym (no_request o (subst (λ (q : Option Transact
 open_without o p false same k = refl
 
 kept_without : (o : Option Transaction) (x : Bool) → (x ≡ true → ⊥) → keeps (cond x None o) ≡ keeps o
-kept_without o true no = absurd (no refl)
-kept_without o false no = refl
+kept_without o true never = absurd (never refl)
+kept_without o false never = refl
 
 same_stamp : (t u : Ts) → eq_by_cmp ts_cmp t u ≡ true → t ≡ u
 same_stamp t u is = ts_exact t u ((Equal-is (ts_cmp t u)).0 is)
@@ -45,18 +45,18 @@ same_stamp t u is = ts_exact t u ((Equal-is (ts_cmp t u)).0 is)
 pub one_goes : (life : ℕ) (c : Contents) (t : Ts) → t.life < life → LetsGo life c (cond (keeps (get c.transactions t)) (without c t) c)
 one_goes life c t earlier = by (keeps (get c.transactions t)) refl
   where
-    no : (u : Ts) → life ≤ u.life → eq_by_cmp ts_cmp t u ≡ true → ⊥
-    no u l is =
+    never : (u : Ts) → life ≤ u.life → eq_by_cmp ts_cmp t u ≡ true → ⊥
+    never u l is =
         let same : t.life ≡ u.life = ap (λ (s : Ts). s.life) (same_stamp t u is) in
         omega (arith, same, l, earlier)
 
     by : (k : Bool) → keeps (get c.transactions t) ≡ k → LetsGo life c (cond k (without c t) c)
     by false k = goes_itself life c
     by true k = record {
-      sorted = λ s. IsSorted-remove ts_total c.transactions t s;
+      sorted = λ s. IsSorted-remove ts_cmp c.transactions t s;
       same = λ s u. ap (option_and_then request_of) (get-remove ts_total c.transactions t u s)
           ∙ open_without (get c.transactions u) (get c.transactions t) (eq_by_cmp ts_cmp t u) (λ is. ap (get c.transactions) (sym (same_stamp t u is))) k;
-      kept = λ s u l. ap keeps (get-remove ts_total c.transactions t u s) ∙ kept_without (get c.transactions u) (eq_by_cmp ts_cmp t u) (no u l);
+      kept = λ s u l. ap keeps (get-remove ts_total c.transactions t u s) ∙ kept_without (get c.transactions u) (eq_by_cmp ts_cmp t u) (never u l);
       alone = refl;
     }
 

@@ -1,3 +1,5 @@
+pub mod Alike
+pub mod Begun
 pub mod Falls
 pub mod Judged
 pub mod Letting

@@ -2,7 +2,7 @@
 use Rattle.commit_log.specs.declared.entry.Entry.{Entry}
 use Rattle.held_state.specs.declared.held.Held.{Held}
 use Rattle.repo_core.proofs.Moves.{moves_on}
-use Rattle.repo_core.specs.Behind.{MovesObjects}
+use Rattle.repo_core.specs.Behind.{MovesObjects, is_marked}
 use Rattle.repo_core.specs.Moving.{MakesRoom}
 use Rattle.repo_core.specs.Refusing.{GoesDown, Leaves, Moved, Rests, StaysAsWas, made_of}
 use Rattle.repo_core.specs.Shown.{Shown}
@@ -87,3 +87,22 @@ pub leaves_finished : (x y z : Shown) (prepared : Bool) (e : Entry) (r : Refusal
 leaves_finished x y z prepared e r p up made is down =
     leaves_down x z (cond prepared (Some e) None) r is
     (subst (GoesDown x z) (sym (ap (λ (b : Bool). cond b (Some e) None) p)) (falls_behind x y z (Some e) up (room_moved x y made) (lasts_same x y made.memory) down))
+
+-- a fault of the mark behind what stayed up
+pub leaves_behind : (x y z : Shown) (e : Option Entry) (r : Refusal) → x.is_up ≡ true → Moved x y → Outlasts x.memory y.memory → is_fault r ≡ true → GoesDown y z e → Leaves x z e r
+leaves_behind x y z e r up moved lasts is down = leaves_down x z e r is (falls_behind x y z e up moved lasts down)
+
+-- a fault has no mark
+pub never_marked : (r s : Refusal) → is_marked r ≡ false → is_marked r ≡ true → r ≡ s
+never_marked r s never is = absurd (no_fault (is_marked r) never is)
+
+-- what is refused is what stood against it, where it has a mark
+pub why_refused : {Q : Refusal → Type 0} (up : Bool) (r s : Refusal) → up ≡ true → (is_marked s ≡ true → s ≡ r) → Q r → is_marked s ≡ true → (up ≡ true) × Q s
+why_refused {Q = Q} up r s is same q m = (is, subst Q (sym (same m)) q)
+
+pub stays_on : (x y z : Shown) → StaysAsWas x y → StaysAsWas y z → StaysAsWas x z
+stays_on x y z a b = record { held = b.held ∙ a.held; memory = b.memory ∙ a.memory; pending = b.pending ∙ a.pending; torn = b.torn ∙ a.torn }
+
+-- a refusal behind what changed nothing
+pub leaves_on : (x y z : Shown) (e : Option Entry) (r : Refusal) → x.is_up ≡ true → StaysAsWas x y → Leaves y z e r → Leaves x z e r
+leaves_on x y z e r up so left = record { fault = λ f. falls_behind x y z e up (moved_none x y so.held) (lasts_same x y so.memory) (left.fault f); other = λ f. stays_on x y z so (left.other f) }

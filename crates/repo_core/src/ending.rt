@@ -1,6 +1,8 @@
 //! How an event begins and ends.
 
 ghost use Rattle.commit_log.specs.declared.entry.Entry.{Entry as AnEntry};
+ghost use Rattle.repo_core.specs.Behind.{is_marked};
+ghost use Rattle.stable_store.specs.Kept.{is_fault};
 ghost use Rattle.repo_core.specs.Refusing.{GoesDown, Leaves, StaysAsWas};
 ghost use Rattle.std.specs.Prelude.{◌≡◌, IfErr, Ok, OnErr, OnOk, Option, false, true};
 ghost use Rattle.live_sessions.specs.Sessions.{is_live};
@@ -48,7 +50,7 @@ impl<P: Parts> Repo<P> {
 
     /// Puts the mark of what has happened behind the trace, or takes the repository down where there was no
     /// memory for it or for what has happened.
-    #[tactic(auto, using(crate::proofs::Refused::falls_with, crate::proofs::Refused::moved_none, crate::proofs::Refused::lasts_same))]
+    #[tactic(auto, using(crate::proofs::Refused::leaves_down, crate::proofs::Refused::falls_with, crate::proofs::Refused::moved_none, crate::proofs::Refused::lasts_same))]
     pub(crate) fn mark(&mut self, happened: Result<(), NoMemory>, mark: Mark) -> Result<(), Refusal>
         requires { self.old.is_up ≡ true }
         ensures happened { OnOk result (happened ≡ Ok tt) }
@@ -61,6 +63,8 @@ impl<P: Parts> Repo<P> {
         ensures memory { self.new.memory ≡ self.old.memory }
         ensures left { OnErr result ((e : Option AnEntry) → GoesDown self.old self.new e) }
         ensures same { OnOk result (StaysAsWas self.old self.new) }
+        ensures fault { IfErr result (λ r. (is_fault r ≡ true) × (is_marked r ≡ false)) }
+        ensures leaves { IfErr result (λ r. (e : Option AnEntry) → Leaves self.old self.new e r) }
         ensures opened { self.new.opened_in ≡ self.old.opened_in }
     {
         let marked = match happened {

@@ -56,7 +56,7 @@ impl<P: Parts> Repo<P> {
         }
     }
 
-    #[tactic(auto, using(crate::proofs::Refused::leaves_down, crate::proofs::Refused::falls_behind, crate::proofs::Refused::moved_none))]
+    #[tactic(auto, using(crate::proofs::Refused::leaves_behind, crate::proofs::Refused::moved_none))]
     fn send_grant(&mut self, session: u32, page: u32) -> Result<(), Refusal>
         requires up { self.old.is_up ≡ true }
         requires next { page ≡ self.old.held.next_grant }

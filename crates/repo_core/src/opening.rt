@@ -57,6 +57,7 @@ impl<P: Parts> Repo<P> {
 }
 
 /// A repository over what is stable, behind the Life of its opening.
+#[tactic(auto, using(crate::proofs::Begun::begins_so, crate::proofs::Begun::memory_is))]
 fn begin<P: Parts>(alloc: Global, stable: Stable<P>) -> Result<Repo<P>, OpenFault<P>>
     requires kept { IsKept P.disks stable }
     requires up { is_up stable ≡ true }
@@ -64,6 +65,12 @@ fn begin<P: Parts>(alloc: Global, stable: Stable<P>) -> Result<Repo<P>, OpenFaul
     ensures trace { IfOk result (λ repo. repo.trace ≡ with_entry nothing (ALife ((held_of stable).life + 1))) }
     ensures begins { IfOk result (λ repo. Begins (held_of stable) repo) }
 {
+    let Some(opened_in) = stable.held().life().checked_add(1) else {
+        return Err(OpenFault {
+            parts: stable.into_parts(),
+            cause: OpenCause::NoMemory,
+        });
+    };
     let memory = match Memory::new(alloc, stable.held().threshold()) {
         Ok(memory) => memory,
         Err(_) => {
@@ -73,7 +80,6 @@ fn begin<P: Parts>(alloc: Global, stable: Stable<P>) -> Result<Repo<P>, OpenFaul
             });
         }
     };
-    let opened_in = stable.held().life().saturating_add(1);
     let mut repo = Repo {
         alloc,
         stable,

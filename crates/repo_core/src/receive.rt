@@ -15,7 +15,7 @@ use validation_window::Refusal;
 
 impl<P: Parts> Repo<P> {
     /// Takes the oldest message that waits for the session; `None` exactly where none does. Refusal: `Gone`.
-    #[tactic(auto, using(crate::proofs::Refused::leaves_down, crate::proofs::Refused::falls_behind, crate::proofs::Refused::moved_none, volatile_state::proofs::Lasting::stayed))]
+    #[tactic(auto, using(crate::proofs::Refused::leaves_behind, crate::proofs::Refused::moved_none, volatile_state::proofs::Lasting::stayed))]
     pub fn receive(&mut self, session: u32) -> Result<Option<Message>, Refusal>
         ensures stands { Stands self.old.is_up result self.new.is_up }
         ensures live { OnOk result (is_live self.old.memory.sessions session ≡ true) }

@@ -21,7 +21,7 @@ use validation_window::Refusal;
 impl<P: Parts> Repo<P> {
     /// Puts the mark of a refused draw, grant or request behind the trace. The answer is the refusal, or
     /// `NoMemory` where there was none for the mark.
-    #[tactic(auto, using(crate::proofs::Refused::leaves_so, crate::proofs::Refused::leaves_down))]
+    #[tactic(auto, using(crate::proofs::Refused::leaves_so, crate::proofs::Refused::never_marked))]
     pub(crate) fn refuse(
         &mut self,
         session: u32,
@@ -34,6 +34,7 @@ impl<P: Parts> Repo<P> {
         ensures held { self.new.held ≡ self.old.held }
         ensures memory { self.new.memory ≡ self.old.memory }
         ensures trace { self.new.trace ≡ with_refusal self.old.trace session request result }
+        ensures same { is_marked result ≡ true → result ≡ refusal }
         ensures left { (e : Option AnEntry) → Leaves self.old self.new e result }
         ensures opened { self.new.opened_in ≡ self.old.opened_in }
     {
@@ -50,7 +51,7 @@ impl<P: Parts> Repo<P> {
 
     /// What stands against a request of a session: the first refusal that holds, in the order in which they
     /// are tried.
-    #[tactic(auto, using(crate::proofs::Judged::judged, crate::proofs::Judged::accepted))]
+    #[tactic(auto, using(crate::proofs::Judged::judged, crate::proofs::Judged::accepted, crate::proofs::Judged::first_refused))]
     pub(crate) fn judge(&self, session: u32, request: &Request) -> Result<(), Refusal>
         requires in_order { IsInOrder request.now.ros (keys_of request.now.writes) }
         requires fits { RequestFits request.now }

@@ -46,7 +46,7 @@ impl<P: Parts> Repo<P> {
     }
 
     /// Takes what the disks have, where it is what is held, or that with the pending entry.
-    #[tactic(auto, using(crate::proofs::Taking::takes_held))]
+    #[tactic(auto, using(crate::proofs::Taking::takes_held, crate::proofs::Taking::takes_pending, crate::proofs::Taking::down_with_it))]
     fn take_over(&mut self, pick: u64) -> Result<(), Refusal>
         ensures up { OnOk result (self.new.is_up ≡ true) }
         ensures down { OnErr result (self.new.is_up ≡ false) }

@@ -8,7 +8,7 @@ ghost use Rattle.repo_core.specs.Behind.{MovesObjects, Stands, is_marked};
 ghost use Rattle.repo_core.specs.Moving.{MakesRoom};
 ghost use Rattle.stable_store.specs.Kept.{IsKept, RestsWith, held_of, is_fault, is_up};
 ghost use Rattle.commit_log.specs.declared.entry.Entry.{Entry as AnEntry};
-ghost use Rattle.repo_core.specs.Refusing.{GoesDown};
+ghost use Rattle.repo_core.specs.Refusing.{Leaves};
 ghost use Rattle.validation_window.specs.declared.refusal.Refusal.TheVariants.{Full as IsFull};
 
 use crate::repo::Repo;
@@ -37,27 +37,27 @@ impl<P: Parts> Repo<P> {
     }
 
     /// Flushes pages until writes fit into the buffer beside what is there, or it is empty.
-    #[tactic(auto, using(crate::proofs::Refused::falls_with, crate::proofs::Refused::lasts_same))]
+    #[tactic(auto, using(crate::proofs::Refused::leaves_down, crate::proofs::Refused::falls_with, crate::proofs::Refused::lasts_same))]
     pub(crate) fn make_room(&mut self, writes: &Writes) -> Result<(), Refusal>
         requires up { self.old.is_up ≡ true }
         requires fits { AllByRecursion CanStand writes.now }
         ensures stands { Stands true result self.new.is_up }
         ensures fault { IfErr result (λ r. (is_fault r ≡ true) × (is_marked r ≡ false)) }
         ensures made { MakesRoom self.old self.new }
-        ensures left { OnErr result ((e : Option AnEntry) → GoesDown self.old self.new e) }
+        ensures left { IfErr result (λ r. (e : Option AnEntry) → Leaves self.old self.new e r) }
         ensures opened { self.new.opened_in ≡ self.old.opened_in }
     {
         make_room(&mut self.stable, writes)
     }
 
     /// Does so for the writes of a transaction that is open here, where it commits.
-    #[tactic(auto, using(crate::proofs::Refused::falls_with, crate::proofs::Refused::lasts_same))]
+    #[tactic(auto, using(crate::proofs::Refused::leaves_down, crate::proofs::Refused::falls_with, crate::proofs::Refused::lasts_same))]
     pub(crate) fn make_room_for(&mut self, tx: Ts, commit: bool) -> Result<(), Refusal>
         requires { self.old.is_up ≡ true }
         ensures stands { Stands true result self.new.is_up }
         ensures fault { IfErr result (λ r. (is_fault r ≡ true) × (is_marked r ≡ false)) }
         ensures made { MakesRoom self.old self.new }
-        ensures left { OnErr result ((e : Option AnEntry) → GoesDown self.old self.new e) }
+        ensures left { IfErr result (λ r. (e : Option AnEntry) → Leaves self.old self.new e r) }
         ensures opened { self.new.opened_in ≡ self.old.opened_in }
     {
         if commit {

@@ -19,7 +19,7 @@ ghost use Rattle.two_phase.specs.Contents.{open_at};
 ghost use Rattle.validation_queue.specs.Contents.{cleared, with_one};
 ghost use Rattle.volatile_state.specs.Volatile.{entered as entered_memory, transaction_of, Outlasts};
 ghost use Rattle.repo_core.specs.Refusing.{GoesDown};
-ghost use Rattle.repo_core.specs.Telling.{Tells};
+ghost use Rattle.repo_core.specs.Telling.{Tells, next_epoch};
 ghost use Rattle.volatile_state.specs.Telling.{CommitTold, TellsDecided};
 ghost use Rattle.repository_laws.specs.Running.{came_with};
 
@@ -116,8 +116,8 @@ impl<P: Parts> Repo<P> {
         ensures lasts { Outlasts self.old.memory self.new.memory }
         ensures opened { self.new.opened_in ≡ self.old.opened_in }
     {
-        let place = self.trace.place();
-        let number = self.epoch().saturating_add(1);
+        let place = self.next_place();
+        let number = self.next_number();
         match entry {
             Entry::Life { .. } => self.begin_life(),
             Entry::Prepared { request } => self.memory.enter(request, false),
@@ -128,6 +128,20 @@ impl<P: Parts> Repo<P> {
                 self.tell_decision(*tx, *commit, number, place)
             }
         }
+    }
+
+    /// The place of the next entry.
+    fn next_place(&self) -> u64
+        ensures { result ≡ length self.now.trace.history }
+    {
+        self.trace.place()
+    }
+
+    /// The number of the next upgrade.
+    fn next_number(&self) -> u32
+        ensures { result ≡ next_epoch self.now.held }
+    {
+        self.epoch().saturating_add(1)
     }
 
     /// Tells of a request that commits here alone.
@@ -170,6 +184,7 @@ impl<P: Parts> Repo<P> {
 
     /// Begins a life: the sessions end, and of the transactions that came since the opening those stand in the
     /// queue that stay undecided. The life aborts those that this repository coordinates.
+    #[tactic(auto, using(volatile_state::proofs::Lasting::stayed, volatile_state::proofs::Lasting::lasts_itself))]
     fn begin_life(&mut self) -> Result<(), NoMemory>
         requires { self.old.is_up ≡ true }
         ensures begins { OnOk result (BeginsLife self.old.held self.old.memory self.new.memory) }
@@ -211,6 +226,7 @@ fn load_open(memory: &mut Memory, table: &Table, repo: u8) -> Result<(), NoMemor
     requires empty { (t : ATs) × (memory.old.queue ≡ cleared t) }
     ensures sessions { memory.new.sessions ≡ memory.old.sessions }
     ensures reopens { OnOk result (Reopens repo table.now memory.old memory.new) }
+    ensures requested { memory.new.requested ≡ memory.old.requested }
 {
     let mut after = None;
     for _ in 0..u32::MAX {

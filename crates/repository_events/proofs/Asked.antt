@@ -59,12 +59,12 @@ TellsWith number h before place (Finished t c) after = TellsDecided before after
 TellsWith number h before place (Upgraded q) after = CommitTold (acknowledged before q.session q.upto) after q number place
 
 told_with : (h : Held) (before after : Kept) (place : ℕ) (e : Entry) → IsNoLife e → core.Tells h before place e after → TellsWith (next_epoch h) h before place e after
-told_with h before after place (Life n) no t = absurd no
-told_with h before after place (One q) no t = t
-told_with h before after place (Prepared q) no t = t
-told_with h before after place (Decided t c) no told = told
-told_with h before after place (Finished t c) no told = told
-told_with h before after place (Upgraded q) no t = t
+told_with h before after place (Life n) never t = absurd never
+told_with h before after place (One q) never t = t
+told_with h before after place (Prepared q) never t = t
+told_with h before after place (Decided t c) never told = told
+told_with h before after place (Finished t c) never told = told
+told_with h before after place (Upgraded q) never t = t
 
 told_as : (h : Held) (before after : Kept) (place : ℕ) (e : Entry) → TellsWith (length h.upgrades + 1) h before place e after → Tells h before place e after
 told_as h before after place (Life n) t = t
@@ -75,15 +75,15 @@ told_as h before after place (Finished t c) told = told
 told_as h before after place (Upgraded q) t = t
 
 pub told_so : (x : Shown) (after : Kept) (place : ℕ) (e : Entry) → IsCounted x → IsNoLife e → core.Tells x.held x.memory.sessions place e after → Tells x.held x.memory.sessions place e after
-told_so x after place e counted no told =
+told_so x after place e counted never told =
     told_as x.held x.memory.sessions after place e
-    (subst (λ (n : ℕ). TellsWith n x.held x.memory.sessions place e after) (next_is x counted) (told_with x.held x.memory.sessions after place e no told))
+    (subst (λ (n : ℕ). TellsWith n x.held x.memory.sessions place e after) (next_is x counted) (told_with x.held x.memory.sessions after place e never told))
 
 -- ---- an entry is made
 
 pub runs_entry : (b : Base) (x y : Shown) (e : Entry) → x.is_up ≡ true → y.is_up ≡ true → IsCounted x → IsNoLife e → MayMake b (seen x) e → y.trace ≡ with_entry x.trace e → HasMoved x.held e y.held → Moves x.held x.memory e y.memory
     → core.Tells x.held x.memory.sessions (length x.trace.history) e y.memory.sessions → y.opened_in ≡ x.opened_in → LimitStays x y → IsRun b x y
-runs_entry b x y e u v counted no may t moved memory tells o l =
+runs_entry b x y e u v counted never may t moved memory tells o l =
     runs_one b x y (Makes e) (up_phase x u, up_phase y v, record {
       may = may;
       trace = t;
@@ -91,7 +91,7 @@ runs_entry b x y e u v counted no may t moved memory tells o l =
       moves = moved.moves;
       held = moved.entered;
       memory = memory;
-      tells = told_so x y.memory.sessions (length x.trace.history) e counted no tells;
+      tells = told_so x y.memory.sessions (length x.trace.history) e counted never tells;
     }) o (λ w. (whole_up x u, l))
 
 no_life_alone : (k : Kind) (q : Request) → IsNoLife (alone_entry k q)

@@ -77,10 +77,10 @@ alone_here b q none takes = (none, by (nat_eq q.tx.repo b.repo) refl (subst (λ 
   where
     by : (y : Bool) → nat_eq q.tx.repo b.repo ≡ y → nat_eq q.tx.repo b.repo || false ≡ true → q.tx.repo ≡ b.repo
     by true is t = eqb-true q.tx.repo b.repo is
-    by false is t = absurd (no (subst (λ (z : Bool). z || false ≡ true) is t))
+    by false is t = absurd (never (subst (λ (z : Bool). z || false ≡ true) is t))
       where
-        no : false ≡ true → ⊥
-        no e = cc
+        never : false ≡ true → ⊥
+        never e = cc
 
 module _ (b : Base) (x : Shown) (k : StandsRight b x) (up : x.is_up ≡ true) (s : ℕ) (q : Request) (alone : Bool) (may : MayRequest x.held x.memory q alone) (sent : IsSent b x s q) where
   -- the epoch that is held is the history's
@@ -132,10 +132,10 @@ module _ (b : Base) (x : Shown) (k : StandsRight b x) (up : x.is_up ≡ true) (s
   may_alone a none (Upgrade text) is = (is_made none, alone_is a, ap is_upgrade_kind is)
 
   pub may_share : alone ≡ false → judged x.held x.memory s q ≡ None → MayMake b (seen x) (Prepared q)
-  may_share a none = (is_made none, λ (e : q.others ≡ []). no (may.takes_part.1 e))
+  may_share a none = (is_made none, λ (e : q.others ≡ []). never (may.takes_part.1 e))
     where
-      no : alone ≡ true → ⊥
-      no t = cc
+      never : alone ≡ true → ⊥
+      never t = cc
 
 -- an entry that may be made was being made, where nothing stood against it
 pub was_making : (b : Base) (X : Repository) (o : Option Refusal) (e : Entry) → (o ≡ None → MayMake b X e) → WasMaking b X (made_of o e)

@@ -35,14 +35,14 @@ use Rattle.volatile_state.specs.Volatile.{Memory}
 
 may_take : (u t : Bool) (p taken : Option Entry) → t ≡ false → IfSome taken (λ e. (u ≡ false) × (p ≡ Some e)) → MayTake (phase_from u t p) taken
 may_take true t p None whole was = tt
-may_take true t p (Some e) whole was = absurd (no was.0)
+may_take true t p (Some e) whole was = absurd (never was.0)
   where
-    no : true ≡ false → ⊥
-    no e = cc
-may_take false true p taken whole was = absurd (no whole)
+    never : true ≡ false → ⊥
+    never e = cc
+may_take false true p taken whole was = absurd (never whole)
   where
-    no : true ≡ false → ⊥
-    no e = cc
+    never : true ≡ false → ⊥
+    never e = cc
 may_take false false p None whole was = tt
 may_take false false p (Some e) whole was = was.1
 
@@ -89,14 +89,14 @@ comes_up b x y k up c sessions o =
 
 stays_pending : (u t : Bool) (p o q : Option Entry) → t ≡ false → (o ≡ None) ⊎ ((u ≡ false) × (o ≡ p)) → q ≡ o → StaysPending (phase_from u t p) (Down q)
 stays_pending true t p o q whole (inl none) is = ap Down (is ∙ none)
-stays_pending true t p o q whole (inr same) is = absurd (no same.0)
+stays_pending true t p o q whole (inr same) is = absurd (never same.0)
   where
-    no : true ≡ false → ⊥
-    no e = cc
-stays_pending false true p o q whole why is = absurd (no whole)
+    never : true ≡ false → ⊥
+    never e = cc
+stays_pending false true p o q whole why is = absurd (never whole)
   where
-    no : true ≡ false → ⊥
-    no e = cc
+    never : true ≡ false → ⊥
+    never e = cc
 stays_pending false false p o q whole (inl none) is = inl (ap Down (is ∙ none))
 stays_pending false false p o q whole (inr same) is = inr (ap Down (is ∙ same.1))
 
