@@ -5,7 +5,7 @@ use front_end::Items;
 use ownership_check::{apply, has_next_number};
 use serial_model::What;
 use std::alloc::Global;
-use thor_value::{NoMemory, TryCopy};
+use thor_value::{NoMemory, TryCopy, both};
 
 /// The schemas of a store's epochs, and behind them those to which the upgrades of clients lead, in order.
 pub fn with_upgrades(
@@ -14,12 +14,18 @@ pub fn with_upgrades(
     clients: &[Items],
 ) -> Result<Schemas, NoMemory> {
     let mut schemas = schemas;
+    let taken = take_all(alloc, &mut schemas, clients);
+    let (schemas, _) = both(schemas, taken)?;
+    Ok(schemas)
+}
+
+fn take_all(alloc: Global, schemas: &mut Schemas, clients: &[Items]) -> Result<(), NoMemory> {
     for items in clients {
         for item in items.as_slice() {
-            take_item(alloc, &mut schemas, item)?;
+            take_item(alloc, schemas, item)?;
         }
     }
-    Ok(schemas)
+    Ok(())
 }
 
 fn take_item(alloc: Global, schemas: &mut Schemas, item: &What) -> Result<(), NoMemory> {
@@ -35,7 +41,7 @@ fn take_upgrade(alloc: Global, schemas: &mut Schemas, upgrade: &Upgrade) -> Resu
         return Err(NoMemory);
     }
     let schema = apply(alloc, last, upgrade)?;
-    let upgrade = upgrade.copy()?;
+    let (schema, upgrade) = both(schema, upgrade.copy())?;
     schemas.upgraded.push(UpgradedSchema { upgrade, schema })
 }
 

@@ -7,7 +7,7 @@ use crate::separate::{has_coordinators, has_own_names, is_below};
 use class_defs::{Root, Roots, Schemas};
 use std::alloc::Global;
 use store_check::{Fitting, Texts, fits, is_lawful, schemas_of};
-use thor_value::{NoMemory, Obj, Oref, OrefMap, Text};
+use thor_value::{NoMemory, Obj, Oref, OrefMap, Text, both};
 
 /// A repository with its prepared transactions taken.
 #[derive(Clone, Copy)]
@@ -27,26 +27,73 @@ pub(crate) fn check_store(
     store: &[Read<'_>],
     paged: OrefMap<Obj>,
 ) -> Result<(Schemas, OrefMap<Obj>), Unopened> {
-    let settled = settle_all(alloc, store)?;
-    let standing = standing_of(alloc, store, settled.as_slice())?;
+    let (paged, settled) = both(paged, settle_all(alloc, store))?;
+    let standing = standing_of(alloc, store, settled.as_slice());
+    let (paged, standing) = both(paged, standing)?;
+    check_standing(alloc, store, standing.as_slice(), paged)
+}
+
+fn check_standing(
+    alloc: Global,
+    store: &[Read<'_>],
+    standing: &[Stands],
+    paged: OrefMap<Obj>,
+) -> Result<(Schemas, OrefMap<Obj>), Unopened> {
+    let (paged, repos) = both(paged, number_at(store.len()))?;
     let Some((first, others)) = standing.split_first() else {
+        drop(paged);
         return Err(Unopened::NoMemory);
     };
-    let repos = number_at(store.len())?;
+    let (paged, schemas) = both(paged, checked_schemas(alloc, first, others, repos))?;
+    let (held, _) = both((schemas, paged), check_each(store, standing))?;
+    let (schemas, paged) = held;
+    let (schemas, objects) = both(schemas, joined(store, paged))?;
+    let checked = check_joined(alloc, first, store, &objects, &schemas);
+    let (held, _) = both((schemas, objects), checked)?;
+    Ok(held)
+}
+
+/// The schemas of the first repository, where the texts of the others are the same.
+fn checked_schemas(
+    alloc: Global,
+    first: &Stands,
+    others: &[Stands],
+    repos: u8,
+) -> Result<Schemas, Unopened> {
     let schemas = read_schemas(alloc, first, repos)?;
+    let (schemas, _) = both(schemas, check_others(alloc, first, others, repos))?;
+    Ok(schemas)
+}
+
+/// The other repositories have the texts, classes, roots and upgrades of the first one.
+fn check_others(
+    alloc: Global,
+    first: &Stands,
+    others: &[Stands],
+    repos: u8,
+) -> Result<(), Unopened> {
     for other in others {
         check_texts(alloc, first, other, repos)?;
     }
     for other in others {
         check_alike(first, other)?;
     }
-    check_each(store, standing.as_slice())?;
-    let objects = joined(store, paged)?;
-    check_objects(alloc, first, store, &objects, &schemas)?;
-    if !is_lawful(alloc, &schemas, repos)? {
+    Ok(())
+}
+
+/// The objects of all repositories fit, and the schemas break no rule.
+fn check_joined(
+    alloc: Global,
+    first: &Stands,
+    store: &[Read<'_>],
+    objects: &OrefMap<Obj>,
+    schemas: &Schemas,
+) -> Result<(), Unopened> {
+    check_objects(alloc, first, store, objects, schemas)?;
+    if !is_lawful(alloc, schemas, number_at(store.len())?)? {
         return Err(first.read.damaged(first.repo));
     }
-    Ok((schemas, objects))
+    Ok(())
 }
 
 fn settle_all(alloc: Global, store: &[Read<'_>]) -> Result<Vec<Settled>, NoMemory> {

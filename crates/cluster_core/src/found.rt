@@ -19,7 +19,7 @@ use disk_trait::Parts;
 use method_eval::{Names, View};
 use recovery::Recovered;
 use std::alloc::Global;
-use thor_value::{NoMemory, Obj, OrefMap};
+use thor_value::{NoMemory, Obj, OrefMap, both};
 
 /// What the disks of a store hold.
 #[derive(Drop)]
@@ -146,7 +146,13 @@ impl<P: Parts> Found<P> {
         ensures count { vec_len result ≡ parts_in self }
         ensures parts { (given : List P) → HasParts P.disks given self → AreSame P.disks given result.items }
     {
-        let Found { seats, spare, .. } = self;
+        let Found {
+            seats,
+            spare,
+            store,
+            ..
+        } = self;
+        drop(store);
         give_back(seats, spare)
     }
 }
@@ -289,10 +295,14 @@ fn store_of<P: Parts>(
     objects: OrefMap<Obj>,
     read: Result<(), Unopened>,
 ) -> Result<Store, Unopened> {
-    read?;
-    match reads_of(alloc, seats)? {
+    let (objects, _) = both(objects, read)?;
+    let (objects, reads) = both(objects, reads_of(alloc, seats))?;
+    match reads {
         Some(reads) => open_store(alloc, reads.as_slice(), objects),
-        None => Ok(Store::Fresh),
+        None => {
+            drop(objects);
+            Ok(Store::Fresh)
+        }
     }
 }
 
@@ -312,6 +322,8 @@ fn reads_of<P: Parts>(alloc: Global, seats: &[Seat<P>]) -> Result<Option<Vec<Rea
 fn open_store(alloc: Global, reads: &[Read<'_>], paged: OrefMap<Obj>) -> Result<Store, Unopened> {
     let (schemas, objects) = check_store(alloc, reads, paged)?;
     let Ok(epoch) = u32::try_from(schemas.upgraded.len()) else {
+        drop(schemas);
+        drop(objects);
         return Err(Unopened::NoMemory);
     };
     let stored = View {

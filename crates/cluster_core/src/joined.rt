@@ -2,7 +2,7 @@
 
 use crate::repository::Read;
 use commit_log::{Kind, Request};
-use thor_value::{NoMemory, Obj, OrefMap, Text, Texts, TryCopy, Ts};
+use thor_value::{NoMemory, Obj, OrefMap, Text, Texts, TryCopy, Ts, both};
 
 /// What a repository comes to once its prepared transactions are taken as their coordinators decided.
 #[derive(Drop)]
@@ -61,11 +61,17 @@ fn copy_of(text: &Text) -> Result<Text, NoMemory> {
 /// The objects of all repositories, over those of their pages.
 pub(crate) fn joined(store: &[Read<'_>], paged: OrefMap<Obj>) -> Result<OrefMap<Obj>, NoMemory> {
     let mut objects = paged;
-    for read in store {
-        take_buffer(read, &mut objects)?;
-        take_prepared(store, read, &mut objects)?;
-    }
+    let taken = take_all(store, &mut objects);
+    let (objects, _) = both(objects, taken)?;
     Ok(objects)
+}
+
+fn take_all(store: &[Read<'_>], objects: &mut OrefMap<Obj>) -> Result<(), NoMemory> {
+    for read in store {
+        take_buffer(read, objects)?;
+        take_prepared(store, read, objects)?;
+    }
+    Ok(())
 }
 
 fn take_buffer(read: &Read<'_>, objects: &mut OrefMap<Obj>) -> Result<(), NoMemory> {

@@ -60,13 +60,19 @@ impl<P: Parts> Known<P> {
     pub(crate) fn into_parts(self) -> P
         ensures { result ≡ self }
     {
-        let Known { parts, .. } = self;
+        let Known {
+            parts, recovered, ..
+        } = self;
+        drop(recovered);
         parts
     }
 
     /// The parts, to be formatted.
     pub(crate) fn into_settled(self) -> Settled<P> {
-        let Known { parts, .. } = self;
+        let Known {
+            parts, recovered, ..
+        } = self;
+        drop(recovered);
         Settled::new(parts)
     }
 

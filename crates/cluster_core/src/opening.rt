@@ -6,7 +6,7 @@ ghost use Rattle.std.specs.Prelude.{IfErr, IfOk, vec_len, ◌≡◌};
 use crate::accepting::with_upgrades;
 use crate::cluster::Cluster;
 use crate::fault::{ClusterFault, Unopened, number_at};
-use crate::found::{Found, Store};
+use crate::found::{Found, OpenStore, Store};
 use crate::plan::{Plan, Start};
 use crate::seat::{Seat, give_back};
 use crate::settling::settle_all;
@@ -14,7 +14,7 @@ use class_defs::{Schemas, Setup, UpgradedSchemas};
 use disk_trait::Parts;
 use front_end::{FrontEnd, Items, Opened};
 use std::alloc::Global;
-use thor_value::NoMemory;
+use thor_value::{NoMemory, both};
 
 impl<P: Parts> Cluster<P> {
     /// Opens what was found, with the clients of a plan.
@@ -78,18 +78,26 @@ fn told_to<P: Parts>(
     tries: u32,
     cache: u32,
 ) -> Result<(Opened, Vec<FrontEnd>), Unopened> {
-    let schemas = opened?;
-    let repos = number_at(seats.len())?;
-    let Ok(epoch) = u32::try_from(schemas.upgraded.len()) else {
-        return Err(Unopened::NoMemory);
-    };
-    let schemas = with_upgrades(alloc, schemas, clients.as_slice())?;
+    let (clients, schemas) = both(clients, opened)?;
+    let numbers = numbers_of(seats.len(), schemas.upgraded.len());
+    let (held, (repos, epoch)) = both((clients, schemas), numbers)?;
+    let (clients, schemas) = held;
+    let schemas = with_upgrades(alloc, schemas, clients.as_slice());
+    let (clients, schemas) = both(clients, schemas)?;
     let opened = Opened {
         repos,
         epoch,
         schemas,
     };
-    Ok((opened, make_clients(alloc, clients, tries, cache)?))
+    Ok(both(opened, make_clients(alloc, clients, tries, cache))?)
+}
+
+/// How many repositories and how many epochs there are. There is no memory for more than numbers can tell.
+fn numbers_of(repos: usize, epochs: usize) -> Result<(u8, u32), NoMemory> {
+    match u32::try_from(epochs) {
+        Ok(epoch) => Ok((number_at(repos)?, epoch)),
+        Err(_) => Err(NoMemory),
+    }
 }
 
 /// Opens every repository. The answer is the schemas of the store.
@@ -104,19 +112,24 @@ fn open_seats<P: Parts>(
 {
     match (store, start) {
         (Store::Open(store), Start::Stored) => {
+            let OpenStore { schemas, stored } = store;
+            drop(stored);
             let (seats, opened) = open_all(alloc, seats);
-            (seats, with(opened, store.schemas))
+            (seats, with(opened, schemas))
         }
         (Store::Fresh, Start::Setup(setup)) => {
             let (seats, formatted) = format_all(alloc, seats, &setup, mob);
-            let Setup { schema, roots: _ } = setup;
+            let Setup { schema, roots } = setup;
+            drop(roots);
             let schemas = Schemas {
                 first: schema,
                 upgraded: UpgradedSchemas::new(alloc),
             };
             (seats, with(formatted, schemas))
         }
-        (Store::Open(_), Start::Setup(_)) | (Store::Fresh, Start::Stored) => {
+        (store, start) => {
+            drop(store);
+            drop(start);
             (seats, Err(Unopened::NoMemory))
         }
     }
@@ -124,7 +137,7 @@ fn open_seats<P: Parts>(
 
 /// The schemas of a store whose repositories were opened.
 fn with(opened: Result<(), Unopened>, schemas: Schemas) -> Result<Schemas, Unopened> {
-    opened?;
+    let (schemas, _) = both(schemas, opened)?;
     Ok(schemas)
 }
 
@@ -230,11 +243,26 @@ fn make_clients(
     tries: u32,
     cache: u32,
 ) -> Result<Vec<FrontEnd>, NoMemory> {
-    let mut made = Vec::new(alloc);
+    let mut made = Ok(Vec::new(alloc));
     for items in clients {
-        let client = make_client(alloc, made.len(), items, tries, cache)?;
-        made.push(client)?;
+        made = with_client(alloc, made, items, tries, cache);
     }
+    made
+}
+
+/// The clients with one more.
+fn with_client(
+    alloc: Global,
+    made: Result<Vec<FrontEnd>, NoMemory>,
+    items: Items,
+    tries: u32,
+    cache: u32,
+) -> Result<Vec<FrontEnd>, NoMemory> {
+    let (items, made) = both(items, made)?;
+    let client = make_client(alloc, made.len(), items, tries, cache);
+    let (mut made, client) = both(made, client)?;
+    let pushed = made.push(client);
+    let (made, _) = both(made, pushed)?;
     Ok(made)
 }
 
@@ -246,9 +274,10 @@ fn make_client(
     tries: u32,
     cache: u32,
 ) -> Result<FrontEnd, NoMemory> {
-    let client = number_at(others)?.saturating_add(1);
+    let (items, others) = both(items, number_at(others))?;
     if cache == 0 || u32::try_from(items.len()).is_err() {
+        drop(items);
         return Err(NoMemory);
     }
-    FrontEnd::new(alloc, client, items, tries, cache)
+    FrontEnd::new(alloc, others.saturating_add(1), items, tries, cache)
 }

@@ -58,14 +58,32 @@ fn read_side<P: Parts>(
             place,
         });
     }
-    let mut pages = PageStore::new(alloc, &one_side(alloc, number, side)?)?;
+    let sides = one_side(alloc, number, side)?;
+    let pages = PageStore::new(alloc, &sides);
+    drop(sides);
+    let mut pages = pages?;
     match pages.read(parts, number) {
         Ok(page) => {
-            take_page(alloc, repo, page, objects)?;
-            Ok(page.len() > 0)
+            let taken = take_whole(alloc, repo, page, objects);
+            drop(pages);
+            taken
         }
-        Err(fault) => Err(fault_of(repo, fault)),
+        Err(fault) => {
+            drop(pages);
+            Err(fault_of(repo, fault))
+        }
     }
+}
+
+/// Puts the objects of a page into a map, and answers whether the page has any.
+fn take_whole(
+    alloc: Global,
+    repo: u8,
+    page: &Page,
+    objects: &mut OrefMap<Obj>,
+) -> Result<bool, Unopened> {
+    take_page(alloc, repo, page, objects)?;
+    Ok(page.len() > 0)
 }
 
 /// One installed page. Sides are 0 or 1.

@@ -57,10 +57,18 @@ pub(crate) fn read_repository<P: Parts>(
         Err(fault) => return Err(fault_of(repo, fault)),
     };
     if recovered.state.repo() != repo || recovered.state.repos() != repos {
-        return Err(damaged(&recovered, repo));
+        let fault = damaged(&recovered, repo);
+        drop(recovered);
+        return Err(fault);
     }
     let sides = recovered.state.objects().pages().sides();
-    let behind = read_pages(alloc, parts, repo, sides, objects)?;
+    let behind = match read_pages(alloc, parts, repo, sides, objects) {
+        Ok(behind) => behind,
+        Err(fault) => {
+            drop(recovered);
+            return Err(fault);
+        }
+    };
     Ok(Some((recovered, behind)))
 }
 

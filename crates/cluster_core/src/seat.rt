@@ -33,7 +33,11 @@ impl<P: Parts> Seat<P> {
             Seat::Parts(parts) => parts,
             Seat::Fresh(settled) => settled.into_parts(),
             Seat::Known(known) => known.into_parts(),
-            Seat::Open(repo) => repo.close().0,
+            Seat::Open(repo) => {
+                let (parts, trace) = repo.close();
+                drop(trace);
+                parts
+            }
         }
     }
 
