@@ -2,7 +2,8 @@
 
 ghost use Rattle.std.specs.Prelude.{vec_capacity, vec_len, ◌≡◌, ◌≤◌};
 
-use crate::fault::{ClusterFault, Unopened};
+use repository_reading::Unopened;
+use store_reading::ClusterFault;
 use crate::lent::{Turn, lend};
 use crate::seat::{Seat, give_back};
 use disk_trait::Parts;

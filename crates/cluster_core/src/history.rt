@@ -1,6 +1,6 @@
 //! The serial history of a run, from the traces of its repositories.
 
-use crate::fault::number_at;
+use repository_reading::number_at;
 use commit_log::{Entry, Kind, Request};
 use history_check::{Line, Lines};
 use repo_core::Trace;

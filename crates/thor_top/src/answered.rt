@@ -1,4 +1,4 @@
-ghost use Rattle.cluster_core.specs.Same.{AreSame};
+ghost use Rattle.repository_reading.specs.Same.{AreSame};
 ghost use Rattle.std.specs.Prelude.{◌≡◌, vec_len};
 
 use crate::reply::Reply;
@@ -31,7 +31,7 @@ pub fn unplayed<P>(alloc: Global, reply: Result<Reply, NoMemory>, parts: Vec<P>)
 }
 
 /// A reply with which no call on the parts was made.
-#[tactic(auto, using(cluster_core::proofs::Places::same_all))]
+#[tactic(auto, using(store_reading::proofs::Places::same_all))]
 pub fn untouched<P: Parts>(
     alloc: Global,
     reply: Result<Reply, NoMemory>,

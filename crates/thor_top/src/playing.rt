@@ -1,6 +1,6 @@
 //! A script's run.
 
-ghost use Rattle.cluster_core.specs.Counts.{parts_in};
+ghost use Rattle.store_reading.specs.Counts.{parts_in};
 ghost use Rattle.std.specs.Prelude.{◌≡◌, IfOk, IfSome, length, vec_len};
 ghost use Rattle.script_check.specs.Upgrading.{extended, upgrades_of};
 ghost use Rattle.serial_model.specs.Replays.{AreMade};
@@ -14,7 +14,8 @@ use crate::form::Form;
 use crate::reply::{Reply, unsettled};
 use crate::running::{Runtime, run_open};
 use class_defs::{Plain, Schemas, Setup};
-use cluster_core::{Cluster, ClusterFault, Finished, Found, Plan as Run, Ran, Start};
+use cluster_core::{Cluster, Finished, Plan as Run, Ran, Start};
+use store_reading::{ClusterFault, Found};
 use command_words::Plan;
 use disk_trait::Parts;
 use outside::Gate;

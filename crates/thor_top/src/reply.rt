@@ -5,7 +5,7 @@ ghost use Rattle.script_parse.specs.Refusals.{refusal_text};
 ghost use Rattle.thor_top.specs.Texts.{TellsUnopened, TellsUnsettled, damaged_text, disk_text, limit_text};
 
 use crate::status::Status;
-use cluster_core::Unopened;
+use repository_reading::Unopened;
 use script_parse::{Refusal, refusal_text};
 use std::alloc::Global;
 use std::fmt::Write;

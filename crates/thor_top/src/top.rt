@@ -1,7 +1,7 @@
 ghost use Rattle.std.specs.Prelude.{◌≡◌, ◌≤◌, ◌⊎◌, ◌++◌, ◌∷◌, [], List, None, Some, IfOk, IfSome, codes, length, vec_len, ℕ};
 ghost use Rattle.std.specs.String.{string_bytes};
-ghost use Rattle.cluster_core.specs.Counts.{HasParts, parts_in};
-ghost use Rattle.cluster_core.specs.Same.{AreSame};
+ghost use Rattle.store_reading.specs.Counts.{HasParts, parts_in};
+ghost use Rattle.repository_reading.specs.Same.{AreSame};
 ghost use Rattle.command_words.specs.Words.{plan_of};
 ghost use Rattle.command_words.specs.declared.command.Command.TheVariants.{Check, Gen};
 ghost use Rattle.command_words.specs.declared.command.Plan.{Plan};
@@ -24,7 +24,7 @@ use crate::running::Runtime;
 use crate::starting::base_of;
 use crate::status::Status;
 use class_defs::Schemas;
-use cluster_core::{ClusterFault, Found};
+use store_reading::{ClusterFault, Found};
 use command_words::{Command, Plan, WordsFault, read_words};
 use disk_trait::Parts;
 use generator::generate;
