@@ -1,9 +1,9 @@
 -- All disks of a repository are synced, one after the other.
 use Rattle.disk_trait.specs.AllDisks.{AllSettled, LeavesAll, MayLeaveAll, SameContent}
 use Rattle.disk_trait.specs.Disks.{Disks, IsSettled, MayLeave, NoNewImage, OnDisk}
-use Rattle.repository_reading.specs.Same.{Same}
+use Rattle.repository_reading.specs.Same.{AreSame, Same}
 use Rattle.disk_trait.proofs.Several.{all_now, content_stays, settled_beside}
-use Rattle.std.proofs.Common.{List, arith, inl, inr, refl, subst, suc, sym, zero, ◌∙◌, ◌≡◌, ◌≢◌, ℕ}
+use Rattle.std.proofs.Common.{List, [], arith, inl, inr, refl, subst, suc, sym, zero, ◌∙◌, ◌≡◌, ◌≢◌, ◌∷◌, ℕ}
 use Rattle.std.proofs.lemmas.Bool.{cases_eq}
 
 not_one : ◌≢◌ {A = ℕ} 0 1
@@ -46,3 +46,8 @@ same_beside old new disk alone content crash = record {
 -- calls on all disks of which a crash leaves what it could leave before
 pub same_content : (old new : Disks) → SameContent old new → LeavesAll old new (MayLeaveAll old old.time) → Same old new
 same_content old new content run = record { content = content; crash = all_now old new (MayLeaveAll old old.time) run }
+
+-- nothing was done
+pub same_all : {P : Type 0} (disks : P → Disks) (parts : List P) → AreSame disks parts parts
+same_all disks [] = tt
+same_all disks (p ∷ parts) = (same_none (disks p), same_all disks parts)

@@ -1,5 +1,4 @@
 -- The seats of a store beside its parts.
-use Rattle.repository_reading.proofs.Syncing.{same_none}
 use Rattle.repository_reading.specs.Same.{AreSame}
 use Rattle.store_reading.specs.Seated.{AreSeated, Gives}
 use Rattle.store_reading.specs.declared.closed.Closed.{Closed}
@@ -43,8 +42,3 @@ gives_all disks [] (s ∷ seats) back seated gives = absurd seated
 gives_all disks (q ∷ given) [] back seated gives = absurd seated
 gives_all disks (q ∷ given) (s ∷ seats) [] seated gives = absurd gives
 gives_all disks (q ∷ given) (s ∷ seats) (p ∷ back) seated gives = (gives.0 q seated.0, gives_all disks given seats back seated.1 gives.1)
-
--- nothing was done
-pub same_all : {P : Type 0} (disks : P → Disks) (parts : List P) → AreSame disks parts parts
-same_all disks [] = tt
-same_all disks (p ∷ parts) = (same_none (disks p), same_all disks parts)

@@ -58,7 +58,7 @@ impl<P: Parts> Found<P> {
     /// Reads and checks every repository, rising, with all its installed pages, and then whether they fit
     /// together. Its disks are synced before they are read, so that what was read outlives a crash. The buffer
     /// of a repository is to be full at `mob` bytes, 1 to 16,777,216.
-    #[tactic(auto, using(crate::proofs::Places::gives_all, crate::proofs::Places::same_all))]
+    #[tactic(auto, using(crate::proofs::Places::gives_all, repository_reading::proofs::Syncing::same_all))]
     pub fn read(alloc: Global, parts: Vec<P>, mob: u32) -> Result<Found<P>, ClusterFault<P>>
         ensures ok { IfOk result (λ found. parts_in found ≡ vec_len parts) }
         ensures err { IfErr result (λ fault. vec_len fault.parts ≡ vec_len parts) }

@@ -2,7 +2,7 @@
 
 ghost use Rattle.std.specs.Prelude.{◌≡◌, ◌<◌, ◌^◌, IfOk, IfSome, length};
 ghost use Rattle.script_parse.specs.Script.{HasFew};
-ghost use Rattle.thor_top.specs.Opening.{IsBase, first_schemas};
+ghost use Rattle.command_answer.specs.Opening.{IsBase, first_schemas};
 
 use class_defs::{Declarations, Schemas, UpgradedSchemas};
 use store_reading::Found;
