@@ -13,8 +13,8 @@ returns-clause-found g c =
     let pages : AgreesWhere r.state.objects.pages = rw c.in-Ok-Some.field-0-is at c.in-Ok-Some.ensures.pages in
     recovered_on (g.P.Parts.disks c.recover.new.parts) (g.P.Parts.disks c.read_pages.new.parts) r c.read_pages.ensures (record { state = said r.state; holds = holds; keeps = keeps; pages = pages })
 
-pub returns-in_err-behind-clause-same : goal.returns-in_err-behind-clause-same
-returns-in_err-behind-clause-same g c = same_read (g.P.Parts.disks c.args.parts.now) (g.P.Parts.disks c.sync.new.parts) (g.P.Parts.disks c.recover.new.parts) (g.P.Parts.disks c.read_pages.new.parts) c.sync.ensures.same c.recover.ensures.content c.recover.ensures.any_moment c.read_pages.ensures
+pub returns-in-Err-read_pages-clause-same : goal.returns-in-Err-read_pages-clause-same
+returns-in-Err-read_pages-clause-same g c = same_read (g.P.Parts.disks c.args.parts.now) (g.P.Parts.disks c.sync.new.parts) (g.P.Parts.disks c.recover.new.parts) (g.P.Parts.disks c.read_pages.new.parts) c.sync.ensures.same c.recover.ensures.content c.recover.ensures.any_moment c.read_pages.ensures
 
 pub returns-clause-same : goal.returns-clause-same
 returns-clause-same g c = same_read (g.P.Parts.disks c.args.parts.now) (g.P.Parts.disks c.sync.new.parts) (g.P.Parts.disks c.recover.new.parts) (g.P.Parts.disks c.read_pages.new.parts) c.sync.ensures.same c.recover.ensures.content c.recover.ensures.any_moment c.read_pages.ensures
