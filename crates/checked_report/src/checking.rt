@@ -3,7 +3,7 @@
 ghost use Rattle.std.specs.Prelude.{◌≡◌, IfOk, true};
 ghost use Rattle.std.specs.List.{list_all, list_any};
 ghost use Rattle.serial_model.specs.History.{after};
-ghost use Rattle.serial_model.specs.Replays.{AreMade};
+ghost use Rattle.class_defs.specs.declared.store.Plain.{Plain};
 ghost use Rattle.checked_report.specs.Reports as spec;
 ghost use Rattle.checked_report.specs.Reports.{IsReported};
 ghost use Rattle.thor_value.specs.FiniteMap.{IsSorted};
@@ -12,11 +12,11 @@ use crate::form::Form;
 use crate::reply::Reply;
 use crate::status::Status;
 use class_defs::{Plain, Schemas};
-use history_check::{Lines, checked_history};
+use history_check::{CheckedHistory, Lines, checked_history};
 use report_text::print_report;
 use run_summary::{accounts_sum, print_summary};
 use script_parse::{Items, Script};
-use serial_model::{Cause, Dids, Ended, Ends, ItemOutcome, ReplayError, are_made, replay};
+use serial_model::{Cause, Ended, Ends, ItemOutcome, are_made};
 use std::alloc::Global;
 use thor_value::{NoMemory, Text};
 
@@ -141,40 +141,20 @@ fn status_of(finished: bool) -> Status
     }
 }
 
-/// What the accounts are together in the store behind a history.
-fn sum_behind(
-    alloc: Global,
-    schemas: &Schemas,
-    store: &Plain,
-    history: &Dids,
-) -> Result<i64, NoMemory>
-    requires made { AreMade schemas.now }
-    requires sorted { IsSorted store.now.objects }
-    ensures { IfOk result (λ sum. sum ≡ spec.sum_in schemas.now (after schemas.now history.now store.now)) }
-{
-    match replay(alloc, history, store, schemas) {
-        Ok(end) => accounts_sum(alloc, schemas, &end),
-        Err(ReplayError::NotLegal { index: _ }) | Err(ReplayError::NoMemory) => Err(NoMemory),
-    }
-}
-
 /// The text of a run whose history was checked.
 fn run_text(
     alloc: Global,
     form: Form,
     schemas: &Schemas,
-    store: &Plain,
     ends: &Ends,
-    history: &Dids,
+    checked: &CheckedHistory,
 ) -> Result<Text, NoMemory>
-    requires made { AreMade schemas.now }
-    requires sorted { IsSorted store.now.objects }
-    ensures { IfOk result (λ text. text ≡ spec.run_text form schemas.now store.now ends.now history.now) }
+    ensures { (store : Plain) → checked.now.end ≡ after schemas.now checked.now.history store → IfOk result (λ text. text ≡ spec.run_text form schemas.now store ends.now checked.now.history) }
 {
     match form {
-        Form::Report => print_report(alloc, ends, history),
+        Form::Report => print_report(alloc, ends, &checked.history),
         Form::Summary => {
-            let sum = sum_behind(alloc, schemas, store, history)?;
+            let sum = accounts_sum(alloc, schemas, &checked.end)?;
             print_summary(alloc, ends, sum)
         }
     }
@@ -198,9 +178,9 @@ pub fn report(
         return Err(NoMemory);
     }
     match checked_history(alloc, schemas, store, &script.clients, lines, ends)? {
-        Some(history) => Ok(Reply {
+        Some(checked) => Ok(Reply {
             status: status_of(are_finished(ends.as_slice())),
-            text: run_text(alloc, form, schemas, store, ends, &history)?,
+            text: run_text(alloc, form, schemas, ends, &checked)?,
         }),
         None => Err(NoMemory),
     }
