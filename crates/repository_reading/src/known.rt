@@ -10,7 +10,6 @@ use recovery::Recovered;
 use std::marker::Model;
 
 /// A repository as its logs tell it, with its parts: what was recovered is what its disks stand for.
-#[derive(Drop)]
 pub struct Known<P: Parts> {
     parts: P,
     recovered: Recovered,
@@ -26,6 +25,18 @@ impl<P: Parts> Model for Known<P> {
     ghost view = { λ k. k.parts };
 
     ghost invariant = { λ k. IsRecovered (P.disks k.parts) k.recovered };
+}
+
+impl<P: Parts> Drop for Known<P> {
+    fn drop(self) {
+        let Known {
+            parts,
+            recovered,
+            behind: _,
+        } = self;
+        drop(recovered);
+        drop(parts);
+    }
 }
 
 impl<P: Parts> Known<P> {
@@ -59,7 +70,9 @@ impl<P: Parts> Known<P> {
         ensures { result ≡ self }
     {
         let Known {
-            parts, recovered, ..
+            parts,
+            recovered,
+            behind: _,
         } = self;
         drop(recovered);
         parts
@@ -68,7 +81,9 @@ impl<P: Parts> Known<P> {
     /// The parts, to be formatted.
     pub fn into_settled(self) -> Settled<P> {
         let Known {
-            parts, recovered, ..
+            parts,
+            recovered,
+            behind: _,
         } = self;
         drop(recovered);
         Settled::new(parts)
@@ -80,7 +95,9 @@ impl<P: Parts> Known<P> {
         ensures recovered { IsRecovered (P.disks result.0) result.1 }
     {
         let Known {
-            parts, recovered, ..
+            parts,
+            recovered,
+            behind: _,
         } = self;
         (parts, recovered)
     }

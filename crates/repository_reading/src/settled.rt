@@ -7,7 +7,6 @@ use disk_trait::Parts;
 use std::marker::Model;
 
 /// The parts of a repository whose disks are settled: a crash leaves of them what a read gives.
-#[derive(Drop)]
 pub struct Settled<P: Parts> {
     parts: P,
 }
@@ -20,6 +19,13 @@ impl<P: Parts> Model for Settled<P> {
     ghost view = { λ s. s.parts };
 
     ghost invariant = { λ s. AllSettled (P.disks s.parts) };
+}
+
+impl<P: Parts> Drop for Settled<P> {
+    fn drop(self) {
+        let Settled { parts } = self;
+        drop(parts);
+    }
 }
 
 impl<P: Parts> Settled<P> {
