@@ -1,6 +1,6 @@
 //! Transactions that were left prepared are settled by their coordinators.
 
-use crate::fault::{Unopened, number_at};
+use repository_reading::{Unopened, number_at};
 use crate::lent_calls;
 use crate::seat::Seat;
 use disk_trait::Parts;
