@@ -9,14 +9,13 @@ use Rattle.disk_trait.proofs.Several.{content_stays, settled_still}
 use Rattle.log_bytes.specs.declared.state.State.{State}
 use Rattle.log_frame.specs.Log.{Place}
 use Rattle.page_format.specs.Pages.{page_size}
-use Rattle.page_format.specs.Sides.{side_in_use}
 use Rattle.page_store.specs.Sides.{ReachesSides, place_of}
 use Rattle.recovery.specs.declared.recovered.Recovered.{Recovered}
 use Rattle.held_state.specs.Said.{said}
 use Rattle.state_log.proofs.Holding.{is_log, stands_of}
 use Rattle.state_log.specs.Holds.{Holds, beside}
 use Rattle.state_log.specs.Recovered.{stands}
-use Rattle.std.proofs.Common.{List, None, Option, Some, [], ap, arith, cond, length, refl, subst, sym, ◌+◌, ◌<◌, ◌∙◌, ◌≡◌, ◌∷◌, ◌≤◌, ℕ}
+use Rattle.std.proofs.Common.{List, None, Some, [], ap, arith, cond, length, refl, subst, sym, ◌+◌, ◌<◌, ◌∙◌, ◌≡◌, ◌∷◌, ◌≤◌, ℕ}
 use Rattle.class_defs.specs.Stored.{Objects}
 use Rattle.repository_reading.specs.Paged.{ArePaged, PutsPaged, PutsStored}
 use Rattle.std.proofs.lemmas.Option.{same_Some}
