@@ -67,7 +67,7 @@ module _ (w : World) (v : Expr → Action Value) (b : List Stmt → Action Flow)
   kind_known (Some Free) x t m k = tt
   kind_known None x t m k = tt
 
-  owners_known : (c : ℕ) (x : Oref) (m : Machine) → Sound m → AllKnown m (owners_at w.schema.classes c x m)
+  pub owners_known : (c : ℕ) (x : Oref) (m : Machine) → Sound m → AllKnown m (owners_at w.schema.classes c x m)
   unfolding owners_at
   owners_known c x m s = kind_known (option_map (λ d. d.kind) (slice_get w.schema.classes c)) x m.this m s.this
 

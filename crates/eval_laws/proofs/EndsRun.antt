@@ -31,7 +31,7 @@ module _ (w : World) where
   order_goes r h [] = value w Next
   order_goes r h (s ∷ ss) = bind w (r s) _ (h s) (λ flow. unless_goes flow (in_order r ss) (order_goes r h ss))
 
-  block_goes : (r : Stmt → Action Flow) → ((s : Stmt) → Goes w (r s)) → (ss : List Stmt) → Goes w (block_of r ss)
+  pub block_goes : (r : Stmt → Action Flow) → ((s : Stmt) → Goes w (r s)) → (ss : List Stmt) → Goes w (block_of r ss)
   unfolding block_of
   block_goes r h ss m s =
       bind w (in_order r ss) _ (order_goes r h ss)
@@ -77,11 +77,11 @@ module _ (w : World) where
     statement_goes s = statement_at_goes (out-Stmt s)
 
   -- expressions and statements, as deep as n
-  record Both (n : ℕ) : Type 0 where
-    values : (e : Expr) → Goes w ((meaning w n).value_of e)
-    statements : (s : Stmt) → Goes w ((meaning w n).execute s)
+  pub record Both (n : ℕ) : Type 0 where
+    pub values : (e : Expr) → Goes w ((meaning w n).value_of e)
+    pub statements : (s : Stmt) → Goes w ((meaning w n).execute s)
 
-  both : (n : ℕ) → Both n
+  pub both : (n : ℕ) → Both n
   unfolding meaning
   both zero = record { values = λ e. faults w fault.Steps; statements = λ s. faults w fault.Steps }
   both (suc n) =

@@ -55,7 +55,7 @@ module _ (w : World) (epoch : ℕ) (m : Machine) where
   name_of (Err (stop.NeedName other)) repo h is =
       let e : other ≡ repo = cc in (ap (λ k. Err (stop.NeedName k)) e, subst (λ k. take_name k m.names ≡ None) e h)
 
-  read_of : (o : Result Flow Stop) (a : Answer) (reads : List Oref) (writes : List (Oref × Obj)) (fresh : List Oref)
+  pub read_of : (o : Result Flow Stop) (a : Answer) (reads : List Oref) (writes : List (Oref × Obj)) (fresh : List Oref)
       → ran_at epoch o m ≡ Done a reads writes fresh → HadObjects o × (keys m.reads ≡ reads)
   read_of (Ok flow) a reads writes fresh is = (tt, cc)
   read_of (Err (stop.Fault f)) a reads writes fresh is = (tt, cc)
