@@ -74,8 +74,8 @@ module _ (c : ℕ) (b : Base) (T : List Item) (committed : Ts → Bool) (kept : 
     there = behind b T (M m) kept.session h.v h.there taking;
     own = same_client b kept.session (state b (entries T)) (M m) h.v ∙ h.own;
     keeps = λ _ live.
-      let k = h.keeps refl (was_live b kept.session (state b (entries T)) (M m) h.v live) in
-      keeps_on b T (M m) kept.session h.v committed h.there (passive_mark taking (subst (λ (n : ℕ). n ≤ upto_of h.v) (sym acked) k.step.acked)) sd_then kept refl live plain none_then k;
+        let k = h.keeps refl (was_live b kept.session (state b (entries T)) (M m) h.v live) in
+        keeps_on b T (M m) kept.session h.v committed h.there (passive_mark taking (subst (λ (n : ℕ). n ≤ upto_of h.v) (sym acked) k.step.acked)) sd_then kept refl live plain none_then k;
   }
 
   -- an answer that was asked for
@@ -88,8 +88,8 @@ module _ (c : ℕ) (b : Base) (T : List Item) (committed : Ts → Bool) (kept : 
     there = behind b T (M m) kept.session h.v h.there taking;
     own = same_client b kept.session (state b (entries T)) (M m) h.v ∙ h.own;
     keeps = λ _ live.
-      let k = h.keeps refl (was_live b kept.session (state b (entries T)) (M m) h.v live) in
-      goes_on b T (M m) kept.session h.v committed h.there (passive_mark taking (acked k.step k.known)) sd_then kept true refl live
+        let k = h.keeps refl (was_live b kept.session (state b (entries T)) (M m) h.v live) in
+        goes_on b T (M m) kept.session h.v committed h.there (passive_mark taking (acked k.step k.known)) sd_then kept true refl live
         (subst (λ (o : Option Notice). All (StaysRight b (entries (T ++ M m ∷ [])) kept.session committed) (list_of o)) (sym sends) (All-cons (StaysRight b (entries (T ++ M m ∷ [])) kept.session committed) n [] right (All-nil (StaysRight b (entries (T ++ M m ∷ [])) kept.session committed))))
         (few k.asked) none_then k;
   }
@@ -128,10 +128,12 @@ module _ (c : ℕ) (b : Base) (T : List Item) (committed : Ts → Bool) (kept : 
       (ap (λ (t : Bool). cond t (Some (Page page (state b (entries T)).length)) None) (same_number kept.session))
       (λ x on. (
         subst (λ (n : ℕ). OthersSince kept.session n (writers b (entries (T ++ M (the.Fetched kept.session page kept.upto) ∷ [])) x)) (sym (length-state b (entries T)))
-        (subst (λ (H : List Entry). OthersSince kept.session (length (entries T)) (writers b H x)) (sym (after-mark b T (the.Fetched kept.session page kept.upto))) (none_since (entries T) x)),
+            (subst (λ (H : List Entry). OthersSince kept.session (length (entries T)) (writers b H x)) (sym (after-mark b T (the.Fetched kept.session page kept.upto))) (none_since (entries T) x)),
         λ d t w own.
-        let is : known_by b (entries T) t ≡ Some w = ap (λ (H : List Entry). known_by b H t) (sym (after-mark b T (the.Fetched kept.session page kept.upto))) ∙ own.there in
-        let e : false ≡ true = sym (settled t w is own.open' own.own) ∙ own.settled in cc))
+            let is : known_by b (entries T) t ≡ Some w = ap (λ (H : List Entry). known_by b H t) (sym (after-mark b T (the.Fetched kept.session page kept.upto))) ∙ own.there in
+            let e : false ≡ true = sym (settled t w is own.open' own.own) ∙ own.settled in cc,
+      ))
+
   -- a page of names is asked for
   pub fits_granted : (page : ℕ) → kept.awaits ≡ false → FitsAt c b Calm (T ++ M (the.Granted kept.session page) ∷ []) committed (record kept { awaits = true })
   fits_granted page idle =

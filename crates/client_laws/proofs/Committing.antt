@@ -135,10 +135,12 @@ module _ (c : ℕ) (b : Base) (T : List Item) (committed : Ts → Bool) (kept : 
             let low = low_page (get h.v.pages x.page) (length (entries T)) page (λ n is. (keeps-pages b kept.session T h.v h.there before).below x.page n is) in
             (inl (length (entries T) + 1, own-right b T e kept.session h.v w q x o h.there there k.step commits (g ∙ copy) low), pages-grown b T (E e) kept.session h.v w x.page ps page)
         by None g copy =
-            let y = f.current x o here copy in
-            (current-grown b T (E e) kept.session h.v w committed x o ps k.step y.1 sd none
-              (subst (OthersOrSame kept.session x o) (sym commits) (All-cons (λ c. has_written c.1 x ≡ true → (nat_eq c.1.session kept.session ≡ false) ⊎ (get (written c.1) x ≡ Some o)) (length (entries T), q) [] (λ z. let e : false ≡ true = sym (ap is_some g) ∙ z in cc) (All-nil (λ c. has_written c.1 x ≡ true → (nat_eq c.1.session kept.session ≡ false) ⊎ (get (written c.1) x ≡ Some o)))))
-              y.0, pages-grown b T (E e) kept.session h.v w x.page ps y.1)
+            let y = f.current x o here copy in (
+              current-grown b T (E e) kept.session h.v w committed x o ps k.step y.1 sd none
+                  (subst (OthersOrSame kept.session x o) (sym commits) (All-cons (λ c. has_written c.1 x ≡ true → (nat_eq c.1.session kept.session ≡ false) ⊎ (get (written c.1) x ≡ Some o)) (length (entries T), q) [] (λ z. let e : false ≡ true = sym (ap is_some g) ∙ z in cc) (All-nil (λ c. has_written c.1 x ≡ true → (nat_eq c.1.session kept.session ≡ false) ⊎ (get (written c.1) x ≡ Some o)))))
+                  y.0,
+              pages-grown b T (E e) kept.session h.v w x.page ps y.1,
+            )
 
     -- the answers that wait are none
     no_answers : session_lives w ≡ true → KeepsUp b T committed h.v kept → replies w ≡ []
@@ -150,19 +152,19 @@ module _ (c : ℕ) (b : Base) (T : List Item) (committed : Ts → Bool) (kept : 
       there = there;
       own = same_client b kept.session (state b (entries T)) (E e) h.v ∙ h.own;
       keeps = λ _ live.
-        let before = was_live b kept.session (state b (entries T)) (E e) h.v live in
-        let k : KeepsUp b T committed h.v kept = h.keeps refl before in
-        let l : Later h.v w = move-later b kept.session (state b (entries T)) (E e) h.v k.step.taken refl in
-        record {
-          known = k.known ∙ sym l.upto;
-          step = step-kept b T (E e) kept.session h.v w h.there there k.step refl (acked k.step k.known);
-          asked = subst (λ (ms : List Notice). length ms ≤ one_if kept.awaits) (sym (no_answers live k)) (none_asked kept.awaits);
-          copies = λ tells. record {
-            current = λ x o here copy. current live k (k.copies tells) x o here (sym (become tells x here) ∙ copy);
-            own = λ x o d t p here wrote copy. absurd (none_open x d t p wrote);
-            pages = news_wait b (entries (T ++ E e ∷ [])) kept.session committed (waiting w) (no_answers live k);
+          let before = was_live b kept.session (state b (entries T)) (E e) h.v live in
+          let k : KeepsUp b T committed h.v kept = h.keeps refl before in
+          let l : Later h.v w = move-later b kept.session (state b (entries T)) (E e) h.v k.step.taken refl in
+          record {
+            known = k.known ∙ sym l.upto;
+            step = step-kept b T (E e) kept.session h.v w h.there there k.step refl (acked k.step k.known);
+            asked = subst (λ (ms : List Notice). length ms ≤ one_if kept.awaits) (sym (no_answers live k)) (none_asked kept.awaits);
+            copies = λ tells. record {
+              current = λ x o here copy. current live k (k.copies tells) x o here (sym (become tells x here) ∙ copy);
+              own = λ x o d t p here wrote copy. absurd (none_open x d t p wrote);
+              pages = news_wait b (entries (T ++ E e ∷ [])) kept.session committed (waiting w) (no_answers live k);
+            };
           };
-        };
     }
       where
         none_asked : (t : Bool) → 0 ≤ one_if t
@@ -180,11 +182,11 @@ module _ (c : ℕ) (b : Base) (T : List Item) (committed : Ts → Bool) (kept : 
     acked = acked k.step k.known;
     commits = subst (All (λ c. nat_eq c.1.session kept.session ≡ true → IsFinishing b (entries T) committed c.1)) (sym commits) (All-nil (λ c. nat_eq c.1.session kept.session ≡ true → IsFinishing b (entries T) committed c.1));
     fresh = λ t w is open' own settled new.
-      let sd' : sound b (entries T ++ e ∷ []) = subst (sound b) (after_entry b T e) sd in
-      elim (came_end b (entries T) e (sound-beginning b (entries T) (e ∷ []) sd') (owed-end b (entries T) e sd') t w (ap (λ (H : List Entry). known_by b H t) (sym (after_entry b T e)) ∙ is)) [
-        | inl x ↦ let f : false ≡ true = sym (asks w.request x.1.0) ∙ ap committed x.1.1 ∙ settled in cc
-        | inr old ↦ let f : None ≡ Some old.0 = sym new ∙ old.1 in cc
-      ];
+        let sd' : sound b (entries T ++ e ∷ []) = subst (sound b) (after_entry b T e) sd in
+        elim (came_end b (entries T) e (sound-beginning b (entries T) (e ∷ []) sd') (owed-end b (entries T) e sd') t w (ap (λ (H : List Entry). known_by b H t) (sym (after_entry b T e)) ∙ is)) [
+          | inl x ↦ let f : false ≡ true = sym (asks w.request x.1.0) ∙ ap committed x.1.1 ∙ settled in cc
+          | inr old ↦ let f : None ≡ Some old.0 = sym new ∙ old.1 in cc
+        ];
   }
 
   pub fits_undecided : FitsAt c b Calm (T ++ E e ∷ []) committed kept
@@ -193,8 +195,8 @@ module _ (c : ℕ) (b : Base) (T : List Item) (committed : Ts → Bool) (kept : 
     there = behind b T (E e) kept.session h.v h.there refl;
     own = same_client b kept.session (state b (entries T)) (E e) h.v ∙ h.own;
     keeps = λ _ live.
-      let k = h.keeps refl (was_live b kept.session (state b (entries T)) (E e) h.v live) in
-      keeps_on b T (E e) kept.session h.v committed h.there (unsettled k) sd kept refl live (told_plain kept.session (state b (entries T)) h.v (commit_of b (state b (entries T)) e)) none k;
+        let k = h.keeps refl (was_live b kept.session (state b (entries T)) (E e) h.v live) in
+        keeps_on b T (E e) kept.session h.v committed h.there (unsettled k) sd kept refl live (told_plain kept.session (state b (entries T)) h.v (commit_of b (state b (entries T)) e)) none k;
   }
 
 -- what a request acknowledges isn't more than is known, where it carries what is known
@@ -224,17 +226,17 @@ module _ (c : ℕ) (b : Base) (T : List Item) (committed later : Ts → Bool) (k
     there = h.there;
     own = h.own;
     keeps = λ _ live.
-      let k : KeepsUp b T committed h.v kept = h.keeps refl live in
-      record {
-        known = k.known;
-        step = k.step;
-        asked = k.asked;
-        copies = λ tells. record {
-          current = λ x d here copy. current (k.copies tells) x d here (sym (become tells x here) ∙ copy);
-          own = λ x z d u p here own copy. written_one x z d u p own (sym (become tells x here) ∙ copy);
-          pages = news_wait b (entries T) kept.session later (waiting h.v) (idle_replies h.v kept.awaits idle k.asked);
+        let k : KeepsUp b T committed h.v kept = h.keeps refl live in
+        record {
+          known = k.known;
+          step = k.step;
+          asked = k.asked;
+          copies = λ tells. record {
+            current = λ x d here copy. current (k.copies tells) x d here (sym (become tells x here) ∙ copy);
+            own = λ x z d u p here own copy. written_one x z d u p own (sym (become tells x here) ∙ copy);
+            pages = news_wait b (entries T) kept.session later (waiting h.v) (idle_replies h.v kept.awaits idle k.asked);
+          };
         };
-      };
   }
     where
       current : CopiesFit b (entries T) kept.session h.v committed kept.copies → (x : Oref) (d : Obj) → x.repo ≡ b.repo → with_writes o.request kept.copies x ≡ Some d → IsCurrent b (entries T) kept.session h.v later x d × (has h.v.pages x.page ≡ true)
@@ -264,8 +266,8 @@ fits_told c b T committed later kept more own h = record {
   there = h.there;
   own = h.own;
   keeps = λ _ live.
-    let k : KeepsUp b T committed h.v kept = h.keeps refl live in
-    record { known = k.known; step = k.step; asked = k.asked; copies = λ tells. copies (k.copies tells) };
+      let k : KeepsUp b T committed h.v kept = h.keeps refl live in
+      record { known = k.known; step = k.step; asked = k.asked; copies = λ tells. copies (k.copies tells) };
 }
   where
     back : (x : Oref) (d : Obj) (u : Ts) (o : Known) → IsOwnWrite b (entries T) kept.session later x d u o → IsOwnWrite b (entries T) kept.session committed x d u o

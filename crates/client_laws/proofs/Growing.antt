@@ -37,9 +37,9 @@ pub agrees_before : (b : Base) (H more : List Entry) (s : ℕ) (committed : Ts �
 agrees_before b H more s committed sd a = record {
   kept = none-aborted-back b H more committed sd a.kept;
   led = λ t o is own done.
-    let y = stays b H more sd t o is in
-    let st : Stays o y.0 = y.2 in
-    a.led t y.0 y.1 (sym_session o y.0 st own) (committed_on o.fate y.0.fate st.fate done);
+      let y = stays b H more sd t o is in
+      let st : Stays o y.0 = y.2 in
+      a.led t y.0 y.1 (sym_session o y.0 st own) (committed_on o.fate y.0.fate st.fate done);
 }
   where
     sym_session : (o w : Known) → Stays o w → o.request.session ≡ s → w.request.session ≡ s
@@ -55,8 +55,8 @@ module _ (c : ℕ) (b : Base) (committed : Ts → Bool) (kept : Kept) where
     there = behind b T i kept.session h.v h.there (taking b c T kept.session h.v committed h.there h.own i other k);
     own = same_client b kept.session (state b (entries T)) i h.v ∙ h.own;
     keeps = λ calm live.
-      let before = h.keeps refl (was_live b kept.session (state b (entries T)) i h.v live) in
-      keeps_on b T i kept.session h.v committed h.there (passive b c T kept.session h.v committed h.there h.own i other k before.step.acked sd a) sd kept refl live (plain b c T kept.session h.v committed h.there h.own i other) a.kept before;
+        let before = h.keeps refl (was_live b kept.session (state b (entries T)) i h.v live) in
+        keeps_on b T i kept.session h.v committed h.there (passive b c T kept.session h.v committed h.there h.own i other k before.step.acked sd a) sd kept refl live (plain b c T kept.session h.v committed h.there h.own i other) a.kept before;
   }
 
   -- no session is live behind a Life
@@ -106,7 +106,7 @@ module _ (c : ℕ) (b : Base) (committed : Ts → Bool) (kept : Kept) where
       let split : entries (U ++ is) ≡ entries U ++ entries is = entries-append U is in
       let here : sound b (entries U ++ entries is) = subst (sound b) split sd' in
       let one = grown_one u g.0 T i g.1 (exact-owed b T i (exact-beginning b U is k')) (sound-beginning b (entries U) (entries is) here)
-        (agrees_before b (entries U) (entries is) kept.session committed here (subst (λ H. Agrees b H kept.session committed) split a')) h in
+      (agrees_before b (entries U) (entries is) kept.session committed here (subst (λ H. Agrees b H kept.session committed) split a')) h in
       subst (λ (S : List Item). FitsAt c b w S committed kept) again (grown_all g.0 w U is g.2 k' sd' a' one)
 
   pub grown : (u w : Unsettled) (T S : List Item) → Grew b c u T w S → exact b S → sound b (entries S) → Agrees b (entries S) kept.session committed → FitsAt c b u T committed kept → FitsAt c b w S committed kept

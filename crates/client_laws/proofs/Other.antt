@@ -146,7 +146,7 @@ module _ (b : Base) (c : ℕ) (T : List Item) (s : ℕ) (v : Session) (committed
   finished t k sd a o is e same =
       let y = both k o.fate e in
       let commits : commit_of b (state b (entries T)) (Finished t k) ≡ ((state b (entries T)).length, o.request) ∷ [] =
-        ap (λ (p : Option Known). commit_by (state b (entries T)) k p) is ∙ ap (λ (x : Bool). cond x (((state b (entries T)).length, o.request) ∷ []) []) e in
+      ap (λ (p : Option Known). commit_by (state b (entries T)) k p) is ∙ ap (λ (x : Bool). cond x (((state b (entries T)).length, o.request) ∷ []) []) e in
       let z = behind_commit (Finished t k) o.request sd commits in
       let named : o.request.tx ≡ t = ((placed b (entries T) (sound-beginning b (entries T) (Finished t k ∷ []) sd)).fits t o is).named in
       let own' : z.0.request.session ≡ s = ap (λ (r : Request). r.session) z.2 ∙ eqb-true o.request.session s same in

@@ -175,13 +175,16 @@ module _ (b : Base) where
             let is : known_by b (entries T ++ en ∷ []) t ≡ Some w = ap (λ (H : List Entry). known_by b H t) (sym same) ∙ h.there in
             elim (came_end b (entries T) en (sound-beginning b (entries T) (en ∷ []) sd') (owed-end b (entries T) en sd') t w is) [
               | inl new ↦ absurd (none new.0)
-              | inr old ↦ (old.0, record {
+              | inr old ↦ (
+                old.0,
+                record {
                   there = old.1;
                   open' = was_open (commit_of b (state b (entries T)) en) (length (entries T)) old.0.request old.0.fate w.fate h.open' old.2.2;
                   own = ap (λ (r : Request). r.session) (sym old.2.1) ∙ h.own;
                   wrote = ap (λ (r : Request). get (written r) x) (sym old.2.1) ∙ h.wrote;
                   settled = h.settled;
-                })
+                },
+              )
             ]
 
     module _ (copies : Copies) (f : CopiesFit b (entries T) s v committed copies) where
@@ -227,12 +230,12 @@ module _ (b : Base) where
           let ps : PassesItem b T i s v now = record { before = there; live = was_live s (state b (entries T)) i v live; quiet = p.taking; after = is_now } in
           record {
             current = λ x o here copy. let c = f.current x o here copy in
-              (current-grown b T i s v now committed x o ps step c.1 sd none (same_or_other x o here copy) c.0, pages-grown b T i s v now x.page ps c.1);
+                (current-grown b T i s v now committed x o ps step c.1 sd none (same_or_other x o here copy) c.0, pages-grown b T i s v now x.page ps c.1);
             own = λ x o d t w here own copy. let y = own_back x d t w own in f.own x o d t y.0 here y.1 copy;
             pages = subst (All (StaysRight b (entries (T ++ i ∷ [])) s committed)) (sym (waits_now s (state b (entries T)) i v step.taken p.taking live))
-              (All-append (StaysRight b (entries (T ++ i ∷ [])) s committed) (waiting v) (list_of (notice b s (state b (entries T)) v.pages i))
-              (All-weaker (StaysRight b (entries T) s committed) (StaysRight b (entries (T ++ i ∷ [])) s committed) still_right (waiting v) f.pages)
-              new);
+                (All-append (StaysRight b (entries (T ++ i ∷ [])) s committed) (waiting v) (list_of (notice b s (state b (entries T)) v.pages i))
+                (All-weaker (StaysRight b (entries T) s committed) (StaysRight b (entries (T ++ i ∷ [])) s committed) still_right (waiting v) f.pages)
+                new);
           }
 
     -- the client asks for an answer, or none, and gets what it asks for
@@ -246,7 +249,7 @@ module _ (b : Base) where
           step = step-kept b T i s v now there is_now h.step p.taking p.acked;
           asked = subst (λ (ms : List Notice). length ms ≤ one_if awaits) (sym (replies_now s (state b (entries T)) i v h.step.taken p.taking live)) few;
           copies = λ tells. subst (λ (n : ℕ). CopiesFit b (entries (T ++ i ∷ [])) n now committed kept.copies) (sym same)
-            (copies_on kept.copies (subst (λ (n : ℕ). CopiesFit b (entries T) n v committed kept.copies) same (h.copies tells)) h.step live new none);
+              (copies_on kept.copies (subst (λ (n : ℕ). CopiesFit b (entries T) n v committed kept.copies) same (h.copies tells)) h.step live new none);
         }
 
     -- where no answer comes

@@ -150,8 +150,8 @@ module _ (c : ℕ) (b : Base) (T : List Item) (committed : Ts → Bool) (kept : 
           copies = λ tells. record {
             current = λ x o here copy. current m message (k.copies tells) x o here (sym (become tells x here) ∙ copy);
             own = λ x o d u p here wrote copy. own m message (k.copies tells) x o d u p here
-              (subst (λ (H : List Entry). IsOwnWrite b H kept.session committed x d u p) (same c b T committed kept m sd h live message) wrote)
-              (sym (become tells x here) ∙ copy);
+                (subst (λ (H : List Entry). IsOwnWrite b H kept.session committed x d u p) (same c b T committed kept m sd h live message) wrote)
+                (sym (become tells x here) ∙ copy);
             pages = rest c b T committed kept m sd h live message (k.copies tells);
           };
         };

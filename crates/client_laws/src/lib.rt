@@ -3,10 +3,14 @@
 #![tactic(auto)]
 
 mod calls;
+mod examples;
 mod growth;
+mod outcomes;
 
 pub use calls::{
-    asked_clients_fit, commits_rest, deciding_clients_fit, joined_clients_fit, receiving_clients_fit,
-    sending_clients_fit, telling_clients_fit,
+    asked_clients_fit, commits_rest, deciding_clients_fit, joined_clients_fit,
+    receiving_clients_fit, sending_clients_fit, telling_clients_fit,
 };
+pub use examples::{what_does_not_fit, what_fits};
 pub use growth::{others_act, outcomes_are_told};
+pub use outcomes::{atomic_histories_agree, others_decide_nothing};
