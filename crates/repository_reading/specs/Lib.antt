@@ -1,2 +1,3 @@
+pub mod Paged
 pub mod Recovered
 pub mod Same

@@ -2,6 +2,7 @@
 use Rattle.disk_trait.specs.AllDisks.{AllSettled}
 use Rattle.disk_trait.specs.Disks.{Disks, NoNewImage, OnDisk, WhereTold}
 use Rattle.held_state.specs.Keeps.{Keeps}
+use Rattle.held_state.specs.Said.{said}
 use Rattle.log_bytes.specs.declared.state.State.{State}
 use Rattle.page_store.specs.Sides.{ReachesSides}
 use Rattle.page_store.specs.Store.{Agrees, Store}
@@ -13,9 +14,10 @@ use Rattle.std.specs.Prelude.{List, length, None, Option, Some, ℕ, ◌≡◌}
 abbrev pub AgreesWhere : Store → Type 0
 AgreesWhere pages = (disk : List ℕ) → ReachesSides pages.sides disk → Agrees pages disk
 
--- The log of these disks holds a state, and what is in memory is that of a repository.
+-- The log of these disks holds the state that is in memory, and that is one of a repository.
 pub record IsRecovered (disks : Disks) (r : Recovered) : Type 0 where
   pub state : State
+  pub said : state ≡ said r.state
   pub holds : Holds disks r.log state
   pub keeps : Keeps r.state
   pub pages : AgreesWhere r.state.objects.pages

@@ -53,12 +53,16 @@ impl<P: Parts> Known<P> {
     }
 
     /// What was recovered.
-    pub fn recovered(&self) -> &Recovered {
+    pub fn recovered(&self) -> &Recovered
+        ensures { IsRecovered (P.disks self.now) result.now }
+    {
         &self.recovered
     }
 
     /// What was read.
-    pub fn read(&self) -> Read<'_> {
+    pub fn read(&self) -> Read<'_>
+        ensures { IsRecovered (P.disks self.now) result.recovered.now }
+    {
         Read {
             recovered: &self.recovered,
             behind: self.behind,

@@ -1,12 +1,15 @@
 //! The installed pages of a repository, read once for the checks of an opening.
 
-ghost use Rattle.repository_reading.specs.Recovered.{HasBytes, Stays};
+ghost use Rattle.object_codec.specs.Spelling.{ObjFits, obj_bytes};
+ghost use Rattle.page_store.specs.Objects.{HasObjects, SpellsObject};
 ghost use Rattle.page_store.specs.Sides.{place_of};
-ghost use Rattle.std.specs.Prelude.{IfOk, [], ◌∷◌, ◌≡◌};
+ghost use Rattle.repository_reading.specs.Paged.{PutsOne, PutsPaged, PutsSide, PutsSlots};
+ghost use Rattle.repository_reading.specs.Recovered.{HasBytes, Stays};
+ghost use Rattle.std.specs.Prelude.{IfOk, List, OnOk, Some, [], ◌∷◌, ◌≡◌, ℕ};
 
 use crate::unopened::{Unopened, outage_of};
 use disk_trait::Parts;
-use object_codec::{ObjFault, read_obj};
+use object_codec::read_obj;
 use page_format::{PAGE_BYTES, Page, Sides};
 use page_store::{PageStore, StoreFault};
 use std::alloc::Global;
@@ -23,14 +26,15 @@ pub(crate) fn read_pages<P: Parts>(
     installed: &Sides,
     objects: &mut OrefMap<Obj>,
 ) -> Result<u32, Unopened>
-    ensures { Stays (P.disks parts.old) (P.disks parts.new) }
+    ensures stays { Stays (P.disks parts.old) (P.disks parts.new) }
+    ensures paged { (disk : List ℕ) → (P.disks parts.old).content 2 ≡ Some disk → OnOk result (PutsPaged repo disk installed.now objects.old objects.new) }
 {
     let mut behind = 0;
     let size = length_of(parts, repo)?;
-    for (number, side) in installed.as_slice() {
-        let has_objects = read_side(alloc, parts, repo, (*number, *side), size, objects)?;
+    for page in installed.as_slice() {
+        let has_objects = read_side(alloc, parts, repo, *page, size, objects)?;
         if has_objects {
-            behind = number.saturating_add(1);
+            behind = page.0.saturating_add(1);
         }
     }
     Ok(behind)
@@ -47,7 +51,8 @@ fn read_side<P: Parts>(
     objects: &mut OrefMap<Obj>,
 ) -> Result<bool, Unopened>
     requires { HasBytes (P.disks parts.old) size }
-    ensures { Stays (P.disks parts.old) (P.disks parts.new) }
+    ensures stays { Stays (P.disks parts.old) (P.disks parts.new) }
+    ensures side { (disk : List ℕ) → (P.disks parts.old).content 2 ≡ Some disk → OnOk result (PutsSide repo disk installed objects.old objects.new) }
 {
     let (number, side) = installed;
     let place = place_of(number, side);
@@ -81,7 +86,10 @@ fn take_whole(
     repo: u8,
     page: &Page,
     objects: &mut OrefMap<Obj>,
-) -> Result<bool, Unopened> {
+) -> Result<bool, Unopened>
+    requires { HasObjects page.now }
+    ensures { OnOk result (PutsSlots repo page.now.number page.now.objects.pairs objects.old objects.new) }
+{
     take_page(alloc, repo, page, objects)?;
     Ok(page.len() > 0)
 }
@@ -129,35 +137,51 @@ fn fault_of(repo: u8, fault: StoreFault) -> Unopened {
 }
 
 /// Puts the objects of a page into a map.
+#[tactic(auto, using(crate::proofs::Paging::no_slots, crate::proofs::Paging::more_slots, crate::proofs::Paging::all_slots))]
 fn take_page(
     alloc: Global,
     repo: u8,
     page: &Page,
     objects: &mut OrefMap<Obj>,
-) -> Result<(), NoMemory> {
+) -> Result<(), NoMemory>
+    requires { HasObjects page.now }
+    ensures { OnOk result (PutsSlots repo page.now.number page.now.objects.pairs objects.old objects.new) }
+{
     for rank in 0..page.len() {
-        if let Some((slot, bytes)) = page.nth(rank) {
-            let oref = Oref {
-                repo,
-                page: page.number(),
-                slot,
-            };
-            take_object(alloc, oref, bytes, objects)?;
-        }
+        take_rank(alloc, repo, page, rank, objects)?;
     }
     Ok(())
 }
 
-/// Puts an object into a map. The bytes are one object's, as a page of objects has them.
-fn take_object(
+/// Puts the object at a rank of a page into a map. The page has that many.
+fn take_rank(
     alloc: Global,
-    oref: Oref,
-    bytes: &[u8],
+    repo: u8,
+    page: &Page,
+    rank: u8,
     objects: &mut OrefMap<Obj>,
-) -> Result<(), NoMemory> {
+) -> Result<(), NoMemory>
+    requires { HasObjects page.now }
+    ensures { OnOk result (PutsOne repo page.now rank objects.old objects.new) }
+{
+    let Some((slot, bytes)) = page.nth(rank) else {
+        return Err(NoMemory);
+    };
+    let oref = Oref {
+        repo,
+        page: page.number(),
+        slot,
+    };
+    objects.insert(oref, object_of(alloc, bytes)?)
+}
+
+/// The object that the bytes in a slot of a page of objects are.
+fn object_of(alloc: Global, bytes: &[u8]) -> Result<Obj, NoMemory>
+    requires { SpellsObject bytes.now }
+    ensures { IfOk result (λ object. (bytes.now ≡ obj_bytes object) × ObjFits object) }
+{
     match read_obj(alloc, bytes) {
-        Ok((obj, _)) => objects.insert(oref, obj),
-        Err(ObjFault::NoMemory) => Err(NoMemory),
-        Err(ObjFault::Short) | Err(ObjFault::BadTag) | Err(ObjFault::TooLarge { .. }) => Ok(()),
+        Ok((object, _)) => Ok(object),
+        Err(_) => Err(NoMemory),
     }
 }

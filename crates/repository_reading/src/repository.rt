@@ -2,12 +2,14 @@
 
 ghost use Rattle.repository_reading.specs.Recovered.{Finds};
 ghost use Rattle.repository_reading.specs.Same.{Same};
-ghost use Rattle.disk_trait.specs.AllDisks.{AllSettled};
+ghost use Rattle.repository_reading.specs.Paged.{PutsStored};
+ghost use Rattle.disk_trait.specs.AllDisks.{AllSettled, ReadsAs};
 ghost use Rattle.disk_trait.specs.Disks.{IsSettled, OnDisk};
-ghost use Rattle.std.specs.Prelude.{IfOk, OnOk, ◌<◌};
+ghost use Rattle.state_log.specs.Opening.{IsFresh};
+ghost use Rattle.std.specs.Prelude.{IfOk, List, None, Ok, OnOk, ◌<◌, ◌≡◌, ℕ};
 
-use crate::unopened::{Unopened, fault_of, outage_of};
 use crate::pages::read_pages;
+use crate::unopened::{Unopened, fault_of, outage_of};
 use disk_trait::{Outage, Parts};
 use recovery::{Recovered, recover};
 use std::alloc::Global;
@@ -49,6 +51,8 @@ pub fn read_repository<P: Parts>(
 ) -> Result<Option<(Recovered, u32)>, Unopened>
     ensures found { IfOk result (Finds (P.disks parts.new)) }
     ensures same { Same (P.disks parts.old) (P.disks parts.new) }
+    ensures stored { (images : ℕ → List ℕ) → ReadsAs (P.disks parts.old) images → OnOk result (PutsStored images objects.old objects.new) }
+    ensures fresh { (images : ℕ → List ℕ) → ReadsAs (P.disks parts.old) images → result ≡ Ok None → IsFresh images }
 {
     sync(parts, repo)?;
     let recovered = match recover(alloc, parts, mob) {
