@@ -3,7 +3,7 @@ use Rattle.cached_sets.specs.Sets as sets
 use Rattle.commit_log.specs.declared.request.Request.{Request}
 use Rattle.live_sessions.specs.Sessions.{is_live}
 use Rattle.repo_core.specs.Behind.{is_marked}
-use Rattle.std.proofs.Common.{Bool, Err, None, Ok, Option, Some, cond, false, nat_eq, refl, true, ℕ, ◌≡◌}
+use Rattle.std.proofs.Common.{Bool, Err, None, Ok, Option, Some, cond, false, nat_eq, refl, sym, true, ℕ, ◌≡◌}
 use Rattle.std.specs.Option.{option_map, option_or}
 use Rattle.thor_value.specs.declared.names.Oref.{Oref}
 use Rattle.validation_queue.specs.Clashes.{clash}
@@ -70,3 +70,12 @@ judged M epoch s q r e = of_answer (verdict M epoch s q) r (marked_verdict M epo
 pub accepted : (o : Option Refusal) → answer o ≡ Ok tt → o ≡ None
 accepted None e = refl
 accepted (Some r) e = absurd (cc)
+
+-- the first refusal stands, whatever the buffer's limit has against a request
+pub first_refused : (o p : Option Refusal) (r : Refusal) → answer o ≡ Err r → Err r ≡ answer (option_or o p)
+first_refused None p r e = absurd (cc)
+first_refused (Some s) p r e = sym e
+
+pub refused_by : (o : Option Refusal) (r : Refusal) → answer o ≡ Err r → o ≡ Some r
+refused_by None r e = absurd (cc)
+refused_by (Some s) r e = cc

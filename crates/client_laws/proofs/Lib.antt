@@ -1,0 +1,10 @@
+pub mod Asking
+pub mod Committing
+pub mod Fits
+pub mod Growing
+pub mod Other
+pub mod Passing
+pub mod Resting
+pub mod Taking
+pub mod Telling
+pub mod Working

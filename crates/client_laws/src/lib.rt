@@ -1,0 +1,16 @@
+//! What a client keeps of a repository, against the trace that it has seen, and that growth by others and each of its own
+//! calls leaves it right. It is definitions and laws.
+#![tactic(auto)]
+
+mod calls;
+mod examples;
+mod growth;
+mod outcomes;
+
+pub use calls::{
+    asked_clients_fit, commits_rest, deciding_clients_fit, joined_clients_fit,
+    receiving_clients_fit, sending_clients_fit, telling_clients_fit,
+};
+pub use examples::{what_does_not_fit, what_fits};
+pub use growth::{others_act, outcomes_are_told};
+pub use outcomes::{atomic_histories_agree, others_decide_nothing};
