@@ -5,6 +5,7 @@ pub mod Growing
 pub mod Other
 pub mod Passing
 pub mod Resting
+pub mod Showing
 pub mod Taking
 pub mod Telling
 pub mod Working

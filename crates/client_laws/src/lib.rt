@@ -3,6 +3,7 @@
 #![tactic(auto)]
 
 mod calls;
+mod conditions;
 mod examples;
 mod growth;
 mod outcomes;
@@ -11,6 +12,7 @@ pub use calls::{
     asked_clients_fit, commits_rest, deciding_clients_fit, joined_clients_fit,
     receiving_clients_fit, sending_clients_fit, telling_clients_fit,
 };
+pub use conditions::shown_calls_may_come;
 pub use examples::{what_does_not_fit, what_fits};
 pub use growth::{others_act, outcomes_are_told};
 pub use outcomes::{atomic_histories_agree, others_decide_nothing};
