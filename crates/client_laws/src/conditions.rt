@@ -6,8 +6,15 @@ ghost use Rattle.atomic_histories.specs.Several.{AreSound, Repositories, histori
 ghost use Rattle.call_naming.specs.Justified.{AllHavePrepared, BelowHavePrepared, HasCommitted};
 ghost use Rattle.commit_log.specs.declared.entry.Entry.TheVariants.{Decided, Finished, Prepared};
 ghost use Rattle.commit_log.specs.declared.request.Request.{Request};
-ghost use Rattle.local_history.specs.Participants.{HasParticipants};
-ghost use Rattle.std.specs.Prelude.{true, ℕ, ◌<◌};
+ghost use Rattle.local_history.specs.Participants.{HasParticipants, IsAlone, IsShared};
+ghost use Rattle.local_history.specs.Sound.{sound};
+ghost use Rattle.port_views.specs.Conditions.{MaySend};
+ghost use Rattle.port_views.specs.Views.{View};
+ghost use Rattle.port_views.specs.Works.{alone_entry};
+ghost use Rattle.session_outbox.specs.Exact.{exact};
+ghost use Rattle.session_outbox.specs.Trace.{E, entries};
+ghost use Rattle.session_outbox.specs.Verdict.{verdict};
+ghost use Rattle.std.specs.Prelude.{None, [], true, ℕ, ◌++◌, ◌<◌, ◌∷◌, ◌≡◌};
 ghost use Rattle.thor_value.specs.declared.names.Ts.{Ts};
 
 /// A request whose client shows that all participants below have prepared their parts may come: its coordinator, the
@@ -20,4 +27,17 @@ pub fn shown_calls_may_come()
         MayCome (histories R) r (Decided t true) }
     ensures finish { (R : Repositories) → AreSound (histories R) → (r : ℕ) (t : Ts) → HasCommitted t (R.trace t.repo) →
         MayCome (histories R) r (Finished t true) }
+{}
+
+/// A request for which its sender vouches, and which the verdict accepts, continues the trace: that stays sound and exact
+/// with its entry.
+pub fn sent_requests_continue()
+    ensures prepare { (port : View) (r s : ℕ) (q : Request) → MaySend port r s q →
+        sound (port.opened.base r) (entries (port.seen r)) → exact (port.opened.base r) (port.seen r) →
+        verdict (port.opened.base r) (port.seen r) s q ≡ None → IsShared q →
+        sound (port.opened.base r) (entries (port.seen r ++ E (Prepared q) ∷ [])) × exact (port.opened.base r) (port.seen r ++ E (Prepared q) ∷ []) }
+    ensures commit_one { (port : View) (r s : ℕ) (q : Request) → MaySend port r s q →
+        sound (port.opened.base r) (entries (port.seen r)) → exact (port.opened.base r) (port.seen r) →
+        verdict (port.opened.base r) (port.seen r) s q ≡ None → IsAlone (port.opened.base r) q →
+        sound (port.opened.base r) (entries (port.seen r ++ E (alone_entry q) ∷ [])) × exact (port.opened.base r) (port.seen r ++ E (alone_entry q) ∷ []) }
 {}

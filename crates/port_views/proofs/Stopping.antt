@@ -197,8 +197,8 @@ module _ (old : View) (r : ℕ) where
       same = refl;
       reached = subst (λ (v : Unsettled). Grew (old.opened.base r) old.opened.client v (old.seen r) Calm (old.seen r)) (sym calm) (none_grew (old.opened.base r) old.opened.client Calm (old.seen r));
       others = λ n other.
-        subst (λ (v : Unsettled). Grew (old.opened.base n) old.opened.client (old.unsettled n) (old.seen n) v (new.seen n)) (sym (left_there n other))
-        (subst (λ (S : List Item). Grew (old.opened.base n) old.opened.client (old.unsettled n) (old.seen n) (old.unsettled n) S) (sym (seen_there n other)) (none_grew (old.opened.base n) old.opened.client (old.unsettled n) (old.seen n)));
+          subst (λ (v : Unsettled). Grew (old.opened.base n) old.opened.client (old.unsettled n) (old.seen n) v (new.seen n)) (sym (left_there n other))
+          (subst (λ (S : List Item). Grew (old.opened.base n) old.opened.client (old.unsettled n) (old.seen n) (old.unsettled n) S) (sym (seen_there n other)) (none_grew (old.opened.base n) old.opened.client (old.unsettled n) (old.seen n)));
       owed = subst (λ (S : List Item). sound (old.opened.base r) (entries S)) (sym seen_here) sd;
       kept = subst (exact (old.opened.base r)) (sym seen_here) k;
       alone = λ a. (refl, sym calm);
@@ -216,5 +216,5 @@ commits_so old r s q calm own sd k =
       met = Calm;
       called = called_so old r after Calm calm sd k;
       answer = subst (λ (v : Unsettled). CommitWork s q result b (old.seen r) ((with_seen old r after Calm).seen r) v) (sym (left_here old r after Calm))
-        (subst (λ (S : List Item). CommitWork s q result b (old.seen r) S Calm) (sym (seen_here old r after Calm)) (commits b (old.seen r) s q own));
+          (subst (λ (S : List Item). CommitWork s q result b (old.seen r) S Calm) (sym (seen_here old r after Calm)) (commits b (old.seen r) s q own));
     }

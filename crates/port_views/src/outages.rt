@@ -78,5 +78,5 @@ pub fn plain_ports_do()
         sound (old.opened.base r) (entries (plain.commit_one (old.opened.base r) (old.seen r) s q).1) →
         exact (old.opened.base r) (plain.commit_one (old.opened.base r) (old.seen r) s q).1 →
         Does old (with_seen old r (plain.commit_one (old.opened.base r) (old.seen r) s q).1 Calm) r
-            (plain.commit_one (old.opened.base r) (old.seen r) s q).0 (CommitWork s q (plain.commit_one (old.opened.base r) (old.seen r) s q).0) }
+        (plain.commit_one (old.opened.base r) (old.seen r) s q).0 (CommitWork s q (plain.commit_one (old.opened.base r) (old.seen r) s q).0) }
 {}
