@@ -1,6 +1,6 @@
 -- What falls comes to an end.
 use Rattle.client_laws.specs.Falling.{Falls, Left}
-use Rattle.std.proofs.Common.{arith, inl, inr, refl, subst, suc, sym, zero, ◌+◌, ◌<◌, ◌≡◌, ◌≤◌, ℕ}
+use Rattle.std.proofs.Common.{arith, inl, inr, refl, subst, suc, sym, zero, ◌+◌, ◌<◌, ◌≡◌, ℕ}
 
 -- what holds as soon as it holds of all below holds of all
 below : (P : ℕ → Type 0) → ((n : ℕ) → ((m : ℕ) → m < n → P m) → P n) → (n m : ℕ) → m < n → P m

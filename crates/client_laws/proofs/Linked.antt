@@ -4,7 +4,7 @@ use Rattle.client_laws.proofs.Growing.{grown}
 use Rattle.client_laws.specs.Fitting.{Agrees, Copies, SameCopies, awaits_behind, behind_message}
 use Rattle.client_laws.specs.Links.{Becomes, BringsContent, LinkFits, kept_by}
 use Rattle.client_state.specs.Learning.{without_session}
-use Rattle.client_state.specs.Links.{is_reply, waiting}
+use Rattle.client_state.specs.Links.{is_reply}
 use Rattle.client_state.specs.Taking.{behind, took}
 use Rattle.client_state.specs.declared.link.Link.TheVariants.{Apart, Joined, Unsettled}
 use Rattle.client_state.specs.declared.link.Link.{Link}
@@ -21,7 +21,7 @@ use Rattle.session_laws.specs.Agreeing.{notice_of}
 use Rattle.session_outbox.specs.Exact.{exact}
 use Rattle.session_outbox.specs.Session.{bound, place_of}
 use Rattle.session_outbox.specs.Trace.{Item, entries}
-use Rattle.std.proofs.Common.{Bool, List, [], ap, arith, cond, false, is_eq, min, refl, subst, sym, true, ◌+◌, ◌-◌, ◌<◌, ◌^◌, ◌∙◌, ◌∷◌, ◌≡◌, ℕ}
+use Rattle.std.proofs.Common.{Bool, List, [], ap, arith, cond, false, is_eq, refl, sym, true, ◌+◌, ◌<◌, ◌^◌, ◌∙◌, ◌∷◌, ◌≡◌, ℕ}
 use Rattle.std.proofs.lemmas.Bool.Decides.{nat_tests}
 use Rattle.std.proofs.lemmas.Bool.{eqb-true}
 use Rattle.std.proofs.lemmas.Map.Views.{tells_apart}

@@ -2,7 +2,7 @@
 use Rattle.commit_log.specs.declared.entry.Entry.TheVariants.{One, Prepared, Upgraded}
 use Rattle.commit_log.specs.declared.entry.Entry.{Entry}
 use Rattle.commit_log.specs.declared.request.Request.{Request}
-use Rattle.local_history.specs.History.{Base, state}
+use Rattle.local_history.specs.History.{Base}
 use Rattle.local_history.specs.Participants.{IsAlone, IsShared}
 use Rattle.local_history.specs.Requests.{is_upgrade}
 use Rattle.local_history.specs.Sound.{sound}

@@ -1,7 +1,6 @@
 -- What a call is asked to show, its entry may come with.
 use Rattle.atomic_histories.proofs.Committing.{and-both, decided-committed, is-same, or-cases}
 use Rattle.atomic_histories.specs.Growing.{MayCome}
-use Rattle.atomic_histories.specs.Several as several
 use Rattle.atomic_histories.specs.Several.{AreAlike, AreSound, Repositories, histories, part}
 use Rattle.call_naming.specs.Justified.{AllHavePrepared, AreParts, BelowHavePrepared, HasCommitted, OfEach, Once}
 use Rattle.call_naming.specs.Shown.{decides, prepared, prepares}
@@ -14,12 +13,12 @@ use Rattle.local_history.specs.Participants.{HasParticipants, takes_part}
 use Rattle.local_history.specs.Sound.{sound}
 use Rattle.session_outbox.proofs.Traces.{entries-append}
 use Rattle.session_outbox.specs.Trace.{E, Item, M, entries}
-use Rattle.std.proofs.Common.{Bool, List, [], ap, append_assoc, arith, cond, false, inl, inr, length, refl, subst, suc, sym, true, zero, ◌++◌, ◌<◌, ◌∙◌, ◌∷◌, ◌≡◌, ◌≤◌, ℕ}
+use Rattle.std.proofs.Common.{Bool, List, [], ap, append_assoc, arith, cond, false, inl, inr, length, refl, subst, sym, true, ◌++◌, ◌<◌, ◌∙◌, ◌∷◌, ◌≡◌, ◌≤◌, ℕ}
 use Rattle.std.proofs.lemmas.Bool.Decides.{nat_tests}
 use Rattle.std.proofs.lemmas.Bool.{eqb-true}
 use Rattle.std.specs.List.{fold, list_any, slice_get}
 use Rattle.std.specs.Option.{IsSomeAnd, option_or}
-use Rattle.std.specs.Prelude.{IsTrue, None, Option, Some, nat_eq, not, ◌&&◌, ◌||◌, ◌⊎◌}
+use Rattle.std.specs.Prelude.{IsTrue, None, Option, Some, nat_eq, ◌||◌, ◌⊎◌}
 use Rattle.thor_value.specs.Names.{same_ts}
 use Rattle.thor_value.specs.declared.names.Ts.{Ts}
 

@@ -11,7 +11,7 @@ use Rattle.message_outbox.specs.declared.message.Message.{Message}
 use Rattle.port_views.specs.Views as views
 use Rattle.session_outbox.specs.Trace.{Item}
 use Rattle.std.specs.List.{list_any}
-use Rattle.std.specs.Prelude.{Bool, List, None, Option, Some, cond, true, ℕ, ◌≡◌}
+use Rattle.std.specs.Prelude.{Bool, List, None, Option, Some, cond, ℕ, ◌≡◌}
 use Rattle.thor_value.specs.FiniteMap.{get}
 use Rattle.thor_value.specs.declared.names.Oref.{Oref}
 use Rattle.thor_value.specs.declared.names.Ts.{Ts}

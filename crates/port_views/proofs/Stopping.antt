@@ -17,7 +17,7 @@ use Rattle.session_outbox.proofs.Traces.{entries-append}
 use Rattle.session_outbox.specs.Exact.{EntryIsExact, exact}
 use Rattle.session_outbox.specs.Gaps.{maker}
 use Rattle.session_outbox.specs.Trace.{E, Item, entries}
-use Rattle.std.proofs.Common.{Bool, List, [], ap, append_assoc, arith, cond, false, refl, subst, sym, true, ◌++◌, ◌∙◌, ◌∷◌, ◌≡◌, ◌≢◌, ℕ}
+use Rattle.std.proofs.Common.{Bool, List, [], ap, append_assoc, arith, cond, false, refl, subst, sym, true, ◌++◌, ◌∷◌, ◌≡◌, ◌≢◌, ℕ}
 use Rattle.std.proofs.lemmas.Bool.Decides.{nat_tests}
 use Rattle.std.proofs.lemmas.Bool.{eqb-true}
 use Rattle.std.specs.Option.{is_none}
