@@ -184,7 +184,11 @@ fn schemas_of(store: Store) -> Option<Schemas> {
 }
 
 /// Each object of a store brought up to its epoch.
-fn opened<P: Parts>(alloc: Global, store: &OpenStore, places: &[Closed<P>]) -> Result<Plain, NoMemory>
+fn opened<P: Parts>(
+    alloc: Global,
+    store: &OpenStore,
+    places: &[Closed<P>],
+) -> Result<Plain, NoMemory>
     ensures { IfOk result (λ store. IsSorted store.objects) }
 {
     match places.first() {
@@ -333,7 +337,10 @@ fn store_of<P: Parts>(
 }
 
 /// What was read of the repositories of a store that isn't fresh.
-fn reads_of<P: Parts>(alloc: Global, places: &[Closed<P>]) -> Result<Option<Vec<Read<'_>>>, NoMemory> {
+fn reads_of<P: Parts>(
+    alloc: Global,
+    places: &[Closed<P>],
+) -> Result<Option<Vec<Read<'_>>>, NoMemory> {
     let mut reads = Vec::new(alloc);
     for place in places {
         match place.read() {
