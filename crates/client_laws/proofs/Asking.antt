@@ -1,21 +1,20 @@
 -- A client that connects, and one that asks for a page.
 use Rattle.client_laws.proofs.Passing.{IsFinishing, IsPassive, answers_in, behind, goes_on, keeps_on, list_of, same_client, was_live}
-use Rattle.client_laws.specs.Fitting.{Agrees, Copies, FitsAt, HoldsNone, KeepsUp, Kept, NoneToFinish, StaysRight, one_if, replies}
+use Rattle.client_laws.specs.Fitting.{Copies, FitsAt, HoldsNone, Kept, NoneToFinish, StaysRight, one_if, replies}
 use Rattle.commit_log.specs.declared.entry.Entry.{Entry}
-use Rattle.commit_log.specs.declared.request.Request.{Request}
 use Rattle.local_history.proofs.Growth.{length-state}
-use Rattle.local_history.specs.History.{Base, Known, State, known_by, state, writers}
+use Rattle.local_history.specs.History.{Base, known_by, state, writers}
 use Rattle.local_history.specs.Sound.{sound}
 use Rattle.port_views.specs.Views.{Calm}
 use Rattle.session_outbox.proofs.Sessions.{session-end}
 use Rattle.session_outbox.proofs.Taken.{after-mark}
 use Rattle.session_outbox.proofs.Told.{writers-below}
-use Rattle.session_outbox.specs.Current.{InStep, IsOwnWrite, NoneAborted, OthersSince, commits_in, is_taking}
-use Rattle.session_outbox.specs.Session.{Grant, Invalid, Notice, Page, Session, Upgrade, acked_after, begun, move, notice, session, upto_of}
+use Rattle.session_outbox.specs.Current.{InStep, NoneAborted, OthersSince, is_taking}
+use Rattle.session_outbox.specs.Session.{Grant, Invalid, Notice, Page, Upgrade, acked_after, begun, move, notice, session, upto_of}
 use Rattle.session_outbox.specs.Trace.{Item, M, entries}
 use Rattle.session_outbox.specs.declared.mark.Mark.TheVariants as the
 use Rattle.session_outbox.specs.declared.mark.Mark.{Mark}
-use Rattle.std.proofs.Common.{Bool, List, [], ap, arith, cond, false, length, refl, subst, sym, true, ◌+◌, ◌++◌, ◌<◌, ◌∙◌, ◌∷◌, ◌≡◌, ◌≤◌, ℕ}
+use Rattle.std.proofs.Common.{Bool, List, [], ap, arith, cond, false, length, refl, subst, sym, true, ◌++◌, ◌<◌, ◌∙◌, ◌∷◌, ◌≡◌, ◌≤◌, ℕ}
 use Rattle.std.proofs.lemmas.Bool.Decides.{nat_tests}
 use Rattle.std.proofs.lemmas.List.Elements.{All-cons, All-nil}
 use Rattle.std.specs.List.{All}
@@ -23,7 +22,6 @@ use Rattle.std.specs.Option.{option_map}
 use Rattle.std.specs.Prelude.{None, Option, Some, max, nat_eq}
 use Rattle.thor_value.specs.declared.names.Oref.{Oref}
 use Rattle.thor_value.specs.declared.names.Ts.{Ts}
-use Rattle.thor_value.specs.declared.values.Obj.{Obj}
 
 pub same_number : (n : ℕ) → nat_eq n n ≡ true
 same_number n = grind (arith, nat_tests)

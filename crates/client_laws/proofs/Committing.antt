@@ -1,8 +1,7 @@
 -- A client whose transaction commits, is prepared, or turns out to have committed.
-use Rattle.client_laws.proofs.Asking.{same_number}
 use Rattle.client_laws.proofs.Other.{told_plain}
-use Rattle.client_laws.proofs.Passing.{IsFinishing, IsPassive, after_entry, answers_in, behind, keeps_on, list_of, news_right, replies_now, same_client, since_grown, waits_now, was_live}
-use Rattle.client_laws.specs.Fitting.{Agrees, Copies, CopiesFit, FitsAt, KeepsUp, Kept, NoneToFinish, SameCopies, StaysRight, WritesOnPages, one_if, replies, with_writes}
+use Rattle.client_laws.proofs.Passing.{IsFinishing, IsPassive, after_entry, answers_in, behind, keeps_on, replies_now, same_client, was_live}
+use Rattle.client_laws.specs.Fitting.{Copies, CopiesFit, FitsAt, KeepsUp, Kept, NoneToFinish, SameCopies, StaysRight, WritesOnPages, one_if, replies, with_writes}
 use Rattle.commit_log.specs.declared.entry.Entry.TheVariants.{Decided, Finished, Life, One, Prepared, Upgraded}
 use Rattle.commit_log.specs.declared.entry.Entry.{Entry}
 use Rattle.commit_log.specs.declared.request.Request.{Request}
@@ -10,7 +9,7 @@ use Rattle.local_history.proofs.Growth.{length-state, owed-end, sound-beginning,
 use Rattle.local_history.proofs.LastWrite.{commit_here}
 use Rattle.local_history.proofs.Places.{came_end, placed}
 use Rattle.local_history.proofs.Steps as steps
-use Rattle.local_history.specs.History.{Aborted, Base, Committed, Fate, Known, Open, State, commit_by, commit_of, is_open, known_by, known_in, state, writers}
+use Rattle.local_history.specs.History.{Aborted, Base, Committed, Fate, Known, Open, State, commit_of, known_by, known_in, state}
 use Rattle.local_history.specs.Laws.{Asks}
 use Rattle.local_history.specs.Requests.{has_written, written}
 use Rattle.local_history.specs.Sound.{sound}
@@ -21,13 +20,12 @@ use Rattle.session_outbox.proofs.Taken.{keeps-pages}
 use Rattle.session_outbox.proofs.Undecided.{current-grown, current-more, pages-grown}
 use Rattle.session_outbox.specs.Current.{InStep, IsCurrent, IsOwnWrite, NoneAborted, OthersOrSame, PassesItem}
 use Rattle.session_outbox.specs.Session.{Grant, Invalid, Notice, Page, Session, Upgrade, acked_after, is_news, move, notice, session, session_lives, upto_of, waiting}
-use Rattle.session_outbox.specs.Trace.{E, Item, M, entries}
-use Rattle.std.proofs.Common.{Bool, List, [], ap, arith, cond, false, inl, inr, length, refl, subst, sym, true, ◌+◌, ◌++◌, ◌∙◌, ◌∷◌, ◌≡◌, ◌≢◌, ◌≤◌, ℕ}
+use Rattle.session_outbox.specs.Trace.{E, Item, entries}
+use Rattle.std.proofs.Common.{Bool, List, [], ap, arith, cond, false, inl, inr, length, refl, subst, sym, true, ◌+◌, ◌++◌, ◌∙◌, ◌∷◌, ◌≡◌, ◌≤◌, ℕ}
 use Rattle.std.proofs.lemmas.List.Elements.{All-cons, All-nil, All-weaker}
-use Rattle.std.proofs.lemmas.List.{append-nil}
 use Rattle.std.specs.List.{All, filter}
 use Rattle.std.specs.Option.{IsSomeAnd, is_some, option_or}
-use Rattle.std.specs.Prelude.{None, Option, Some, max, nat_eq, not, ◌&&◌, ◌⊎◌}
+use Rattle.std.specs.Prelude.{None, Option, Some, max, nat_eq, not, ◌⊎◌}
 use Rattle.thor_value.specs.FiniteMap.{get, has}
 use Rattle.thor_value.specs.declared.names.Oref.{Oref}
 use Rattle.thor_value.specs.declared.names.Ts.{Ts}

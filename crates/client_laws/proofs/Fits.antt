@@ -1,7 +1,7 @@
 -- The examples of what fits.
 use Rattle.client_laws.proofs.Committing.{some_at}
 use Rattle.client_laws.specs.Examples.{copy_of_x, keeping, no_copy}
-use Rattle.client_laws.specs.Fitting.{Copies, FitsAt, KeepsUp, Kept, StaysRight}
+use Rattle.client_laws.specs.Fitting.{Copies, FitsAt, KeepsUp, StaysRight}
 use Rattle.local_history.specs.Examples.{box, home, setting_x, x}
 use Rattle.local_history.specs.History.{objects_at, writers}
 use Rattle.port_views.specs.Views.{Calm}
@@ -19,7 +19,6 @@ use Rattle.thor_value.proofs.NameOrders.{oref_exact}
 use Rattle.thor_value.specs.FiniteMap.{get, has}
 use Rattle.thor_value.specs.Names.{same_oref}
 use Rattle.thor_value.specs.declared.names.Oref.{Oref}
-use Rattle.thor_value.specs.declared.names.Ts.{Ts}
 use Rattle.thor_value.specs.declared.values.Obj.{Obj}
 use Rattle.thor_value.specs.declared.values.Value.TheVariants.{Int, Null, Ref}
 use Rattle.thor_value.specs.declared.values.Value.{Value}

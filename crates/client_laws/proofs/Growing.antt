@@ -1,12 +1,12 @@
 -- What a client keeps fits what others make of a trace, and what comes of stops and restarts.
 use Rattle.client_laws.proofs.Other.{passive, plain, taking}
 use Rattle.client_laws.proofs.Passing.{behind, keeps_on, same_client, was_live}
-use Rattle.client_laws.specs.Fitting.{Agrees, FitsAt, KeepsUp, Kept}
+use Rattle.client_laws.specs.Fitting.{Agrees, FitsAt, Kept}
 use Rattle.commit_log.specs.declared.entry.Entry.TheVariants.{Decided, Finished, Life, One, Prepared, Upgraded}
 use Rattle.commit_log.specs.declared.entry.Entry.{Entry}
 use Rattle.local_history.proofs.Growth.{sound-beginning}
 use Rattle.local_history.proofs.Places.{stays}
-use Rattle.local_history.specs.History.{Aborted, Base, Committed, Fate, IsCommitted, Known, Open, State, known_by, state}
+use Rattle.local_history.specs.History.{Aborted, Base, Committed, Fate, IsCommitted, Known, Open, State, state}
 use Rattle.local_history.specs.Laws.{FateStays, Stays}
 use Rattle.local_history.specs.Sound.{sound}
 use Rattle.port_views.specs.Growing.{Gains, GainsAll, Grew}

@@ -17,10 +17,10 @@ use Rattle.session_outbox.specs.Calls.{last_session}
 use Rattle.session_outbox.specs.Current.{commits_in, is_taking}
 use Rattle.session_outbox.specs.Exact.{ItemIsExact}
 use Rattle.session_outbox.specs.Gaps.{client_in, maker}
-use Rattle.session_outbox.specs.Session.{Grant, Notice, Page, Session, Upgrade, acked_after, invalid_of, notice, session, told_of, upto_of}
+use Rattle.session_outbox.specs.Session.{Grant, Page, Session, Upgrade, acked_after, invalid_of, notice, session, told_of, upto_of}
 use Rattle.session_outbox.specs.Trace.{E, Item, M, entries}
 use Rattle.session_outbox.specs.declared.mark.Mark.TheVariants as the
-use Rattle.std.proofs.Common.{Bool, List, [], ap, arith, cond, false, inl, inr, length, refl, subst, sym, true, ◌++◌, ◌<◌, ◌∙◌, ◌∷◌, ◌≡◌, ◌≢◌, ◌≤◌, ℕ}
+use Rattle.std.proofs.Common.{Bool, List, [], ap, arith, cond, false, inl, inr, refl, subst, sym, true, ◌++◌, ◌<◌, ◌∙◌, ◌∷◌, ◌≡◌, ◌≢◌, ◌≤◌, ℕ}
 use Rattle.std.proofs.lemmas.Bool.{eqb-true}
 use Rattle.std.proofs.lemmas.List.Elements.{All-cons, All-nil}
 use Rattle.std.specs.List.{All, filter}

@@ -1,5 +1,5 @@
 -- What a client keeps, behind one more item at which it takes no message and which brings it no answer.
-use Rattle.client_laws.specs.Fitting.{AreCurrent, Copies, CopiesFit, FitsAt, KeepsUp, Kept, OwnAreCopies, StaysRight, one_if, replies}
+use Rattle.client_laws.specs.Fitting.{Copies, CopiesFit, KeepsUp, Kept, StaysRight, one_if, replies}
 use Rattle.commit_log.specs.declared.entry.Entry.{Entry}
 use Rattle.commit_log.specs.declared.request.Request.{Request}
 use Rattle.local_history.proofs.Growth.{owed-end, sound-beginning}
@@ -19,15 +19,14 @@ use Rattle.session_outbox.specs.Current.{InStep, IsOwnWrite, NoneAborted, Others
 use Rattle.session_outbox.specs.Session.{Grant, Invalid, Notice, Page, Session, Upgrade, acked_after, is_news, is_silent, meet, move, moved, notice, or_retired, push, rested, retired, session, session_lives, taken_after, upto_of, waiting}
 use Rattle.session_outbox.specs.Trace.{E, Item, M, entries}
 use Rattle.session_outbox.specs.declared.mark.Mark.TheVariants as the
-use Rattle.session_outbox.specs.declared.mark.Mark.{Mark}
 use Rattle.std.proofs.Common.{Bool, List, [], ap, arith, cond, drop, false, inl, inr, length, refl, subst, suc, sym, true, zero, ◌+◌, ◌++◌, ◌∙◌, ◌∷◌, ◌≡◌, ◌≤◌, ℕ}
 use Rattle.std.proofs.lemmas.Bool.{eqb-true}
 use Rattle.std.proofs.lemmas.List.Elements.{All-append, All-cons, All-nil, All-tail, All-head, All-weaker, filter-append}
 use Rattle.std.proofs.lemmas.List.{append-nil}
 use Rattle.std.specs.List.{All, filter}
-use Rattle.std.specs.Option.{is_some, option_map}
+use Rattle.std.specs.Option.{is_some}
 use Rattle.std.specs.Prelude.{None, Option, Some, nat_eq, not, ◌⊎◌}
-use Rattle.thor_value.specs.FiniteMap.{get, has}
+use Rattle.thor_value.specs.FiniteMap.{get}
 use Rattle.thor_value.specs.declared.names.Oref.{Oref}
 use Rattle.thor_value.specs.declared.names.Ts.{Ts}
 use Rattle.thor_value.specs.declared.values.Obj.{Obj}

@@ -1,20 +1,18 @@
 -- What an accepted request rests on: what its client read stands there.
-use Rattle.client_laws.specs.Fitting.{Copies, FitsAt, KeepsUp, Kept}
-use Rattle.commit_log.specs.declared.entry.Entry.{Entry}
+use Rattle.client_laws.specs.Fitting.{FitsAt, KeepsUp, Kept}
 use Rattle.commit_log.specs.declared.request.Request.{Request}
-use Rattle.local_history.proofs.Growth.{objects_at-append}
-use Rattle.local_history.specs.History.{Base, State, known_by, objects_at, state}
+use Rattle.local_history.specs.History.{Base, known_by, state}
 use Rattle.local_history.specs.Requests.{has_read}
 use Rattle.local_history.specs.Sound.{sound}
 use Rattle.port_views.specs.Views.{Calm}
 use Rattle.session_outbox.proofs.Accepting.{found, right_copies}
 use Rattle.session_outbox.proofs.Copies.{current-cases}
 use Rattle.session_outbox.specs.Acceptance.{WasAccepted}
-use Rattle.session_outbox.specs.Session.{Session, session, session_lives, upto_of}
+use Rattle.session_outbox.specs.Session.{session_lives, upto_of}
 use Rattle.session_outbox.specs.Trace.{Item, entries}
 use Rattle.session_outbox.specs.Verdict.{verdict}
 use Rattle.std.proofs.Common.{List, ap, arith, refl, subst, sym, true, ◌∙◌, ◌≡◌, ◌≤◌, ℕ}
-use Rattle.std.specs.Prelude.{Bool, None, Option, Some}
+use Rattle.std.specs.Prelude.{Bool, None, Some}
 use Rattle.thor_value.specs.FiniteMap.{get}
 use Rattle.thor_value.specs.declared.names.Oref.{Oref}
 use Rattle.thor_value.specs.declared.names.Ts.{Ts}

@@ -1,21 +1,21 @@
 -- A client that takes a message.
 use Rattle.client_laws.proofs.Passing.{same_client}
-use Rattle.client_laws.specs.Fitting.{AreCurrent, Copies, CopiesFit, FitsAt, KeepsUp, Kept, OwnAreCopies, SameCopies, StaysRight, awaits_behind, behind_message, one_if, replies}
+use Rattle.client_laws.specs.Fitting.{Copies, CopiesFit, FitsAt, KeepsUp, Kept, SameCopies, StaysRight, awaits_behind, behind_message, one_if, replies}
 use Rattle.commit_log.specs.declared.entry.Entry.{Entry}
-use Rattle.local_history.specs.History.{Base, Known, State, known_by, objects_at, state, writers}
+use Rattle.local_history.specs.History.{Base, Known, objects_at, state}
 use Rattle.local_history.specs.Sound.{sound}
 use Rattle.port_views.specs.Views.{Calm}
 use Rattle.session_outbox.proofs.Sessions.{session-end}
 use Rattle.session_outbox.proofs.Taken.{Took, after-mark, page-taken, step-taken, took}
 use Rattle.session_outbox.proofs.Undecided.{current-taken}
-use Rattle.session_outbox.specs.Current.{IsCurrent, IsOwnWrite, OthersSince, Takes, names_invalid}
-use Rattle.session_outbox.specs.Session.{Grant, Invalid, Notice, Page, Session, Upgrade, bound, is_news, meet, move, place_of, session, session_lives, upto_of, waiting}
+use Rattle.session_outbox.specs.Current.{IsCurrent, IsOwnWrite, Takes, names_invalid}
+use Rattle.session_outbox.specs.Session.{Grant, Invalid, Notice, Page, Session, Upgrade, bound, is_news, meet, move, place_of, session, session_lives, waiting}
 use Rattle.session_outbox.specs.Trace.{Item, M, entries}
 use Rattle.session_outbox.specs.declared.mark.Mark.TheVariants as the
 use Rattle.std.proofs.Common.{Bool, List, [], ap, arith, cond, drop, false, inl, length, refl, subst, suc, sym, true, zero, ◌+◌, ◌++◌, ◌∙◌, ◌∷◌, ◌≡◌, ◌≤◌, ℕ}
 use Rattle.std.proofs.Math.Numerals.{suc-eq-add-one}
 use Rattle.std.proofs.lemmas.Bool.{eqb-true}
-use Rattle.std.proofs.lemmas.List.Elements.{All-head, All-tail, All-weaker}
+use Rattle.std.proofs.lemmas.List.Elements.{All-head, All-tail}
 use Rattle.std.specs.List.{All, filter, list_any, slice_get}
 use Rattle.std.specs.Option.{IsSomeAnd, is_some}
 use Rattle.std.specs.Prelude.{None, Option, Some, nat_eq, not, ◌&&◌}

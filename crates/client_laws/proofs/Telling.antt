@@ -1,6 +1,6 @@
 -- What is known of outcomes over several repositories.
 use Rattle.atomic_histories.proofs.Parts.{committed-from, part_lives, has-committed}
-use Rattle.atomic_histories.specs.Several.{HasCommitted, IsAtomic, Several, committed, part}
+use Rattle.atomic_histories.specs.Several.{IsAtomic, Several, committed}
 use Rattle.client_laws.proofs.Passing.{after_entry, behind, same_client}
 use Rattle.client_laws.specs.Fitting.{Agrees}
 use Rattle.commit_log.specs.declared.entry.Entry.TheVariants.{Decided, Finished, Life, One, Prepared, Upgraded}

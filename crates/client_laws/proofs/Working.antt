@@ -4,12 +4,11 @@ use Rattle.client_laws.proofs.Committing.{fits_committed, fits_undecided, reques
 use Rattle.client_laws.proofs.Growing.{grown_one}
 use Rattle.client_laws.proofs.Taking.{fits_taken}
 use Rattle.client_laws.specs.Fitting.{Agrees, Copies, FitsAt, HoldsNone, Kept, NoneToFinish, SameCopies, WritesOnPages, awaits_behind, behind_message, with_writes}
-use Rattle.commit_log.specs.declared.entry.Entry.TheVariants.{Decided, Finished, Life, One, Prepared, Upgraded}
+use Rattle.commit_log.specs.declared.entry.Entry.TheVariants.{Decided, Finished, One, Prepared, Upgraded}
 use Rattle.commit_log.specs.declared.entry.Entry.{Entry}
 use Rattle.commit_log.specs.declared.request.Request.{Request}
 use Rattle.local_history.proofs.Growth.{length-state}
-use Rattle.local_history.specs.History.{Base, Known, Open, State, commit_of, is_undecided, is_open, commit_by, known_by, state}
-use Rattle.local_history.specs.Laws.{Asks}
+use Rattle.local_history.specs.History.{Base, Known, commit_of, is_undecided, is_open, commit_by, known_by, state}
 use Rattle.local_history.specs.Requests.{is_upgrade}
 use Rattle.local_history.specs.Sound.{sound}
 use Rattle.message_outbox.specs.declared.answers.Asked as answer
@@ -17,17 +16,16 @@ use Rattle.message_outbox.specs.declared.answers.Verdict.{Verdict}
 use Rattle.message_outbox.specs.declared.answers.Welcome.{Welcome}
 use Rattle.message_outbox.specs.declared.message.Message.{Message}
 use Rattle.port_views.specs.Views.{Calm, Came, MayCome, Unsettled}
-use Rattle.port_views.specs.Works.{AskWork, CommitWork, ConnectWork, DecideWork, Decides, DrawWork, FetchWork, FinishWork, ForgetWork, GrantWork, IsAsMet, IsBehind, MayHaveLeft, OutageWith, PrepareWork, ReceiveWork, RefusedMarked, RefusedUnmarked, RequestRefused, alone_entry, is_prepared_by}
+use Rattle.port_views.specs.Works.{AskWork, CommitWork, ConnectWork, DecideWork, Decides, DrawWork, FetchWork, FinishWork, ForgetWork, GrantWork, IsAsMet, IsBehind, MayHaveLeft, OutageWith, PrepareWork, ReceiveWork, RefusedMarked, RefusedUnmarked, RequestRefused, is_prepared_by}
 use Rattle.session_laws.specs.Agreeing.{lives, notice_of}
 use Rattle.session_outbox.proofs.Taken.{after-mark}
 use Rattle.session_outbox.specs.Calls.{next_page}
 use Rattle.session_outbox.specs.Current.{InStep, NoneAborted}
-use Rattle.session_outbox.specs.Session.{Session, acked_after, bound, place_of, session, session_lives, upto_of}
+use Rattle.session_outbox.specs.Session.{acked_after, bound, place_of, session, session_lives, upto_of}
 use Rattle.session_outbox.specs.Trace.{E, Item, M, entries}
 use Rattle.session_outbox.specs.declared.mark.Mark.TheVariants as the
 use Rattle.session_outbox.specs.declared.mark.Mark.{Mark}
-use Rattle.std.proofs.Common.{Bool, List, [], ap, cond, false, length, refl, subst, sym, true, ◌++◌, ◌∙◌, ◌∷◌, ◌≡◌, ◌≢◌, ◌≤◌, ℕ}
-use Rattle.std.proofs.lemmas.Bool.{eqb-true}
+use Rattle.std.proofs.Common.{Bool, List, [], ap, cond, false, refl, subst, sym, true, ◌++◌, ◌∙◌, ◌∷◌, ◌≡◌, ◌≢◌, ◌≤◌, ℕ}
 use Rattle.std.specs.List.{slice_get}
 use Rattle.std.specs.Prelude.{Err, None, Ok, Option, Result, Some, nat_eq, ◌&&◌}
 use Rattle.thor_value.specs.declared.names.Ts.{Ts}

@@ -64,7 +64,7 @@ use Rattle.part_laws.proofs.Made.{is_among}
 use Rattle.part_laws.proofs.Runs.{Deep, deep}
 use Rattle.part_laws.proofs.Steps.{Any, AreFree, BlocksGo, GrowsTo, Held, Placed, TidyAt, touch_goes as part_touch}
 use Rattle.part_laws.proofs.Tidy.{CanReach, can_more, grows_no, grows_then, is_known, not_both, or_right, tidy_this}
-use Rattle.part_laws.proofs.Walk as walk
+use Rattle.part_laws.proofs.Walk.{parameters_free, receiver_held as receiver_over, receiver_reached, sound_method}
 use Rattle.part_laws.specs.Owning.{OwnsIn}
 use Rattle.run_laws.proofs.Alike.{known as is_alike_known}
 use Rattle.run_laws.proofs.AlikeCalls.{expression_alike}
@@ -129,7 +129,7 @@ module _ (schema : Schema) (repos : ℕ) (sound : (c : ℕ) (d : Class) → slic
   unfolding meaning
   receiver_held zero t r l free e m ok h tidy part a is z same = cc
   receiver_held (suc n) t r l free e m ok h tidy part a is z same =
-      walk.receiver_held schema repos sound roots g _ _ _ _ (typed_at schema repos sound g n).values (blocks_over n) (deep schema repos sound roots g n).parts (parts_over n)
+      receiver_over schema repos sound roots g _ _ _ _ (typed_at schema repos sound g n).values (blocks_over n) (deep schema repos sound roots g n).parts (parts_over n)
       t r l free e m ok h tidy part a is z same
 
   module _ (n : ℕ) (values : ValuesTell (meaning at_hand n).value_of) (blocks : BlocksTell (block_of (meaning at_hand n).execute)) where
@@ -308,7 +308,7 @@ module _ (schema : Schema) (repos : ℕ) (sound : (c : ℕ) (d : Class) → slic
           } in
           restored m inside (b method.body inside).1 (b method.body inside).0 (result_of schema.classes method)
           (blocks (Some c) (type_named schema.classes method.result) (map (parameter_named schema.classes) method.parameters)
-          (walk.parameters_free schema repos sound roots g _ _ _ _ typed.values (blocks_over n) parts.parts (parts_over n) t r l free method.parameters ok.parameters) method.body ok.body inside callee)
+          (parameters_free schema repos sound roots g _ _ _ _ typed.values (blocks_over n) parts.parts (parts_over n) t r l free method.parameters ok.parameters) method.body ok.body inside callee)
 
       -- ---- calls
 
@@ -324,7 +324,7 @@ module _ (schema : Schema) (repos : ℕ) (sound : (c : ℕ) (d : Class) → slic
           → ValuesFit (seen all m) (kinds s schema.classes es) us → Ready this c m → In s m → Owed Any m (enter at_hand b this o us m).0 (enter at_hand b this o us m).1
       enter_tells this c name None es us m at called given fit ready h = faults schema repos f g Any m fault.NullCall
       enter_tells this c name (Some method) es us m at called given fit ready h =
-          let ok = walk.sound_method schema repos sound roots g _ _ _ _ typed.values (blocks_over n) parts.parts (parts_over n) t r l free c name.text method at in
+          let ok = sound_method schema repos sound roots g _ _ _ _ typed.values (blocks_over n) parts.parts (parts_over n) t r l free c name.text method at in
           let count : length method.parameters ≡ length (judgements es) = sym (one_number (length method.parameters) (length (judgements es)) (held _ _ _ called)) in
           body_tells this c method us m ready ok (arguments_fit s schema.classes (seen all m) method.parameters es us given count ok.parameters fit) h
 
@@ -514,7 +514,7 @@ module _ (schema : Schema) (repos : ℕ) (sound : (c : ℕ) (d : Class) → slic
           let o = (values_of at_hand v b es first).1 in
           let went = call_tells k a name es us first o (record { called = q.1; given = p.1 }) (value_keeps (seen all first) (seen all o) listed.keeps k a good.value) listed.listed listed.state
           (λ x e. can_more schema.classes g first.created o.created first.reads o.reads listed.grows x
-          (walk.receiver_reached schema repos sound roots g _ _ _ _ typed.values (blocks_over n) parts.parts (parts_over n) t r l free k a first good.state.tidy good.value good.placed x e))
+          (receiver_reached schema repos sound roots g _ _ _ _ typed.values (blocks_over n) parts.parts (parts_over n) t r l free k a first good.state.tidy good.value good.placed x e))
           (λ x e part. held_here m first (u receiver m).1 x (sym this) good.end (receiver_held n t r l free receiver m q.0 h.fits h.tidy part a good.run x e))
           (sym same) listed.grows.made_more in
           subst (λ (j : ExprType). Owed Any o (call at_hand b j a name.text us o).0 (call at_hand b j a name.text us o).1) (sym kind) went))

@@ -22,8 +22,7 @@ use Rattle.class_defs.specs.declared.store.Schema.{Schema}
 use Rattle.eval_laws.proofs.Above.{same_stop}
 use Rattle.run_laws.proofs.Alike.{Sound, Grows}
 use Rattle.run_laws.proofs.AlikeObjects.{create_alike, touch_alike}
-use Rattle.run_laws.proofs.AlikeSteps as alike
-use Rattle.run_laws.proofs.AlikeSteps.{Agree, Went}
+use Rattle.run_laws.proofs.AlikeSteps.{Agree, Went, on as alike_on, steps as alike_steps, stops as alike_stops, value as alike_value}
 
 module _ (f g : Oref → Option Object) where
   -- what an action did from m over f, and did over g: the same where what it read is the same, also where it needs an object
@@ -41,13 +40,13 @@ module _ (f g : Oref → Option Object) where
   on m n (Ok a) other k l h next =
       let then = next a refl (h.alike.sound a refl) h.alike.grows in
       record {
-        alike = alike.on f g m n (Ok a) other k l h.alike (λ b e s grows. (next b e s grows).alike);
+        alike = alike_on f g m n (Ok a) other k l h.alike (λ b e s grows. (next b e s grows).alike);
         need = λ x owners e agree none.
             let same : other ≡ (Ok a, n) = h.alike.same tt (λ y read. agree y (then.alike.grows.reads y read)) in
             ap (λ (p : Result _ Stop × Machine). after p.0 p.1 l) same ∙ then.need x owners e agree none;
       }
   on m n (Err s) other k l h next = record {
-    alike = alike.on f g m n (Err s) other k l h.alike (λ b e t grows. cc);
+    alike = alike_on f g m n (Err s) other k l h.alike (λ b e t grows. cc);
     need = λ x owners e agree none. ap (λ (p : Result _ Stop × Machine). after p.0 p.1 l) (h.need x owners (same_stop s (stop.Need x owners) e) agree none);
   }
 
@@ -59,13 +58,13 @@ module _ (f g : Oref → Option Object) where
   given a m n other h = record { alike = h; need = λ x owners e agree none. cc }
 
   pub value : {A : Type 0} (a : A) → Needs (λ m. (Ok a, m)) (λ m. (Ok a, m))
-  value a m s = given a m m (Ok a, m) (alike.value f g a m s)
+  value a m s = given a m m (Ok a, m) (alike_value f g a m s)
 
   pub tells : {A : Type 0} (h : Machine → A) → Needs (λ m. (Ok (h m), m)) (λ m. (Ok (h m), m))
   tells h m s = value (h m) m s
 
   pub stops : {A : Type 0} (s : Stop) (m : Machine) → Both A m (Err s) m (Err s, m)
-  stops s m = record { alike = alike.stops f g s m; need = λ x owners e agree none. refl }
+  stops s m = record { alike = alike_stops f g s m; need = λ x owners e agree none. refl }
 
   pub failing : {A : Type 0} (s : Stop) → Needs {A = A} (λ m. (Err s, m)) (λ m. (Err s, m))
   failing s m sound = stops s m
@@ -77,7 +76,7 @@ module _ (f g : Oref → Option Object) where
 
   pub steps : Needs step step
   unfolding step
-  steps m s = step_at (nat_lt m.steps STEP_LIMIT) m (alike.steps f g m s)
+  steps m s = step_at (nat_lt m.steps STEP_LIMIT) m (alike_steps f g m s)
 
   pub choose : {A : Type 0} (b : Bool) (p q r s : Action A) (m : Machine) → Both A m (p m).0 (p m).1 (r m) → Both A m (q m).0 (q m).1 (s m)
       → Both A m (cond b p q m).0 (cond b p q m).1 (cond b r s m)

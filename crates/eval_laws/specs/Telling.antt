@@ -10,7 +10,7 @@ use Rattle.class_defs.specs.declared.store.Plain.{Plain}
 use Rattle.class_defs.specs.declared.store.Root.{Root}
 use Rattle.class_defs.specs.declared.store.Schema.{Schema}
 use Rattle.method_eval.specs.Answers.{evaluation}
-use Rattle.method_eval.specs.Names.{supply}
+use Rattle.method_eval.specs.Names.{Names, supply}
 use Rattle.method_eval.specs.Viewed.{current}
 use Rattle.method_eval.specs.declared.view.Ran.{Ran}
 use Rattle.method_eval.specs.declared.view.Ran.TheVariants.{Done, Need, NeedName}
@@ -37,3 +37,8 @@ pub record HasAsMuch (schema : Schema) (view other : View) : Type 0 where
 pub record IsNeeded (tx : List Stmt) (schema : Schema) (view : View) (x : Oref) (owners : List Oref) : Type 0 where
   pub answer : evaluation tx schema view ≡ Need x owners
   pub none : current schema (get view.objects x) ≡ None
+
+-- there are no stand-in names behind those that were granted, and were none at the last commit
+pub record HasNoStandIns (n : Names) : Type 0 where
+  pub now : n.stand_in ≡ None
+  pub kept : n.kept_stand_in ≡ None

@@ -33,7 +33,7 @@ ghost use Rattle.eval_laws.specs.Telling.{HasAsMuch, IsNeeded, TellsOfRun};
 /// An object that it needs isn't in the view or is due; the owners that it tells with that are in the view and not due, or it
 /// has made them itself. Each object that it has read was in the view and wasn't due: so it
 /// doesn't go on past one that is missing. Where it needs a name, the names that it has left have none for a new object
-/// there.
+/// there; and where no stand-in names stand behind them, what it has made took names that it had.
 pub fn what_is_needed_is_not_at_hand()
     ensures need { (tx : List Stmt) → (schema : Schema) → (view : View) → (x : Oref) → (owners : List Oref)
         → evaluation tx schema view ≡ Need x owners → current schema (get view.objects x) ≡ None }
@@ -51,6 +51,10 @@ pub fn what_is_needed_is_not_at_hand()
         → (m : Machine)
         × (execute_all (seen_in schema view.objects) tx (begun (supply view.names).waiting (supply view.names).stand_in) ≡ (Err (stop.NeedName repo), m))
         × (take_name repo m.names ≡ None) }
+    ensures fresh { (tx : List Stmt) → (schema : Schema) → (view : View)
+        → (answer : Answer) → (reads : List Oref) → (writes : List (Oref × Obj)) → (fresh : List Oref)
+        → evaluation tx schema view ≡ Done answer reads writes fresh → (supply view.names).stand_in ≡ None
+        → AllByRecursion (λ x. Contains (supply view.names).waiting x) fresh }
 {}
 
 /// An evaluation answers as one that has more objects at hand, or it needs an object that this reads, and that isn't at hand

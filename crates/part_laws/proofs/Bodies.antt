@@ -152,9 +152,6 @@ module _ (schema : Schema) (repos : ℕ) (sound : (c : ℕ) (d : Class) → slic
     unless_goes Next p n h tidy = h
     unless_goes (Returned a) p n h tidy = still schema repos E Any n (Returned a) tidy tt
 
-    flow_fits : (flow : Flow) (n : Machine) → MachineFits world here n → MachineFits world here n
-    flow_fits flow n h = h
-
     unbroken_number : (e : Expr) → must_be_number here e ≡ [] → (judged here e).broken AsValue ≡ []
     unbroken_number e ok = (nothing ((judged here e).broken AsValue) (must (is_number (judged here e).kind) T3 (line_of e)) ok).0
 

@@ -61,10 +61,6 @@ no_this r e = cc
 same_this : (p q : Receiver) → ◌≡◌ {A = Option Receiver} (Some p) (Some q) → p ≡ q
 same_this p q e = cc
 
-left_false : (a b : Bool) → a ≡ false → (a || b) ≡ true → b ≡ true
-left_false true b e h = cc
-left_false false b e h = h
-
 module _ (schema : Schema) (repos : ℕ) (sound : (c : ℕ) (d : Class) → slice_get schema.classes c ≡ Some d → ClassSound schema repos c d)
     (roots : AllByRecursion (λ (r : RootDeclaration). is_part schema.classes (class_or_untold (class_named schema.classes r.class.text)) ≡ false) schema.roots)
     (E : Oref → Option Object)
@@ -114,11 +110,6 @@ module _ (schema : Schema) (repos : ℕ) (sound : (c : ℕ) (d : Class) → slic
     pub parameters_free : (ps : List Parameter) → Told schema.classes ps → AreFree schema repos E (map (parameter_named schema.classes) ps)
     parameters_free [] h = tt
     parameters_free (p ∷ ps) h = (free_type schema.classes p.type_name h.0, parameters_free ps h.1)
-
-    result_free : (o : Option Method) → ((q : Method) → o ≡ Some q → MethodSound schema repos 0 q ⊎ (is_part schema.classes (type_named schema.classes q.result) ≡ false))
-        → is_part schema.classes (typed schema.classes (option_map (λ (q : Method). q.result) o)) ≡ false
-    result_free None h = refl
-    result_free (Some q) h = elim (h q refl) [ inl k ↦ free_type schema.classes q.result k.result | inr k ↦ k ]
 
     body_goes : (this : Receiver) (c : ℕ) (method : Method) (us : List Value) (m : Machine) → this.class ≡ c
         → class_of (seen w m) this.oref ≡ Some c → MethodSound schema repos c method

@@ -7,10 +7,10 @@ use Rattle.repo_core.specs.Moving.{MakesRoom}
 use Rattle.repo_core.specs.Refusing.{GoesDown, Leaves, Moved, Rests, StaysAsWas, made_of}
 use Rattle.repo_core.specs.Shown.{Shown}
 use Rattle.stable_store.specs.Kept.{is_fault}
-use Rattle.std.proofs.Common.{Bool, Option, ap, cond, false, inl, inr, refl, subst, sym, true, ◌∙◌, ◌≡◌}
-use Rattle.std.specs.Prelude.{None, Some, ◌⊎◌}
+use Rattle.std.proofs.Common.{Bool, Err, Ok, Option, Result, ap, arith, cond, false, inl, inr, refl, subst, sym, true, ℕ, ◌+◌, ◌-◌, ◌∙◌, ◌≡◌}
+use Rattle.std.specs.Prelude.{IfErr, None, Some, ◌⊎◌}
 use Rattle.validation_window.specs.declared.refusal.Refusal.{Refusal}
-use Rattle.volatile_state.proofs.Lasting.{lasts_itself, lasts_on}
+use Rattle.volatile_state.proofs.Lasting.{lasts_itself, lasts_on, stayed}
 use Rattle.volatile_state.specs.Volatile.{Memory, Outlasts}
 
 no_fault : (b : Bool) → b ≡ false → b ≡ true → ⊥
@@ -97,8 +97,8 @@ pub never_marked : (r s : Refusal) → is_marked r ≡ false → is_marked r ≡
 never_marked r s never is = absurd (no_fault (is_marked r) never is)
 
 -- what is refused is what stood against it, where it has a mark
-pub why_refused : {Q : Refusal → Type 0} (up : Bool) (r s : Refusal) → up ≡ true → (is_marked s ≡ true → s ≡ r) → Q r → is_marked s ≡ true → (up ≡ true) × Q s
-why_refused {Q = Q} up r s is same q m = (is, subst Q (sym (same m)) q)
+pub why_refused : (Q : Refusal → Type 0) (up : Bool) (r s : Refusal) → up ≡ true → (is_marked s ≡ true → s ≡ r) → Q r → is_marked s ≡ true → (up ≡ true) × Q s
+why_refused Q up r s is same q m = (is, subst Q (sym (same m)) q)
 
 pub stays_on : (x y z : Shown) → StaysAsWas x y → StaysAsWas y z → StaysAsWas x z
 stays_on x y z a b = record { held = b.held ∙ a.held; memory = b.memory ∙ a.memory; pending = b.pending ∙ a.pending; torn = b.torn ∙ a.torn }
@@ -106,3 +106,28 @@ stays_on x y z a b = record { held = b.held ∙ a.held; memory = b.memory ∙ a.
 -- a refusal behind what changed nothing
 pub leaves_on : (x y z : Shown) (e : Option Entry) (r : Refusal) → x.is_up ≡ true → StaysAsWas x y → Leaves y z e r → Leaves x z e r
 leaves_on x y z e r up so left = record { fault = λ f. falls_behind x y z e up (moved_none x y so.held) (lasts_same x y so.memory) (left.fault f); other = λ f. stays_on x y z so (left.other f) }
+
+-- a fault of the mark behind what was read and what was sent
+pub leaves_read : (i x y z : Shown) (e : Option Entry) (r : Refusal) → (is_fault r ≡ true) × ((d : Option Entry) → GoesDown y z d) → i ≡ x → x.is_up ≡ true → MovesObjects i.held y.held → y.held.objects.mob.limit ≡ i.held.objects.mob.limit → Outlasts i.memory y.memory → Leaves x z e r
+leaves_read i x y z e r falls is up moves limit lasts =
+    subst (λ (s : Shown). Leaves s z e r) is (leaves_behind i y z e r (ap (λ (s : Shown). s.is_up) is ∙ up) (record { objects = moves; limit = limit }) lasts falls.0 (falls.1 e))
+
+less_one : (n m k : ℕ) → n ≡ m + 1 → k ≡ n - 1 → k ≡ m
+less_one n m k a b = omega (arith, a, b)
+
+-- a fault of the mark of a session whose number is given again
+pub leaves_given_back : (x y z i : Shown) (M : Memory) (e : Option Entry) (r : Refusal) → (is_fault r ≡ true) × ((d : Option Entry) → GoesDown y z d) → i ≡ z → z.memory ≡ y.memory → x.is_up ≡ true → y.held ≡ x.held
+    → y.memory.requested ≡ x.memory.requested → y.memory.sessions.last ≡ x.memory.sessions.last + 1 → M.requested ≡ i.memory.requested → M.sessions.last ≡ i.memory.sessions.last - 1 → Leaves x (record i { memory = M }) e r
+leaves_given_back x y z i M e r falls is memory up held requested last given back =
+    let down : GoesDown y i e = subst (λ (s : Shown). GoesDown y s e) (sym is) (falls.1 e) in
+    let same : i.memory ≡ y.memory = ap (λ (s : Shown). s.memory) is ∙ memory in
+    leaves_down x (record i { memory = M }) e r falls.0 (record {
+      was_up = up;
+      held = λ t. moved_on x y (record i { memory = M }) (moved_none x y held) (record { objects = (down.held t).objects; limit = (down.held t).limit });
+      memory = stayed x.memory M (given ∙ (ap (λ (m : Memory). m.requested) same ∙ requested)) (less_one y.memory.sessions.last x.memory.sessions.last M.sessions.last last (back ∙ ap (λ (m : Memory). m.sessions.last - 1) same));
+      pending = down.pending;
+    })
+
+pub if_err_on : {T E : Type 0} (r : Result T E) (P Q : E → Type 0) → ((e : E) → P e → Q e) → IfErr r P → IfErr r Q
+if_err_on (Ok x) P Q f h = tt
+if_err_on (Err e) P Q f h = f e h

@@ -12,7 +12,10 @@ use Rattle.repository_laws.specs.Running.{came_with}
 use Rattle.stable_store.specs.Kept.{is_torn_in, is_up_in, lowered, pending_in}
 use Rattle.stable_store.specs.declared.stable.Phase.TheVariants.{Down, Torn, Up}
 use Rattle.stable_store.specs.declared.stable.Phase.{Phase}
-use Rattle.std.proofs.Common.{Bool, Option, ap, false, inl, inr, refl, subst, sym, true, ◌∙◌, ◌≡◌}
+use Rattle.stable_store.specs.Taking.{TakesFrom}
+use Rattle.stable_store.specs.declared.recovering.Taken.TheVariants as taken
+use Rattle.stable_store.specs.declared.recovering.Taken.{Taken}
+use Rattle.std.proofs.Common.{Bool, Err, Ok, OnOk, Option, Result, ap, false, inl, inr, refl, subst, sym, true, ◌∙◌, ◌≡◌}
 use Rattle.std.specs.Prelude.{None, Some, ◌⊎◌}
 use Rattle.thor_value.specs.FiniteMap.{Set}
 use Rattle.thor_value.specs.Names.{ts_cmp}
@@ -116,3 +119,19 @@ comes_up_so x y z w takes opened drops memory trace held begins recorded = recor
 pub fails_so : (x y z w : Shown) → Takes x y → y.opened_in ≡ x.opened_in → DropsEarlier y z → z.memory ≡ y.memory → z.trace ≡ y.trace
     → GoesDown z w (Some (life_behind z)) → w.trace ≡ z.trace → StaysDown x w
 fails_so x y z w takes opened drops memory trace falls recorded = inr (record { between = z; recovers = recovers_so x y z takes opened drops memory trace; falls = falls; trace = recorded })
+
+-- ---- behind a pending entry that was taken
+
+pub on_ok4 : {X E : Type 0} (r : Result X E) (A B C D F : Type 0) → OnOk r A → OnOk r B → OnOk r C → OnOk r D → (A → B → C → D → F) → OnOk r F
+on_ok4 (Ok x) A B C D F a b c d f = f a b c d
+on_ok4 (Err e) A B C D F a b c d f = tt
+
+taken_from : (p : Option Entry) (t : Taken) (e : Entry) → t ≡ taken.Pending e → TakesFrom p t → p ≡ Some e
+taken_from p t e is from = subst (TakesFrom p) is from
+
+pub takes_after : (x y z : Shown) (p : Phase) (t : Taken) (e : Entry) → x.is_torn ≡ is_torn_in p → x.is_up ≡ is_up_in p → x.pending ≡ pending_in p → is_torn_in p ≡ false → TakesFrom (pending_in p) t → t ≡ taken.Pending e
+    → MovesObjects x.held y.held → y.held.objects.mob.limit ≡ x.held.objects.mob.limit → y.trace ≡ x.trace → y.memory ≡ x.memory
+    → z.held ≡ entered y.held e → z.held.objects.mob.limit ≡ y.held.objects.mob.limit → z.trace ≡ with_entry y.trace e → z.memory.requested ≡ came_with y.memory.requested e → z.memory.sessions ≡ y.memory.sessions → Takes x z
+takes_after x y z p t e torn up pending whole from is moves limit trace memory held stays recorded requested sessions =
+    let there : pending_in p ≡ Some e = taken_from (pending_in p) t e is from in
+    takes_pending x y z e (torn ∙ whole) (up ∙ down_with_it p e there whole) (pending ∙ there) moves limit trace memory held stays recorded requested sessions

@@ -17,7 +17,7 @@ use validation_window::Refusal;
 
 impl<P: Parts> Repo<P> {
     /// Begins a session of the client, and ends its older one.
-    #[tactic(auto, using(crate::proofs::Refused::leaves_down, crate::proofs::Refused::falls_with, crate::proofs::Refused::moved_none, volatile_state::proofs::Lasting::stayed))]
+    #[tactic(auto, using(crate::proofs::Refused::leaves_given_back, crate::proofs::Refused::leaves_down, crate::proofs::Refused::falls_with, crate::proofs::Refused::moved_none, volatile_state::proofs::Lasting::stayed))]
     pub fn connect(&mut self, client: u8) -> Result<Welcome, Refusal>
         ensures stands { Stands self.old.is_up result self.new.is_up }
         ensures held { self.new.held ≡ self.old.held }

@@ -1,6 +1,6 @@
 //! A repository is restarted.
 
-ghost use Rattle.std.specs.Prelude.{◌≡◌, ◌+◌, IfErr, OnErr, OnOk, false, true, Some};
+ghost use Rattle.std.specs.Prelude.{◌≡◌, ◌+◌, ◌<◌, IfErr, OnErr, OnOk, false, true, Some};
 ghost use Rattle.commit_log.specs.declared.entry.Entry.TheVariants.{Life as ALife};
 ghost use Rattle.live_sessions.specs.Sessions.{ended};
 ghost use Rattle.log_bytes.specs.Grammar.{BodyFits};
@@ -149,7 +149,7 @@ fn forget_before<P: Parts>(stable: &mut Stable<P>, life: u32)
 }
 
 /// Forgets a kept decision, where its transaction is of an earlier life than this one.
-#[tactic(auto, using(crate::proofs::Letting::goes_itself, crate::proofs::Letting::one_goes_in, crate::proofs::Letting::table_alone))]
+#[tactic(auto, using(crate::proofs::Letting::goes_itself))]
 fn forget_earlier<P: Parts>(stable: &mut Stable<P>, tx: Ts, life: u32)
     requires kept { IsKept P.disks stable.old }
     ensures kept { IsKept P.disks stable.new }
@@ -158,6 +158,19 @@ fn forget_earlier<P: Parts>(stable: &mut Stable<P>, tx: Ts, life: u32)
     ensures go { LetsGo life (held_of stable.old).table (held_of stable.new).table }
 {
     if tx.life < life {
-        stable.forget(tx);
+        forget_one(stable, tx, life);
     }
+}
+
+/// Forgets a kept decision of a transaction of an earlier life than this one.
+#[tactic(auto, using(crate::proofs::Letting::one_goes_in, crate::proofs::Letting::table_alone))]
+fn forget_one<P: Parts>(stable: &mut Stable<P>, tx: Ts, life: u32)
+    requires kept { IsKept P.disks stable.old }
+    requires earlier { tx.life < life }
+    ensures kept { IsKept P.disks stable.new }
+    ensures phase { stable.new.phase ≡ stable.old.phase }
+    ensures held { held_of stable.new ≡ record (held_of stable.old) { table = (held_of stable.new).table } }
+    ensures go { LetsGo life (held_of stable.old).table (held_of stable.new).table }
+{
+    stable.forget(tx);
 }

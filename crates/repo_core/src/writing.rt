@@ -121,12 +121,10 @@ impl<P: Parts> Repo<P> {
         match entry {
             Entry::Life { .. } => self.begin_life(),
             Entry::Prepared { request } => self.memory.enter(request, false),
-            Entry::One { request } | Entry::Upgraded { request } => {
-                self.tell_alone(request, number, place)
-            }
-            Entry::Decided { tx, commit } | Entry::Finished { tx, commit } => {
-                self.tell_decision(*tx, *commit, number, place)
-            }
+            Entry::One { request } => self.tell_alone(request, number, place),
+            Entry::Upgraded { request } => self.tell_alone(request, number, place),
+            Entry::Decided { tx, commit } => self.tell_decision(*tx, *commit, number, place),
+            Entry::Finished { tx, commit } => self.tell_decision(*tx, *commit, number, place),
         }
     }
 
