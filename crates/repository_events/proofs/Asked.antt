@@ -84,15 +84,19 @@ told_so x after place e counted never told =
 pub runs_entry : (b : Base) (x y : Shown) (e : Entry) → x.is_up ≡ true → y.is_up ≡ true → IsCounted x → IsNoLife e → MayMake b (seen x) e → y.trace ≡ with_entry x.trace e → HasMoved x.held e y.held → Moves x.held x.memory e y.memory
     → core.Tells x.held x.memory.sessions (length x.trace.history) e y.memory.sessions → y.opened_in ≡ x.opened_in → LimitStays x y → IsRun b x y
 runs_entry b x y e u v counted never may t moved memory tells o l =
-    runs_one b x y (Makes e) (up_phase x u, up_phase y v, record {
-      may = may;
-      trace = t;
-      between = moved.between;
-      moves = moved.moves;
-      held = moved.entered;
-      memory = memory;
-      tells = told_so x y.memory.sessions (length x.trace.history) e counted never tells;
-    }) o (λ w. (whole_up x u, l))
+    runs_one b x y (Makes e) (
+      up_phase x u,
+      up_phase y v,
+      record {
+        may = may;
+        trace = t;
+        between = moved.between;
+        moves = moved.moves;
+        held = moved.entered;
+        memory = memory;
+        tells = told_so x y.memory.sessions (length x.trace.history) e counted never tells;
+      },
+    ) o (λ w. (whole_up x u, l))
 
 no_life_alone : (k : Kind) (q : Request) → IsNoLife (alone_entry k q)
 no_life_alone App q = tt

@@ -50,10 +50,23 @@ pub fetch_runs : (b : Base) (x y : Shown) (s page upto : ℕ) (result : Result (
     → OnOk result (SendsPage x.memory s page upto (length x.trace.history) y.memory) → OnOk result (y.trace ≡ with_mark x.trace (Fetched s page upto)) → OnErr result (y.trace ≡ x.trace) → IfErr result (Leaves x y None) → y.opened_in ≡ x.opened_in → IsRun b x y
 fetch_runs b x y s page upto (Ok t) within stands live moves limit sends trace refused left o = record {
   events = Flushes ∷ Marks (Fetched s page upto) ∷ [];
-  run = (made_of_parts y.held x.memory x.trace, Up, (up_phase x stands.0, refl, record { trace = refl; held = moves; memory = refl }), seen y, phase y, (refl, up_phase y stands.1, record {
-    comes = record { trace = trace; changes = (refl, ap (λ (m : Memory). m.drawn) sends.sends); queue = ap (λ (m : Memory). m.queue) sends.sends; requested = ap (λ (m : Memory). m.requested) sends.sends };
-    may = (live, within, (sends.bytes, ap (λ (m : Memory). m.sessions) sends.sends));
-  }), refl, refl);
+  run = (
+    made_of_parts y.held x.memory x.trace,
+    Up,
+    (up_phase x stands.0, refl, record { trace = refl; held = moves; memory = refl }),
+    seen y,
+    phase y,
+    (
+      refl,
+      up_phase y stands.1,
+      record {
+        comes = record { trace = trace; changes = (refl, ap (λ (m : Memory). m.drawn) sends.sends); queue = ap (λ (m : Memory). m.queue) sends.sends; requested = ap (λ (m : Memory). m.requested) sends.sends };
+        may = (live, within, (sends.bytes, ap (λ (m : Memory). m.sessions) sends.sends));
+      },
+    ),
+    refl,
+    refl,
+  );
   opened = o;
   limit = λ w. (whole_up x stands.0, limit);
 }
@@ -153,8 +166,16 @@ checkpoint_runs b x y result k stands memory trace drops rests o = on result sta
             let f : (x.is_up ≡ true) × (y.pending ≡ None) × (y.is_torn ≡ false) = left.fault is in
             record {
               events = Checkpoint ∷ Fails None ∷ [];
-              run = (made_of_parts y.held x.memory x.trace, Up, (up_phase x f.0, refl, record { trace = refl; memory = refl; table = y.held.table; go = go f.0; held = drops.held }), seen y, phase y,
-                  (refl, inl (down_phase y None (stood ∙ ap (λ (a : Bool). cond a false x.is_up) is) f.2 f.1), tt, record { trace = trace; moves = refl; memory = same_lasts x y memory }), refl, refl);
+              run = (
+                made_of_parts y.held x.memory x.trace,
+                Up,
+                (up_phase x f.0, refl, record { trace = refl; memory = refl; table = y.held.table; go = go f.0; held = drops.held }),
+                seen y,
+                phase y,
+                (refl, inl (down_phase y None (stood ∙ ap (λ (a : Bool). cond a false x.is_up) is) f.2 f.1), tt, record { trace = trace; moves = refl; memory = same_lasts x y memory }),
+                refl,
+                refl,
+              );
               opened = o;
               limit = λ w. (whole_up x f.0, limit);
             }

@@ -81,11 +81,14 @@ sessions_same x z r = ap (λ (m : Memory). m.sessions) r.memory ∙ r.takes.sess
 
 comes_up : (b : Base) (x y : Shown) → StandsRight b x → y.is_up ≡ true → core.ComesUp x y → y.memory.sessions ≡ ended x.memory.sessions → y.opened_in ≡ x.opened_in → IsRun b x y
 comes_up b x y k up c sessions o =
-    runs_one b x y Restart (up_phase y up, record {
-      between = seen c.between;
-      recovers = recovers b x c.between k c.recovers;
-      begins = record { trace = c.trace; held = c.held; memory = c.memory; sessions = sessions ∙ ap ended (sym (sessions_same x c.between c.recovers)) };
-    }) o (λ w. (recovered_whole x c.between c.recovers, ap (λ (h : Held). h.objects.mob.limit) c.held ∙ (entered_limit c.between.held (Life (c.between.held.life + 1)) ∙ recovered_limit x c.between c.recovers)))
+    runs_one b x y Restart (
+      up_phase y up,
+      record {
+        between = seen c.between;
+        recovers = recovers b x c.between k c.recovers;
+        begins = record { trace = c.trace; held = c.held; memory = c.memory; sessions = sessions ∙ ap ended (sym (sessions_same x c.between c.recovers)) };
+      },
+    ) o (λ w. (recovered_whole x c.between c.recovers, ap (λ (h : Held). h.objects.mob.limit) c.held ∙ (entered_limit c.between.held (Life (c.between.held.life + 1)) ∙ recovered_limit x c.between c.recovers)))
 
 stays_pending : (u t : Bool) (p o q : Option Entry) → t ≡ false → (o ≡ None) ⊎ ((u ≡ false) × (o ≡ p)) → q ≡ o → StaysPending (phase_from u t p) (Down q)
 stays_pending true t p o q whole (inl none) is = ap Down (is ∙ none)
@@ -127,12 +130,21 @@ fails_behind b x y k d f o = by y.is_torn refl
     by : (t : Bool) → y.is_torn ≡ t → IsRun b x y
     by true t = record {
       events = RestartFails ∷ Tears ∷ [];
-      run = (seen f.between, Down None, inr (record {
-        between = seen f.between;
-        recovers = recovers b x f.between k f.recovers;
-        down = record { trace = refl; moves = refl; memory = lasts_itself f.between.memory };
-        phase = inl refl;
-      }), seen y, phase y, (torn_phase y d t, f.trace), refl, refl);
+      run = (
+        seen f.between,
+        Down None,
+        inr (record {
+          between = seen f.between;
+          recovers = recovers b x f.between k f.recovers;
+          down = record { trace = refl; moves = refl; memory = lasts_itself f.between.memory };
+          phase = inl refl;
+        }),
+        seen y,
+        phase y,
+        (torn_phase y d t, f.trace),
+        refl,
+        refl,
+      );
       opened = o;
       limit = limit;
     }

@@ -76,11 +76,7 @@ pub fn draw<P: Parts>(repo: &mut Repo<P>, session: u32, floor: u64) -> Result<Ts
 }
 
 /// A request is prepared, or refused. Its sender vouches for it.
-pub fn prepare<P: Parts>(
-    repo: &mut Repo<P>,
-    session: u32,
-    request: Request,
-) -> Result<u64, Refusal>
+pub fn prepare<P: Parts>(repo: &mut Repo<P>, session: u32, request: Request) -> Result<u64, Refusal>
     requires { MayRequest repo.old.held repo.old.memory request false }
     ensures { (b : Base) → StandsRight b repo.old → IsSent b repo.old session request → IsRun b repo.old repo.new }
 {

@@ -7,5 +7,8 @@
 mod calls;
 mod laws;
 
-pub use calls::{ask, checkpoint, commit_one, connect, decide, disarm, draw, fetch, finish, flush, forget, grant, open, prepare, receive, restart, stop_after};
+pub use calls::{
+    ask, checkpoint, commit_one, connect, decide, disarm, draw, fetch, finish, flush, forget,
+    grant, open, prepare, receive, restart, stop_after,
+};
 pub use laws::calls_stay_right;

@@ -35,11 +35,7 @@ struct Numbers {
 
 /// With what a recovered state agrees: by its numbers, of which the count of entries tells what is in memory
 /// from that with one entry more.
-pub(crate) fn compare(
-    held: &HeldState,
-    pending: &Option<Entry>,
-    recovered: &HeldState,
-) -> Agreement
+pub(crate) fn compare(held: &HeldState, pending: &Option<Entry>, recovered: &HeldState) -> Agreement
     ensures held { result ≡ AsHeld → numbers_of recovered.now ≡ numbers_of held.now }
     ensures pending { result ≡ WithPending → IfSome pending.now (λ e. numbers_of recovered.now ≡ numbers_of (entered held.now e)) }
     ensures neither { result ≡ Neither → numbers_of recovered.now ≡ numbers_of held.now → ⊥ }

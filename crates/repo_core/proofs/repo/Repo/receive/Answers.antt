@@ -13,4 +13,4 @@ returns-clause-left g c =
     let x : Shown = record { held = held_of i.stable; is_up = is_up i.stable; memory = i.memory; trace = i.trace; opened_in = i.opened_in; pending = pending i.stable; is_torn = is_torn i.stable } in
     let y : Shown = record x { memory = c.take-taken.new.self } in
     if_err_on c.mark_taken.result _ _ (λ r falls. leaves_read x c.args.self.now y c.mark_taken.new.self None r falls c.self.view_is c.in_ok-check_up.ensures.up refl refl
-        (stayed i.memory c.take-taken.new.self (ap (λ (m : Memory). m.requested) c.take-taken.ensures.rest) (ap (λ (m : Memory). m.sessions.last) c.take-taken.ensures.rest))) c.mark_taken.ensures.falls
+    (stayed i.memory c.take-taken.new.self (ap (λ (m : Memory). m.requested) c.take-taken.ensures.rest) (ap (λ (m : Memory). m.sessions.last) c.take-taken.ensures.rest))) c.mark_taken.ensures.falls

@@ -12,4 +12,4 @@ returns-in-Pending-clause-takes g c =
     let y : Shown = record { held = held_of c.restart.new.self; is_up = is_up c.restart.new.self; memory = i.memory; trace = i.trace; opened_in = i.opened_in; pending = pending c.restart.new.self; is_torn = is_torn c.restart.new.self } in
     subst (λ (s : Shown). OnOk c.take_pending.result (Takes s c.take_pending.new.self)) c.self.view_is
     (on_ok4 c.take_pending.result _ _ _ _ _ c.take_pending.ensures.held c.take_pending.ensures.limit c.take_pending.ensures.trace c.take_pending.ensures.requested
-        (λ h l t r. takes_after x y c.take_pending.new.self i.stable.phase c.in_ok-restart.field-0 c.in-Pending.entry refl refl refl c.in_ok-restart.ensures.whole c.in_ok-restart.ensures.pending c.in-Pending.is c.in_ok-restart.ensures.held c.restart.ensures.limit refl refl h l t r c.take_pending.ensures.sessions))
+    (λ h l t r. takes_after x y c.take_pending.new.self i.stable.phase c.in_ok-restart.field-0 c.in-Pending.entry refl refl refl c.in_ok-restart.ensures.whole c.in_ok-restart.ensures.pending c.in-Pending.is c.in_ok-restart.ensures.held c.restart.ensures.limit refl refl h l t r c.take_pending.ensures.sessions))
