@@ -17,12 +17,14 @@ use Rattle.repository_reading.specs.Same.{Same}
 use Rattle.state_log.specs.Recovered.{stands}
 use Rattle.std.proofs.Common.{Err, IfOk, List, None, Ok, OnOk, Option, Result, Some, [], ap, arith, get_or, length, map, refl, subst, suc, sym, take, zero, ℕ, ◌++◌, ◌+◌, ◌<◌, ◌∙◌, ◌≡◌, ◌∷◌, ◌≤◌}
 use Rattle.std.proofs.lemmas.Grind.{flat_map-append}
-use Rattle.std.proofs.lemmas.List.{append-nil}
+use Rattle.std.proofs.lemmas.List.{append-nil, map-append}
 use Rattle.std.specs.List.{AllByRecursion, AllZip, flat_map, fold}
 use Rattle.std.specs.Prelude.{IsOk}
+use Rattle.repository_reading.specs.declared.repository.Read.{Read}
 use Rattle.store_reading.proofs.Bringing.{none_sorted}
+use Rattle.store_reading.specs.Joined.{read_states, state_of}
 use Rattle.store_reading.specs.OpenedStore.{Holds, Repository, committing, joined, objects_of, opened_store, roots_of, states_of, with_repository}
-use Rattle.store_reading.specs.Reading.{IsOpened, IsPagedBy, IsStored, PutsAll, StandFor}
+use Rattle.store_reading.specs.Reading.{IsOpened, IsPagedBy, IsStored, PutsAll, ReadAll, StandFor}
 use Rattle.store_reading.specs.declared.found.OpenStore.{OpenStore}
 use Rattle.thor_value.proofs.FiniteMap.{IsSorted-insert}
 use Rattle.thor_value.proofs.NameOrders.{oref_total}
@@ -39,6 +41,16 @@ known_stands part kept r known images same reads = recovered_reads kept r known 
 pub always : {A E : Type 0} (r : Result A E) (P : Type 0) → P → OnOk r P
 always (Ok a) P p = p
 always (Err e) P p = tt
+
+pub ok_is : {A E : Type 0} (r : Result A E) (a : A) → r ≡ Ok a → IsOk r
+ok_is {A} {E} r a is = subst (λ (q : Result A E). IsOk q) (sym is) refl
+
+pub both_ok : {A E : Type 0} (r : Result A E) (P Q : Type 0) → P → OnOk r Q → OnOk r (P × Q)
+both_ok (Ok a) P Q p q = (p, q)
+both_ok (Err e) P Q p q = tt
+
+pub ok_at : {A E : Type 0} (r : Result A E) (a : A) (P : A → Type 0) → r ≡ Ok a → IfOk r P → P a
+ok_at {A} {E} r a P is h = subst (λ (q : Result A E). IfOk q P) is h
 
 -- ---- several lists side by side
 
@@ -97,9 +109,9 @@ module _ {X Y : Type 0} (R : X → Y → Type 0) where
 pub puts_none : (m : Objects) → PutsAll [] m m
 puts_none m = record { pages = []; each = tt; put = refl }
 
-pub puts_start : {X : Type 0} (R : X → (ℕ → List ℕ) → Type 0) (images : List (ℕ → List ℕ)) (m : Objects) → AllZip R [] images → PutsAll images m m
-puts_start R [] m each = puts_none m
-puts_start R (i ∷ images) m each = absurd each
+pub puts_start : {P : Type 0} (disks : P → Disks) (images : List (ℕ → List ℕ)) (m : Objects) → ReadAll disks [] images → PutsAll images m m
+puts_start disks [] m each = puts_none m
+puts_start disks (i ∷ images) m each = absurd each
 
 pub puts_more : (before : List (ℕ → List ℕ)) (last : ℕ → List ℕ) (old mid new : Objects) → PutsAll before old mid → PutsStored last mid new → PutsAll (before ++ last ∷ []) old new
 puts_more before last old mid new puts one = record {
@@ -114,12 +126,19 @@ puts_more before last old mid new puts one = record {
 -- a repository more was read, where all before it were
 pub puts_next : {A B E F : Type 0} (before : Result A E) (now : Result B F) (done : List (ℕ → List ℕ)) (last : ℕ → List ℕ) (old mid new : Objects) → OnOk before (PutsAll done old mid) → OnOk now (IsOk before × PutsStored last mid new) → OnOk now (PutsAll (done ++ last ∷ []) old new)
 puts_next (Ok a) (Ok b) done last old mid new puts one = puts_more done last old mid new puts one.1
-puts_next (Err e) (Ok b) done last old mid new puts one = absurd one.0
+puts_next (Err e) (Ok b) done last old mid new puts one = let no = one.0 in cc
 puts_next before (Err f) done last old mid new puts one = tt
 
 -- the states of what was read, one more
 pub stand_more : (images : List (ℕ → List ℕ)) (states : List State) (image : ℕ → List ℕ) (s : State) → StandFor images states → stands image ≡ Some s → StandFor (images ++ image ∷ []) (states ++ s ∷ [])
 stand_more images states image s stand is = zip_more (λ i s. stands i ≡ Some s) images states image s stand is
+
+pub stand_next : (images : List (ℕ → List ℕ)) (i : ℕ) (reads now : List Read) (image : ℕ → List ℕ) (r : Read) → take (suc i) images ≡ take i images ++ image ∷ [] → now ≡ reads ++ r ∷ [] → StandFor (take i images) (read_states reads) → stands image ≡ Some (state_of r) → StandFor (take (i + 1) images) (read_states now)
+stand_next images i reads now image r more pushed stand is =
+    let e : i + 1 ≡ suc i = omega arith in
+    subst (λ (rs : List Read). StandFor (take (i + 1) images) (read_states rs)) (sym pushed)
+    (subst (λ (ss : List State). StandFor (take (i + 1) images) ss) (sym (map-append state_of reads (r ∷ [])))
+    (subst (λ (is : List (ℕ → List ℕ)). StandFor is (read_states reads ++ state_of r ∷ [])) (sym (ap (λ n. take n images) e ∙ more)) (stand_more (take i images) (read_states reads) image (state_of r) stand is)))
 
 -- ---- the store
 
@@ -160,7 +179,7 @@ sorted_joined all (s ∷ states) m sorted = sorted_joined all states (with_repos
 pub stored_is : (images : List (ℕ → List ℕ)) (states : List State) (paged : Objects) (store : OpenStore) → StandFor images states → PutsAll images empty paged → store.stored.objects ≡ joined states paged → store.stored.epoch ≡ length store.schemas.upgraded → store.roots ≡ roots_of states → IsStored images store
 stored_is images states paged store stand puts objects epoch roots =
     let held = pairs images states puts.pages stand puts.each in
-    let start : IsSorted paged = subst IsSorted (sym puts.put) (sorted_over (flat_map (λ ws. ws) puts.pages) empty (none_sorted empty refl)) in
+    let start : IsSorted paged = subst IsSorted (sym puts.put) (sorted_over (flat_map (λ ws. ws) puts.pages) empty (none_sorted {X = Obj} empty refl)) in
     record {
       repositories = held.repositories;
       each = held.each;

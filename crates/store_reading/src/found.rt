@@ -234,7 +234,7 @@ fn unread<P>(parts: Vec<P>) -> ClusterFault<P>
 
 /// Reads the repositories, rising, into places for which there is room: all of them, also beside a fresh
 /// repository 0. Behind one that can't be read the others aren't.
-#[tactic(auto, using(crate::proofs::Places::zip_more, crate::proofs::Places::next_one, crate::proofs::Places::none_in))]
+#[tactic(auto, using(crate::proofs::Places::zip_more, crate::proofs::Places::next_one, crate::proofs::Places::none_in, crate::proofs::Holding::puts_start))]
 fn read_all<P: Parts>(
     alloc: Global,
     parts: Vec<P>,

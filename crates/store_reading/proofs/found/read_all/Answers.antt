@@ -4,7 +4,7 @@ use Rattle.store_reading.specs.Seated.{IsSeated}
 use Rattle.disk_trait.specs.AllDisks.{ReadsAs}
 use Rattle.std.proofs.Common.{List, OnOk, ap, arith, subst, sym, ℕ, ◌++◌, ◌∙◌, ◌≡◌}
 use Rattle.std.proofs.lemmas.List.{append-nil}
-use Rattle.store_reading.proofs.Holding.{ends, puts_next, puts_start}
+use Rattle.store_reading.proofs.Holding.{ends, puts_next}
 use Rattle.store_reading.specs.Reading.{PutsAll, ReadAll}
 use Rattle.std.specs.Vec.Iter.{into_iter_items}
 
@@ -26,9 +26,6 @@ pub returns-clause-seated : goal.returns-clause-seated
 returns-clause-seated g c =
     let inv = c.loop-part.invariant in
     zip_all (IsSeated g.P.Parts.disks) c.loop-part.yielded (into_iter_items c.loop-part.part-iterator) c.args.parts.items c.loop-part.places.items inv.2 (none_left c.loop-part.part-iterator c.next.new.self c.in-None.ensures.steps) inv.3
-
-pub loop-part-init : goal.loop-part-init
-loop-part-init g c = ?init
 
 pub returns-clause-put : goal.returns-clause-put
 returns-clause-put g c = λ images reads.
