@@ -2,7 +2,11 @@
 
 ghost use Rattle.std.specs.List.{AllZip};
 ghost use Rattle.std.specs.Prelude.{vec_capacity, vec_len, ◌≡◌, ◌≤◌};
-ghost use Rattle.store_reading.specs.Seated.{Gives};
+ghost use Rattle.disk_trait.specs.AllDisks.{ReadsAs};
+ghost use Rattle.state_log.specs.Recovered.{stands};
+ghost use Rattle.std.specs.Prelude.{IfSome, List, Some, ℕ};
+ghost use Rattle.store_reading.specs.Joined.{IsKept, state_of};
+ghost use Rattle.store_reading.specs.Seated.{Gives, IsSeated};
 
 use disk_trait::Parts;
 use repository_reading::{Known, Read, Settled};
@@ -40,7 +44,10 @@ impl<P: Parts> Closed<P> {
     }
 
     /// What was recovered.
-    pub(crate) fn read(&self) -> Option<Read<'_>> {
+    pub(crate) fn read(&self) -> Option<Read<'_>>
+        ensures kept { IfSome result IsKept }
+        ensures stands { (part : P) (images : ℕ → List ℕ) → IsSeated P.disks part self.now → ReadsAs (P.disks part) images → IfSome result (λ read. stands images ≡ Some (state_of read)) }
+    {
         match self {
             Closed::Known(known) => Some(known.read()),
             Closed::Parts(_) | Closed::Fresh(_) => None,

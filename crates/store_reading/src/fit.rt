@@ -1,5 +1,9 @@
 //! Whether the repositories of an open store fit together.
 
+ghost use Rattle.std.specs.Prelude.{IfOk, ◌≡◌};
+ghost use Rattle.store_reading.specs.Joined.{AreKept, read_states};
+ghost use Rattle.store_reading.specs.OpenedStore.{joined};
+
 use crate::joined::{Settled, joined, settle_repository};
 use crate::separate::{has_coordinators, has_own_names, is_below};
 use class_defs::{Root, Roots, Schemas};
@@ -25,7 +29,10 @@ pub(crate) fn check_store(
     alloc: Global,
     store: &[Read<'_>],
     paged: OrefMap<Obj>,
-) -> Result<(Schemas, OrefMap<Obj>), Unopened> {
+) -> Result<(Schemas, OrefMap<Obj>), Unopened>
+    requires { AreKept store.now }
+    ensures { IfOk result (λ checked. checked.1 ≡ joined (read_states store.now) paged) }
+{
     let (paged, settled) = both(paged, settle_all(alloc, store))?;
     let standing = standing_of(alloc, store, settled.as_slice());
     let (paged, standing) = both(paged, standing)?;
@@ -37,7 +44,10 @@ fn check_standing(
     store: &[Read<'_>],
     standing: &[Stands],
     paged: OrefMap<Obj>,
-) -> Result<(Schemas, OrefMap<Obj>), Unopened> {
+) -> Result<(Schemas, OrefMap<Obj>), Unopened>
+    requires { AreKept store.now }
+    ensures { IfOk result (λ checked. checked.1 ≡ joined (read_states store.now) paged) }
+{
     let (paged, repos) = both(paged, number_at(store.len()))?;
     let Some((first, others)) = standing.split_first() else {
         drop(paged);
@@ -46,7 +56,7 @@ fn check_standing(
     let (paged, schemas) = both(paged, checked_schemas(alloc, first, others, repos))?;
     let (held, _) = both((schemas, paged), check_each(store, standing))?;
     let (schemas, paged) = held;
-    let (schemas, objects) = both(schemas, joined(store, paged))?;
+    let (schemas, objects) = both(schemas, joined(alloc, store, paged))?;
     let checked = check_joined(alloc, first, store, &objects, &schemas);
     let (held, _) = both((schemas, objects), checked)?;
     Ok(held)
@@ -95,10 +105,12 @@ fn check_joined(
     Ok(())
 }
 
-fn settle_all(alloc: Global, store: &[Read<'_>]) -> Result<Vec<Settled>, NoMemory> {
+fn settle_all(alloc: Global, store: &[Read<'_>]) -> Result<Vec<Settled>, NoMemory>
+    requires { AreKept store.now }
+{
     let mut all = Vec::new(alloc);
     for read in store {
-        all.push(settle_repository(store, read)?)?;
+        all.push(settle_repository(alloc, store, read)?)?;
     }
     Ok(all)
 }
@@ -194,7 +206,9 @@ fn check_alike(first: &Stands, other: &Stands) -> Result<(), Unopened> {
 }
 
 /// What is checked of each repository by itself.
-fn check_each(store: &[Read<'_>], standing: &[Stands]) -> Result<(), Unopened> {
+fn check_each(store: &[Read<'_>], standing: &[Stands]) -> Result<(), Unopened>
+    requires { AreKept store.now }
+{
     for one in standing {
         if !has_coordinators(store, one.repo, one.read) {
             return Err(one.read.damaged(one.repo));

@@ -4,20 +4,25 @@ ghost use Rattle.repository_reading.specs.Recovered.{Finds};
 ghost use Rattle.repository_reading.specs.Same.{Same};
 ghost use Rattle.store_reading.specs.Seated.{AreSeated, IsSeated};
 ghost use Rattle.std.specs.Option.{IfSome};
-ghost use Rattle.std.specs.Prelude.{IfErr, IfOk, List, vec_capacity, vec_len, ◌≡◌, ◌≤◌};
-ghost use Rattle.thor_value.specs.FiniteMap.{IsSorted};
+ghost use Rattle.disk_trait.specs.AllDisks.{ReadsAs};
+ghost use Rattle.repository_reading.specs.Paged.{PutsStored};
+ghost use Rattle.std.specs.Prelude.{IfErr, IfOk, IsOk, List, OnOk, vec_capacity, vec_len, ◌≡◌, ◌≤◌, ℕ};
+ghost use Rattle.store_reading.specs.Joined.{AreKept, read_states};
+ghost use Rattle.store_reading.specs.OpenedStore.{roots_of};
+ghost use Rattle.store_reading.specs.Reading.{IsOpened, IsOpenedIn, IsStored, IsStoredIn, PutsAll, ReadAll, StandFor};
+ghost use Rattle.thor_value.specs.FiniteMap.{IsSorted, empty};
 
 use crate::closed::{Closed, give_back};
 use crate::eager::eager;
 use crate::fault::ClusterFault;
 use crate::fit::check_store;
-use class_defs::{Plain, Schemas};
+use class_defs::{Plain, Roots, Schemas};
 use disk_trait::Parts;
 use method_eval::{Names, View};
 use recovery::Recovered;
 use repository_reading::{Known, Read, Settled, Unopened, number_at, read_repository};
 use std::alloc::Global;
-use thor_value::{NoMemory, Obj, OrefMap, both};
+use thor_value::{NoMemory, Obj, OrefMap, TryCopy, both};
 
 /// What the disks of a store hold.
 #[derive(Drop)]
@@ -35,6 +40,8 @@ struct OpenStore {
     schemas: Schemas,
     /// The objects of all repositories, as they are stored.
     stored: View,
+    /// The roots, as repository 0 has them.
+    roots: Roots,
 }
 
 /// A store's parts, read and checked. What their disks hold is as it was.
@@ -64,6 +71,7 @@ impl<P: Parts> Found<P> {
         ensures err { IfErr result (λ fault. vec_len fault.parts ≡ vec_len parts) }
         ensures found { IfOk result (HasParts P.disks parts.items) }
         ensures unread { IfErr result (λ fault. AreSame P.disks parts.items fault.parts.items) }
+        ensures stored { (images : List (ℕ → List ℕ)) → ReadAll P.disks parts.items images → IfOk result (λ found. IsStoredIn images found.store) }
     {
         let Ok(spare) = Vec::with_capacity(alloc, parts.len()) else {
             return Err(unread(parts));
@@ -131,10 +139,11 @@ impl<P: Parts> Found<P> {
     /// The store as it is opened, each object brought up to its epoch; nothing where it is fresh.
     pub fn opened(&self, alloc: Global) -> Result<Option<Plain>, NoMemory>
         ensures sorted { IfOk result (λ store. IfSome store (λ s. IsSorted s.objects)) }
+        ensures opened { (images : List (ℕ → List ℕ)) → IsStoredIn images self.now.store → IfOk result (IsOpenedIn images self.now.store) }
     {
         match &self.store {
             Store::Fresh => Ok(None),
-            Store::Open(store) => Ok(Some(opened(alloc, store, self.places.as_slice())?)),
+            Store::Open(store) => Ok(Some(opened(alloc, store)?)),
         }
     }
 
@@ -176,28 +185,24 @@ impl<P: Parts> Found<P> {
 fn schemas_of(store: Store) -> Option<Schemas> {
     match store {
         Store::Fresh => None,
-        Store::Open(OpenStore { schemas, stored }) => {
+        Store::Open(OpenStore {
+            schemas,
+            stored,
+            roots,
+        }) => {
             drop(stored);
+            drop(roots);
             Some(schemas)
         }
     }
 }
 
 /// Each object of a store brought up to its epoch.
-fn opened<P: Parts>(
-    alloc: Global,
-    store: &OpenStore,
-    places: &[Closed<P>],
-) -> Result<Plain, NoMemory>
-    ensures { IfOk result (λ store. IsSorted store.objects) }
+fn opened(alloc: Global, store: &OpenStore) -> Result<Plain, NoMemory>
+    ensures sorted { IfOk result (λ opened. IsSorted opened.objects) }
+    ensures opened { (images : List (ℕ → List ℕ)) → IsStored images store.now → IfOk result (IsOpened images store.now.schemas) }
 {
-    match places.first() {
-        Some(Closed::Known(known)) => {
-            let roots = known.recovered().state.roots();
-            eager(alloc, &store.stored, &store.schemas, roots)
-        }
-        Some(_) | None => Err(NoMemory),
-    }
+    eager(alloc, &store.stored, &store.schemas, &store.roots)
 }
 
 fn life_of<P: Parts>(place: &Closed<P>) -> u32 {
@@ -229,7 +234,7 @@ fn unread<P>(parts: Vec<P>) -> ClusterFault<P>
 
 /// Reads the repositories, rising, into places for which there is room: all of them, also beside a fresh
 /// repository 0. Behind one that can't be read the others aren't.
-#[tactic(auto, using(crate::proofs::Places::zip_more, crate::proofs::Places::next_one, crate::proofs::Places::none_in))]
+#[tactic(auto, using(crate::proofs::Places::zip_more, crate::proofs::Places::next_one, crate::proofs::Places::none_in, crate::proofs::Holding::puts_start))]
 fn read_all<P: Parts>(
     alloc: Global,
     parts: Vec<P>,
@@ -241,6 +246,7 @@ fn read_all<P: Parts>(
     requires room { vec_len parts ≤ vec_capacity places }
     ensures count { vec_len result.0 ≡ vec_len parts }
     ensures seated { AreSeated P.disks parts.items result.0.items }
+    ensures put { (images : List (ℕ → List ℕ)) → ReadAll P.disks parts.items images → OnOk result.1 (PutsAll images objects.old objects.new) }
 {
     let repos = parts.len();
     let mut places = places;
@@ -263,7 +269,8 @@ fn read_next<P: Parts>(
     mob: u32,
     objects: &mut OrefMap<Obj>,
 ) -> (Closed<P>, Result<(), Unopened>)
-    ensures { IsSeated P.disks part result.0 }
+    ensures seated { IsSeated P.disks part result.0 }
+    ensures put { (images : ℕ → List ℕ) → ReadsAs (P.disks part) images → OnOk result.1 (IsOk before × PutsStored images objects.old objects.new) }
 {
     match before {
         Ok(()) => read_behind(alloc, part, places, repos, mob, objects),
@@ -280,7 +287,8 @@ fn read_behind<P: Parts>(
     mob: u32,
     objects: &mut OrefMap<Obj>,
 ) -> (Closed<P>, Result<(), Unopened>)
-    ensures { IsSeated P.disks part result.0 }
+    ensures seated { IsSeated P.disks part result.0 }
+    ensures put { (images : ℕ → List ℕ) → ReadsAs (P.disks part) images → OnOk result.1 (PutsStored images objects.old objects.new) }
 {
     let (Ok(repo), Ok(repos)) = (number_at(places.len()), number_at(repos)) else {
         return (Closed::Parts(part), Err(Unopened::NoMemory));
@@ -324,7 +332,9 @@ fn store_of<P: Parts>(
     places: &[Closed<P>],
     objects: OrefMap<Obj>,
     read: Result<(), Unopened>,
-) -> Result<Store, Unopened> {
+) -> Result<Store, Unopened>
+    ensures stored { (parts : List P) (images : List (ℕ → List ℕ)) → AreSeated P.disks parts places.now → ReadAll P.disks parts images → OnOk read (PutsAll images empty objects) → IfOk result (IsStoredIn images) }
+{
     let (objects, _) = both(objects, read)?;
     let (objects, reads) = both(objects, reads_of(alloc, places))?;
     match reads {
@@ -337,10 +347,10 @@ fn store_of<P: Parts>(
 }
 
 /// What was read of the repositories of a store that isn't fresh.
-fn reads_of<P: Parts>(
-    alloc: Global,
-    places: &[Closed<P>],
-) -> Result<Option<Vec<Read<'_>>>, NoMemory> {
+fn reads_of<P: Parts>(alloc: Global, places: &[Closed<P>]) -> Result<Option<Vec<Read<'_>>>, NoMemory>
+    ensures kept { IfOk result (λ found. IfSome found (λ reads. AreKept reads.items)) }
+    ensures stand { (parts : List P) (images : List (ℕ → List ℕ)) → AreSeated P.disks parts places.now → ReadAll P.disks parts images → IfOk result (λ found. IfSome found (λ reads. StandFor images (read_states reads.items))) }
+{
     let mut reads = Vec::new(alloc);
     for place in places {
         match place.read() {
@@ -352,11 +362,17 @@ fn reads_of<P: Parts>(
 }
 
 /// A store whose repositories are open, where they fit together.
-fn open_store(alloc: Global, reads: &[Read<'_>], paged: OrefMap<Obj>) -> Result<Store, Unopened> {
-    let (schemas, objects) = check_store(alloc, reads, paged)?;
+fn open_store(alloc: Global, reads: &[Read<'_>], paged: OrefMap<Obj>) -> Result<Store, Unopened>
+    requires { AreKept reads.now }
+    ensures { (images : List (ℕ → List ℕ)) → StandFor images (read_states reads.now) → PutsAll images empty paged → IfOk result (IsStoredIn images) }
+{
+    let (paged, roots) = both(paged, roots_of(reads))?;
+    let (roots, checked) = both(roots, check_store(alloc, reads, paged))?;
+    let (schemas, objects) = checked;
     let Ok(epoch) = u32::try_from(schemas.upgraded.len()) else {
         drop(schemas);
         drop(objects);
+        drop(roots);
         return Err(Unopened::NoMemory);
     };
     let stored = View {
@@ -364,5 +380,19 @@ fn open_store(alloc: Global, reads: &[Read<'_>], paged: OrefMap<Obj>) -> Result<
         names: Names::new(alloc),
         epoch,
     };
-    Ok(Store::Open(OpenStore { schemas, stored }))
+    Ok(Store::Open(OpenStore {
+        schemas,
+        stored,
+        roots,
+    }))
+}
+
+/// The roots, as repository 0 has them.
+fn roots_of(reads: &[Read<'_>]) -> Result<Roots, NoMemory>
+    ensures { IfOk result (λ roots. roots ≡ roots_of (read_states reads.now)) }
+{
+    match reads.first() {
+        Some(read) => read.recovered.state.roots().copy(),
+        None => Err(NoMemory),
+    }
 }

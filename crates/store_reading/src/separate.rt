@@ -1,5 +1,7 @@
 //! What is checked of each repository of a store by itself.
 
+ghost use Rattle.store_reading.specs.Joined.{AreKept};
+
 use crate::joined::is_committed;
 use commit_log::Request;
 use repository_reading::Read;
@@ -60,7 +62,9 @@ fn is_own_name(repo: u8, next_page: u32, oref: Oref) -> bool {
 }
 
 /// Whether the name of each object is of its repository, on a page below the next one.
-pub(crate) fn has_own_names(store: &[Read<'_>], repo: u8, read: &Read<'_>) -> bool {
+pub(crate) fn has_own_names(store: &[Read<'_>], repo: u8, read: &Read<'_>) -> bool
+    requires { AreKept store.now }
+{
     let next_page = read.recovered.state.next_page();
     read.behind <= next_page
         && has_own_buffer(repo, next_page, read)
@@ -76,7 +80,9 @@ fn has_own_buffer(repo: u8, next_page: u32, read: &Read<'_>) -> bool {
     true
 }
 
-fn has_own_writes(store: &[Read<'_>], repo: u8, read: &Read<'_>) -> bool {
+fn has_own_writes(store: &[Read<'_>], repo: u8, read: &Read<'_>) -> bool
+    requires { AreKept store.now }
+{
     let state = &read.recovered.state;
     let mut after = None;
     for _ in 0..u64::MAX {

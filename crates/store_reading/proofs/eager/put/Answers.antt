@@ -8,5 +8,5 @@ on_ok : {A E : Type 0} (r : Result A E) (P Q : Type 0) → (P → Q) → OnOk r 
 on_ok (Ok a) P Q f p = f p
 on_ok (Err e) P Q f p = tt
 
-pub returns : goal.returns
-returns c = λ sorted. on_ok c.insert.result _ _ (λ put. subst IsSorted (sym put) (IsSorted-insert oref_total c.args.objects.now c.args.oref c.args.object sorted)) c.insert.ensures.ok
+pub returns-clause-sorted : goal.returns-clause-sorted
+returns-clause-sorted c = λ sorted. on_ok c.insert.result _ _ (λ put. subst IsSorted (sym put) (IsSorted-insert oref_total c.args.objects.now c.args.oref c.args.object sorted)) c.insert.ensures.ok

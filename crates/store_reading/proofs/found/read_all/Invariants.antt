@@ -1,5 +1,6 @@
 use Rattle.store_reading.specs.Seated.{AreSeated}
-use Rattle.std.proofs.Common.{vec_capacity, vec_len, ◌++◌, ◌+◌, ◌≡◌, ◌≤◌}
+use Rattle.store_reading.specs.Reading.{PutsAll, ReadAll}
+use Rattle.std.proofs.Common.{List, OnOk, ℕ, vec_capacity, vec_len, ◌++◌, ◌+◌, ◌≡◌, ◌≤◌}
 use Rattle.std.specs.Vec.Iter.{into_iter_items, into_iter_len}
 use Rattle.store_reading.proofs.found.read_all.Given as goal
 
@@ -9,3 +10,4 @@ invariant-loop-part g l = (vec_len l.places + into_iter_len l.part-iterator ≡ 
     × (vec_len l.places + into_iter_len l.part-iterator ≤ vec_capacity l.places)
     × (l.yielded ++ into_iter_items l.part-iterator ≡ l.fn.parts.items)
     × AreSeated g.P.Parts.disks l.yielded l.places.items
+    × ((images : List (ℕ → List ℕ)) → ReadAll g.P.Parts.disks l.yielded images → OnOk l.read (PutsAll images l.fn.objects l.objects))
