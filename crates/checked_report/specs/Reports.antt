@@ -5,6 +5,7 @@ use Rattle.class_defs.specs.Epochs.{classes_of}
 use Rattle.class_defs.specs.declared.store.Plain.{Plain}
 use Rattle.class_defs.specs.declared.store.Schemas.{Schemas}
 use Rattle.report_text.specs.Report.{report_text}
+use Rattle.report_text.specs.Shown.{TellsReport}
 use Rattle.run_summary.specs.Summary.{accounts_sum, summary_text}
 use Rattle.script_parse.specs.declared.script.Script.{Script}
 use Rattle.serial_model.specs.History.{IsLegal, after}
@@ -88,6 +89,11 @@ abbrev pub run_text : Form → Schemas → Plain → List Ended → List Did →
 run_text form.Report schemas store ended history = report_text ended history
 run_text form.Summary schemas store ended history = summary_text ended (sum_in schemas (after schemas history store))
 
+-- A report tells its outcomes and its history: no other ones that are shown have this text. Of a summary nothing is said.
+abbrev pub TellsAs : Form → List Ended → List Did → List ℕ → Type 0
+TellsAs form.Report ended history text = TellsReport ended history text
+TellsAs form.Summary ended history text = Unit {0}
+
 -- The text is that of outcomes and a history. The history is one serial history from the store: its timestamps strictly
 -- rise, each entry gives the answer that its run gives on the store behind those before it, and upgrades transform all
 -- objects at their place. The outcomes are answered by it, each item's once and each client's in its order.
@@ -99,6 +105,7 @@ pub record IsRun (form : Form) (schemas : Schemas) (store : Plain) (script : Scr
   pub at_once : runs_alone script ≡ true → list_all ends_at_once ended ≡ true
   pub finished_is : finished ≡ list_all is_finished ended
   pub written_out : text ≡ run_text form schemas store ended history
+  pub tells : TellsAs form ended history text
 
 -- the status of a report, by whether all items were finished
 abbrev pub status_of : Bool → Status

@@ -2,10 +2,10 @@
 
 ghost use Rattle.std.specs.Prelude.{◌≡◌, IfOk, true};
 ghost use Rattle.std.specs.List.{list_all, list_any};
-ghost use Rattle.serial_model.specs.History.{after};
+ghost use Rattle.serial_model.specs.History.{IsLegal, after};
 ghost use Rattle.class_defs.specs.declared.store.Plain.{Plain};
 ghost use Rattle.checked_report.specs.Reports as spec;
-ghost use Rattle.checked_report.specs.Reports.{IsReported};
+ghost use Rattle.checked_report.specs.Reports.{IsReported, TellsAs};
 ghost use Rattle.thor_value.specs.FiniteMap.{IsSorted};
 
 use crate::form::Form;
@@ -149,7 +149,8 @@ fn run_text(
     ends: &Ends,
     checked: &CheckedHistory,
 ) -> Result<Text, NoMemory>
-    ensures { (store : Plain) → checked.now.end ≡ after schemas.now checked.now.history store → IfOk result (λ text. text ≡ spec.run_text form schemas.now store ends.now checked.now.history) }
+    ensures text { (store : Plain) → checked.now.end ≡ after schemas.now checked.now.history store → IfOk result (λ text. text ≡ spec.run_text form schemas.now store ends.now checked.now.history) }
+    ensures tells { (store : Plain) → IsLegal schemas.now checked.now.history store → IfOk result (λ text. TellsAs form ends.now checked.now.history text) }
 {
     match form {
         Form::Report => print_report(alloc, ends, &checked.history),

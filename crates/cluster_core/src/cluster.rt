@@ -2,15 +2,15 @@
 
 ghost use Rattle.std.specs.Prelude.{vec_capacity, vec_len, ◌≡◌, ◌≤◌};
 
-use repository_reading::Unopened;
-use store_reading::ClusterFault;
 use crate::lent::{Turn, lend};
 use crate::seat::{Seat, give_back};
 use disk_trait::Parts;
 use front_end::{FrontEnd, Opened, Step};
+use repository_reading::Unopened;
 use std::alloc::Global;
 use std::marker::Brand;
 use std::mem;
+use store_reading::ClusterFault;
 use thor_value::NoMemory;
 
 /// Repositories and their clients, which take turns.

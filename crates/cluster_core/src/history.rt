@@ -1,9 +1,9 @@
 //! The serial history of a run, from the traces of its repositories.
 
-use repository_reading::number_at;
 use commit_log::{Entry, Kind, Request};
 use history_check::{Line, Lines};
 use repo_core::Trace;
+use repository_reading::number_at;
 use std::alloc::Global;
 use std::collections::BTreeMap;
 use thor_value::{NoMemory, TryCopy, Ts, both};

@@ -2,6 +2,7 @@ pub mod Buffers
 pub mod Ends
 pub mod Entries
 pub mod Kept
+pub mod Limits
 pub mod Filled
 pub mod Pages
 pub mod Tables

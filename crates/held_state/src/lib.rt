@@ -10,3 +10,4 @@ mod writes;
 
 pub use fault::HoldFault;
 pub use state::HeldState;
+pub use writes::later_of;

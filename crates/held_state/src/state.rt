@@ -144,6 +144,7 @@ impl HeldState {
         ensures keeps { Keeps self.old → Keeps self.new }
         ensures said { said self.new ≡ after (said self.old) (Installed page side) }
         ensures held { self.new ≡ record self.old { objects = self.new.objects } }
+        ensures limit { self.new.objects.mob.limit ≡ self.old.objects.mob.limit }
         ensures agrees { (disk : List ℕ) → Agrees self.old.objects.pages disk → Agrees self.new.objects.pages disk }
         ensures same_map { (disk : List ℕ) (repo : ℕ) → Agrees self.old.objects.pages disk → IsFlushed self.old.objects repo page side → SameMap disk self.old.objects disk self.new.objects repo }
     {
@@ -326,7 +327,9 @@ impl HeldState {
         ensures content { (P.disks parts.new).content 2 ≡ (P.disks parts.old).content 2 }
         ensures crash { NoNewImage (P.disks parts.old) (P.disks parts.new) 2 }
         ensures image { IfOk result (λ image. WhereTold (P.disks parts.old) 2 (λ disk. ShowsImage disk self.old.objects page image)) }
+        ensures number { IfOk result (λ image. image.number ≡ page) }
         ensures objects { IfOk result HasObjects }
+        ensures mob { self.new.objects.mob ≡ self.old.objects.mob }
         ensures held { self.new ≡ record self.old { objects = self.new.objects } }
         ensures said { said self.new ≡ said self.old }
         ensures keeps { Keeps self.old → Keeps self.new }
@@ -347,6 +350,7 @@ impl HeldState {
         ensures nothing { result ≡ Ok Nothing → self.old.objects.mob.objects ≡ [] }
         ensures flushed { (page side : ℕ) → result ≡ Ok (AnInstall page side) → (repo : ℕ) × IsFlushed self.new.objects repo page side }
         ensures oldest { (page side : ℕ) → result ≡ Ok (AnInstall page side) → IfSome (slice_get self.old.objects.mob.objects 0) (λ q. q.0.page ≡ page) }
+        ensures mob { self.new.objects.mob ≡ self.old.objects.mob }
         ensures held { self.new ≡ record self.old { objects = self.new.objects } }
         ensures said { said self.new ≡ said self.old }
         ensures keeps { Keeps self.old → Keeps self.new }

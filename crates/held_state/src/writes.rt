@@ -35,7 +35,7 @@ pub(crate) fn page_behind(page: u32, writes: &[(Oref, Obj)]) -> u32
 }
 
 /// The later of two timestamps.
-pub(crate) fn later_of(t: Ts, u: Ts) -> Ts
+pub fn later_of(t: Ts, u: Ts) -> Ts
     ensures { result ≡ later_of t u }
 {
     match t.cmp(&u) {

@@ -1,4 +1,4 @@
-ghost use Rattle.std.specs.Prelude.{◌≡◌, ◌+◌, IfOk, OnOk, OnErr};
+ghost use Rattle.std.specs.Prelude.{◌≡◌, ◌+◌, ◌-◌, IfOk, OnOk, OnErr};
 ghost use Rattle.std.specs.Map.{keys_of};
 ghost use Rattle.cached_sets.specs.Sets as sets;
 ghost use Rattle.message_outbox.specs.Messages.{first};
@@ -66,6 +66,7 @@ impl Sessions {
     pub fn begin(&mut self, client: u8) -> Result<u32, NoMemory>
         ensures number { IfOk result (λ session. session ≡ self.old.last + 1) }
         ensures begun { IfOk result (λ session. self.new ≡ begun self.old client session) }
+        ensures last { OnErr result (self.new.last ≡ self.old.last) }
     {
         let Some(session) = self.last.checked_add(1) else {
             return Err(NoMemory);
@@ -75,6 +76,14 @@ impl Sessions {
         self.end(older);
         self.last = session;
         Ok(session)
+    }
+
+    /// The number of the session that began last is given again: nobody was told of it. All sessions are to end
+    /// then.
+    pub fn give_back(&mut self)
+        ensures { self.new ≡ record self.old { last = self.old.last - 1 } }
+    {
+        self.last = self.last.saturating_sub(1);
     }
 
     /// Ends a session, where there is one.
@@ -112,7 +121,8 @@ impl Sessions {
     /// Sends a page that a session's client asked for. After `NoMemory` the session may have the page cached
     /// and nothing is sent.
     pub fn send_page(&mut self, session: u32, page: &Page, place: u64) -> Result<(), NoMemory>
-        ensures { OnOk result (self.new ≡ sent self.old session page.now.number (APage page.now.number (page_bytes page.now) place)) }
+        ensures ok { OnOk result (self.new ≡ sent self.old session page.now.number (APage page.now.number (page_bytes page.now) place)) }
+        ensures last { self.new.last ≡ self.old.last }
     {
         let bytes = page.spell()?;
         let page = page.number();
@@ -122,14 +132,16 @@ impl Sessions {
     /// Sends a page of names for new objects. After `NoMemory` the session may have the page cached and
     /// nothing is sent.
     pub fn send_grant(&mut self, session: u32, page: u32, place: u64) -> Result<(), NoMemory>
-        ensures { OnOk result (self.new ≡ sent self.old session page (Grant page place)) }
+        ensures ok { OnOk result (self.new ≡ sent self.old session page (Grant page place)) }
+        ensures last { self.new.last ≡ self.old.last }
     {
         self.send(session, page, Message::Grant { page, place })
     }
 
     /// Sends a message, whose page the session's client may have from now on.
     fn send(&mut self, session: u32, page: u32, message: Message) -> Result<(), NoMemory>
-        ensures { OnOk result (self.new ≡ sent self.old session page message) }
+        ensures ok { OnOk result (self.new ≡ sent self.old session page message) }
+        ensures last { self.new.last ≡ self.old.last }
     {
         self.sets.cache(session, page)?;
         self.outbox.push(session, message)

@@ -105,6 +105,7 @@ impl ObjectStore {
         ensures content { (P.disks parts.new).content 2 ≡ (P.disks parts.old).content 2 }
         ensures crash { NoNewImage (P.disks parts.old) (P.disks parts.new) 2 }
         ensures image { IfOk result (λ image. WhereTold (P.disks parts.old) 2 (λ disk. ShowsImage disk self.old page image)) }
+        ensures number { IfOk result (λ image. image.number ≡ page) }
         ensures objects { IfOk result HasObjects }
         ensures mob { self.new.mob ≡ self.old.mob }
         ensures sides { self.new.pages.sides ≡ self.old.pages.sides }

@@ -48,6 +48,7 @@ pub fn recover<P: Parts>(
     ensures settled { AllSettled (P.disks parts.new) }
     ensures content { SameContent (P.disks parts.old) (P.disks parts.new) }
     ensures keeps { IfOk result (λ found. IfSome found (λ r. Keeps r.state)) }
+    ensures limit { IfOk result (λ found. IfSome found (λ r. r.state.objects.mob.limit ≡ mob_limit)) }
     ensures pages { IfOk result (λ found. IfSome found (λ r. (disk : List ℕ) → ReachesSides r.state.objects.pages.sides disk → Agrees r.state.objects.pages disk)) }
     ensures holds { IfOk result (λ found. IfSome found (λ r. Holds (P.disks parts.new) r.log (said r.state))) }
     ensures found { (images : ℕ → List ℕ) → ReadsAs (P.disks parts.old) images → IfOk result (λ found. stands images ≡ option_map (λ r. said r.state) found) }
@@ -88,6 +89,7 @@ fn replay_found(
     mob_limit: u32,
 ) -> Result<Option<Recovered>, RecoverFault>
     ensures recovered { IfOk result (IsRecovered found) }
+    ensures limit { IfOk result (λ answer. IfSome answer (λ r. r.state.objects.mob.limit ≡ mob_limit)) }
     ensures damaged { (d place : ℕ) → IsErrOf result (Damaged d place) → IfSome found (λ f. (d ≡ f.0.disk) × Fault (log_of f) place) }
     ensures damaged_some { (d place : ℕ) → IsErrOf result (Damaged d place) → IsSome found }
     ensures failed { (d : ℕ) → IsErrOf result (Failed d) → ⊥ }
@@ -113,6 +115,7 @@ fn replay(
     ensures state { IfOk result (λ r. state_in (log_of (log.now, head.now, records.now)) ≡ Some (said r.0)) }
     ensures keeps { IfOk result (λ r. Keeps r.0) }
     ensures unread { IfOk result (λ r. IsUnread r.0.objects.pages) }
+    ensures limit { IfOk result (λ r. r.0.objects.mob.limit ≡ mob_limit) }
     ensures count { IfOk result (λ r. Counted head.now r.1) }
     ensures damaged { (d place : ℕ) → IsErrOf result (Damaged d place) → (d ≡ log.now.disk) × Fault (log_of (log.now, head.now, records.now)) place }
     ensures failed { (d : ℕ) → IsErrOf result (Failed d) → ⊥ }
@@ -153,6 +156,7 @@ fn hold_on(
     requires fit { AllByRecursion BodyFits bodies.now }
     ensures keeps { IfOk result Keeps }
     ensures unread { IfOk result (λ held. IsUnread held.objects.pages) }
+    ensures limit { IfOk result (λ held. held.objects.mob.limit ≡ mob_limit) }
     ensures said { IfOk result (λ held. said held ≡ fold after state bodies.now) }
     ensures damaged { (d place : ℕ) → IsErrOf result (Damaged d place) → (d ≡ disk) × (place ≡ 0) }
     ensures failed { (d : ℕ) → IsErrOf result (Failed d) → ⊥ }
@@ -175,6 +179,7 @@ fn hold(
     requires fit { AllByRecursion BodyFits bodies.now }
     ensures keeps { IfOk result Keeps }
     ensures unread { IfOk result (λ held. IsUnread held.objects.pages) }
+    ensures limit { IfOk result (λ held. held.objects.mob.limit ≡ mob_limit) }
     ensures said { IfOk result (λ held. said held ≡ fold after state bodies.now) }
 {
     let mut held = HeldState::of(alloc, state, mob_limit)?;
@@ -189,6 +194,7 @@ fn put_all(held: &mut HeldState, bodies: &[Body]) -> Result<(), HoldFault>
     requires unread { IsUnread held.old.objects.pages }
     ensures keeps { OnOk result (Keeps held.new) }
     ensures unread { OnOk result (IsUnread held.new.objects.pages) }
+    ensures limit { OnOk result (held.new.objects.mob.limit ≡ held.old.objects.mob.limit) }
     ensures said { OnOk result (said held.new ≡ fold after (said held.old) bodies.now) }
 {
     for body in bodies {
@@ -198,12 +204,14 @@ fn put_all(held: &mut HeldState, bodies: &[Body]) -> Result<(), HoldFault>
 }
 
 // Puts one record behind a state.
+#[tactic(auto, using(held_state::proofs::Limits::entered_limit))]
 fn put_behind(held: &mut HeldState, body: &Body) -> Result<(), HoldFault>
     requires fits { BodyFits body.now }
     requires keeps { Keeps held.old }
     requires unread { IsUnread held.old.objects.pages }
     ensures keeps { OnOk result (Keeps held.new) }
     ensures unread { OnOk result (IsUnread held.new.objects.pages) }
+    ensures limit { OnOk result (held.new.objects.mob.limit ≡ held.old.objects.mob.limit) }
     ensures said { OnOk result (said held.new ≡ after (said held.old) body.now) }
 {
     match body {

@@ -3,8 +3,10 @@ use Rattle.cached_sets.specs.Sets as sets
 use Rattle.commit_log.specs.declared.request.Request.{Request}
 use Rattle.live_sessions.specs.Sessions.{is_live}
 use Rattle.repo_core.specs.Behind.{is_marked}
-use Rattle.std.proofs.Common.{Bool, Err, None, Ok, Option, Some, cond, false, nat_eq, refl, true, ℕ, ◌≡◌}
+use Rattle.std.proofs.Common.{Bool, Err, None, Ok, Option, Result, Some, ap, cond, false, nat_eq, refl, sym, true, ℕ, ◌<◌, ◌∙◌, ◌≡◌, ◌≤◌}
+use Rattle.std.proofs.lemmas.Bool.{le-ltb, lt-ltb}
 use Rattle.std.specs.Option.{option_map, option_or}
+use Rattle.std.specs.Prelude.{IfErr, nat_lt}
 use Rattle.thor_value.specs.declared.names.Oref.{Oref}
 use Rattle.validation_queue.specs.Clashes.{clash}
 use Rattle.validation_queue.specs.Contents.{first_blocking}
@@ -70,3 +72,24 @@ judged M epoch s q r e = of_answer (verdict M epoch s q) r (marked_verdict M epo
 pub accepted : (o : Option Refusal) → answer o ≡ Ok tt → o ≡ None
 accepted None e = refl
 accepted (Some r) e = absurd (cc)
+
+-- the first refusal stands, whatever the buffer's limit has against a request
+pub first_refused : (o p : Option Refusal) (r : Refusal) → answer o ≡ Err r → Err r ≡ answer (option_or o p)
+first_refused None p r e = absurd (cc)
+first_refused (Some s) p r e = sym e
+
+pub refused_by : (o : Option Refusal) (r : Refusal) → answer o ≡ Err r → o ≡ Some r
+refused_by None r e = absurd (cc)
+refused_by (Some s) r e = cc
+
+pub room_judged : (limit bytes : ℕ) (o : Option Refusal) → bytes ≤ limit → o ≡ None → Ok tt ≡ answer (option_or o (cond (nat_lt limit bytes) (Some (refused.Full limit)) None))
+room_judged limit bytes o fits none =
+    sym (ap (λ (p : Option Refusal). answer (option_or p (cond (nat_lt limit bytes) (Some (refused.Full limit)) None))) none ∙ ap (λ (b : Bool). answer (cond b (Some (refused.Full limit)) None)) (le-ltb limit bytes fits))
+
+pub full_judged : (limit bytes : ℕ) (r : Refusal) (o : Option Refusal) → r ≡ refused.Full limit → limit < bytes → o ≡ None → Err r ≡ answer (option_or o (cond (nat_lt limit bytes) (Some (refused.Full limit)) None))
+full_judged limit bytes r o is over none =
+    ap (λ (s : Refusal). Err s) is ∙ sym (ap (λ (p : Option Refusal). answer (option_or p (cond (nat_lt limit bytes) (Some (refused.Full limit)) None))) none ∙ ap (λ (b : Bool). answer (cond b (Some (refused.Full limit)) None)) (lt-ltb limit bytes over))
+
+pub first_of : (result : Result (Unit {0}) Refusal) (o : Option Refusal) → result ≡ answer o → IfErr result (λ r. (p : Option Refusal) → Err r ≡ answer (option_or o p))
+first_of (Ok t) o is = tt
+first_of (Err r) o is = λ p. first_refused o p r (sym is)

@@ -1,6 +1,12 @@
+pub mod Alike
+pub mod Begun
 pub mod Falls
 pub mod Judged
+pub mod Letting
 pub mod Moves
+pub mod Refused
 pub mod Stamps
+pub mod Stopped
+pub mod Taking
 pub mod Told
 pub mod Written

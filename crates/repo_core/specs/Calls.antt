@@ -5,14 +5,21 @@ use Rattle.commit_log.specs.declared.entry.Entry.{Entry}
 use Rattle.commit_log.specs.declared.request.Request.{Request}
 use Rattle.held_state.specs.Entering.{are_of, can_enter}
 use Rattle.held_state.specs.declared.held.Held.{Held}
+use Rattle.live_sessions.specs.Sessions.{is_live}
 use Rattle.log_bytes.specs.Grammar.{BodyFits}
 use Rattle.log_bytes.specs.declared.body.Body.TheVariants.{Entry as AnEntry}
+use Rattle.mob_buffer.specs.Buffer.{bytes_of}
+use Rattle.repo_core.specs.Behind.{epoch_of}
+use Rattle.session_outbox.specs.Calls.{drawn_time}
 use Rattle.std.specs.Map.{keys_of}
-use Rattle.std.specs.Prelude.{[], Bool, IsTrue, None, false, true, ◌↔◌, ◌≡◌}
+use Rattle.std.specs.Option.{option_or}
+use Rattle.std.specs.Prelude.{[], Bool, IsTrue, None, Option, Some, cond, false, nat_lt, true, ℕ, ◌^◌, ◌↔◌, ◌≡◌, ◌≤◌, ◌⊎◌}
 use Rattle.thor_value.specs.FiniteMap.{has}
 use Rattle.validation_queue.specs.Clashes.{clash}
 use Rattle.validation_queue.specs.Names.{IsInOrder}
-use Rattle.volatile_state.specs.Volatile.{Memory, knows, transaction_of}
+use Rattle.validation_window.specs.declared.refusal.Refusal.TheVariants as refused
+use Rattle.validation_window.specs.declared.refusal.Refusal.{Refusal}
+use Rattle.volatile_state.specs.Volatile.{Memory, knows, transaction_of, verdict}
 
 -- A request may be sent to a repository which has this repository alone for a participant or other ones, too: it
 -- has its form, writes objects of this repository, and its transaction isn't known here.
@@ -23,6 +30,15 @@ pub record MayRequest (h : Held) (M : Memory) (q : Request) (alone : Bool) : Typ
   pub takes_part : IsTrue alone ↔ (q.others ≡ [])
   pub unknown : knows M q.tx ≡ false
   pub unkept : has h.table.transactions q.tx ≡ false
+
+-- what the buffer's limit has against a request
+abbrev pub full_of : Held → Request → Option Refusal
+full_of h q = cond (nat_lt h.objects.mob.limit (bytes_of q.writes)) (Some (refused.Full h.objects.mob.limit)) None
+
+-- what stands against a request of a session: the first refusal that holds, and behind all others that the buffer can't
+-- hold what it writes
+abbrev pub judged : Held → Memory → ℕ → Request → Option Refusal
+judged h M s q = option_or (verdict M (epoch_of h) s q) (full_of h q)
 
 -- nothing stands against a request that comes
 pub record Comes (M : Memory) (q : Request) : Type 0 where
@@ -52,3 +68,15 @@ IsTold M (Prepared q) = Unit {0}
 IsTold M (Decided t c) = has M.queue.members t ≡ true
 IsTold M (Finished t c) = has M.queue.members t ≡ true
 IsTold M (Upgraded q) = Unit {0}
+
+-- a draw is refused so, where the client has seen times up to the floor
+abbrev pub DrawIsRefused : Memory → ℕ → ℕ → Refusal → Type 0
+DrawIsRefused M s floor r =
+    ((r ≡ refused.Gone s) × (is_live M.sessions s ≡ false))
+    ⊎ ((r ≡ refused.ClockEnd) × (is_live M.sessions s ≡ true) × ((now : ℕ) × (2 ^ 62 ≤ drawn_time now M.drawn floor)))
+
+-- a grant is refused so
+abbrev pub GrantIsRefused : Held → Memory → ℕ → Refusal → Type 0
+GrantIsRefused h M s r =
+    ((r ≡ refused.Gone s) × (is_live M.sessions s ≡ false))
+    ⊎ ((r ≡ refused.Full 65536) × (is_live M.sessions s ≡ true) × (65536 ≤ h.next_grant))

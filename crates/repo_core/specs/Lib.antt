@@ -1,4 +1,7 @@
 pub mod Behind
 pub mod Calls
 pub mod Moving
+pub mod Refusing
+pub mod Restarting
 pub mod Shown
+pub mod Telling

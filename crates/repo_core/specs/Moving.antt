@@ -8,3 +8,5 @@ pub record MakesRoom (old new : Shown) : Type 0 where
   pub held : MovesObjects old.held new.held
   pub memory : new.memory ≡ old.memory
   pub trace : new.trace ≡ old.trace
+  pub limit : new.held.objects.mob.limit ≡ old.held.objects.mob.limit
+  pub opened : new.opened_in ≡ old.opened_in

@@ -1,6 +1,7 @@
 -- What contracts see of a repository.
+use Rattle.commit_log.specs.declared.entry.Entry.{Entry}
 use Rattle.held_state.specs.declared.held.Held.{Held}
-use Rattle.std.specs.Prelude.{Bool, ℕ}
+use Rattle.std.specs.Prelude.{Bool, Option, ℕ}
 use Rattle.trace_record.specs.Recorded.{Recorded}
 use Rattle.volatile_state.specs.Volatile.{Memory}
 
@@ -14,3 +15,7 @@ pub record Shown : Type 0 where
   pub trace : Recorded
   -- the number of the life in which it was opened
   pub opened_in : ℕ
+  -- the entry that was being written when it went down, which its disks may have or not
+  pub pending : Option Entry
+  -- whether what is held is no state of its log, so that it doesn't come up again
+  pub is_torn : Bool

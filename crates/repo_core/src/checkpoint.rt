@@ -1,7 +1,9 @@
 //! A checkpoint is made.
 
-ghost use Rattle.std.specs.Prelude.{◌≡◌};
+ghost use Rattle.std.specs.Prelude.{◌≡◌, IfErr};
 ghost use Rattle.repo_core.specs.Behind.{Stands};
+ghost use Rattle.repo_core.specs.Refusing.{Rests};
+ghost use Rattle.repo_core.specs.Restarting.{DropsEarlier};
 
 use crate::repo::Repo;
 use disk_trait::Parts;
@@ -10,10 +12,14 @@ use validation_window::Refusal;
 impl<P: Parts> Repo<P> {
     /// Begins a log on the other log disk with all that the present one stands for, but for decisions that are
     /// forgotten or of earlier openings.
+    #[tactic(auto, using(crate::proofs::Refused::rests_down, crate::proofs::Refused::rests_so))]
     pub fn checkpoint(&mut self) -> Result<(), Refusal>
         ensures stands { Stands self.old.is_up result self.new.is_up }
         ensures memory { self.new.memory ≡ self.old.memory }
         ensures trace { self.new.trace ≡ self.old.trace }
+        ensures held { DropsEarlier self.old self.new }
+        ensures rests { IfErr result (Rests self.old self.new) }
+        ensures opened { self.new.opened_in ≡ self.old.opened_in }
     {
         self.check_up()?;
         self.drop_decisions();

@@ -1,10 +1,12 @@
 //! A client connects.
 
-ghost use Rattle.std.specs.Prelude.{◌≡◌, ◌+◌, IfOk, OnErr, length};
+ghost use Rattle.std.specs.Prelude.{◌≡◌, ◌+◌, IfOk, OnErr, length, IfErr, None, ◌<◌, ◌^◌};
 ghost use Rattle.live_sessions.specs.Sessions.{begun};
 ghost use Rattle.repo_core.specs.Behind.{Stands, epoch_of};
 ghost use Rattle.session_outbox.specs.declared.mark.Mark.TheVariants.{Connected as Connects};
 ghost use Rattle.trace_record.specs.Recorded.{with_mark};
+ghost use Rattle.repo_core.specs.Refusing.{Leaves};
+ghost use Rattle.volatile_state.specs.Volatile.{Outlasts};
 
 use crate::repo::Repo;
 use disk_trait::Parts;
@@ -15,13 +17,17 @@ use validation_window::Refusal;
 
 impl<P: Parts> Repo<P> {
     /// Begins a session of the client, and ends its older one.
+    #[tactic(auto, using(crate::proofs::Refused::leaves_given_back, crate::proofs::Refused::leaves_down, crate::proofs::Refused::falls_with, crate::proofs::Refused::moved_none, volatile_state::proofs::Lasting::stayed))]
     pub fn connect(&mut self, client: u8) -> Result<Welcome, Refusal>
         ensures stands { Stands self.old.is_up result self.new.is_up }
         ensures held { self.new.held ≡ self.old.held }
         ensures trace { IfOk result (λ w. self.new.trace ≡ with_mark self.old.trace (Connects w.session client)) }
         ensures refused { OnErr result (self.new.trace ≡ self.old.trace) }
+        ensures left { IfErr result (Leaves self.old self.new None) }
+        ensures opened { self.new.opened_in ≡ self.old.opened_in }
         ensures begun { IfOk result (λ w. self.new.memory ≡ record self.old.memory { sessions = begun self.old.memory.sessions client w.session }) }
         ensures number { IfOk result (λ w. w.session ≡ self.old.memory.sessions.last + 1) }
+        ensures counted { IfOk result (λ w. w.session < 2 ^ 32) }
         ensures threshold { IfOk result (λ w. w.threshold ≡ self.old.memory.queue.threshold) }
         ensures epoch { IfOk result (λ w. w.epoch ≡ epoch_of self.old.held) }
         ensures place { IfOk result (λ w. w.place ≡ length self.old.trace.history) }
@@ -30,7 +36,10 @@ impl<P: Parts> Repo<P> {
         self.check_up()?;
         match self.begin_session(client) {
             Ok((session, upgrades)) => {
-                self.mark(Ok(()), Mark::Connected { session, client })?;
+                if let Err(refusal) = self.mark(Ok(()), Mark::Connected { session, client }) {
+                    self.memory.give_back_session();
+                    return Err(refusal);
+                }
                 Ok(Welcome {
                     session,
                     epoch: self.epoch(),
@@ -54,6 +63,10 @@ impl<P: Parts> Repo<P> {
         ensures begun { IfOk result (λ w. self.new.memory ≡ record self.old.memory { sessions = begun self.old.memory.sessions client w.0 }) }
         ensures number { IfOk result (λ w. w.0 ≡ self.old.memory.sessions.last + 1) }
         ensures upgrades { IfOk result (λ w. w.1 ≡ self.old.held.upgrades) }
+        ensures lasts { OnErr result (Outlasts self.old.memory self.new.memory) }
+        ensures pending { self.new.pending ≡ self.old.pending }
+        ensures torn { self.new.is_torn ≡ self.old.is_torn }
+        ensures opened { self.new.opened_in ≡ self.old.opened_in }
     {
         let upgrades = self.stable.held().upgrades().copy()?;
         let session = self.memory.begin_session(client)?;

@@ -1,6 +1,6 @@
 //! A coordinator decides.
 
-ghost use Rattle.std.specs.Prelude.{◌≡◌, IfOk, OnErr, OnOk, cond, false, true};
+ghost use Rattle.std.specs.Prelude.{◌≡◌, IfOk, OnErr, OnOk, cond, false, true, IfErr, None, Some, length};
 ghost use Rattle.commit_log.specs.declared.entry.Entry.TheVariants.{Decided as Decides};
 ghost use Rattle.live_sessions.specs.Sessions.{is_live};
 ghost use Rattle.repo_core.specs.Behind.{HasMoved, IsVerdict, Stands, has_prepared, is_committed};
@@ -8,6 +8,8 @@ ghost use Rattle.repository_laws.specs.Coming.{Moves};
 ghost use Rattle.thor_value.specs.FiniteMap.{has};
 ghost use Rattle.trace_record.specs.Recorded.{with_entry};
 ghost use Rattle.two_phase.specs.Contents.{standing};
+ghost use Rattle.repo_core.specs.Refusing.{Leaves};
+ghost use Rattle.repo_core.specs.Telling.{Tells};
 
 use crate::repo::Repo;
 use commit_log::Entry;
@@ -20,15 +22,20 @@ use validation_window::Refusal;
 impl<P: Parts> Repo<P> {
     /// Decides a transaction that the session prepared here and that this repository coordinates. Refusal:
     /// `Gone`. Where the session has nothing to decide, the answer is how the transaction stands.
+    #[tactic(auto, using(crate::proofs::Refused::leaves_down, crate::proofs::Refused::leaves_decided))]
     pub fn decide(&mut self, session: u32, tx: Ts, commit: bool) -> Result<Verdict, Refusal>
         ensures stands { Stands self.old.is_up result self.new.is_up }
         ensures live { OnOk result (is_live self.old.memory.sessions session ≡ true) }
         ensures held { OnOk result (has_prepared self.old.held session tx ≡ true → HasMoved self.old.held (Decides tx commit) self.new.held) }
+        ensures limit { OnOk result (self.new.held.objects.mob.limit ≡ self.old.held.objects.mob.limit) }
         ensures memory { has_prepared self.old.held session tx ≡ true → has self.old.memory.queue.members tx ≡ true → OnOk result (Moves self.old.held self.old.memory (Decides tx commit) self.new.memory) }
+        ensures tells { has_prepared self.old.held session tx ≡ true → OnOk result (Tells self.old.held self.old.memory.sessions (length self.old.trace.history) (Decides tx commit) self.new.memory.sessions) }
         ensures same { has_prepared self.old.held session tx ≡ false → OnOk result (self.new ≡ self.old) }
         ensures trace { OnOk result (self.new.trace ≡ cond (has_prepared self.old.held session tx) (with_entry self.old.trace (Decides tx commit)) self.old.trace) }
         ensures verdict { IfOk result (λ v. IsVerdict v tx (cond (has_prepared self.old.held session tx) commit (is_committed (standing self.old.held.table tx)))) }
         ensures refused { OnErr result (self.new.trace ≡ self.old.trace) }
+        ensures left { IfErr result (Leaves self.old self.new (cond (is_live self.old.memory.sessions session) (cond (has_prepared self.old.held session tx) (Some (Decides tx commit)) None) None)) }
+        ensures opened { self.new.opened_in ≡ self.old.opened_in }
     {
         self.check_up()?;
         self.check_live(session)?;

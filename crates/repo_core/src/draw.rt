@@ -5,6 +5,8 @@ ghost use Rattle.live_sessions.specs.Sessions.{is_live};
 ghost use Rattle.repo_core.specs.Behind.{Stands, is_marked, with_refusal};
 ghost use Rattle.session_outbox.specs.declared.mark.Mark.TheVariants.{Drew as Draws};
 ghost use Rattle.trace_record.specs.Recorded.{with_mark};
+ghost use Rattle.repo_core.specs.Refusing.{Leaves, StaysAsWas};
+ghost use Rattle.repo_core.specs.Calls.{DrawIsRefused};
 
 use crate::repo::Repo;
 use disk_trait::Parts;
@@ -18,6 +20,7 @@ const CLOCK_END: u64 = 1 << 62;
 impl<P: Parts> Repo<P> {
     /// Draws a timestamp: its time is above the floor and above all that were drawn before, and isn't below
     /// the clock's. Refusals: `Gone`; `ClockEnd`, behind which the clock was asked once.
+    #[tactic(auto, using(crate::proofs::Refused::leaves_down, crate::proofs::Refused::leaves_on))]
     pub fn draw(&mut self, session: u32, floor: u64) -> Result<Ts, Refusal>
         ensures stands { Stands self.old.is_up result self.new.is_up }
         ensures live { OnOk result (is_live self.old.memory.sessions session ≡ true) }
@@ -29,7 +32,10 @@ impl<P: Parts> Repo<P> {
         ensures life { IfOk result (λ ts. ts.life ≡ self.old.held.life) }
         ensures drawn { IfOk result (λ ts. self.new.memory ≡ record self.old.memory { drawn = ts.time }) }
         ensures trace { IfOk result (λ ts. self.new.trace ≡ with_mark self.old.trace (Draws session ts)) }
+        ensures why { IfErr result (λ r. is_marked r ≡ true → (self.old.is_up ≡ true) × DrawIsRefused self.old.memory session floor r) }
         ensures refused { IfErr result (λ r. self.new.trace ≡ with_refusal self.old.trace session None r) }
+        ensures left { IfErr result (Leaves self.old self.new None) }
+        ensures opened { self.new.opened_in ≡ self.old.opened_in }
     {
         self.check_up()?;
         match self.may_draw(session, floor) {
@@ -39,6 +45,7 @@ impl<P: Parts> Repo<P> {
     }
 
     /// The time that is drawn next. It asks the clock, where the session is live.
+    #[tactic(auto, using(crate::proofs::Refused::stays_itself))]
     fn may_draw(&mut self, session: u32, floor: u64) -> Result<u64, Refusal>
         ensures up { self.new.is_up ≡ self.old.is_up }
         ensures held { self.new.held ≡ self.old.held }
@@ -47,6 +54,9 @@ impl<P: Parts> Repo<P> {
         ensures live { OnOk result (is_live self.old.memory.sessions session ≡ true) }
         ensures time { IfOk result (λ time. (floor < time) × (self.old.memory.drawn < time) × (time < 2 ^ 62)) }
         ensures marked { IfErr result (λ r. is_marked r ≡ true) }
+        ensures why { IfErr result (DrawIsRefused self.old.memory session floor) }
+        ensures rests { StaysAsWas self.old self.new }
+        ensures opened { self.new.opened_in ≡ self.old.opened_in }
     {
         self.check_live(session)?;
         let now = self.stable.now();
@@ -59,6 +69,7 @@ impl<P: Parts> Repo<P> {
         }
     }
 
+    #[tactic(auto, using(crate::proofs::Refused::leaves_down))]
     fn take_time(&mut self, session: u32, time: u64) -> Result<Ts, Refusal>
         requires { self.old.is_up ≡ true }
         ensures stands { Stands true result self.new.is_up }
@@ -67,6 +78,8 @@ impl<P: Parts> Repo<P> {
         ensures drawn { OnOk result (self.new.memory ≡ record self.old.memory { drawn = time }) }
         ensures trace { IfOk result (λ ts. self.new.trace ≡ with_mark self.old.trace (Draws session ts)) }
         ensures refused { IfErr result (λ r. (is_marked r ≡ false) × (self.new.trace ≡ self.old.trace)) }
+        ensures left { IfErr result (Leaves self.old self.new None) }
+        ensures opened { self.new.opened_in ≡ self.old.opened_in }
     {
         let ts = Ts {
             time,

@@ -1,6 +1,10 @@
 //! How an event begins and ends.
 
-ghost use Rattle.std.specs.Prelude.{◌≡◌, IfErr, Ok, OnErr, OnOk, false, true};
+ghost use Rattle.commit_log.specs.declared.entry.Entry.{Entry as AnEntry};
+ghost use Rattle.repo_core.specs.Behind.{is_marked};
+ghost use Rattle.stable_store.specs.Kept.{is_fault};
+ghost use Rattle.repo_core.specs.Refusing.{GoesDown, Leaves, StaysAsWas};
+ghost use Rattle.std.specs.Prelude.{◌≡◌, IfErr, Ok, OnErr, OnOk, Option, false, true};
 ghost use Rattle.live_sessions.specs.Sessions.{is_live};
 ghost use Rattle.trace_record.specs.Recorded.{with_mark};
 ghost use Rattle.validation_window.specs.declared.refusal.Refusal.TheVariants.{Down as IsDown, Gone as IsGone, NoMemory as IsNoMemory};
@@ -13,10 +17,12 @@ use validation_window::Refusal;
 
 impl<P: Parts> Repo<P> {
     /// Refuses a call on a repository that is down.
+    #[tactic(auto, using(crate::proofs::Refused::leaves_same))]
     pub(crate) fn check_up(&self) -> Result<(), Refusal>
         ensures up { OnOk result (self.now.is_up ≡ true) }
         ensures down { OnErr result (self.now.is_up ≡ false) }
         ensures refusal { IfErr result (λ r. r ≡ IsDown self.now.held.repo) }
+        ensures left { IfErr result (λ r. (e : Option AnEntry) → Leaves self.now self.now e r) }
     {
         if self.stable.is_up() {
             Ok(())
@@ -28,9 +34,12 @@ impl<P: Parts> Repo<P> {
     }
 
     /// Refuses a call of a session that isn't live.
+    #[tactic(auto, using(crate::proofs::Refused::leaves_same))]
     pub(crate) fn check_live(&self, session: u32) -> Result<(), Refusal>
         ensures live { OnOk result (is_live self.now.memory.sessions session ≡ true) }
         ensures refusal { IfErr result (λ r. r ≡ IsGone session) }
+        ensures gone { OnErr result (is_live self.now.memory.sessions session ≡ false) }
+        ensures left { IfErr result (λ r. (e : Option AnEntry) → Leaves self.now self.now e r) }
     {
         if self.memory.sessions().is_live(session) {
             Ok(())
@@ -41,6 +50,7 @@ impl<P: Parts> Repo<P> {
 
     /// Puts the mark of what has happened behind the trace, or takes the repository down where there was no
     /// memory for it or for what has happened.
+    #[tactic(auto, using(crate::proofs::Refused::leaves_down, crate::proofs::Refused::falls_with, crate::proofs::Refused::moved_none, crate::proofs::Refused::lasts_same))]
     pub(crate) fn mark(&mut self, happened: Result<(), NoMemory>, mark: Mark) -> Result<(), Refusal>
         requires { self.old.is_up ≡ true }
         ensures happened { OnOk result (happened ≡ Ok tt) }
@@ -51,6 +61,12 @@ impl<P: Parts> Repo<P> {
         ensures refused { OnErr result (self.new.trace ≡ self.old.trace) }
         ensures held { self.new.held ≡ self.old.held }
         ensures memory { self.new.memory ≡ self.old.memory }
+        ensures left { OnErr result ((e : Option AnEntry) → GoesDown self.old self.new e) }
+        ensures same { OnOk result (StaysAsWas self.old self.new) }
+        ensures fault { IfErr result (λ r. (is_fault r ≡ true) × (is_marked r ≡ false)) }
+        ensures falls { IfErr result (λ r. (is_fault r ≡ true) × ((e : Option AnEntry) → GoesDown self.old self.new e)) }
+        ensures leaves { IfErr result (λ r. (e : Option AnEntry) → Leaves self.old self.new e r) }
+        ensures opened { self.new.opened_in ≡ self.old.opened_in }
     {
         let marked = match happened {
             Ok(()) => self.trace.put_mark(mark),

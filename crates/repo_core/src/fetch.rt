@@ -1,10 +1,12 @@
 //! A client asks for a page.
 
-ghost use Rattle.std.specs.Prelude.{◌≡◌, OnErr, OnOk, true};
+ghost use Rattle.std.specs.Prelude.{◌≡◌, OnErr, OnOk, true, IfErr, None, length};
 ghost use Rattle.live_sessions.specs.Sessions.{is_live};
 ghost use Rattle.repo_core.specs.Behind.{MovesObjects, Stands};
 ghost use Rattle.session_outbox.specs.declared.mark.Mark.TheVariants.{Fetched as Fetches};
 ghost use Rattle.trace_record.specs.Recorded.{with_mark};
+ghost use Rattle.repo_core.specs.Refusing.{Leaves};
+ghost use Rattle.repo_core.specs.Telling.{SendsPage};
 
 use crate::repo::Repo;
 use disk_trait::Parts;
@@ -14,12 +16,17 @@ use validation_window::Refusal;
 impl<P: Parts> Repo<P> {
     /// Puts a page into the session's outbox, as it stands behind all entries. The messages below `upto` are
     /// acknowledged. Refusal: `Gone`.
+    #[tactic(auto, using(crate::proofs::Refused::leaves_down, crate::proofs::Refused::falls_with, crate::proofs::Refused::leaves_read, crate::proofs::Refused::moved_none, crate::proofs::Refused::lasts_same))]
     pub fn fetch(&mut self, session: u32, page: u32, upto: u64) -> Result<(), Refusal>
         ensures stands { Stands self.old.is_up result self.new.is_up }
         ensures live { OnOk result (is_live self.old.memory.sessions session ≡ true) }
         ensures held { MovesObjects self.old.held self.new.held }
+        ensures sent { OnOk result (SendsPage self.old.memory session page upto (length self.old.trace.history) self.new.memory) }
+        ensures limit { self.new.held.objects.mob.limit ≡ self.old.held.objects.mob.limit }
         ensures trace { OnOk result (self.new.trace ≡ with_mark self.old.trace (Fetches session page upto)) }
         ensures refused { OnErr result (self.new.trace ≡ self.old.trace) }
+        ensures left { IfErr result (Leaves self.old self.new None) }
+        ensures opened { self.new.opened_in ≡ self.old.opened_in }
     {
         self.check_up()?;
         self.check_live(session)?;

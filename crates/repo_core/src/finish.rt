@@ -1,6 +1,6 @@
 //! A participant learns the coordinator's verdict.
 
-ghost use Rattle.std.specs.Prelude.{◌≡◌, IfOk, OnErr, OnOk, Some, None, cond, is_some, false, length, true};
+ghost use Rattle.std.specs.Prelude.{◌≡◌, IfOk, OnErr, OnOk, Some, None, cond, is_some, false, length, true, IfErr};
 ghost use Rattle.commit_log.specs.declared.entry.Entry.TheVariants.{Finished as Finishes};
 ghost use Rattle.repo_core.specs.Behind.{HasMoved, Stands};
 ghost use Rattle.thor_value.specs.Spelling.{TsFits};
@@ -8,6 +8,8 @@ ghost use Rattle.repository_laws.specs.Coming.{Moves};
 ghost use Rattle.thor_value.specs.FiniteMap.{has};
 ghost use Rattle.trace_record.specs.Recorded.{with_entry};
 ghost use Rattle.two_phase.specs.Contents.{open_at};
+ghost use Rattle.repo_core.specs.Refusing.{Leaves};
+ghost use Rattle.repo_core.specs.Telling.{Tells};
 
 use crate::repo::Repo;
 use commit_log::Entry;
@@ -19,14 +21,19 @@ use validation_window::Refusal;
 impl<P: Parts> Repo<P> {
     /// Finishes a transaction by the coordinator's verdict. The answer is the place of the entry; `None`
     /// exactly where it isn't prepared here.
+    #[tactic(auto, using(crate::proofs::Refused::leaves_down, crate::proofs::Refused::leaves_finished))]
     pub fn finish(&mut self, verdict: &Verdict) -> Result<Option<u64>, Refusal>
         ensures stands { Stands self.old.is_up result self.new.is_up }
         ensures held { OnOk result (is_some (open_at self.old.held.table verdict.now.tx) ≡ true → HasMoved self.old.held (Finishes verdict.now.tx verdict.now.commit) self.new.held) }
+        ensures limit { OnOk result (self.new.held.objects.mob.limit ≡ self.old.held.objects.mob.limit) }
         ensures memory { is_some (open_at self.old.held.table verdict.now.tx) ≡ true → has self.old.memory.queue.members verdict.now.tx ≡ true → OnOk result (Moves self.old.held self.old.memory (Finishes verdict.now.tx verdict.now.commit) self.new.memory) }
+        ensures tells { is_some (open_at self.old.held.table verdict.now.tx) ≡ true → OnOk result (Tells self.old.held self.old.memory.sessions (length self.old.trace.history) (Finishes verdict.now.tx verdict.now.commit) self.new.memory.sessions) }
         ensures same { is_some (open_at self.old.held.table verdict.now.tx) ≡ false → OnOk result (self.new ≡ self.old) }
         ensures place { IfOk result (λ place. place ≡ cond (is_some (open_at self.old.held.table verdict.now.tx)) (Some (length self.old.trace.history)) None) }
         ensures trace { OnOk result (self.new.trace ≡ cond (is_some (open_at self.old.held.table verdict.now.tx)) (with_entry self.old.trace (Finishes verdict.now.tx verdict.now.commit)) self.old.trace) }
         ensures refused { OnErr result (self.new.trace ≡ self.old.trace) }
+        ensures left { IfErr result (Leaves self.old self.new (cond (is_some (open_at self.old.held.table verdict.now.tx)) (Some (Finishes verdict.now.tx verdict.now.commit)) None)) }
+        ensures opened { self.new.opened_in ≡ self.old.opened_in }
     {
         self.check_up()?;
         let tx = verdict.tx();

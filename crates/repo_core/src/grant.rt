@@ -1,15 +1,20 @@
 //! A client asks for names.
 
-ghost use Rattle.std.specs.Prelude.{◌≡◌, ◌+◌, ◌<◌, IfErr, IfOk, None, OnOk, false, length, true};
+ghost use Rattle.std.specs.Prelude.{◌≡◌, ◌+◌, ◌<◌, IfErr, IfOk, None, Ok, OnOk, Option, false, length, true};
 ghost use Rattle.live_sessions.specs.Sessions.{is_live, sent};
 ghost use Rattle.message_outbox.specs.declared.message.Message.TheVariants.{Grant as AGrant};
 ghost use Rattle.repo_core.specs.Behind.{Stands, is_marked, with_refusal};
 ghost use Rattle.session_outbox.specs.declared.mark.Mark.TheVariants.{Granted as Grants};
 ghost use Rattle.trace_record.specs.Recorded.{with_mark};
+ghost use Rattle.commit_log.specs.declared.entry.Entry.{Entry as AnEntry};
+ghost use Rattle.repo_core.specs.Refusing.{GoesDown, Leaves};
+ghost use Rattle.stable_store.specs.Kept.{is_fault};
+ghost use Rattle.repo_core.specs.Calls.{GrantIsRefused};
 
 use crate::repo::Repo;
 use disk_trait::Parts;
 use session_outbox::Mark;
+use thor_value::NoMemory;
 use validation_window::Refusal;
 
 /// How many pages a repository may have.
@@ -18,13 +23,18 @@ const PAGES: u32 = 65_536;
 impl<P: Parts> Repo<P> {
     /// Puts a page that was never granted into the session's outbox, for the names of new objects. Refusals:
     /// `Gone`, `Full`.
+    #[tactic(auto, using(crate::proofs::Refused::leaves_down, crate::proofs::Refused::leaves_same))]
     pub fn grant(&mut self, session: u32) -> Result<(), Refusal>
         ensures stands { Stands self.old.is_up result self.new.is_up }
         ensures live { OnOk result (is_live self.old.memory.sessions session ≡ true) }
         ensures held { OnOk result (self.new.held ≡ record self.old.held { next_grant = self.old.held.next_grant + 1 }) }
+        ensures below { OnOk result (self.old.held.next_grant < 65536) }
         ensures sent { OnOk result (self.new.memory ≡ record self.old.memory { sessions = sent self.old.memory.sessions session self.old.held.next_grant (AGrant self.old.held.next_grant (length self.old.trace.history)) }) }
         ensures trace { OnOk result (self.new.trace ≡ with_mark self.old.trace (Grants session self.old.held.next_grant)) }
+        ensures why { IfErr result (λ r. is_marked r ≡ true → (self.old.is_up ≡ true) × GrantIsRefused self.old.held self.old.memory session r) }
         ensures refused { IfErr result (λ r. self.new.trace ≡ with_refusal self.old.trace session None r) }
+        ensures left { IfErr result (Leaves self.old self.new None) }
+        ensures opened { self.new.opened_in ≡ self.old.opened_in }
     {
         self.check_up()?;
         match self.may_grant(session) {
@@ -38,6 +48,7 @@ impl<P: Parts> Repo<P> {
         ensures live { OnOk result (is_live self.now.memory.sessions session ≡ true) }
         ensures page { IfOk result (λ page. (page ≡ self.now.held.next_grant) × (page < 65536)) }
         ensures marked { IfErr result (λ r. is_marked r ≡ true) }
+        ensures why { IfErr result (GrantIsRefused self.now.held self.now.memory session) }
     {
         self.check_live(session)?;
         let page = self.stable.held().next_grant();
@@ -48,6 +59,7 @@ impl<P: Parts> Repo<P> {
         }
     }
 
+    #[tactic(auto, using(crate::proofs::Refused::leaves_read, crate::proofs::Refused::moved_none))]
     fn send_grant(&mut self, session: u32, page: u32) -> Result<(), Refusal>
         requires up { self.old.is_up ≡ true }
         requires next { page ≡ self.old.held.next_grant }
@@ -57,9 +69,33 @@ impl<P: Parts> Repo<P> {
         ensures sent { OnOk result (self.new.memory ≡ record self.old.memory { sessions = sent self.old.memory.sessions session page (AGrant page (length self.old.trace.history)) }) }
         ensures trace { OnOk result (self.new.trace ≡ with_mark self.old.trace (Grants session page)) }
         ensures refused { IfErr result (λ r. (is_marked r ≡ false) × (self.new.trace ≡ self.old.trace)) }
+        ensures left { IfErr result (Leaves self.old self.new None) }
+        ensures opened { self.new.opened_in ≡ self.old.opened_in }
     {
         let place = self.trace.place();
         let sent = self.memory.send_grant(session, page, place);
+        self.mark_granted(sent, session, page)
+    }
+
+    /// Marks what was sent, and grants no page below the next one any more.
+    fn mark_granted(
+        &mut self,
+        sent: Result<(), NoMemory>,
+        session: u32,
+        page: u32,
+    ) -> Result<(), Refusal>
+        requires up { self.old.is_up ≡ true }
+        requires next { page ≡ self.old.held.next_grant }
+        requires below { page < 65536 }
+        ensures stands { Stands true result self.new.is_up }
+        ensures held { OnOk result (self.new.held ≡ record self.old.held { next_grant = page + 1 }) }
+        ensures memory { self.new.memory ≡ self.old.memory }
+        ensures sent { OnOk result (sent ≡ Ok tt) }
+        ensures trace { OnOk result (self.new.trace ≡ with_mark self.old.trace (Grants session page)) }
+        ensures refused { IfErr result (λ r. (is_marked r ≡ false) × (self.new.trace ≡ self.old.trace)) }
+        ensures falls { IfErr result (λ r. (is_fault r ≡ true) × ((e : Option AnEntry) → GoesDown self.old self.new e)) }
+        ensures opened { self.new.opened_in ≡ self.old.opened_in }
+    {
         self.mark(sent, Mark::Granted { session, page })?;
         self.stable.grant_from(page + 1);
         Ok(())

@@ -9,6 +9,7 @@ ghost use Rattle.stable_store.specs.Kept.{IsKept, held_of, is_up};
 ghost use Rattle.stable_store.specs.Taking.{AgreesWhere};
 ghost use Rattle.state_log.specs.Holds.{Holds};
 ghost use Rattle.trace_record.specs.Recorded.{nothing, with_entry};
+ghost use Rattle.repo_core.specs.Restarting.{Begins};
 
 use crate::repo::Repo;
 use class_defs::Setup;
@@ -30,6 +31,7 @@ impl<P: Parts> Repo<P> {
         requires pages { AgreesWhere recovered.state.objects.pages }
         ensures up { IfOk result (λ repo. repo.is_up ≡ true) }
         ensures trace { IfOk result (λ repo. repo.trace ≡ with_entry nothing (ALife (recovered.state.life + 1))) }
+        ensures begins { IfOk result (λ repo. Begins recovered.state repo) }
     {
         let stable = Stable::open(parts, recovered)?;
         begin(alloc, stable)
@@ -55,12 +57,20 @@ impl<P: Parts> Repo<P> {
 }
 
 /// A repository over what is stable, behind the Life of its opening.
+#[tactic(auto, using(crate::proofs::Begun::begins_so, crate::proofs::Begun::memory_is))]
 fn begin<P: Parts>(alloc: Global, stable: Stable<P>) -> Result<Repo<P>, OpenFault<P>>
     requires kept { IsKept P.disks stable }
     requires up { is_up stable ≡ true }
     ensures up { IfOk result (λ repo. repo.is_up ≡ true) }
     ensures trace { IfOk result (λ repo. repo.trace ≡ with_entry nothing (ALife ((held_of stable).life + 1))) }
+    ensures begins { IfOk result (λ repo. Begins (held_of stable) repo) }
 {
+    let Some(opened_in) = stable.held().life().checked_add(1) else {
+        return Err(OpenFault {
+            parts: stable.into_parts(),
+            cause: OpenCause::NoMemory,
+        });
+    };
     let memory = match Memory::new(alloc, stable.held().threshold()) {
         Ok(memory) => memory,
         Err(_) => {
@@ -70,7 +80,6 @@ fn begin<P: Parts>(alloc: Global, stable: Stable<P>) -> Result<Repo<P>, OpenFaul
             });
         }
     };
-    let opened_in = stable.held().life().saturating_add(1);
     let mut repo = Repo {
         alloc,
         stable,

@@ -1,12 +1,13 @@
 //! A transaction that has other participants, too, is prepared.
 
-ghost use Rattle.std.specs.Prelude.{◌≡◌, IfErr, IfOk, None, OnOk, Some, false, length};
+ghost use Rattle.std.specs.Prelude.{◌≡◌, IfErr, IfOk, None, OnOk, Some, false, length, true};
 ghost use Rattle.commit_log.specs.declared.entry.Entry.TheVariants.{Prepared as Prepares};
 ghost use Rattle.held_state.specs.Entering.{prepared_in};
-ghost use Rattle.repo_core.specs.Behind.{HasMoved, Stands, epoch_of, with_refusal};
-ghost use Rattle.repo_core.specs.Calls.{MayRequest};
+ghost use Rattle.repo_core.specs.Behind.{HasMoved, Stands, epoch_of, with_refusal, is_marked};
+ghost use Rattle.repo_core.specs.Calls.{MayRequest, judged};
 ghost use Rattle.trace_record.specs.Recorded.{with_entry};
 ghost use Rattle.volatile_state.specs.Volatile.{entered, verdict};
+ghost use Rattle.repo_core.specs.Refusing.{Leaves, made_of};
 
 use crate::repo::Repo;
 use commit_log::{Entry, Request};
@@ -16,15 +17,21 @@ use validation_window::Refusal;
 impl<P: Parts> Repo<P> {
     /// Prepares a transaction that has other participants, too. The answer is the place of its entry.
     /// Refusals: `Gone`, `Blocked`, `Epoch`, `TooOld`, `Stale`, `Earlier`, `Later`, `Full`.
+    #[tactic(auto, using(crate::proofs::Refused::leaves_down, crate::proofs::Refused::leaves_written, crate::proofs::Judged::accepted))]
     pub fn prepare(&mut self, session: u32, request: Request) -> Result<u64, Refusal>
         requires { MayRequest self.old.held self.old.memory request false }
         ensures stands { Stands self.old.is_up result self.new.is_up }
         ensures accepted { OnOk result (verdict self.old.memory (epoch_of self.old.held) session request ≡ None) }
+        ensures judged { OnOk result (judged self.old.held self.old.memory session request ≡ None) }
+        ensures why { IfErr result (λ r. is_marked r ≡ true → (self.old.is_up ≡ true) × (judged self.old.held self.old.memory session request ≡ Some r)) }
         ensures place { IfOk result (λ place. place ≡ length self.old.trace.history) }
         ensures held { OnOk result (HasMoved self.old.held (Prepares request) self.new.held) }
+        ensures limit { OnOk result (self.new.held.objects.mob.limit ≡ self.old.held.objects.mob.limit) }
         ensures memory { OnOk result (self.new.memory ≡ entered self.old.memory request false) }
         ensures trace { OnOk result (self.new.trace ≡ with_entry self.old.trace (Prepares request)) }
         ensures refused { IfErr result (λ r. self.new.trace ≡ with_refusal self.old.trace session (Some request) r) }
+        ensures left { IfErr result (Leaves self.old self.new (made_of (judged self.old.held self.old.memory session request) (Prepares request))) }
+        ensures opened { self.new.opened_in ≡ self.old.opened_in }
     {
         self.check_up()?;
         match self.judge(session, &request) {

@@ -1,10 +1,13 @@
 //! A client takes a message.
 
-ghost use Rattle.std.specs.Prelude.{◌≡◌, IfOk, OnErr, OnOk, true};
+ghost use Rattle.std.specs.Prelude.{◌≡◌, IfOk, OnErr, OnOk, Option, true, IfErr, None};
 ghost use Rattle.live_sessions.specs.Sessions.{is_live, taken};
 ghost use Rattle.message_outbox.specs.Messages.{first};
 ghost use Rattle.message_outbox.specs.Outbox.{waiting};
 ghost use Rattle.repo_core.specs.Behind.{Stands, with_taken};
+ghost use Rattle.commit_log.specs.declared.entry.Entry.{Entry as AnEntry};
+ghost use Rattle.repo_core.specs.Refusing.{GoesDown, Leaves};
+ghost use Rattle.stable_store.specs.Kept.{is_fault};
 
 use crate::repo::Repo;
 use disk_trait::Parts;
@@ -14,6 +17,7 @@ use validation_window::Refusal;
 
 impl<P: Parts> Repo<P> {
     /// Takes the oldest message that waits for the session; `None` exactly where none does. Refusal: `Gone`.
+    #[tactic(auto, using(crate::proofs::Refused::leaves_read, crate::proofs::Refused::moved_none, volatile_state::proofs::Lasting::stayed))]
     pub fn receive(&mut self, session: u32) -> Result<Option<Message>, Refusal>
         ensures stands { Stands self.old.is_up result self.new.is_up }
         ensures live { OnOk result (is_live self.old.memory.sessions session ≡ true) }
@@ -22,10 +26,32 @@ impl<P: Parts> Repo<P> {
         ensures rest { OnOk result (self.new.memory ≡ record self.old.memory { sessions = taken self.old.memory.sessions session }) }
         ensures trace { IfOk result (λ message. self.new.trace ≡ with_taken self.old.trace session message) }
         ensures refused { OnErr result (self.new.trace ≡ self.old.trace) }
+        ensures left { IfErr result (Leaves self.old self.new None) }
+        ensures opened { self.new.opened_in ≡ self.old.opened_in }
     {
         self.check_up()?;
         self.check_live(session)?;
-        match self.memory.take(session) {
+        let taken = self.memory.take(session);
+        self.mark_taken(session, taken)
+    }
+
+    /// Marks that a message was taken, where one was.
+    fn mark_taken(
+        &mut self,
+        session: u32,
+        taken: Option<Message>,
+    ) -> Result<Option<Message>, Refusal>
+        requires { self.old.is_up ≡ true }
+        ensures stands { Stands true result self.new.is_up }
+        ensures held { self.new.held ≡ self.old.held }
+        ensures memory { self.new.memory ≡ self.old.memory }
+        ensures message { IfOk result (λ message. message ≡ taken) }
+        ensures trace { IfOk result (λ message. self.new.trace ≡ with_taken self.old.trace session message) }
+        ensures refused { OnErr result (self.new.trace ≡ self.old.trace) }
+        ensures falls { IfErr result (λ r. (is_fault r ≡ true) × ((e : Option AnEntry) → GoesDown self.old self.new e)) }
+        ensures opened { self.new.opened_in ≡ self.old.opened_in }
+    {
+        match taken {
             Some(message) => {
                 let place = message.place();
                 self.mark(Ok(()), Mark::Took { session, place })?;

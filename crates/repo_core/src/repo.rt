@@ -25,11 +25,11 @@ pub struct Repo<P: Parts> {
 
 impl<P: Parts> Model for Repo<P> {
     ghost use Rattle.repo_core.specs.Shown.{Shown};
-    ghost use Rattle.stable_store.specs.Kept.{IsKept, held_of, is_up};
+    ghost use Rattle.stable_store.specs.Kept.{IsKept, held_of, is_torn, is_up, pending};
 
     ghost Value = { Shown };
 
-    ghost view = { λ r. record { held = held_of r.stable; is_up = is_up r.stable; memory = r.memory; trace = r.trace; opened_in = r.opened_in } };
+    ghost view = { λ r. record { held = held_of r.stable; is_up = is_up r.stable; memory = r.memory; trace = r.trace; opened_in = r.opened_in; pending = pending r.stable; is_torn = is_torn r.stable } };
 
     ghost invariant = { λ r. IsKept P.disks r.stable };
 }

@@ -1,6 +1,6 @@
 //! A repository is restarted.
 
-ghost use Rattle.std.specs.Prelude.{◌≡◌, ◌+◌, IfErr, OnErr, OnOk, false, true};
+ghost use Rattle.std.specs.Prelude.{◌≡◌, ◌+◌, ◌<◌, IfErr, OnErr, OnOk, false, true, Some};
 ghost use Rattle.commit_log.specs.declared.entry.Entry.TheVariants.{Life as ALife};
 ghost use Rattle.live_sessions.specs.Sessions.{ended};
 ghost use Rattle.log_bytes.specs.Grammar.{BodyFits};
@@ -8,11 +8,17 @@ ghost use Rattle.log_bytes.specs.declared.body.Body.TheVariants.{Entry as AnEntr
 ghost use Rattle.repo_core.specs.Behind.{IsRecovered, IsRestarted, Stands, is_marked};
 ghost use Rattle.stable_store.specs.Kept.{IsKept, held_of, is_fault, is_up};
 ghost use Rattle.trace_record.specs.Recorded.{with_entry};
+ghost use Rattle.repo_core.specs.Restarting.{ComesUp, DropsEarlier, LetsGo, StaysDown, Takes, TakesNone, life_behind};
+ghost use Rattle.repo_core.specs.Refusing.{GoesDown};
+ghost use Rattle.repository_laws.specs.Running.{came_with};
+ghost use Rattle.repository_laws.specs.Coming.{BeginsLife};
+ghost use Rattle.held_state.specs.Entering.{entered};
 
 use crate::repo::Repo;
 use commit_log::Entry;
 use disk_trait::Parts;
 use stable_store::{Stable, Taken};
+use thor_value::Ts;
 use validation_window::Refusal;
 
 impl<P: Parts> Repo<P> {
@@ -22,6 +28,7 @@ impl<P: Parts> Repo<P> {
     /// written; else the answer is `Damaged`, as it is where a log disk has no log of this repository. All
     /// sessions end. Decisions of earlier openings are kept no longer. After a refusal the repository is
     /// down, with the entry pending that was so, or with the Life.
+    #[tactic(auto, using(crate::proofs::Taking::comes_up_so, crate::proofs::Taking::fails_so))]
     pub fn restart(&mut self, pick: u64) -> Result<(), Refusal>
         ensures up { OnOk result (self.new.is_up ≡ true) }
         ensures down { OnErr result (self.new.is_up ≡ false) }
@@ -29,25 +36,47 @@ impl<P: Parts> Repo<P> {
         ensures ended { OnOk result (self.new.memory.sessions ≡ ended self.old.memory.sessions) }
         ensures trace { OnOk result (IsRestarted self.old.trace self.new.trace) }
         ensures refused { OnErr result (IsRecovered self.old.trace self.new.trace) }
+        ensures comes_up { OnOk result (ComesUp self.old self.new) }
+        ensures stays_down { OnErr result (StaysDown self.old self.new) }
+        ensures opened { self.new.opened_in ≡ self.old.opened_in }
     {
-        match self.stable.restart(self.alloc, pick)? {
-            Taken::Held => {}
-            Taken::Pending(entry) => self.take_pending(entry)?,
-        }
+        self.take_over(pick)?;
         self.drop_decisions();
         self.write_life()
     }
 
+    /// Takes what the disks have, where it is what is held, or that with the pending entry.
+    #[tactic(auto, using(crate::proofs::Taking::takes_held, crate::proofs::Taking::takes_pending, crate::proofs::Taking::down_with_it))]
+    fn take_over(&mut self, pick: u64) -> Result<(), Refusal>
+        ensures up { OnOk result (self.new.is_up ≡ true) }
+        ensures down { OnErr result (self.new.is_up ≡ false) }
+        ensures fault { IfErr result (λ r. is_fault r ≡ true) }
+        ensures takes { OnOk result (Takes self.old self.new) }
+        ensures none { OnErr result (TakesNone self.old self.new) }
+        ensures opened { self.new.opened_in ≡ self.old.opened_in }
+    {
+        match self.stable.restart(self.alloc, pick)? {
+            Taken::Held => Ok(()),
+            Taken::Pending(entry) => self.take_pending(entry),
+        }
+    }
+
     /// Takes the pending entry, which the disks have. Want of memory, too, where it is none that can come next,
     /// which no run comes to.
+    #[tactic(auto, using(crate::proofs::Refused::falls_with, crate::proofs::Refused::falls_behind, crate::proofs::Refused::moved_none, crate::proofs::Refused::lasts_same))]
     fn take_pending(&mut self, entry: Entry) -> Result<(), Refusal>
         requires fits { BodyFits (AnEntry entry) }
         requires up { self.old.is_up ≡ true }
         ensures stands { Stands true result self.new.is_up }
         ensures fault { IfErr result (λ r. is_fault r ≡ true) }
         ensures sessions { self.new.memory.sessions ≡ self.old.memory.sessions }
+        ensures limit { OnOk result (self.new.held.objects.mob.limit ≡ self.old.held.objects.mob.limit) }
         ensures trace { OnOk result (self.new.trace ≡ with_entry self.old.trace entry) }
         ensures refused { OnErr result (self.new.trace ≡ self.old.trace) }
+        ensures held { OnOk result (self.new.held ≡ entered self.old.held entry) }
+        ensures requested { OnOk result (self.new.memory.requested ≡ came_with self.old.memory.requested entry) }
+        ensures left { OnErr result (GoesDown self.old self.new (Some entry)) }
+        ensures opened { self.new.opened_in ≡ self.old.opened_in }
     {
         if !self.stable.held().takes(&entry) {
             self.stable.take_down();
@@ -59,6 +88,7 @@ impl<P: Parts> Repo<P> {
     }
 
     /// Begins the next life.
+    #[tactic(auto, using(crate::proofs::Refused::falls_with, crate::proofs::Refused::moved_none, crate::proofs::Refused::lasts_same))]
     pub(crate) fn write_life(&mut self) -> Result<(), Refusal>
         requires { self.old.is_up ≡ true }
         ensures stands { Stands true result self.new.is_up }
@@ -66,6 +96,10 @@ impl<P: Parts> Repo<P> {
         ensures ended { OnOk result (self.new.memory.sessions ≡ ended self.old.memory.sessions) }
         ensures trace { OnOk result (self.new.trace ≡ with_entry self.old.trace (ALife (self.old.held.life + 1))) }
         ensures refused { OnErr result (self.new.trace ≡ self.old.trace) }
+        ensures held { OnOk result (self.new.held ≡ entered self.old.held (life_behind self.old)) }
+        ensures begins { OnOk result (BeginsLife self.old.held self.old.memory self.new.memory) }
+        ensures left { OnErr result (GoesDown self.old self.new (Some (life_behind self.old))) }
+        ensures opened { self.new.opened_in ≡ self.old.opened_in }
     {
         match self.stable.held().life().checked_add(1) {
             Some(life) => {
@@ -85,6 +119,10 @@ impl<P: Parts> Repo<P> {
         ensures life { self.new.held.life ≡ self.old.held.life }
         ensures memory { self.new.memory ≡ self.old.memory }
         ensures trace { self.new.trace ≡ self.old.trace }
+        ensures held { DropsEarlier self.old self.new }
+        ensures pending { self.new.pending ≡ self.old.pending }
+        ensures torn { self.new.is_torn ≡ self.old.is_torn }
+        ensures opened { self.new.opened_in ≡ self.old.opened_in }
     {
         forget_before(&mut self.stable, self.opened_in);
     }
@@ -96,15 +134,43 @@ fn forget_before<P: Parts>(stable: &mut Stable<P>, life: u32)
     ensures kept { IsKept P.disks stable.new }
     ensures up { is_up stable.new ≡ is_up stable.old }
     ensures life { (held_of stable.new).life ≡ (held_of stable.old).life }
+    ensures phase { stable.new.phase ≡ stable.old.phase }
+    ensures held { held_of stable.new ≡ record (held_of stable.old) { table = (held_of stable.new).table } }
+    ensures go { LetsGo life (held_of stable.old).table (held_of stable.new).table }
 {
     let mut after = None;
     for _ in 0..u32::MAX {
         let Some(tx) = stable.held().table().next_kept(after) else {
             return;
         };
-        if tx.life < life {
-            stable.forget(tx);
-        }
+        forget_earlier(stable, tx, life);
         after = Some(tx);
     }
+}
+
+/// Forgets a kept decision, where its transaction is of an earlier life than this one.
+#[tactic(auto, using(crate::proofs::Letting::goes_itself))]
+fn forget_earlier<P: Parts>(stable: &mut Stable<P>, tx: Ts, life: u32)
+    requires kept { IsKept P.disks stable.old }
+    ensures kept { IsKept P.disks stable.new }
+    ensures phase { stable.new.phase ≡ stable.old.phase }
+    ensures held { held_of stable.new ≡ record (held_of stable.old) { table = (held_of stable.new).table } }
+    ensures go { LetsGo life (held_of stable.old).table (held_of stable.new).table }
+{
+    if tx.life < life {
+        forget_one(stable, tx, life);
+    }
+}
+
+/// Forgets a kept decision of a transaction of an earlier life than this one.
+#[tactic(auto, using(crate::proofs::Letting::one_goes_in, crate::proofs::Letting::table_alone))]
+fn forget_one<P: Parts>(stable: &mut Stable<P>, tx: Ts, life: u32)
+    requires kept { IsKept P.disks stable.old }
+    requires earlier { tx.life < life }
+    ensures kept { IsKept P.disks stable.new }
+    ensures phase { stable.new.phase ≡ stable.old.phase }
+    ensures held { held_of stable.new ≡ record (held_of stable.old) { table = (held_of stable.new).table } }
+    ensures go { LetsGo life (held_of stable.old).table (held_of stable.new).table }
+{
+    stable.forget(tx);
 }

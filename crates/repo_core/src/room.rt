@@ -1,12 +1,15 @@
 //! Room in the buffer of modified objects.
 
 ghost use Rattle.std.specs.List.{AllByRecursion};
-ghost use Rattle.std.specs.Prelude.{◌≡◌, IfErr, false, true};
+ghost use Rattle.std.specs.Prelude.{◌≡◌, IfErr, false, true, OnErr, Option, None, OnOk, ◌<◌, ◌≤◌};
 ghost use Rattle.held_state.specs.Keeps.{Keeps};
-ghost use Rattle.mob_buffer.specs.Buffer.{CanStand};
+ghost use Rattle.mob_buffer.specs.Buffer.{CanStand, bytes_of};
 ghost use Rattle.repo_core.specs.Behind.{MovesObjects, Stands, is_marked};
 ghost use Rattle.repo_core.specs.Moving.{MakesRoom};
-ghost use Rattle.stable_store.specs.Kept.{IsKept, held_of, is_fault, is_up};
+ghost use Rattle.stable_store.specs.Kept.{IsKept, RestsWith, held_of, is_fault, is_up};
+ghost use Rattle.commit_log.specs.declared.entry.Entry.{Entry as AnEntry};
+ghost use Rattle.repo_core.specs.Refusing.{Leaves};
+ghost use Rattle.validation_window.specs.declared.refusal.Refusal.TheVariants.{Full as IsFull};
 
 use crate::repo::Repo;
 use disk_trait::Parts;
@@ -21,7 +24,9 @@ impl<P: Parts> Repo<P> {
     /// Refuses writes that don't fit into the buffer by themselves.
     pub(crate) fn check_room(&self, writes: &Writes) -> Result<(), Refusal>
         requires { AllByRecursion CanStand writes.now }
-        ensures { IfErr result (λ r. is_marked r ≡ true) }
+        ensures marked { IfErr result (λ r. is_marked r ≡ true) }
+        ensures full { IfErr result (λ r. (r ≡ IsFull self.now.held.objects.mob.limit) × (self.now.held.objects.mob.limit < bytes_of writes.now)) }
+        ensures room { OnOk result (bytes_of writes.now ≤ self.now.held.objects.mob.limit) }
     {
         let limit = self.stable.held().objects().mob().limit();
         if spelled_bytes(writes) > u64::from(limit) {
@@ -32,22 +37,28 @@ impl<P: Parts> Repo<P> {
     }
 
     /// Flushes pages until writes fit into the buffer beside what is there, or it is empty.
+    #[tactic(auto, using(crate::proofs::Refused::leaves_down, crate::proofs::Refused::falls_with, crate::proofs::Refused::lasts_same))]
     pub(crate) fn make_room(&mut self, writes: &Writes) -> Result<(), Refusal>
         requires up { self.old.is_up ≡ true }
         requires fits { AllByRecursion CanStand writes.now }
         ensures stands { Stands true result self.new.is_up }
         ensures fault { IfErr result (λ r. (is_fault r ≡ true) × (is_marked r ≡ false)) }
         ensures made { MakesRoom self.old self.new }
+        ensures left { IfErr result (λ r. (e : Option AnEntry) → Leaves self.old self.new e r) }
+        ensures opened { self.new.opened_in ≡ self.old.opened_in }
     {
         make_room(&mut self.stable, writes)
     }
 
     /// Does so for the writes of a transaction that is open here, where it commits.
+    #[tactic(auto, using(crate::proofs::Refused::leaves_down, crate::proofs::Refused::falls_with, crate::proofs::Refused::lasts_same))]
     pub(crate) fn make_room_for(&mut self, tx: Ts, commit: bool) -> Result<(), Refusal>
         requires { self.old.is_up ≡ true }
         ensures stands { Stands true result self.new.is_up }
         ensures fault { IfErr result (λ r. (is_fault r ≡ true) × (is_marked r ≡ false)) }
         ensures made { MakesRoom self.old self.new }
+        ensures left { IfErr result (λ r. (e : Option AnEntry) → Leaves self.old self.new e r) }
+        ensures opened { self.new.opened_in ≡ self.old.opened_in }
     {
         if commit {
             make_room_for(&mut self.stable, tx)
@@ -65,6 +76,8 @@ fn make_room<P: Parts>(stable: &mut Stable<P>, writes: &Writes) -> Result<(), Re
     ensures stands { Stands true result (is_up stable.new) }
     ensures fault { IfErr result (λ r. (is_fault r ≡ true) × (is_marked r ≡ false)) }
     ensures held { MovesObjects (held_of stable.old) (held_of stable.new) }
+    ensures limit { (held_of stable.new).objects.mob.limit ≡ (held_of stable.old).objects.mob.limit }
+    ensures rests { OnErr result (RestsWith None stable.new) }
 {
     for _ in 0..u32::MAX {
         if fits(stable.held(), writes) {
@@ -84,6 +97,8 @@ fn make_room_for<P: Parts>(stable: &mut Stable<P>, tx: Ts) -> Result<(), Refusal
     ensures stands { Stands true result (is_up stable.new) }
     ensures fault { IfErr result (λ r. (is_fault r ≡ true) × (is_marked r ≡ false)) }
     ensures held { MovesObjects (held_of stable.old) (held_of stable.new) }
+    ensures limit { (held_of stable.new).objects.mob.limit ≡ (held_of stable.old).objects.mob.limit }
+    ensures rests { OnErr result (RestsWith None stable.new) }
 {
     for _ in 0..u32::MAX {
         if fits_open(stable.held(), tx) {

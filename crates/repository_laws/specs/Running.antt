@@ -13,7 +13,7 @@ use Rattle.repository_laws.specs.Judging.{IsAccepted, IsVouched, SessionsAnswer}
 use Rattle.session_outbox.specs.declared.mark.Mark.TheVariants as the
 use Rattle.session_outbox.specs.declared.mark.Mark.{Mark}
 use Rattle.std.specs.Option.{IsSome}
-use Rattle.std.specs.Prelude.{List, None, [], cond, false, true, ℕ, ◌+◌, ◌<◌, ◌∷◌, ◌≡◌, ◌≢◌, ◌≤◌, ◌⊎◌}
+use Rattle.std.specs.Prelude.{List, None, Option, Some, [], cond, false, true, ℕ, ◌+◌, ◌<◌, ◌∷◌, ◌≡◌, ◌≢◌, ◌≤◌, ◌⊎◌}
 use Rattle.thor_value.specs.FiniteMap.{IsSorted, Set, add, get, has}
 use Rattle.thor_value.specs.Names.{ts_cmp}
 use Rattle.thor_value.specs.declared.names.Ts.{Ts}
@@ -97,6 +97,19 @@ came_with requested (Prepared q) = add requested q.tx
 came_with requested (Decided t c) = requested
 came_with requested (Finished t c) = requested
 came_with requested (Upgraded q) = add requested q.tx
+
+-- with the pending entry, where it is taken
+abbrev pub held_with : Held → Option Entry → Held
+held_with h None = h
+held_with h (Some e) = entered h e
+
+abbrev pub recorded_with : Recorded → Option Entry → Recorded
+recorded_with r None = r
+recorded_with r (Some e) = with_entry r e
+
+abbrev pub requested_with : Set ts_cmp → Option Entry → Set ts_cmp
+requested_with m None = m
+requested_with m (Some e) = came_with m e
 
 -- an entry that was being written is recovered: it might have come, and nothing has changed since
 pub record EntryIsRecovered (b : Base) (x : Repository) (e : Entry) (y : Repository) : Type 0 where

@@ -10,7 +10,8 @@ use Rattle.repository_runs.proofs.Falling.{Rests, down-right, life-begins, life-
 use Rattle.repository_runs.proofs.Next.{held-next, moved-held, moved-next}
 use Rattle.repository_runs.proofs.Recording.{behind-entry}
 use Rattle.repository_runs.specs.Happening.{MovesObjects}
-use Rattle.repository_runs.specs.Restarting.{ComesUp, FailsBehind, MayTake, Recovers, StaysPending, TakesNone, held_with, life_behind, recorded_with, requested_with}
+use Rattle.repository_laws.specs.Running.{held_with, recorded_with, requested_with}
+use Rattle.repository_runs.specs.Restarting.{ComesUp, FailsBehind, MayTake, Recovers, StaysPending, TakesNone, life_behind}
 use Rattle.repository_runs.specs.Standing.{Down, IsRecorded, IsRight, MayBeNext, NumbersAgree, Phase, Torn, Up}
 use Rattle.session_outbox.specs.Trace.{Item}
 use Rattle.std.proofs.Common.{List, inl, inr, subst, sym, ℕ, ◌≡◌}
@@ -25,7 +26,7 @@ pub record Taking (b : Base) (x : Repository) (taken : Option Entry) : Type 0 wh
   pub rests : Rests b x
   pub next : IfSome taken (MayBeNext b x.trace x.held)
 
-may-take : (b : Base) (x : Repository) (p : Phase) (taken : Option Entry) → IsRight b x p → MayTake p taken → Taking b x taken
+pub may-take : (b : Base) (x : Repository) (p : Phase) (taken : Option Entry) → IsRight b x p → MayTake p taken → Taking b x taken
 may-take b x Up None k may = record { rests = rests-up b x k; next = tt }
 may-take b x Up (Some e) k may = absurd may
 may-take b x (Down o) None k may = record { rests = rests-down b x o k; next = tt }
@@ -33,12 +34,12 @@ may-take b x (Down o) (Some e) k may = record { rests = rests-down b x o k; next
 may-take b x Torn taken k may = absurd may
 
 -- with what was taken, while objects moved
-record Taken (b : Base) (r : Recorded) (h : Held) (m : Set ts_cmp) (last : ℕ) : Type 0 where
+pub record Taken (b : Base) (r : Recorded) (h : Held) (m : Set ts_cmp) (last : ℕ) : Type 0 where
   pub recorded : IsRecorded b r
   pub held : HeldAgrees b r h m
   pub numbers : NumbersAgree b (trace_of r) last
 
-take : (b : Base) (x : Repository) (taken : Option Entry) (g : Held) → MovesObjects x.held g → Taking b x taken → Taken b (recorded_with x.trace taken) (held_with g taken) (requested_with x.memory.requested taken) x.memory.sessions.last
+pub take : (b : Base) (x : Repository) (taken : Option Entry) (g : Held) → MovesObjects x.held g → Taking b x taken → Taken b (recorded_with x.trace taken) (held_with g taken) (requested_with x.memory.requested taken) x.memory.sessions.last
 take b x None g moves t = record { recorded = t.rests.recorded; held = moved-held b x.trace x.held g x.memory.requested moves t.rests.held; numbers = t.rests.numbers }
 take b x (Some e) g moves t =
     let n : MayBeNext b x.trace x.held e = t.next in

@@ -11,7 +11,8 @@ use Rattle.local_history.specs.Sound.{Vouches}
 use Rattle.repository_laws.proofs.Opens.{undecided-some}
 use Rattle.repository_laws.specs.Agreeing.{HeldAgrees, state_of, trace_of}
 use Rattle.repository_laws.specs.Running.{Repository}
-use Rattle.repository_runs.specs.Happening.{DecisionIsLearnt, DecisionIsMade, MayMake, RequestIsMade, Tells, TellsDecided}
+use Rattle.repository_runs.specs.Happening.{DecisionIsLearnt, DecisionIsMade, MayMake, RequestIsMade, Tells}
+use Rattle.volatile_state.specs.Telling.{TellsDecided}
 use Rattle.session_laws.specs.Coming.{CommitsTold, HasCome, IsTellable, acknowledged_by}
 use Rattle.session_outbox.proofs.Traces.{entries-items}
 use Rattle.session_outbox.specs.Session.{request_in}

@@ -33,8 +33,8 @@ use Rattle.validation_queue.specs.Names.{IsInOrder}
 use Rattle.validation_window.specs.Refusals.{bytes_of}
 use Rattle.validation_window.specs.declared.refusal.Refusal.TheVariants as refused
 use Rattle.validation_window.specs.declared.refusal.Refusal.{Refusal}
-use Rattle.volatile_state.specs.Telling.{CommitTold}
-use Rattle.volatile_state.specs.Volatile.{Memory, verdict}
+use Rattle.volatile_state.specs.Telling.{CommitTold, TellsDecided}
+use Rattle.volatile_state.specs.Volatile.{Outlasts, verdict}
 
 -- ---- entries
 
@@ -68,12 +68,6 @@ MayMake b x (Prepared q) = RequestIsMade b x q × IsShared q
 MayMake b x (Decided t c) = DecisionIsMade b x t
 MayMake b x (Finished t c) = DecisionIsLearnt b x t
 MayMake b x (Upgraded q) = RequestIsMade b x q × IsAlone b q × (is_upgrade q ≡ true)
-
--- sessions are told of a transaction that commits, of which this request is open
-abbrev pub TellsDecided : Kept → Kept → ℕ → ℕ → Bool → Option Request → Type 0
-TellsDecided before after number place false o = after ≡ before
-TellsDecided before after number place true None = after ≡ before
-TellsDecided before after number place true (Some q) = CommitTold before after q number place
 
 -- What sessions are told of an entry at a place, where h is held before it. Its client knows what it acknowledges.
 abbrev pub Tells : Held → Kept → ℕ → Entry → Kept → Type 0
@@ -155,12 +149,6 @@ pub record TakesNothing (x y : Repository) : Type 0 where
   pub memory : y.memory ≡ record x.memory { sessions = taken x.memory.sessions session }
 
 -- ---- faults
-
--- What a restart takes of the memory is there still: the transactions that came count as such, and sessions that begin
--- later have higher numbers.
-pub record Outlasts (before after : Memory) : Type 0 where
-  pub came : (t : Ts) → has before.requested t ≡ true → has after.requested t ≡ true
-  pub last : after.sessions.last ≡ before.sessions.last
 
 -- it goes down, and nothing has come to its trace
 pub record GoesDown (x y : Repository) : Type 0 where

@@ -6,29 +6,15 @@ use Rattle.held_state.specs.declared.held.Held.{Held}
 use Rattle.live_sessions.specs.Sessions.{ended, no_sessions}
 use Rattle.local_history.specs.History.{Base}
 use Rattle.repository_laws.specs.Coming.{BeginsLife}
-use Rattle.repository_laws.specs.Running.{CanBegin, EarlierGo, ObjectsMove, Repository, came_with}
+use Rattle.repository_laws.specs.Running.{CanBegin, EarlierGo, ObjectsMove, Repository, held_with, recorded_with, requested_with}
 use Rattle.repository_runs.specs.Happening.{EntryIsMade, GoesDown, MarkIsMade, MovesObjects, TakesNothing, WasMaking}
 use Rattle.repository_runs.specs.Standing.{Down, Phase, Torn, Up}
 use Rattle.session_outbox.specs.declared.mark.Mark.{Mark}
 use Rattle.std.specs.Prelude.{List, None, Option, Some, [], true, ◌+◌, ◌∷◌, ◌≡◌, ◌⊎◌}
-use Rattle.thor_value.specs.FiniteMap.{Set, has}
-use Rattle.thor_value.specs.Names.{ts_cmp}
+use Rattle.thor_value.specs.FiniteMap.{has}
 use Rattle.thor_value.specs.declared.names.Ts.{Ts}
-use Rattle.trace_record.specs.Recorded.{Recorded, nothing, with_entry}
+use Rattle.trace_record.specs.Recorded.{nothing, with_entry}
 use Rattle.two_phase.specs.Contents.{Contents}
-
--- with the pending entry, where it is taken
-abbrev pub held_with : Held → Option Entry → Held
-held_with h None = h
-held_with h (Some e) = entered h e
-
-abbrev pub recorded_with : Recorded → Option Entry → Recorded
-recorded_with r None = r
-recorded_with r (Some e) = with_entry r e
-
-abbrev pub requested_with : Set ts_cmp → Option Entry → Set ts_cmp
-requested_with m None = m
-requested_with m (Some e) = came_with m e
 
 -- what a restart may take beside what is held: the pending entry, or nothing. One that is torn takes nothing up
 abbrev pub MayTake : Phase → Option Entry → Type 0

@@ -1,3 +1,4 @@
+pub mod Lowered
 pub mod Opened
 pub mod Openings
 pub mod Reaching

@@ -13,10 +13,15 @@ use Rattle.stable_store.specs.Taking.{AgreesWhere}
 use Rattle.state_log.specs.Holds.{Holds}
 use Rattle.std.proofs.Common.{Bool, List, arith, length, refl, subst, sym, true, ◌∙◌, ◌≡◌, ℕ}
 
+-- the log stands, where the disk of pages was read
+pub stands_where : (old new : Disks) (log : Place) (s : State) → Holds old log s → OnDisk old new 2 → new.content 2 ≡ old.content 2 → NoNewImage old new 2 → Holds new log s
+stands_where old new log s holds alone content crash =
+    holds_beside old new log s holds alone (λ bytes told image left. holds.settled 2 (omega arith) bytes (sym content ∙ told) image (crash image left))
+
 pub opened_where : (old new : Disks) (log : Place) (held : Held) (sides : List (ℕ × ℕ)) (answer : Bool) → (s : State) × Holds old log s → Keeps held → AgreesWhere held.objects.pages → OnDisk old new 2 → new.content 2 ≡ old.content 2 → NoNewImage old new 2 → sides ≡ held.objects.pages.sides → WhereTold old 2 (λ disk. answer ≡ are_within (length disk) sides) → answer ≡ true → IsOpen new log held
 opened_where old new log held sides answer found keeps agrees alone content crash same answers is = record {
   state = found.0;
-  holds = holds_beside old new log found.0 found.1 alone (λ bytes told image left. found.1.settled 2 (omega arith) bytes (sym content ∙ told) image (crash image left));
+  holds = stands_where old new log found.0 found.1 alone content crash;
   pages = λ bytes told.
       let within : are_within (length bytes) sides ≡ true = sym (answers bytes (sym content ∙ told)) ∙ is in
       agrees bytes (subst (λ (ps : List (ℕ × ℕ)). ReachesSides ps bytes) same (reached sides bytes (length bytes) refl within));

@@ -65,6 +65,20 @@ pending_in (Torn entry) = Some entry
 abbrev pub pending : {P : Type 0} → Stable P → Option Entry
 pending store = pending_in store.phase
 
+abbrev pub is_torn_in : Phase → Bool
+is_torn_in (Up log) = false
+is_torn_in (Down pending) = false
+is_torn_in (Torn entry) = true
+
+-- whether what is held is no state of its log, so that it doesn't come up again
+abbrev pub is_torn : {P : Type 0} → Stable P → Bool
+is_torn store = is_torn_in store.phase
+
+-- it isn't torn, and this entry is pending
+pub record RestsWith {P : Type 0} (entry : Option Entry) (store : Stable P) : Type 0 where
+  pub pending : pending store ≡ entry
+  pub whole : is_torn store ≡ false
+
 abbrev pub lowered : Phase → Phase
 lowered (Up log) = Down None
 lowered (Down pending) = Down pending

@@ -1,3 +1,4 @@
+pub mod Agreeing
 pub mod Flushes
 pub mod Kept
 pub mod Reach

@@ -1,10 +1,14 @@
 //! Whether what disks stand for agrees with what is in memory.
 
-ghost use Rattle.std.specs.Prelude.{◌≡◌};
-ghost use Rattle.stable_store.specs.declared.agreement.Agreement.TheVariants.{AsHeld, WithPending};
+ghost use Rattle.std.specs.Option.{IfSome};
+ghost use Rattle.std.specs.Prelude.{◌≡◌, List, length, ℕ};
+ghost use Rattle.held_state.specs.Entering.{entered};
+ghost use Rattle.stable_store.specs.Agreeing.{numbers_of};
+ghost use Rattle.stable_store.specs.declared.agreement.Agreement.TheVariants.{AsHeld, Neither, WithPending};
+ghost use Rattle.state_log.specs.Recovered.{texts_after, threshold_after};
 
 use commit_log::{Entry, Kind, Request};
-use held_state::HeldState;
+use held_state::{HeldState, later_of};
 use thor_value::Ts;
 
 /// With what a recovered state agrees.
@@ -31,17 +35,29 @@ struct Numbers {
 
 /// With what a recovered state agrees: by its numbers, of which the count of entries tells what is in memory
 /// from that with one entry more.
-pub(crate) fn compare(held: &HeldState, pending: Option<&Entry>, recovered: &HeldState) -> Agreement
-    ensures held { result ≡ AsHeld → recovered.now.repo ≡ held.now.repo }
-    ensures pending { result ≡ WithPending → recovered.now.repo ≡ held.now.repo }
+pub(crate) fn compare(held: &HeldState, pending: &Option<Entry>, recovered: &HeldState) -> Agreement
+    ensures held { result ≡ AsHeld → numbers_of recovered.now ≡ numbers_of held.now }
+    ensures pending { result ≡ WithPending → IfSome pending.now (λ e. numbers_of recovered.now ≡ numbers_of (entered held.now e)) }
+    ensures neither { result ≡ Neither → numbers_of recovered.now ≡ numbers_of held.now → ⊥ }
 {
     let found = numbers_of(recovered);
     if found == numbers_of(held) {
         return Agreement::AsHeld;
     }
     match pending {
-        Some(entry) => {
-            if found == numbers_behind(held, entry) {
+        Some(entry) => compare_behind(found, held, entry),
+        None => Agreement::Neither,
+    }
+}
+
+// Whether numbers are those behind an entry.
+fn compare_behind(found: Numbers, held: &HeldState, entry: &Entry) -> Agreement
+    ensures pending { result ≡ WithPending → found ≡ numbers_of (entered held.now entry.now) }
+    ensures held { result ≡ AsHeld → ⊥ }
+{
+    match numbers_behind(held, entry) {
+        Some(behind) => {
+            if found == behind {
                 Agreement::WithPending
             } else {
                 Agreement::Neither
@@ -52,7 +68,7 @@ pub(crate) fn compare(held: &HeldState, pending: Option<&Entry>, recovered: &Hel
 }
 
 fn numbers_of(held: &HeldState) -> Numbers
-    ensures { result.repo ≡ held.now.repo }
+    ensures { result ≡ numbers_of held.now }
 {
     Numbers {
         repo: held.repo(),
@@ -64,44 +80,43 @@ fn numbers_of(held: &HeldState) -> Numbers
     }
 }
 
-// The numbers of a state behind an entry.
-fn numbers_behind(held: &HeldState, entry: &Entry) -> Numbers
-    ensures { result.repo ≡ held.now.repo }
+// The numbers of a state behind an entry; `None` where one of them would pass its type, which no run comes to.
+fn numbers_behind(held: &HeldState, entry: &Entry) -> Option<Numbers>
+    ensures { IfSome result (λ numbers. numbers ≡ numbers_of (entered held.now entry.now)) }
 {
     let numbers = numbers_of(held);
-    let numbers = match entry {
-        Entry::Life { life } => Numbers {
+    let count = numbers.count.checked_add(1)?;
+    let numbers = Numbers { count, ..numbers };
+    match entry {
+        Entry::Life { life } => Some(Numbers {
             life: *life,
             ..numbers
-        },
-        Entry::Prepared { .. } => numbers,
+        }),
+        Entry::Prepared { .. } => Some(numbers),
         Entry::One { request } | Entry::Upgraded { request } => committed(numbers, request),
         Entry::Decided { tx, commit } | Entry::Finished { tx, commit } => {
             match held.table().open_request(*tx) {
                 Some(request) if *commit => committed(numbers, request),
-                _ => numbers,
+                _ => Some(numbers),
             }
         }
-    };
-    Numbers {
-        count: numbers.count.saturating_add(1),
-        ..numbers
     }
 }
 
 // The numbers behind the commit of a request.
-fn committed(numbers: Numbers, request: &Request) -> Numbers
-    ensures { result.repo ≡ numbers.repo }
+fn committed(numbers: Numbers, request: &Request) -> Option<Numbers>
+    ensures same { IfSome result (λ behind. behind ≡ record numbers { threshold = threshold_after numbers.threshold request.now.kind request.now.tx; epoch = behind.epoch }) }
+    ensures epoch { IfSome result (λ behind. (texts : List (List ℕ)) → numbers.epoch ≡ length texts → behind.epoch ≡ length (texts_after texts request.now.kind)) }
 {
     match &request.kind {
-        Kind::App | Kind::Transform => Numbers {
-            threshold: numbers.threshold.max(request.tx),
+        Kind::App | Kind::Transform => Some(Numbers {
+            threshold: later_of(numbers.threshold, request.tx),
             ..numbers
-        },
-        Kind::Upgrade { .. } => Numbers {
+        }),
+        Kind::Upgrade { .. } => Some(Numbers {
             threshold: request.tx,
-            epoch: numbers.epoch.saturating_add(1),
+            epoch: numbers.epoch.checked_add(1)?,
             ..numbers
-        },
+        }),
     }
 }

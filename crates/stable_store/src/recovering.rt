@@ -2,8 +2,11 @@
 
 ghost use Rattle.std.specs.Prelude.{◌≡◌, IfErr, IfOk, OnErr, OnOk, false, true};
 ghost use Rattle.held_state.specs.Keeps.{Keeps};
+ghost use Rattle.held_state.specs.Said.{said};
+ghost use Rattle.stable_store.specs.Agreeing.{IsTaken};
 ghost use Rattle.log_bytes.specs.declared.state.State.{State};
-ghost use Rattle.stable_store.specs.Kept.{IsKept, IsOpen, IsResting, disks_of, held_of, is_fault, is_up, pending};
+ghost use Rattle.stable_store.specs.Kept.{IsKept, IsOpen, IsResting, disks_of, held_of, is_fault, is_torn, is_up, lowered, pending};
+ghost use Rattle.stable_store.specs.declared.stable.Phase.TheVariants.{Down as IsDown};
 ghost use Rattle.stable_store.specs.Taking.{AgreesWhere, CanTake, TakesFrom};
 ghost use Rattle.state_log.specs.Holds.{Holds};
 
@@ -74,8 +77,12 @@ impl<P: Parts> Stable<P> {
         ensures fault { IfErr result (λ r. is_fault r ≡ true) }
         ensures taken { IfOk result CanTake }
         ensures held { OnOk result (held_of self.new ≡ record (held_of self.old) { objects = (held_of self.new).objects }) }
+        ensures limit { (held_of self.new).objects.mob.limit ≡ (held_of self.old).objects.mob.limit }
         ensures pending { IfOk result (TakesFrom (pending self.old)) }
+        ensures agrees { IfOk result (λ taken. IsTaken (disks_of P.disks self.new) (held_of self.old) taken (held_of self.new).objects) }
         ensures rests { OnErr result (held_of self.new ≡ held_of self.old) }
+        ensures stays { OnErr result (self.new.phase ≡ lowered self.old.phase) }
+        ensures whole { OnOk result (is_torn self.old ≡ false) }
     {
         self.parts.disarm();
         self.take_down();
@@ -99,8 +106,10 @@ impl<P: Parts> Stable<P> {
     fn recover(&mut self, alloc: Global, pick: u64) -> Result<Recovered, Refusal>
         ensures phase { self.new.phase ≡ self.old.phase }
         ensures held { held_of self.new ≡ held_of self.old }
+        ensures limit { IfOk result (λ r. r.state.objects.mob.limit ≡ (held_of self.old).objects.mob.limit) }
         ensures fault { IfErr result (λ r. is_fault r ≡ true) }
         ensures opened { IfOk result (λ r. IsOpen (disks_of P.disks self.new) r.log r.state) }
+        ensures stands { IfOk result (λ r. Holds (disks_of P.disks self.new) r.log (said r.state)) }
     {
         let repo = self.repo();
         let mob_limit = self.held.objects().mob().limit();
@@ -117,12 +126,15 @@ impl<P: Parts> Stable<P> {
     /// What was recovered, where the disk of pages reaches the installed sides.
     fn reached(&mut self, recovered: Recovered) -> Result<Recovered, Refusal>
         requires holds { (s : State) × Holds (disks_of P.disks self.old) recovered.log s }
+        requires stands { Holds (disks_of P.disks self.old) recovered.log (said recovered.state) }
         requires keeps { Keeps recovered.state }
         requires pages { AgreesWhere recovered.state.objects.pages }
         ensures phase { self.new.phase ≡ self.old.phase }
         ensures held { held_of self.new ≡ held_of self.old }
+        ensures limit { IfOk result (λ r. r.state.objects.mob.limit ≡ recovered.state.objects.mob.limit) }
         ensures fault { IfErr result (λ r. is_fault r ≡ true) }
         ensures opened { IfOk result (λ r. IsOpen (disks_of P.disks self.new) r.log r.state) }
+        ensures stands { IfOk result (λ r. Holds (disks_of P.disks self.new) r.log (said r.state)) }
     {
         let repo = self.repo();
         match reaches(&mut self.parts, recovered.state.objects().pages().sides()) {
@@ -141,18 +153,23 @@ impl<P: Parts> Stable<P> {
     /// Takes the log and the objects over. The rest is in memory, up to the pending entry.
     fn take_over(&mut self, recovered: Recovered, pending: Option<Entry>) -> Result<Taken, Refusal>
         requires opened { IsOpen (disks_of P.disks self.old) recovered.log recovered.state }
+        requires stands { Holds (disks_of P.disks self.old) recovered.log (said recovered.state) }
         requires rests { IsResting (held_of self.old) pending }
+        requires limit { recovered.state.objects.mob.limit ≡ (held_of self.old).objects.mob.limit }
         ensures kept { IsKept P.disks self.new }
         ensures up { OnOk result (is_up self.new ≡ true) }
         ensures down { OnErr result (is_up self.new ≡ false) }
         ensures fault { IfErr result (λ r. is_fault r ≡ true) }
         ensures taken { IfOk result CanTake }
         ensures held { OnOk result (held_of self.new ≡ record (held_of self.old) { objects = (held_of self.new).objects }) }
+        ensures limit { (held_of self.new).objects.mob.limit ≡ (held_of self.old).objects.mob.limit }
         ensures pending { IfOk result (TakesFrom pending) }
+        ensures agrees { IfOk result (λ taken. IsTaken (disks_of P.disks self.new) (held_of self.old) taken (held_of self.new).objects) }
         ensures rests { OnErr result (held_of self.new ≡ held_of self.old) }
+        ensures stays { OnErr result (self.new.phase ≡ IsDown pending) }
     {
         let Recovered { state, log, .. } = recovered;
-        let agrees = compare(&self.held, pending.as_ref(), &state);
+        let agrees = compare(&self.held, &pending, &state);
         match (agrees, pending) {
             (Agreement::AsHeld, pending) => {
                 drop(pending);
@@ -183,6 +200,8 @@ impl<P: Parts> Stable<P> {
         ensures kept { IsKept P.disks self.new }
         ensures up { is_up self.new ≡ true }
         ensures held { held_of self.new ≡ record (held_of self.old) { objects = (held_of self.new).objects } }
+        ensures objects { (held_of self.new).objects ≡ state.objects }
+        ensures parts { self.new.parts ≡ self.old.parts }
     {
         self.held.take_objects(state);
         self.set_phase(Phase::Up { log });

@@ -7,7 +7,7 @@ ghost use Rattle.held_state.specs.Entering.{can_enter, entered};
 ghost use Rattle.held_state.specs.Keeps.{Keeps};
 ghost use Rattle.log_bytes.specs.Grammar.{BodyFits};
 ghost use Rattle.log_bytes.specs.declared.body.Body.TheVariants.{Entry as AnEntry};
-ghost use Rattle.stable_store.specs.Kept.{GoesOnUp, IsKept, IsOpen, StandsAfter, disks_of, down, down_with, held_of, is_fault, is_up, torn};
+ghost use Rattle.stable_store.specs.Kept.{GoesOnUp, IsKept, IsOpen, RestsWith, StandsAfter, disks_of, down, down_with, held_of, is_fault, is_up, lowered, torn};
 ghost use Rattle.stable_store.specs.Flushes.{IsLastFlush};
 ghost use Rattle.stable_store.specs.declared.stable.Phase.TheVariants.{Torn as IsTorn, Up as IsUp};
 ghost use Rattle.thor_value.specs.FiniteMap.{get};
@@ -111,6 +111,7 @@ impl<P: Parts> Stable<P> {
     pub fn take_down(&mut self)
         requires kept { IsKept P.disks self.old }
         ensures new { self.new ≡ down self.old }
+        ensures rests { is_up self.old ≡ true → RestsWith None self.new }
         ensures kept { IsKept P.disks self.new }
     {
         if let Phase::Up { .. } = &self.phase {
@@ -152,6 +153,7 @@ impl<P: Parts> Stable<P> {
         ensures kept { IsKept P.disks self.new }
         ensures held { held_of self.new ≡ held_of self.old }
         ensures up { is_up self.new ≡ cond (nat_eq calls 0) false (is_up self.old) }
+        ensures phase { self.new.phase ≡ cond (nat_eq calls 0) (lowered self.old.phase) self.old.phase }
     {
         if calls == 0 {
             self.parts.disarm();
@@ -211,6 +213,7 @@ impl<P: Parts> Stable<P> {
         ensures kept { IsKept P.disks self.new }
         ensures ok { IfOk result (λ written. (written ≡ entry) × GoesOnUp self.old self.new) }
         ensures err { IfErr result (StandsAfter self.old self.new (Some entry)) }
+        ensures rests { is_up self.old ≡ true → OnErr result (RestsWith (Some entry) self.new) }
         ensures held { held_of self.new ≡ held_of self.old }
     {
         let Some(mut log) = self.take_log() else {
@@ -279,9 +282,12 @@ impl<P: Parts> Stable<P> {
     pub fn page_image(&mut self, page: u32) -> Result<Page, Refusal>
         requires kept { IsKept P.disks self.old }
         ensures kept { IsKept P.disks self.new }
+        ensures number { IfOk result (λ image. image.number ≡ page) }
         ensures ok { OnOk result (GoesOnUp self.old self.new) }
         ensures err { IfErr result (StandsAfter self.old self.new None) }
+        ensures rests { is_up self.old ≡ true → OnErr result (RestsWith None self.new) }
         ensures held { held_of self.new ≡ record (held_of self.old) { objects = (held_of self.new).objects } }
+        ensures limit { (held_of self.new).objects.mob.limit ≡ (held_of self.old).objects.mob.limit }
     {
         let Some(log) = self.take_log() else {
             return Err(Refusal::Down { repo: self.repo() });
@@ -304,7 +310,9 @@ impl<P: Parts> Stable<P> {
         ensures kept { IsKept P.disks self.new }
         ensures ok { OnOk result (GoesOnUp self.old self.new) }
         ensures err { IfErr result (StandsAfter self.old self.new None) }
+        ensures rests { is_up self.old ≡ true → OnErr result (RestsWith None self.new) }
         ensures held { held_of self.new ≡ record (held_of self.old) { objects = (held_of self.new).objects } }
+        ensures limit { (held_of self.new).objects.mob.limit ≡ (held_of self.old).objects.mob.limit }
     {
         let Some(mut log) = self.take_log() else {
             return Err(Refusal::Down { repo: self.repo() });
@@ -327,6 +335,7 @@ impl<P: Parts> Stable<P> {
         ensures opened { OnOk result (IsOpen (disks_of P.disks self.new) log.new (held_of self.new)) }
         ensures keeps { Keeps (held_of self.new) }
         ensures held { held_of self.new ≡ record (held_of self.old) { objects = (held_of self.new).objects } }
+        ensures limit { (held_of self.new).objects.mob.limit ≡ (held_of self.old).objects.mob.limit }
         ensures phase { self.new.phase ≡ self.old.phase }
         ensures fault { IfErr result (λ r. is_fault r ≡ true) }
     {
@@ -343,6 +352,7 @@ impl<P: Parts> Stable<P> {
         ensures opened { OnOk result (IsOpen (disks_of P.disks self.new) log.new (held_of self.new)) }
         ensures keeps { Keeps (held_of self.new) }
         ensures held { held_of self.new ≡ record (held_of self.old) { objects = (held_of self.new).objects } }
+        ensures limit { (held_of self.new).objects.mob.limit ≡ (held_of self.old).objects.mob.limit }
         ensures phase { self.new.phase ≡ self.old.phase }
         ensures fault { IfErr result (λ r. is_fault r ≡ true) }
     {
@@ -366,6 +376,7 @@ impl<P: Parts> Stable<P> {
         ensures kept { IsKept P.disks self.new }
         ensures ok { OnOk result (GoesOnUp self.old self.new) }
         ensures err { IfErr result (StandsAfter self.old self.new None) }
+        ensures rests { is_up self.old ≡ true → OnErr result (RestsWith None self.new) }
         ensures held { held_of self.new ≡ held_of self.old }
     {
         let Some(mut log) = self.take_log() else {

@@ -18,7 +18,11 @@ pub fn with_upgrades(
     Ok(schemas)
 }
 
-fn take_all(alloc: Global, schemas: &mut Schemas, clients: &[Sequence<What>]) -> Result<(), NoMemory> {
+fn take_all(
+    alloc: Global,
+    schemas: &mut Schemas,
+    clients: &[Sequence<What>],
+) -> Result<(), NoMemory> {
     for items in clients {
         for item in items.as_slice() {
             take_item(alloc, schemas, item)?;

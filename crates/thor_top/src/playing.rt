@@ -14,7 +14,6 @@ use crate::unopened::unsettled;
 use checked_report::{Form, Reply, report};
 use class_defs::{Plain, Schemas, Setup};
 use cluster_core::{Cluster, Finished, Plan as Run, Ran, Start};
-use store_reading::{ClusterFault, Found};
 use command_answer::{Answered, unplayed};
 use command_words::Plan;
 use disk_trait::Parts;
@@ -24,6 +23,7 @@ use script_parse::Script;
 use std::alloc::Global;
 use std::sync::Wait;
 use std::thread::Threads;
+use store_reading::{ClusterFault, Found};
 use thor_value::{NoMemory, TryCopy};
 use trace_record::Traces;
 

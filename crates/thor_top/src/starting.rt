@@ -5,10 +5,10 @@ ghost use Rattle.script_parse.specs.Script.{HasFew};
 ghost use Rattle.command_answer.specs.Opening.{IsBase, first_schemas};
 
 use class_defs::{Declarations, Schemas, UpgradedSchemas};
-use store_reading::Found;
 use disk_trait::Parts;
 use script_check::schema_of;
 use std::alloc::Global;
+use store_reading::Found;
 use thor_value::{NoMemory, TryCopy};
 
 /// The schemas of the store that a setup opens.

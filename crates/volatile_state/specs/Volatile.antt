@@ -5,7 +5,7 @@ use Rattle.commit_log.specs.declared.request.Kind.{Kind}
 use Rattle.commit_log.specs.declared.request.Request.{Request}
 use Rattle.live_sessions.specs.Sessions.{Kept, acknowledged, ended, is_live}
 use Rattle.std.specs.Option.{option_map, option_or}
-use Rattle.std.specs.Prelude.{Bool, Err, None, Ok, Option, Result, Some, cond, false, nat_eq, true, ℕ}
+use Rattle.std.specs.Prelude.{Bool, Err, None, Ok, Option, Result, Some, cond, false, nat_eq, true, ℕ, ◌≡◌}
 use Rattle.thor_value.specs.FiniteMap.{Set, add, has}
 use Rattle.thor_value.specs.Names.{ts_cmp}
 use Rattle.thor_value.specs.declared.names.Oref.{Oref}
@@ -88,3 +88,11 @@ stands_at M t = record M { queue = cleared t; drawn = t.time }
 -- a life begins above a timestamp
 abbrev pub begun : Memory → Ts → Memory
 begun M t = record (stands_at M t) { sessions = ended M.sessions }
+
+-- ---- what faults leave
+
+-- What a restart takes of the memory is there still: the transactions that came count as such, and sessions that begin
+-- later have higher numbers.
+pub record Outlasts (before after : Memory) : Type 0 where
+  pub came : (t : Ts) → has before.requested t ≡ true → has after.requested t ≡ true
+  pub last : after.sessions.last ≡ before.sessions.last

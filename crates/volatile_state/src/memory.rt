@@ -1,6 +1,6 @@
 ghost use Rattle.std.specs.Map.{keys_of};
-ghost use Rattle.std.specs.Prelude.{◌≡◌, ◌+◌, IfOk, None, OnErr, OnOk, false};
-ghost use Rattle.live_sessions.specs.Sessions.{acknowledged, begun as session_begun, sent, taken};
+ghost use Rattle.std.specs.Prelude.{◌≡◌, ◌+◌, ◌-◌, IfOk, None, OnErr, OnOk, false};
+ghost use Rattle.live_sessions.specs.Sessions.{acknowledged, begun as session_begun, no_sessions, sent, taken};
 ghost use Rattle.message_outbox.specs.Messages.{first};
 ghost use Rattle.message_outbox.specs.Outbox.{waiting};
 ghost use Rattle.message_outbox.specs.declared.message.Message.TheVariants.{Grant, Page as APage};
@@ -9,7 +9,7 @@ ghost use Rattle.validation_queue.specs.Clashes.{clash};
 ghost use Rattle.validation_queue.specs.Names.{IsInOrder};
 ghost use Rattle.thor_value.specs.FiniteMap.{add, empty, has};
 ghost use Rattle.validation_queue.specs.Contents.{cleared};
-ghost use Rattle.volatile_state.specs.Volatile.{begun, entered, is_upgrade_kind, knows, stands_at, transaction_of};
+ghost use Rattle.volatile_state.specs.Volatile.{Outlasts, begun, entered, is_upgrade_kind, knows, stands_at, transaction_of};
 
 use commit_log::{Kind, Request};
 use live_sessions::Sessions;
@@ -47,6 +47,7 @@ impl Memory {
         ensures queue { IfOk result (λ memory. memory.queue ≡ cleared threshold) }
         ensures requested { IfOk result (λ memory. memory.requested ≡ empty) }
         ensures drawn { IfOk result (λ memory. memory.drawn ≡ threshold.time) }
+        ensures sessions { IfOk result (λ memory. memory.sessions ≡ no_sessions) }
     {
         Ok(Memory {
             queue: Queue::new(alloc, threshold)?,
@@ -71,15 +72,27 @@ impl Memory {
     }
 
     /// Begins a session of a client, and ends its older one. The answer is its number.
+    #[tactic(auto, using(crate::proofs::Lasting::stayed))]
     pub fn begin_session(&mut self, client: u8) -> Result<u32, NoMemory>
         ensures number { IfOk result (λ session. session ≡ self.old.sessions.last + 1) }
         ensures begun { IfOk result (λ session. self.new ≡ record self.old { sessions = session_begun self.old.sessions client session }) }
+        ensures err { OnErr result (Outlasts self.old self.new) }
     {
         self.sessions.begin(client)
     }
 
+    /// The number of the session that began last is given again: nobody was told of it. All sessions are to end
+    /// then.
+    pub fn give_back_session(&mut self)
+        ensures requested { self.new.requested ≡ self.old.requested }
+        ensures last { self.new.sessions.last ≡ self.old.sessions.last - 1 }
+    {
+        self.sessions.give_back();
+    }
+
     /// Sends a page that a session's client asked for; what was written below `upto` is known to it. After
     /// `NoMemory` the session may have the page cached and nothing is sent.
+    #[tactic(auto, using(crate::proofs::Lasting::stayed))]
     pub fn send_page(
         &mut self,
         session: u32,
@@ -87,7 +100,8 @@ impl Memory {
         upto: u64,
         place: u64,
     ) -> Result<(), NoMemory>
-        ensures { OnOk result (self.new ≡ record self.old { sessions = acknowledged (sent self.old.sessions session page.now.number (APage page.now.number (page_bytes page.now) place)) session upto }) }
+        ensures ok { OnOk result (self.new ≡ record self.old { sessions = acknowledged (sent self.old.sessions session page.now.number (APage page.now.number (page_bytes page.now) place)) session upto }) }
+        ensures lasts { Outlasts self.old self.new }
     {
         self.sessions.send_page(session, page, place)?;
         self.sessions.acknowledge(session, upto);
@@ -96,8 +110,10 @@ impl Memory {
 
     /// Sends a page of names for new objects. After `NoMemory` the session may have the page cached and nothing
     /// is sent.
+    #[tactic(auto, using(crate::proofs::Lasting::stayed))]
     pub fn send_grant(&mut self, session: u32, page: u32, place: u64) -> Result<(), NoMemory>
-        ensures { OnOk result (self.new ≡ record self.old { sessions = sent self.old.sessions session page (Grant page place) }) }
+        ensures ok { OnOk result (self.new ≡ record self.old { sessions = sent self.old.sessions session page (Grant page place) }) }
+        ensures lasts { Outlasts self.old self.new }
     {
         self.sessions.send_grant(session, page, place)
     }
@@ -137,9 +153,10 @@ impl Memory {
         requires in_order { IsInOrder request.now.ros (keys_of request.now.writes) }
         requires accepted { clash self.old.queue (transaction_of request.now) ≡ None }
         requires new { has self.old.queue.members request.now.tx ≡ false }
-        ensures { OnOk result (self.new ≡ entered self.old request.now decided) }
+        ensures ok { OnOk result (self.new ≡ entered self.old request.now decided) }
+        ensures lasts { Outlasts self.old self.new }
     {
-        self.requested.insert(request.tx, ())?;
+        self.count(request.tx)?;
         self.queue.add(
             request.tx,
             is_upgrade(request),
@@ -154,9 +171,20 @@ impl Memory {
     /// A transaction came, as a restart learns.
     pub fn note(&mut self, tx: Ts) -> Result<(), NoMemory>
         ensures requested { OnOk result (self.new.requested ≡ add self.old.requested tx) }
+        ensures lasts { Outlasts self.old self.new }
         ensures sessions { self.new.sessions ≡ self.old.sessions }
         ensures queue { self.new.queue ≡ self.old.queue }
         ensures drawn { self.new.drawn ≡ self.old.drawn }
+    {
+        self.count(tx)
+    }
+
+    /// Counts a transaction as one that came. After `NoMemory` all is as it was.
+    #[tactic(auto, using(crate::proofs::Lasting::counted, crate::proofs::Lasting::stayed))]
+    fn count(&mut self, tx: Ts) -> Result<(), NoMemory>
+        ensures ok { OnOk result (self.new ≡ record self.old { requested = add self.old.requested tx }) }
+        ensures err { OnErr result (self.new ≡ self.old) }
+        ensures lasts { Outlasts self.old self.new }
     {
         self.requested.insert(tx, ())?;
         Ok(())

@@ -7,4 +7,4 @@ use Rattle.recovery.proofs.recovering.put_all.Given as goal
 
 -- the bodies so far stand behind what was there
 abbrev pub invariant-loop-body : goal.invariant-loop-body
-invariant-loop-body l = Keeps l.held × IsUnread l.held.objects.pages × (said l.held ≡ fold after (said l.fn.held) (take l.body-index l.bodies))
+invariant-loop-body l = Keeps l.held × IsUnread l.held.objects.pages × (l.held.objects.mob.limit ≡ l.fn.held.objects.mob.limit) × (said l.held ≡ fold after (said l.fn.held) (take l.body-index l.bodies))

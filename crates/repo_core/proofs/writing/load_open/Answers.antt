@@ -14,7 +14,7 @@ returns-in_default-clause-reopens c =
     reopens-end c.args.repo c.args.table.now c.args.memory.now c.args.repo c.requires.fits c.loop.memory c.loop.after c.loop.invariant.to none
 
 pub loop-init : goal.loop-init
-loop-init c = record { sessions = refl; to = reopens-begin c.args.repo c.args.table.now c.args.memory.now c.requires.empty.0 c.requires.empty.1 }
+loop-init c = record { sessions = refl; requested = refl; to = reopens-begin c.args.repo c.args.table.now c.args.memory.now c.requires.empty.0 c.requires.empty.1 }
 
 pub loop-preserved : goal.loop-preserved
 loop-preserved c =
@@ -22,5 +22,6 @@ loop-preserved c =
     let found : first_open (behind ts_cmp c.loop.after c.args.table.now.transactions.pairs) ≡ Some q = sym c.next_open.ensures ∙ ap option_copied c.in-Some.is in
     record {
       sessions = c.load_other.ensures.sessions ∙ c.loop.invariant.sessions;
+      requested = c.load_other.ensures.requested ∙ c.loop.invariant.requested;
       to = walked c.args.repo c.args.table.now c.args.memory.now c.loop.memory c.load_other.new.memory c.loop.after q c.requires.fits c.loop.invariant.to found c.load_other.ensures.own c.in_ok-load_other.ensures.other c.load_other.ensures.requested c.load_other.ensures.drawn;
     }

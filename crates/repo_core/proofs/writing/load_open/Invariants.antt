@@ -4,4 +4,4 @@ use Rattle.repository_laws.specs.Coming.{ReopensTo}
 
 -- the requests up to one are in the queue where they stay undecided, and no session begins or ends
 abbrev pub invariant-loop : goal.invariant-loop
-invariant-loop l = record { sessions : l.memory.sessions ≡ l.fn.memory.sessions; to : ReopensTo l.repo l.table l.fn.memory l.memory l.after }
+invariant-loop l = record { sessions : l.memory.sessions ≡ l.fn.memory.sessions; requested : l.memory.requested ≡ l.fn.memory.requested; to : ReopensTo l.repo l.table l.fn.memory l.memory l.after }

@@ -1,4 +1,9 @@
-use Rattle.std.proofs.Common.{OnOk, subst, ◌≡◌}
+use Rattle.std.proofs.Common.{OnOk, Some, subst, sym, ◌∙◌, ◌≡◌}
+use Rattle.repo_core.proofs.Alike.{tells_there}
+use Rattle.repo_core.proofs.Judged.{refused_by}
+use Rattle.repo_core.proofs.Refused.{why_refused}
+use Rattle.repo_core.proofs.Told.{on_ok}
+use Rattle.repo_core.specs.Calls.{judged}
 use Rattle.commit_log.specs.declared.entry.Entry.{Entry}
 use Rattle.repo_core.specs.Behind.{alone_entry}
 use Rattle.trace_record.specs.Recorded.{Recorded, with_entry}
@@ -10,3 +15,12 @@ returns-in_ok-make_room-in-Ok-clause-trace g c =
     let before : c.make_room.new.self.trace ≡ c.args.self.now.trace = c.make_room.ensures.made.trace in
     subst (λ (e : Entry). OnOk c.write.result (c.write.new.self.trace ≡ with_entry c.args.self.now.trace e)) entry
     (subst (λ (t : Recorded). OnOk c.write.result (c.write.new.self.trace ≡ with_entry t c.entry_of.result)) before c.write.ensures.trace)
+
+pub returns-in_ok-make_room-in-Ok-clause-tells : goal.returns-in_ok-make_room-in-Ok-clause-tells
+returns-in_ok-make_room-in-Ok-clause-tells g c =
+    on_ok c.write.result _ _ (tells_there c.args.self.now c.make_room.new.self c.entry_of.result (alone_entry c.args.request.kind c.args.request) c.write.new.self.memory.sessions c.make_room.ensures.made c.entry_of.ensures) c.write.ensures.tells
+
+pub returns-in-Err-clause-why : goal.returns-in-Err-clause-why
+returns-in-Err-clause-why g c =
+    why_refused (λ r. judged c.args.self.now.held c.args.self.now.memory c.args.session c.args.request ≡ Some r) c.args.self.now.is_up c.in-Err.refusal c.refuse.result c.in_ok-check_up.ensures.up c.refuse.ensures.same
+    (refused_by (judged c.args.self.now.held c.args.self.now.memory c.args.session c.args.request) c.in-Err.refusal (sym c.judge.ensures.answer ∙ c.in-Err.is))

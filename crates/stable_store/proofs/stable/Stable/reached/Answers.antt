@@ -1,7 +1,8 @@
 use Rattle.disk_trait.specs.Fused.{fused_disks}
 use Rattle.mob_flusher.specs.Map.{Kept}
 use Rattle.page_store.specs.Store.{Store}
-use Rattle.stable_store.proofs.Openings.{opened_where}
+use Rattle.held_state.specs.Said.{said}
+use Rattle.stable_store.proofs.Openings.{opened_where, stands_where}
 use Rattle.stable_store.specs.Kept.{disks_of}
 use Rattle.std.proofs.Common.{ap, ◌∙◌}
 use Rattle.stable_store.proofs.stable.Stable.reached.Goals as goal
@@ -10,3 +11,7 @@ pub returns-in-Ok-true-clause-opened : goal.returns-in-Ok-true-clause-opened
 returns-in-Ok-true-clause-opened g c =
     let same = c.sides.ensures ∙ ap (λ (p : Store). p.sides) c.pages.ensures ∙ ap (λ (k : Kept). k.pages.sides) c.objects.ensures in
     opened_where (disks_of g.P.Parts.disks c.args.self.now) (fused_disks g.P.Parts.disks c.reaches.new.parts) c.args.recovered.log c.args.recovered.state c.sides.result.now c.in-Ok-true.field-0 c.requires.holds c.requires.keeps c.requires.pages c.reaches.ensures.alone c.reaches.ensures.content c.reaches.ensures.crash same c.in-Ok-true.ensures.answer c.in-Ok-true.field-0-test
+
+pub returns-in-Ok-true-clause-stands : goal.returns-in-Ok-true-clause-stands
+returns-in-Ok-true-clause-stands g c =
+    stands_where (disks_of g.P.Parts.disks c.args.self.now) (fused_disks g.P.Parts.disks c.reaches.new.parts) c.args.recovered.log (said c.args.recovered.state) c.requires.stands c.reaches.ensures.alone c.reaches.ensures.content c.reaches.ensures.crash

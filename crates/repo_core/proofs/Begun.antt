@@ -1,0 +1,32 @@
+-- A repository behind the Life of its opening.
+use Rattle.commit_log.specs.declared.entry.Entry.TheVariants.{Life}
+use Rattle.held_state.specs.Entering.{entered}
+use Rattle.held_state.specs.declared.held.Held.{Held}
+use Rattle.live_sessions.specs.Sessions.{Kept, ended, no_sessions}
+use Rattle.repo_core.specs.Restarting.{Begins, life_behind, memory_at}
+use Rattle.repo_core.specs.Shown.{Shown}
+use Rattle.repository_laws.specs.Coming.{BeginsLife}
+use Rattle.std.proofs.Common.{ap, subst, ℕ, ◌+◌, ◌∙◌, ◌≡◌}
+use Rattle.thor_value.specs.FiniteMap.{Set, empty}
+use Rattle.thor_value.specs.Names.{ts_cmp}
+use Rattle.thor_value.specs.declared.names.Ts.{Ts}
+use Rattle.validation_queue.specs.Contents.{Contents, cleared}
+use Rattle.volatile_state.specs.Volatile.{Memory}
+
+abbrev memory_of : Contents → Kept → Set ts_cmp → ℕ → Memory
+memory_of queue sessions requested drawn = record { queue = queue; sessions = sessions; requested = requested; drawn = drawn }
+
+pub memory_is : (M : Memory) (t : Ts) → M.queue ≡ cleared t → M.sessions ≡ no_sessions → M.requested ≡ empty → M.drawn ≡ t.time → M ≡ memory_at t
+memory_is M t q s r d =
+    ap (λ (a : Contents). memory_of a M.sessions M.requested M.drawn) q
+    ∙ (ap (λ (a : Kept). memory_of (cleared t) a M.requested M.drawn) s
+    ∙ (ap (λ (a : Set ts_cmp). memory_of (cleared t) no_sessions a M.drawn) r
+    ∙ ap (λ (a : ℕ). memory_of (cleared t) no_sessions empty a) d))
+
+pub begins_so : (h : Held) (x y : Shown) → x.opened_in ≡ h.life + 1 → x.held ≡ h → x.memory ≡ memory_at h.threshold → y.opened_in ≡ x.opened_in → y.held ≡ entered x.held (life_behind x) → BeginsLife x.held x.memory y.memory → y.memory.sessions ≡ ended x.memory.sessions → Begins h y
+begins_so h x y opened held memory opens enters begins ends = record {
+  opened = opens ∙ opened;
+  held = enters ∙ ap (λ (g : Held). entered g (Life (g.life + 1))) held;
+  memory = subst (λ (m : Memory). BeginsLife h m y.memory) memory (subst (λ (g : Held). BeginsLife g x.memory y.memory) held begins);
+  sessions = ends ∙ ap (λ (m : Memory). ended m.sessions) memory;
+}

@@ -1,0 +1,15 @@
+use Rattle.std.proofs.Common.{refl, ◌∙◌}
+use Rattle.repo_core.proofs.Letting.{goes_itself, goes_on, table_on}
+use Rattle.stable_store.specs.Kept.{held_of}
+use Rattle.repo_core.proofs.restart.forget_before.Goals as goal
+
+pub loop-init : goal.loop-init
+loop-init g c = record { kept = c.requires.kept; phase = refl; held = refl; go = goes_itself c.args.life (held_of c.args.stable.now).table }
+
+pub loop-preserved : goal.loop-preserved
+loop-preserved g c = record {
+  kept = c.forget_earlier.ensures.kept;
+  phase = c.forget_earlier.ensures.phase ∙ c.loop.invariant.phase;
+  held = table_on (held_of c.args.stable.now) (held_of c.loop.stable) (held_of c.forget_earlier.new.stable) c.loop.invariant.held c.forget_earlier.ensures.held;
+  go = goes_on c.args.life (held_of c.args.stable.now).table (held_of c.loop.stable).table (held_of c.forget_earlier.new.stable).table c.loop.invariant.go c.forget_earlier.ensures.go;
+}

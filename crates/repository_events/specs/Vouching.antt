@@ -1,0 +1,40 @@
+-- What no repository tests, and who calls it vouches for.
+use Rattle.commit_log.specs.declared.request.Request.{Request}
+use Rattle.held_state.specs.declared.held.Held.{Held}
+use Rattle.local_history.specs.History.{Base}
+use Rattle.repo_core.specs.Shown.{Shown}
+use Rattle.repository_laws.specs.Agreeing.{state_of, trace_of}
+use Rattle.repository_laws.specs.Judging.{IsVouched}
+use Rattle.repository_laws.specs.Running.{CanBegin}
+use Rattle.local_history.specs.Requests.{has_created, has_written}
+use Rattle.session_outbox.specs.Calls.{was_granted}
+use Rattle.session_outbox.specs.Session.{session}
+use Rattle.std.specs.Option.{IsSomeAnd}
+use Rattle.std.specs.Prelude.{IsTrue, None, length, true, ℕ, ◌+◌, ◌<◌, ◌^◌, ◌≡◌, ◌≤◌}
+use Rattle.thor_value.specs.FiniteMap.{has}
+use Rattle.thor_value.specs.declared.names.Oref.{Oref}
+use Rattle.thor_value.specs.declared.names.Ts.{Ts}
+
+-- the next upgrade can be counted in 32 bits
+abbrev pub IsCounted : Shown → Type 0
+IsCounted x = length x.held.upgrades + 1 < 2 ^ 32
+
+-- The sender of the request q of the session s vouches for it: it is that session's and its client's, it owes nothing to the
+-- state, it knows no place that isn't there, and what it created stands on pages that were granted to its session.
+pub record IsSent (b : Base) (x : Shown) (s : ℕ) (q : Request) : Type 0 where
+  pub session : q.session ≡ s
+  pub vouched : IsVouched b x.trace x.held q
+  pub client : IsSomeAnd (session b (trace_of x.trace) s) (λ v. v.client ≡ q.who.client)
+  pub upto : q.upto ≤ length x.trace.history
+  pub granted : (n : Oref) → IsTrue (has_created q n) → IsTrue (has_written q n) → IsTrue (was_granted (trace_of x.trace) s n.page)
+  pub counted : IsCounted x
+
+-- the decision to commit a transaction was made here in this run
+abbrev pub WasKept : Base → Shown → Ts → Type 0
+WasKept b x t = has (state_of b x.trace).kept t ≡ true
+
+-- what was recovered says what the base says
+pub record IsBase (b : Base) (h : Held) : Type 0 where
+  pub silence : b.silence ≡ None
+  pub begins : CanBegin b h
+  pub limit : h.objects.mob.limit ≡ b.limit

@@ -1,0 +1,25 @@
+-- What a repository that was taken down was.
+use Rattle.commit_log.specs.declared.entry.Entry.{Entry}
+use Rattle.log_frame.specs.Log.{Place}
+use Rattle.stable_store.specs.Kept.{is_torn_in, is_up_in, lowered, pending_in}
+use Rattle.stable_store.specs.declared.stable.Phase.TheVariants.{Down, Torn, Up}
+use Rattle.stable_store.specs.declared.stable.Phase.{Phase}
+use Rattle.std.proofs.Common.{None, Option, false, refl, true, ◌≡◌}
+
+-- it isn't up
+pub none_up : (p : Phase) (log : Place) → lowered p ≡ Up log → ⊥
+none_up (Up l) log is = cc
+none_up (Down e) log is = cc
+none_up (Torn e) log is = cc
+
+-- and it is down, not torn
+pub none_torn : (p : Phase) (e : Option Entry) → lowered p ≡ Down e → is_torn_in p ≡ false
+none_torn (Up l) e is = refl
+none_torn (Down d) e is = refl
+none_torn (Torn d) e is = absurd (cc)
+
+-- one that was up has nothing pending
+pub none_pending : (p : Phase) → is_up_in p ≡ true → (pending_in (lowered p) ≡ None) × (is_torn_in (lowered p) ≡ false)
+none_pending (Up l) up = (refl, refl)
+none_pending (Down e) up = absurd (cc)
+none_pending (Torn e) up = absurd (cc)

@@ -1,0 +1,30 @@
+-- When what disks stand for agrees with what is held.
+use Rattle.disk_trait.specs.Disks.{Disks}
+use Rattle.held_state.specs.Entering.{entered}
+use Rattle.held_state.specs.Said.{said}
+use Rattle.held_state.specs.declared.held.Held.{Held}
+use Rattle.log_frame.specs.Log.{Place}
+use Rattle.mob_flusher.specs.Map.{Kept}
+use Rattle.stable_store.specs.declared.agreement.Numbers.{Numbers}
+use Rattle.stable_store.specs.declared.recovering.Taken.TheVariants as taken
+use Rattle.stable_store.specs.declared.recovering.Taken.{Taken}
+use Rattle.state_log.specs.Holds.{Holds}
+use Rattle.std.specs.Prelude.{length, ◌≡◌}
+
+-- The numbers of a state, its next page aside. The count of entries tells a state from that with one more.
+abbrev pub numbers_of : Held → Numbers
+numbers_of h = record { repo = h.repo; repos = h.repos; life = h.life; count = h.count; threshold = h.threshold; epoch = length h.upgrades }
+
+-- what is held with what was taken
+abbrev pub held_behind : Held → Taken → Held
+held_behind h taken.Held = h
+held_behind h (taken.Pending e) = entered h e
+
+-- The disks stand for a state whose objects were taken. Its numbers are those of what is held, or of that with the entry that
+-- was pending, where this was taken.
+pub record IsTaken (disks : Disks) (h : Held) (t : Taken) (kept : Kept) : Type 0 where
+  pub found : Held
+  pub log : Place
+  pub stands : Holds disks log (said found)
+  pub objects : kept ≡ found.objects
+  pub numbers : numbers_of found ≡ numbers_of (held_behind h t)
