@@ -9,8 +9,7 @@ use Rattle.repository_reading.proofs.Paging.{get_or-same}
 use Rattle.std.proofs.Common.{List, None, Option, Some, [], ap, get_or, length, map, refl, subst, sym, take, ℕ, ◌++◌, ◌+◌, ◌<◌, ◌∙◌, ◌≡◌, ◌∷◌}
 use Rattle.std.specs.List.Sorted.{IsStrictlySortedBy}
 use Rattle.store_reading.proofs.Joining.{fold_next}
-use Rattle.std.specs.List.{flat_map, fold}
-use Rattle.std.specs.Map.{keys_of}
+use Rattle.std.specs.List.{flat_map}
 use Rattle.store_reading.specs.Bringing.{with_all, with_found, with_one}
 use Rattle.thor_value.proofs.NameOrders.{oref_total}
 use Rattle.thor_value.specs.FiniteMap.{IsSorted, Map, empty, get, keys, overwrite}

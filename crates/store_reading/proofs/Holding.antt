@@ -15,7 +15,7 @@ use Rattle.repository_reading.specs.Paged.{PutsStored}
 use Rattle.repository_reading.specs.Recovered.{IsRecovered}
 use Rattle.repository_reading.specs.Same.{Same}
 use Rattle.state_log.specs.Recovered.{stands}
-use Rattle.std.proofs.Common.{Err, IfOk, List, None, Ok, OnOk, Option, Result, Some, [], ap, arith, get_or, length, map, refl, subst, suc, sym, take, zero, ℕ, ◌++◌, ◌+◌, ◌<◌, ◌∙◌, ◌≡◌, ◌∷◌, ◌≤◌}
+use Rattle.std.proofs.Common.{Err, IfOk, List, Ok, OnOk, Result, Some, [], ap, arith, get_or, length, refl, subst, suc, sym, take, zero, ℕ, ◌++◌, ◌+◌, ◌<◌, ◌∙◌, ◌≡◌, ◌∷◌, ◌≤◌}
 use Rattle.std.proofs.lemmas.Grind.{flat_map-append}
 use Rattle.std.proofs.lemmas.List.{append-nil, map-append}
 use Rattle.std.specs.List.{AllByRecursion, AllZip, flat_map, fold}
@@ -23,7 +23,7 @@ use Rattle.std.specs.Prelude.{IsOk}
 use Rattle.repository_reading.specs.declared.repository.Read.{Read}
 use Rattle.store_reading.proofs.Bringing.{none_sorted}
 use Rattle.store_reading.specs.Joined.{read_states, state_of}
-use Rattle.store_reading.specs.OpenedStore.{Holds, Repository, committing, joined, objects_of, opened_store, roots_of, states_of, with_repository}
+use Rattle.store_reading.specs.OpenedStore.{Holds, Repository, committing, joined, objects_of, roots_of, states_of, with_repository}
 use Rattle.store_reading.specs.Reading.{IsOpened, IsPagedBy, IsStored, PutsAll, ReadAll, StandFor}
 use Rattle.store_reading.specs.declared.found.OpenStore.{OpenStore}
 use Rattle.thor_value.proofs.FiniteMap.{IsSorted-insert}

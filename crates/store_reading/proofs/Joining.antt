@@ -1,10 +1,10 @@
 -- What loops over lists fold.
 use Rattle.repository_reading.proofs.Paging.{next_first}
-use Rattle.std.proofs.Common.{Bool, List, None, Option, Some, [], ap, get_or, length, map, refl, slice_get, subst, suc, sym, take, zero, ℕ, ◌++◌, ◌+◌, ◌<◌, ◌∙◌, ◌≡◌, ◌∷◌, ◌≤◌, arith}
+use Rattle.std.proofs.Common.{Bool, List, Some, [], ap, get_or, length, map, slice_get, subst, suc, sym, take, zero, ℕ, ◌++◌, ◌+◌, ◌<◌, ◌∙◌, ◌≡◌, ◌∷◌, arith}
 use Rattle.std.proofs.lemmas.List.Elements.{filter-append}
 use Rattle.std.proofs.Common.{append_assoc}
 use Rattle.std.proofs.lemmas.List.Sums.{fold-append}
-use Rattle.std.proofs.lemmas.List.{map-append, take_all}
+use Rattle.std.proofs.lemmas.List.{map-append}
 use Rattle.std.specs.List.{AllByRecursion, filter, fold}
 
 -- one more is folded

@@ -1,4 +1,5 @@
 -- The seats of a store beside its parts.
+use Rattle.repository_reading.proofs.Paging as lists
 use Rattle.repository_reading.specs.Same.{AreSame}
 use Rattle.store_reading.specs.Seated.{AreSeated, Gives}
 use Rattle.store_reading.specs.declared.closed.Closed.{Closed}
@@ -10,15 +11,9 @@ use Rattle.std.specs.Vec.Iter.{into_iter_items, into_iter_steps}
 use Rattle.std.specs.declared.vec.IntoIter.{IntoIter}
 
 module _ {X Y : Type 0} (R : X → Y → Type 0) where
-  zip_end : (xs : List X) (ys : List Y) (x : X) (y : Y) → AllZip R xs ys → R x y → AllZip R (xs ++ x ∷ []) (ys ++ y ∷ [])
-  zip_end [] [] x y each is = (is, tt)
-  zip_end [] (b ∷ ys) x y each is = absurd each
-  zip_end (a ∷ xs) [] x y each is = absurd each
-  zip_end (a ∷ xs) (b ∷ ys) x y each is = (each.0, zip_end xs ys x y each.1 is)
-
   -- one more of each list
   pub zip_more : (xs : List X) (ys put : List Y) (x : X) (y : Y) → put ≡ ys ++ y ∷ [] → AllZip R xs ys → R x y → AllZip R (xs ++ x ∷ []) put
-  zip_more xs ys put x y is each one = subst (λ (zs : List Y). AllZip R (xs ++ x ∷ []) zs) (sym is) (zip_end xs ys x y each one)
+  zip_more xs ys put x y is each one = subst (λ (zs : List Y). AllZip R (xs ++ x ∷ []) zs) (sym is) (lists.zip_more R xs ys x y each one)
 
 pub next_one : {X : Type 0} (yielded rest left all : List X) (x : X) → yielded ++ rest ≡ all → rest ≡ x ∷ left → (yielded ++ x ∷ []) ++ left ≡ all
 next_one yielded rest left all x whole next = append_assoc yielded (x ∷ []) left ∙ (ap (λ xs. yielded ++ xs) (sym next) ∙ whole)

@@ -1,20 +1,20 @@
 -- Walking over the open requests of a table, rising.
 use Rattle.commit_log.specs.declared.request.Request.{Request}
 use Rattle.held_state.specs.Keeps.{Stands, TableFits}
-use Rattle.std.proofs.Common.{Bool, List, None, Option, Some, [], ap, cond, false, is_some, refl, subst, sym, true, ℕ, ◌∙◌, ◌≡◌, ◌∷◌}
+use Rattle.std.proofs.Common.{Bool, List, None, Option, Some, [], ap, cond, false, is_some, refl, sym, true, ℕ, ◌∙◌, ◌≡◌, ◌∷◌}
 use Rattle.std.proofs.lemmas.Cmp.{tied_itself}
 use Rattle.std.specs.BTreeMap.{is_at}
 use Rattle.std.specs.List.Sorted.{IsStrictlySortedBy}
 use Rattle.std.specs.List.{AllByRecursion, filter, list_any}
 use Rattle.std.specs.Map.{keys_of, lookup, values_of}
 use Rattle.std.specs.Option.{option_and_then}
-use Rattle.std.specs.Ordering.{is_eq, is_lt}
+use Rattle.std.specs.Ordering.{is_lt}
 use Rattle.std.specs.Prelude.{◌||◌}
 use Rattle.std.specs.declared.cmp.Ordering.TheVariants.{Equal, Greater, Less}
 use Rattle.std.specs.declared.cmp.Ordering.{Ordering}
 use Rattle.thor_value.proofs.FiniteMap.{IsSorted-keep}
 use Rattle.thor_value.proofs.NameOrders.{ts_total}
-use Rattle.thor_value.specs.FiniteMap.{IsSorted, get}
+use Rattle.thor_value.specs.FiniteMap.{get}
 use Rattle.thor_value.specs.Names.{same_ts, ts_cmp}
 use Rattle.thor_value.specs.declared.names.Ts.{Ts}
 use Rattle.two_phase.proofs.Lists.{lookup_those}

@@ -1,5 +1,6 @@
 pub mod Bringing
 pub mod Counts
+pub mod Examples
 pub mod Joined
 pub mod OpenedStore
 pub mod Reading

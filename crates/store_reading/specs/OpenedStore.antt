@@ -10,8 +10,8 @@ use Rattle.commit_log.specs.declared.request.Request.{Request}
 use Rattle.log_bytes.specs.declared.state.State.{State}
 use Rattle.repository_reading.specs.Paged.{ArePaged}
 use Rattle.state_log.specs.Recovered.{stands, texts_after}
-use Rattle.std.specs.List.{AllZip, filter, flat_map, fold, list_any}
-use Rattle.std.specs.Prelude.{Bool, List, None, Option, Some, [], false, length, map, slice_get, ℕ, ◌++◌, ◌≡◌, ◌∷◌}
+use Rattle.std.specs.List.{filter, flat_map, fold, list_any}
+use Rattle.std.specs.Prelude.{Bool, List, None, Option, Some, [], false, length, map, slice_get, ℕ, ◌≡◌, ◌∷◌}
 use Rattle.thor_value.specs.FiniteMap.{empty, overwrite}
 use Rattle.thor_value.specs.Names.{same_ts}
 use Rattle.thor_value.specs.declared.names.Oref.{Oref}

@@ -60,3 +60,8 @@ IsOpenedIn images Fresh None = Unit {0}
 IsOpenedIn images Fresh (Some opened) = ⊥
 IsOpenedIn images (Open store) None = ⊥
 IsOpenedIn images (Open store) (Some opened) = IsOpened images store.schemas opened
+
+-- the schemas of a store that was found
+abbrev pub schemas_in : Store → Option Schemas
+schemas_in Fresh = None
+schemas_in (Open store) = Some store.schemas

@@ -9,7 +9,8 @@ ghost use Rattle.repository_reading.specs.Paged.{PutsStored};
 ghost use Rattle.std.specs.Prelude.{IfErr, IfOk, IsOk, List, OnOk, vec_capacity, vec_len, ◌≡◌, ◌≤◌, ℕ};
 ghost use Rattle.store_reading.specs.Joined.{AreKept, read_states};
 ghost use Rattle.store_reading.specs.OpenedStore.{roots_of};
-ghost use Rattle.store_reading.specs.Reading.{IsOpened, IsOpenedIn, IsStored, IsStoredIn, PutsAll, ReadAll, StandFor};
+ghost use Rattle.store_reading.specs.Reading.{IsOpened, IsOpenedIn, IsStored, IsStoredIn, PutsAll, ReadAll, StandFor, schemas_in};
+ghost use Rattle.std.specs.Option.{option_copied};
 ghost use Rattle.thor_value.specs.FiniteMap.{IsSorted, empty};
 
 use crate::closed::{Closed, give_back};
@@ -103,7 +104,9 @@ impl<P: Parts> Found<P> {
     }
 
     /// The schemas of all epochs up to the store's; nothing where it is fresh.
-    pub fn schemas(&self) -> Option<&Schemas> {
+    pub fn schemas(&self) -> Option<&Schemas>
+        ensures { option_copied result ≡ schemas_in self.now.store }
+    {
         match &self.store {
             Store::Fresh => None,
             Store::Open(store) => Some(&store.schemas),
@@ -185,11 +188,13 @@ impl<P: Parts> Found<P> {
 fn schemas_of(store: Store) -> Option<Schemas> {
     match store {
         Store::Fresh => None,
-        Store::Open(OpenStore {
-            schemas,
-            stored,
-            roots,
-        }) => {
+        Store::Open(
+            OpenStore {
+                schemas,
+                stored,
+                roots,
+            },
+        ) => {
             drop(stored);
             drop(roots);
             Some(schemas)
@@ -347,7 +352,10 @@ fn store_of<P: Parts>(
 }
 
 /// What was read of the repositories of a store that isn't fresh.
-fn reads_of<P: Parts>(alloc: Global, places: &[Closed<P>]) -> Result<Option<Vec<Read<'_>>>, NoMemory>
+fn reads_of<P: Parts>(
+    alloc: Global,
+    places: &[Closed<P>],
+) -> Result<Option<Vec<Read<'_>>>, NoMemory>
     ensures kept { IfOk result (λ found. IfSome found (λ reads. AreKept reads.items)) }
     ensures stand { (parts : List P) (images : List (ℕ → List ℕ)) → AreSeated P.disks parts places.now → ReadAll P.disks parts images → IfOk result (λ found. IfSome found (λ reads. StandFor images (read_states reads.items))) }
 {

@@ -143,11 +143,7 @@ pub(crate) fn joined(
     Ok(objects)
 }
 
-fn take_all(
-    alloc: Global,
-    store: &[Read<'_>],
-    objects: &mut OrefMap<Obj>,
-) -> Result<(), NoMemory>
+fn take_all(alloc: Global, store: &[Read<'_>], objects: &mut OrefMap<Obj>) -> Result<(), NoMemory>
     requires { AreKept store.now }
     ensures { OnOk result (objects.new ≡ joined (read_states store.now) objects.old) }
 {

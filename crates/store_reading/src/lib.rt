@@ -4,6 +4,7 @@
 mod accepting;
 mod closed;
 mod eager;
+mod examples;
 mod fault;
 mod fit;
 mod found;
@@ -12,5 +13,6 @@ mod separate;
 
 pub use accepting::with_upgrades;
 pub use closed::{Closed, give_back};
+pub use examples::disks_stand_for_their_objects;
 pub use fault::ClusterFault;
 pub use found::Found;

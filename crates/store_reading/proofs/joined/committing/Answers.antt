@@ -1,6 +1,6 @@
 use Rattle.commit_log.specs.declared.request.Request.{Request}
 use Rattle.two_phase.specs.Contents.{Contents}
-use Rattle.std.proofs.Common.{Bor, List, None, Some, ap, map, refl, sym, ◌++◌, ◌∙◌, ◌≡◌}
+use Rattle.std.proofs.Common.{Bor, List, None, Some, ap, map, sym, ◌++◌, ◌∙◌, ◌≡◌}
 use Rattle.std.proofs.lemmas.List.{append-nil}
 use Rattle.std.specs.List.{filter}
 use Rattle.std.specs.Option.{option_copied}

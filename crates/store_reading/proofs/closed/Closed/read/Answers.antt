@@ -1,6 +1,5 @@
 use Rattle.store_reading.proofs.Holding.{known_stands}
 use Rattle.store_reading.specs.Seated.{IsSeated}
-use Rattle.store_reading.specs.declared.closed.Closed.{Closed}
 use Rattle.std.proofs.Common.{subst}
 use Rattle.store_reading.proofs.closed.Closed.read.Goals as goal
 
