@@ -1,14 +1,15 @@
 #!/usr/bin/env bash
 # How many items a second one client performs: transfers between 16 accounts, and now and then the sum of all, as a script of
 # 1,000, 10,000 and 100,000 items, from the bytes of the script to those of the report. And how many steps a second a loop
-# takes. It needs the proved program (KILNTAUPE_WAIT=1 ./kilntaupe builds it) and Python 3.
+# takes. It needs the proved program (KILNTAUPE_WAIT=1 ./kilntaupe builds it), or the one
+# that PROGRAM names, and Python 3.
 #
 #   bench/bank_speed.sh [PEER..]
 #
 # A PEER is a command that performs such items itself and prints its own figures; it is run once behind the others.
 set -eu
 cd "$(dirname "$0")/.."
-program=crates/thor_shell/out/thor_shell
+program=${PROGRAM:-crates/thor_shell/out/thor_shell}
 [ -x "$program" ] || { echo "there is no $program: KILNTAUPE_WAIT=1 ./kilntaupe builds it" >&2; exit 1; }
 room=$(mktemp -d)
 trap 'rm -rf "$room"' EXIT

@@ -3,7 +3,7 @@
 # Each is read and scanned whole; what else is done with it stands beside it.
 set -eu
 here=$(cd "$(dirname "$0")/.." && pwd)
-program=$here/crates/thor_shell/out/thor_shell
+program=${PROGRAM:-$here/crates/thor_shell/out/thor_shell}
 [ -x "$program" ] || { echo "build the program first: KILNTAUPE_WAIT=1 $here/kilntaupe play < $here/examples/first.script" >&2; exit 1; }
 room=$(mktemp -d)
 trap 'rm -rf "$room"' EXIT

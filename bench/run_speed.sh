@@ -2,12 +2,13 @@
 # How many items a second `run` performs, with a thread for each of 1, 2 and 4 clients: each client moves money between 16
 # accounts of its own, which lie at a repository of its own or all at one. In memory, and in the files of a folder. For
 # comparison the same by `play`, which takes turns on one thread, and by `check`, which reads the script alone. A figure is
-# the median of five runs, from the bytes of the script to those of the report. It needs the proved program
-# (KILNTAUPE_WAIT=1 ./kilntaupe builds it) and Python 3.
+# the median of some runs, from the bytes of the script to those of the report. It needs the proved program
+# (KILNTAUPE_WAIT=1 ./kilntaupe builds it), or the one that PROGRAM names, and Python 3.
 #
-#   bench/run_speed.sh [ITEMS [FOLDER]]
+#   bench/run_speed.sh [ITEMS [FOLDER [RUNS [memory | files]]]]
 #
-# ITEMS of each client, 5,000 where it isn't named; FOLDER is where the stores are made, else a new one in /tmp.
+# ITEMS of each client, 5,000 where it isn't named; FOLDER is where the stores are made, else a new one in /tmp; RUNS of
+# which a figure is the median, 5 where it isn't named. In memory or in files alone, where one of them is named.
 set -eu
 cd "$(dirname "$0")/.."
 program=${PROGRAM:-crates/thor_shell/out/thor_shell}
@@ -15,9 +16,9 @@ program=${PROGRAM:-crates/thor_shell/out/thor_shell}
 room=$(mktemp -d "${2:-/tmp}/run_speed.XXXXXX")
 trap 'rm -rf "$room"' EXIT
 echo "$(nproc) processors, load $(cut -d ' ' -f 1 /proc/loadavg)"
-python3 - "$program" "$room" "${1:-5000}" <<'END'
+python3 - "$program" "$room" "${1:-5000}" "${3:-5}" "${4:-both}" <<'END'
 import os, random, shutil, subprocess, sys, time
-program, room, items = sys.argv[1], sys.argv[2], int(sys.argv[3])
+program, room, items, runs = sys.argv[1], sys.argv[2], int(sys.argv[3]), int(sys.argv[4])
 CLASS = ("free class Acct { int n; method int get() { return this.n; } method int add(int k) { this.n = this.n + k; return this.n; } "
          "method int move(Acct to, int k) { this.n = this.n - k; to.add(k); return k; } }\n")
 
@@ -37,7 +38,7 @@ def script(clients, repos):
 
 def seconds(words, text, stored):
     times = []
-    for _ in range(5):
+    for _ in range(runs):
         folder = f"{room}/store"
         os.mkdir(folder)
         begun = time.monotonic()
@@ -45,10 +46,10 @@ def seconds(words, text, stored):
         times.append(time.monotonic() - begun)
         shutil.rmtree(folder)
         assert ran.returncode == 0, (words, ran.returncode)
-    return sorted(times)[2]
+    return sorted(times)[runs // 2]
 
 
-for stored in (False, True):
+for stored in {"memory": [False], "files": [True]}.get(sys.argv[5], [False, True]):
     for clients, repos in ((1, 1), (2, 1), (4, 1), (2, 2), (4, 4)):
         text = script(clients, repos)
         figures = []

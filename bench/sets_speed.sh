@@ -4,9 +4,10 @@
 #   touch      a write of one object, of a page that all sessions have, comes into the sets of all but the writer's
 #   stale      a request that read 10 objects, of which none is in its session's set
 #   stale_all  one that read as many objects as the set has
-# sets_speed.sh [CALLS]
+# sets_speed.sh [CALLS [MOST]], where MOST is the greatest number of earlier writes, 1,000,000 where it isn't named
 set -eu
 calls=${1:-20000}
+most=${2:-1000000}
 source "$(dirname "$0")/measuring.sh"
 begin sets_speed thor_value validation_queue link_table cached_sets
 cat > "$work/crates/sets_speed/src/main.rt" <<'RT'
@@ -114,8 +115,9 @@ build
 busy() { /usr/bin/time -f "%U %S" "$work/crates/sets_speed/out/sets_speed" "$@" 2>&1 > /dev/null | awk '{ print $1 + $2 }'; }
 
 echo "load: $(cut -d ' ' -f 1-3 /proc/loadavg)"
-for row in "touch 1000" "touch 10000" "touch 100000" "touch 1000000" "stale 1000" "stale 1000000" "stale_all 1000" "stale_all 1000000"; do
+for row in "touch 1000" "touch 10000" "touch 100000" "touch 1000000" "stale 1000" "stale 100000" "stale 1000000" "stale_all 1000" "stale_all 100000" "stale_all 1000000"; do
     read -r kind writes <<< "$row"
+    [ "$writes" -le "$most" ] || continue
     # The sets are filled before the first call: what that takes is taken off.
     before=$(busy "$kind" "$writes" 0)
     all=$(busy "$kind" "$writes" "$calls")

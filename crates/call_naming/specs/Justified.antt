@@ -38,9 +38,11 @@ HasDrawn client t T = Once (λ F. (before : List Item) × (s : ℕ) × (F ≡ be
 abbrev pub takes_part : ℕ → Request → ℕ → Bool
 takes_part n q r = list_any (nat_eq r) (n ∷ q.others)
 
--- Two parts of one transaction, at the repositories n and m: they have the same new names, answer and
--- participants
+-- Two parts of one transaction, at the repositories n and m: they are the same item's and of the same kind, and have
+-- the same new names, answer and participants
 pub record AreParts (n : ℕ) (p : Request) (m : ℕ) (q : Request) : Type 0 where
+  pub who : p.who ≡ q.who
+  pub kind : p.kind ≡ q.kind
   pub fresh : p.fresh ≡ q.fresh
   pub answer : p.answer ≡ q.answer
   pub participants : (r : ℕ) → takes_part n p r ≡ takes_part m q r

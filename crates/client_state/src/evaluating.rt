@@ -3,7 +3,7 @@
 use crate::held::Held;
 use crate::transaction::Transaction;
 use crate::transform::Transform;
-use class_defs::Schema;
+use class_defs::{Block, Schema};
 use item_progress::Opened;
 use lazy_transform::{Wanted, wants};
 use method_eval::Ran;
@@ -24,7 +24,18 @@ impl Held {
     pub fn evaluate(&mut self, opened: &Opened, run: &mut Paused) -> Result<Ran, NoMemory> {
         let epoch = self.epoch(opened);
         let schema = schema_of(opened, epoch);
-        run.go(schema, epoch, &mut self.cache, &mut self.names)
+        run.go(
+            schema,
+            epoch,
+            &mut self.cache,
+            &mut self.names,
+            &mut self.texts,
+        )
+    }
+
+    /// The evaluation of a transaction before its first step.
+    pub fn begin(&mut self, tx: &Block) -> Result<Paused, NoMemory> {
+        Paused::begin(self.alloc, tx, &mut self.texts)
     }
 
     /// The transaction of an evaluation that has ended. What a fault has changed is given up.

@@ -11,7 +11,7 @@ use client_cache::Looked;
 use item_progress::Opened;
 use message_outbox::At;
 use object_pages::is_object_page;
-use paused_eval::{Copies, GrantedNames};
+use paused_eval::{Copies, GrantedNames, KeptTexts};
 use std::alloc::Global;
 use std::mem;
 use thor_value::{NoMemory, Obj, Oref, Repos, Text, TryCopy, Ts};
@@ -31,6 +31,8 @@ pub struct Held {
     pub links: Vec<Link>,
     pub cache: Copies,
     pub names: GrantedNames,
+    /// Texts that it has evaluated.
+    pub texts: KeptTexts,
     /// The greatest epoch that the client has learnt of.
     pub learnt: u32,
     /// The times of its commits and transforms, of the thresholds that it was told, and of the
@@ -53,6 +55,7 @@ impl Held {
             links,
             cache: Copies::new(alloc, pages)?,
             names: GrantedNames::new(alloc),
+            texts: KeptTexts::new(alloc),
             learnt: 0,
             floor: 0,
         })

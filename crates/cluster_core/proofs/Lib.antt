@@ -1,4 +1,1 @@
-pub mod Places
-pub mod Reading
 pub mod Restarts
-pub mod Syncing

@@ -1,5 +1,5 @@
 -- What a restart makes of what stands at a repository's place.
-use Rattle.cluster_core.specs.declared.seat.Seat.TheVariants.{Fresh, Known, Open, Parts}
+use Rattle.cluster_core.specs.declared.seat.Seat.TheVariants.{Closed, Open}
 use Rattle.cluster_core.specs.declared.seat.Seat.{Seat}
 use Rattle.repo_core.specs.Behind.{IsRecovered, IsRestarted}
 use Rattle.repo_core.specs.Shown.{Shown}
@@ -12,9 +12,5 @@ GoesOn old new = ((new.is_up ≡ true) × IsRestarted old.trace new.trace) ⊎ (
 -- A repository that is open is started again. What isn't open stays as it was.
 abbrev pub IsStartedAgain : {P : Type 0} → Seat P → Seat P → Type 0
 IsStartedAgain (Open old) (Open new) = GoesOn old new
-IsStartedAgain (Open old) (Parts p) = ⊥
-IsStartedAgain (Open old) (Fresh p) = ⊥
-IsStartedAgain (Open old) (Known k) = ⊥
-IsStartedAgain (Parts p) new = new ≡ Parts p
-IsStartedAgain (Fresh p) new = new ≡ Fresh p
-IsStartedAgain (Known k) new = new ≡ Known k
+IsStartedAgain (Open old) (Closed c) = ⊥
+IsStartedAgain (Closed c) new = new ≡ Closed c

@@ -74,7 +74,7 @@ impl<P: Parts> Seat<P> {
     {
         match self {
             Seat::Open(found) => restart(found, pick),
-            Seat::Parts(_) | Seat::Fresh(_) | Seat::Known(_) => Ok(()),
+            Seat::Closed(_) => Ok(()),
         }
     }
 

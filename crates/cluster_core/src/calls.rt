@@ -54,11 +54,15 @@ impl<P: Parts> Seat<P> {
         match self {
             Seat::Open(found) => {
                 if !found.may_request(&request, false) {
+                    drop(request);
                     return Err(Refusal::NoMemory);
                 }
                 found.prepare(at.session, request)
             }
-            _ => Err(Refusal::Down { repo: at.repo }),
+            _ => {
+                drop(request);
+                Err(Refusal::Down { repo: at.repo })
+            }
         }
     }
 
@@ -67,11 +71,15 @@ impl<P: Parts> Seat<P> {
         match self {
             Seat::Open(found) => {
                 if !found.may_request(&request, true) {
+                    drop(request);
                     return Err(Refusal::NoMemory);
                 }
                 found.commit_one(at.session, request)
             }
-            _ => Err(Refusal::Down { repo: at.repo }),
+            _ => {
+                drop(request);
+                Err(Refusal::Down { repo: at.repo })
+            }
         }
     }
 

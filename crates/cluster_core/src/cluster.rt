@@ -2,14 +2,15 @@
 
 ghost use Rattle.std.specs.Prelude.{vec_capacity, vec_len, ◌≡◌, ◌≤◌};
 
-use crate::fault::{ClusterFault, Unopened};
 use crate::lent::{Turn, lend};
 use crate::seat::{Seat, give_back};
 use disk_trait::Parts;
 use front_end::{FrontEnd, Opened, Step};
+use repository_reading::Unopened;
 use std::alloc::Global;
 use std::marker::Brand;
 use std::mem;
+use store_reading::ClusterFault;
 use thor_value::NoMemory;
 
 /// Repositories and their clients, which take turns.
@@ -33,7 +34,15 @@ impl<P: Parts> Cluster<P> {
     pub(crate) fn give_back(self, why: Unopened) -> ClusterFault<P>
         ensures { vec_len result.parts ≡ vec_len self.seats }
     {
-        let Cluster { seats, spare, .. } = self;
+        let Cluster {
+            seats,
+            clients,
+            opened,
+            spare,
+            ..
+        } = self;
+        drop(clients);
+        drop(opened);
         ClusterFault {
             parts: give_back(seats, spare),
             why,
@@ -48,7 +57,7 @@ impl<P: Parts> Cluster<P> {
             Some(client) => {
                 let seats = mem::replace(&mut self.seats, Vec::new(self.alloc));
                 let (seats, answer) = lend::<P, Brand>(seats, client, &self.opened, turn);
-                self.seats = seats;
+                drop(mem::replace(&mut self.seats, seats));
                 answer
             }
             None => Ok(Step::Ended),

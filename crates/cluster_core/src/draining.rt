@@ -54,9 +54,19 @@ impl<P: Parts> Cluster<P> {
 
 /// Takes back stops that haven't fallen, and restarts each repository that is down.
 fn bring_all_up<P: Parts>(seats: &mut [Seat<P>]) -> Result<(), NoMemory> {
-    for seat in &mut *seats {
+    disarm_all(seats);
+    bring_each_up(seats)
+}
+
+/// Takes back stops that haven't fallen.
+fn disarm_all<P: Parts>(seats: &mut [Seat<P>]) {
+    for seat in seats {
         disarm(seat);
     }
+}
+
+/// Restarts each repository that is down.
+fn bring_each_up<P: Parts>(seats: &mut [Seat<P>]) -> Result<(), NoMemory> {
     for seat in seats {
         bring_up(seat)?;
     }

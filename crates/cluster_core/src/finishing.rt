@@ -13,7 +13,7 @@ use history_check::{ClientItems, Lines};
 use repo_core::{Entries, Marks, Trace, Traces};
 use serial_model::Ends;
 use std::alloc::Global;
-use thor_value::NoMemory;
+use thor_value::{NoMemory, both};
 
 /// What a run was.
 #[derive(Drop)]
@@ -53,7 +53,11 @@ impl<P: Parts> Cluster<P> {
         let (parts, traces) = close_all(alloc, seats, spare);
         let ran = match traces {
             Ok(traces) => gather(alloc, clients, opened, traces),
-            Err(NoMemory) => Err(NoMemory),
+            Err(NoMemory) => {
+                drop(clients);
+                drop(opened);
+                Err(NoMemory)
+            }
         };
         Finished { parts, ran }
     }
@@ -96,9 +100,34 @@ fn no_trace(alloc: Global) -> Trace {
 }
 
 fn with_trace(traces: Result<Traces, NoMemory>, trace: Trace) -> Result<Traces, NoMemory> {
-    let mut traces = traces?;
-    traces.push(trace)?;
+    let (trace, mut traces) = both(trace, traces)?;
+    let pushed = traces.push(trace);
+    let (traces, _) = both(traces, pushed)?;
     Ok(traces)
+}
+
+/// How the items of clients ended, and the items.
+type Closed = (Ends, ClientItems);
+
+/// How the items of all clients ended, and the items of each.
+fn close_clients(alloc: Global, clients: Vec<FrontEnd>) -> Result<Closed, NoMemory> {
+    let mut closed = Ok((Ends::new(alloc), ClientItems::new(alloc)));
+    for client in clients {
+        closed = with_closed(closed, client);
+    }
+    closed
+}
+
+/// The same with one more client.
+fn with_closed(closed: Result<Closed, NoMemory>, client: FrontEnd) -> Result<Closed, NoMemory> {
+    let (own, closed) = both(client.close(), closed)?;
+    let (mut ends, mut items) = closed;
+    let (ended, own) = own;
+    let appended = ends.append(ended);
+    let pushed = items.push(own);
+    let (closed, _) = both((ends, items), appended)?;
+    let (closed, _) = both(closed, pushed)?;
+    Ok(closed)
 }
 
 /// What a run was, from its clients and traces.
@@ -108,14 +137,11 @@ fn gather(
     opened: Opened,
     traces: Traces,
 ) -> Result<Ran, NoMemory> {
-    let mut ends = Ends::new(alloc);
-    let mut items = ClientItems::new(alloc);
-    for client in clients {
-        let (ended, own) = client.close();
-        ends.append(ended)?;
-        items.push(own)?;
-    }
-    let lines = history_of(alloc, traces.as_slice())?;
+    let (held, closed) = both((opened, traces), close_clients(alloc, clients))?;
+    let (opened, traces) = held;
+    let lines = history_of(alloc, traces.as_slice());
+    let (held, lines) = both(((opened, traces), closed), lines)?;
+    let ((opened, traces), (ends, items)) = held;
     let Opened { schemas, .. } = opened;
     Ok(Ran {
         ends,

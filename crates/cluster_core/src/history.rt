@@ -1,26 +1,36 @@
 //! The serial history of a run, from the traces of its repositories.
 
-use crate::fault::number_at;
 use commit_log::{Entry, Kind, Request};
 use history_check::{Line, Lines};
 use repo_core::Trace;
+use repository_reading::number_at;
 use std::alloc::Global;
 use std::collections::BTreeMap;
-use thor_value::{NoMemory, TryCopy, Ts};
+use thor_value::{NoMemory, TryCopy, Ts, both};
 
 /// The committed items of a run, transforms aside, by rising timestamp.
 ///
 /// A transaction is in it where its coordinator's history has its one commit or its decision to commit.
 pub(crate) fn history_of(alloc: Global, traces: &[Trace]) -> Result<Lines, NoMemory> {
     let mut commits: BTreeMap<Ts, Line> = BTreeMap::new(alloc);
-    for (place, trace) in traces.iter().enumerate() {
-        take_trace(alloc, number_at(place)?, trace, &mut commits)?;
-    }
+    let taken = take_traces(alloc, traces, &mut commits);
+    let (commits, _) = both(commits, taken)?;
     let mut history = Lines::new(alloc);
     for (_, line) in commits {
         history.push(line)?;
     }
     Ok(history)
+}
+
+fn take_traces(
+    alloc: Global,
+    traces: &[Trace],
+    commits: &mut BTreeMap<Ts, Line>,
+) -> Result<(), NoMemory> {
+    for (place, trace) in traces.iter().enumerate() {
+        take_trace(alloc, number_at(place)?, trace, commits)?;
+    }
+    Ok(())
 }
 
 /// Takes what committed by a repository as the coordinator.
@@ -31,7 +41,18 @@ fn take_trace(
     commits: &mut BTreeMap<Ts, Line>,
 ) -> Result<(), NoMemory> {
     let mut prepared: BTreeMap<Ts, &Request> = BTreeMap::new(alloc);
-    for entry in trace.history.as_slice() {
+    let taken = take_entries(repo, trace.history.as_slice(), &mut prepared, commits);
+    drop(prepared);
+    taken
+}
+
+fn take_entries<'a>(
+    repo: u8,
+    history: &'a [Entry],
+    prepared: &mut BTreeMap<Ts, &'a Request>,
+    commits: &mut BTreeMap<Ts, Line>,
+) -> Result<(), NoMemory> {
+    for entry in history {
         match entry {
             Entry::One { request } | Entry::Upgraded { request } => take_commit(request, commits)?,
             Entry::Prepared { request } => {

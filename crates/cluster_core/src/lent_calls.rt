@@ -64,7 +64,10 @@ pub(crate) fn prepare<P: Parts>(
 ) -> Result<u64, Refusal> {
     match seats.get_mut(usize::from(at.repo)) {
         Some(seat) => seat.prepare(at, request),
-        None => Err(Refusal::Down { repo: at.repo }),
+        None => {
+            drop(request);
+            Err(Refusal::Down { repo: at.repo })
+        }
     }
 }
 
@@ -76,7 +79,10 @@ pub(crate) fn commit_one<P: Parts>(
 ) -> Result<u64, Refusal> {
     match seats.get_mut(usize::from(at.repo)) {
         Some(seat) => seat.commit_one(at, request),
-        None => Err(Refusal::Down { repo: at.repo }),
+        None => {
+            drop(request);
+            Err(Refusal::Down { repo: at.repo })
+        }
     }
 }
 

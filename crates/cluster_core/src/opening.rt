@@ -1,20 +1,21 @@
 //! A store is opened: formatted, or begun with a Life, and then settled.
 
-ghost use Rattle.cluster_core.specs.Counts.{parts_in, parts_of};
-ghost use Rattle.std.specs.Prelude.{IfErr, IfOk, vec_len, ◌≡◌};
+ghost use Rattle.cluster_core.specs.Counts.{parts_of};
+ghost use Rattle.std.specs.Prelude.{IfErr, IfOk, vec_capacity, vec_len, ◌≡◌, ◌≤◌};
+ghost use Rattle.store_reading.specs.Counts.{parts_in};
 
-use crate::accepting::with_upgrades;
 use crate::cluster::Cluster;
-use crate::fault::{ClusterFault, Unopened, number_at};
-use crate::found::{Found, Store};
 use crate::plan::{Plan, Start};
-use crate::seat::{Seat, give_back};
+use crate::seat::{Seat, give_back, seat_all};
 use crate::settling::settle_all;
 use class_defs::{Schemas, Setup, UpgradedSchemas};
 use disk_trait::Parts;
 use front_end::{FrontEnd, Items, Opened};
+use repo_core::Repo;
+use repository_reading::{Unopened, number_at};
 use std::alloc::Global;
-use thor_value::NoMemory;
+use store_reading::{Closed, ClusterFault, Found, with_upgrades};
+use thor_value::{NoMemory, both};
 
 impl<P: Parts> Cluster<P> {
     /// Opens what was found, with the clients of a plan.
@@ -27,33 +28,52 @@ impl<P: Parts> Cluster<P> {
         ensures ok { IfOk result (λ cluster. parts_of cluster ≡ parts_in found) }
         ensures err { IfErr result (λ fault. vec_len fault.parts ≡ parts_in found) }
     {
-        let Found {
-            seats,
-            spare,
-            mob,
-            store,
-            ..
-        } = found;
-        let Plan {
-            start,
-            tries,
-            cache,
-            clients,
-        } = plan;
-        let (seats, opened) = open_seats(alloc, seats, store, start, mob);
-        match told_to(alloc, &seats, opened, clients, tries, cache) {
-            Ok((opened, clients)) => settled(Cluster {
-                alloc,
-                seats,
-                clients,
-                opened,
-                spare,
-            }),
-            Err(why) => Err(ClusterFault {
-                parts: give_back(seats, spare),
-                why,
-            }),
+        match Vec::with_capacity(alloc, found.repos()) {
+            Ok(room) => open_found(alloc, found, plan, room),
+            Err(_) => {
+                drop(plan);
+                Err(ClusterFault {
+                    parts: found.into_parts(),
+                    why: Unopened::NoMemory,
+                })
+            }
         }
+    }
+}
+
+/// Opens what was found, with seats for its repositories.
+fn open_found<P: Parts>(
+    alloc: Global,
+    found: Found<P>,
+    plan: Plan,
+    room: Vec<Seat<P>>,
+) -> Result<Cluster<P>, ClusterFault<P>>
+    requires empty { vec_len room ≡ 0 }
+    requires room { parts_in found ≤ vec_capacity room }
+    ensures ok { IfOk result (λ cluster. parts_of cluster ≡ parts_in found) }
+    ensures err { IfErr result (λ fault. vec_len fault.parts ≡ parts_in found) }
+{
+    let (places, spare, mob, schemas) = found.into_repositories();
+    let Plan {
+        start,
+        tries,
+        cache,
+        clients,
+    } = plan;
+    let seats = seat_all(places, room);
+    let (seats, opened) = open_seats(alloc, seats, schemas, start, mob);
+    match told_to(alloc, seats.len(), opened, clients, tries, cache) {
+        Ok((opened, clients)) => settled(Cluster {
+            alloc,
+            seats,
+            clients,
+            opened,
+            spare,
+        }),
+        Err(why) => Err(ClusterFault {
+            parts: give_back(seats, spare),
+            why,
+        }),
     }
 }
 
@@ -70,53 +90,65 @@ fn settled<P: Parts>(cluster: Cluster<P>) -> Result<Cluster<P>, ClusterFault<P>>
 }
 
 /// The clients, and what they are told of the store with these schemas.
-fn told_to<P: Parts>(
+fn told_to(
     alloc: Global,
-    seats: &Vec<Seat<P>>,
+    repos: usize,
     opened: Result<Schemas, Unopened>,
     clients: Vec<Items>,
     tries: u32,
     cache: u32,
 ) -> Result<(Opened, Vec<FrontEnd>), Unopened> {
-    let schemas = opened?;
-    let repos = number_at(seats.len())?;
-    let Ok(epoch) = u32::try_from(schemas.upgraded.len()) else {
-        return Err(Unopened::NoMemory);
-    };
-    let schemas = with_upgrades(alloc, schemas, clients.as_slice())?;
+    let (clients, schemas) = both(clients, opened)?;
+    let numbers = numbers_of(repos, schemas.upgraded.len());
+    let (held, (repos, epoch)) = both((clients, schemas), numbers)?;
+    let (clients, schemas) = held;
+    let schemas = with_upgrades(alloc, schemas, clients.as_slice());
+    let (clients, schemas) = both(clients, schemas)?;
     let opened = Opened {
         repos,
         epoch,
         schemas,
     };
-    Ok((opened, make_clients(alloc, clients, tries, cache)?))
+    Ok(both(opened, make_clients(alloc, clients, tries, cache))?)
 }
 
-/// Opens every repository. The answer is the schemas of the store.
+/// How many repositories and how many epochs there are. There is no memory for more than numbers can tell.
+fn numbers_of(repos: usize, epochs: usize) -> Result<(u8, u32), NoMemory> {
+    match u32::try_from(epochs) {
+        Ok(epoch) => Ok((number_at(repos)?, epoch)),
+        Err(_) => Err(NoMemory),
+    }
+}
+
+/// Opens every repository: as it is stored, where the store's schemas were found, else by formatting it. The answer
+/// is the schemas of the store.
 fn open_seats<P: Parts>(
     alloc: Global,
     seats: Vec<Seat<P>>,
-    store: Store,
+    stored: Option<Schemas>,
     start: Start,
     mob: u32,
 ) -> (Vec<Seat<P>>, Result<Schemas, Unopened>)
     ensures { vec_len result.0 ≡ vec_len seats }
 {
-    match (store, start) {
-        (Store::Open(store), Start::Stored) => {
+    match (stored, start) {
+        (Some(schemas), Start::Stored) => {
             let (seats, opened) = open_all(alloc, seats);
-            (seats, with(opened, store.schemas))
+            (seats, with(opened, schemas))
         }
-        (Store::Fresh, Start::Setup(setup)) => {
+        (None, Start::Setup(setup)) => {
             let (seats, formatted) = format_all(alloc, seats, &setup, mob);
-            let Setup { schema, roots: _ } = setup;
+            let Setup { schema, roots } = setup;
+            drop(roots);
             let schemas = Schemas {
                 first: schema,
                 upgraded: UpgradedSchemas::new(alloc),
             };
             (seats, with(formatted, schemas))
         }
-        (Store::Open(_), Start::Setup(_)) | (Store::Fresh, Start::Stored) => {
+        (stored, start) => {
+            drop(stored);
+            drop(start);
             (seats, Err(Unopened::NoMemory))
         }
     }
@@ -124,7 +156,7 @@ fn open_seats<P: Parts>(
 
 /// The schemas of a store whose repositories were opened.
 fn with(opened: Result<(), Unopened>, schemas: Schemas) -> Result<Schemas, Unopened> {
-    opened?;
+    let (schemas, _) = both(schemas, opened)?;
     Ok(schemas)
 }
 
@@ -154,7 +186,10 @@ fn open_next<P: Parts>(
     place: usize,
 ) -> (Seat<P>, Result<(), Unopened>) {
     match (seat, number_at(place)) {
-        (Seat::Known(known), Ok(repo)) => Seat::of(repo, known.open(alloc)),
+        (Seat::Closed(Closed::Known(known)), Ok(repo)) => {
+            let (parts, recovered) = known.into_recovered();
+            Seat::of(repo, Repo::open(alloc, parts, recovered))
+        }
         (seat, _) => (seat, Err(Unopened::NoMemory)),
     }
 }
@@ -217,9 +252,15 @@ fn format_next<P: Parts>(
     let (Ok(repo), Ok(repos)) = (number_at(place), number_at(repos)) else {
         return (seat, Err(Unopened::NoMemory));
     };
-    match seat.into_settled() {
-        Ok(settled) => Seat::of(repo, settled.format(alloc, repo, repos, setup, mob)),
-        Err(seat) => (seat, Err(Unopened::NoMemory)),
+    let Seat::Closed(closed) = seat else {
+        return (seat, Err(Unopened::NoMemory));
+    };
+    match closed.into_settled() {
+        Ok(settled) => {
+            let formatted = Repo::format(alloc, settled.into_parts(), repo, repos, setup, mob);
+            Seat::of(repo, formatted)
+        }
+        Err(closed) => (Seat::Closed(closed), Err(Unopened::NoMemory)),
     }
 }
 
@@ -230,11 +271,26 @@ fn make_clients(
     tries: u32,
     cache: u32,
 ) -> Result<Vec<FrontEnd>, NoMemory> {
-    let mut made = Vec::new(alloc);
+    let mut made = Ok(Vec::new(alloc));
     for items in clients {
-        let client = make_client(alloc, made.len(), items, tries, cache)?;
-        made.push(client)?;
+        made = with_client(alloc, made, items, tries, cache);
     }
+    made
+}
+
+/// The clients with one more.
+fn with_client(
+    alloc: Global,
+    made: Result<Vec<FrontEnd>, NoMemory>,
+    items: Items,
+    tries: u32,
+    cache: u32,
+) -> Result<Vec<FrontEnd>, NoMemory> {
+    let (items, made) = both(items, made)?;
+    let client = make_client(alloc, made.len(), items, tries, cache);
+    let (mut made, client) = both(made, client)?;
+    let pushed = made.push(client);
+    let (made, _) = both(made, pushed)?;
     Ok(made)
 }
 
@@ -246,9 +302,10 @@ fn make_client(
     tries: u32,
     cache: u32,
 ) -> Result<FrontEnd, NoMemory> {
-    let client = number_at(others)?.saturating_add(1);
+    let (items, others) = both(items, number_at(others))?;
     if cache == 0 || u32::try_from(items.len()).is_err() {
+        drop(items);
         return Err(NoMemory);
     }
-    FrontEnd::new(alloc, client, items, tries, cache)
+    FrontEnd::new(alloc, others.saturating_add(1), items, tries, cache)
 }

@@ -1,10 +1,10 @@
 //! Transactions that were left prepared are settled by their coordinators.
 
-use crate::fault::{Unopened, number_at};
 use crate::lent_calls;
 use crate::seat::Seat;
 use disk_trait::Parts;
 use message_outbox::Asked;
+use repository_reading::{Unopened, number_at};
 use thor_value::Ts;
 use validation_window::Refusal;
 

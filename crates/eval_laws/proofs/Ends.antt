@@ -46,6 +46,29 @@ pub this_grows : (m n : Machine) → Grows m n → (t : Option Receiver) → Thi
 this_grows m n g None h = tt
 this_grows m n g (Some r) h = (g r.oref h.0, all_grow m n g r.owners h.1)
 
+-- whether a name is among these
+abbrev pub is_named : List Oref → Oref → Bool
+is_named xs x = is_some (find (same_oref x) xs)
+
+-- where there are no stand-in names, what was made took names that waited
+pub record Takes (m n : Machine) : Type 0 where
+  pub none : m.names.stand_in ≡ None → n.names.stand_in ≡ None
+  pub waiting : (x : Oref) → is_named n.names.waiting x ≡ true → is_named m.names.waiting x ≡ true
+  pub made : m.names.stand_in ≡ None → (x : Oref) → is_named n.created x ≡ true → (is_named m.created x ≡ true) ⊎ (is_named m.names.waiting x ≡ true)
+
+pub takes_no : (m : Machine) → Takes m m
+takes_no m = record { none = λ e. e; waiting = λ x h. h; made = λ e x h. inl h }
+
+takes_then : (m n o : Machine) → Takes m n → Takes n o → Takes m o
+takes_then m n o h k = record {
+  none = λ e. k.none (h.none e);
+  waiting = λ x is. h.waiting x (k.waiting x is);
+  made = λ e x is. elim (k.made (h.none e) x is) [
+    | inl before ↦ h.made e x before
+    | inr named ↦ inr (h.waiting x named)
+  ];
+}
+
 module _ (w : World) where
   -- what was read is at hand
   abbrev pub AtHand : Machine → Type 0
@@ -68,6 +91,7 @@ module _ (w : World) where
     pub hand : AtHand m → AtHand n
     pub sound : (a : A) → r ≡ Ok a → Sound n
     pub ended : EndIs r n
+    pub takes : Takes m n
 
   abbrev pub Goes : {A : Type 0} → Action A → Type 0
   Goes {A} p = (m : Machine) → Sound m → Went A m (p m).0 (p m).1
@@ -79,24 +103,25 @@ module _ (w : World) where
     hand = λ g. then.hand (h.hand g);
     sound = then.sound;
     ended = then.ended;
+    takes = takes_then m n (k a n).1 h.takes then.takes;
   }
-  on m n (Err s) k h next = record { grows = h.grows; hand = h.hand; sound = λ b e. cc; ended = h.ended }
+  on m n (Err s) k h next = record { grows = h.grows; hand = h.hand; sound = λ b e. cc; ended = h.ended; takes = h.takes }
 
   pub bind : {A B : Type 0} (p : Action A) (k : A → Action B) → Goes p → ((a : A) → Goes (k a)) → Goes (p >>= k)
   bind p k h next m s = on m (p m).1 (p m).0 k (h m s) (λ a is t grows. next a (p m).1 t)
 
   -- a value, with a state in which the same was read, created and written
-  pub gives : {A : Type 0} (m n : Machine) (a : A) → Grows m n → (AtHand m → AtHand n) → Sound n → Went A m (Ok a) n
-  gives m n a grows hand sound = record { grows = grows; hand = hand; sound = λ c e. sound; ended = tt }
+  pub gives : {A : Type 0} (m n : Machine) (a : A) → Takes m n → Grows m n → (AtHand m → AtHand n) → Sound n → Went A m (Ok a) n
+  gives m n a takes grows hand sound = record { grows = grows; hand = hand; sound = λ c e. sound; ended = tt; takes = takes }
 
   pub value : {A : Type 0} (a : A) → Goes (λ m. (Ok a, m))
-  value a m s = gives m m a (λ x h. h) (λ h. h) s
+  value a m s = gives m m a (takes_no m) (λ x h. h) (λ h. h) s
 
   pub tells : {A : Type 0} (h : Machine → A) → Goes (λ m. (Ok (h m), m))
-  tells h m s = gives m m (h m) (λ x k. k) (λ k. k) s
+  tells h m s = gives m m (h m) (takes_no m) (λ x k. k) (λ k. k) s
 
   pub stops : {A : Type 0} (s : Stop) (m : Machine) → StopIs m s → Went A m (Err s) m
-  stops s m is = record { grows = λ x h. h; hand = λ h. h; sound = λ a e. cc; ended = is }
+  stops s m is = record { grows = λ x h. h; hand = λ h. h; sound = λ a e. cc; ended = is; takes = takes_no m }
 
   pub faults : {A : Type 0} (f : fault.the_data) → Goes {A = A} (λ m. (Err (stop.Fault f), m))
   faults f m s = stops (stop.Fault f) m tt
@@ -104,7 +129,7 @@ module _ (w : World) where
   stepped : (b : Bool) (m : Machine) → Sound m
       → let r : Result (Unit {0}) Stop × Machine = cond b (Ok tt, record m { steps = m.steps + 1 }) (Err (stop.Fault fault.Steps), m) in
       Went (Unit {0}) m r.0 r.1
-  stepped true m s = gives m _ tt (λ x h. h) (λ h. h) (record { this = s.this; written = s.written })
+  stepped true m s = gives m _ tt (record { none = λ e. e; waiting = λ x h. h; made = λ e x h. inl h }) (λ x h. h) (λ h. h) (record { this = s.this; written = s.written })
   stepped false m s = stops (stop.Fault fault.Steps) m tt
 
   pub steps : Goes step

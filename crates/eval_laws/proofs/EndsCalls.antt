@@ -1,5 +1,5 @@
 -- What calls and expressions say of how a run ends, where their parts and the bodies of methods do.
-use Rattle.std.proofs.Common.{Bool, true, false, cond, List, [], ◌∷◌, ◌++◌, Option, Some, None, Result, Err, ℕ}
+use Rattle.std.proofs.Common.{Bool, true, false, cond, List, [], ◌∷◌, ◌++◌, Option, Some, None, Result, Err, ℕ, inl}
 use Rattle.std.specs.Prelude.{nat_lt, option_map, slice_get, ◌+◌, ◌==◌}
 use Rattle.thor_value.specs.Names.{same_oref}
 use Rattle.thor_value.specs.declared.names.Oref.{Oref}
@@ -35,10 +35,16 @@ module _ (w : World) (v : Expr → Action Value) (b : List Stmt → Action Flow)
   body_goes this method arguments m s k =
       let inside = record m { depth = m.depth + 1; this = Some this; locals = bound w.schema.classes method.parameters arguments } in
       let h = blocks method.body inside (record { this = k; written = s.written }) in
-      on w m _ _ _ (record { grows = h.grows; hand = h.hand; sound = h.sound; ended = h.ended }) (λ flow is t grows.
+      on w m _ _ _ (record {
+        grows = h.grows;
+        hand = h.hand;
+        sound = h.sound;
+        ended = h.ended;
+        takes = record { none = h.takes.none; waiting = h.takes.waiting; made = h.takes.made };
+      }) (λ flow is t grows.
       let n = (b method.body inside).1 in
       let back = record n { depth = m.depth; this = m.this; locals = m.locals } in
-      gives w n back _ (λ x g. g) (λ g. g) (record { this = this_grows m back grows m.this s.this; written = t.written }))
+      gives w n back _ (record { none = λ e. e; waiting = λ y k. k; made = λ e y k. inl k }) (λ x g. g) (λ g. g) (record { this = this_grows m back grows m.this s.this; written = t.written }))
 
   enter_goes : (this : Receiver) (method : Option Method) (arguments : List Value) (m : Machine) → Sound m → ThisKnown m (Some this)
       → Went w Value m (enter w b this method arguments m).0 (enter w b this method arguments m).1
@@ -67,7 +73,7 @@ module _ (w : World) (v : Expr → Action Value) (b : List Stmt → Action Flow)
   kind_known (Some Free) x t m k = tt
   kind_known None x t m k = tt
 
-  owners_known : (c : ℕ) (x : Oref) (m : Machine) → Sound m → AllKnown m (owners_at w.schema.classes c x m)
+  pub owners_known : (c : ℕ) (x : Oref) (m : Machine) → Sound m → AllKnown m (owners_at w.schema.classes c x m)
   unfolding owners_at
   owners_known c x m s = kind_known (option_map (λ d. d.kind) (slice_get w.schema.classes c)) x m.this m s.this
 

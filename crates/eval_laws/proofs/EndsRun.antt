@@ -1,5 +1,5 @@
 -- What statements and whole transactions say of how a run ends.
-use Rattle.std.proofs.Common.{Bool, true, false, cond, List, [], ◌∷◌, ◌++◌, Option, ℕ, zero, suc, take, length}
+use Rattle.std.proofs.Common.{Bool, true, false, cond, List, [], ◌∷◌, ◌++◌, Option, ℕ, zero, suc, take, length, inl}
 use Rattle.thor_value.specs.declared.names.Oref.{Oref}
 use Rattle.thor_value.specs.declared.values.Fault.TheVariants as fault
 use Rattle.thor_value.specs.declared.values.Value.{Value}
@@ -13,15 +13,15 @@ use Rattle.class_defs.specs.declared.machine.Flow.TheVariants.{Next, Returned}
 use Rattle.class_defs.specs.declared.machine.Machine.{Machine}
 use Rattle.class_defs.specs.declared.statements.Stmt.{Stmt, out-Stmt}
 use Rattle.class_defs.specs.declared.statements.Stmt.TheOpen.{Stmt-F}
-use Rattle.eval_laws.proofs.Ends.{Goes, Grows, Sound, Went, AtHand, bind, faults, gives, steps, value}
+use Rattle.eval_laws.proofs.Ends.{Goes, Grows, Sound, Takes, Went, AtHand, bind, faults, gives, steps, value}
 use Rattle.eval_laws.proofs.EndsCalls.{expression_goes}
 use Rattle.eval_laws.proofs.EndsObjects.{assign_field_goes}
 
 module _ (w : World) where
   -- a change of the state that leaves what is read, written, created and `this`
-  changes : {A : Type 0} (c : Machine → Machine) (a : A) → ((m : Machine) → Grows m (c m)) → ((m : Machine) → AtHand w m → AtHand w (c m)) → ((m : Machine) → Sound m → Sound (c m))
+  changes : {A : Type 0} (c : Machine → Machine) (a : A) → ((m : Machine) → Takes m (c m)) → ((m : Machine) → Grows m (c m)) → ((m : Machine) → AtHand w m → AtHand w (c m)) → ((m : Machine) → Sound m → Sound (c m))
       → Goes w (change c >> pure a)
-  changes c a grows hand sound m s = gives w m (c m) a (grows m) (hand m) (sound m s)
+  changes c a takes grows hand sound m s = gives w m (c m) a (takes m) (grows m) (hand m) (sound m s)
 
   unless_goes : (flow : Flow) (p : Action Flow) → Goes w p → Goes w (unless_returned flow p)
   unless_goes Next p h = h
@@ -31,11 +31,11 @@ module _ (w : World) where
   order_goes r h [] = value w Next
   order_goes r h (s ∷ ss) = bind w (r s) _ (h s) (λ flow. unless_goes flow (in_order r ss) (order_goes r h ss))
 
-  block_goes : (r : Stmt → Action Flow) → ((s : Stmt) → Goes w (r s)) → (ss : List Stmt) → Goes w (block_of r ss)
+  pub block_goes : (r : Stmt → Action Flow) → ((s : Stmt) → Goes w (r s)) → (ss : List Stmt) → Goes w (block_of r ss)
   unfolding block_of
   block_goes r h ss m s =
       bind w (in_order r ss) _ (order_goes r h ss)
-      (λ flow. changes (λ n. record n { locals = take (length m.locals) n.locals }) flow (λ n x k. k) (λ n k. k) (λ n k. record { this = k.this; written = k.written })) m s
+      (λ flow. changes (λ n. record n { locals = take (length m.locals) n.locals }) flow (λ n. record { none = λ e. e; waiting = λ x k. k; made = λ e x k. inl k }) (λ n x k. k) (λ n k. k) (λ n k. record { this = k.this; written = k.written })) m s
 
   module _ (v : Expr → Action Value) (b : List Stmt → Action Flow) (values : (e : Expr) → Goes w (v e)) (blocks : (ss : List Stmt) → Goes w (b ss)) where
     either_goes : {A : Type 0} (c : Bool) (p q : Action A) → Goes w p → Goes w q → Goes w (cond c p q)
@@ -58,9 +58,9 @@ module _ (w : World) where
 
     statement_at_goes : (s : Stmt-F Stmt) → Goes w (statement_at w v b s)
     statement_at_goes (Stmt-F.Var type_name name line e) =
-        bind w _ _ (first_value e) (λ t. changes (declare (type_named w.schema.classes type_name) name.text t) Next (λ m x k. k) (λ m k. k) (λ m k. record { this = k.this; written = k.written }))
+        bind w _ _ (first_value e) (λ t. changes (declare (type_named w.schema.classes type_name) name.text t) Next (λ m. record { none = λ e. e; waiting = λ x k. k; made = λ e x k. inl k }) (λ m x k. k) (λ m k. k) (λ m k. record { this = k.this; written = k.written }))
     statement_at_goes (Stmt-F.Assign name line e) =
-        bind w _ _ (first_value e) (λ t. changes (assign_local name.text t) Next (λ m x k. k) (λ m k. k) (λ m k. record { this = k.this; written = k.written }))
+        bind w _ _ (first_value e) (λ t. changes (assign_local name.text t) Next (λ m. record { none = λ e. e; waiting = λ x k. k; made = λ e x k. inl k }) (λ m x k. k) (λ m k. k) (λ m k. record { this = k.this; written = k.written }))
     statement_at_goes (Stmt-F.FieldAssign field line e) =
         bind w _ _ (first_value e) (λ t. bind w _ _ (assign_field_goes w field.text t) (λ i. value w Next))
     statement_at_goes (Stmt-F.Return e) = bind w _ _ (first_value e) (λ t. value w (Returned t))
@@ -69,7 +69,7 @@ module _ (w : World) where
         bind w _ _ (first_value condition) (λ t. branch_goes t _ _ (blocks then_block) (blocks otherwise))
     statement_at_goes (Stmt-F.While condition body) = repeat_goes 100001 condition body
     statement_at_goes (Stmt-F.Print e) =
-        bind w _ _ (first_value e) (λ t. changes (λ m. record m { printed = m.printed ++ number t ∷ [] }) Next (λ m x k. k) (λ m k. k) (λ m k. record { this = k.this; written = k.written }))
+        bind w _ _ (first_value e) (λ t. changes (λ m. record m { printed = m.printed ++ number t ∷ [] }) Next (λ m. record { none = λ e. e; waiting = λ x k. k; made = λ e x k. inl k }) (λ m x k. k) (λ m k. k) (λ m k. record { this = k.this; written = k.written }))
     statement_at_goes (Stmt-F.Evaluate e) = bind w _ _ (first_value e) (λ t. value w Next)
 
     statement_goes : (s : Stmt) → Goes w (statement w v b s)
@@ -77,11 +77,11 @@ module _ (w : World) where
     statement_goes s = statement_at_goes (out-Stmt s)
 
   -- expressions and statements, as deep as n
-  record Both (n : ℕ) : Type 0 where
-    values : (e : Expr) → Goes w ((meaning w n).value_of e)
-    statements : (s : Stmt) → Goes w ((meaning w n).execute s)
+  pub record Both (n : ℕ) : Type 0 where
+    pub values : (e : Expr) → Goes w ((meaning w n).value_of e)
+    pub statements : (s : Stmt) → Goes w ((meaning w n).execute s)
 
-  both : (n : ℕ) → Both n
+  pub both : (n : ℕ) → Both n
   unfolding meaning
   both zero = record { values = λ e. faults w fault.Steps; statements = λ s. faults w fault.Steps }
   both (suc n) =

@@ -1,5 +1,12 @@
+pub mod Above
+pub mod AboveCalls
+pub mod AboveMaps
+pub mod AboveRun
 pub mod Ends
 pub mod EndsCalls
 pub mod EndsObjects
 pub mod EndsRun
+pub mod Exactly
+pub mod Needs
+pub mod NeedsRun
 pub mod Told

@@ -1,5 +1,5 @@
 -- What evaluations answer, by how their runs end.
-use Rattle.std.proofs.Common.{◌≡◌, ◌⊎◌, inl, inr, Bool, true, false, cond, map, List, [], ◌∷◌, Option, Some, None, Result, Ok, Err, refl, ap, subst, ◌∙◌, ℕ}
+use Rattle.std.proofs.Common.{◌≡◌, ◌⊎◌, inl, inr, Bool, true, false, cond, map, List, [], ◌∷◌, ◌++◌, Option, Some, None, Result, Ok, Err, refl, ap, sym, subst, ◌∙◌, ℕ, zero, suc, arith, append_assoc}
 use Rattle.std.specs.BTreeMap.{is_at}
 use Rattle.std.specs.List.{AllByRecursion}
 use Rattle.std.specs.Map.{lookup}
@@ -9,7 +9,7 @@ use Rattle.thor_value.specs.Names.{oref_cmp, same_oref}
 use Rattle.thor_value.specs.declared.names.Oref.{Oref}
 use Rattle.thor_value.specs.declared.values.Answer.{Answer}
 use Rattle.thor_value.specs.declared.values.Obj.{Obj}
-use Rattle.class_defs.proofs.SameNames.{same_itself}
+use Rattle.class_defs.proofs.SameNames.{one_name, same_itself}
 use Rattle.class_defs.specs.Objects.{take_name}
 use Rattle.class_defs.specs.Run.{begun, execute_all}
 use Rattle.class_defs.specs.Steps.{World}
@@ -26,7 +26,7 @@ use Rattle.method_eval.specs.Names.{supply}
 use Rattle.method_eval.specs.Viewed.{current, seen_in}
 use Rattle.method_eval.specs.declared.view.Ran.TheVariants.{Done, Need, NeedName}
 use Rattle.method_eval.specs.declared.view.View.{View}
-use Rattle.eval_laws.proofs.Ends.{AllKnown, AtHand, EndIs}
+use Rattle.eval_laws.proofs.Ends.{AllKnown, AtHand, EndIs, is_named}
 use Rattle.eval_laws.proofs.EndsRun.{transaction_ends}
 use Rattle.run_laws.proofs.TouchedStores.{state_alike}
 
@@ -55,7 +55,7 @@ module _ (w : World) (epoch : ℕ) (m : Machine) where
   name_of (Err (stop.NeedName other)) repo h is =
       let e : other ≡ repo = cc in (ap (λ k. Err (stop.NeedName k)) e, subst (λ k. take_name k m.names ≡ None) e h)
 
-  read_of : (o : Result Flow Stop) (a : Answer) (reads : List Oref) (writes : List (Oref × Obj)) (fresh : List Oref)
+  pub read_of : (o : Result Flow Stop) (a : Answer) (reads : List Oref) (writes : List (Oref × Obj)) (fresh : List Oref)
       → ran_at epoch o m ≡ Done a reads writes fresh → HadObjects o × (keys m.reads ≡ reads)
   read_of (Ok flow) a reads writes fresh is = (tt, cc)
   read_of (Err (stop.Fault f)) a reads writes fresh is = (tt, cc)
@@ -74,6 +74,29 @@ all_keys P (e ∷ es) h = (
   h e.0 (ap (λ b. is_some (cond b (Some e.1) (lookup (is_at (oref_cmp e.0)) es))) (same_itself e.0)),
   all_keys P es (λ x g. h x (kept (same_oref x e.0) (lookup (is_at (oref_cmp x)) es) e.1 g)),
 )
+
+-- ---- names
+
+first : (b : Bool) (z : Oref) (o : Option Oref) → b ≡ true → is_some (cond b (Some z) o) ≡ true
+first true z o h = refl
+first false z o h = cc
+
+on_top : (b : Bool) (z : Oref) (o : Option Oref) → is_some o ≡ true → is_some (cond b (Some z) o) ≡ true
+on_top true z o h = refl
+on_top false z o h = h
+
+behind : (xs ys : List Oref) (x : Oref) → is_named ys x ≡ true → is_named (xs ++ ys) x ≡ true
+behind [] ys x h = h
+behind (z ∷ xs) ys x h = on_top (same_oref x z) z (find (same_oref x) (xs ++ ys)) (behind xs ys x h)
+
+-- a name that is among some is one of them
+contained : (xs : List Oref) (x : Oref) → is_named xs x ≡ true → Contains xs x
+contained [] x h = cc
+contained (z ∷ xs) x h = by (same_oref x z) refl (contained xs x) h
+  where
+    by : (b : Bool) → same_oref x z ≡ b → (is_some (find (same_oref x) xs) ≡ true → Contains xs x) → is_some (cond b (Some z) (find (same_oref x) xs)) ≡ true → Contains (z ∷ xs) x
+    by true e rest k = (zero, omega arith, sym (one_name x z true e refl))
+    by false e rest k = let g = rest k in (suc g.0, omega (arith, g.1), g.2)
 
 module _ (tx : List Stmt) (schema : Schema) (view : View) where
   abbrev w : World
@@ -137,3 +160,28 @@ module _ (tx : List Stmt) (schema : Schema) (view : View) where
       ∙ ap (λ (p : Result Flow Stop × Machine). ran_at other.epoch p.0 p.1) there
       ∙ ap (λ (e : ℕ). ran_at e ended.0 ended.1) epoch
       ∙ is
+
+  -- where there are no stand-in names, the new objects took names that waited
+  pub all_fresh : (a : Answer) (reads : List Oref) (writes : List (Oref × Obj)) (fresh : List Oref) → evaluation tx schema view ≡ Done a reads writes fresh
+      → (supply view.names).stand_in ≡ None → AllByRecursion (λ x. Contains (supply view.names).waiting x) fresh
+  unfolding evaluation
+  all_fresh a reads writes fresh is none = by ended.0 is
+    where
+      waited : (x : Oref) → is_named ended.1.created x ≡ true → Contains (supply view.names).waiting x
+      waited x h = elim ((transaction_ends w tx (supply view.names).waiting (supply view.names).stand_in).takes.made none x h) [
+        | inl k ↦ cc
+        | inr k ↦ contained (supply view.names).waiting x k
+      ]
+
+      each : (xs ys : List Oref) → ((x : Oref) → is_named (xs ++ ys) x ≡ true → Contains (supply view.names).waiting x) → AllByRecursion (λ x. Contains (supply view.names).waiting x) ys
+      each xs [] h = tt
+      each xs (y ∷ ys) h = (
+        h y (behind xs (y ∷ ys) y (first (same_oref y y) y (find (same_oref y) ys) (same_itself y))),
+        each (xs ++ y ∷ []) ys (λ x k. h x (subst (λ (zs : List Oref). is_named zs x ≡ true) (append_assoc xs (y ∷ []) ys) k)),
+      )
+
+      by : (o : Result Flow Stop) → ran_at view.epoch o ended.1 ≡ Done a reads writes fresh → AllByRecursion (λ x. Contains (supply view.names).waiting x) fresh
+      by (Ok flow) e = let same : ended.1.created ≡ fresh = cc in subst (AllByRecursion (λ x. Contains (supply view.names).waiting x)) same (each [] ended.1.created waited)
+      by (Err (stop.Fault f)) e = let same : [] ≡ fresh = cc in subst (AllByRecursion (λ x. Contains (supply view.names).waiting x)) same tt
+      by (Err (stop.Need y others)) e = cc
+      by (Err (stop.NeedName other)) e = cc

@@ -16,7 +16,6 @@ use thor_value::NoMemory;
 
 /// A client of repositories, which contracts see as the number of its items and how those ended that
 /// have. It runs them one after the other.
-#[derive(Drop)]
 pub struct FrontEnd {
     client: Client,
     progress: Progress,
@@ -28,6 +27,14 @@ impl Model for FrontEnd {
     ghost Value = { Course };
 
     ghost view = { λ f. f.progress };
+}
+
+impl Drop for FrontEnd {
+    fn drop(self) {
+        let FrontEnd { client, progress } = self;
+        drop(client);
+        drop(progress);
+    }
 }
 
 /// What a step has come to.

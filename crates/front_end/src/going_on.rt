@@ -3,7 +3,6 @@
 use crate::client::Client;
 use client_state::{Phase, Transaction};
 use item_progress::{News, Opened, Task};
-use paused_eval::Paused;
 use port::Port;
 use serial_model::What;
 use thor_value::NoMemory;
@@ -56,7 +55,7 @@ impl Client {
         let alloc = self.held.alloc;
         match task.what {
             Some(What::Tx(block)) => {
-                let run = Paused::begin(alloc, block)?;
+                let run = self.held.begin(block)?;
                 self.evaluate(port, opened, run)
             }
             Some(What::Upgrade(upgrade)) => {

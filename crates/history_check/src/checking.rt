@@ -1,5 +1,5 @@
 ghost use Rattle.std.specs.Prelude.{IfOk, IfSome, ◌≡◌, true};
-ghost use Rattle.serial_model.specs.History.{IsLegal};
+ghost use Rattle.serial_model.specs.History.{IsLegal, after};
 ghost use Rattle.serial_model.specs.Outcomes.{Answers, all_items};
 ghost use Rattle.serial_model.specs.Replays.{AreMade};
 ghost use Rattle.history_check.specs.Lines.{ArePerformed};
@@ -34,6 +34,14 @@ fn answers(
     is_in_client_order(alloc, history)
 }
 
+/// A history that was checked.
+#[derive(Drop)]
+pub struct CheckedHistory {
+    pub history: Dids,
+    /// The store behind it.
+    pub end: Plain,
+}
+
 /// The serial history that the lines tell, where it is one: it is legal from the store, and it answers the
 /// items of the script as the outcomes say, each once and each client's in its order. `None` where it isn't.
 pub fn checked_history(
@@ -43,11 +51,12 @@ pub fn checked_history(
     clients: &ClientItems,
     lines: Lines,
     ends: &Ends,
-) -> Result<Option<Dids>, NoMemory>
+) -> Result<Option<CheckedHistory>, NoMemory>
     requires made { AreMade schemas.now }
     requires sorted { IsSorted store.now.objects }
-    ensures legal { IfOk result (λ found. IfSome found (λ history. IsLegal schemas.now history store.now)) }
-    ensures answers { IfOk result (λ found. IfSome found (λ history. Answers history (all_items clients.now) ends.now)) }
+    ensures legal { IfOk result (λ found. IfSome found (λ checked. IsLegal schemas.now checked.history store.now)) }
+    ensures answers { IfOk result (λ found. IfSome found (λ checked. Answers checked.history (all_items clients.now) ends.now)) }
+    ensures end { IfOk result (λ found. IfSome found (λ checked. checked.end ≡ after schemas.now checked.history store.now)) }
 {
     let Some(history) = history_of(alloc, clients.as_slice(), lines)? else {
         return Ok(None);
@@ -61,7 +70,7 @@ pub fn checked_history(
         return Ok(None);
     }
     match replay(alloc, &history, store, schemas) {
-        Ok(_) => Ok(Some(history)),
+        Ok(end) => Ok(Some(CheckedHistory { history, end })),
         Err(ReplayError::NotLegal { index: _ }) => Ok(None),
         Err(ReplayError::NoMemory) => Err(NoMemory),
     }

@@ -9,4 +9,4 @@ mod order;
 mod places;
 
 pub use assembling::{ClientItems, Items, Line, Lines};
-pub use checking::checked_history;
+pub use checking::{CheckedHistory, checked_history};

@@ -30,8 +30,7 @@ fn class_names(
 {
     let mut names = Names::new(alloc);
     names_of(schema.classes.as_slice(), &mut names)?;
-    stand_once(&names, 0, found);
-    Ok(())
+    stand_once(alloc, &names, 0, found)
 }
 
 /// T1 of the roots.
@@ -40,8 +39,7 @@ fn root_names(alloc: Global, schema: &Schema, found: &mut Option<TypeFault>) -> 
 {
     let mut names = Names::new(alloc);
     names_of(schema.roots.as_slice(), &mut names)?;
-    stand_once(&names, 0, found);
-    Ok(())
+    stand_once(alloc, &names, 0, found)
 }
 
 /// What a root breaks.
@@ -131,8 +129,7 @@ fn item_names(
     names_of(schema.roots.as_slice(), &mut names)?;
     let roots = names.len();
     names_in(item, &mut names)?;
-    stand_once(&names, roots, found);
-    Ok(())
+    stand_once(alloc, &names, roots, found)
 }
 
 /// Notes what a transaction breaks of the rules T1 to T8 under a schema, over so many repositories; the

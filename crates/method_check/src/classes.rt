@@ -41,8 +41,7 @@ fn member_names(alloc: Global, class: &Class, found: &mut Option<TypeFault>) -> 
     let mut names = Names::new(alloc);
     names_of(class.fields.as_slice(), &mut names)?;
     names_of(class.methods.as_slice(), &mut names)?;
-    stand_once(&names, 0, found);
-    Ok(())
+    stand_once(alloc, &names, 0, found)
 }
 
 /// What the methods of a class break.

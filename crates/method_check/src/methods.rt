@@ -43,8 +43,7 @@ fn body_names(alloc: Global, method: &Method, found: &mut Option<TypeFault>) -> 
     let mut names = Names::new(alloc);
     names_of(method.parameters.as_slice(), &mut names)?;
     names_in(&method.body, &mut names)?;
-    stand_once(&names, 0, found);
-    Ok(())
+    stand_once(alloc, &names, 0, found)
 }
 
 fn parameter_named(classes: &Classes, parameter: &Parameter) -> Result<NamedType, NoMemory>

@@ -1,13 +1,17 @@
-ghost use Rattle.std.specs.Prelude.{◌≡◌, ◌++◌, ◌≤◌, length, take, drop, map, not, OnOk};
+ghost use Rattle.std.specs.Prelude.{◌≡◌, ◌++◌, ◌∷◌, ◌≤◌, [], List, length, take, drop, map, not, IfOk, OnOk};
 ghost use Rattle.std.specs.List.{list_any};
 ghost use Rattle.std.specs.Str.{bytes_eq};
 ghost use Rattle.class_defs.specs.Rules as rules;
 ghost use Rattle.class_defs.specs.Rules.{least_with};
 ghost use Rattle.class_defs.specs.StatementRules.{names_declared, names_in};
+ghost use Rattle.class_defs.specs.declared.expressions.Name.{Name};
 ghost use Rattle.class_defs.specs.declared.rules.Rule.TheVariants.{T1};
+ghost use Rattle.method_check.specs.Seen.{Has};
 
 use crate::least::must;
 use class_defs::{Block, Name, Names, Rule, Stmt, TypeFault};
+use std::alloc::Global;
+use std::collections::HashSet;
 use thor_value::{NoMemory, TryCopy};
 
 /// Puts the locals that a statement declares behind the names, in the order of the text.
@@ -60,29 +64,54 @@ pub fn names_in(block: &Block, names: &mut Names) -> Result<(), NoMemory>
     Ok(())
 }
 
-/// Whether a name is one of several.
-fn is_among(names: &[Name], name: &Name) -> bool
-    ensures { result ≡ list_any (λ m. bytes_eq m.text name.now.text) names.now }
+/// The texts of names.
+type Seen = HashSet<Vec<u8>>;
+
+/// Puts a name among those that were seen, and answers whether it is new.
+fn is_new(seen: &mut Seen, name: &Name) -> Result<bool, NoMemory>
+    ensures new { IfOk result (λ new. (earlier : List Name) → Has seen.old earlier → new ≡ not (list_any (λ m. bytes_eq m.text name.now.text) earlier)) }
+    ensures seen { OnOk result ((earlier : List Name) → Has seen.old earlier → Has seen.new (earlier ++ name.now ∷ [])) }
 {
-    names
-        .iter()
-        .any(|other| other.text.as_slice() == name.text.as_slice())
+    let alloc = name.text.allocator();
+    let text = Vec::from_slice(alloc, name.text.as_slice())?;
+    Ok(seen.insert(text)?)
 }
 
-/// T1 of one name behind earlier ones.
-fn stands_once(earlier: &[Name], name: &Name, found: &mut Option<TypeFault>)
-    ensures { found.new ≡ least_with found.old (rules.must (not (list_any (λ m. bytes_eq m.text name.now.text) earlier.now)) T1 name.now.line) }
+/// T1 of one name behind those that were seen.
+fn stands_once(seen: &mut Seen, name: &Name, found: &mut Option<TypeFault>) -> Result<(), NoMemory>
+    ensures found { OnOk result ((earlier : List Name) → Has seen.old earlier → found.new ≡ least_with found.old (rules.must (not (list_any (λ m. bytes_eq m.text name.now.text) earlier)) T1 name.now.line)) }
+    ensures seen { OnOk result ((earlier : List Name) → Has seen.old earlier → Has seen.new (earlier ++ name.now ∷ [])) }
 {
-    must(!is_among(earlier, name), Rule::T1, name.line, found);
+    let new = is_new(seen, name)?;
+    must(new, Rule::T1, name.line, found);
+    Ok(())
+}
+
+/// The first few of the names.
+fn seen_of(alloc: Global, names: &[Name]) -> Result<Seen, NoMemory>
+    ensures { IfOk result (λ seen. Has seen names.now) }
+{
+    let mut seen = Seen::new(alloc);
+    for name in names {
+        is_new(&mut seen, name)?;
+    }
+    Ok(seen)
 }
 
 /// T1 of the names behind the first few.
-pub fn stand_once(names: &Names, earlier: usize, found: &mut Option<TypeFault>)
+pub fn stand_once(
+    alloc: Global,
+    names: &Names,
+    earlier: usize,
+    found: &mut Option<TypeFault>,
+) -> Result<(), NoMemory>
     requires { earlier ≤ length names.now }
-    ensures { found.new ≡ least_with found.old (rules.stand_once (take earlier names.now) (drop earlier names.now)) }
+    ensures { OnOk result (found.new ≡ least_with found.old (rules.stand_once (take earlier names.now) (drop earlier names.now))) }
 {
     let all = names.as_slice();
+    let mut seen = seen_of(alloc, &all[..earlier])?;
     for place in earlier..all.len() {
-        stands_once(&all[..place], &all[place], found);
+        stands_once(&mut seen, &all[place], found)?;
     }
+    Ok(())
 }

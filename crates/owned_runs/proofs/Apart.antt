@@ -1,7 +1,6 @@
 -- A run of a checked transaction that touched nothing due commutes with what the map stands for.
 use Rattle.class_defs.proofs.Levels.{due_is}
 use Rattle.class_defs.specs.Eager.{eager, value}
-use Rattle.class_defs.specs.Epochs.{schema_at}
 use Rattle.class_defs.specs.Levels.{is_due}
 use Rattle.class_defs.specs.Ownership.{IsAbove}
 use Rattle.class_defs.specs.Run.{Ran, changed, run}

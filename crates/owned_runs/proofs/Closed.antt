@@ -1,22 +1,20 @@
 -- A run touches each owner of what it touched.
-use Rattle.class_defs.specs.Eager.{eager, value}
+use Rattle.class_defs.specs.Eager.{value}
 use Rattle.class_defs.specs.Epochs.{classes_of}
-use Rattle.class_defs.specs.Ownership.{IsAbove, Owns, Refers}
+use Rattle.class_defs.specs.Ownership.{IsAbove, Owns}
 use Rattle.class_defs.specs.Rules.{is_part}
 use Rattle.class_defs.specs.Run.{Ran}
-use Rattle.class_defs.specs.Stored.{Stored, in_epoch}
+use Rattle.class_defs.specs.Stored.{Stored}
 use Rattle.class_defs.specs.declared.statements.Stmt.{Stmt}
 use Rattle.class_defs.specs.declared.store.Object.{Object}
 use Rattle.class_defs.specs.declared.store.Schema.{Schema}
 use Rattle.class_defs.specs.declared.store.Schemas.{Schemas}
 use Rattle.class_defs.specs.declared.types.ExprType.TheVariants as type
-use Rattle.lazy_laws.proofs.OwnedMaps.{all_owns}
-use Rattle.lazy_laws.proofs.Shrinking.{same_kind}
-use Rattle.lazy_laws.proofs.Values.{get-each, value_class}
-use Rattle.owned_runs.proofs.Plainly.{E, classes_are, parts_kept, plain_at, some_and}
+use Rattle.lazy_laws.proofs.Values.{value_class}
+use Rattle.owned_runs.proofs.Plainly.{E, owns-stored, part-at, parts_kept, plain_at, some_and}
 use Rattle.owned_runs.specs.Checked.{CheckedRun}
 use Rattle.part_laws.specs.Owning.{OwnsIn}
-use Rattle.std.proofs.Common.{List, ap, arith, subst, sym, true, ℕ, zero, suc, ◌≡◌, ◌∙◌}
+use Rattle.std.proofs.Common.{List, ap, subst, sym, true, ℕ, zero, suc, ◌≡◌, ◌∙◌}
 use Rattle.std.specs.List.{Contains}
 use Rattle.std.specs.Option.{option_map}
 use Rattle.std.specs.Prelude.{Option, Some}
@@ -29,19 +27,11 @@ module _ (s : Schemas) (N : Stored) (schema : Schema) (repos : ℕ) (tx : List S
 
   -- a class keeps its kind
   pub part_at : (d : ℕ) → is_part schema.classes (type.Class d) ≡ is_part (classes_of s 0) (type.Class d)
-  part_at d = ap (λ cs. is_part cs (type.Class d)) (sym (classes_are s N schema repos tx names r h)) ∙ same_kind s N.epoch h.keeps N.epoch (omega arith) (type.Class d)
+  part_at = part-at s N schema repos h.epoch h.rules h.keeps h.fits h.roots
 
   -- an owner in what the map stands for is one in the map
   pub owns_stored : (a : Oref) (i : ℕ) (z : Oref) → OwnsIn schema.classes F a i z → (j : ℕ) × Owns s N.objects a j z
-  owns_stored a i z own = all_owns s N h.keeps h.fits.owned a i z (record {
-    class = own.class;
-    part = sym (part_at own.class) ∙ own.part;
-    reference = record {
-      object = in_epoch N.epoch own.object;
-      stored = get-each (in_epoch N.epoch) (eager s N).objects a ∙ ap (option_map (in_epoch N.epoch)) own.stands;
-      refers = subst (λ cs. Refers cs own.object i own.class z) (sym (classes_are s N schema repos tx names r h)) own.refers;
-    };
-  })
+  owns_stored = owns-stored s N schema repos h.epoch h.rules h.keeps h.fits h.roots
 
   -- who owns what was touched was touched
   owner_touched : (a : Oref) (i : ℕ) (b : Oref) → Owns s N.objects a i b → Contains r.touched b → Contains r.touched a

@@ -4,8 +4,8 @@ use Rattle.class_defs.specs.Eager.{eager, value, values}
 use Rattle.class_defs.specs.Epochs.{classes_of, no_schema, schema_at}
 use Rattle.class_defs.specs.KeptOwnership.{AllKeepClasses}
 use Rattle.class_defs.specs.Objects.{stand_in_name}
-use Rattle.class_defs.specs.Ownership.{Names, Refers}
-use Rattle.class_defs.specs.Rules.{is_type}
+use Rattle.class_defs.specs.Ownership.{Names, Owns, Refers}
+use Rattle.class_defs.specs.Rules.{is_part, is_type}
 use Rattle.class_defs.specs.Run.{Ran, begun, execute_all, ran_by, run, takes, world_of}
 use Rattle.class_defs.specs.SchemaRules.{schema_rules}
 use Rattle.class_defs.specs.Steps.{fitted}
@@ -29,11 +29,12 @@ use Rattle.class_defs.specs.declared.types.ExprType.TheVariants as type
 use Rattle.class_defs.specs.declared.types.ExprType.{ExprType}
 use Rattle.fitting_laws.proofs.FitObjects.{fields_told}
 use Rattle.fitting_laws.specs.Fits.{FieldsFit, Fresh, IsNew, RootFits, StoreFits, ValueFits, class_of}
-use Rattle.lazy_laws.proofs.OwnedMaps.{all_kinds, all_owned}
+use Rattle.lazy_laws.proofs.OwnedMaps.{all_kinds, all_owned, all_owns}
+use Rattle.lazy_laws.proofs.Shrinking.{same_kind}
 use Rattle.lazy_laws.proofs.Values.{get-each}
 use Rattle.owned_runs.specs.Checked.{CheckedRun, RootsStand}
 use Rattle.part_laws.proofs.Runs.{run_keeps}
-use Rattle.part_laws.specs.Owning.{KeepsParts}
+use Rattle.part_laws.specs.Owning.{KeepsParts, OwnsIn}
 use Rattle.serial_model.specs.History.{are_fresh}
 use Rattle.std.proofs.Common.{Bool, List, [], ap, arith, cond, false, length, not, refl, subst, sym, true, ℕ, zero, suc, ◌≡◌, ◌∙◌, ◌∷◌}
 use Rattle.std.proofs.lemmas.Bool.Decides.{nat_tests}
@@ -201,6 +202,22 @@ module _ (s : Schemas) (N : Stored) (schema : Schema) (repos : ℕ) (epoch : sch
         };
     roots = roots_fit schema.roots stand;
   }
+
+  -- a class keeps its kind
+  pub part-at : (d : ℕ) → is_part schema.classes (type.Class d) ≡ is_part (classes_of s 0) (type.Class d)
+  part-at d = ap (λ cs. is_part cs (type.Class d)) (sym classes-are) ∙ same_kind s N.epoch keeps N.epoch (omega arith) (type.Class d)
+
+  -- an owner in what the map stands for is one in the map
+  pub owns-stored : (a : Oref) (i : ℕ) (z : Oref) → OwnsIn schema.classes F a i z → (j : ℕ) × Owns s N.objects a j z
+  owns-stored a i z own = all_owns s N keeps fits.owned a i z (record {
+    class = own.class;
+    part = sym (part-at own.class) ∙ own.part;
+    reference = record {
+      object = in_epoch N.epoch own.object;
+      stored = all_at a ∙ ap (option_map (in_epoch N.epoch)) own.stands;
+      refers = subst (λ cs. Refers cs own.object i own.class z) (sym classes-are) own.refers;
+    };
+  })
 
 module _ (s : Schemas) (N : Stored) (schema : Schema) (repos : ℕ) (tx : List Stmt) (names : List Oref) (r : Ran) (h : CheckedRun s N schema repos tx names r) where
   abbrev pub E : Oref → Option Object

@@ -59,7 +59,7 @@ module _ (schema : Schema) (repos : ℕ) (E : Oref → Option Object) where
   abbrev s : Option ℕ → ExprType → List NamedType → Sight
   s t r l = sight_of schema repos t r l
 
-  free_more : (l more : List NamedType) → AreFree schema repos E l → AreFree schema repos E more → AreFree schema repos E (l ++ more)
+  pub free_more : (l more : List NamedType) → AreFree schema repos E l → AreFree schema repos E more → AreFree schema repos E (l ++ more)
   free_more [] more h k = k
   free_more (n ∷ l) more h k = (h.0, free_more l more h.1 k)
 
@@ -83,7 +83,7 @@ module _ (schema : Schema) (repos : ℕ) (E : Oref → Option Object) where
   declared_free (Stmt-F.Print e) t r l ok = tt
   declared_free (Stmt-F.Evaluate e) t r l ok = tt
 
-  declares_free : (st : Stmt) (t : Option ℕ) (r : ExprType) (l : List NamedType) → (ruled st).broken (s t r l) ≡ [] → AreFree schema repos E ((ruled st).declares schema.classes)
+  pub declares_free : (st : Stmt) (t : Option ℕ) (r : ExprType) (l : List NamedType) → (ruled st).broken (s t r l) ≡ [] → AreFree schema repos E ((ruled st).declares schema.classes)
   declares_free st t r l ok =
       let k = ruled_out st in
       subst (λ (j : Ruled). AreFree schema repos E (j.declares schema.classes)) (sym k) (declared_free (out-Stmt st) t r l (ap (λ (j : Ruled). j.broken (s t r l)) (sym k) ∙ ok))
@@ -151,9 +151,6 @@ module _ (schema : Schema) (repos : ℕ) (sound : (c : ℕ) (d : Class) → slic
     unless_goes : (flow : Flow) (p : Action Flow) (n : Machine) → Owed Any n (p n).0 (p n).1 → TidyAt schema repos E n → Owed Any n (unless_returned flow p n).0 (unless_returned flow p n).1
     unless_goes Next p n h tidy = h
     unless_goes (Returned a) p n h tidy = still schema repos E Any n (Returned a) tidy tt
-
-    flow_fits : (flow : Flow) (n : Machine) → MachineFits world here n → MachineFits world here n
-    flow_fits flow n h = h
 
     unbroken_number : (e : Expr) → must_be_number here e ≡ [] → (judged here e).broken AsValue ≡ []
     unbroken_number e ok = (nothing ((judged here e).broken AsValue) (must (is_number (judged here e).kind) T3 (line_of e)) ok).0

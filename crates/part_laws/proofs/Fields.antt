@@ -235,6 +235,13 @@ module _ (schema : Schema) (repos : ℕ) (E : Oref → Option Object) (t : Optio
   typed_as : (o : Option Field) (d : Field) → o ≡ Some d → typed schema.classes (option_map (λ (g : Field). g.type_name) o) ≡ type_named schema.classes d.type_name
   typed_as o d is = rw is refl
 
+  -- `this` owns an object by a field
+  pub record OwnedByThis (m : Machine) (x : Oref) : Type 0 where
+    pub receiver : Receiver
+    pub this : m.this ≡ Some receiver
+    pub place : ℕ
+    pub owner : Owner schema.classes E m.writes receiver.oref place x
+
   -- what `this` owns may be read
   reach_by : (m : Machine) (q : Receiver) → m.this ≡ Some q → TidyAt schema repos E m → (i : ℕ) (x : Oref) → Owner schema.classes E m.writes q.oref i x → (b : Bool) → is_among m.created x ≡ b
       → CanReach schema.classes E m.reads m.created x
@@ -248,38 +255,49 @@ module _ (schema : Schema) (repos : ℕ) (E : Oref → Option Object) (t : Optio
       was_read before (inl k) = k
       was_read before (inr k) = none_is before.object (sym (tidy.new q.oref k) ∙ before.stands)
 
-  -- what an owned field of `this` names may be read
-  read_of : (m : Machine) (c : Option ℕ) (p : Option Receiver) (name : List ℕ) → m.this ≡ p → ObjectsFit schema (seen w m) → ThisFits (seen w m) c p → TidyAt schema repos E m
+  -- what an owned field of `this` names is owned by `this`
+  owned_of : (m : Machine) (c : Option ℕ) (p : Option Receiver) (name : List ℕ) → m.this ≡ p → ObjectsFit schema (seen w m) → ThisFits (seen w m) c p
       → is_some (field_of_this c name) ≡ true → field_type (scope_at schema m) name ≡ typed schema.classes (option_map (λ (g : Field). g.type_name) (field_of_this c name))
       → (x : Oref) → field_of_receiver w m p name ≡ value.Ref x → is_part schema.classes (typed schema.classes (option_map (λ (g : Field). g.type_name) (field_of_this c name))) ≡ true
-      → CanReach schema.classes E m.reads m.created x
+      → OwnedByThis m x
   unfolding seen
-  read_of m None p name at objects this tidy is kind x v part = cc
-  read_of m (Some c) None name at objects this tidy is kind x v part = absurd this
-  read_of m (Some c) (Some q) name at objects this tidy is kind x v part =
+  owned_of m None p name at objects this is kind x v part = cc
+  owned_of m (Some c) None name at objects this is kind x v part = absurd this
+  owned_of m (Some c) (Some q) name at objects this is kind x v part =
       let d = something (field_of schema.classes c name) is in
       let found : FieldFound (sees schema.classes E m.writes) schema.classes q.oref c name d.0 = find_field schema (sees schema.classes E m.writes) q.oref c name d.0 objects this.1 d.1 in
       let stands : field_at (sees schema.classes E m.writes q.oref) (field_named schema.classes q.class name) ≡ Some found.value = rw (this.0, found.of.at, found.named) found.stands in
       let e = typed_as (field_of schema.classes c name) d.0 d.1 in
       let same : field_of_receiver w m (Some q) name ≡ found.value = rw (kind, stands, e, fitted_is (sees schema.classes E m.writes) (type_named schema.classes d.0.type_name) found.value found.fits) refl in
       let k = part_is_class schema.classes (type_named schema.classes d.0.type_name) (subst (λ j. is_part schema.classes j ≡ true) e part) in
-      let own : Owner schema.classes E m.writes q.oref found.place x = record {
-        object = found.of.object;
-        stands = found.of.at;
-        class = k.0;
-        part = subst (λ j. is_part schema.classes j ≡ true) (e ∙ k.1) part;
-        refers = record {
-          declared = ap (λ j. type_at schema.classes j found.place) found.of.class ∙ type_there schema.classes c found.place d.0 found.field ∙ ap Some k.1;
-          names = found.stands ∙ ap Some (sym same ∙ v);
+      record {
+        receiver = q;
+        this = at;
+        place = found.place;
+        owner = record {
+          object = found.of.object;
+          stands = found.of.at;
+          class = k.0;
+          part = subst (λ j. is_part schema.classes j ≡ true) (e ∙ k.1) part;
+          refers = record {
+            declared = ap (λ j. type_at schema.classes j found.place) found.of.class ∙ type_there schema.classes c found.place d.0 found.field ∙ ap Some k.1;
+            names = found.stands ∙ ap Some (sym same ∙ v);
+          };
         };
-      } in
-      reach_by m q at tidy found.place x own (is_among m.created x) refl
+      }
 
+  pub field_owned : (m : Machine) (name : List ℕ) → MachineFits w s m → is_some (field_of_this t name) ≡ true
+      → (x : Oref) → field_value w m name ≡ value.Ref x → is_part schema.classes (field_type (scope_of s) name) ≡ true → OwnedByThis m x
+  unfolding field_value
+  field_owned m name h is x v part =
+      owned_of m t m.this name refl h.objects h.this is (ap (λ k. field_type k name) (scope_is (seen w m) s m h.this h.locals)) x v part
+
+  -- so it may be read
   pub field_goes : (m : Machine) (name : List ℕ) → MachineFits w s m → TidyAt schema repos E m → is_some (field_of_this t name) ≡ true
       → (x : Oref) → field_value w m name ≡ value.Ref x → is_part schema.classes (field_type (scope_of s) name) ≡ true → CanReach schema.classes E m.reads m.created x
-  unfolding field_value
   field_goes m name h tidy is x v part =
-      read_of m t m.this name refl h.objects h.this tidy is (ap (λ k. field_type k name) (scope_is (seen w m) s m h.this h.locals)) x v part
+      let owned = field_owned m name h is x v part in
+      reach_by m owned.receiver owned.this tidy owned.place x owned.owner (is_among m.created x) refl
 
   -- ---- a field is given a value
 

@@ -127,11 +127,11 @@ taken_none (x ∷ xs) (y ∷ ys) z h none is = by (same_oref z x) refl is (and_l
 module _ (schema : Schema) (repos : ℕ) (sound : (c : ℕ) (d : Class) → slice_get schema.classes c ≡ Some d → ClassSound schema repos c d)
     (roots : AllByRecursion (λ (r : RootDeclaration). is_part schema.classes (class_or_untold (class_named schema.classes r.class.text)) ≡ false) schema.roots)
     (E : Oref → Option Object) where
-  record Deep (n : ℕ) : Type 0 where
-    parts : PartsGo schema repos E (meaning (over schema E) n).value_of
-    statements : StatementsGo schema repos E (meaning (over schema E) n).execute
+  pub record Deep (n : ℕ) : Type 0 where
+    pub parts : PartsGo schema repos E (meaning (over schema E) n).value_of
+    pub statements : StatementsGo schema repos E (meaning (over schema E) n).execute
 
-  deep : (n : ℕ) → Deep n
+  pub deep : (n : ℕ) → Deep n
   unfolding meaning
   deep zero = record {
     parts = λ t r l free e place ok m h tidy. stops schema repos E _ m (stop.Fault fault.Steps) tidy;
@@ -156,7 +156,7 @@ module _ (schema : Schema) (repos : ℕ) (sound : (c : ℕ) (d : Class) → slic
 
 -- ---- the first state
 
-begun_tidy : (classes : List Class) (E : Oref → Option Object) → Tidy classes E empty [] empty None
+pub begun_tidy : (classes : List Class) (E : Oref → Option Object) → Tidy classes E empty [] empty None
 begun_tidy classes E = record {
   new = λ x h. cc;
   made = λ x h. cc;
@@ -185,7 +185,7 @@ begun_sorted : (names : List Oref) → IsSorted (begun names (Some 0)).writes
 unfolding IsStrictlySortedBy
 begun_sorted names = tt
 
-roots_free : (classes : List Class) (repos : ℕ) (rs : List RootDeclaration) → AllByRecursion (λ (r : RootDeclaration). root_rules classes repos r ≡ []) rs
+pub roots_free : (classes : List Class) (repos : ℕ) (rs : List RootDeclaration) → AllByRecursion (λ (r : RootDeclaration). root_rules classes repos r ≡ []) rs
     → AllByRecursion (λ (r : RootDeclaration). is_part classes (class_or_untold (class_named classes r.class.text)) ≡ false) rs
 roots_free classes repos [] h = tt
 roots_free classes repos (r ∷ rs) h = (not_true _ (held _ _ _ (nothing (is_class classes r.class) _ (nothing _ (root_at_rules repos r.at) h.0).0).1), roots_free classes repos rs h.1)
@@ -312,11 +312,11 @@ module _ (schema : Schema) (repos : ℕ) (store : Plain) (fit : StoreFits schema
   ended names (Err (stop.NeedName repo)) r sorted e = no_ran r e
 
 module _ (schema : Schema) (repos : ℕ) (tx : List Stmt) (store : Plain) (names : List Oref) where
-  block_unbroken : item_rules schema repos tx ≡ [] → block_rules (in_item schema repos) tx ≡ []
+  pub block_unbroken : item_rules schema repos tx ≡ [] → block_rules (in_item schema repos) tx ≡ []
   unfolding item_rules
   block_unbroken h = (nothing (item_names schema tx) (block_rules (in_item schema repos) tx) h).1
 
-  roots_unbroken : schema_rules schema repos ≡ [] → AllByRecursion (λ (r : RootDeclaration). root_rules schema.classes repos r ≡ []) schema.roots
+  pub roots_unbroken : schema_rules schema repos ≡ [] → AllByRecursion (λ (r : RootDeclaration). root_rules schema.classes repos r ≡ []) schema.roots
   unfolding schema_rules
   roots_unbroken h = each_nothing (root_rules schema.classes repos) schema.roots
       (nothing (class_names schema ++ root_names schema ++ classes_from schema repos 0 schema.classes) (flat_map (root_rules schema.classes repos) schema.roots) h).1

@@ -29,9 +29,10 @@ use Rattle.fitting_laws.proofs.FitCalls.{sight_of}
 use Rattle.fitting_laws.specs.Fits.{MachineFits}
 use Rattle.part_laws.proofs.Made.{is_among}
 use Rattle.part_laws.proofs.Tidy.{CanReach, Grows, IsFresh, Tidy, grows_no, grows_read, grows_then, is_known, not_both, or_left, read_itself, tidy_read}
+use Rattle.part_laws.specs.Owning.{OwnsIn}
 use Rattle.std.proofs.Common.{Bool, List, [], cond, false, inl, inr, not, refl, subst, true, ℕ, ◌+◌, ◌≡◌}
 use Rattle.std.specs.List.{AllByRecursion}
-use Rattle.std.specs.Prelude.{Err, None, Ok, Option, Result, Some, find, is_some, nat_lt, ◌||◌}
+use Rattle.std.specs.Prelude.{Err, None, Ok, Option, Result, Some, find, is_some, nat_lt, ◌||◌, ◌⊎◌}
 use Rattle.thor_value.specs.FiniteMap.{has, insert, len}
 use Rattle.thor_value.specs.Names.{same_oref}
 use Rattle.thor_value.specs.declared.names.Oref.{Oref}
@@ -141,6 +142,12 @@ module _ (schema : Schema) (repos : ℕ) (E : Oref → Option Object) where
   placed_free BesideNull k v n free = tt
   placed_free IntoOwnedField k v n free = λ x e part r is. not_both (is_part schema.classes k) part free
   placed_free AsValue k v n free = free
+
+  -- a receiver that is a part: `this`, or made, or one that `this` owned at first
+  pub record Held (m n : Machine) (x : Oref) : Type 0 where
+    pub receiver : Receiver
+    pub this : m.this ≡ Some receiver
+    pub is : (x ≡ receiver.oref) ⊎ ((is_among n.created x ≡ true) ⊎ ((i : ℕ) × OwnsIn schema.classes E receiver.oref i x))
 
   -- the names in sight are of no parts
   abbrev pub AreFree : List NamedType → Type 0

@@ -15,7 +15,7 @@ use Rattle.class_defs.specs.declared.classes.Parameter.{Parameter}
 use Rattle.class_defs.specs.declared.expressions.Expr.TheOpen.{Expr-F}
 use Rattle.class_defs.specs.declared.expressions.Expr.{Expr, map-Expr, out-Expr}
 use Rattle.class_defs.specs.declared.expressions.Name.{Name}
-use Rattle.class_defs.specs.declared.limits.TheConstants.{DEPTH_LIMIT}
+use Rattle.class_defs.specs.declared.limits.TheConstants.{DEPTH_LIMIT, STEP_LIMIT}
 use Rattle.class_defs.specs.declared.machine.Flow.{Flow}
 use Rattle.class_defs.specs.declared.machine.Machine.{Machine}
 use Rattle.class_defs.specs.declared.machine.Receiver.{Receiver}
@@ -40,13 +40,15 @@ use Rattle.fitting_laws.proofs.FitSteps.{steps as typed_steps}
 use Rattle.fitting_laws.proofs.FitValues.{Keeps, value_keeps}
 use Rattle.fitting_laws.specs.Fits.{MachineFits, ValueFits, class_of}
 use Rattle.fitting_laws.specs.Strict.{Sure}
-use Rattle.part_laws.proofs.Fields.{create_goes, field_goes}
-use Rattle.part_laws.proofs.Steps.{Any, AreFree, BlocksGo, Goes, Known, PartsGo, Placed, TidyAt, free_type, not_true, on, placed_free, still, steps, stops, touch_goes, weaker}
+use Rattle.part_laws.proofs.Fields.{OwnedByThis, create_goes, field_goes, field_owned}
+use Rattle.part_laws.proofs.Made.{is_among}
+use Rattle.part_laws.specs.Owning.{OwnsIn}
+use Rattle.part_laws.proofs.Steps.{Any, AreFree, BlocksGo, Goes, Held, Known, PartsGo, Placed, TidyAt, free_type, not_true, on, placed_free, still, steps, stops, touch_goes, weaker}
 use Rattle.part_laws.proofs.Tidy.{CanReach, IsFresh, IsReached, can_more, grows_no, is_known, known_more, not_both, tidy_this}
 use Rattle.std.proofs.Common.{Bool, List, [], ap, append-nil, append_assoc, arith, cond, false, inl, inr, length, map, not, refl, subst, sym, true, ℕ, ◌++◌, ◌+◌, ◌≡◌, ◌∙◌, ◌∷◌}
 use Rattle.std.specs.List.{AllByRecursion}
 use Rattle.std.specs.Option.{option_and_then, option_map, unwrap_or}
-use Rattle.std.specs.Prelude.{Err, None, Option, Result, Some, find, is_some, nat_lt, slice_get, ◌==◌, ◌||◌, ◌⊎◌}
+use Rattle.std.specs.Prelude.{Err, None, Ok, Option, Result, Some, find, is_some, nat_lt, slice_get, ◌==◌, ◌||◌, ◌⊎◌}
 use Rattle.std.specs.Str.{bytes_eq}
 use Rattle.thor_value.specs.declared.names.Oref.{Oref}
 use Rattle.thor_value.specs.declared.values.Fault.TheVariants as fault
@@ -58,10 +60,6 @@ no_this r e = cc
 
 same_this : (p q : Receiver) → ◌≡◌ {A = Option Receiver} (Some p) (Some q) → p ≡ q
 same_this p q e = cc
-
-left_false : (a b : Bool) → a ≡ false → (a || b) ≡ true → b ≡ true
-left_false true b e h = cc
-left_false false b e h = h
 
 module _ (schema : Schema) (repos : ℕ) (sound : (c : ℕ) (d : Class) → slice_get schema.classes c ≡ Some d → ClassSound schema repos c d)
     (roots : AllByRecursion (λ (r : RootDeclaration). is_part schema.classes (class_or_untold (class_named schema.classes r.class.text)) ≡ false) schema.roots)
@@ -103,20 +101,15 @@ module _ (schema : Schema) (repos : ℕ) (sound : (c : ℕ) (d : Class) → slic
     first_free (Some n) p h k = h n refl
     first_free None p h k = k
 
-    name_free : (name : List ℕ) → is_part schema.classes (unwrap_or (type_in_sight s name) type.Untold) ≡ false
+    pub name_free : (name : List ℕ) → is_part schema.classes (unwrap_or (type_in_sight s name) type.Untold) ≡ false
     name_free name = first_free (find (λ (n : NamedType). bytes_eq n.name name) l) (root_named s name)
         (λ n is. found_free (λ (q : NamedType). bytes_eq q.name name) l free n is) (root_free t (λ (q : RootDeclaration). bytes_eq q.name.text name) (root_named s name) refl)
 
     -- ---- the body of a method
 
-    parameters_free : (ps : List Parameter) → Told schema.classes ps → AreFree schema repos E (map (parameter_named schema.classes) ps)
+    pub parameters_free : (ps : List Parameter) → Told schema.classes ps → AreFree schema repos E (map (parameter_named schema.classes) ps)
     parameters_free [] h = tt
     parameters_free (p ∷ ps) h = (free_type schema.classes p.type_name h.0, parameters_free ps h.1)
-
-    result_free : (o : Option Method) → ((q : Method) → o ≡ Some q → MethodSound schema repos 0 q ⊎ (is_part schema.classes (type_named schema.classes q.result) ≡ false))
-        → is_part schema.classes (typed schema.classes (option_map (λ (q : Method). q.result) o)) ≡ false
-    result_free None h = refl
-    result_free (Some q) h = elim (h q refl) [ inl k ↦ free_type schema.classes q.result k.result | inr k ↦ k ]
 
     body_goes : (this : Receiver) (c : ℕ) (method : Method) (us : List Value) (m : Machine) → this.class ≡ c
         → class_of (seen w m) this.oref ≡ Some c → MethodSound schema repos c method
@@ -156,11 +149,11 @@ module _ (schema : Schema) (repos : ℕ) (sound : (c : ℕ) (d : Class) → slic
     class_behind (Some k) name method is = refl
     class_behind None name method is = cc
 
-    sound_method : (c : ℕ) (name : List ℕ) (method : Method) → method_of schema.classes c name ≡ Some method → MethodSound schema repos c method
+    pub sound_method : (c : ℕ) (name : List ℕ) (method : Method) → method_of schema.classes c name ≡ Some method → MethodSound schema repos c method
     sound_method c name method is = let k = something (slice_get schema.classes c) (class_behind (slice_get schema.classes c) name method is) in method_declared c k.0 name method k.1 is
 
     -- what a call answers is no part
-    called_free : (k : ExprType) (name : List ℕ) → is_part schema.classes (result_type schema.classes k name) ≡ false
+    pub called_free : (k : ExprType) (name : List ℕ) → is_part schema.classes (result_type schema.classes k name) ≡ false
     called_free (type.Class c) name = by (method_of schema.classes c name) refl
       where
         by : (o : Option Method) → method_of schema.classes c name ≡ o → is_part schema.classes (typed schema.classes (option_map (λ (q : Method). q.result) o)) ≡ false
@@ -170,13 +163,13 @@ module _ (schema : Schema) (repos : ℕ) (sound : (c : ℕ) (d : Class) → slic
     called_free type.Null name = refl
     called_free type.Untold name = refl
 
-    abbrev judgements : List Expr → List Judged
+    abbrev pub judgements : List Expr → List Judged
     judgements es = map (judged s) es
 
     -- what a call owes to the rules
-    record CallUnbroken (k : ExprType) (name : Name) (es : List Expr) : Type 0 where
-      called : called_rules k (method_called schema.classes k name) name (length (judgements es)) ≡ []
-      given : arguments_rules schema.classes (parameters_of (method_called schema.classes k name)) (judgements es) ≡ []
+    pub record CallUnbroken (k : ExprType) (name : Name) (es : List Expr) : Type 0 where
+      pub called : called_rules k (method_called schema.classes k name) name (length (judgements es)) ≡ []
+      pub given : arguments_rules schema.classes (parameters_of (method_called schema.classes k name)) (judgements es) ≡ []
 
     enter_goes : (this : Receiver) (c : ℕ) (name : Name) (o : Option Method) (es : List Expr) (us : List Value) (m : Machine) → method_of schema.classes c name.text ≡ o
         → called_rules (type.Class c) o name (length (judgements es)) ≡ [] → arguments_rules schema.classes (parameters_of o) (judgements es) ≡ []
@@ -256,7 +249,7 @@ module _ (schema : Schema) (repos : ℕ) (sound : (c : ℕ) (d : Class) → slic
     -- ---- one node
 
     -- the type that a check gives a node
-    abbrev node_kind : Expr-F Expr → ExprType
+    abbrev pub node_kind : Expr-F Expr → ExprType
     node_kind x = type_step (scope_of s) (kinds_at (map-Expr Expr Judged (judged s) x))
 
     -- an object of a class that is no part may always be read
@@ -271,7 +264,7 @@ module _ (schema : Schema) (repos : ℕ) (sound : (c : ℕ) (d : Class) → slic
         one_class i j e = cc
 
     -- a receiver may be read
-    receiver_reached : (k : ExprType) (a : Value) (m : Machine) → TidyAt schema repos E m → ValueFits (seen w m) k a → Here AsReceiver k a m → (x : Oref) → a ≡ value.Ref x → CanReach schema.classes E m.reads m.created x
+    pub receiver_reached : (k : ExprType) (a : Value) (m : Machine) → TidyAt schema repos E m → ValueFits (seen w m) k a → Here AsReceiver k a m → (x : Oref) → a ≡ value.Ref x → CanReach schema.classes E m.reads m.created x
     receiver_reached k a m tidy fit good x is = by k (is_part schema.classes k) refl (subst (λ (y : Value). ValueFits (seen w m) k y) is fit) (good x is)
       where
         by : (k : ExprType) (c : Bool) → is_part schema.classes k ≡ c → ValueFits (seen w m) k (value.Ref x) → (is_part schema.classes k ≡ true → CanReach schema.classes E m.reads m.created x) → CanReach schema.classes E m.reads m.created x
@@ -372,6 +365,70 @@ module _ (schema : Schema) (repos : ℕ) (sound : (c : ℕ) (d : Class) → slic
     node_goes (Expr-F.Call receiver name es) place m ok h tidy =
         weaker schema repos E Any (Here place (node_kind (Expr-F.Call receiver name es))) m _ _ (called_goes receiver name es m ok h tidy)
         (λ a e good. placed_free schema repos E place (node_kind (Expr-F.Call receiver name es)) a _ (called_free (judged s receiver).kind name.text))
+
+    -- ---- receivers
+
+    this_held : (m n : Machine) (p : Option Receiver) → m.this ≡ p → (x : Oref) → this_value p ≡ value.Ref x → Held schema repos E m n x
+    this_held m n None at x e = cc
+    this_held m n (Some q) at x e = let same : x ≡ q.oref = cc in record { receiver = q; this = at; is = inl same }
+
+    field_held : (m : Machine) (name : Name) → MachineFits w s m → TidyAt schema repos E m → is_some (option_and_then (λ c. field_of schema.classes c name.text) t) ≡ true
+        → (x : Oref) → field_value w m name.text ≡ value.Ref x → is_part schema.classes (field_type (scope_of s) name.text) ≡ true → Held schema repos E m m x
+    field_held m name h tidy there x e part =
+        let owned = field_owned schema repos E t r l m name.text h there x e part in
+        record { receiver = owned.receiver; this = owned.this; is = by owned (is_among m.created x) refl }
+      where
+        by : (owned : OwnedByThis schema repos E t r l m x) (b : Bool) → is_among m.created x ≡ b
+            → (x ≡ owned.receiver.oref) ⊎ ((is_among m.created x ≡ true) ⊎ ((i : ℕ) × OwnsIn schema.classes E owned.receiver.oref i x))
+        by owned true made = inr (inl made)
+        by owned false made = inr (inr (owned.place, tidy.old owned.receiver.oref x owned.place made owned.owner))
+
+    ok_is : {A : Type 0} (a c : A) → ◌≡◌ {A = Result A Stop} (Ok a) (Ok c) → a ≡ c
+    ok_is a c e = cc
+
+    node_held : (x : Expr-F Expr) (m : Machine) → broken_at s (map-Expr Expr Judged (judged s) x) AsReceiver ≡ [] → MachineFits w s m → TidyAt schema repos E m
+        → is_part schema.classes (node_kind x) ≡ true → (a : Value) → (value_at w v b x m).0 ≡ Ok a → (z : Oref) → a ≡ value.Ref z → Held schema repos E m (value_at w v b x m).1 z
+    node_held (Expr-F.Int n line) m ok h tidy part a is z e = cc
+    node_held (Expr-F.Null line) m ok h tidy part a is z e = cc
+    node_held (Expr-F.This line) m ok h tidy part a is z e = this_held m m m.this refl z (ok_is (this_value m.this) a is ∙ e)
+    node_held (Expr-F.Field name) m ok h tidy part a is z e =
+        let p = nothing (must (is_some (option_and_then (λ c. field_of schema.classes c name.text) t)) T2 name.line) _ ok in
+        field_held m name h tidy (held _ _ _ p.0) z (ok_is (field_value w m name.text) a is ∙ e) part
+    node_held (Expr-F.Variable name) m ok h tidy part a is z e = not_both (is_part schema.classes (node_kind (Expr-F.Variable name))) part (name_free name.text)
+    node_held (Expr-F.New class at) m ok h tidy part a is z e =
+        let p = nothing (is_class schema.classes class ++ must
+        (may_be_made AsReceiver || not (is_part schema.classes (class_or_untold (class_named schema.classes class.text)))) T8 class.line)
+        (at_rules s at) ok in
+        let made = held _ _ _ (nothing (is_class schema.classes class) _ p.0).1 in
+        not_both (is_part schema.classes (node_kind (Expr-F.New class at))) part (not_true (is_part schema.classes (node_kind (Expr-F.New class at))) made)
+    node_held (Expr-F.Parens inner line) m ok h tidy part a is z e =
+        not_both (is_part schema.classes (judged s inner).kind) part ((parts t r l free inner AsValue ok m h tidy).good a is)
+    node_held (Expr-F.Negate operand line) m ok h tidy part a is z e = cc
+    node_held (Expr-F.Binary operator left right line) m ok h tidy part a is z e = cc
+    node_held (Expr-F.Call receiver name es) m ok h tidy part a is z e =
+        not_both (is_part schema.classes (node_kind (Expr-F.Call receiver name es))) part (called_free (judged s receiver).kind name.text)
+
+    abbrev stepped : Machine → Machine
+    stepped m = record m { steps = m.steps + 1 }
+
+    abbrev behind_step : Bool → Expr-F Expr → Machine → Result Value Stop × Machine
+    behind_step few x m =
+        let first : Result (Unit {0}) Stop × Machine = cond few (Ok tt, stepped m) (Err (stop.Fault fault.Steps), m) in
+        after first.0 first.1 (λ u. value_at w v b x)
+
+    step_held : (few : Bool) (x : Expr-F Expr) (m : Machine) → broken_at s (map-Expr Expr Judged (judged s) x) AsReceiver ≡ [] → MachineFits w s (stepped m) → TidyAt schema repos E (stepped m)
+        → is_part schema.classes (node_kind x) ≡ true → (a : Value) → (behind_step few x m).0 ≡ Ok a → (z : Oref) → a ≡ value.Ref z → Held schema repos E m (behind_step few x m).1 z
+    step_held true x m ok h tidy part a is z e = let k = node_held x (stepped m) ok h tidy part a is z e in record { receiver = k.receiver; this = k.this; is = k.is }
+    step_held false x m ok h tidy part a is z e = cc
+
+    pub receiver_held : (e : Expr) (m : Machine) → (judged s e).broken AsReceiver ≡ [] → MachineFits w s m → TidyAt schema repos E m
+        → is_part schema.classes (judged s e).kind ≡ true → (a : Value) → (expression w v b e m).0 ≡ Ok a → (z : Oref) → a ≡ value.Ref z → Held schema repos E m (expression w v b e m).1 z
+    unfolding expression step seen
+    receiver_held e m ok h tidy part a is z same =
+        let k = judged_out s e in
+        step_held (nat_lt m.steps STEP_LIMIT) (out-Expr e) m (ap (λ (j : Judged). j.broken AsReceiver) (sym k) ∙ ok)
+        (record { objects = h.objects; this = h.this; locals = h.locals; names = h.names }) tidy
+        (ap (λ (j : Judged). is_part schema.classes j.kind) (sym k) ∙ part) a is z same
 
   -- an expression that breaks no rule
   pub expression_goes : PartsGo schema repos E (expression w v b)

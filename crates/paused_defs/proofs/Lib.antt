@@ -3,5 +3,6 @@ pub mod AlikeMoves
 pub mod MoreNames
 pub mod MoreCreated
 pub mod Reaching
+pub mod Alike
 pub mod Drops
 pub mod Falling

@@ -23,10 +23,10 @@ expr_step (ExprNode-F.This line) = e.This line
 expr_step (ExprNode-F.Field text line) = e.Field (name text line)
 expr_step (ExprNode-F.Variable text line) = e.Variable (name text line)
 expr_step (ExprNode-F.New class line at) = e.New (name class line) at
-expr_step (ExprNode-F.Parens inner line) = e.Parens inner line
-expr_step (ExprNode-F.Negate operand line) = e.Negate operand line
-expr_step (ExprNode-F.Binary operator left right line) = e.Binary operator left right line
-expr_step (ExprNode-F.Call receiver method line arguments) = e.Call receiver (name method line) arguments
+expr_step (ExprNode-F.Parens inner line calls) = e.Parens inner line
+expr_step (ExprNode-F.Negate operand line calls) = e.Negate operand line
+expr_step (ExprNode-F.Binary operator left right line calls) = e.Binary operator left right line
+expr_step (ExprNode-F.Call receiver method line arguments calls) = e.Call receiver (name method line) arguments
 
 abbrev pub plain : ExprNode → Expr
 plain = fold-ExprNode Expr expr_step

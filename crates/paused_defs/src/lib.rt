@@ -4,6 +4,7 @@
 mod frames;
 mod laws;
 mod nodes;
+mod sameness;
 mod shared;
 mod sharing;
 mod stack;
@@ -16,5 +17,6 @@ pub use laws::{
 };
 pub use nodes::{ExprNode, ExprNodes, StmtNode, StmtNodes};
 pub use shared::Shared;
+pub use sharing::calls_in;
 pub use stack::Stack;
 pub use syntax::{SharedBlock, SharedExpr, SharedExprs, SharedStmt};

@@ -31,22 +31,30 @@ pub enum ExprNode {
     Parens {
         inner: Shared<ExprNode>,
         line: u32,
+        /// Whether an object is called or made in it. This tells only how it is evaluated.
+        calls: bool,
     },
     Negate {
         operand: Shared<ExprNode>,
         line: u32,
+        /// Whether an object is called or made in it. This tells only how it is evaluated.
+        calls: bool,
     },
     Binary {
         operator: Operator,
         left: Shared<ExprNode>,
         right: Shared<ExprNode>,
         line: u32,
+        /// Whether an object is called or made in it. This tells only how it is evaluated.
+        calls: bool,
     },
     Call {
         receiver: Shared<ExprNode>,
         method: Shared<Text>,
         line: u32,
         arguments: Shared<ExprNodes>,
+        /// Whether an object is called or made in the receiver or an argument. This tells only how it is evaluated.
+        calls: bool,
     },
 }
 

@@ -1,9 +1,10 @@
 ghost use Rattle.std.specs.Prelude.{◌≡◌, map, IfOk};
-ghost use Rattle.paused_defs.specs.Plain.{plain, plain_stmt};
+ghost use Rattle.class_defs.specs.declared.expressions.Expr.TheVariants as Expr;
+ghost use Rattle.paused_defs.specs.Plain.{name, plain, plain_stmt};
 
 use crate::nodes::{ExprNode, ExprNodes, StmtNode, StmtNodes};
 use crate::shared::Shared;
-use class_defs::{Block, Expr, Exprs, Name, Stmt};
+use class_defs::{Block, Expr, Exprs, Name, Operator, Stmt};
 use std::alloc::Global;
 use thor_value::{NoMemory, Sequence, Text, TryCopy};
 
@@ -11,6 +12,81 @@ fn shared_text(alloc: Global, name: &Name) -> Result<Shared<Text>, NoMemory>
     ensures { IfOk result (λ text. text ≡ name.now.text) }
 {
     Shared::new(alloc, name.text.copy()?)
+}
+
+/// Whether an object is called or made in a node. This tells only how it is evaluated.
+pub fn calls_in(node: &ExprNode) -> bool {
+    match node {
+        ExprNode::New { .. } | ExprNode::Call { .. } => true,
+        ExprNode::Parens { calls, .. }
+        | ExprNode::Negate { calls, .. }
+        | ExprNode::Binary { calls, .. } => *calls,
+        _ => false,
+    }
+}
+
+/// Whether an object is called or made in one of these.
+fn calls_in_any(nodes: &ExprNodes) -> bool {
+    for node in nodes.as_slice() {
+        if calls_in(node.get()) {
+            return true;
+        }
+    }
+    false
+}
+
+fn parens(inner: Shared<ExprNode>, line: u32) -> ExprNode
+    ensures { plain result ≡ Expr.Parens (plain inner) line }
+{
+    let calls = calls_in(inner.get());
+    ExprNode::Parens { inner, line, calls }
+}
+
+fn negate(operand: Shared<ExprNode>, line: u32) -> ExprNode
+    ensures { plain result ≡ Expr.Negate (plain operand) line }
+{
+    let calls = calls_in(operand.get());
+    ExprNode::Negate {
+        operand,
+        line,
+        calls,
+    }
+}
+
+fn binary(
+    operator: Operator,
+    left: Shared<ExprNode>,
+    right: Shared<ExprNode>,
+    line: u32,
+) -> ExprNode
+    ensures { plain result ≡ Expr.Binary operator (plain left) (plain right) line }
+{
+    let calls = calls_in(left.get()) || calls_in(right.get());
+    ExprNode::Binary {
+        operator,
+        left,
+        right,
+        line,
+        calls,
+    }
+}
+
+fn call(
+    receiver: Shared<ExprNode>,
+    method: Shared<Text>,
+    line: u32,
+    arguments: Shared<ExprNodes>,
+) -> ExprNode
+    ensures { plain result ≡ Expr.Call (plain receiver) (name method line) (map plain arguments) }
+{
+    let calls = calls_in(receiver.get()) || calls_in_any(arguments.get());
+    ExprNode::Call {
+        receiver,
+        method,
+        line,
+        arguments,
+        calls,
+    }
 }
 
 /// A copy of expressions whose parts can be shared.
@@ -50,35 +126,29 @@ pub fn expr_node(alloc: Global, expr: &Expr) -> Result<Shared<ExprNode>, NoMemor
             line: class.line,
             at: *at,
         },
-        Expr::Parens { inner, line } => ExprNode::Parens {
-            inner: expr_node(alloc, inner.get())?,
-            line: *line,
-        },
-        Expr::Negate { operand, line } => ExprNode::Negate {
-            operand: expr_node(alloc, operand.get())?,
-            line: *line,
-        },
+        Expr::Parens { inner, line } => parens(expr_node(alloc, inner.get())?, *line),
+        Expr::Negate { operand, line } => negate(expr_node(alloc, operand.get())?, *line),
         Expr::Binary {
             operator,
             left,
             right,
             line,
-        } => ExprNode::Binary {
-            operator: *operator,
-            left: expr_node(alloc, left.get())?,
-            right: expr_node(alloc, right.get())?,
-            line: *line,
-        },
+        } => binary(
+            *operator,
+            expr_node(alloc, left.get())?,
+            expr_node(alloc, right.get())?,
+            *line,
+        ),
         Expr::Call {
             receiver,
             method,
             arguments,
-        } => ExprNode::Call {
-            receiver: expr_node(alloc, receiver.get())?,
-            method: shared_text(alloc, method)?,
-            line: method.line,
-            arguments: expr_nodes(alloc, arguments)?,
-        },
+        } => call(
+            expr_node(alloc, receiver.get())?,
+            shared_text(alloc, method)?,
+            method.line,
+            expr_nodes(alloc, arguments)?,
+        ),
     };
     Shared::new(alloc, node)
 }

@@ -1,5 +1,5 @@
 -- Syntax with several owners, node by node, as the syntax that it is.
-use Rattle.std.proofs.Common.{◌≡◌, ℕ, ℤ, List, map, Option, option_map, ap, sym, ◌∙◌}
+use Rattle.std.proofs.Common.{◌≡◌, Bool, ℕ, ℤ, List, map, Option, option_map, ap, sym, ◌∙◌}
 use Rattle.std.specs.Prelude.{unwrap_or}
 use Rattle.class_defs.specs.declared.expressions.At.{At}
 use Rattle.class_defs.specs.Types.{Scope, class_named, class_or_untold, field_type, name_type, result_type, type_of, type_step}
@@ -44,17 +44,17 @@ plain_variable t l = ap plain (sym (e.rolls-Variable t l)) ∙ fold-roll-ExprNod
 pub plain_new : (t : List ℕ) (l : ℕ) (at : Option At) → plain (e.New t l at) ≡ x.New (name t l) at
 plain_new t l at = ap plain (sym (e.rolls-New t l at)) ∙ fold-roll-ExprNode Expr expr_step (ExprNode-F.New t l at)
 
-pub plain_parens : (n : ExprNode) (l : ℕ) → plain (e.Parens n l) ≡ x.Parens (plain n) l
-plain_parens n l = ap plain (sym (e.rolls-Parens n l)) ∙ fold-roll-ExprNode Expr expr_step (ExprNode-F.Parens n l)
+pub plain_parens : (n : ExprNode) (l : ℕ) (q : Bool) → plain (e.Parens n l q) ≡ x.Parens (plain n) l
+plain_parens n l q = ap plain (sym (e.rolls-Parens n l q)) ∙ fold-roll-ExprNode Expr expr_step (ExprNode-F.Parens n l q)
 
-pub plain_negate : (n : ExprNode) (l : ℕ) → plain (e.Negate n l) ≡ x.Negate (plain n) l
-plain_negate n l = ap plain (sym (e.rolls-Negate n l)) ∙ fold-roll-ExprNode Expr expr_step (ExprNode-F.Negate n l)
+pub plain_negate : (n : ExprNode) (l : ℕ) (q : Bool) → plain (e.Negate n l q) ≡ x.Negate (plain n) l
+plain_negate n l q = ap plain (sym (e.rolls-Negate n l q)) ∙ fold-roll-ExprNode Expr expr_step (ExprNode-F.Negate n l q)
 
-pub plain_binary : (o : Operator) (n k : ExprNode) (l : ℕ) → plain (e.Binary o n k l) ≡ x.Binary o (plain n) (plain k) l
-plain_binary o n k l = ap plain (sym (e.rolls-Binary o n k l)) ∙ fold-roll-ExprNode Expr expr_step (ExprNode-F.Binary o n k l)
+pub plain_binary : (o : Operator) (n k : ExprNode) (l : ℕ) (q : Bool) → plain (e.Binary o n k l q) ≡ x.Binary o (plain n) (plain k) l
+plain_binary o n k l q = ap plain (sym (e.rolls-Binary o n k l q)) ∙ fold-roll-ExprNode Expr expr_step (ExprNode-F.Binary o n k l q)
 
-pub plain_call : (n : ExprNode) (t : List ℕ) (l : ℕ) (ns : List ExprNode) → plain (e.Call n t l ns) ≡ x.Call (plain n) (name t l) (map plain ns)
-plain_call n t l ns = ap plain (sym (e.rolls-Call n t l ns)) ∙ fold-roll-ExprNode Expr expr_step (ExprNode-F.Call n t l ns)
+pub plain_call : (n : ExprNode) (t : List ℕ) (l : ℕ) (ns : List ExprNode) (q : Bool) → plain (e.Call n t l ns q) ≡ x.Call (plain n) (name t l) (map plain ns)
+plain_call n t l ns q = ap plain (sym (e.rolls-Call n t l ns q)) ∙ fold-roll-ExprNode Expr expr_step (ExprNode-F.Call n t l ns q)
 
 pub stmt_var : (k : TypeName) (t : List ℕ) (i l : ℕ) (v : ExprNode) → plain_stmt (s.Var k t i l v) ≡ y.Var k (name t i) l (plain v)
 stmt_var k t i l v = ap plain_stmt (sym (s.rolls-Var k t i l v)) ∙ fold-roll-StmtNode Stmt stmt_step (StmtNode-F.Var k t i l v)
@@ -103,17 +103,17 @@ out_variable t l = ap out-Expr (plain_variable t l) ∙ ap out-Expr (sym (x.roll
 pub out_new : (t : List ℕ) (l : ℕ) (at : Option At) → out-Expr (plain (e.New t l at)) ≡ Expr-F.New (name t l) at
 out_new t l at = ap out-Expr (plain_new t l at) ∙ ap out-Expr (sym (x.rolls-New (name t l) at)) ∙ out-roll-Expr (Expr-F.New (name t l) at)
 
-pub out_parens : (n : ExprNode) (l : ℕ) → out-Expr (plain (e.Parens n l)) ≡ Expr-F.Parens (plain n) l
-out_parens n l = ap out-Expr (plain_parens n l) ∙ ap out-Expr (sym (x.rolls-Parens (plain n) l)) ∙ out-roll-Expr (Expr-F.Parens (plain n) l)
+pub out_parens : (n : ExprNode) (l : ℕ) (q : Bool) → out-Expr (plain (e.Parens n l q)) ≡ Expr-F.Parens (plain n) l
+out_parens n l q = ap out-Expr (plain_parens n l q) ∙ ap out-Expr (sym (x.rolls-Parens (plain n) l)) ∙ out-roll-Expr (Expr-F.Parens (plain n) l)
 
-pub out_negate : (n : ExprNode) (l : ℕ) → out-Expr (plain (e.Negate n l)) ≡ Expr-F.Negate (plain n) l
-out_negate n l = ap out-Expr (plain_negate n l) ∙ ap out-Expr (sym (x.rolls-Negate (plain n) l)) ∙ out-roll-Expr (Expr-F.Negate (plain n) l)
+pub out_negate : (n : ExprNode) (l : ℕ) (q : Bool) → out-Expr (plain (e.Negate n l q)) ≡ Expr-F.Negate (plain n) l
+out_negate n l q = ap out-Expr (plain_negate n l q) ∙ ap out-Expr (sym (x.rolls-Negate (plain n) l)) ∙ out-roll-Expr (Expr-F.Negate (plain n) l)
 
-pub out_binary : (o : Operator) (n k : ExprNode) (l : ℕ) → out-Expr (plain (e.Binary o n k l)) ≡ Expr-F.Binary o (plain n) (plain k) l
-out_binary o n k l = ap out-Expr (plain_binary o n k l) ∙ ap out-Expr (sym (x.rolls-Binary o (plain n) (plain k) l)) ∙ out-roll-Expr (Expr-F.Binary o (plain n) (plain k) l)
+pub out_binary : (o : Operator) (n k : ExprNode) (l : ℕ) (q : Bool) → out-Expr (plain (e.Binary o n k l q)) ≡ Expr-F.Binary o (plain n) (plain k) l
+out_binary o n k l q = ap out-Expr (plain_binary o n k l q) ∙ ap out-Expr (sym (x.rolls-Binary o (plain n) (plain k) l)) ∙ out-roll-Expr (Expr-F.Binary o (plain n) (plain k) l)
 
-pub out_call : (n : ExprNode) (t : List ℕ) (l : ℕ) (ns : List ExprNode) → out-Expr (plain (e.Call n t l ns)) ≡ Expr-F.Call (plain n) (name t l) (map plain ns)
-out_call n t l ns = ap out-Expr (plain_call n t l ns) ∙ ap out-Expr (sym (x.rolls-Call (plain n) (name t l) (map plain ns))) ∙ out-roll-Expr (Expr-F.Call (plain n) (name t l) (map plain ns))
+pub out_call : (n : ExprNode) (t : List ℕ) (l : ℕ) (ns : List ExprNode) (q : Bool) → out-Expr (plain (e.Call n t l ns q)) ≡ Expr-F.Call (plain n) (name t l) (map plain ns)
+out_call n t l ns q = ap out-Expr (plain_call n t l ns q) ∙ ap out-Expr (sym (x.rolls-Call (plain n) (name t l) (map plain ns))) ∙ out-roll-Expr (Expr-F.Call (plain n) (name t l) (map plain ns))
 
 pub outs_var : (k : TypeName) (t : List ℕ) (i l : ℕ) (v : ExprNode) → out-Stmt (plain_stmt (s.Var k t i l v)) ≡ Stmt-F.Var k (name t i) l (plain v)
 outs_var k t i l v = ap out-Stmt (stmt_var k t i l v) ∙ ap out-Stmt (sym (y.rolls-Var k (name t i) l (plain v))) ∙ out-roll-Stmt (Stmt-F.Var k (name t i) l (plain v))
@@ -172,20 +172,20 @@ pub type_new : (sc : Scope) (t : List ℕ) (l : ℕ) (at : Option At) → type_o
 unfolding type_of
 type_new sc t l at = ap (type_of sc) (plain_new t l at) ∙ ap (type_of sc) (sym (x.rolls-New (name t l) at)) ∙ fold-roll-Expr ExprType (type_step sc) (Expr-F.New (name t l) at)
 
-pub type_parens : (sc : Scope) (n : ExprNode) (l : ℕ) → type_of sc (plain (e.Parens n l)) ≡ type_of sc (plain n)
+pub type_parens : (sc : Scope) (n : ExprNode) (l : ℕ) (q : Bool) → type_of sc (plain (e.Parens n l q)) ≡ type_of sc (plain n)
 unfolding type_of
-type_parens sc n l = ap (type_of sc) (plain_parens n l) ∙ ap (type_of sc) (sym (x.rolls-Parens (plain n) l)) ∙ fold-roll-Expr ExprType (type_step sc) (Expr-F.Parens (plain n) l)
+type_parens sc n l q = ap (type_of sc) (plain_parens n l q) ∙ ap (type_of sc) (sym (x.rolls-Parens (plain n) l)) ∙ fold-roll-Expr ExprType (type_step sc) (Expr-F.Parens (plain n) l)
 
-pub type_negate : (sc : Scope) (n : ExprNode) (l : ℕ) → type_of sc (plain (e.Negate n l)) ≡ type.Int
+pub type_negate : (sc : Scope) (n : ExprNode) (l : ℕ) (q : Bool) → type_of sc (plain (e.Negate n l q)) ≡ type.Int
 unfolding type_of
-type_negate sc n l = ap (type_of sc) (plain_negate n l) ∙ ap (type_of sc) (sym (x.rolls-Negate (plain n) l)) ∙ fold-roll-Expr ExprType (type_step sc) (Expr-F.Negate (plain n) l)
+type_negate sc n l q = ap (type_of sc) (plain_negate n l q) ∙ ap (type_of sc) (sym (x.rolls-Negate (plain n) l)) ∙ fold-roll-Expr ExprType (type_step sc) (Expr-F.Negate (plain n) l)
 
-pub type_binary : (sc : Scope) (o : Operator) (n k : ExprNode) (l : ℕ) → type_of sc (plain (e.Binary o n k l)) ≡ type.Int
+pub type_binary : (sc : Scope) (o : Operator) (n k : ExprNode) (l : ℕ) (q : Bool) → type_of sc (plain (e.Binary o n k l q)) ≡ type.Int
 unfolding type_of
-type_binary sc o n k l = ap (type_of sc) (plain_binary o n k l) ∙ ap (type_of sc) (sym (x.rolls-Binary o (plain n) (plain k) l)) ∙ fold-roll-Expr ExprType (type_step sc) (Expr-F.Binary o (plain n) (plain k) l)
+type_binary sc o n k l q = ap (type_of sc) (plain_binary o n k l q) ∙ ap (type_of sc) (sym (x.rolls-Binary o (plain n) (plain k) l)) ∙ fold-roll-Expr ExprType (type_step sc) (Expr-F.Binary o (plain n) (plain k) l)
 
-pub type_call : (sc : Scope) (n : ExprNode) (t : List ℕ) (l : ℕ) (ns : List ExprNode) → type_of sc (plain (e.Call n t l ns)) ≡ result_type sc.classes (type_of sc (plain n)) t
+pub type_call : (sc : Scope) (n : ExprNode) (t : List ℕ) (l : ℕ) (ns : List ExprNode) (q : Bool) → type_of sc (plain (e.Call n t l ns q)) ≡ result_type sc.classes (type_of sc (plain n)) t
 unfolding type_of
-type_call sc n t l ns = ap (type_of sc) (plain_call n t l ns) ∙ ap (type_of sc) (sym (x.rolls-Call (plain n) (name t l) (map plain ns))) ∙ fold-roll-Expr ExprType (type_step sc) (Expr-F.Call (plain n) (name t l) (map plain ns))
+type_call sc n t l ns q = ap (type_of sc) (plain_call n t l ns q) ∙ ap (type_of sc) (sym (x.rolls-Call (plain n) (name t l) (map plain ns))) ∙ fold-roll-Expr ExprType (type_step sc) (Expr-F.Call (plain n) (name t l) (map plain ns))
 
 pub ruleset node_types = (type_int, type_null, type_this, type_field, type_variable, type_new, type_parens, type_negate, type_binary, type_call)

@@ -60,9 +60,9 @@ fn open_method(
     arguments: &Values,
 ) -> Result<Doing, Halt>
     requires depth { machine.old.depth < 64 }
-    requires known { AreOf program.now.schema.now.classes bodies.old }
+    requires known { AreOf program.now.schema.now.classes bodies.old.called }
     ensures opens { (f : Oref → Option Object) → Moves result stack.new machine.old machine.new (spec.open_body (over program.now.schema.now f) inner this (method_of program.now.schema.now.classes this.class name.now) arguments.now stack.old) }
-    ensures known { AreOf program.now.schema.now.classes bodies.new }
+    ensures known { AreOf program.now.schema.now.classes bodies.new.called }
 {
     match method_of(program, this.class, name.get().as_slice()) {
         Some(method) => {
@@ -90,12 +90,12 @@ pub fn enter(
     arguments: &Values,
 ) -> Result<Doing, Halt>
     requires tied { Tied progress.old.written cache.old }
-    requires known { AreOf program.now.schema.now.classes bodies.old }
+    requires known { AreOf program.now.schema.now.classes bodies.old.called }
     ensures does { Goes result stack.new (state progress.new cache.new) (spec.enters (over program.now.schema.now (at_hand program.now.schema.now cache.old)) inner class oref method.now arguments.now stack.old (state progress.old cache.old)) }
     ensures stays { AtNeed result ((state progress.new cache.new ≡ state progress.old cache.old) × (stack.new ≡ stack.old)) }
     ensures tied { Holds result (Tied progress.new.written cache.new) }
     ensures kept { Holds result (Keeps cache.old cache.new) }
-    ensures known { AreOf program.now.schema.now.classes bodies.new }
+    ensures known { AreOf program.now.schema.now.classes bodies.new.called }
 {
     if progress.machine.depth >= DEPTH_LIMIT {
         return fault(Fault::Depth);

@@ -6,6 +6,7 @@ mod came;
 mod copies;
 mod entering;
 mod granted_names;
+mod kept_texts;
 mod laws;
 mod moved;
 mod moves;
@@ -21,5 +22,6 @@ mod written_names;
 
 pub use copies::Copies;
 pub use granted_names::GrantedNames;
+pub use kept_texts::KeptTexts;
 pub use laws::what_stands_goes_on_later;
 pub use paused::Paused;

@@ -154,8 +154,39 @@ pub fn touch(
     Ok(class)
 }
 
-/// `this.name`. The page of `this` is used.
+/// `this.name`. No page is used.
 #[tactic(auto, unfolding(class_defs::specs::Objects::field_value, class_defs::specs::Objects::scope_at))]
+pub fn field_seen(program: &Program<'_>, cache: &Cache, progress: &Progress, name: &[u8]) -> Value
+    requires tied { Tied progress.now.written cache.now }
+    ensures value { result ≡ field_value (over program.now.schema.now (at_hand program.now.schema.now cache.now)) (state progress.now cache.now) name.now }
+{
+    match &progress.machine.this {
+        Some(this) => {
+            let kind = field_type(program, &progress.machine, name);
+            let index = field_named(program, this.class, name);
+            match seen_field(program, cache, progress, this.oref, index) {
+                Some(value) => fitted(kind, value),
+                None => beginning(kind),
+            }
+        }
+        None => Value::Null,
+    }
+}
+
+/// The page of `this` is used, where there is one.
+pub fn use_page_of_this(program: &Program<'_>, cache: &mut Cache, progress: &Progress)
+    requires tied { Tied progress.now.written cache.old }
+    ensures hands { at_hand program.now.schema.now cache.new ≡ at_hand program.now.schema.now cache.old }
+    ensures state { state progress.now cache.new ≡ state progress.now cache.old }
+    ensures tied { Tied progress.now.written cache.new }
+    ensures kept { Keeps cache.old cache.new }
+{
+    if let Some(this) = &progress.machine.this {
+        use_page(program, cache, progress, this.oref);
+    }
+}
+
+/// `this.name`. The page of `this` is used.
 pub fn field_value(
     program: &Program<'_>,
     cache: &mut Cache,
@@ -168,18 +199,9 @@ pub fn field_value(
     ensures tied { Tied progress.now.written cache.new }
     ensures kept { Keeps cache.old cache.new }
 {
-    match &progress.machine.this {
-        Some(this) => {
-            let kind = field_type(program, &progress.machine, name);
-            let index = field_named(program, this.class, name);
-            use_page(program, cache, progress, this.oref);
-            match seen_field(program, cache, progress, this.oref, index) {
-                Some(value) => fitted(kind, value),
-                None => beginning(kind),
-            }
-        }
-        None => Value::Null,
-    }
+    let value = field_seen(program, cache, progress, name);
+    use_page_of_this(program, cache, progress);
+    value
 }
 
 /// Writes an object, in the place of its copy. Its page is used.

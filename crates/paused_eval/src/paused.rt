@@ -17,13 +17,14 @@ ghost use Rattle.paused_eval.specs.declared.granted_names.GrantedNames.{GrantedN
 use crate::came::Came;
 use crate::copies::Copies;
 use crate::granted_names::GrantedNames;
+use crate::kept_texts::KeptTexts;
 use crate::objects::found;
 use crate::progress::begun;
 use crate::running::run_over;
 use class_defs::{Block, Flow, Machine, Schema};
 use client_cache::Cache;
 use method_eval::{Program, Ran};
-use paused_defs::{Doing, Frame, SharedBlock, Stack};
+use paused_defs::{Doing, Frame, Stack};
 use std::alloc::Global;
 use std::mem;
 use thor_value::{Answer, NoMemory, Obj, Oref, Orefs, TryCopy, Writes};
@@ -91,8 +92,9 @@ fn set_doing(place: &mut Doing, doing: Doing)
 }
 
 impl Paused {
-    /// Before the first step. It copies the transaction's text, and nothing later does.
-    pub fn begin(alloc: Global, tx: &Block) -> Result<Paused, NoMemory>
+    /// Before the first step. It copies the transaction's text, where that isn't the last one of those that are kept,
+    /// and nothing later does.
+    pub fn begin(alloc: Global, tx: &Block, kept: &mut KeptTexts) -> Result<Paused, NoMemory>
         ensures stands { IfOk result (λ paused. (s : Schema) → (copies : Copies) → (names : GrantedNames) → copies.written ≡ empty
             → Stands s (at_hand s copies.cache) tx.now (supply names.names).waiting (record { doing = paused.doing; stack = paused.stack }) (state_with paused.machine copies.written copies.cache names.names)) }
     {
@@ -100,7 +102,7 @@ impl Paused {
         stack.push(Frame::BlockEnd { count: 0 })?;
         stack.push(Frame::Rest {
             nested: 100_001,
-            rest: SharedBlock::copy_of(alloc, tx)?,
+            rest: kept.text_of(alloc, tx)?,
         })?;
         Ok(Paused {
             alloc,
@@ -142,6 +144,7 @@ impl Paused {
         epoch: u32,
         copies: &mut Copies,
         names: &mut GrantedNames,
+        kept: &mut KeptTexts,
     ) -> Result<Ran, NoMemory>
         ensures answers { (tx : List Stmt) → (given : List Oref) → Stands schema.now (at_hand schema.now copies.old.cache) tx given (record { doing = self.old.doing; stack = self.old.stack }) (state_with self.old.machine copies.old.written copies.old.cache names.old.names)
             → IfOk result (λ ran. ran ≡ answer_of epoch schema.now (at_hand schema.now copies.old.cache) tx given) }
@@ -164,6 +167,7 @@ impl Paused {
             &mut copies.written,
             &mut names.names,
             &mut self.machine,
+            &mut kept.bodies,
             &mut self.stack,
             doing,
         )?;

@@ -6,7 +6,7 @@ ghost use Rattle.paused_eval.specs.Copies.{Keeps, Tied, at_hand, state_with, who
 ghost use Rattle.paused_eval.specs.FromPages.{FromPages};
 ghost use Rattle.paused_eval.specs.Standing.{CameTo, IsFault, Stands, is_done};
 
-use crate::bodies::Bodies;
+use crate::bodies::{Bodies, CopiedBodies};
 use crate::came::Came;
 use crate::moved::Moved;
 use crate::progress::{Progress, begun};
@@ -55,13 +55,13 @@ fn run(
 ) -> Result<(Came, Doing), NoMemory>
     requires tied { Tied progress.old.written cache.old }
     requires names { FromPages names.old }
-    requires known { AreOf program.now.schema.now.classes bodies.old }
+    requires known { AreOf program.now.schema.now.classes bodies.old.called }
     ensures answers { (tx : List Stmt) → (given : List Oref) → Stands program.now.schema.now (at_hand program.now.schema.now cache.old) tx given (record { doing = begun; stack = stack.old }) (whole_state progress.old cache.old names.old)
         → IfOk result (λ ran. CameTo program.now.schema.now (at_hand program.now.schema.now cache.old) tx given ran.0 (record { doing = ran.1; stack = stack.new }) (whole_state progress.new cache.new names.new)) }
     ensures tied { OnOk result (Tied progress.new.written cache.new) }
     ensures kept { OnOk result (Keeps cache.old cache.new) }
     ensures names { FromPages names.new }
-    ensures known { AreOf program.now.schema.now.classes bodies.new }
+    ensures known { AreOf program.now.schema.now.classes bodies.new.called }
 {
     let mut doing = begun;
     for _ in 0..SMALL_STEPS {
@@ -107,6 +107,13 @@ fn give_back(machine: &mut Machine, written: &mut WrittenNames, progress: Progre
     drop(mem::replace(written, names));
 }
 
+/// The bodies that were called before are kept for later runs.
+fn keep_bodies(place: &mut CopiedBodies, bodies: Bodies) {
+    let Bodies { called, kept } = bodies;
+    drop(called);
+    drop(mem::replace(place, kept));
+}
+
 /// The same over a client's copies and names. After `NoMemory` what the try has written is given up.
 #[tactic(auto, using(crate::proofs::Hands::none_written))]
 pub fn run_over(
@@ -116,6 +123,7 @@ pub fn run_over(
     written: &mut WrittenNames,
     names: &mut Names,
     machine: &mut Machine,
+    kept: &mut CopiedBodies,
     stack: &mut Stack<Frame>,
     begun_with: Doing,
 ) -> Result<(Came, Doing), NoMemory>
@@ -128,7 +136,10 @@ pub fn run_over(
     ensures names { FromPages names.new }
 {
     let alloc = program.alloc;
-    let mut bodies = Bodies::new(alloc);
+    let mut bodies = Bodies {
+        called: CopiedBodies::new(alloc),
+        kept: mem::replace(kept, CopiedBodies::new(alloc)),
+    };
     let mut progress = Progress {
         machine: mem::replace(machine, begun(alloc)),
         written: mem::replace(written, WrittenNames::new(alloc)),
@@ -144,7 +155,7 @@ pub fn run_over(
         begun_with,
     ) {
         Ok(ended) => {
-            drop(bodies);
+            keep_bodies(kept, bodies);
             give_back(machine, written, progress);
             Ok(ended)
         }

@@ -165,11 +165,11 @@ fn call(
     arguments: Values,
 ) -> Result<Moved, Halt>
     requires tied { Tied progress.old.written cache.old }
-    requires known { AreOf program.now.schema.now.classes bodies.old }
+    requires known { AreOf program.now.schema.now.classes bodies.old.called }
     ensures does { Steps result (Doing.Enter nested class oref method arguments) stack.old (state progress.old cache.old) stack.new (state progress.new cache.new) (move (over program.now.schema.now (at_hand program.now.schema.now cache.old)) (Doing.Enter nested class oref method arguments) stack.old (state progress.old cache.old)) }
     ensures tied { Holds result (Tied progress.new.written cache.new) }
     ensures kept { Holds result (Keeps cache.old cache.new) }
-    ensures known { AreOf program.now.schema.now.classes bodies.new }
+    ensures known { AreOf program.now.schema.now.classes bodies.new.called }
 {
     match enter(
         program, cache, progress, bodies, stack, nested, class, oref, &method, &arguments,
@@ -266,12 +266,12 @@ pub fn small(
 ) -> Result<Moved, Halt>
     requires tied { Tied progress.old.written cache.old }
     requires names { FromPages names.old }
-    requires known { AreOf program.now.schema.now.classes bodies.old }
+    requires known { AreOf program.now.schema.now.classes bodies.old.called }
     ensures does { Steps result doing stack.old (whole_state progress.old cache.old names.old) stack.new (whole_state progress.new cache.new names.new) (move (over program.now.schema.now (at_hand program.now.schema.now cache.old)) doing stack.old (whole_state progress.old cache.old names.old)) }
     ensures tied { Holds result (Tied progress.new.written cache.new) }
     ensures kept { Holds result (Keeps cache.old cache.new) }
     ensures names { FromPages names.new }
-    ensures known { AreOf program.now.schema.now.classes bodies.new }
+    ensures known { AreOf program.now.schema.now.classes bodies.new.called }
 {
     match doing {
         Doing::Evaluate { nested, expr } => {

@@ -33,22 +33,25 @@ pub fn field_read(node: &ExprNode) -> Option<&Shared<Text>>
             line: _,
             at: _,
         } => None,
-        ExprNode::Parens { inner: _, line: _ } => None,
+        ExprNode::Parens { inner: _, .. } => None,
         ExprNode::Negate {
             operand: _,
             line: _,
+            calls: _,
         } => None,
         ExprNode::Binary {
             operator: _,
             left: _,
             right: _,
             line: _,
+            calls: _,
         } => None,
         ExprNode::Call {
             receiver: _,
             method: _,
             line: _,
             arguments: _,
+            calls: _,
         } => None,
     }
 }
@@ -142,19 +145,22 @@ fn first(
         ExprNode::Parens {
             inner: part,
             line: _,
+            calls: _,
         } => Ok(go_into(inner, part)?),
-        ExprNode::Negate { operand, line: _ } => Ok(negate(stack, inner, operand)?),
+        ExprNode::Negate { operand, .. } => Ok(negate(stack, inner, operand)?),
         ExprNode::Binary {
             operator,
             left,
             right,
             line: _,
+            calls: _,
         } => Ok(combine(stack, inner, *operator, left, right)?),
         ExprNode::Call {
             receiver,
             method,
             line: _,
             arguments,
+            calls: _,
         } => {
             let kind = type_of(program, machine, receiver.get());
             Ok(call(stack, inner, kind, receiver, method, arguments)?)

@@ -37,22 +37,25 @@ pub fn type_of(program: &Program<'_>, machine: &Machine, node: &ExprNode) -> Exp
             line: _,
             at: _,
         } => class_type(program, class.get()),
-        ExprNode::Parens { inner, line: _ } => type_of(program, machine, inner.get()),
+        ExprNode::Parens { inner, .. } => type_of(program, machine, inner.get()),
         ExprNode::Negate {
             operand: _,
             line: _,
+            calls: _,
         } => ExprType::Int,
         ExprNode::Binary {
             operator: _,
             left: _,
             right: _,
             line: _,
+            calls: _,
         } => ExprType::Int,
         ExprNode::Call {
             receiver,
             method,
             line: _,
             arguments: _,
+            calls: _,
         } => {
             let receiver = type_of(program, machine, receiver.get());
             result_type(program, receiver, method.get().as_slice())

@@ -2,3 +2,4 @@ pub mod Agreed
 pub mod Grown
 pub mod Judged
 pub mod Meeting
+pub mod Stopping

@@ -4,11 +4,14 @@ use Rattle.call_naming.specs.Justified.{KindIsJustified}
 use Rattle.call_naming.specs.declared.calls.CallKind.{CallKind}
 use Rattle.commit_log.specs.declared.request.Request.{Request}
 use Rattle.local_history.specs.History.{state}
+use Rattle.local_history.specs.Requests.{has_created, has_written}
 use Rattle.local_history.specs.Sound.{Vouches}
 use Rattle.port_views.specs.Views.{View}
+use Rattle.session_outbox.specs.Calls.{was_granted}
 use Rattle.session_outbox.specs.Gaps.{client_in}
 use Rattle.session_outbox.specs.Trace.{entries}
-use Rattle.std.specs.Prelude.{Some, length, ℕ, ◌<◌, ◌≡◌, ◌≤◌}
+use Rattle.std.specs.Prelude.{IsTrue, Some, length, ℕ, ◌<◌, ◌≡◌, ◌≤◌}
+use Rattle.thor_value.specs.declared.names.Oref.{Oref}
 
 -- the histories that are seen
 abbrev pub seen_histories : View → Several
@@ -32,9 +35,12 @@ pub record MayCall (port : View) (r : ℕ) (kind : CallKind) : Type 0 where
 abbrev pub MayFetch : View → ℕ → ℕ → Type 0
 MayFetch port r upto = upto ≤ length (entries (port.seen r))
 
--- Its sender vouches for the request q of the session s, and its client knows no place that isn't there.
+-- Its sender vouches for the request q of the session s, which is its client's, and its client knows no place that
+-- isn't there. What it created stands on pages that were granted to the session.
 pub record MaySend (port : View) (r s : ℕ) (q : Request) : Type 0 where
   pub session : q.session ≡ s
   pub own : IsOwnSession port r s
   pub upto : q.upto ≤ length (entries (port.seen r))
   pub vouched : Vouches (port.opened.base r) (state (port.opened.base r) (entries (port.seen r))) q
+  pub client : q.who.client ≡ port.opened.client
+  pub granted : (x : Oref) → IsTrue (has_created q x) → IsTrue (has_written q x) → IsTrue (was_granted (port.seen r) s x.page)

@@ -3,5 +3,10 @@
 #![tactic(auto)]
 
 mod laws;
+mod outages;
 
 pub use laws::{growth_composes, kept_sessions_keep_promises, plain_calls_keep_their_promises};
+pub use outages::{
+    idle_calls_keep_their_promises, plain_ports_do, restarts_are_growth,
+    stopped_calls_keep_their_promises,
+};

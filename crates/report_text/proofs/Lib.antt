@@ -5,4 +5,5 @@ pub mod OutcomeWords
 pub mod HistoryWords
 pub mod ReportTells
 pub mod ReportShows
+pub mod Reported
 pub mod ExampleFits

@@ -1,6 +1,6 @@
 -- What a report's text tells: all of the outcomes and the history but the items of the script that its entries
 -- perform, and the number of tries of an item of which it isn't known whether it was committed. This project's.
-use Rattle.std.specs.Prelude.{◌≡◌, ◌≢◌, ℕ, ◌<◌, ◌^◌, List, [], length, All}
+use Rattle.std.specs.Prelude.{◌≡◌, ◌≢◌, ℕ, zero, suc, ◌<◌, ◌^◌, List, [], length, map, All, ⊤}
 use Rattle.thor_value.specs.declared.names.Oref.{Oref}
 use Rattle.thor_value.specs.declared.names.Ts.{Ts}
 use Rattle.thor_value.specs.declared.values.Who.{Who}
@@ -11,7 +11,8 @@ use Rattle.serial_model.specs.declared.entries.Did.{Did}
 use Rattle.serial_model.specs.declared.outcomes.Ended.{Ended}
 use Rattle.serial_model.specs.declared.outcomes.ItemOutcome.{ItemOutcome}
 use Rattle.serial_model.specs.declared.outcomes.ItemOutcome.TheVariants.{Done, Upgraded, Faulted, Refused, Unknown}
-use Rattle.report_text.specs.Fits.{FitsTs, FitsOref, FitsWho, FitsOutcome, FitsAnswer}
+use Rattle.report_text.specs.Fits.{FitsTs, FitsOref, FitsWho, FitsInts, FitsOutcome, FitsAnswer}
+use Rattle.report_text.specs.Report.{report_text}
 
 -- the number of tries as the report tells it: 0 where the item's line has none
 abbrev pub shown_tries : ℕ → ItemOutcome → ℕ
@@ -59,3 +60,29 @@ pub record IsReported (ends : List Ended) (history : List Did) : Type 0 where
   pub items : All FitsItem ends
   pub entries : All FitsEntry history
   pub count : length history < 2 ^ 64
+
+-- what the numbers of an entry's line are: those of the answer where it tells one
+abbrev pub FitsEffect : ℕ → List Oref → Answer → Type 0
+FitsEffect zero fresh (Ints values) = All FitsOref fresh × FitsInts values
+FitsEffect zero fresh (Fault fault) = ⊤
+FitsEffect (suc n) fresh answer = ⊤
+
+-- an entry with numbers of 64 bits, as far as its line tells them
+pub record FitsLine (d : Did) : Type 0 where
+  pub ts : FitsTs d.ts
+  pub who : FitsWho d.who
+  pub number : d.number < 2 ^ 64
+  pub effect : FitsEffect d.number d.fresh d.answer
+
+-- outcomes and a history of whose numbers those that a report tells are of 64 bits
+pub record FitsReport (ends : List Ended) (history : List Did) : Type 0 where
+  pub items : All FitsItem ends
+  pub lines : All FitsLine history
+  pub count : length history < 2 ^ 64
+
+-- The text is the report of these outcomes and this history, and tells them: each report with this text shows the same.
+pub record TellsReport (ends : List Ended) (history : List Did) (text : List ℕ) : Type 0 where
+  pub printed : text ≡ report_text ends history
+  pub reported : IsReported ends history
+  pub only : (others : List Ended) → (other : List Did) → IsReported others other → text ≡ report_text others other
+      → (map shown_item others ≡ map shown_item ends) × (map shown_entry other ≡ map shown_entry history)

@@ -1,7 +1,9 @@
-ghost use Rattle.std.specs.Prelude.{◌≡◌, ◌++◌, OnOk};
+ghost use Rattle.std.specs.Prelude.{◌≡◌, ◌++◌, ◌<◌, ◌^◌, OnOk};
 ghost use Rattle.std.specs.String.{string_bytes};
+ghost use Rattle.report_text.specs.Fits.{FitsInts, FitsOutcome};
 ghost use Rattle.report_text.specs.Lines.{spaced_words};
 ghost use Rattle.report_text.specs.Report.{values_words, upgrade_words, outcome_words, item_line};
+ghost use Rattle.report_text.specs.Shown.{FitsItem};
 
 use crate::words::{fault_name, print_cause, print_ts, print_who};
 use serial_model::{Ended, ItemOutcome};
@@ -11,20 +13,23 @@ use thor_value::NoMemory;
 /// Prints ` :` and each value behind a space.
 #[tactic(auto, using(std::proofs::Common::append_assoc))]
 pub fn print_values(out: &mut String, values: &[i64]) -> Result<(), NoMemory>
-    ensures { OnOk result
+    ensures text { OnOk result
         (string_bytes out.new ≡ string_bytes out.old ++ spaced_words (values_words values.now)) }
+    ensures fits { OnOk result (FitsInts values.now) }
 {
     out.push_str(" :")?;
     for value in values {
-        write!(out, " {value}")?;
+        let number = *value;
+        write!(out, " {number}")?;
     }
     Ok(())
 }
 
 /// Prints ` upgrade` and its number behind a space.
 pub fn print_upgrade(out: &mut String, number: u32) -> Result<(), NoMemory>
-    ensures { OnOk result
+    ensures text { OnOk result
         (string_bytes out.new ≡ string_bytes out.old ++ spaced_words (upgrade_words number)) }
+    ensures fits { OnOk result (number < 2 ^ 64) }
 {
     write!(out, " upgrade {number}")?;
     Ok(())
@@ -33,8 +38,9 @@ pub fn print_upgrade(out: &mut String, number: u32) -> Result<(), NoMemory>
 /// Prints how an item ended, each word behind a space.
 #[tactic(auto, using(std::proofs::Common::append_assoc), unfolding(crate::specs::Report::outcome_words))]
 fn print_outcome(out: &mut String, tries: u32, outcome: &ItemOutcome) -> Result<(), NoMemory>
-    ensures { OnOk result
+    ensures text { OnOk result
         (string_bytes out.new ≡ string_bytes out.old ++ spaced_words (outcome_words tries outcome.now)) }
+    ensures fits { OnOk result (FitsOutcome outcome.now) }
 {
     match outcome {
         ItemOutcome::Done { ts, answer } => {
@@ -71,7 +77,8 @@ fn print_outcome(out: &mut String, tries: u32, outcome: &ItemOutcome) -> Result<
 /// Prints the line of an item.
 #[tactic(auto, using(std::proofs::Common::append_assoc), unfolding(crate::specs::Report::item_line))]
 pub fn print_item(out: &mut String, ended: &Ended) -> Result<(), NoMemory>
-    ensures { OnOk result (string_bytes out.new ≡ string_bytes out.old ++ item_line ended.now) }
+    ensures text { OnOk result (string_bytes out.new ≡ string_bytes out.old ++ item_line ended.now) }
+    ensures fits { OnOk result (FitsItem ended.now) }
 {
     print_who(out, ended.who)?;
     print_outcome(out, ended.tries, &ended.outcome)?;

@@ -1,7 +1,11 @@
-ghost use Rattle.std.specs.Prelude.{◌≡◌, ◌++◌, IfOk, OnOk};
+ghost use Rattle.std.specs.Prelude.{◌≡◌, ◌++◌, All, IfOk, OnOk};
 ghost use Rattle.std.specs.List.{flat_map};
 ghost use Rattle.std.specs.String.{string_bytes};
+ghost use Rattle.class_defs.specs.declared.store.Plain.{Plain};
+ghost use Rattle.class_defs.specs.declared.store.Schemas.{Schemas};
 ghost use Rattle.report_text.specs.Report.{item_line, history_line, report_text};
+ghost use Rattle.report_text.specs.Shown.{FitsItem, FitsLine, TellsReport};
+ghost use Rattle.serial_model.specs.History.{IsLegal};
 
 use crate::history::print_entry;
 use crate::items::print_item;
@@ -13,8 +17,9 @@ use thor_value::{NoMemory, Text};
 /// Prints the lines of items.
 #[tactic(auto, using(std::proofs::Common::append_assoc))]
 fn print_items(out: &mut String, ends: &[Ended]) -> Result<(), NoMemory>
-    ensures { OnOk result
+    ensures text { OnOk result
         (string_bytes out.new ≡ string_bytes out.old ++ flat_map item_line ends.now) }
+    ensures fits { OnOk result (All FitsItem ends.now) }
 {
     for ended in ends {
         print_item(out, ended)?;
@@ -25,8 +30,9 @@ fn print_items(out: &mut String, ends: &[Ended]) -> Result<(), NoMemory>
 /// Prints the lines of a history's entries.
 #[tactic(auto, using(std::proofs::Common::append_assoc))]
 fn print_history(out: &mut String, history: &[Did]) -> Result<(), NoMemory>
-    ensures { OnOk result
+    ensures text { OnOk result
         (string_bytes out.new ≡ string_bytes out.old ++ flat_map history_line history.now) }
+    ensures fits { OnOk result (All FitsLine history.now) }
 {
     for entry in history {
         print_entry(out, entry)?;
@@ -39,10 +45,11 @@ fn print_history(out: &mut String, history: &[Did]) -> Result<(), NoMemory>
 /// Every line ends with byte 10, and its words are separated by one space. The outcomes stand in their
 /// order, each with the number of its tries but for an unknown item. The history stands in its order, and
 /// the last line counts its entries. An entry with a number is an upgrade's. Want of memory is the only
-/// error, and no part of the text is left behind it.
+/// error, and no part of the text is left behind it. Of a legal history the text is that of no other report.
 #[tactic(auto, using(std::proofs::Common::append_assoc), unfolding(crate::specs::Report::report_text))]
 pub fn print_report(alloc: Global, ends: &Ends, history: &Dids) -> Result<Text, NoMemory>
-    ensures { IfOk result (λ text. text ≡ report_text ends.now history.now) }
+    ensures text { IfOk result (λ text. text ≡ report_text ends.now history.now) }
+    ensures tells { (s : Schemas) → (store : Plain) → IsLegal s history.now store → IfOk result (λ text. TellsReport ends.now history.now text) }
 {
     let mut out = String::new(alloc);
     print_items(&mut out, ends.as_slice())?;

@@ -1,5 +1,6 @@
 ghost use Rattle.std.specs.Prelude.{◌≡◌, ◌++◌, OnOk};
 ghost use Rattle.std.specs.String.{string_bytes};
+ghost use Rattle.report_text.specs.Fits.{FitsCause, FitsOref, FitsTs, FitsWho};
 ghost use Rattle.report_text.specs.Lines.{spaced, spaced_words};
 ghost use Rattle.report_text.specs.Words.{who_word, ts_word, oref_word, fault_word, cause_words};
 
@@ -10,7 +11,8 @@ use thor_value::{Fault, NoMemory, Oref, Ts, Who};
 /// Prints an item by client and index, without a space before it.
 #[tactic(auto, unfolding(crate::specs::Words::who_word))]
 pub fn print_who(out: &mut String, who: Who) -> Result<(), NoMemory>
-    ensures { OnOk result (string_bytes out.new ≡ string_bytes out.old ++ who_word who) }
+    ensures text { OnOk result (string_bytes out.new ≡ string_bytes out.old ++ who_word who) }
+    ensures fits { OnOk result (FitsWho who) }
 {
     write!(out, "{}.{}", who.client, who.index)?;
     Ok(())
@@ -19,7 +21,8 @@ pub fn print_who(out: &mut String, who: Who) -> Result<(), NoMemory>
 /// Prints a timestamp by time, repository and life, without a space before it.
 #[tactic(auto, unfolding(crate::specs::Words::ts_word))]
 pub fn print_ts(out: &mut String, ts: Ts) -> Result<(), NoMemory>
-    ensures { OnOk result (string_bytes out.new ≡ string_bytes out.old ++ ts_word ts) }
+    ensures text { OnOk result (string_bytes out.new ≡ string_bytes out.old ++ ts_word ts) }
+    ensures fits { OnOk result (FitsTs ts) }
 {
     write!(out, "{}.{}.{}", ts.time, ts.repo, ts.life)?;
     Ok(())
@@ -28,7 +31,8 @@ pub fn print_ts(out: &mut String, ts: Ts) -> Result<(), NoMemory>
 /// Prints a name by repository, page and slot, behind a space.
 #[tactic(auto, unfolding(crate::specs::Words::oref_word))]
 pub fn print_oref(out: &mut String, oref: Oref) -> Result<(), NoMemory>
-    ensures { OnOk result (string_bytes out.new ≡ string_bytes out.old ++ spaced (oref_word oref)) }
+    ensures text { OnOk result (string_bytes out.new ≡ string_bytes out.old ++ spaced (oref_word oref)) }
+    ensures fits { OnOk result (FitsOref oref) }
 {
     write!(out, " {}.{}.{}", oref.repo, oref.page, oref.slot)?;
     Ok(())
@@ -48,8 +52,9 @@ pub fn fault_name(fault: Fault) -> &'static str
 
 /// Prints a word and a timestamp, each behind a space.
 fn print_with_ts(out: &mut String, word: &str, ts: Ts) -> Result<(), NoMemory>
-    ensures { OnOk result
+    ensures text { OnOk result
         (string_bytes out.new ≡ string_bytes out.old ++ (spaced word.now ++ spaced (ts_word ts))) }
+    ensures fits { OnOk result (FitsTs ts) }
 {
     write!(out, " {word} ")?;
     print_ts(out, ts)
@@ -58,8 +63,9 @@ fn print_with_ts(out: &mut String, word: &str, ts: Ts) -> Result<(), NoMemory>
 /// Prints a cause and what it names, each word behind a space.
 #[tactic(auto, using(std::proofs::Common::append_assoc), unfolding(crate::specs::Words::cause_words))]
 pub fn print_cause(out: &mut String, cause: Cause) -> Result<(), NoMemory>
-    ensures { OnOk result
+    ensures text { OnOk result
         (string_bytes out.new ≡ string_bytes out.old ++ spaced_words (cause_words cause)) }
+    ensures fits { OnOk result (FitsCause cause) }
 {
     match cause {
         Cause::Stale { oref, place } => {

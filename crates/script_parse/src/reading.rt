@@ -148,8 +148,8 @@ fn read_split(alloc: Global, split: Split) -> Result<Script, ReadError>
 }
 
 /// The script that has these tokens.
-fn read_tokens(alloc: Global, tokens: &Tokens) -> Result<Script, ReadError>
-    ensures { Reads (HasTokens tokens.now) (IsRefusedSplit (split_of tokens.now)) result }
+fn read_tokens(alloc: Global, tokens: Tokens) -> Result<Script, ReadError>
+    ensures { Reads (HasTokens tokens) (IsRefusedSplit (split_of tokens)) result }
 {
     let split = split_sections(alloc, tokens)?;
     read_split(alloc, split)
@@ -163,5 +163,5 @@ pub fn read_script(alloc: Global, text: &[u8]) -> Result<Script, ReadError>
     ensures few { IfOk result (λ script. HasFew script.setup) }
 {
     let tokens = scan(alloc, text)?;
-    read_tokens(alloc, &tokens)
+    read_tokens(alloc, tokens)
 }

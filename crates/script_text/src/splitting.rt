@@ -16,11 +16,11 @@ use thor_value::NoMemory;
 
 /// What is read of the tokens.
 #[tactic(auto, unfolding(crate::specs::Sections::read))]
-fn read(alloc: Global, tokens: &[Token]) -> Result<Reader, NoMemory>
-    ensures { IfOk result (λ reader. reader ≡ read tokens.now) }
+fn read(alloc: Global, tokens: Tokens) -> Result<Reader, NoMemory>
+    ensures { IfOk result (λ reader. reader ≡ read tokens) }
 {
     let mut reader = Reader::Start;
-    for token in tokens {
+    for token in tokens.into_vec() {
         reader = step(alloc, reader, token)?;
     }
     Ok(reader)
@@ -52,30 +52,31 @@ fn fault_at_end(reader: &Reader, line: u32) -> Option<Syntax>
 
 /// How far the tokens fall into parts.
 #[tactic(auto, unfolding(crate::specs::Sections::split_of))]
-fn split_by(alloc: Global, tokens: &Tokens) -> Result<Split, NoMemory>
-    ensures split { IfOk result (λ split. split ≡ split_of tokens.now) }
-    ensures short { length tokens.now ≤ 9223372036854775807 }
+fn split_by(alloc: Global, tokens: Tokens) -> Result<Split, NoMemory>
+    ensures split { IfOk result (λ split. split ≡ split_of tokens) }
+    ensures short { length tokens ≤ 9223372036854775807 }
 {
-    let reader = read(alloc, tokens.as_slice())?;
-    let fault = fault_at_end(&reader, last_line(tokens.as_slice()));
+    let line = last_line(tokens.as_slice());
+    let reader = read(alloc, tokens)?;
+    let fault = fault_at_end(&reader, line);
     let sections = so_far(alloc, reader)?;
     Ok(Split { sections, fault })
 }
 
 /// How far a script's tokens fall into its parts.
-pub fn split_sections(alloc: Global, tokens: &Tokens) -> Result<Split, NoMemory>
+pub fn split_sections(alloc: Global, tokens: Tokens) -> Result<Split, NoMemory>
     // The answer is the one that the definition computes.
-    ensures split { IfOk result (λ split. split ≡ split_of tokens.now) }
+    ensures split { IfOk result (λ split. split ≡ split_of tokens) }
 
     // Without a fault the tokens are those of a script, with these parts. They have no others, and tokens that
     // have parts are refused for want of memory alone.
-    ensures parts { IfOk result (λ split. split.fault ≡ None → ArePartsOf tokens.now split.sections) }
-    ensures only_parts { (parts : Sections) → ArePartsOf tokens.now parts → IfOk result (λ split. split ≡ record { sections = parts; fault = None }) }
+    ensures parts { IfOk result (λ split. split.fault ≡ None → ArePartsOf tokens split.sections) }
+    ensures only_parts { (parts : Sections) → ArePartsOf tokens parts → IfOk result (λ split. split ≡ record { sections = parts; fault = None }) }
 
     // A fault is at the first token that no script goes on with, or else at the last one of tokens that a
     // script only begins with, and there is no other such place.
-    ensures first_fault { IfOk result (λ split. IfSome split.fault (IsFirstFault tokens.now)) }
-    ensures only_fault { (fault : Syntax) → IsFirstFault tokens.now fault → IfOk result (λ split. split.fault ≡ Some fault) }
+    ensures first_fault { IfOk result (λ split. IfSome split.fault (IsFirstFault tokens)) }
+    ensures only_fault { (fault : Syntax) → IsFirstFault tokens fault → IfOk result (λ split. split.fault ≡ Some fault) }
 {
     split_by(alloc, tokens)
 }

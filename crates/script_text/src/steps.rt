@@ -12,7 +12,7 @@ use crate::sections::{ClientParts, ItemParts, Sections};
 use crate::syntax::Syntax;
 use crate::token::{Token, Tokens};
 use std::alloc::Global;
-use thor_value::{NoMemory, TryCopy};
+use thor_value::NoMemory;
 
 /// Neither a setup nor a client.
 pub fn nothing(alloc: Global) -> Found
@@ -80,11 +80,11 @@ fn sections_of(found: Found, schedule: Tokens) -> Sections
 }
 
 /// Tokens and one behind them.
-fn joined(part: Tokens, token: &Token) -> Result<Tokens, NoMemory>
-    ensures { IfOk result (λ more. more ≡ part ++ token.now ∷ []) }
+fn joined(part: Tokens, token: Token) -> Result<Tokens, NoMemory>
+    ensures { IfOk result (λ more. more ≡ part ++ token ∷ []) }
 {
     let mut part = part;
-    part.push(token.copy()?)?;
+    part.push(token)?;
     Ok(part)
 }
 
@@ -121,12 +121,11 @@ pub fn so_far(alloc: Global, reader: Reader) -> Result<Sections, NoMemory>
     }
 }
 
-/// The token can't stand behind what was read.
-fn stop(alloc: Global, reader: Reader, token: &Token) -> Result<Reader, NoMemory>
-    ensures { IfOk result (λ next. next ≡ stop reader token.now) }
+/// A token on a line can't stand behind what was read.
+fn stop(alloc: Global, before: Reader, line: u32) -> Result<Reader, NoMemory>
+    ensures { IfOk result (λ next. next ≡ reader.Stopped (so_far before) (record { line = line })) }
 {
-    let line = token.line;
-    let sections = so_far(alloc, reader)?;
+    let sections = so_far(alloc, before)?;
     Ok(Reader::Stopped {
         sections,
         fault: Syntax { line },
@@ -139,10 +138,11 @@ fn stop_setup(
     part: Tokens,
     depth: usize,
     closed: bool,
-    token: &Token,
+    token: Token,
 ) -> Result<Reader, NoMemory>
-    ensures { IfOk result (λ next. next ≡ stop_setup part depth closed token.now) }
+    ensures { IfOk result (λ next. next ≡ stop_setup part depth closed token) }
 {
+    let line = token.line;
     let part = if closed { part } else { joined(part, token)? };
     stop(
         alloc,
@@ -151,7 +151,7 @@ fn stop_setup(
             depth,
             closed,
         },
-        token,
+        line,
     )
 }
 
@@ -171,13 +171,13 @@ fn start_step(alloc: Global, token: &Token) -> Result<Reader, NoMemory>
             found: nothing(alloc),
             tokens: Tokens::new(alloc),
         }),
-        _ => stop(alloc, Reader::Start, token),
+        _ => stop(alloc, Reader::Start, token.line),
     }
 }
 
 /// The setup with one more token.
-fn setup_with(part: Tokens, depth: usize, closed: bool, token: &Token) -> Result<Reader, NoMemory>
-    ensures { IfOk result (λ next. next ≡ reader.Setup (part ++ token.now ∷ []) depth closed) }
+fn setup_with(part: Tokens, depth: usize, closed: bool, token: Token) -> Result<Reader, NoMemory>
+    ensures { IfOk result (λ next. next ≡ reader.Setup (part ++ token ∷ []) depth closed) }
 {
     let part = joined(part, token)?;
     Ok(Reader::Setup {
@@ -192,12 +192,12 @@ fn setup_step(
     part: Tokens,
     depth: usize,
     closed: bool,
-    token: &Token,
+    token: Token,
 ) -> Result<Reader, NoMemory>
     requires { depth < 2 ^ 62 }
-    ensures { IfOk result (λ next. next ≡ setup_step (mark_of token.now) part depth closed token.now) }
+    ensures { IfOk result (λ next. next ≡ setup_step (mark_of token) part depth closed token) }
 {
-    match mark(token) {
+    match mark(&token) {
         Mark::Open => setup_with(part, depth + 1, false, token),
         Mark::Close if 0 < depth => setup_with(part, depth - 1, depth == 1, token),
         Mark::End => setup_with(part, depth, depth == 0, token),
@@ -224,22 +224,22 @@ fn number_step(alloc: Global, found: Found, token: &Token) -> Result<Reader, NoM
                 upgrading: false,
             },
         }),
-        _ => stop(alloc, Reader::Number { found }, token),
+        _ => stop(alloc, Reader::Number { found }, token.line),
     }
 }
 
 /// The first word of an item.
-fn begun(alloc: Global, current: Current, token: &Token) -> Result<Reader, NoMemory>
-    ensures { IfOk result (λ next. next ≡ reader.Word current (token.now ∷ [])) }
+fn begun(alloc: Global, current: Current, token: Token) -> Result<Reader, NoMemory>
+    ensures { IfOk result (λ next. next ≡ reader.Word current (token ∷ [])) }
 {
     let part = joined(Tokens::new(alloc), token)?;
     Ok(Reader::Word { current, part })
 }
 
-fn client_step(alloc: Global, current: Current, token: &Token) -> Result<Reader, NoMemory>
-    ensures { IfOk result (λ next. next ≡ client_step (mark_of token.now) current token.now) }
+fn client_step(alloc: Global, current: Current, token: Token) -> Result<Reader, NoMemory>
+    ensures { IfOk result (λ next. next ≡ client_step (mark_of token) current token) }
 {
-    match mark(token) {
+    match mark(&token) {
         Mark::Tx => begun(alloc, current, token),
         Mark::Upgrade if !current.found.upgraded => {
             let mut current = current;
@@ -253,7 +253,7 @@ fn client_step(alloc: Global, current: Current, token: &Token) -> Result<Reader,
             found: with_client(current)?,
             tokens: Tokens::new(alloc),
         }),
-        _ => stop(alloc, Reader::Client { current }, token),
+        _ => stop(alloc, Reader::Client { current }, token.line),
     }
 }
 
@@ -261,11 +261,11 @@ fn word_step(
     alloc: Global,
     current: Current,
     part: Tokens,
-    token: &Token,
+    token: Token,
 ) -> Result<Reader, NoMemory>
-    ensures { IfOk result (λ next. next ≡ word_step (mark_of token.now) current part token.now) }
+    ensures { IfOk result (λ next. next ≡ word_step (mark_of token) current part token) }
 {
-    match mark(token) {
+    match mark(&token) {
         Mark::Open => {
             let part = joined(part, token)?;
             Ok(Reader::Item {
@@ -274,7 +274,7 @@ fn word_step(
                 depth: 0,
             })
         }
-        _ => stop(alloc, Reader::Word { current, part }, token),
+        _ => stop(alloc, Reader::Word { current, part }, token.line),
     }
 }
 
@@ -283,13 +283,15 @@ fn item_step(
     current: Current,
     part: Tokens,
     depth: usize,
-    token: &Token,
+    token: Token,
 ) -> Result<Reader, NoMemory>
     requires { depth < 2 ^ 62 }
-    ensures { IfOk result (λ next. next ≡ item_step (mark_of token.now) current part depth token.now) }
+    ensures { IfOk result (λ next. next ≡ item_step (mark_of token) current part depth token) }
 {
+    let mark = mark(&token);
+    let line = token.line;
     let part = joined(part, token)?;
-    match mark(token) {
+    match mark {
         Mark::Open => Ok(Reader::Item {
             current,
             part,
@@ -315,25 +317,25 @@ fn item_step(
                 part,
                 depth,
             },
-            token,
+            line,
         ),
     }
 }
 
 /// What was read, with one more token.
 #[tactic(auto, unfolding(crate::specs::Sections::step))]
-pub fn step(alloc: Global, reader: Reader, token: &Token) -> Result<Reader, NoMemory>
+pub fn step(alloc: Global, reader: Reader, token: Token) -> Result<Reader, NoMemory>
     requires { depth_of reader < 2 ^ 62 }
-    ensures { IfOk result (λ next. next ≡ step reader token.now) }
+    ensures { IfOk result (λ next. next ≡ step reader token) }
 {
     match reader {
-        Reader::Start => start_step(alloc, token),
+        Reader::Start => start_step(alloc, &token),
         Reader::Setup {
             part,
             depth,
             closed,
         } => setup_step(alloc, part, depth, closed, token),
-        Reader::Number { found } => number_step(alloc, found, token),
+        Reader::Number { found } => number_step(alloc, found, &token),
         Reader::Client { current } => client_step(alloc, current, token),
         Reader::Word { current, part } => word_step(alloc, current, part, token),
         Reader::Item {

@@ -1,3 +1,4 @@
 pub mod Standing
+pub mod Missing
 pub mod Opened
 pub mod Rests

@@ -32,6 +32,8 @@ use Rattle.thor_value.specs.declared.values.Obj.{Obj}
 use Rattle.thor_value.specs.declared.values.Value.TheVariants as value
 use Rattle.thor_value.specs.declared.values.Value.{Value}
 use Rattle.thor_value.specs.declared.values.Who.{Who}
+use Rattle.method_eval.specs.Names.{only_listed}
+use Rattle.method_eval.specs.declared.view.View.{View}
 use Rattle.whole_histories.specs.Serial.{Joined}
 use Rattle.worked_rows.specs.RunRows.{call, evaluate, local, plus, print, root, set_field, this_field, var_int}
 
@@ -199,3 +201,9 @@ histories_of (suc (suc n)) = []
 
 abbrev pub run : Several
 run = record { repos = 2; base = base_of; history = histories_of }
+
+-- ---- an evaluation over a part of what was opened
+
+-- the owner is at hand, its part isn't, and there are no names for new objects
+abbrev pub owner_alone : View
+owner_alone = record { objects = overwrite empty ((o, an_owner) ∷ []); names = only_listed []; epoch = 0 }

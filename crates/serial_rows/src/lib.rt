@@ -3,4 +3,4 @@
 
 mod rows;
 
-pub use rows::{a_run_is_serial, a_run_meets_the_premises};
+pub use rows::{a_missing_part_is_told_with_its_owner, a_run_is_serial, a_run_meets_the_premises};

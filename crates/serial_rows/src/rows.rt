@@ -2,10 +2,13 @@
 
 ghost use Rattle.atomic_histories.specs.Several.{Alike, AreSound, IsAtomic};
 ghost use Rattle.class_defs.specs.Eager.{eager};
+ghost use Rattle.eval_laws.specs.Owners.{AreOwnersAbove, IsCheckedOver};
+ghost use Rattle.method_eval.specs.Answers.{evaluation};
+ghost use Rattle.method_eval.specs.declared.view.Ran.TheVariants.{Need};
 ghost use Rattle.serial_law.specs.Resting.{AreChecked, AreHere, EachRests, IsOpening, OpeningFits};
 ghost use Rattle.serial_law.specs.WholeHistory.{stored_map, whole_history};
 ghost use Rattle.serial_model.specs.History.{IsLegal};
-ghost use Rattle.serial_rows.specs.Rows.{a, a_box, a_part, at, items, o, opening, p, roots, run, schemas};
+ghost use Rattle.serial_rows.specs.Rows.{a, a_box, a_part, asking, at, first, items, o, opening, owner_alone, p, roots, run, schemas};
 ghost use Rattle.std.specs.Prelude.{Some, [], map, ◌≡◌, ◌∷◌};
 ghost use Rattle.thor_value.specs.FiniteMap.{get, keys};
 ghost use Rattle.whole_histories.specs.Serial.{behind};
@@ -32,4 +35,12 @@ pub fn a_run_is_serial()
     ensures entries { map (λ d. d.ts) (whole_history items run) ≡ at 1 ∷ at 2 ∷ at 4 ∷ [] }
     ensures part { get (behind opening (commits run).pairs).objects p ≡ Some (a_part 1 70) }
     ensures added { get (behind opening (commits run).pairs).objects a ≡ Some (a_box 12) }
+{}
+
+/// Where the owner is at hand and its part isn't, the item that asks for what the part has meets what
+/// `owners_told_are_those_above` asks for. It needs the part, and tells its owner, who is the one above it.
+pub fn a_missing_part_is_told_with_its_owner()
+    ensures meets { IsCheckedOver schemas (stored_map roots opening) first 2 asking owner_alone }
+    ensures needs { evaluation asking first owner_alone ≡ Need p (o ∷ []) }
+    ensures above { AreOwnersAbove schemas opening.objects p (o ∷ []) }
 {}

@@ -3,12 +3,12 @@ use Rattle.std.proofs.Common.{◌≡◌, Err, IfOk, List, Ok, Result, subst, ℕ
 use Rattle.command_words.specs.declared.command.Command.{Command}
 use Rattle.command_words.specs.declared.command.Command.TheVariants.{Check, Gen, Play, Run}
 use Rattle.script_parse.specs.declared.script.Script.{Script}
-use Rattle.thor_top.specs.Kept.{Refuses, RefusesBy, WritesNothing}
-use Rattle.thor_top.specs.Reports.{TellsRun}
-use Rattle.thor_top.specs.declared.form.Form.{Form}
-use Rattle.thor_top.specs.declared.reply.Reply.{Reply}
-use Rattle.thor_top.specs.declared.status.Status.{Status}
-use Rattle.thor_top.specs.declared.status.Status.TheVariants as status
+use Rattle.command_answer.specs.Kept.{Refuses, RefusesBy, WritesNothing}
+use Rattle.command_answer.specs.Reports.{TellsRun}
+use Rattle.checked_report.specs.declared.form.Form.{Form}
+use Rattle.checked_report.specs.declared.reply.Reply.{Reply}
+use Rattle.checked_report.specs.declared.status.Status.{Status}
+use Rattle.checked_report.specs.declared.status.Status.TheVariants as status
 use Rattle.thor_value.specs.declared.memory.NoMemory.{NoMemory}
 
 run_refuses_nothing : (form : Form) (repos : ℕ) (script : Script) (s : Status) (text : List ℕ) → TellsRun form repos script s text → Refuses s → ⊥

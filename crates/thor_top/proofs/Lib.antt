@@ -1,4 +1,3 @@
+pub mod BaseLaws
 pub mod KeptLaws
 pub mod PromiseLaws
-pub mod BaseLaws
-pub mod TopLaws

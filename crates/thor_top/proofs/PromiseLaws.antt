@@ -9,10 +9,10 @@ use Rattle.std.proofs.Common.{◌≡◌, ◌∙◌, inl, inr, List, ℕ, Option,
 use Rattle.std.proofs.lemmas.Option.{same_Some}
 use Rattle.std.specs.Prelude.{Bool, [], ◌++◌, ◌∷◌, ◌⊎◌, codes, false, true}
 use Rattle.thor_top.specs.Promises.{AreNoWords, HasBytes, HasTold, SaysOk, IsFront, SaysLimit, IsPlanned, SaysReport, SaysRule, SaysSummary, IsTooLong, SaysDisk, OfScript, OnAnswer, Reads, Runs}
-use Rattle.thor_top.specs.Texts.{limit_text}
-use Rattle.thor_top.specs.Top.{IsDone, IsPlan, IsUnfinished, Says, SaysFor, SaysOf, SaysRead, Tells, Told, WasRead, Wrote}
-use Rattle.thor_top.specs.declared.status.Status.{Status}
-use Rattle.thor_top.specs.declared.status.Status.TheVariants as status
+use Rattle.checked_report.specs.Texts.{limit_text}
+use Rattle.command_answer.specs.Top.{IsDone, IsPlan, IsUnfinished, Says, SaysFor, SaysOf, SaysRead, Tells, Told, WasRead, Wrote}
+use Rattle.checked_report.specs.declared.status.Status.{Status}
+use Rattle.checked_report.specs.declared.status.Status.TheVariants as status
 
 -- the statuses whose text tells of bytes that were taken for a script, and of nothing else
 abbrev HasText : Status → Type 0

@@ -9,12 +9,12 @@ use Rattle.script_parse.specs.Refusals.{refusal_text}
 use Rattle.script_parse.specs.Script.{IsRefusedText, IsWritten}
 use Rattle.script_parse.specs.declared.refusal.Refusal.{Refusal}
 use Rattle.script_parse.specs.declared.script.Script.{Script}
-use Rattle.thor_top.specs.Reports.{IsReport}
-use Rattle.thor_top.specs.Texts.{TellsUnopened, limit_text}
-use Rattle.thor_top.specs.Top.{IsChecked, IsNoPlan, IsOverLimit, IsPlan, IsRefused, IsWithinLimits, Says, Told, WasRead}
-use Rattle.thor_top.specs.declared.form.Form.TheVariants as form
-use Rattle.thor_top.specs.declared.status.Status.{Status}
-use Rattle.thor_top.specs.declared.status.Status.TheVariants as status
+use Rattle.command_answer.specs.Reports.{IsReport}
+use Rattle.checked_report.specs.Texts.{TellsUnopened, limit_text}
+use Rattle.command_answer.specs.Top.{IsChecked, IsNoPlan, IsOverLimit, IsPlan, IsRefused, IsWithinLimits, Says, Told, WasRead}
+use Rattle.checked_report.specs.declared.form.Form.TheVariants as form
+use Rattle.checked_report.specs.declared.status.Status.{Status}
+use Rattle.checked_report.specs.declared.status.Status.TheVariants as status
 
 -- ---- what was read, and what was written
 

@@ -1,16 +1,15 @@
 //! The top call: what the program does with its words, a script, and the parts of a store.
 #![tactic(auto)]
 
-mod answered;
-mod checking;
-mod form;
 mod in_turn;
+mod judging;
 mod playing;
-mod reply;
+mod replying;
 mod running;
 mod starting;
-mod status;
 mod top;
+mod unopened;
 
-pub use status::Status;
-pub use top::{Outcome, SCRIPT_LIMIT, thor};
+pub use checked_report::Status;
+pub use command_answer::{Outcome, SCRIPT_LIMIT};
+pub use top::thor;

@@ -1,20 +1,20 @@
 //! A script's run.
 
-ghost use Rattle.cluster_core.specs.Counts.{parts_in};
+ghost use Rattle.store_reading.specs.Counts.{parts_in};
 ghost use Rattle.std.specs.Prelude.{◌≡◌, IfOk, IfSome, length, vec_len};
 ghost use Rattle.script_check.specs.Upgrading.{extended, upgrades_of};
 ghost use Rattle.serial_model.specs.Replays.{AreMade};
-ghost use Rattle.thor_top.specs.Opening.{IsAccepted, IsBase, IsStore};
-ghost use Rattle.thor_top.specs.Reports.{IsReported, TellsOpened, TellsRun};
+ghost use Rattle.command_answer.specs.Opening.{IsAccepted, IsBase, IsStore};
+ghost use Rattle.checked_report.specs.Reports.{IsReported, TellsOpened};
+ghost use Rattle.command_answer.specs.Reports.{TellsRun};
 ghost use Rattle.thor_value.specs.FiniteMap.{IsSorted};
 
-use crate::answered::{Answered, unplayed};
-use crate::checking::report;
-use crate::form::Form;
-use crate::reply::{Reply, unsettled};
 use crate::running::{Runtime, run_open};
+use crate::unopened::unsettled;
+use checked_report::{Form, Reply, report};
 use class_defs::{Plain, Schemas, Setup};
-use cluster_core::{Cluster, ClusterFault, Finished, Found, Plan as Run, Ran, Start};
+use cluster_core::{Cluster, Finished, Plan as Run, Ran, Start};
+use command_answer::{Answered, unplayed};
 use command_words::Plan;
 use disk_trait::Parts;
 use outside::Gate;
@@ -23,6 +23,7 @@ use script_parse::Script;
 use std::alloc::Global;
 use std::sync::Wait;
 use std::thread::Threads;
+use store_reading::{ClusterFault, Found};
 use thor_value::{NoMemory, TryCopy};
 use trace_record::Traces;
 

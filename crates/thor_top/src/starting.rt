@@ -2,13 +2,13 @@
 
 ghost use Rattle.std.specs.Prelude.{◌≡◌, ◌<◌, ◌^◌, IfOk, IfSome, length};
 ghost use Rattle.script_parse.specs.Script.{HasFew};
-ghost use Rattle.thor_top.specs.Opening.{IsBase, first_schemas};
+ghost use Rattle.command_answer.specs.Opening.{IsBase, first_schemas};
 
 use class_defs::{Declarations, Schemas, UpgradedSchemas};
-use cluster_core::Found;
 use disk_trait::Parts;
 use script_check::schema_of;
 use std::alloc::Global;
+use store_reading::Found;
 use thor_value::{NoMemory, TryCopy};
 
 /// The schemas of the store that a setup opens.

@@ -14,7 +14,7 @@ either_way false false = refl
 pub returns : goal.returns
 returns c = record {
   session = (home, ([], refl), refl);
-  below = ((λ _. (home, ([], refl), (part 5 1 (1 ∷ []), refl, record { fresh = refl; answer = refl; participants = λ r. either_way _ _ }))), tt);
+  below = ((λ _. (home, ([], refl), (part 5 1 (1 ∷ []), refl, record { who = refl; kind = refl; fresh = refl; answer = refl; participants = λ r. either_way _ _ }))), tt);
   all = (part 5 1 (1 ∷ []), (home, ([], refl), refl), ((away, ([], refl), (part 5 2 (0 ∷ []), refl)), tt));
   committed = (home ++ E (Decided (at 5) true) ∷ [], ([], refl), refl);
   aborted = inl (home ++ E (Decided (at 5) false) ∷ [], ([], refl), refl);

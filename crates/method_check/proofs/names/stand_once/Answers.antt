@@ -1,4 +1,7 @@
-use Rattle.std.proofs.Common.{◌≡◌, ℕ, ◌+◌, ◌<◌, List, [], ◌∷◌, ◌++◌, length, drop, take, get_or, not, ◌∙◌, ap, sym, Option}
+use Rattle.std.proofs.Common.{◌≡◌, ℕ, ◌+◌, ◌<◌, List, [], ◌∷◌, ◌++◌, length, drop, take, get_or, not, ◌∙◌, ap, sym, subst, Option}
+use Rattle.std.specs.Prelude.{Vec}
+use Rattle.std.specs.HashSet.{HashSet}
+use Rattle.method_check.specs.Seen.{Has}
 use Rattle.std.specs.List.{list_any}
 use Rattle.std.specs.Str.{bytes_eq}
 use Rattle.std.proofs.lemmas.List.{at_drop_more, take_more}
@@ -18,8 +21,18 @@ one_more all i n found whole within is h =
     ∙ sym (at_drop_more (λ more. least_with found (stand_once (take i all) more)) all i n within)
     ∙ h
 
+module _ {Y S : Type 0} where
+  seen_more : (all : List Name) (i : ℕ) (n : Name) (seen : HashSet (Vec ℕ Y) S) → i < length all → n ≡ get_or all i n → Has seen (take i all ++ n ∷ []) → Has seen (take (i + 1) all)
+  seen_more all i n seen within is has = subst (Has seen) (sym (take_more all i n within ∙ ap (λ q. take i all ++ q ∷ []) (sym is))) has
+
 pub loop-place-preserved : goal.loop-place-preserved
 loop-place-preserved c =
-    let before = rw (← c.as_slice-all.ensures) at c.loop-place.invariant in
+    let before = rw (← c.as_slice-all.ensures) at c.loop-place.invariant.broken in
+    let seen : Has c.loop-place.seen (take c.loop-place.place c.as_slice-all.result.now) = subst (λ (names : List Name). Has c.loop-place.seen (take c.loop-place.place names)) (sym c.as_slice-all.ensures) c.loop-place.invariant.seen in
+    let once = c.in_ok-stands_once.ensures in
     let step = one_more c.as_slice-all.result.now c.loop-place.place c.index-all-place.result c.loop-place.found _ c.loop-place-test.true c.index-all-place.is before in
-    rw (c.stands_once.ensures, ← c.as_slice-all.ensures) step
+    let more = seen_more c.as_slice-all.result.now c.loop-place.place c.index-all-place.result c.stands_once.new.seen c.loop-place-test.true c.index-all-place.is (once.seen (take c.loop-place.place c.as_slice-all.result.now) seen) in
+    record {
+      broken = rw (once.found (take c.loop-place.place c.as_slice-all.result.now) seen, ← c.as_slice-all.ensures) step;
+      seen = rw (← c.as_slice-all.ensures) more;
+    }

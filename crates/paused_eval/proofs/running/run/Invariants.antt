@@ -11,6 +11,6 @@ use Rattle.paused_eval.proofs.running.run.Given as goal
 -- is left comes to what the transaction comes to from the start
 abbrev pub invariant-loop : goal.invariant-loop
 invariant-loop l =
-    Tied l.progress.written l.cache × (Keeps l.fn.cache l.cache × (FromPages l.names × (AreOf l.program.schema.now.classes l.bodies
+    Tied l.progress.written l.cache × (Keeps l.fn.cache l.cache × (FromPages l.names × (AreOf l.program.schema.now.classes l.bodies.called
     × ((tx : List Stmt) (given : List Oref) → Stands l.program.schema.now (at_hand l.program.schema.now l.fn.cache) tx given (record { doing = l.fn.begun; stack = l.fn.stack }) (whole_state l.fn.progress l.fn.cache l.fn.names)
     → Runs l.program.schema.now (at_hand l.program.schema.now l.fn.cache) tx given l.counter (record { doing = l.doing; stack = l.stack }) (whole_state l.progress l.cache l.names)))))

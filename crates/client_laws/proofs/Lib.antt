@@ -1,0 +1,14 @@
+pub mod Asking
+pub mod Committing
+pub mod Falls
+pub mod Fits
+pub mod Growing
+pub mod Linked
+pub mod Other
+pub mod Passing
+pub mod Resting
+pub mod Sending
+pub mod Showing
+pub mod Taking
+pub mod Telling
+pub mod Working

@@ -1,0 +1,6 @@
+use Rattle.client_laws.proofs.Linked.{tells_gone, tells_took}
+use Rattle.client_laws.proofs.links.links_tell_what_is_kept.Goals as goal
+use Rattle.std.proofs.Common.{refl}
+
+pub returns : goal.returns
+returns c = record { took = tells_took; waiting = λ s upto waits what copies. refl; gone = tells_gone }

@@ -1,0 +1,5 @@
+use Rattle.client_laws.proofs.Telling.{decide_nothing}
+use Rattle.client_laws.proofs.outcomes.others_decide_nothing.Goals as goal
+
+pub returns : goal.returns
+returns c = decide_nothing

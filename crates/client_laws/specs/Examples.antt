@@ -1,0 +1,17 @@
+-- What a client keeps, against the small traces of session_outbox: client 2 has session 2, has taken page 0, and
+-- others write its object x then.
+use Rattle.client_laws.specs.Fitting.{Copies, Kept}
+use Rattle.local_history.specs.Examples.{box, x}
+use Rattle.std.specs.Prelude.{None, Some, cond, false, ℕ}
+use Rattle.thor_value.specs.Names.{same_oref}
+
+-- a copy of x as it was at the beginning, and none
+abbrev pub copy_of_x : Copies
+copy_of_x y = cond (same_oref y x) (Some (box 0)) None
+
+abbrev pub no_copy : Copies
+no_copy y = None
+
+-- client 2 waits for no answer, knows the places below this one, and has these copies
+abbrev pub keeping : ℕ → Copies → Kept
+keeping upto copies = record { session = 2; upto = upto; awaits = false; copies = copies }

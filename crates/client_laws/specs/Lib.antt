@@ -1,0 +1,4 @@
+pub mod Examples
+pub mod Falling
+pub mod Fitting
+pub mod Links

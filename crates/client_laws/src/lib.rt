@@ -1,0 +1,22 @@
+//! What a client keeps of a repository, against the trace that it has seen, and that growth by others and each of its own
+//! calls leaves it right. It is definitions and laws.
+#![tactic(auto)]
+
+mod calls;
+mod conditions;
+mod examples;
+mod falling;
+mod growth;
+mod links;
+mod outcomes;
+
+pub use calls::{
+    asked_clients_fit, commits_rest, deciding_clients_fit, joined_clients_fit,
+    receiving_clients_fit, sending_clients_fit, telling_clients_fit,
+};
+pub use conditions::{sent_requests_continue, shown_calls_may_come};
+pub use examples::{what_does_not_fit, what_fits};
+pub use falling::{falling_ends, owed_calls};
+pub use growth::{others_act, outcomes_are_told};
+pub use links::{copies_become_what_messages_bring, links_outlive_others, links_tell_what_is_kept};
+pub use outcomes::{atomic_histories_agree, others_decide_nothing};

@@ -1,5 +1,0 @@
-use Rattle.thor_value.specs.FiniteMap.{IsSorted}
-use Rattle.cluster_core.proofs.eager.eager_objects.Given as goal
-
-abbrev pub invariant-loop-oref : goal.invariant-loop-oref
-invariant-loop-oref l = IsSorted l.objects

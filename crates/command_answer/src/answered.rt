@@ -1,0 +1,51 @@
+//! What the program has to write, with the parts.
+
+ghost use Rattle.repository_reading.specs.Same.{AreSame};
+ghost use Rattle.std.specs.Prelude.{◌≡◌, vec_len};
+
+use checked_report::Reply;
+use disk_trait::Parts;
+use std::alloc::Global;
+use thor_value::NoMemory;
+use trace_record::Traces;
+
+/// What the program has to write, and what is left of the run.
+#[derive(Drop)]
+pub struct Answered<P> {
+    /// What it has to write, where memory was there.
+    pub reply: Result<Reply, NoMemory>,
+    /// The parts, in their order.
+    pub parts: Vec<P>,
+    /// What happened at each repository; nothing where no run was made.
+    pub traces: Traces,
+}
+
+/// A reply to a script with which no run was made.
+pub fn unplayed<P>(alloc: Global, reply: Result<Reply, NoMemory>, parts: Vec<P>) -> Answered<P>
+    ensures reply { result.reply ≡ reply }
+    ensures parts { result.parts ≡ parts }
+{
+    Answered {
+        reply,
+        parts,
+        traces: Traces::new(alloc),
+    }
+}
+
+/// A reply with which no call on the parts was made.
+#[tactic(auto, using(repository_reading::proofs::Syncing::same_all))]
+pub fn untouched<P: Parts>(
+    alloc: Global,
+    reply: Result<Reply, NoMemory>,
+    parts: Vec<P>,
+) -> Answered<P>
+    ensures reply { result.reply ≡ reply }
+    ensures parts { vec_len result.parts ≡ vec_len parts }
+    ensures same { AreSame P.disks parts.items result.parts.items }
+{
+    Answered {
+        reply,
+        parts,
+        traces: Traces::new(alloc),
+    }
+}

@@ -1,0 +1,3 @@
+pub mod Paging
+pub mod Reading
+pub mod Syncing

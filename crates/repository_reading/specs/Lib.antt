@@ -1,0 +1,3 @@
+pub mod Paged
+pub mod Recovered
+pub mod Same

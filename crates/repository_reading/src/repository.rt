@@ -1,0 +1,110 @@
+//! One repository, as an opening finds it on its disks.
+
+ghost use Rattle.repository_reading.specs.Recovered.{Finds};
+ghost use Rattle.repository_reading.specs.Same.{Same};
+ghost use Rattle.repository_reading.specs.Paged.{PutsStored};
+ghost use Rattle.disk_trait.specs.AllDisks.{AllSettled, ReadsAs};
+ghost use Rattle.disk_trait.specs.Disks.{IsSettled, OnDisk};
+ghost use Rattle.state_log.specs.Opening.{IsFresh};
+ghost use Rattle.std.specs.Prelude.{IfOk, List, None, Ok, OnOk, ◌<◌, ◌≡◌, ℕ};
+
+use crate::pages::read_pages;
+use crate::unopened::{Unopened, fault_of, outage_of};
+use disk_trait::{Outage, Parts};
+use recovery::{Recovered, recover};
+use std::alloc::Global;
+use thor_value::{Obj, OrefMap};
+
+/// What was read of a repository whose log is open.
+#[derive(Clone, Copy)]
+pub struct Read<'a> {
+    pub recovered: &'a Recovered,
+    /// The page behind the last installed one that has objects.
+    pub behind: u32,
+}
+
+impl Read<'_> {
+    /// What is told of a store that this repository's checkpoint damages.
+    pub fn damaged(&self, repo: u8) -> Unopened {
+        damaged(self.recovered, repo)
+    }
+}
+
+fn damaged(recovered: &Recovered, repo: u8) -> Unopened {
+    Unopened::Damaged {
+        repo,
+        disk: recovered.log.disk(),
+        place: 0,
+    }
+}
+
+/// Syncs the disks of a repository, and reads it. The answer is what was recovered, and the page behind the
+/// last one with objects; nothing where it is fresh. The objects of its pages are put into a map.
+#[tactic(auto, using(crate::proofs::Syncing::same_then, crate::proofs::Syncing::same_content, crate::proofs::Reading::same_on))]
+pub fn read_repository<P: Parts>(
+    alloc: Global,
+    parts: &mut P,
+    repo: u8,
+    repos: u8,
+    mob: u32,
+    objects: &mut OrefMap<Obj>,
+) -> Result<Option<(Recovered, u32)>, Unopened>
+    ensures found { IfOk result (Finds (P.disks parts.new)) }
+    ensures same { Same (P.disks parts.old) (P.disks parts.new) }
+    ensures stored { (images : ℕ → List ℕ) → ReadsAs (P.disks parts.old) images → OnOk result (PutsStored images objects.old objects.new) }
+    ensures fresh { (images : ℕ → List ℕ) → ReadsAs (P.disks parts.old) images → result ≡ Ok None → IsFresh images }
+{
+    sync(parts, repo)?;
+    let recovered = match recover(alloc, parts, mob) {
+        Ok(Some(recovered)) => recovered,
+        Ok(None) => return Ok(None),
+        Err(fault) => return Err(fault_of(repo, fault)),
+    };
+    if recovered.state.repo() != repo || recovered.state.repos() != repos {
+        let fault = damaged(&recovered, repo);
+        drop(recovered);
+        return Err(fault);
+    }
+    let sides = recovered.state.objects().pages().sides();
+    let behind = match read_pages(alloc, parts, repo, sides, objects) {
+        Ok(behind) => behind,
+        Err(fault) => {
+            drop(recovered);
+            return Err(fault);
+        }
+    };
+    Ok(Some((recovered, behind)))
+}
+
+/// Syncs the disks of a repository.
+fn sync<P: Parts>(parts: &mut P, repo: u8) -> Result<(), Unopened>
+    ensures settled { OnOk result (AllSettled (P.disks parts.new)) }
+    ensures same { Same (P.disks parts.old) (P.disks parts.new) }
+{
+    match sync_all(parts) {
+        Ok(()) => Ok(()),
+        Err(outage) => Err(outage_of(repo, outage)),
+    }
+}
+
+/// Syncs all disks. After `Ok` a crash leaves what a read gives.
+#[tactic(auto, using(crate::proofs::Syncing::all_synced, crate::proofs::Syncing::same_then))]
+fn sync_all<P: Parts>(parts: &mut P) -> Result<(), Outage>
+    ensures settled { OnOk result (AllSettled (P.disks parts.new)) }
+    ensures same { Same (P.disks parts.old) (P.disks parts.new) }
+{
+    sync_one(parts, 0)?;
+    sync_one(parts, 1)?;
+    sync_one(parts, 2)
+}
+
+/// Syncs one disk.
+#[tactic(auto, using(crate::proofs::Syncing::same_beside))]
+fn sync_one<P: Parts>(parts: &mut P, disk: u8) -> Result<(), Outage>
+    requires { disk < 3 }
+    ensures alone { OnDisk (P.disks parts.old) (P.disks parts.new) disk }
+    ensures settled { OnOk result (IsSettled (P.disks parts.new) disk) }
+    ensures same { Same (P.disks parts.old) (P.disks parts.new) }
+{
+    parts.sync(disk)
+}

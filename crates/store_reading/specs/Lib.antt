@@ -1,0 +1,7 @@
+pub mod Bringing
+pub mod Counts
+pub mod Examples
+pub mod Joined
+pub mod OpenedStore
+pub mod Reading
+pub mod Seated
