@@ -22,7 +22,7 @@ use Rattle.repository_laws.specs.Coming.{Moves}
 use Rattle.repository_runs.specs.Happening.{MayMake, Tells, WasRefused}
 use Rattle.repository_runs.specs.Restarting.{Makes}
 use Rattle.stable_store.specs.Kept.{is_fault}
-use Rattle.std.proofs.Common.{Bool, Err, Ok, OnOk, Option, Result, ap, arith, cond, false, length, refl, subst, sym, true, ℕ, ◌+◌, ◌-◌, ◌<◌, ◌^◌, ◌∙◌, ◌≡◌, ◌≤◌}
+use Rattle.std.proofs.Common.{Bool, Err, Ok, OnOk, Result, ap, arith, cond, false, length, refl, subst, true, ℕ, ◌+◌, ◌-◌, ◌<◌, ◌^◌, ◌∙◌, ◌≡◌, ◌≤◌}
 use Rattle.std.proofs.Math.Nat.{min-eq_left}
 use Rattle.std.specs.Prelude.{IfErr, None, Some, min}
 use Rattle.trace_record.specs.Recorded.{with_entry}

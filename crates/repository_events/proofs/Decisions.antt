@@ -1,6 +1,5 @@
 -- The calls that decide what is prepared.
 use Rattle.commit_log.specs.declared.entry.Entry.TheVariants.{Decided, Finished}
-use Rattle.commit_log.specs.declared.entry.Entry.{Entry}
 use Rattle.commit_log.specs.declared.request.Request.{Request}
 use Rattle.live_sessions.specs.Sessions.{is_live}
 use Rattle.local_history.specs.History.{Base}
@@ -11,19 +10,18 @@ use Rattle.repo_core.specs.Shown.{Shown}
 use Rattle.repo_core.specs.Telling as core
 use Rattle.repository_events.proofs.Asked.{runs_entry}
 use Rattle.repository_events.proofs.Phases.{agreement}
-use Rattle.repository_events.proofs.Stepping.{LimitStays, runs_none, runs_refused, runs_same}
+use Rattle.repository_events.proofs.Stepping.{LimitStays, runs_refused, runs_same}
 use Rattle.repository_events.specs.Seen.{IsRun, StandsRight, seen}
 use Rattle.repository_events.specs.Vouching.{IsCounted}
 use Rattle.repository_laws.proofs.Entries.{open-member}
 use Rattle.repository_laws.specs.Coming.{Moves}
 use Rattle.repository_runs.specs.Happening.{MayMake, WasMaking}
-use Rattle.stable_store.specs.Kept.{is_fault}
 use Rattle.std.proofs.Common.{Bool, Err, Ok, OnErr, OnOk, Option, Result, ap, cond, false, length, refl, subst, sym, true, ℕ, ◌∙◌, ◌≡◌}
 use Rattle.std.proofs.lemmas.Bool.{eqb-true}
-use Rattle.std.specs.Prelude.{IfErr, None, Some, is_some, nat_eq, ◌≢◌}
+use Rattle.std.specs.Prelude.{IfErr, None, Some, is_some, ◌≢◌}
 use Rattle.thor_value.specs.FiniteMap.{has}
 use Rattle.thor_value.specs.declared.names.Ts.{Ts}
-use Rattle.trace_record.specs.Recorded.{Recorded, with_entry}
+use Rattle.trace_record.specs.Recorded.{with_entry}
 use Rattle.two_phase.specs.Contents.{open_at}
 use Rattle.validation_window.specs.declared.refusal.Refusal.{Refusal}
 

@@ -1,6 +1,6 @@
 pub mod Asked
-pub mod Calls
 pub mod Decisions
+pub mod Marked
 pub mod Phases
 pub mod Requests
 pub mod Restarts

@@ -5,7 +5,7 @@ use Rattle.local_history.specs.History.{Base}
 use Rattle.repo_core.specs.Shown.{Shown}
 use Rattle.repository_events.specs.Seen.{IsWhole, StandsRight, phase, phase_from, seen}
 use Rattle.repository_laws.specs.Running.{IsInAgreement, Repository}
-use Rattle.repository_runs.specs.Standing.{Down, IsRight, Phase, Torn, Up}
+use Rattle.repository_runs.specs.Standing.{Down, IsRight, Torn, Up}
 use Rattle.std.proofs.Common.{Bool, Option, ap, false, refl, subst, sym, true, ◌∙◌, ◌≡◌}
 use Rattle.trace_record.specs.Recorded.{Recorded}
 use Rattle.volatile_state.specs.Volatile.{Memory}

@@ -8,7 +8,7 @@ use Rattle.commit_log.specs.declared.request.Request.{Request}
 use Rattle.local_history.specs.History as history
 use Rattle.local_history.specs.History.{Base}
 use Rattle.local_history.specs.Participants.{IsAlone}
-use Rattle.local_history.specs.Requests.{is_upgrade_kind}
+use Rattle.local_history.specs.Requests.{has_created, has_written, is_upgrade_kind}
 use Rattle.repository_laws.specs.Running.{Repository}
 use Rattle.mob_buffer.specs.Buffer as buffer
 use Rattle.object_codec.specs.Spelling.{obj_bytes}
@@ -20,15 +20,17 @@ use Rattle.repository_events.proofs.Phases.{agreement, limit_up}
 use Rattle.repository_events.specs.Seen.{StandsRight, seen}
 use Rattle.repository_events.specs.Vouching.{IsSent}
 use Rattle.repository_laws.proofs.Judging.{epoch-fits}
-use Rattle.repository_laws.specs.Agreeing.{state_of}
+use Rattle.repository_laws.specs.Agreeing.{state_of, trace_of}
+use Rattle.session_outbox.specs.Calls.{was_granted}
+use Rattle.session_outbox.specs.Session.{session}
 use Rattle.repository_runs.specs.Happening.{MayMake, RequestIsMade, WasMaking, WasRefused}
 use Rattle.serial_model.proofs.SortedMaps.{put_all}
 use Rattle.std.proofs.Common.{Bool, List, Option, [], ◌∷◌, ap, arith, cond, false, inl, inr, length, refl, subst, sym, true, ℕ, ◌+◌, ◌<◌, ◌∙◌, ◌≡◌, ◌≤◌}
 use Rattle.std.proofs.lemmas.Bool.{eqb-true, ltb-false, ltb-true}
-use Rattle.std.specs.List.{list_any, sum_by}
+use Rattle.std.specs.List.{fold, list_any, sum_by}
 use Rattle.std.specs.Map.{keys_of}
-use Rattle.std.specs.Option.{option_or}
-use Rattle.std.specs.Prelude.{None, Some, nat_eq, nat_lt, ◌||◌, ◌⊎◌}
+use Rattle.std.specs.Option.{IsSomeAnd, option_or}
+use Rattle.std.specs.Prelude.{IsTrue, None, Some, nat_eq, nat_lt, ◌||◌, ◌⊎◌}
 use Rattle.thor_value.proofs.NameOrders.{oref_total}
 use Rattle.thor_value.specs.FiniteMap.{Map, values}
 use Rattle.thor_value.specs.Names.{oref_cmp}
@@ -41,9 +43,21 @@ use Rattle.volatile_state.specs.Volatile.{verdict}
 
 -- ---- what a request writes
 
+over : (a b c : ℕ) → a + b + c ≡ a + (b + c)
+over a b c = omega arith
+
+none_more : (a : ℕ) → a ≡ a + 0
+none_more a = omega arith
+
+from_none : (a : ℕ) → 0 + a ≡ a
+from_none a = omega arith
+
+sum_from : (n : ℕ) (ws : List (Oref × Obj)) → fold (λ (a : ℕ) (o : Obj). a + length (obj_bytes o)) n (values {R = oref_cmp} (record { pairs = ws })) ≡ n + buffer.bytes_of ws
+sum_from n [] = none_more n
+sum_from n (w ∷ ws) = sum_from (n + length (obj_bytes w.1)) ws ∙ over n (length (obj_bytes w.1)) (buffer.bytes_of ws)
+
 sum_bytes : (ws : List (Oref × Obj)) → sum_by (λ o. length (obj_bytes o)) (values {R = oref_cmp} (record { pairs = ws })) ≡ buffer.bytes_of ws
-sum_bytes [] = refl
-sum_bytes (w ∷ ws) = ap (λ (n : ℕ). length (obj_bytes w.1) + n) (sum_bytes ws)
+sum_bytes ws = sum_from 0 ws ∙ from_none (buffer.bytes_of ws)
 
 -- the bytes of what it writes, name by name
 pub same_bytes : (q : Request) → NamesRise (keys_of q.writes) → bytes_of q ≡ buffer.bytes_of q.writes
@@ -90,7 +104,7 @@ module _ (b : Base) (x : Shown) (k : StandsRight b x) (up : x.is_up ≡ true) (s
   by_history : (o : Option Refusal) → verdict x.memory (epoch_of x.held) s q ≡ o → verdict x.memory (history.epoch_of (state_of b x.trace)) q.session q ≡ o
   by_history o e =
       subst (λ (n : ℕ). verdict x.memory n q.session q ≡ o) epoch
-      (subst (λ (t : ℕ). verdict x.memory (epoch_of x.held) t q ≡ o) (sym sent.session) e)
+      (subst (λ (t : ℕ). verdict x.memory (epoch_of x.held) t q ≡ o) (sym sent.own) e)
 
   bytes : bytes_of q ≡ buffer.bytes_of q.writes
   bytes = same_bytes q may.form.written_rises
@@ -106,13 +120,13 @@ module _ (b : Base) (x : Shown) (k : StandsRight b x) (up : x.is_up ≡ true) (s
       unkept = may.unkept;
     };
     vouched = sent.vouched;
-    client = sent.client;
+    client = subst (λ (t : ℕ). IsSomeAnd (session b (trace_of x.trace) t) (λ v. v.client ≡ q.who.client)) (sym sent.own) sent.client;
     upto = sent.upto;
-    granted = sent.granted;
+    granted = subst (λ (t : ℕ). (n : Oref) → IsTrue (has_created q n) → IsTrue (has_written q n) → IsTrue (was_granted (trace_of x.trace) t n.page)) (sym sent.own) sent.granted;
   }
 
   pub was_refused : (r : Refusal) → judged x.held x.memory s q ≡ Some r → WasRefused b (seen x) s (Some q) r
-  was_refused r e = (sent.session, may.in_order, why (either (verdict x.memory (epoch_of x.held) s q) (full_of x.held q) r e))
+  was_refused r e = (sent.own, (may.in_order, why (either (verdict x.memory (epoch_of x.held) s q) (full_of x.held q) r e)))
     where
       why : (verdict x.memory (epoch_of x.held) s q ≡ Some r) ⊎ ((verdict x.memory (epoch_of x.held) s q ≡ None) × (full_of x.held q ≡ Some r))
           → (verdict x.memory (history.epoch_of (state_of b x.trace)) q.session q ≡ Some r) ⊎ ((verdict x.memory (history.epoch_of (state_of b x.trace)) q.session q ≡ None) × (r ≡ refused.Full b.limit) × (b.limit < bytes_of q))

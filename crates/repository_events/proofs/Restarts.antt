@@ -2,30 +2,27 @@
 use Rattle.commit_log.specs.declared.entry.Entry.TheVariants.{Life}
 use Rattle.commit_log.specs.declared.entry.Entry.{Entry}
 use Rattle.held_state.proofs.Limits.{entered_limit}
-use Rattle.held_state.specs.Entering.{entered}
 use Rattle.held_state.specs.declared.held.Held.{Held}
-use Rattle.live_sessions.specs.Sessions.{Kept, ended, no_sessions}
+use Rattle.live_sessions.specs.Sessions.{Kept, ended}
 use Rattle.local_history.specs.History.{Base}
-use Rattle.repo_core.specs.Refusing.{GoesDown}
 use Rattle.repo_core.specs.Restarting as core
 use Rattle.repo_core.specs.Restarting.{Begins, StaysDown, memory_at}
 use Rattle.repo_core.specs.Shown.{Shown}
-use Rattle.repository_events.proofs.Calls.{earlier_go}
-use Rattle.repository_events.proofs.Phases.{down_phase, made_of_parts, not_torn, torn_phase, up_phase, whole_not_torn, whole_up}
+use Rattle.repository_events.proofs.Marked.{earlier_go}
+use Rattle.repository_events.proofs.Phases.{down_phase, made_of_parts, not_torn, torn_phase, up_phase, whole_not_torn}
 use Rattle.repository_events.proofs.Stepping.{LimitStays, runs_one}
 use Rattle.repository_events.specs.Seen.{IsRun, IsWhole, StandsRight, phase, phase_from, seen}
 use Rattle.repository_events.specs.Vouching.{IsBase}
-use Rattle.repository_laws.specs.Running.{EarlierGo, Repository, held_with, requested_with}
+use Rattle.repository_laws.specs.Running.{EarlierGo}
 use Rattle.repository_runs.proofs.Returning.{may-take, take}
 use Rattle.repository_runs.proofs.Steps.{opens, runs}
-use Rattle.repository_runs.specs.Restarting.{ComesUp, FailsBehind, MayTake, Opens, Recovers, Restart, RestartFails, StaysPending, TakesNone, Tears, life_behind}
-use Rattle.repository_runs.specs.Standing.{Down, IsRight, Phase, Torn, Up}
-use Rattle.std.proofs.Common.{Bool, Err, Ok, OnErr, OnOk, Option, Result, [], ◌∷◌, ap, cond, false, inl, inr, refl, subst, sym, true, ℕ, ◌+◌, ◌∙◌, ◌≡◌}
+use Rattle.repository_runs.specs.Restarting.{MayTake, Recovers, Restart, RestartFails, StaysPending, Tears, life_behind}
+use Rattle.repository_runs.specs.Standing.{Down, IsRight}
+use Rattle.std.proofs.Common.{Bool, Err, Ok, OnErr, OnOk, Option, Result, [], ◌∷◌, ap, false, inl, inr, refl, subst, sym, true, ℕ, ◌+◌, ◌∙◌, ◌≡◌}
 use Rattle.std.specs.Option.{IfSome}
 use Rattle.std.specs.Prelude.{IfOk, None, Some, ◌⊎◌}
 use Rattle.thor_value.specs.FiniteMap.{IsSorted, Set, has}
 use Rattle.thor_value.specs.Names.{ts_cmp}
-use Rattle.thor_value.specs.declared.names.Ts.{Ts}
 use Rattle.trace_record.specs.Recorded.{nothing, with_entry}
 use Rattle.validation_window.specs.declared.refusal.Refusal.{Refusal}
 use Rattle.volatile_state.proofs.Lasting.{lasts_itself}
@@ -139,11 +136,7 @@ fails_behind b x y k d f o = by y.is_torn refl
           down = record { trace = refl; moves = refl; memory = lasts_itself f.between.memory };
           phase = inl refl;
         }),
-        seen y,
-        phase y,
-        (torn_phase y d t, f.trace),
-        refl,
-        refl,
+        (seen y, phase y, (torn_phase y d t, f.trace), (refl, refl)),
       );
       opened = o;
       limit = limit;

@@ -10,13 +10,13 @@ use Rattle.repository_events.proofs.Phases.{down_phase, not_torn, same_phase, sa
 use Rattle.repository_events.specs.Seen.{IsRun, IsWhole, phase, seen}
 use Rattle.repository_runs.specs.Happening.{MarkIsMade, WasMaking, WasRefused}
 use Rattle.repository_runs.specs.Restarting.{Does, Event, Fails, Marks, Tears}
-use Rattle.repository_runs.specs.Standing.{Down, Phase, Up}
+use Rattle.repository_runs.specs.Standing.{Down}
 use Rattle.session_outbox.specs.declared.mark.Mark.TheVariants.{Refused}
 use Rattle.session_outbox.specs.declared.mark.Mark.{Mark}
 use Rattle.stable_store.specs.Kept.{is_fault}
 use Rattle.std.proofs.Common.{Bool, Option, [], ◌∷◌, ap, cond, false, inl, inr, refl, subst, sym, true, ℕ, ◌∙◌, ◌≡◌}
 use Rattle.std.specs.Prelude.{None, ◌⊎◌}
-use Rattle.trace_record.specs.Recorded.{Recorded, with_mark}
+use Rattle.trace_record.specs.Recorded.{with_mark}
 use Rattle.validation_window.specs.declared.refusal.Refusal.TheVariants as the
 use Rattle.validation_window.specs.declared.refusal.Refusal.{Refusal}
 use Rattle.volatile_state.specs.Volatile.{Memory}
@@ -45,7 +45,7 @@ runs_same b x y is = subst (IsRun b x) (sym is) (runs_none b x x (record { held 
 
 -- one event happens
 pub runs_one : (b : Base) (x y : Shown) (e : Event) → Does b (seen x) (phase x) e (seen y) (phase y) → y.opened_in ≡ x.opened_in → (IsWhole (phase y) → IsWhole (phase x) × LimitStays x y) → IsRun b x y
-runs_one b x y e d o l = record { events = e ∷ []; run = (seen y, phase y, d, refl, refl); opened = o; limit = l }
+runs_one b x y e d o l = record { events = e ∷ []; run = (seen y, phase y, d, (refl, refl)); opened = o; limit = l }
 
 -- a fault, with this entry pending or none
 pub runs_fault : (b : Base) (x y : Shown) (entry : Option Entry) → GoesDown x y entry → y.is_up ≡ false → y.trace ≡ x.trace → WasMaking b (seen x) entry → y.opened_in ≡ x.opened_in → IsRun b x y
@@ -118,13 +118,13 @@ pub runs_down : (b : Base) (x y : Shown) (s : ℕ) (q : Option Request) (entry :
 runs_down b x y s q entry r u left t marked down o = by (is_fault r) refl (is_marked r) refl
   where
     by : (f : Bool) → is_fault r ≡ f → (m : Bool) → is_marked r ≡ m → IsRun b x y
-    by true is m as = absurd (both_ways (left.fault is).was_up)
+    by true is m has_mark = absurd (both_ways (left.fault is).was_up)
       where
         both_ways : x.is_up ≡ true → ⊥
         both_ways up = cc
-    by false is true as = absurd (both_ways (marked as))
+    by false is true has_mark = absurd (both_ways (marked has_mark))
       where
         both_ways : x.is_up ≡ true → ⊥
         both_ways up = cc
-    by false is false as =
-        runs_none b x y (left.other is) (t ∙ ap (λ (k : Bool). cond k (with_mark x.trace (Refused s q r)) x.trace) as) (u ∙ ap (λ (f : Bool). cond f false x.is_up) is) o
+    by false is false has_mark =
+        runs_none b x y (left.other is) (t ∙ ap (λ (k : Bool). cond k (with_mark x.trace (Refused s q r)) x.trace) has_mark) (u ∙ ap (λ (f : Bool). cond f false x.is_up) is) o

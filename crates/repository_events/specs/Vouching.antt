@@ -22,7 +22,7 @@ IsCounted x = length x.held.upgrades + 1 < 2 ^ 32
 -- The sender of the request q of the session s vouches for it: it is that session's and its client's, it owes nothing to the
 -- state, it knows no place that isn't there, and what it created stands on pages that were granted to its session.
 pub record IsSent (b : Base) (x : Shown) (s : ℕ) (q : Request) : Type 0 where
-  pub session : q.session ≡ s
+  pub own : q.session ≡ s
   pub vouched : IsVouched b x.trace x.held q
   pub client : IsSomeAnd (session b (trace_of x.trace) s) (λ v. v.client ≡ q.who.client)
   pub upto : q.upto ≤ length x.trace.history

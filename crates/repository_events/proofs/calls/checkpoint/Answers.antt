@@ -1,4 +1,4 @@
-use Rattle.repository_events.proofs.Calls.{checkpoint_runs}
+use Rattle.repository_events.proofs.Marked.{checkpoint_runs}
 use Rattle.repository_events.proofs.calls.checkpoint.Goals as goal
 
 pub returns : goal.returns

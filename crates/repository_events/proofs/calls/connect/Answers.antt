@@ -1,4 +1,4 @@
-use Rattle.repository_events.proofs.Calls.{connect_runs}
+use Rattle.repository_events.proofs.Marked.{connect_runs}
 use Rattle.repository_events.proofs.calls.connect.Goals as goal
 
 pub returns : goal.returns

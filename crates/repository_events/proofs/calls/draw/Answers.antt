@@ -1,4 +1,4 @@
-use Rattle.repository_events.proofs.Calls.{draw_runs}
+use Rattle.repository_events.proofs.Marked.{draw_runs}
 use Rattle.repository_events.proofs.calls.draw.Goals as goal
 
 pub returns : goal.returns

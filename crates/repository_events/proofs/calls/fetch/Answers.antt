@@ -1,4 +1,4 @@
-use Rattle.repository_events.proofs.Calls.{fetch_runs}
+use Rattle.repository_events.proofs.Marked.{fetch_runs}
 use Rattle.repository_events.proofs.calls.fetch.Goals as goal
 
 pub returns : goal.returns

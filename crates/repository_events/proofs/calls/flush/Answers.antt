@@ -1,4 +1,4 @@
-use Rattle.repository_events.proofs.Calls.{flush_runs}
+use Rattle.repository_events.proofs.Marked.{flush_runs}
 use Rattle.repository_events.proofs.calls.flush.Goals as goal
 
 pub returns : goal.returns

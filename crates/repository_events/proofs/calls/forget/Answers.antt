@@ -1,4 +1,4 @@
-use Rattle.repository_events.proofs.Calls.{forget_runs}
+use Rattle.repository_events.proofs.Marked.{forget_runs}
 use Rattle.repository_events.proofs.calls.forget.Goals as goal
 
 pub returns : goal.returns

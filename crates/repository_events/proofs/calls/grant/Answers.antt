@@ -1,4 +1,4 @@
-use Rattle.repository_events.proofs.Calls.{grant_runs}
+use Rattle.repository_events.proofs.Marked.{grant_runs}
 use Rattle.repository_events.proofs.calls.grant.Goals as goal
 
 pub returns : goal.returns

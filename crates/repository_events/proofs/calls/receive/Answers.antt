@@ -1,4 +1,4 @@
-use Rattle.repository_events.proofs.Calls.{receive_runs}
+use Rattle.repository_events.proofs.Marked.{receive_runs}
 use Rattle.repository_events.proofs.calls.receive.Goals as goal
 
 pub returns : goal.returns

@@ -1,4 +1,4 @@
-use Rattle.repository_events.proofs.Calls.{stop_runs}
+use Rattle.repository_events.proofs.Marked.{stop_runs}
 use Rattle.repository_events.proofs.calls.stop_after.Goals as goal
 
 pub returns : goal.returns

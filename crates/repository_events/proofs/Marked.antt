@@ -1,6 +1,4 @@
 -- The calls that make marks, move objects, drop decisions or stop a repository.
-use Rattle.commit_log.specs.declared.entry.Entry.{Entry}
-use Rattle.commit_log.specs.declared.request.Request.{Request}
 use Rattle.held_state.specs.declared.held.Held.{Held}
 use Rattle.live_sessions.specs.Sessions.{begun, is_live, sent, taken}
 use Rattle.local_history.specs.History.{Base}
@@ -17,7 +15,7 @@ use Rattle.repo_core.specs.Shown.{Shown}
 use Rattle.repo_core.specs.Telling.{SendsPage}
 use Rattle.repository_events.proofs.Phases.{agreement, down_phase, made_of_parts, same_seen, up_phase, whole_up}
 use Rattle.repository_events.proofs.Stepping.{LimitStays, runs_answered, runs_mark, runs_none, runs_one, runs_refused, stays_so}
-use Rattle.repository_events.specs.Seen.{IsRun, IsWhole, StandsRight, phase, seen}
+use Rattle.repository_events.specs.Seen.{IsRun, StandsRight, phase, seen}
 use Rattle.repository_events.specs.Vouching.{WasKept}
 use Rattle.repository_laws.specs.Running.{EarlierGo}
 use Rattle.repository_runs.specs.Happening.{CallRefused}
@@ -29,10 +27,10 @@ use Rattle.std.proofs.Common.{Bool, Err, Ok, OnErr, OnOk, Option, Result, [], �
 use Rattle.std.specs.Prelude.{IfErr, IfOk, None, Some, nat_eq}
 use Rattle.thor_value.specs.FiniteMap.{IsSorted}
 use Rattle.thor_value.specs.declared.names.Ts.{Ts}
-use Rattle.trace_record.specs.Recorded.{Recorded, with_mark}
+use Rattle.trace_record.specs.Recorded.{with_mark}
 use Rattle.two_phase.specs.Contents.{Contents}
 use Rattle.validation_window.specs.declared.refusal.Refusal.{Refusal}
-use Rattle.volatile_state.proofs.Lasting.{lasts_itself, stayed}
+use Rattle.volatile_state.proofs.Lasting.{lasts_itself}
 use Rattle.volatile_state.specs.Volatile.{Memory, Outlasts}
 
 -- ---- marks
@@ -54,18 +52,19 @@ fetch_runs b x y s page upto (Ok t) within stands live moves limit sends trace r
     made_of_parts y.held x.memory x.trace,
     Up,
     (up_phase x stands.0, refl, record { trace = refl; held = moves; memory = refl }),
-    seen y,
-    phase y,
     (
-      refl,
-      up_phase y stands.1,
-      record {
-        comes = record { trace = trace; changes = (refl, ap (λ (m : Memory). m.drawn) sends.sends); queue = ap (λ (m : Memory). m.queue) sends.sends; requested = ap (λ (m : Memory). m.requested) sends.sends };
-        may = (live, within, (sends.bytes, ap (λ (m : Memory). m.sessions) sends.sends));
-      },
+      seen y,
+      phase y,
+      (
+        refl,
+        up_phase y stands.1,
+        record {
+          comes = record { trace = trace; changes = (refl, ap (λ (m : Memory). m.drawn) sends.sends); queue = ap (λ (m : Memory). m.queue) sends.sends; requested = ap (λ (m : Memory). m.requested) sends.sends };
+          may = (live, within, (sends.bytes, ap (λ (m : Memory). m.sessions) sends.sends));
+        },
+      ),
+      (refl, refl),
     ),
-    refl,
-    refl,
   );
   opened = o;
   limit = λ w. (whole_up x stands.0, limit);
@@ -100,7 +99,7 @@ receive_runs b x y s (Err r) stands live held message rest trace refused left o 
 
 draw_refused : (x : Shown) (s floor : ℕ) (r : Refusal) → DrawIsRefused x.memory s floor r → CallRefused (seen x) s r
 draw_refused x s floor r (inl gone) = inl gone
-draw_refused x s floor r (inr clock) = inr (inr (clock.0, clock.1, (clock.2.0, (floor, clock.2.1))))
+draw_refused x s floor r (inr clock) = inr (inr (clock.0, clock.1, (clock.2.0, floor, clock.2.1)))
 
 pub draw_runs : (b : Base) (x y : Shown) (s floor : ℕ) (result : Result Ts Refusal) → Stands x.is_up result y.is_up → OnOk result (is_live x.memory.sessions s ≡ true) → y.held ≡ x.held → IfOk result (λ t. x.memory.drawn < t.time) → IfOk result (λ t. t.time < 2 ^ 62)
     → IfOk result (λ t. t.repo ≡ x.held.repo) → IfOk result (λ t. t.life ≡ x.held.life) → IfOk result (λ t. y.memory ≡ record x.memory { drawn = t.time }) → IfOk result (λ t. y.trace ≡ with_mark x.trace (Drew s t))
@@ -148,7 +147,7 @@ earlier_go b life old new is sorted go = record {
 }
 
 pub checkpoint_runs : {X : Type 0} (b : Base) (x y : Shown) (result : Result X Refusal) → StandsRight b x → Stands x.is_up result y.is_up → y.memory ≡ x.memory → y.trace ≡ x.trace → DropsEarlier x y → IfErr result (Rests x y) → y.opened_in ≡ x.opened_in → IsRun b x y
-checkpoint_runs b x y result k stands memory trace drops rests o = on result stands rests
+checkpoint_runs {X = X} b x y result k stands memory trace drops rests o = on result stands rests
   where
     limit : LimitStays x y
     limit = ap (λ (h : Held). h.objects.mob.limit) drops.held
@@ -170,11 +169,12 @@ checkpoint_runs b x y result k stands memory trace drops rests o = on result sta
                 made_of_parts y.held x.memory x.trace,
                 Up,
                 (up_phase x f.0, refl, record { trace = refl; memory = refl; table = y.held.table; go = go f.0; held = drops.held }),
-                seen y,
-                phase y,
-                (refl, inl (down_phase y None (stood ∙ ap (λ (a : Bool). cond a false x.is_up) is) f.2 f.1), tt, record { trace = trace; moves = refl; memory = same_lasts x y memory }),
-                refl,
-                refl,
+                (
+                  seen y,
+                  phase y,
+                  (refl, inl (down_phase y None (stood ∙ ap (λ (a : Bool). cond a false x.is_up) is) f.2 f.1), tt, record { trace = trace; moves = refl; memory = same_lasts x y memory }),
+                  (refl, refl),
+                ),
               );
               opened = o;
               limit = λ w. (whole_up x f.0, limit);
