@@ -8,15 +8,18 @@ use Rattle.message_outbox.proofs.answers.At.TheSendSync as at
 use Rattle.serial_model.proofs.outcomes.Ended.TheSendSync as ended
 use Rattle.serial_model.specs.contracts.entries.What as What
 use Rattle.client_state.proofs.duties.Duties.TheSendSync as duties
-use Rattle.client_state.proofs.held.Held.TheSendSync as held
+use Rattle.client_state.proofs.link.Link.TheSendSync as link
 use Rattle.client_state.proofs.transaction.Sent.TheSendSync as sent
 use Rattle.client_state.proofs.transaction.Transaction.TheSendSync as transaction
 use Rattle.client_state.proofs.transform.Transform.TheSendSync as transform
+use Rattle.client_state.specs.contracts.held.Held as Held
 use Rattle.client_state.specs.contracts.phase.Phase as Phase
 use Rattle.front_end.specs.contracts.front_end.FrontEnd as FrontEnd
 use Rattle.item_progress.specs.contracts.opened.Opened as Opened
 use Rattle.item_progress.specs.contracts.progress.Progress as Progress
-use Rattle.cluster_threads.proofs.RunsCross.{paused_send}
+use Rattle.paused_eval.proofs.copies.Copies.TheSendSync as copies
+use Rattle.paused_eval.proofs.granted_names.GrantedNames.TheSendSync as granted_names
+use Rattle.cluster_threads.proofs.RunsCross.{kept_texts_send, paused_send}
 use Rattle.cluster_threads.proofs.TreesCross.{schemas_sync, stmt_send, upgrade_send}
 
 ruleset base = (sequence.the_send, sequence.the_sync, sendable)
@@ -33,5 +36,8 @@ opened_sync = search (schemas_sync, base) depth 30
 pub phase_send : IsSend (Phase.the_field).row
 phase_send = search (paused_send, sent.the_field_send, transaction.the_field_send, transform.the_field_send, at.the_field_send, oref.the_send, ts.the_field_send, base) depth 30
 
+pub held_send : IsSend (Held.the_field).row
+held_send = search (link.the_send, copies.the_field_send, granted_names.the_field_send, kept_texts_send, base, crosses) depth 30
+
 pub front_end_send : IsSend FrontEnd.the_row
-front_end_send = search (held.the_field_send, duties.the_field_send, phase_send, progress_send, base) depth 30
+front_end_send = search (held_send, duties.the_field_send, phase_send, progress_send, base) depth 30

@@ -28,6 +28,8 @@ use Rattle.paused_defs.specs.contracts.syntax.SharedBlock as SharedBlock
 use Rattle.paused_defs.specs.contracts.syntax.SharedExpr as SharedExpr
 use Rattle.paused_defs.specs.contracts.syntax.SharedExprs as SharedExprs
 use Rattle.paused_defs.specs.contracts.syntax.SharedStmt as SharedStmt
+use Rattle.paused_eval.specs.contracts.bodies.Copied as Copied
+use Rattle.paused_eval.specs.contracts.kept_texts.KeptTexts as KeptTexts
 use Rattle.paused_eval.specs.contracts.paused.Paused as Paused
 use Rattle.cluster_threads.proofs.TreesCross.{type_name_send, type_name_sync}
 
@@ -95,3 +97,12 @@ frame_send = enum_send (shape Frame.the_type) (tt, ((search base, (operator.the_
 
 pub paused_send : IsSend (Paused.the_field).row
 paused_send = search (doing_send, frame_send, stack.the_send, leaves, base, crosses) depth 30
+
+pub shared_block_field_send : IsSend (SharedBlock.the_field).row
+shared_block_field_send = search (stmt_nodes_send, stmt_nodes_sync, base) depth 30
+
+pub copied_send : IsSend Copied.the_row
+copied_send = search (text_send, shared_block_field_send, base) depth 30
+
+pub kept_texts_send : IsSend (KeptTexts.the_field).row
+kept_texts_send = search (copied_send, shared_block_send, base) depth 30
