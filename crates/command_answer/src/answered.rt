@@ -3,7 +3,7 @@
 ghost use Rattle.repository_reading.specs.Same.{AreSame};
 ghost use Rattle.std.specs.Prelude.{◌≡◌, vec_len};
 
-use checked_report::Reply;
+use checked_report::{Reply, Status};
 use disk_trait::Parts;
 use std::alloc::Global;
 use thor_value::NoMemory;
@@ -15,6 +15,16 @@ pub struct Answered<P> {
     /// What it has to write, where memory was there.
     pub reply: Result<Reply, NoMemory>,
     /// The parts, in their order.
+    pub parts: Vec<P>,
+    /// What happened at each repository; nothing where no run was made.
+    pub traces: Traces,
+}
+
+/// How the program ended.
+#[derive(Drop)]
+pub struct Outcome<P> {
+    pub status: Status,
+    /// The parts that were handed in, in their order.
     pub parts: Vec<P>,
     /// What happened at each repository; nothing where no run was made.
     pub traces: Traces,

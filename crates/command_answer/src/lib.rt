@@ -1,12 +1,6 @@
-//! The program's answer to its words: they are read, then the script, which is answered by what runs scripts.
+//! What the program answers to its words: its statement, and the types of what it is made of.
 #![tactic(auto)]
 
 mod answered;
-mod answering;
-mod replying;
-mod runner;
 
-pub use answered::{Answered, unplayed};
-pub use answering::{Outcome, answer_and_write};
-pub use replying::SCRIPT_LIMIT;
-pub use runner::Runner;
+pub use answered::{Answered, Outcome, unplayed, untouched};

@@ -1,3 +1,4 @@
 pub mod BaseLaws
 pub mod KeptLaws
 pub mod PromiseLaws
+pub mod TopLaws

@@ -9,9 +9,10 @@ ghost use Rattle.outside.specs.Streams.{Put};
 ghost use Rattle.repository_reading.specs.Same.{AreSame};
 ghost use Rattle.thor_top.specs.Promises.{AreNoWords, HasTold, IsFront, IsPlanned, IsTooLong, OnAnswer, Reads, Runs, SaysDisk, SaysLimit, SaysOk, SaysReport, SaysRule, SaysSummary};
 
+use crate::answering::answer_and_write;
 use crate::running::Runtime;
 use checked_report::Status;
-use command_answer::{Outcome, answer_and_write};
+use command_answer::Outcome;
 use disk_trait::Parts;
 use outside::{Gate, Sink, Source};
 use std::alloc::Global;

@@ -9,31 +9,22 @@ ghost use Rattle.outside.specs.Faults.{Rose};
 ghost use Rattle.repository_reading.specs.Same.{AreSame};
 ghost use Rattle.std.specs.Prelude.{IfOk, Some, vec_len, ◌≡◌};
 
-use crate::answered::{Answered, untouched};
-use crate::replying::reply_by_plan;
-use crate::runner::Runner;
+use crate::by_plan::reply_by_plan;
+use crate::running::Runtime;
 use checked_report::{Status, says};
+use command_answer::{Answered, Outcome, untouched};
 use command_words::{WordsFault, read_words};
 use disk_trait::Parts;
-use outside::{Sink, Source, write_all};
+use outside::{Gate, Sink, Source, write_all};
 use std::alloc::Global;
+use std::sync::Wait;
+use std::thread::Threads;
 use thor_value::{NoMemory, Text};
-use trace_record::Traces;
-
-/// How the program ended.
-#[derive(Drop)]
-pub struct Outcome<P> {
-    pub status: Status,
-    /// The parts that were handed in, in their order.
-    pub parts: Vec<P>,
-    /// What happened at each repository; nothing where no run was made.
-    pub traces: Traces,
-}
 
 /// The answer to the words.
-fn answer<X: Runner<P>, S: Source, P: Parts>(
+fn answer<R: Threads + Wait + Sync, S: Source, P: Parts + Send, G: Gate + Sync>(
     alloc: Global,
-    runner: &X,
+    runtime: &Runtime<'_, R, G>,
     words: &[Text],
     source: &mut S,
     parts: Vec<P>,
@@ -46,7 +37,7 @@ fn answer<X: Runner<P>, S: Source, P: Parts>(
     match read_words(alloc, words) {
         Ok(plan) => {
             if usize::from(plan.repos) == parts.len() {
-                reply_by_plan(alloc, runner, &plan, source, parts)
+                reply_by_plan(alloc, runtime, &plan, source, parts)
             } else {
                 untouched(alloc, says(alloc, Status::Words, b"words\n"), parts)
             }
@@ -58,9 +49,9 @@ fn answer<X: Runner<P>, S: Source, P: Parts>(
 
 /// Answers the words, and writes the answer to the sink.
 #[tactic(auto, using(crate::proofs::TopLaws::says_fault))]
-pub fn answer_and_write<X: Runner<P>, S: Source, K: Sink, P: Parts>(
+pub(crate) fn answer_and_write<R: Threads + Wait + Sync, S: Source, K: Sink, P: Parts + Send, G: Gate + Sync>(
     alloc: Global,
-    runner: &X,
+    runtime: &Runtime<'_, R, G>,
     words: &[Text],
     source: &mut S,
     sink: &mut K,
@@ -77,7 +68,7 @@ pub fn answer_and_write<X: Runner<P>, S: Source, K: Sink, P: Parts>(
         reply,
         parts,
         traces,
-    } = answer(alloc, runner, words, source, parts);
+    } = answer(alloc, runtime, words, source, parts);
     let status = match reply {
         Ok(said) => match write_all(sink, said.text.as_slice()) {
             Ok(()) => said.status,

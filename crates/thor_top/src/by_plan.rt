@@ -1,4 +1,4 @@
-//! The reply to a plan: its script is read, and answered by what runs scripts.
+//! The reply to a plan: its script is read, and answered on the store.
 
 ghost use Rattle.command_answer.specs.Kept.{WritesNothing};
 ghost use Rattle.command_answer.specs.Top.{SaysOf, SaysRead, Tells, TellsOf};
@@ -8,15 +8,18 @@ ghost use Rattle.script_parse.specs.Script.{HasFew};
 ghost use Rattle.std.specs.Prelude.{IfOk, vec_len, ◌≡◌};
 ghost use Rattle.std.specs.String.{string_bytes};
 
-use crate::answered::{Answered, untouched};
-use crate::runner::Runner;
+use crate::replying::reply_in_store;
+use crate::running::Runtime;
 use checked_report::{Status, limited, refused, says};
+use command_answer::{Answered, untouched};
 use command_words::{Command, Plan};
 use disk_trait::Parts;
 use generator::generate;
-use outside::{ReadAll, Source, read_all};
+use outside::{Gate, ReadAll, Source, read_all};
 use script_parse::{ReadError, Script, read_script};
 use std::alloc::Global;
+use std::sync::Wait;
+use std::thread::Threads;
 use thor_value::NoMemory;
 
 /// The most bytes that a script may have.
@@ -29,9 +32,9 @@ const CLIENT_LIMIT: usize = 64;
 const EVENT_LIMIT: usize = 1_000_000;
 
 /// The reply to a command on a script that was read.
-fn reply_to<X: Runner<P>, P: Parts>(
+fn reply_to<R: Threads + Wait + Sync, P: Parts + Send, G: Gate + Sync>(
     alloc: Global,
-    runner: &X,
+    runtime: &Runtime<'_, R, G>,
     plan: &Plan,
     script: &Script,
     parts: Vec<P>,
@@ -47,13 +50,13 @@ fn reply_to<X: Runner<P>, P: Parts>(
     if EVENT_LIMIT < script.events.len() {
         return untouched(alloc, limited(alloc, EVENT_LIMIT as u64), parts);
     }
-    runner.reply(alloc, plan, script, parts)
+    reply_in_store(alloc, runtime, plan, script, parts)
 }
 
 /// The reply to a command on a script's bytes.
-fn reply_to_bytes<X: Runner<P>, P: Parts>(
+fn reply_to_bytes<R: Threads + Wait + Sync, P: Parts + Send, G: Gate + Sync>(
     alloc: Global,
-    runner: &X,
+    runtime: &Runtime<'_, R, G>,
     plan: &Plan,
     bytes: &[u8],
     parts: Vec<P>,
@@ -63,16 +66,16 @@ fn reply_to_bytes<X: Runner<P>, P: Parts>(
     ensures kept { WritesNothing plan.now.command result.reply → AreSame P.disks parts.items result.parts.items }
 {
     match read_script(alloc, bytes) {
-        Ok(script) => reply_to(alloc, runner, plan, &script, parts),
+        Ok(script) => reply_to(alloc, runtime, plan, &script, parts),
         Err(ReadError::Refused(refusal)) => untouched(alloc, refused(alloc, refusal), parts),
         Err(ReadError::NoMemory) => untouched(alloc, Err(NoMemory), parts),
     }
 }
 
 /// Reads the script and does what a plan asks for.
-fn read_and_reply<X: Runner<P>, S: Source, P: Parts>(
+fn read_and_reply<R: Threads + Wait + Sync, S: Source, P: Parts + Send, G: Gate + Sync>(
     alloc: Global,
-    runner: &X,
+    runtime: &Runtime<'_, R, G>,
     plan: &Plan,
     source: &mut S,
     parts: Vec<P>,
@@ -82,7 +85,7 @@ fn read_and_reply<X: Runner<P>, S: Source, P: Parts>(
     ensures kept { WritesNothing plan.now.command result.reply → AreSame P.disks parts.items result.parts.items }
 {
     match read_all(alloc, source, SCRIPT_LIMIT) {
-        Ok(bytes) => reply_to_bytes(alloc, runner, plan, bytes.as_slice(), parts),
+        Ok(bytes) => reply_to_bytes(alloc, runtime, plan, bytes.as_slice(), parts),
         Err(ReadAll::Failed) => {
             untouched(alloc, says(alloc, Status::SourceFault, b"source\n"), parts)
         }
@@ -102,9 +105,9 @@ fn generated(alloc: Global, n: u16, repos: u8) -> Result<String, NoMemory>
 }
 
 /// Does what a plan asks for with the generated script of a number.
-fn generate_and_reply<X: Runner<P>, P: Parts>(
+fn generate_and_reply<R: Threads + Wait + Sync, P: Parts + Send, G: Gate + Sync>(
     alloc: Global,
-    runner: &X,
+    runtime: &Runtime<'_, R, G>,
     plan: &Plan,
     n: u16,
     parts: Vec<P>,
@@ -114,15 +117,15 @@ fn generate_and_reply<X: Runner<P>, P: Parts>(
     ensures kept { WritesNothing plan.now.command result.reply → AreSame P.disks parts.items result.parts.items }
 {
     match generated(alloc, n, plan.repos) {
-        Ok(text) => reply_to_bytes(alloc, runner, plan, text.as_bytes(), parts),
+        Ok(text) => reply_to_bytes(alloc, runtime, plan, text.as_bytes(), parts),
         Err(NoMemory) => untouched(alloc, Err(NoMemory), parts),
     }
 }
 
 /// Does what a plan asks for, with the script of the source or, where a number is given, with the generated one.
-pub(crate) fn reply_by_plan<X: Runner<P>, S: Source, P: Parts>(
+pub(crate) fn reply_by_plan<R: Threads + Wait + Sync, S: Source, P: Parts + Send, G: Gate + Sync>(
     alloc: Global,
-    runner: &X,
+    runtime: &Runtime<'_, R, G>,
     plan: &Plan,
     source: &mut S,
     parts: Vec<P>,
@@ -133,8 +136,8 @@ pub(crate) fn reply_by_plan<X: Runner<P>, S: Source, P: Parts>(
 {
     match plan.command {
         Command::Check | Command::Play | Command::Run => {
-            read_and_reply(alloc, runner, plan, source, parts)
+            read_and_reply(alloc, runtime, plan, source, parts)
         }
-        Command::Gen { n } => generate_and_reply(alloc, runner, plan, n, parts),
+        Command::Gen { n } => generate_and_reply(alloc, runtime, plan, n, parts),
     }
 }

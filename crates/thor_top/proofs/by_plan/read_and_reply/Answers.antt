@@ -1,5 +1,5 @@
-use Rattle.command_answer.proofs.TopLaws.{says_result}
-use Rattle.command_answer.proofs.replying.read_and_reply.Goals as goal
+use Rattle.thor_top.proofs.TopLaws.{says_result}
+use Rattle.thor_top.proofs.by_plan.read_and_reply.Goals as goal
 
 pub returns-in-Ok-clause-reply : goal.returns-in-Ok-clause-reply
 returns-in-Ok-clause-reply g c =

@@ -1,6 +1,6 @@
 use Rattle.std.proofs.Common.{◌∙◌}
-use Rattle.command_answer.proofs.TopLaws.{tells_same}
-use Rattle.command_answer.proofs.replying.generate_and_reply.Goals as goal
+use Rattle.thor_top.proofs.TopLaws.{tells_same}
+use Rattle.thor_top.proofs.by_plan.generate_and_reply.Goals as goal
 
 pub returns-in-Ok-clause-reply : goal.returns-in-Ok-clause-reply
 returns-in-Ok-clause-reply g c =
