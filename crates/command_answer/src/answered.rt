@@ -53,9 +53,5 @@ pub fn untouched<P: Parts>(
     ensures parts { vec_len result.parts ≡ vec_len parts }
     ensures same { AreSame P.disks parts.items result.parts.items }
 {
-    Answered {
-        reply,
-        parts,
-        traces: Traces::new(alloc),
-    }
+    unplayed(alloc, reply, parts)
 }
