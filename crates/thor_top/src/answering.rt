@@ -49,7 +49,13 @@ fn answer<R: Threads + Wait + Sync, S: Source, P: Parts + Send, G: Gate + Sync>(
 
 /// Answers the words, and writes the answer to the sink.
 #[tactic(auto, using(crate::proofs::TopLaws::says_fault))]
-pub(crate) fn answer_and_write<R: Threads + Wait + Sync, S: Source, K: Sink, P: Parts + Send, G: Gate + Sync>(
+pub(crate) fn answer_and_write<
+    R: Threads + Wait + Sync,
+    S: Source,
+    K: Sink,
+    P: Parts + Send,
+    G: Gate + Sync,
+>(
     alloc: Global,
     runtime: &Runtime<'_, R, G>,
     words: &[Text],

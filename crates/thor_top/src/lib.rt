@@ -12,7 +12,7 @@ mod starting;
 mod top;
 mod unopened;
 
-pub use checked_report::Status;
 pub use by_plan::SCRIPT_LIMIT;
+pub use checked_report::Status;
 pub use command_answer::Outcome;
 pub use top::thor;
