@@ -9,24 +9,22 @@ use Rattle.std.specs.Option.{option_and_then}
 use Rattle.std.specs.Prelude.{◌+◌, ◌||◌, find, length}
 use Rattle.std.specs.Str.{bytes_eq}
 use Rattle.upgrade_laws.proofs.AppliedClasses.{fields_kept, fields_new, keeps_name, same_kind, same_known, same_names, same_type, step}
-use Rattle.class_defs.proofs.KeptRules.{each_nothing, held, nothing, type_told}
+use Rattle.class_defs.proofs.KeptRules.{each_nothing, held, neither, none_told, nothing, type_told}
 use Rattle.upgrade_laws.proofs.KeptFields.{field_handed, field_hands_over, field_owned, taken_once}
 use Rattle.class_defs.specs.Accepted.{AllAccepted, IsAccepted}
 use Rattle.class_defs.specs.Applied.{applied, class_behind, classes_behind, new_field, said_of}
 use Rattle.class_defs.specs.Epochs.{classes_of, next_of, schema_of}
 use Rattle.class_defs.specs.Types.{IsDeclared, class_named, fields_of, type_named}
 use Rattle.class_defs.specs.KeptOwnership.{AllKeepClasses, KeepsClasses, KeepsOwnership}
-use Rattle.class_defs.specs.Objects.{first_of}
 use Rattle.class_defs.specs.Ownership.{IsPart}
-use Rattle.class_defs.specs.Rules.{is_part, is_type, least, least_with, stand_once, told_before}
+use Rattle.class_defs.specs.Rules.{is_part, is_type, least, stand_once}
 use Rattle.class_defs.specs.SchemaRules.{class_names, class_rules, classes_from, member_names, root_names, schema_rules}
-use Rattle.class_defs.specs.UpgradeOrder.{as_own, breaks_outside, inside_class, inside_rules, least_own, least_own_with, outside_rules, over_classes, own_before, own_fault}
+use Rattle.class_defs.specs.UpgradeOrder.{breaks_outside, inside_class, inside_rules, outside_rules, over_classes, own_fault}
 use Rattle.class_defs.specs.UpgradeRules.{class_upgrade_rules, field_rules, fields_rules, handed_once, named_once, upgrade_rules}
 use Rattle.class_defs.specs.Upgrades.{upgrade_of}
 use Rattle.class_defs.specs.declared.classes.Class.{Class}
 use Rattle.class_defs.specs.declared.expressions.Name.{Name}
-use Rattle.class_defs.specs.declared.own_rules.OwnFault.{OwnFault}
-use Rattle.class_defs.specs.declared.rules.TypeFault.{TypeFault}
+use Rattle.class_defs.specs.declared.rules.RuleFault.{RuleFault}
 use Rattle.class_defs.specs.declared.statements.Stmt.{Stmt}
 use Rattle.class_defs.specs.declared.store.Schema.{Schema}
 use Rattle.class_defs.specs.declared.store.Schemas.{Schemas}
@@ -38,43 +36,9 @@ use Rattle.class_defs.specs.declared.upgrades.Upgrade.{Upgrade}
 
 -- ---- what is told
 
-some_told : (f : OwnFault) (fs : List OwnFault) → least_own_with (Some f) fs ≡ None → ⊥
-some_told f [] h = cc
-some_told f (g ∷ fs) h = by_first (own_before g f) (some_told g fs) (some_told f fs) h
-  where
-    by_first : (b : Bool) → (least_own_with (Some g) fs ≡ None → ⊥) → (least_own_with (Some f) fs ≡ None → ⊥)
-        → least_own_with (cond b (Some g) (Some f)) fs ≡ None → ⊥
-    by_first true first second h = first h
-    by_first false first second h = second h
-
-own_nothing : (fs : List OwnFault) → least_own fs ≡ None → fs ≡ []
-own_nothing [] h = refl
-own_nothing (f ∷ fs) h = absurd (some_told f fs h)
-
-some_type : (f : TypeFault) (fs : List TypeFault) → least_with (Some f) fs ≡ None → ⊥
-some_type f [] h = cc
-some_type f (g ∷ fs) h = by_first (told_before g f) (some_type g fs) (some_type f fs) h
-  where
-    by_first : (b : Bool) → (least_with (Some g) fs ≡ None → ⊥) → (least_with (Some f) fs ≡ None → ⊥)
-        → least_with (cond b (Some g) (Some f)) fs ≡ None → ⊥
-    by_first true first second h = first h
-    by_first false first second h = second h
-
-type_nothing : (fs : List TypeFault) → least fs ≡ None → fs ≡ []
-type_nothing [] h = refl
-type_nothing (f ∷ fs) h = absurd (some_type f fs h)
-
-mapped_nothing : (o : Option TypeFault) → option_map as_own o ≡ None → o ≡ None
-mapped_nothing None h = refl
-mapped_nothing (Some f) h = cc
-
-none_outside : (line : ℕ) (fs : List TypeFault) → breaks_outside line fs ≡ None → fs ≡ []
+none_outside : (line : ℕ) (fs : List RuleFault) → breaks_outside line fs ≡ None → fs ≡ []
 none_outside line [] h = refl
 none_outside line (f ∷ fs) h = cc
-
-neither : {X : Type 0} (a b : Option X) → first_of a b ≡ None → (a ≡ None) × (b ≡ None)
-neither None b h = (refl, h)
-neither (Some a) b h = cc
 
 -- what holds of an upgrade that breaks no rule
 pub record Sound (schema : Schema) (repos : ℕ) (u : Upgrade) (items : List (List Stmt)) : Type 0 where
@@ -86,11 +50,11 @@ pub sound : (schema : Schema) (repos : ℕ) (u : Upgrade) (items : List (List St
     → Sound schema repos u items
 unfolding own_fault
 sound schema repos u items h =
-    let p = neither (least_own (upgrade_rules schema.classes u)) _ h in
-    let q = neither (option_map as_own (least (inside_rules u (applied schema u) repos))) _ p.1 in
+    let p = neither (least (upgrade_rules schema.classes u)) _ h in
+    let q = neither (least (inside_rules u (applied schema u) repos)) _ p.1 in
     record {
-      own = own_nothing _ p.0;
-      inside = type_nothing _ (mapped_nothing _ q.0);
+      own = none_told _ p.0;
+      inside = none_told _ q.0;
       outside = none_outside u.line _ q.1;
     }
 
@@ -196,7 +160,7 @@ said_sound classes u c d k h once is said =
 -- ---- the classes behind it
 
 -- what rules say of classes they say of each
-pub over_at : (rules : ℕ → Class → List TypeFault) (n : ℕ) (ds : List Class) (c : ℕ) (d : Class) → over_classes rules n ds ≡ []
+pub over_at : (rules : ℕ → Class → List RuleFault) (n : ℕ) (ds : List Class) (c : ℕ) (d : Class) → over_classes rules n ds ≡ []
     → slice_get ds c ≡ Some d
     → rules (n + c) d ≡ []
 over_at rules n [] c d h is = cc

@@ -5,25 +5,20 @@ use Rattle.std.proofs.lemmas.List.Folds.{list_any-append}
 use Rattle.std.specs.List.{list_any}
 use Rattle.std.specs.Option.{option_and_then}
 use Rattle.std.specs.Prelude.{◌&&◌, ◌||◌, ◌==◌, nat_le, length}
-use Rattle.class_defs.proofs.KeptRules.{nothing}
+use Rattle.class_defs.proofs.KeptRules.{held, nothing}
 use Rattle.class_defs.specs.Types.{IsDeclared, field_named, type_named}
 use Rattle.class_defs.specs.KeptOwnership.{IsHanded, handed, handed_path, handed_step, is_owned_path, owned_step, part_class, reads_owned}
 use Rattle.class_defs.specs.Ownership.{type_at}
 use Rattle.class_defs.specs.Rules.{is_part}
-use Rattle.class_defs.specs.UpgradeRules.{as_list, field_at_path, field_behind, field_read, field_rules, gives_int, gives_reference, goes_through_parts, handed_as, handed_once, hands_over, int_step, is_field_of, is_int, is_new, is_of_class, max_names, may_go_on, must_own, part_step, path_type, reads_parts, value_rules}
+use Rattle.class_defs.specs.UpgradeRules.{as_list, field_at_path, field_behind, field_read, field_rules, gives_int, gives_reference, goes_through_parts, handed_as, handed_once, hands_over, int_step, is_field_of, is_int, is_new, is_of_class, max_names, may_go_on, part_step, path_type, reads_parts, value_rules}
 use Rattle.class_defs.specs.declared.classes.Class.{Class}
 use Rattle.class_defs.specs.declared.expressions.Name.{Name}
-use Rattle.class_defs.specs.declared.own_rules.OwnRule.{OwnRule}
 use Rattle.class_defs.specs.declared.types.ExprType.{ExprType}
 use Rattle.class_defs.specs.declared.types.ExprType.TheVariants as type
 use Rattle.class_defs.specs.declared.upgrades.FieldUpgrade.{FieldUpgrade}
 use Rattle.class_defs.specs.declared.upgrades.Tf.{Tf, map-Tf, out-Tf}
 use Rattle.class_defs.specs.declared.upgrades.Tf.TheFolds.{fold_out-Tf, fold-roll-Tf, ind-Tf}
 use Rattle.class_defs.specs.declared.upgrades.Tf.TheOpen.{Tf-F}
-
-pub own_held : (b : Bool) (rule : OwnRule) (line : ℕ) → must_own b rule line ≡ [] → b ≡ true
-own_held true rule line h = refl
-own_held false rule line h = cc
 
 left_true : (a b : Bool) → (a && b) ≡ true → a ≡ true
 left_true true b h = refl
@@ -169,15 +164,15 @@ module _ (classes : List Class) where
         → gives_reference classes c d (out-Tf e) ≡ true
     reference_given (type.Class b) e d is h =
         let same : b ≡ d = cc in
-        subst (λ n. gives_reference classes c n (out-Tf e) ≡ true) same (own_held _ _ _ h)
+        subst (λ n. gives_reference classes c n (out-Tf e) ≡ true) same (held _ _ _ h)
     reference_given type.Int e d is h = cc
     reference_given type.Null e d is h = cc
     reference_given type.Untold e d is h = cc
 
     owned_by_type : (t : ExprType) (e : Tf) → IsDeclared t → value_rules classes c t e ≡ [] → reads_parts classes c e ≡ true
         → reads_owned classes c e ≡ true
-    owned_by_type type.Int e declared h g = int_reads_owned e g (own_held _ _ _ h)
-    owned_by_type (type.Class d) e declared h g = owned_out e ∙ layer_owned d (out-Tf e) (own_held _ _ _ h)
+    owned_by_type type.Int e declared h g = int_reads_owned e g (held _ _ _ h)
+    owned_by_type (type.Class d) e declared h g = owned_out e ∙ layer_owned d (out-Tf e) (held _ _ _ h)
     owned_by_type type.Null e declared h g = absurd declared
     owned_by_type type.Untold e declared h g = absurd declared
 
@@ -186,7 +181,7 @@ module _ (classes : List Class) where
         → reads_owned classes c f.value ≡ true
     field_owned f declared h =
         let p = nothing (value_rules classes c (type_named classes f.type_name) f.value) _ h in
-        owned_by_type (type_named classes f.type_name) f.value declared p.0 (own_held _ _ _ p.1)
+        owned_by_type (type_named classes f.type_name) f.value declared p.0 (held _ _ _ p.1)
 
     given_by : (f : FieldUpgrade) (d : ℕ) → type_named classes f.type_name ≡ type.Class d → field_rules classes c f ≡ []
         → gives_reference classes c d (out-Tf f.value) ≡ true
@@ -233,7 +228,7 @@ module _ (classes : List Class) where
     never_before earlier (e ∷ fs) zero f j h is g =
         let same : f ≡ e = cc in
         new_one earlier (hands_over classes c e) j (ap (hands_over classes c) (sym same) ∙ g)
-        (own_held _ _ _ (nothing _ (handed_once classes c (earlier ++ as_list (hands_over classes c e)) fs) h).0)
+        (held _ _ _ (nothing _ (handed_once classes c (earlier ++ as_list (hands_over classes c e)) fs) h).0)
     never_before earlier (e ∷ fs) (suc i) f j h is g =
         let rest = (nothing _ (handed_once classes c (earlier ++ as_list (hands_over classes c e)) fs) h).1 in
         first_false (list_any (λ i. i == j) earlier) _

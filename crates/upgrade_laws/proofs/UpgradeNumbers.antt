@@ -7,19 +7,19 @@ use Rattle.std.specs.Option.{option_and_then}
 use Rattle.std.specs.Prelude.{◌&&◌, ◌+◌, find, length, not}
 use Rattle.std.specs.Str.{bytes_eq}
 use Rattle.upgrade_laws.proofs.AppliedClasses.{same_known}
-use Rattle.class_defs.proofs.KeptRules.{nothing}
+use Rattle.class_defs.proofs.KeptRules.{held, nothing}
 use Rattle.class_defs.proofs.NumbersBehind.{highest_below, number_below}
 use Rattle.upgrade_laws.proofs.KeptByRules.{behind, next_is, sound}
-use Rattle.upgrade_laws.proofs.KeptFields.{own_held}
 use Rattle.class_defs.specs.Accepted.{AllAccepted, AllNameAClass, IsAccepted}
 use Rattle.class_defs.specs.Applied.{applied, highest, next_number, number_of, numbers_behind, said_of}
 use Rattle.class_defs.specs.Epochs.{classes_of, schema_of}
 use Rattle.class_defs.specs.Levels.{last_naming}
 use Rattle.class_defs.specs.Types.{class_named}
-use Rattle.class_defs.specs.UpgradeRules.{must_own, named_once, upgrade_rules}
+use Rattle.class_defs.specs.Rules.{must}
+use Rattle.class_defs.specs.UpgradeRules.{named_once, upgrade_rules}
 use Rattle.class_defs.specs.declared.classes.Class.{Class}
 use Rattle.class_defs.specs.declared.expressions.Name.{Name}
-use Rattle.class_defs.specs.declared.own_rules.OwnRule.TheVariants.{O1}
+use Rattle.class_defs.specs.declared.rules.Rule.TheVariants.{O1}
 use Rattle.class_defs.specs.declared.statements.Stmt.{Stmt}
 use Rattle.class_defs.specs.declared.store.Schema.{Schema}
 use Rattle.class_defs.specs.declared.store.Schemas.{Schemas}
@@ -95,8 +95,8 @@ names_one classes u (k ∷ ks) is some h =
     subst (λ (xs : List ClassUpgrade). named_once classes [] (map (λ k. k.name) xs) ≡ []) is
     (nothing (named_once classes [] (map (λ k. k.name) u.classes)) _ h).0 in
     let first = nothing
-    (must_own (is_some (class_named classes k.name.text) && not (list_any (λ (m : Name). bytes_eq m.text k.name.text) [])) O1 k.name.line) _ rules in
-    let there = first_true (is_some (class_named classes k.name.text)) _ (own_held _ _ _ first.0) in
+    (must (is_some (class_named classes k.name.text) && not (list_any (λ (m : Name). bytes_eq m.text k.name.text) [])) O1 k.name.line) _ rules in
+    let there = first_true (is_some (class_named classes k.name.text)) _ (held _ _ _ first.0) in
     let s = stands_at k.name.text classes (ltb-true (place k.name.text classes) (length classes) (there_at _ _ there)) in
     record {
       place = s.at;
