@@ -2,7 +2,7 @@
 use Rattle.std.proofs.Common.{◌≡◌, ◌<◌, arith, Bool, true, false, cond, not, List, [], ◌∷◌, ◌++◌, map, ℕ, zero, suc, nat_lt, Option, Some, None, is_some, option_map, slice_get, refl, ap, sym, ◌∙◌, subst}
 use Rattle.std.proofs.lemmas.List.Folds.{list_any-append}
 use Rattle.std.proofs.lemmas.Option.{slice_get-map, slice_get_within}
-use Rattle.std.proofs.lemmas.Bool.{lt-ltb}
+use Rattle.std.proofs.lemmas.Bool.{lt-ltb, not-true, or_parts}
 use Rattle.std.proofs.lemmas.Slice.Eq.{bytes_eq-Decides}
 use Rattle.std.specs.List.{AllByRecursion, flat_map, list_any, position_or_len}
 use Rattle.std.specs.Option.{option_and_then}
@@ -80,18 +80,6 @@ found P test (y ∷ ys) x all h = by_test (test y) refl (found P test ys x all.1
 
 -- ---- a class by its name
 
-first_false : (a b : Bool) → (a || b) ≡ false → a ≡ false
-first_false true b h = h
-first_false false b h = refl
-
-second_false : (a b : Bool) → (a || b) ≡ false → b ≡ false
-second_false true b h = cc
-second_false false b h = h
-
-not_true : (b : Bool) → not b ≡ true → b ≡ false
-not_true true h = cc
-not_true false h = refl
-
 -- the name of a class behind others isn't one of theirs
 apart : (earlier : List Name) (ds : List Class) (c : ℕ) (d : Class) → stand_once earlier (map (λ x. x.name) ds) ≡ [] → slice_get ds c ≡ Some d
     → list_any (λ m. bytes_eq m.text d.name.text) earlier ≡ false
@@ -99,11 +87,11 @@ apart earlier [] c d h is = cc
 apart earlier (x ∷ ds) zero d h is =
     let same : x ≡ d = cc in
     subst (λ (y : Class). list_any (λ m. bytes_eq m.text y.name.text) earlier ≡ false) same
-    (not_true _ (held _ _ _ (nothing _ (stand_once (earlier ++ x.name ∷ []) (map (λ x. x.name) ds)) h).0))
+    (not-true _ (held _ _ _ (nothing _ (stand_once (earlier ++ x.name ∷ []) (map (λ x. x.name) ds)) h).0))
 apart earlier (x ∷ ds) (suc c) d h is =
-    first_false (list_any (λ m. bytes_eq m.text d.name.text) earlier) _
+    (or_parts (list_any (λ m. bytes_eq m.text d.name.text) earlier) _
     (sym (list_any-append (λ m. bytes_eq m.text d.name.text) earlier (x.name ∷ []))
-    ∙ apart (earlier ++ x.name ∷ []) ds c d (nothing _ (stand_once (earlier ++ x.name ∷ []) (map (λ x. x.name) ds)) h).1 is)
+    ∙ apart (earlier ++ x.name ∷ []) ds c d (nothing _ (stand_once (earlier ++ x.name ∷ []) (map (λ x. x.name) ds)) h).1 is)).0
 
 place_of : (earlier : List Name) (ds : List Class) (c : ℕ) (d : Class) → stand_once earlier (map (λ x. x.name) ds) ≡ [] → slice_get ds c ≡ Some d
     → position_or_len (λ x. bytes_eq x.name.text d.name.text) ds ≡ c
@@ -115,9 +103,9 @@ place_of earlier (x ∷ ds) zero d h is =
 place_of earlier (x ∷ ds) (suc c) d h is =
     let rest = (nothing _ (stand_once (earlier ++ x.name ∷ []) (map (λ x. x.name) ds)) h).1 in
     let away : (bytes_eq x.name.text d.name.text || false) ≡ false =
-    second_false (list_any (λ m. bytes_eq m.text d.name.text) earlier) _
-    (sym (list_any-append (λ m. bytes_eq m.text d.name.text) earlier (x.name ∷ [])) ∙ apart (earlier ++ x.name ∷ []) ds c d rest is) in
-    let other : bytes_eq x.name.text d.name.text ≡ false = first_false _ false away in
+    (or_parts (list_any (λ m. bytes_eq m.text d.name.text) earlier) _
+    (sym (list_any-append (λ m. bytes_eq m.text d.name.text) earlier (x.name ∷ [])) ∙ apart (earlier ++ x.name ∷ []) ds c d rest is)).1 in
+    let other : bytes_eq x.name.text d.name.text ≡ false = (or_parts _ false away).0 in
     ap (λ b. cond (not b) (1 + position_or_len (λ (y : Class). bytes_eq y.name.text d.name.text) ds) 0) other
     ∙ ap (λ i. 1 + i) (place_of (earlier ++ x.name ∷ []) ds c d rest is) ∙ one_more c
   where

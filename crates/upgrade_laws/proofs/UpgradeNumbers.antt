@@ -1,6 +1,6 @@
 -- That a schema's numbers are those of the last upgrades that name its classes.
 use Rattle.std.proofs.Common.{◌≡◌, ◌≤◌, ◌<◌, arith, Bool, true, false, cond, List, [], ◌∷◌, map, max, ℕ, zero, suc, Option, Some, None, is_some, slice_get, refl, ap, sym, ◌∙◌, subst}
-use Rattle.std.proofs.lemmas.Bool.{ltb-true}
+use Rattle.std.proofs.lemmas.Bool.{ltb-true, and_parts}
 use Rattle.std.proofs.lemmas.Slice.Eq.{bytes_eq-Decides}
 use Rattle.std.specs.List.{list_any, position_or_len}
 use Rattle.std.specs.Option.{option_and_then}
@@ -40,10 +40,6 @@ module _ (u : Upgrade) (n : ℕ) where
   number_behind (d ∷ ds) (k ∷ ks) (suc c) = number_behind ds ks c
 
 -- ---- an upgrade names a class
-
-first_true : (a b : Bool) → (a && b) ≡ true → a ≡ true
-first_true true b h = refl
-first_true false b h = cc
 
 -- a class that an upgrade names, by its place
 record Names (classes : List Class) (u : Upgrade) : Type 0 where
@@ -96,7 +92,7 @@ names_one classes u (k ∷ ks) is some h =
     (nothing (named_once classes [] (map (λ k. k.name) u.classes)) _ h).0 in
     let first = nothing
     (must (is_some (class_named classes k.name.text) && not (list_any (λ (m : Name). bytes_eq m.text k.name.text) [])) O1 k.name.line) _ rules in
-    let there = first_true (is_some (class_named classes k.name.text)) _ (held _ _ _ first.0) in
+    let there = (and_parts (is_some (class_named classes k.name.text)) _ (held _ _ _ first.0)).0 in
     let s = stands_at k.name.text classes (ltb-true (place k.name.text classes) (length classes) (there_at _ _ there)) in
     record {
       place = s.at;
