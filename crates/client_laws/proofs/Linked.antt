@@ -17,7 +17,7 @@ use Rattle.message_outbox.specs.declared.message.Message.TheVariants.{Grant, Inv
 use Rattle.message_outbox.specs.declared.message.Message.{Message}
 use Rattle.port.specs.Growing.{Grew}
 use Rattle.port.specs.Views as views
-use Rattle.session_laws.specs.Agreeing.{notice_of}
+use Rattle.session_outbox.specs.Notices.{notice_of}
 use Rattle.session_outbox.specs.Exact.{exact}
 use Rattle.session_outbox.specs.Session.{bound, place_of}
 use Rattle.session_outbox.specs.Trace.{Item, entries}

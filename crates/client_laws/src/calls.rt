@@ -12,7 +12,7 @@ ghost use Rattle.message_outbox.specs.declared.answers.Welcome.{Welcome};
 ghost use Rattle.message_outbox.specs.declared.message.Message.{Message};
 ghost use Rattle.port.specs.Views.{Calm, Unsettled};
 ghost use Rattle.port.specs.Works.{AskWork, CommitWork, ConnectWork, DecideWork, DrawWork, FetchWork, FinishWork, ForgetWork, GrantWork, PrepareWork, ReceiveWork, is_prepared_by};
-ghost use Rattle.session_laws.specs.Agreeing.{notice_of};
+ghost use Rattle.session_outbox.specs.Notices.{notice_of};
 ghost use Rattle.session_outbox.specs.Current.{NoneAborted};
 ghost use Rattle.session_outbox.specs.Session.{bound};
 ghost use Rattle.session_outbox.specs.Trace.{Item, entries};

@@ -14,7 +14,7 @@ ghost use Rattle.local_history.specs.Sound.{sound};
 ghost use Rattle.message_outbox.specs.declared.message.Message.{Message};
 ghost use Rattle.port.specs.Growing.{Grew};
 ghost use Rattle.port.specs.Views.{Unsettled};
-ghost use Rattle.session_laws.specs.Agreeing.{notice_of};
+ghost use Rattle.session_outbox.specs.Notices.{notice_of};
 ghost use Rattle.session_outbox.specs.Exact.{exact};
 ghost use Rattle.session_outbox.specs.Session.{bound, place_of};
 ghost use Rattle.session_outbox.specs.Trace.{Item, entries};

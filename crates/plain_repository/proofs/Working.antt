@@ -18,7 +18,7 @@ use Rattle.port_views.proofs.Meeting as meets
 use Rattle.port_views.proofs.Stopping as stopping
 use Rattle.port_views.specs.Plain as plain
 use Rattle.port_views.specs.Plain.{left_by, message_of, refuse, requested}
-use Rattle.session_laws.specs.Agreeing.{lives}
+use Rattle.session_outbox.specs.Notices.{lives}
 use Rattle.session_outbox.specs.Session.{session}
 use Rattle.session_outbox.specs.Trace.{E, Item, M, entries}
 use Rattle.session_outbox.specs.Verdict.{verdict}

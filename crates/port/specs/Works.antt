@@ -13,7 +13,7 @@ use Rattle.message_outbox.specs.declared.answers.Welcome.{Welcome}
 use Rattle.message_outbox.specs.declared.message.Message.{Message}
 use Rattle.port.specs.Growing.{Called}
 use Rattle.port.specs.Views.{Calm, Came, Halted, MayCome, Unsettled, View}
-use Rattle.session_laws.specs.Agreeing.{lives, notice_of}
+use Rattle.session_outbox.specs.Notices.{lives, notice_of}
 use Rattle.session_outbox.specs.Calls.{Asked, Settled, Undecided, Welcomed, asked, is_kept, is_last_alone, next_page, welcome}
 use Rattle.session_outbox.specs.Exact.{IsDrawn, IsGoneIn, RefusalIsExact, most_pages}
 use Rattle.session_outbox.specs.Session.{place_of, session, waiting}

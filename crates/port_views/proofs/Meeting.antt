@@ -11,7 +11,7 @@ use Rattle.port_views.specs.Plain as plain
 use Rattle.port_views.specs.Plain.{Stepped, left_by, message_of, next_stamp, received, received_by, refuse, requested, told}
 use Rattle.port.specs.Views.{Calm}
 use Rattle.port.specs.Works.{AskWork, Answers, CommitWork, ConnectWork, DecideWork, Decides, DrawWork, FetchWork, FinishWork, ForgetWork, GrantWork, IsMarked, PrepareWork, ReceiveWork, RequestRefused, alone_entry, commits_by, is_prepared_by}
-use Rattle.session_laws.specs.Agreeing.{lives, notice_of}
+use Rattle.session_outbox.specs.Notices.{lives, notice_of}
 use Rattle.session_outbox.specs.Calls.{Asked, Settled, Undecided, asked, drawn_time, last_drawn, next_page, next_session, welcome}
 use Rattle.session_outbox.specs.Exact.{IsDrawn, IsGoneIn, most_pages}
 use Rattle.session_outbox.specs.Session.{Grant, Invalid, Notice, Page, Session, Upgrade, place_of, session, session_lives, waiting}

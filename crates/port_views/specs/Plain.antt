@@ -12,7 +12,7 @@ use Rattle.message_outbox.specs.declared.message.Message.TheVariants as messages
 use Rattle.message_outbox.specs.declared.message.Message.{Message}
 use Rattle.port.specs.Views.{Calm, Halted, Unsettled}
 use Rattle.port.specs.Works.{alone_entry, commits_by, is_prepared_by}
-use Rattle.session_laws.specs.Agreeing.{lives}
+use Rattle.session_outbox.specs.Notices.{lives}
 use Rattle.session_outbox.specs.Calls.{Asked, Settled, Undecided, asked, drawn_time, last_drawn, next_page, next_session, welcome}
 use Rattle.session_outbox.specs.Exact.{most_pages}
 use Rattle.session_outbox.specs.Session.{Grant, Invalid, Notice, Page, Session, Upgrade, place_of, session}
