@@ -35,6 +35,7 @@ use Rattle.part_laws.proofs.Fields.{NewFor, assign_goes}
 use Rattle.part_laws.proofs.Steps.{Any, AreFree, BlocksGo, Goes, PartsGo, Placed, TidyAt, free_type, on, steps, still, stops}
 use Rattle.part_laws.proofs.Tidy.{grows_no, grows_then}
 use Rattle.std.proofs.Common.{Bool, List, [], ap, cond, false, map, not, refl, subst, sym, true, ℕ, zero, suc, ◌++◌, ◌≡◌, ◌∙◌, ◌∷◌}
+use Rattle.std.proofs.lemmas.Bool.{both_ways}
 use Rattle.std.specs.Option.{option_and_then}
 use Rattle.std.specs.Prelude.{Ok, Option, Result, Some, is_some, slice_get, ◌||◌}
 use Rattle.thor_value.specs.declared.names.Oref.{Oref}
