@@ -34,11 +34,63 @@ HasText status.NoMemory = ⊥
 abbrev IsOther : Status → Type 0
 IsOther s = s ≡ status.Words → ⊥
 
-module _ (D : DiskBytes) (plan : Plan) (count : ℕ) (before after : Told) (had taken : Option (List ℕ)) where
+module _ (D : DiskBytes) (plan : Plan) (before after : Told) where
+  no_words : (c : Command) (text : List ℕ) → SaysFor D c plan before after status.Words text → ⊥
+  no_words Check text says = says
+  no_words Play text says = says
+  no_words Run text says = says
+  no_words (Gen n) text says = elim says.1 [
+    | inl t ↦ t
+    | inr t ↦ t.1.1
+  ]
+
+  -- there is no plan of these words
+  pub other_words : (text : List ℕ) → SaysOf D plan before after status.Words text → ⊥
+  other_words text says = no_words plan.command text says
+
+  source_text : (c : Command) (text : List ℕ) → SaysFor D c plan before after status.SourceFault text → (text ≡ codes "source" ++ 10 ∷ []) × Rose before.faults after.faults
+  source_text Check text says = (says.1, says.0)
+  source_text Play text says = (says.1, says.0)
+  source_text Run text says = (says.1, says.0)
+  source_text (Gen n) text says = absurd (elim says.1 [
+    | inl t ↦ t
+    | inr t ↦ t.1.1
+  ])
+
+  pub rose_of : (text : List ℕ) → SaysOf D plan before after status.SourceFault text → Rose before.faults after.faults
+  rose_of text says = (source_text plan.command text says).1
+
+  no_sink : (c : Command) (text : List ℕ) → SaysFor D c plan before after status.SinkFault text → ⊥
+  no_sink Check text says = says
+  no_sink Play text says = says
+  no_sink Run text says = says
+  no_sink (Gen n) text says = elim says.1 [
+    | inl t ↦ t
+    | inr t ↦ t.1.1
+  ]
+
+  no_memory : (c : Command) (text : List ℕ) → SaysFor D c plan before after status.NoMemory text → ⊥
+  no_memory Check text says = says
+  no_memory Play text says = says
+  no_memory Run text says = says
+  no_memory (Gen n) text says = elim says.1 [
+    | inl t ↦ t
+    | inr t ↦ t.1.1
+  ]
+
+module _ (D : DiskBytes) (plan : Plan) (count : ℕ) (before after : Told) where
   by_plan : (s : Status) (text : List ℕ) → IsOther s → SaysBy D plan count before after s text → SaysOf D plan before after s text
   by_plan s text other (inl says) = says.1
   by_plan s text other (inr says) = absurd (other says.0)
 
+  -- no text is said with these two
+  pub never_sink : (text : List ℕ) → SaysBy D plan count before after status.SinkFault text → ⊥
+  never_sink text says = no_sink D plan before after plan.command text (by_plan status.SinkFault text (λ e. cc) says)
+
+  pub never_memory : (text : List ℕ) → SaysBy D plan count before after status.NoMemory text → ⊥
+  never_memory text says = no_memory D plan before after plan.command text (by_plan status.NoMemory text (λ e. cc) says)
+
+module _ (D : DiskBytes) (plan : Plan) (count : ℕ) (before after : Told) (had taken : Option (List ℕ)) where
   read : (s : Status) (text : List ℕ) → HasText s → SaysRead D plan before after s text → (bytes : List ℕ) × (WasRead before.left after.left bytes × Tells D plan bytes s text)
   read status.Done text h says = says
   read status.Unfinished text h says = says
@@ -60,7 +112,7 @@ module _ (D : DiskBytes) (plan : Plan) (count : ℕ) (before after : Told) (had 
   told : (s : Status) (text : List ℕ) → HasText s → IsOther s → SaysBy D plan count before after s text → Put had text taken
       → (Of : List ℕ → List ℕ → Type 0) → ((bytes : List ℕ) → Tells D plan bytes s text → Of bytes text) → HasTold plan before after had taken Of
   told s text has other says put Of of =
-      let h : (bytes : List ℕ) × (HasBytes plan.command plan.repos before after bytes × Tells D plan bytes s text) = heard plan.command s text has (by_plan s text other says) in
+      let h : (bytes : List ℕ) × (HasBytes plan.command plan.repos before after bytes × Tells D plan bytes s text) = heard plan.command s text has (by_plan D plan count before after s text other says) in
       record { bytes = h.0; has = h.1.0; text = text; says = of h.0 h.1.1; put = put }
 
   of_done : (bytes text : List ℕ) (c : Command) → plan.command ≡ c → Tells D plan bytes status.Done text → OfScript (λ script t. IsDone D c plan.repos script t) bytes text
@@ -160,76 +212,26 @@ module _ (D : DiskBytes) (plan : Plan) (count : ℕ) (before after : Told) (had 
   pub limit : (s : Status) → Wrote (SaysBy D plan count before after) had taken s → s ≡ status.Limit → HasTold plan before after had taken SaysLimit ⊎ (Reads plan.command × IsTooLong before had taken)
   limit s w is =
       let v = at s status.Limit is w in
-      elim (over plan.command v.0 (by_plan status.Limit v.0 (λ e. cc) v.1.0)) [
+      elim (over plan.command v.0 (by_plan D plan count before after status.Limit v.0 (λ e. cc) v.1.0)) [
         | inl t ↦ inl (record { bytes = t.0; has = t.1.0; text = v.0; says = of_limit t.0 v.0 t.1.1; put = v.1.1 })
         | inr t ↦ inr (t.0, record { more = t.1.0; put = subst (λ x. Put had x taken) t.1.1 v.1.1 })
       ]
 
-  no_words : (c : Command) (text : List ℕ) → SaysFor D c plan before after status.Words text → ⊥
-  no_words Check text says = says
-  no_words Play text says = says
-  no_words Run text says = says
-  no_words (Gen n) text says = elim says.1 [
-    | inl t ↦ t
-    | inr t ↦ t.1.1
-  ]
-
-  -- there is no plan of these words
-  pub other_words : (text : List ℕ) → SaysOf D plan before after status.Words text → ⊥
-  other_words text says = no_words plan.command text says
-
   words_of : (text : List ℕ) → SaysBy D plan count before after status.Words text → Put had text taken → AreOtherParts plan count before after had taken
-  words_of text (inl says) put = absurd (no_words plan.command text says.1)
+  words_of text (inl says) put = absurd (no_words D plan before after plan.command text says.1)
   words_of text (inr says) put = record { other = says.1.0; unread = says.1.1.0; put = subst (λ x. Put had x taken) says.1.1.1 put }
 
   pub wrong_parts : (s : Status) → Wrote (SaysBy D plan count before after) had taken s → s ≡ status.Words → AreOtherParts plan count before after had taken
   wrong_parts s w is = let v = at s status.Words is w in words_of v.0 v.1.0 v.1.1
 
-  source_text : (c : Command) (text : List ℕ) → SaysFor D c plan before after status.SourceFault text → (text ≡ codes "source" ++ 10 ∷ []) × Rose before.faults after.faults
-  source_text Check text says = (says.1, says.0)
-  source_text Play text says = (says.1, says.0)
-  source_text Run text says = (says.1, says.0)
-  source_text (Gen n) text says = absurd (elim says.1 [
-    | inl t ↦ t
-    | inr t ↦ t.1.1
-  ])
-
   pub source_of : (text : List ℕ) → SaysOf D plan before after status.SourceFault text → Put had text taken → Put had (codes "source" ++ 10 ∷ []) taken
-  source_of text says put = subst (λ x. Put had x taken) (source_text plan.command text says).0 put
-
-  pub rose_of : (text : List ℕ) → SaysOf D plan before after status.SourceFault text → Rose before.faults after.faults
-  rose_of text says = (source_text plan.command text says).1
+  source_of text says put = subst (λ x. Put had x taken) (source_text D plan before after plan.command text says).0 put
 
   pub source : (s : Status) → Wrote (SaysBy D plan count before after) had taken s → s ≡ status.SourceFault → Put had (codes "source" ++ 10 ∷ []) taken
-  source s w is = let v = at s status.SourceFault is w in source_of v.0 (by_plan status.SourceFault v.0 (λ e. cc) v.1.0) v.1.1
+  source s w is = let v = at s status.SourceFault is w in source_of v.0 (by_plan D plan count before after status.SourceFault v.0 (λ e. cc) v.1.0) v.1.1
 
   pub source_fault : (s : Status) → Wrote (SaysBy D plan count before after) had taken s → s ≡ status.SourceFault → Rose before.faults after.faults
-  source_fault s w is = let v = at s status.SourceFault is w in rose_of v.0 (by_plan status.SourceFault v.0 (λ e. cc) v.1.0)
-
-  no_sink : (c : Command) (text : List ℕ) → SaysFor D c plan before after status.SinkFault text → ⊥
-  no_sink Check text says = says
-  no_sink Play text says = says
-  no_sink Run text says = says
-  no_sink (Gen n) text says = elim says.1 [
-    | inl t ↦ t
-    | inr t ↦ t.1.1
-  ]
-
-  no_memory : (c : Command) (text : List ℕ) → SaysFor D c plan before after status.NoMemory text → ⊥
-  no_memory Check text says = says
-  no_memory Play text says = says
-  no_memory Run text says = says
-  no_memory (Gen n) text says = elim says.1 [
-    | inl t ↦ t
-    | inr t ↦ t.1.1
-  ]
-
-  -- no text is said with these two
-  pub never_sink : (text : List ℕ) → SaysBy D plan count before after status.SinkFault text → ⊥
-  never_sink text says = no_sink plan.command text (by_plan status.SinkFault text (λ e. cc) says)
-
-  pub never_memory : (text : List ℕ) → SaysBy D plan count before after status.NoMemory text → ⊥
-  never_memory text says = no_memory plan.command text (by_plan status.NoMemory text (λ e. cc) says)
+  source_fault s w is = let v = at s status.SourceFault is w in rose_of D plan before after v.0 (by_plan D plan count before after status.SourceFault v.0 (λ e. cc) v.1.0)
 
 -- ---- what is written
 

@@ -16,7 +16,7 @@ use Rattle.thor_top.specs.Promises.{AreNoWords, IsPlanned}
 abbrev IsOther : Status → Type 0
 IsOther s = s ≡ status.Words → ⊥
 
-module _ (D : DiskBytes) (words : List (List ℕ)) (count : ℕ) (before after : Told) (had taken : Option (List ℕ)) where
+module _ (D : DiskBytes) (words : List (List ℕ)) (count : ℕ) (before after : Told) where
   one_plan : (p q : Plan) → IsPlan words count p → IsPlan words count q → q ≡ p
   one_plan p q h k = same_Some q p (sym k.words_are ∙ h.words_are)
 
@@ -31,27 +31,36 @@ module _ (D : DiskBytes) (words : List (List ℕ)) (count : ℕ) (before after :
   says_words plan is s text (inl says) = inl (plan, (record { words_are = is; repos_are = says.0 }, says.1))
   says_words plan is s text (inr says) = inr (says.0, (no_plan plan is says.1.0, says.1.1))
 
-  -- what was written by the words was written by a plan of them
-  pub by_plan : (s : Status) → Wrote (Says D words count before after) had taken s → (plan : Plan) → IsPlan words count plan → Wrote (SaysBy D plan count before after) had taken s
-  by_plan s w plan h = laws.wrote_map (Says D words count before after) (SaysBy D plan count before after) had taken s (says_plan plan h) w
-
-  pub by_words : (s : Status) → (plan : Plan) → plan_of words ≡ Some plan → Wrote (SaysBy D plan count before after) had taken s → Wrote (Says D words count before after) had taken s
-  by_words s plan is w = laws.wrote_map (SaysBy D plan count before after) (Says D words count before after) had taken s (says_words plan is) w
-
   pub no_words : plan_of words ≡ None → IsNoPlan words count
   no_words none = λ q k. let no : None ≡ Some q = sym none ∙ k.words_are in cc
 
   -- no text is said with these two
   pub never_sink : (text : List ℕ) → Says D words count before after status.SinkFault text → ⊥
-  never_sink text (inl says) = laws.never_sink D says.0 count before after had taken text (inl (says.1.0.repos_are, says.1.1))
+  never_sink text (inl says) = laws.never_sink D says.0 count before after text (inl (says.1.0.repos_are, says.1.1))
   never_sink text (inr says) = let no : status.SinkFault ≡ status.Words = says.0 in cc
 
   pub never_memory : (text : List ℕ) → Says D words count before after status.NoMemory text → ⊥
-  never_memory text (inl says) = laws.never_memory D says.0 count before after had taken text (inl (says.1.0.repos_are, says.1.1))
+  never_memory text (inl says) = laws.never_memory D says.0 count before after text (inl (says.1.0.repos_are, says.1.1))
   never_memory text (inr says) = let no : status.NoMemory ≡ status.Words = says.0 in cc
 
+  rose_of : (text : List ℕ) → Says D words count before after status.SourceFault text → Rose before.faults after.faults
+  rose_of text (inl says) = laws.rose_of D says.0 before after text says.1.1
+  rose_of text (inr says) = absurd (let is : status.SourceFault ≡ status.Words = says.0 in cc)
+
+  plan_of_says : (s : Status) (text : List ℕ) → IsOther s → Says D words count before after s text → (plan : Plan) × IsPlan words count plan
+  plan_of_says s text other (inl says) = (says.0, says.1.0)
+  plan_of_says s text other (inr says) = absurd (other says.0)
+
+module _ (D : DiskBytes) (words : List (List ℕ)) (count : ℕ) (before after : Told) (had taken : Option (List ℕ)) where
+  -- what was written by the words was written by a plan of them
+  pub by_plan : (s : Status) → Wrote (Says D words count before after) had taken s → (plan : Plan) → IsPlan words count plan → Wrote (SaysBy D plan count before after) had taken s
+  by_plan s w plan h = laws.wrote_map (Says D words count before after) (SaysBy D plan count before after) had taken s (says_plan D words count before after plan h) w
+
+  pub by_words : (s : Status) → (plan : Plan) → plan_of words ≡ Some plan → Wrote (SaysBy D plan count before after) had taken s → Wrote (Says D words count before after) had taken s
+  by_words s plan is w = laws.wrote_map (SaysBy D plan count before after) (Says D words count before after) had taken s (says_words D words count before after plan is) w
+
   words_of : (text : List ℕ) → Says D words count before after status.Words text → Put had text taken → AreNoWords words count before after had taken
-  words_of text (inl says) put = absurd (laws.other_words D says.0 count before after had taken text says.1.1)
+  words_of text (inl says) put = absurd (laws.other_words D says.0 before after text says.1.1)
   words_of text (inr says) put = record { no_plan = says.1.0; unread = says.1.1.0; put = subst (λ x. Put had x taken) says.1.1.1 put }
 
   pub wrong_words : (s : Status) → Wrote (Says D words count before after) had taken s → s ≡ status.Words → AreNoWords words count before after had taken
@@ -61,28 +70,20 @@ module _ (D : DiskBytes) (words : List (List ℕ)) (count : ℕ) (before after :
   source_of text (inl says) put = laws.source_of D says.0 count before after had taken text says.1.1 put
   source_of text (inr says) put = absurd (let is : status.SourceFault ≡ status.Words = says.0 in cc)
 
-  rose_of : (text : List ℕ) → Says D words count before after status.SourceFault text → Rose before.faults after.faults
-  rose_of text (inl says) = laws.rose_of D says.0 count before after had taken text says.1.1
-  rose_of text (inr says) = absurd (let is : status.SourceFault ≡ status.Words = says.0 in cc)
-
   pub source : (s : Status) → Wrote (Says D words count before after) had taken s → s ≡ status.SourceFault → Put had (codes "source" ++ 10 ∷ []) taken
   source s w is = let v : Wrote (Says D words count before after) had taken status.SourceFault = subst (λ (t : Status). Wrote (Says D words count before after) had taken t) is w in source_of v.0 v.1.0 v.1.1
 
   pub source_fault : (s : Status) → Wrote (Says D words count before after) had taken s → s ≡ status.SourceFault → Rose before.faults after.faults
-  source_fault s w is = let v : Wrote (Says D words count before after) had taken status.SourceFault = subst (λ (t : Status). Wrote (Says D words count before after) had taken t) is w in rose_of v.0 v.1.0
-
-  plan_of_says : (s : Status) (text : List ℕ) → IsOther s → Says D words count before after s text → (plan : Plan) × IsPlan words count plan
-  plan_of_says s text other (inl says) = (says.0, says.1.0)
-  plan_of_says s text other (inr says) = absurd (other says.0)
+  source_fault s w is = let v : Wrote (Says D words count before after) had taken status.SourceFault = subst (λ (t : Status). Wrote (Says D words count before after) had taken t) is w in rose_of D words count before after v.0 v.1.0
 
   pub planned : (s : Status) → Wrote (Says D words count before after) had taken s → IsPlanned words count s
-  planned status.Done w = plan_of_says status.Done w.0 (λ e. cc) w.1.0
-  planned status.Unfinished w = plan_of_says status.Unfinished w.0 (λ e. cc) w.1.0
+  planned status.Done w = plan_of_says D words count before after status.Done w.0 (λ e. cc) w.1.0
+  planned status.Unfinished w = plan_of_says D words count before after status.Unfinished w.0 (λ e. cc) w.1.0
   planned status.Words w = tt
-  planned status.Script w = plan_of_says status.Script w.0 (λ e. cc) w.1.0
-  planned status.SourceFault w = plan_of_says status.SourceFault w.0 (λ e. cc) w.1.0
+  planned status.Script w = plan_of_says D words count before after status.Script w.0 (λ e. cc) w.1.0
+  planned status.SourceFault w = plan_of_says D words count before after status.SourceFault w.0 (λ e. cc) w.1.0
   planned status.SinkFault w = tt
-  planned status.DiskFault w = plan_of_says status.DiskFault w.0 (λ e. cc) w.1.0
-  planned status.Damaged w = plan_of_says status.Damaged w.0 (λ e. cc) w.1.0
-  planned status.Limit w = plan_of_says status.Limit w.0 (λ e. cc) w.1.0
+  planned status.DiskFault w = plan_of_says D words count before after status.DiskFault w.0 (λ e. cc) w.1.0
+  planned status.Damaged w = plan_of_says D words count before after status.Damaged w.0 (λ e. cc) w.1.0
+  planned status.Limit w = plan_of_says D words count before after status.Limit w.0 (λ e. cc) w.1.0
   planned status.NoMemory w = tt

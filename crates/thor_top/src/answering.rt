@@ -38,8 +38,8 @@ pub(crate) fn answer_in_turn<S: Source, P: Parts>(
     ensures kept { WritesNothing plan.now.command result.reply → AreSame P.disks parts.items result.parts.items }
 {
     match begin(alloc, plan, source, parts) {
-        Ok(open) => {
-            let OpenRun { cluster, expected } = open;
+        Ok(run) => {
+            let OpenRun { cluster, expected } = run;
             let finished = run_in_turn(cluster, expected.script.events.as_slice());
             told(alloc, expected, finished)
         }
@@ -65,8 +65,8 @@ pub(crate) fn answer_on_threads<
     ensures kept { WritesNothing plan.now.command result.reply → AreSame P.disks parts.items result.parts.items }
 {
     match begin(alloc, plan, source, parts) {
-        Ok(open) => {
-            let OpenRun { cluster, expected } = open;
+        Ok(run) => {
+            let OpenRun { cluster, expected } = run;
             let events = expected.script.events.as_slice();
             let finished = run_clients(runtime.rt, alloc, cluster, events, plan.mob, runtime.gate);
             told(alloc, expected, finished)

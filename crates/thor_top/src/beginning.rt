@@ -22,12 +22,7 @@ use script_parse::Script;
 use std::alloc::Global;
 
 /// The answer to a check of a script that breaks no rule.
-fn checked<P: Parts>(
-    alloc: Global,
-    plan: &Plan,
-    script: &Script,
-    judged: Judged<P>,
-) -> Answered<P>
+fn checked<P: Parts>(alloc: Global, plan: &Plan, script: &Script, judged: Judged<P>) -> Answered<P>
     requires command { plan.now.command ≡ Command.Check }
     requires judged { IsJudged plan.now script.now judged.found.store judged.base }
     ensures reply { (given : List P) → IfOk result.reply (λ r. TellsOf (ReadAll P.disks given) plan.now script.now r.status r.text) }
@@ -36,7 +31,11 @@ fn checked<P: Parts>(
 {
     let Judged { base, found } = judged;
     drop(base);
-    unplayed(alloc, says(alloc, Status::Done, b"ok\n"), found.into_parts())
+    unplayed(
+        alloc,
+        says(alloc, Status::Done, b"ok\n"),
+        found.into_parts(),
+    )
 }
 
 /// Opens the store for the run that a command asks for. Else the answer, with the parts.
@@ -47,9 +46,9 @@ fn begin_judged<P: Parts>(
     judged: Judged<P>,
 ) -> Result<OpenRun<P>, Answered<P>>
     requires { IsJudged plan.now script judged.found.store judged.base }
-    ensures foretells { (given : List P) → IsStoredBy (ReadAll P.disks given) judged.found.store → IfOk result (λ open. Foretells (TellsOf (ReadAll P.disks given) plan.now script) open.expected) }
-    ensures played { IfOk result (λ open. IsPlayed plan.now.command) }
-    ensures count { IfOk result (λ open. parts_of open.cluster ≡ parts_in judged.found) }
+    ensures foretells { (given : List P) → IsStoredBy (ReadAll P.disks given) judged.found.store → IfOk result (λ run. Foretells (TellsOf (ReadAll P.disks given) plan.now script) run.expected) }
+    ensures played { IfOk result (λ run. IsPlayed plan.now.command) }
+    ensures count { IfOk result (λ run. parts_of run.cluster ≡ parts_in judged.found) }
     ensures reply { (given : List P) → IfErr result (λ a. IfOk a.reply (λ r. TellsOf (ReadAll P.disks given) plan.now script r.status r.text)) }
     ensures parts { IfErr result (λ a. vec_len a.parts ≡ parts_in judged.found) }
     ensures kept { (given : List P) → HasParts P.disks given judged.found → IfErr result (λ a. WritesNothing plan.now.command a.reply → AreSame P.disks given a.parts.items) }
@@ -75,9 +74,9 @@ fn begin_script<P: Parts>(
     requires few { HasFew script.setup }
     requires clients { length script.clients ≤ 64 }
     requires events { length script.events ≤ 1000000 }
-    ensures foretells { IfOk result (λ open. Foretells (TellsOf (ReadAll P.disks parts.items) plan.now script) open.expected) }
-    ensures played { IfOk result (λ open. IsPlayed plan.now.command) }
-    ensures count { IfOk result (λ open. parts_of open.cluster ≡ vec_len parts) }
+    ensures foretells { IfOk result (λ run. Foretells (TellsOf (ReadAll P.disks parts.items) plan.now script) run.expected) }
+    ensures played { IfOk result (λ run. IsPlayed plan.now.command) }
+    ensures count { IfOk result (λ run. parts_of run.cluster ≡ vec_len parts) }
     ensures reply { IfErr result (λ a. IfOk a.reply (λ r. TellsOf (ReadAll P.disks parts.items) plan.now script r.status r.text)) }
     ensures parts { IfErr result (λ a. vec_len a.parts ≡ vec_len parts) }
     ensures kept { IfErr result (λ a. WritesNothing plan.now.command a.reply → AreSame P.disks parts.items a.parts.items) }
@@ -99,9 +98,9 @@ pub(crate) fn begin<S: Source, P: Parts>(
     source: &mut S,
     parts: Vec<P>,
 ) -> Result<OpenRun<P>, Answered<P>>
-    ensures foretells { IfOk result (λ open. Foretells (SaysBy (ReadAll P.disks parts.items) plan.now (vec_len parts) (record { left = S.left source.old; faults = S.faults source.old }) (record { left = S.left source.new; faults = S.faults source.new })) open.expected) }
-    ensures played { IfOk result (λ open. IsPlayed plan.now.command) }
-    ensures count { IfOk result (λ open. parts_of open.cluster ≡ vec_len parts) }
+    ensures foretells { IfOk result (λ run. Foretells (SaysBy (ReadAll P.disks parts.items) plan.now (vec_len parts) (record { left = S.left source.old; faults = S.faults source.old }) (record { left = S.left source.new; faults = S.faults source.new })) run.expected) }
+    ensures played { IfOk result (λ run. IsPlayed plan.now.command) }
+    ensures count { IfOk result (λ run. parts_of run.cluster ≡ vec_len parts) }
     ensures reply { IfErr result (λ a. IfOk a.reply (λ r. SaysBy (ReadAll P.disks parts.items) plan.now (vec_len parts) (record { left = S.left source.old; faults = S.faults source.old }) (record { left = S.left source.new; faults = S.faults source.new }) r.status r.text)) }
     ensures parts { IfErr result (λ a. vec_len a.parts ≡ vec_len parts) }
     ensures kept { IfErr result (λ a. WritesNothing plan.now.command a.reply → AreSame P.disks parts.items a.parts.items) }

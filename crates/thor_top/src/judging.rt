@@ -58,12 +58,7 @@ fn over_limit(alloc: Global, plan: &Plan, script: &Script, limit: u64) -> Result
 }
 
 /// The reply to a script that is refused.
-fn refusal(
-    alloc: Global,
-    plan: &Plan,
-    script: &Script,
-    refusal: Refusal,
-) -> Result<Reply, NoMemory>
+fn refusal(alloc: Global, plan: &Plan, script: &Script, refusal: Refusal) -> Result<Reply, NoMemory>
     requires within { IsWithinLimits script.now }
     requires refused { IsRefused plan.now.repos script.now refusal }
     ensures { IfOk result (λ reply. TellsUnjudged plan.now script.now reply.status reply.text) }

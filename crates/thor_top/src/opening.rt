@@ -154,8 +154,8 @@ fn open<P: Parts>(
     expected: Expected,
     found: Found<P>,
 ) -> Result<OpenRun<P>, Answered<P>>
-    ensures expected { IfOk result (λ open. open.expected ≡ expected) }
-    ensures count { IfOk result (λ open. parts_of open.cluster ≡ parts_in found) }
+    ensures expected { IfOk result (λ run. run.expected ≡ expected) }
+    ensures count { IfOk result (λ run. parts_of run.cluster ≡ parts_in found) }
     ensures reply { IfErr result (λ a. IfOk a.reply (λ r. TellsUnsettled r.status r.text)) }
     ensures parts { IfErr result (λ a. vec_len a.parts ≡ parts_in found) }
 {
@@ -178,8 +178,8 @@ pub(crate) fn open_run<P: Parts>(
     judged: Judged<P>,
 ) -> Result<OpenRun<P>, Answered<P>>
     requires { IsJudged plan.now script judged.found.store judged.base }
-    ensures foretells { (given : List P) → IsStoredBy (ReadAll P.disks given) judged.found.store → IfOk result (λ open. Foretells (TellsRun (ReadAll P.disks given) form plan.now.repos script) open.expected) }
-    ensures count { IfOk result (λ open. parts_of open.cluster ≡ parts_in judged.found) }
+    ensures foretells { (given : List P) → IsStoredBy (ReadAll P.disks given) judged.found.store → IfOk result (λ run. Foretells (TellsRun (ReadAll P.disks given) form plan.now.repos script) run.expected) }
+    ensures count { IfOk result (λ run. parts_of run.cluster ≡ parts_in judged.found) }
     ensures reply { IfErr result (λ a. IfOk a.reply (λ r. TellsUnsettled r.status r.text)) }
     ensures parts { IfErr result (λ a. vec_len a.parts ≡ parts_in judged.found) }
 {

@@ -76,10 +76,7 @@ fn read_bytes(alloc: Global, bytes: &[u8]) -> Result<Script, Result<Reply, NoMem
 }
 
 /// The script that the source gives; else the reply.
-fn read_source<S: Source>(
-    alloc: Global,
-    source: &mut S,
-) -> Result<Script, Result<Reply, NoMemory>>
+fn read_source<S: Source>(alloc: Global, source: &mut S) -> Result<Script, Result<Reply, NoMemory>>
     ensures script { IfOk result (IsReadFrom (record { left = S.left source.old; faults = S.faults source.old }) (record { left = S.left source.new; faults = S.faults source.new })) }
     ensures reply { IfErr result (λ reply. IfOk reply (λ r. SaysUnread (record { left = S.left source.old; faults = S.faults source.old }) (record { left = S.left source.new; faults = S.faults source.new }) r.status r.text)) }
 {
@@ -102,11 +99,7 @@ fn generated(alloc: Global, n: u16, repos: u8) -> Result<String, NoMemory>
 }
 
 /// The generated script of a number; else the reply.
-fn generated_script(
-    alloc: Global,
-    n: u16,
-    repos: u8,
-) -> Result<Script, Result<Reply, NoMemory>>
+fn generated_script(alloc: Global, n: u16, repos: u8) -> Result<Script, Result<Reply, NoMemory>>
     ensures script { IfOk result (IsRead (script_text n repos)) }
     ensures reply { IfErr result (λ reply. IfOk reply (λ r. TellsNoScript (script_text n repos) r.status r.text)) }
 {
