@@ -238,9 +238,6 @@ module _ (D : DiskBytes) (plan : Plan) (count : ℕ) (before after : Told) (had 
 pub front : (P : Status → List ℕ → Type 0) (had taken : Option (List ℕ)) (s : Status) → Wrote P had taken s → s ≡ status.SinkFault → (t : Status) × ((text : List ℕ) × (P t text × PutFront had text taken))
 front P had taken s w is = subst (λ (u : Status). Wrote P had taken u) is w
 
-pub nothing : (P : Status → List ℕ → Type 0) (had taken : Option (List ℕ)) (s : Status) → Wrote P had taken s → s ≡ status.NoMemory → taken ≡ had
-nothing P had taken s w is = subst (λ (u : Status). Wrote P had taken u) is w
-
 pub wrote_map : (P Q : Status → List ℕ → Type 0) (had taken : Option (List ℕ)) (s : Status) → ((u : Status) → (text : List ℕ) → P u text → Q u text) → Wrote P had taken s → Wrote Q had taken s
 wrote_map P Q had taken status.Done f w = (w.0, (f status.Done w.0 w.1.0, w.1.1))
 wrote_map P Q had taken status.Unfinished f w = (w.0, (f status.Unfinished w.0 w.1.0, w.1.1))

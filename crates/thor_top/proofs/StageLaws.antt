@@ -12,7 +12,7 @@ use Rattle.class_defs.specs.declared.store.Schemas.{Schemas}
 use Rattle.command_answer.specs.Kept.{Refuses, RefusesBy, WritesNothing}
 use Rattle.command_answer.specs.Opening.{DiskBytes, IsAccepted, IsOfDisks, IsStore}
 use Rattle.command_answer.specs.Reports.{IsReport, TellsRun}
-use Rattle.command_answer.specs.Top.{IsDone, IsUnfinished, IsWithinLimits, SaysFor, SaysRead, Tells, TellsOf, Told, WasRead}
+use Rattle.command_answer.specs.Top.{IsDone, IsUnfinished, IsWithinLimits, SaysBy, SaysFor, SaysRead, Tells, TellsOf, Told, WasRead}
 use Rattle.command_words.specs.declared.command.Command.{Command}
 use Rattle.command_words.specs.declared.command.Command.TheVariants.{Check, Gen, Play, Run}
 use Rattle.command_words.specs.declared.command.Plan.{Plan}
@@ -177,6 +177,18 @@ module _ (D : DiskBytes) (plan : Plan) where
 
   pub gen_tells : (n : ℕ) (script : Script) → plan.command ≡ Gen n → IsWithinLimits script → (s : Status) → (text : List ℕ) → TellsRun D form.Summary plan.repos script s text → TellsOf D plan script s text
   gen_tells n script is within = run_tells (Gen n) form.Summary script is within (λ text t. t) (λ text t. t)
+
+-- ---- by a plan
+
+-- what is told of the plan's script is said by the plan
+pub says_by : (D : DiskBytes) (plan : Plan) (count : ℕ) (before after : Told) (script : Script) → plan.repos ≡ count → IsScriptFor plan.command plan.repos before after script
+    → (s : Status) → (text : List ℕ) → TellsOf D plan script s text → SaysBy D plan count before after s text
+says_by D plan count before after script repos from s text tells = inl (repos, script_says D plan plan.command before after script from s text tells)
+
+-- and so it is said that it has none
+pub none_by : (D : DiskBytes) (plan : Plan) (count : ℕ) (before after : Told) → plan.repos ≡ count
+    → (s : Status) → (text : List ℕ) → SaysNoScriptFor plan.command plan.repos before after s text → SaysBy D plan count before after s text
+none_by D plan count before after repos s text none = inl (repos, none_says D plan plan.command before after s text none)
 
 -- ---- what was found
 

@@ -33,6 +33,3 @@ returns-clause-source_fault g c = laws.source_fault _ c.args.plan _ _ _ _ _ c.pe
 
 pub returns-clause-front : goal.returns-clause-front
 returns-clause-front g c = laws.front _ _ _ c.perform_in_turn.result.status c.perform_in_turn.ensures.wrote
-
-pub returns-clause-nothing : goal.returns-clause-nothing
-returns-clause-nothing g c = laws.nothing _ _ _ c.perform_in_turn.result.status c.perform_in_turn.ensures.wrote

@@ -37,6 +37,3 @@ returns-clause-source_fault g c = words.source_fault _ _ _ _ _ _ _ c.perform_wor
 
 pub returns-clause-front : goal.returns-clause-front
 returns-clause-front g c = laws.front _ _ _ c.perform_words.result.status c.perform_words.ensures.wrote
-
-pub returns-clause-nothing : goal.returns-clause-nothing
-returns-clause-nothing g c = laws.nothing _ _ _ c.perform_words.result.status c.perform_words.ensures.wrote
