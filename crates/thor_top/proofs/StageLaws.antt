@@ -278,8 +278,8 @@ played_refuses Run r played nothing = nothing
 played_refuses (Gen n) r played nothing = nothing
 
 reply_refuses : (P : Status → List ℕ → Type 0) (r : Result Reply NoMemory) → ((s : Status) → (text : List ℕ) → P s text → Refuses s → ⊥) → IfOk r (λ reply. P reply.status reply.text) → RefusesBy r → ⊥
-reply_refuses P (Ok reply) no tells refuses = no reply.status reply.text tells refuses
-reply_refuses P (Err e) no tells refuses = refuses
+reply_refuses P (Ok reply) never tells refuses = never reply.status reply.text tells refuses
+reply_refuses P (Err e) never tells refuses = refuses
 
 pub run_writes : (c : Command) (e : Expected) (r : Result Reply NoMemory) → IsPlayed c → IfOk r (λ reply. IsReported e.form e.opened.schemas e.opened.store e.script reply.status reply.text) → WritesNothing c r → ⊥
 run_writes c e r played tells nothing = reply_refuses (λ s text. IsReported e.form e.opened.schemas e.opened.store e.script s text) r (reported_refuses e.form e.opened.schemas e.opened.store e.script) tells (played_refuses c r played nothing)

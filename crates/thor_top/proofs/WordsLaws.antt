@@ -1,4 +1,5 @@
 -- What is said by the words is said by their plan, and the other way round.
+use Rattle.checked_report.specs.declared.reply.Reply.{Reply}
 use Rattle.checked_report.specs.declared.status.Status.{Status}
 use Rattle.checked_report.specs.declared.status.Status.TheVariants as status
 use Rattle.command_answer.specs.Opening.{DiskBytes}
@@ -7,11 +8,12 @@ use Rattle.command_words.specs.Words.{plan_of}
 use Rattle.command_words.specs.declared.command.Plan.{Plan}
 use Rattle.outside.specs.Faults.{Rose}
 use Rattle.outside.specs.Streams.{Put}
-use Rattle.std.proofs.Common.{◌≡◌, ◌∙◌, List, Option, inl, inr, subst, sym, ℕ}
+use Rattle.std.proofs.Common.{◌≡◌, ◌∙◌, Err, IfOk, List, Ok, Option, Result, inl, inr, subst, sym, ℕ}
 use Rattle.std.proofs.lemmas.Option.{same_Some}
 use Rattle.std.specs.Prelude.{None, Some, [], ◌++◌, ◌∷◌, codes}
 use Rattle.thor_top.proofs.PromiseLaws as laws
 use Rattle.thor_top.specs.Promises.{AreNoWords, IsPlanned}
+use Rattle.thor_value.specs.declared.memory.NoMemory.{NoMemory}
 
 abbrev IsOther : Status → Type 0
 IsOther s = s ≡ status.Words → ⊥
@@ -33,6 +35,12 @@ module _ (D : DiskBytes) (words : List (List ℕ)) (count : ℕ) (before after :
 
   pub no_words : plan_of words ≡ None → IsNoPlan words count
   no_words none = λ q k. let no : None ≡ Some q = sym none ∙ k.words_are in cc
+
+  -- what is said of no plan
+  pub wrong_says : (r : Result Reply NoMemory) → IfOk r (λ reply. reply.status ≡ status.Words) → IfOk r (λ reply. reply.text ≡ codes "words" ++ 10 ∷ [])
+      → plan_of words ≡ None → after ≡ before → IfOk r (λ reply. Says D words count before after reply.status reply.text)
+  wrong_says (Ok reply) is text none same = inr (is, (no_words none, (same, text)))
+  wrong_says (Err e) is text none same = tt
 
   -- no text is said with these two
   pub never_sink : (text : List ℕ) → Says D words count before after status.SinkFault text → ⊥

@@ -78,6 +78,7 @@ fn judged_on(
     requires epochs { length base.upgraded ≤ 1000 }
     requires within { IsWithinLimits script.now }
     ensures base { IfOk result (λ judged. judged ≡ base) }
+    ensures made { IfOk result AreMade }
     ensures accepted { IfOk result (λ judged. IsAccepted plan.now.repos script.now judged) }
     ensures reply { IfErr result (λ reply. IfOk reply (λ r. TellsUnjudged plan.now script.now r.status r.text)) }
 {
