@@ -5,14 +5,13 @@ use Rattle.command_words.specs.declared.command.Plan.{Plan}
 use Rattle.generator.specs.Bank.{script_text}
 use Rattle.outside.specs.Faults.{Rose}
 use Rattle.outside.specs.Streams.{IsMoreThan, Put, PutFront}
-use Rattle.std.proofs.Common.{◌≡◌, ◌∙◌, Err, IfOk, List, Ok, Option, Result, inl, inr, refl, subst, sym, ℕ}
+use Rattle.std.proofs.Common.{◌≡◌, Err, IfOk, List, Ok, Option, Result, inl, inr, refl, subst, sym, ℕ}
 use Rattle.std.specs.Prelude.{Bool, [], ◌++◌, ◌∷◌, ◌⊎◌, codes, false, true}
 use Rattle.thor_top.specs.Promises.{AreOtherParts, HasBytes, HasTold, IsTooLong, OfScript, OnAnswer, Reads, Runs, SaysDisk, SaysLimit, SaysOk, SaysReport, SaysRule, SaysSummary}
 use Rattle.thor_top.specs.Stages.{WroteReply}
 use Rattle.thor_value.specs.declared.memory.NoMemory.{NoMemory}
 use Rattle.checked_report.specs.Texts.{limit_text}
 use Rattle.checked_report.specs.declared.reply.Reply.{Reply}
-use Rattle.command_answer.specs.Kept.{Refuses, RefusesBy, WritesNothing}
 use Rattle.command_answer.specs.Opening.{DiskBytes}
 use Rattle.command_answer.specs.Top.{IsDone, IsUnfinished, SaysBy, SaysFor, SaysOf, SaysRead, Tells, Told, WasRead, Wrote}
 use Rattle.checked_report.specs.declared.status.Status.{Status}
@@ -271,24 +270,3 @@ module _ (P : Status → List ℕ → Type 0) (no_sink : (text : List ℕ) → P
   wrote (Ok reply) s says (inl whole) = wrote_at s reply.status whole.0 (wrote_text reply.status reply.text says whole.1)
   wrote (Ok reply) s says (inr part) = wrote_at s status.SinkFault part.0 (reply.status, (reply.text, (says, part.1.0)))
   wrote (Err e) s says none = wrote_at s status.NoMemory none.0 none.1
-
-  pub sink_rose : (r : Result Reply NoMemory) (s : Status) → IfOk r (λ reply. P reply.status reply.text) → WroteReply r had taken old new s → s ≡ status.SinkFault → Rose old new
-  sink_rose (Ok reply) s says (inl whole) is = absurd (no_sink reply.text (subst (λ (u : Status). P u reply.text) (sym whole.0 ∙ is) says))
-  sink_rose (Ok reply) s says (inr part) is = part.1.1
-  sink_rose (Err e) s says none is = absurd (let no : status.NoMemory ≡ status.SinkFault = sym none.0 ∙ is in cc)
-
-pub refused_by : (r : Result Reply NoMemory) (had taken : Option (List ℕ)) (old new : ℕ) (s : Status) → WroteReply r had taken old new s → Refuses s → RefusesBy r
-refused_by (Ok reply) had taken old new s (inl whole) refuses = subst Refuses whole.0 refuses
-refused_by (Ok reply) had taken old new s (inr part) refuses = absurd (subst Refuses part.0 refuses)
-refused_by (Err e) had taken old new s none refuses = subst Refuses none.0 refuses
-
--- a command that is refused writes nothing to a disk
-pub refused_nothing : (c : Command) (r : Result Reply NoMemory) → RefusesBy r → WritesNothing c r
-refused_nothing Check r refuses = tt
-refused_nothing Play r refuses = refuses
-refused_nothing Run r refuses = refuses
-refused_nothing (Gen n) r refuses = refuses
-
--- and neither does a check
-pub check_nothing : (c : Command) (r : Result Reply NoMemory) → c ≡ Check → WritesNothing c r
-check_nothing c r is = subst (λ (d : Command). WritesNothing d r) (sym is) tt

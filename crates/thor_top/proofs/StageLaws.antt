@@ -1,18 +1,15 @@
 -- What is told at one stage is told at the next.
 use Rattle.checked_report.specs.Reports.{IsReported}
-use Rattle.checked_report.specs.Texts.{TellsUnsettled}
 use Rattle.checked_report.specs.declared.form.Form.{Form}
-use Rattle.checked_report.specs.declared.form.Form.TheVariants as form
 use Rattle.checked_report.specs.declared.reply.Reply.{Reply}
 use Rattle.checked_report.specs.declared.status.Status.{Status}
 use Rattle.checked_report.specs.declared.status.Status.TheVariants as status
 use Rattle.class_defs.specs.declared.declarations.Declarations.{Declarations}
 use Rattle.class_defs.specs.declared.store.Plain.{Plain}
 use Rattle.class_defs.specs.declared.store.Schemas.{Schemas}
-use Rattle.command_answer.specs.Kept.{Refuses, RefusesBy, WritesNothing}
 use Rattle.command_answer.specs.Opening.{DiskBytes, IsAccepted, IsOfDisks, IsStore}
-use Rattle.command_answer.specs.Reports.{IsReport, TellsRun}
-use Rattle.command_answer.specs.Top.{IsDone, IsUnfinished, IsWithinLimits, SaysBy, SaysFor, SaysRead, Tells, TellsOf, Told, WasRead}
+use Rattle.command_answer.specs.Reports.{TellsRun}
+use Rattle.command_answer.specs.Top.{SaysBy, SaysFor, SaysRead, Tells, TellsOf, Told, WasRead}
 use Rattle.command_words.specs.declared.command.Command.{Command}
 use Rattle.command_words.specs.declared.command.Command.TheVariants.{Check, Gen, Play, Run}
 use Rattle.command_words.specs.declared.command.Plan.{Plan}
@@ -20,15 +17,11 @@ use Rattle.generator.specs.Bank.{script_text}
 use Rattle.script_check.specs.Upgrading.{extended, upgrades_of}
 use Rattle.script_parse.specs.Script.{HasFew, IsWritten}
 use Rattle.script_parse.specs.declared.script.Script.{Script}
-use Rattle.std.proofs.Common.{◌≡◌, ◌≤◌, Err, IfOk, List, Ok, Option, Result, Some, None, inl, inr, length, refl, subst, sym, ℕ}
-use Rattle.serial_model.specs.Replays.{AreMade}
-use Rattle.std.proofs.lemmas.Option.{same_Some}
-use Rattle.std.specs.Prelude.{IfErr, false, true}
-use Rattle.store_reading.specs.Reading.{IsOpened, IsOpenedIn, IsStoredIn, schemas_in}
-use Rattle.store_reading.specs.declared.found.OpenStore.{OpenStore}
-use Rattle.store_reading.specs.declared.found.Store.TheVariants.{Fresh, Open}
+use Rattle.std.proofs.Common.{◌≡◌, ◌≤◌, Err, IfOk, List, Ok, Option, Result, Some, None, inl, inr, length, subst, sym, ℕ}
+use Rattle.std.specs.Prelude.{IfErr}
+use Rattle.store_reading.specs.Reading.{IsStoredIn}
 use Rattle.store_reading.specs.declared.found.Store.{Store}
-use Rattle.thor_top.specs.Stages.{Foretells, HasSchemas, IsJudged, IsOpenedAs, IsPlayed, IsRead, IsReadFrom, IsScriptFor, IsStoredBy, SaysNoScriptFor, SaysUnread, TellsNoScript, TellsOver, TellsUnjudged}
+use Rattle.thor_top.specs.Stages.{Foretells, IsOpenedAs, IsRead, IsReadFrom, IsScriptFor, IsStoredBy, SaysNoScriptFor, SaysUnread, TellsNoScript, TellsOver}
 use Rattle.thor_top.specs.declared.expected.Expected.{Expected}
 use Rattle.thor_value.specs.FiniteMap.{IsSorted}
 use Rattle.thor_value.specs.declared.memory.NoMemory.{NoMemory}
@@ -130,54 +123,6 @@ module _ (D : DiskBytes) (plan : Plan) where
   script_says Run before after script from s text tells = from_says before after script s text from tells
   script_says (Gen n) before after script from s text tells = (from.0, inr (script, (from.1.written, tells)))
 
-  -- ---- the store
-
-  pub unjudged_tells : (script : Script) (s : Status) (text : List ℕ) → TellsUnjudged plan script s text → TellsOf D plan script s text
-  unjudged_tells script s text (inl over) = over_tells script s text over
-  unjudged_tells script s text (inr refused) = subst (λ (t : Status). TellsOf D plan script t text) (sym refused.0) refused.1
-
-  -- ---- the run
-
-  unsettled_tells : (script : Script) (s : Status) (text : List ℕ) → TellsUnsettled s text → TellsOf D plan script s text
-  unsettled_tells script status.DiskFault text tells = tells
-  unsettled_tells script status.Done text tells = absurd tells
-  unsettled_tells script status.Unfinished text tells = absurd tells
-  unsettled_tells script status.Words text tells = absurd tells
-  unsettled_tells script status.Script text tells = absurd tells
-  unsettled_tells script status.SourceFault text tells = absurd tells
-  unsettled_tells script status.SinkFault text tells = absurd tells
-  unsettled_tells script status.Damaged text tells = absurd tells
-  unsettled_tells script status.Limit text tells = absurd tells
-  unsettled_tells script status.NoMemory text tells = absurd tells
-
-  pub unsettled : (script : Script) (r : Result Reply NoMemory) → IfOk r (λ w. TellsUnsettled w.status w.text) → IfOk r (λ w. TellsOf D plan script w.status w.text)
-  unsettled script r = says_map r (λ s text. TellsUnsettled s text) (λ s text. TellsOf D plan script s text) (unsettled_tells script)
-
-  run_tells : (c : Command) (f : Form) (script : Script) → plan.command ≡ c → IsWithinLimits script
-      → ((text : List ℕ) → IsReport D f plan.repos script true text → IsDone D c plan.repos script text)
-      → ((text : List ℕ) → IsReport D f plan.repos script false text → IsUnfinished D c plan.repos script text)
-      → (s : Status) → (text : List ℕ) → TellsRun D f plan.repos script s text → TellsOf D plan script s text
-  run_tells c f script is within done unfinished status.Done text tells = (within, subst (λ (d : Command). IsDone D d plan.repos script text) (sym is) (done text tells))
-  run_tells c f script is within done unfinished status.Unfinished text tells = (within, subst (λ (d : Command). IsUnfinished D d plan.repos script text) (sym is) (unfinished text tells))
-  run_tells c f script is within done unfinished status.DiskFault text tells = tells
-  run_tells c f script is within done unfinished status.Words text tells = absurd tells
-  run_tells c f script is within done unfinished status.Script text tells = absurd tells
-  run_tells c f script is within done unfinished status.SourceFault text tells = absurd tells
-  run_tells c f script is within done unfinished status.SinkFault text tells = absurd tells
-  run_tells c f script is within done unfinished status.Damaged text tells = absurd tells
-  run_tells c f script is within done unfinished status.Limit text tells = absurd tells
-  run_tells c f script is within done unfinished status.NoMemory text tells = absurd tells
-
-  -- a run's report is told, as its command asks for
-  pub play_tells : (script : Script) → plan.command ≡ Play → IsWithinLimits script → (s : Status) → (text : List ℕ) → TellsRun D form.Report plan.repos script s text → TellsOf D plan script s text
-  play_tells script is within = run_tells Play form.Report script is within (λ text t. t) (λ text t. t)
-
-  pub threads_tell : (script : Script) → plan.command ≡ Run → IsWithinLimits script → (s : Status) → (text : List ℕ) → TellsRun D form.Report plan.repos script s text → TellsOf D plan script s text
-  threads_tell script is within = run_tells Run form.Report script is within (λ text t. t) (λ text t. t)
-
-  pub gen_tells : (n : ℕ) (script : Script) → plan.command ≡ Gen n → IsWithinLimits script → (s : Status) → (text : List ℕ) → TellsRun D form.Summary plan.repos script s text → TellsOf D plan script s text
-  gen_tells n script is within = run_tells (Gen n) form.Summary script is within (λ text t. t) (λ text t. t)
-
 -- ---- by a plan
 
 -- what is told of the plan's script is said by the plan
@@ -190,29 +135,13 @@ pub none_by : (D : DiskBytes) (plan : Plan) (count : ℕ) (before after : Told) 
     → (s : Status) → (text : List ℕ) → SaysNoScriptFor plan.command plan.repos before after s text → SaysBy D plan count before after s text
 none_by D plan count before after repos s text none = inl (repos, none_says D plan plan.command before after s text none)
 
--- ---- what was found
+-- ---- a run that is to be made
 
-pub is_judged : {E : Type 0} (plan : Plan) (script : Script) (store : Store) (base : Schemas) (r : Result Schemas E) → IsWithinLimits script → HasSchemas script.setup store base
-    → IfOk r (λ judged. judged ≡ base) → IfOk r AreMade → IfOk r (λ judged. IsAccepted plan.repos script judged) → IfOk r (IsJudged plan script store)
-is_judged plan script store base (Ok judged) within has is made accepted = record {
-  accepted = accepted;
-  made = made;
-  within = within;
-  schemas = subst (λ (b : Schemas). HasSchemas script.setup store b) (sym is) has;
-}
-is_judged plan script store base (Err e) within has is made accepted = tt
-
--- what is opened of a store that was found is the one for which the disks stand
-pub opened_at : (images : List (ℕ → List ℕ)) (store : Store) (base : Schemas) (opened : Plain) → schemas_in store ≡ Some base → IsOpenedIn images store (Some opened) → IsOpened images base opened
-opened_at images Fresh base opened is at = absurd at
-opened_at images (Open s) base opened is at = subst (λ (b : Schemas). IsOpened images b opened) (same_Some s.schemas base is) at
-
+-- where what was found is what the disks hold, what is opened of it is the store for which they stand
 pub of_disks : (D : DiskBytes) (setup : Option Declarations) (base : Schemas) (store : Store) (opened : Plain) → IsStoredBy D store
     → ((images : List (ℕ → List ℕ)) → IsStoredIn images store → IsOpenedAs images setup base opened) → IsOfDisks D setup base opened
 of_disks D (Some setup) base store opened stored is = tt
 of_disks D None base store opened stored is = λ images reads. is images (stored.each images reads)
-
--- ---- a run that is to be made
 
 reported_tells : (D : DiskBytes) (f : Form) (repos : ℕ) (script : Script) (base : Schemas) (store : Plain) → IsAccepted repos script base → IsStore script.setup base store → IsOfDisks D script.setup base store
     → (s : Status) (text : List ℕ) → IsReported f (extended base (upgrades_of script.clients)) store script s text → TellsRun D f repos script s text
@@ -238,52 +167,3 @@ foretells_run D repos base e accepted schemas is disks sorted = record {
 
 pub foretells_map : (P Q : Status → List ℕ → Type 0) (e : Expected) → ((s : Status) → (text : List ℕ) → P s text → Q s text) → Foretells P e → Foretells Q e
 foretells_map P Q e f foretells = record { sorted = foretells.sorted; says = λ s text reported. f s text (foretells.says s text reported) }
-
--- what was reported is what was foretold
-pub foretold : (P : Status → List ℕ → Type 0) (e : Expected) (r : Result Reply NoMemory) → Foretells P e
-    → IfOk r (λ reply. IsReported e.form e.opened.schemas e.opened.store e.script reply.status reply.text) → IfOk r (λ reply. P reply.status reply.text)
-foretold P e r foretells = says_map r (λ s text. IsReported e.form e.opened.schemas e.opened.store e.script s text) P foretells.says
-
--- ---- what refuses nothing
-
-reported_refuses : (f : Form) (schemas : Schemas) (store : Plain) (script : Script) (s : Status) (text : List ℕ) → IsReported f schemas store script s text → Refuses s → ⊥
-reported_refuses f schemas store script status.Done text run refuses = refuses
-reported_refuses f schemas store script status.Unfinished text run refuses = refuses
-reported_refuses f schemas store script status.DiskFault text run refuses = run
-reported_refuses f schemas store script status.Words text run refuses = run
-reported_refuses f schemas store script status.Script text run refuses = run
-reported_refuses f schemas store script status.SourceFault text run refuses = run
-reported_refuses f schemas store script status.SinkFault text run refuses = run
-reported_refuses f schemas store script status.Damaged text run refuses = run
-reported_refuses f schemas store script status.Limit text run refuses = run
-reported_refuses f schemas store script status.NoMemory text run refuses = run
-
-unsettled_refuses : (s : Status) (text : List ℕ) → TellsUnsettled s text → Refuses s → ⊥
-unsettled_refuses status.DiskFault text tells refuses = refuses
-unsettled_refuses status.Done text tells refuses = tells
-unsettled_refuses status.Unfinished text tells refuses = tells
-unsettled_refuses status.Words text tells refuses = tells
-unsettled_refuses status.Script text tells refuses = tells
-unsettled_refuses status.SourceFault text tells refuses = tells
-unsettled_refuses status.SinkFault text tells refuses = tells
-unsettled_refuses status.Damaged text tells refuses = tells
-unsettled_refuses status.Limit text tells refuses = tells
-unsettled_refuses status.NoMemory text tells refuses = tells
-
--- a command that runs a script writes nothing only where it refuses something
-played_refuses : (c : Command) (r : Result Reply NoMemory) → IsPlayed c → WritesNothing c r → RefusesBy r
-played_refuses Check r played nothing = absurd played
-played_refuses Play r played nothing = nothing
-played_refuses Run r played nothing = nothing
-played_refuses (Gen n) r played nothing = nothing
-
-reply_refuses : (P : Status → List ℕ → Type 0) (r : Result Reply NoMemory) → ((s : Status) → (text : List ℕ) → P s text → Refuses s → ⊥) → IfOk r (λ reply. P reply.status reply.text) → RefusesBy r → ⊥
-reply_refuses P (Ok reply) never tells refuses = never reply.status reply.text tells refuses
-reply_refuses P (Err e) never tells refuses = refuses
-
-pub run_writes : (c : Command) (e : Expected) (r : Result Reply NoMemory) → IsPlayed c → IfOk r (λ reply. IsReported e.form e.opened.schemas e.opened.store e.script reply.status reply.text) → WritesNothing c r → ⊥
-run_writes c e r played tells nothing = reply_refuses (λ s text. IsReported e.form e.opened.schemas e.opened.store e.script s text) r (reported_refuses e.form e.opened.schemas e.opened.store e.script) tells (played_refuses c r played nothing)
-
--- an opening that failed may have written
-pub unsettled_writes : (c : Command) (r : Result Reply NoMemory) → IsPlayed c → IfOk r (λ w. TellsUnsettled w.status w.text) → WritesNothing c r → ⊥
-unsettled_writes c r played tells nothing = reply_refuses (λ s text. TellsUnsettled s text) r unsettled_refuses tells (played_refuses c r played nothing)
