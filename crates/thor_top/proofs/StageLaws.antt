@@ -18,8 +18,10 @@ use Rattle.script_check.specs.Upgrading.{extended, upgrades_of}
 use Rattle.script_parse.specs.Script.{HasFew, IsWritten}
 use Rattle.script_parse.specs.declared.script.Script.{Script}
 use Rattle.std.proofs.Common.{◌≡◌, ◌≤◌, Err, IfOk, List, Ok, Option, Result, Some, None, inl, inr, length, subst, sym, ℕ}
+use Rattle.std.proofs.lemmas.Option.{same_Some}
 use Rattle.std.specs.Prelude.{IfErr}
-use Rattle.store_reading.specs.Reading.{IsStoredIn}
+use Rattle.store_reading.specs.Reading.{IsOpened, IsOpenedIn, IsStoredIn, schemas_in}
+use Rattle.store_reading.specs.declared.found.Store.TheVariants.{Fresh, Open}
 use Rattle.store_reading.specs.declared.found.Store.{Store}
 use Rattle.thor_top.specs.Stages.{Foretells, IsOpenedAs, IsRead, IsReadFrom, IsScriptFor, IsStoredBy, SaysNoScriptFor, SaysUnread, TellsNoScript, TellsOver}
 use Rattle.thor_top.specs.declared.expected.Expected.{Expected}
@@ -134,6 +136,13 @@ says_by D plan count before after script repos from s text tells = inl (repos, s
 pub none_by : (D : DiskBytes) (plan : Plan) (count : ℕ) (before after : Told) → plan.repos ≡ count
     → (s : Status) → (text : List ℕ) → SaysNoScriptFor plan.command plan.repos before after s text → SaysBy D plan count before after s text
 none_by D plan count before after repos s text none = inl (repos, none_says D plan plan.command before after s text none)
+
+-- ---- the store
+
+-- what is opened of a store that was found is the one for which the disks stand
+pub opened_at : (images : List (ℕ → List ℕ)) (store : Store) (base : Schemas) (opened : Plain) → schemas_in store ≡ Some base → IsOpenedIn images store (Some opened) → IsOpened images base opened
+opened_at images Fresh base opened is at = absurd at
+opened_at images (Open s) base opened is at = subst (λ (b : Schemas). IsOpened images b opened) (same_Some s.schemas base is) at
 
 -- ---- a run that is to be made
 
