@@ -4,12 +4,11 @@ use Rattle.commit_log.specs.declared.entry.Entry.{Entry}
 use Rattle.local_history.specs.History.{Base, is_life}
 use Rattle.plain_repository.specs.Sites.{MayRecover, unsettled_of}
 use Rattle.plain_repository.specs.declared.site.Left.TheVariants as left
-use Rattle.plain_repository.specs.declared.site.Left.{Left}
 use Rattle.port.specs.Growing.{Gains, Grew}
 use Rattle.port.specs.Views.{Calm, Came, Halted, MayCome, Unsettled}
 use Rattle.session_outbox.specs.Gaps.{maker}
 use Rattle.session_outbox.specs.Trace.{E, Item}
-use Rattle.std.proofs.Common.{Bool, List, [], cond, false, refl, subst, sym, true, ◌++◌, ◌∷◌, ◌≡◌, ◌≢◌, ℕ}
+use Rattle.std.proofs.Common.{Bool, List, [], cond, false, refl, true, ◌++◌, ◌∷◌, ◌≡◌, ◌≢◌, ℕ}
 use Rattle.std.specs.Prelude.{None, Option, Some, nat_eq}
 
 module _ (b : Base) (c : ℕ) where
