@@ -1,6 +1,7 @@
 -- What is told at one stage is told at the next.
 use Rattle.checked_report.specs.Reports.{IsReported}
 use Rattle.checked_report.specs.declared.form.Form.{Form}
+use Rattle.checked_report.specs.declared.form.Form.TheVariants as form
 use Rattle.checked_report.specs.declared.reply.Reply.{Reply}
 use Rattle.checked_report.specs.declared.status.Status.{Status}
 use Rattle.checked_report.specs.declared.status.Status.TheVariants as status
@@ -8,8 +9,8 @@ use Rattle.class_defs.specs.declared.declarations.Declarations.{Declarations}
 use Rattle.class_defs.specs.declared.store.Plain.{Plain}
 use Rattle.class_defs.specs.declared.store.Schemas.{Schemas}
 use Rattle.command_answer.specs.Opening.{DiskBytes, IsAccepted, IsOfDisks, IsStore}
-use Rattle.command_answer.specs.Reports.{TellsRun}
-use Rattle.command_answer.specs.Top.{SaysBy, SaysFor, SaysRead, Tells, TellsOf, Told, WasRead}
+use Rattle.command_answer.specs.Reports.{IsReport, TellsRun}
+use Rattle.command_answer.specs.Top.{IsDone, IsUnfinished, IsWithinLimits, SaysBy, SaysFor, SaysRead, Tells, TellsOf, Told, WasRead}
 use Rattle.command_words.specs.declared.command.Command.{Command}
 use Rattle.command_words.specs.declared.command.Command.TheVariants.{Check, Gen, Play, Run}
 use Rattle.command_words.specs.declared.command.Plan.{Plan}
@@ -19,12 +20,13 @@ use Rattle.script_parse.specs.Script.{HasFew, IsWritten}
 use Rattle.script_parse.specs.declared.script.Script.{Script}
 use Rattle.std.proofs.Common.{◌≡◌, ◌≤◌, Err, IfOk, List, Ok, Option, Result, Some, None, inl, inr, length, subst, sym, ℕ}
 use Rattle.std.proofs.lemmas.Option.{same_Some}
-use Rattle.std.specs.Prelude.{IfErr}
+use Rattle.std.specs.Prelude.{IfErr, IfSome, false, true}
 use Rattle.store_reading.specs.Reading.{IsOpened, IsOpenedIn, IsStoredIn, schemas_in}
 use Rattle.store_reading.specs.declared.found.Store.TheVariants.{Fresh, Open}
 use Rattle.store_reading.specs.declared.found.Store.{Store}
 use Rattle.thor_top.specs.Stages.{Foretells, IsOpenedAs, IsRead, IsReadFrom, IsScriptFor, IsStoredBy, SaysNoScriptFor, SaysUnread, TellsNoScript, TellsOver}
 use Rattle.thor_top.specs.declared.expected.Expected.{Expected}
+use Rattle.thor_top.specs.declared.expected.OpenedStore.{OpenedStore}
 use Rattle.thor_value.specs.FiniteMap.{IsSorted}
 use Rattle.thor_value.specs.declared.memory.NoMemory.{NoMemory}
 
@@ -125,6 +127,33 @@ module _ (D : DiskBytes) (plan : Plan) where
   script_says Run before after script from s text tells = from_says before after script s text from tells
   script_says (Gen n) before after script from s text tells = (from.0, inr (script, (from.1.written, tells)))
 
+  -- ---- the run
+
+  run_tells : (c : Command) (f : Form) (script : Script) → plan.command ≡ c → IsWithinLimits script
+      → ((text : List ℕ) → IsReport D f plan.repos script true text → IsDone D c plan.repos script text)
+      → ((text : List ℕ) → IsReport D f plan.repos script false text → IsUnfinished D c plan.repos script text)
+      → (s : Status) → (text : List ℕ) → TellsRun D f plan.repos script s text → TellsOf D plan script s text
+  run_tells c f script is within done unfinished status.Done text tells = (within, subst (λ (d : Command). IsDone D d plan.repos script text) (sym is) (done text tells))
+  run_tells c f script is within done unfinished status.Unfinished text tells = (within, subst (λ (d : Command). IsUnfinished D d plan.repos script text) (sym is) (unfinished text tells))
+  run_tells c f script is within done unfinished status.DiskFault text tells = tells
+  run_tells c f script is within done unfinished status.Words text tells = absurd tells
+  run_tells c f script is within done unfinished status.Script text tells = absurd tells
+  run_tells c f script is within done unfinished status.SourceFault text tells = absurd tells
+  run_tells c f script is within done unfinished status.SinkFault text tells = absurd tells
+  run_tells c f script is within done unfinished status.Damaged text tells = absurd tells
+  run_tells c f script is within done unfinished status.Limit text tells = absurd tells
+  run_tells c f script is within done unfinished status.NoMemory text tells = absurd tells
+
+  -- a run's report is told, as its command asks for
+  pub play_tells : (script : Script) → plan.command ≡ Play → IsWithinLimits script → (s : Status) → (text : List ℕ) → TellsRun D form.Report plan.repos script s text → TellsOf D plan script s text
+  play_tells script is within = run_tells Play form.Report script is within (λ text t. t) (λ text t. t)
+
+  pub threads_tell : (script : Script) → plan.command ≡ Run → IsWithinLimits script → (s : Status) → (text : List ℕ) → TellsRun D form.Report plan.repos script s text → TellsOf D plan script s text
+  threads_tell script is within = run_tells Run form.Report script is within (λ text t. t) (λ text t. t)
+
+  pub gen_tells : (n : ℕ) (script : Script) → plan.command ≡ Gen n → IsWithinLimits script → (s : Status) → (text : List ℕ) → TellsRun D form.Summary plan.repos script s text → TellsOf D plan script s text
+  gen_tells n script is within = run_tells (Gen n) form.Summary script is within (λ text t. t) (λ text t. t)
+
 -- ---- by a plan
 
 -- what is told of the plan's script is said by the plan
@@ -143,6 +172,19 @@ none_by D plan count before after repos s text none = inl (repos, none_says D pl
 pub opened_at : (images : List (ℕ → List ℕ)) (store : Store) (base : Schemas) (opened : Plain) → schemas_in store ≡ Some base → IsOpenedIn images store (Some opened) → IsOpened images base opened
 opened_at images Fresh base opened is at = absurd at
 opened_at images (Open s) base opened is at = subst (λ (b : Schemas). IsOpened images b opened) (same_Some s.schemas base is) at
+
+pub stored_as : {E : Type 0} (images : List (ℕ → List ℕ)) (setup : Option Declarations) (base : Schemas) (r : Result (Option Plain) E) → setup ≡ None
+    → IfOk r (λ store. IfSome store (IsOpened images base)) → IfOk r (λ store. IfSome store (IsOpenedAs images setup base))
+stored_as images setup base (Ok (Some store)) is h = subst (λ (s : Option Declarations). IsOpenedAs images s base store) (sym is) h
+stored_as images setup base (Ok None) is h = tt
+stored_as images setup base (Err e) is h = tt
+
+pub prepared_as : {B E : Type 0} (images : List (ℕ → List ℕ)) (setup : Option Declarations) (base : Schemas) (found : Option OpenedStore) (opened : OpenedStore) (second : Result B E) (r : Result (OpenedStore × B) E) → found ≡ Some opened
+    → IfSome found (λ o. IsOpenedAs images setup base o.store) → IfOk r (λ made. (made.0 ≡ opened) × (second ≡ Ok made.1)) → IfOk r (λ made. IsOpenedAs images setup base made.0.store)
+prepared_as images setup base found opened second (Ok made) is h both =
+    let at : IsOpenedAs images setup base opened.store = subst (λ (o : Option OpenedStore). IfSome o (λ p. IsOpenedAs images setup base p.store)) is h in
+    subst (λ (o : OpenedStore). IsOpenedAs images setup base o.store) (sym both.0) at
+prepared_as images setup base found opened second (Err e) is h both = tt
 
 -- ---- a run that is to be made
 

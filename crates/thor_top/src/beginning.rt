@@ -59,7 +59,8 @@ fn begin_judged<P: Parts>(
             drop(script);
             Err(answered)
         }
-        Command::Play | Command::Run => open_run(alloc, plan, Form::Report, script, judged),
+        Command::Play => open_run(alloc, plan, Form::Report, script, judged),
+        Command::Run => open_run(alloc, plan, Form::Report, script, judged),
         Command::Gen { n: _ } => open_run(alloc, plan, Form::Summary, script, judged),
     }
 }
