@@ -1,4 +1,3 @@
 pub mod Examples
-pub mod Falling
 pub mod Fitting
 pub mod Links

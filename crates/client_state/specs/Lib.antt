@@ -1,4 +1,5 @@
 pub mod Causes
 pub mod Learning
 pub mod Links
+pub mod Owing
 pub mod Taking

@@ -1,5 +1,8 @@
 //! What a client has to do about transactions before its next try.
 
+ghost use Rattle.client_state.specs.Owing.{calls_of_all};
+ghost use Rattle.std.specs.Prelude.{IsTrue, None, OnOk, Some, [], length, not, ◌≡◌, ◌<◌, ◌≤◌, ◌+◌};
+
 use message_outbox::{At, Verdict};
 use std::alloc::Global;
 use std::mem;
@@ -60,18 +63,26 @@ impl Duties {
     }
 
     /// Whether a transaction is to be aborted, or a verdict to be handed on.
-    pub fn owes_verdicts(&self) -> bool {
+    pub fn owes_verdicts(&self) -> bool
+        ensures owed { IsTrue result → self.now.abort ≡ None → 0 < length self.now.verdicts }
+        ensures none { IsTrue (not result) → (self.now.abort ≡ None) × (self.now.verdicts ≡ []) }
+    {
         self.abort.is_some() || !self.verdicts.is_empty()
     }
 
     /// A transaction is to be aborted by its coordinator, and no other one.
-    pub fn note_abort(&mut self, abort: Abort) {
+    pub fn note_abort(&mut self, abort: Abort)
+        ensures { self.new ≡ record self.old { abort = Some abort } }
+    {
         drop(mem::replace(&mut self.abort, Some(abort)));
     }
 
     /// A verdict is to be handed to participants. A commit that all of them have finished is to be
     /// forgotten.
-    pub fn hand_on(&mut self, verdict: Verdict, to: Repos) -> Result<(), NoMemory> {
+    pub fn hand_on(&mut self, verdict: Verdict, to: Repos) -> Result<(), NoMemory>
+        ensures owed { OnOk result (calls_of_all self.new.verdicts ≤ calls_of_all self.old.verdicts + (length to + 1)) }
+        ensures rest { self.new ≡ record self.old { verdicts = self.new.verdicts } }
+    {
         if to.is_empty() {
             return Ok(());
         }

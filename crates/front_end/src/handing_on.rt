@@ -1,5 +1,10 @@
 //! The fifth rule: verdicts are handed on.
 
+ghost use Rattle.client_state.specs.Owing.{calls_of};
+ghost use Rattle.client_state.specs.declared.duties.Duty.TheVariants.{Finish};
+ghost use Rattle.front_end.specs.Moving.{uncounted};
+ghost use Rattle.std.specs.Prelude.{OnOk, length, ℕ, ◌+◌, ◌<◌, ◌≡◌};
+
 use crate::client::Client;
 use client_state::Duty;
 use message_outbox::Verdict;
@@ -9,7 +14,9 @@ use validation_window::Refusal;
 
 impl Client {
     /// Hands on the oldest verdict to its next participant, or has the coordinator forget.
-    pub fn hand_on<Q: Port>(&mut self, port: &mut Q) -> Result<(), NoMemory> {
+    pub fn hand_on<Q: Port>(&mut self, port: &mut Q) -> Result<(), NoMemory>
+        ensures { 0 < length self.old.duties.verdicts → OnOk result ((tries : ℕ) → uncounted tries self.new < uncounted tries self.old) }
+    {
         if self.duties.verdicts.is_empty() {
             return Ok(());
         }
@@ -30,7 +37,9 @@ impl Client {
         verdict: Verdict,
         mut to: Repos,
         forgets: bool,
-    ) -> Result<(), NoMemory> {
+    ) -> Result<(), NoMemory>
+        ensures { OnOk result ((tries : ℕ) → uncounted tries self.new < uncounted tries self.old + calls_of (Finish verdict to forgets)) }
+    {
         if to.is_empty() {
             return Ok(());
         }

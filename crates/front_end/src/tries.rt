@@ -1,5 +1,10 @@
 //! How a try goes on behind a call, begins anew, and ends.
 
+ghost use Rattle.client_state.specs.declared.phase.Phase.TheVariants as phase;
+ghost use Rattle.front_end.specs.Moving.{uncounted};
+ghost use Rattle.item_progress.specs.declared.news.News.TheVariants as news;
+ghost use Rattle.std.specs.Prelude.{ℕ, ◌≡◌, ◌≤◌};
+
 use crate::client::Client;
 use client_state::{Came, Helping, Phase, cause_of};
 use item_progress::{Learnt, News};
@@ -20,12 +25,17 @@ fn helping_behind(refusal: Refusal, refuser: u8) -> Option<Helping> {
 
 impl Client {
     /// Takes the phase out; no try runs then.
-    pub fn take_phase(&mut self) -> Phase {
+    pub fn take_phase(&mut self) -> Phase
+        ensures phase { result ≡ self.old.phase }
+        ensures rest { self.new ≡ record self.old { phase = phase.Between } }
+    {
         mem::replace(&mut self.phase, Phase::Between)
     }
 
     /// Puts a phase in the place of the one before.
-    pub fn set_phase(&mut self, phase: Phase) {
+    pub fn set_phase(&mut self, phase: Phase)
+        ensures { self.new ≡ record self.old { phase = phase } }
+    {
         drop(mem::replace(&mut self.phase, phase));
     }
 
@@ -53,14 +63,20 @@ impl Client {
     }
 
     /// The evaluation begins anew in the same try.
-    pub fn begin_anew(&mut self) {
+    pub fn begin_anew(&mut self)
+        ensures phase { self.new.phase ≡ phase.Beginning }
+        ensures duties { self.new.duties ≡ self.old.duties }
+    {
         self.held.undo();
         self.set_phase(Phase::Beginning);
     }
 
     /// The try that runs, or that would begin, ends. What its coordinator has prepared is to be
     /// aborted.
-    pub fn end_try(&mut self, cause: Cause) -> News {
+    pub fn end_try(&mut self, cause: Cause) -> News
+        ensures news { result ≡ news.TryEnded cause }
+        ensures left { (tries : ℕ) → uncounted tries self.new ≤ uncounted tries self.old }
+    {
         if let Some(abort) = self.take_phase().into_abort() {
             self.duties.note_abort(abort);
         }
@@ -79,7 +95,9 @@ impl Client {
     }
 
     /// What holds a next try back is given up, since none is left.
-    pub fn stop_waiting(&mut self) {
+    pub fn stop_waiting(&mut self)
+        ensures { (tries : ℕ) → uncounted tries self.new ≡ uncounted tries self.old }
+    {
         self.held.stop_waiting();
         self.duties.helping = None;
     }

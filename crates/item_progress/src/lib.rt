@@ -1,6 +1,7 @@
 //! How far a client has come in its items, and how they end.
 #![tactic(auto)]
 
+mod ending;
 mod meaning;
 mod news;
 mod opened;

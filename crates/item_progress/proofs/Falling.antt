@@ -1,0 +1,53 @@
+-- What falls, and what leads on to it.
+use Rattle.item_progress.specs.Courses.{Course, Ends, Settles}
+use Rattle.item_progress.specs.Falling.{CountsDown, Falls, IsLeft, Left, NeverRises, Standing, left_by}
+use Rattle.item_progress.proofs.Places.{end_length}
+use Rattle.std.proofs.Common.{List, ap, arith, inl, inr, length, refl, subst, suc, sym, ◌+◌, ◌-◌, ◌<◌, ◌≡◌, ◌∙◌, ℕ}
+use Rattle.std.proofs.Math.Nat.{eq-or-lt_of_le}
+use Rattle.std.specs.Prelude.{◌≤◌, ◌⊎◌}
+
+pub both_fall : (a b c : Left) → Falls a b → Falls b c → Falls a c
+both_fall a b c (inl p) (inl q) = inl (omega (arith, p, q))
+both_fall a b c (inl p) (inr (inl q)) = inl (omega (arith, p, q.0))
+both_fall a b c (inl p) (inr (inr (inl q))) = inl (omega (arith, p, q.0))
+both_fall a b c (inl p) (inr (inr (inr q))) = inl (omega (arith, p, q.0))
+both_fall a b c (inr (inl p)) (inl q) = inl (omega (arith, p.0, q))
+both_fall a b c (inr (inl p)) (inr (inl q)) = inr (inl (q.0 ∙ p.0, omega (arith, p.1, q.1)))
+both_fall a b c (inr (inl p)) (inr (inr (inl q))) = inr (inl (q.0 ∙ p.0, omega (arith, p.1, q.1)))
+both_fall a b c (inr (inl p)) (inr (inr (inr q))) = inr (inl (q.0 ∙ p.0, omega (arith, p.1, q.1)))
+both_fall a b c (inr (inr (inl p))) (inl q) = inl (omega (arith, p.0, q))
+both_fall a b c (inr (inr (inl p))) (inr (inl q)) = inr (inl (q.0 ∙ p.0, omega (arith, p.1, q.1)))
+both_fall a b c (inr (inr (inl p))) (inr (inr (inl q))) = inr (inr (inl (q.0 ∙ p.0, q.1 ∙ p.1, omega (arith, p.2, q.2))))
+both_fall a b c (inr (inr (inl p))) (inr (inr (inr q))) = inr (inr (inl (q.0 ∙ p.0, q.1 ∙ p.1, omega (arith, p.2, q.2))))
+both_fall a b c (inr (inr (inr p))) (inl q) = inl (omega (arith, p.0, q))
+both_fall a b c (inr (inr (inr p))) (inr (inl q)) = inr (inl (q.0 ∙ p.0, omega (arith, p.1, q.1)))
+both_fall a b c (inr (inr (inr p))) (inr (inr (inl q))) = inr (inr (inl (q.0 ∙ p.0, q.1 ∙ p.1, omega (arith, p.2, q.2))))
+both_fall a b c (inr (inr (inr p))) (inr (inr (inr q))) = inr (inr (inr (q.0 ∙ p.0, q.1 ∙ p.1, q.2 ∙ p.2, omega (arith, p.3, q.3))))
+
+-- the next item has ended
+pub item_falls : (old new : Standing) → Ends old.course new.course → CountsDown old new
+item_falls old new e n m = inl (rw (ap (λ (c : Course). c.count - length c.ended) e.grown, end_length old.course.ended e.last) (omega (arith, e.left)))
+
+pub tries_fall : (old new : Standing) → new.course ≡ old.course → new.tries < old.tries → CountsDown old new
+tries_fall old new same less n m = inr (inl (ap (λ (c : Course). c.count - length c.ended) same, less))
+
+pub calls_fall : (old new : Standing) → new.course ≡ old.course → new.tries ≡ old.tries → new.calls < old.calls → CountsDown old new
+calls_fall old new same tries less n m = inr (inr (inl (ap (λ (c : Course). c.count - length c.ended) same, tries, less)))
+
+-- what has fallen and never rises then has fallen
+pub then_never_rises : (a b c : Standing) → CountsDown a b → NeverRises b c → CountsDown a c
+then_never_rises a b c falls (inl same) n m = subst (Falls (left_by a n)) (sym (same m)) (falls n m)
+then_never_rises a b c falls (inr more) n m = both_fall (left_by a n) (left_by b 0) (left_by c m) (falls n 0) (more 0 m)
+
+-- where what isn't counted falls, and what is counted never rises, what is left falls
+pub uncounted_falls : (old new : Standing) (n m : ℕ) → NeverRises old new → m < n → Falls (left_by old n) (left_by new m)
+uncounted_falls old new n m (inl same) less = let e = same m in inr (inr (inr (ap (λ (l : Left). l.items) e, ap (λ (l : Left). l.tries) e, ap (λ (l : Left). l.calls) e, less)))
+uncounted_falls old new n m (inr more) less = more n m
+
+-- where what isn't counted doesn't rise either, what is left stays or falls
+pub nothing_rises : (old new : Standing) (n m : ℕ) → NeverRises old new → m ≤ n → (left_by new m ≡ left_by old n) ⊎ Falls (left_by old n) (left_by new m)
+nothing_rises old new n m (inr more) less = inr (more n m)
+nothing_rises old new n m (inl same) less = elim (eq-or-lt_of_le less) [
+  | inl e ↦ inl (ap (left_by new) e ∙ same n)
+  | inr l ↦ inr (uncounted_falls old new n m (inl same) l)
+]
