@@ -9,6 +9,7 @@ use item_progress::{News, Opened};
 use message_outbox::{At, Message};
 use page_format::Page;
 use port::Port;
+use refusal_reasons::Reason;
 use serial_model::Cause;
 use thor_value::{NoMemory, Oref, Orefs, Text};
 use validation_window::Refusal;
@@ -30,7 +31,7 @@ impl Client {
         match self.held.receive(port, at) {
             Ok(Some(message)) => Ok(Some(self.take(opened, at.repo, message)?)),
             Ok(None) => Ok(None),
-            Err(Refusal::Gone { session }) => {
+            Err(Refusal::Reason(Reason::Gone { session })) => {
                 self.lose_in_receive(at.repo, session);
                 Ok(Some(News::Nothing))
             }
@@ -53,7 +54,7 @@ impl Client {
         match self.held.receive(port, at) {
             Ok(Some(message)) => self.take(opened, at.repo, message),
             Ok(None) => Ok(News::Nothing),
-            Err(Refusal::Gone { session }) => {
+            Err(Refusal::Reason(Reason::Gone { session })) => {
                 self.lose_in_receive(at.repo, session);
                 Ok(News::Nothing)
             }
@@ -115,7 +116,7 @@ impl Client {
     {
         self.held.drop_copies(orefs);
         match self.phase.first_read(orefs) {
-            Some(oref) => self.end_try(Cause::Stale { oref, place }),
+            Some(oref) => self.end_try(Cause::Reason(Reason::Stale { oref, place })),
             None => News::Nothing,
         }
     }
@@ -125,7 +126,7 @@ impl Client {
         ensures { (tries : ℕ) → uncounted tries self.new ≤ uncounted tries self.old }
     {
         if self.held.learn_next_epoch(opened, number) && self.phase.runs() {
-            return self.end_try(Cause::Epoch { n: number });
+            return self.end_try(Cause::Reason(Reason::Epoch { n: number }));
         }
         News::Nothing
     }

@@ -10,6 +10,7 @@ ghost use Rattle.repo_core.specs.Calls.{DrawIsRefused};
 
 use crate::repo::Repo;
 use disk_trait::Parts;
+use refusal_reasons::Reason;
 use session_outbox::Mark;
 use thor_value::Ts;
 use validation_window::Refusal;
@@ -65,7 +66,7 @@ impl<P: Parts> Repo<P> {
         if time < CLOCK_END {
             Ok(time)
         } else {
-            Err(Refusal::ClockEnd)
+            Err(Refusal::Reason(Reason::ClockEnd))
         }
     }
 

@@ -14,7 +14,6 @@ use commit_log::Entry;
 use disk_trait::Parts;
 use session_outbox::Mark;
 use thor_value::{Oref, Ts};
-use trace_record::Trace;
 
 impl<P: Parts> Repo<P> {
     /// Its number.
@@ -115,14 +114,5 @@ impl<P: Parts> Repo<P> {
             after = Some(request.tx);
         }
         None
-    }
-
-    /// Ends it. Its parts come back with its trace.
-    pub fn close(self) -> (P, Trace)
-        ensures history { result.1.history ≡ self.trace.history }
-        ensures marks { result.1.marks ≡ self.trace.marks }
-    {
-        let Repo { stable, trace, .. } = self;
-        (stable.into_parts(), trace.into_trace())
     }
 }
