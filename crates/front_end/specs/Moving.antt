@@ -3,7 +3,7 @@ use Rattle.client_state.specs.Owing.{calls_in, owed}
 use Rattle.front_end.specs.declared.client.Client.{Client}
 use Rattle.front_end.specs.declared.front_end.FrontEnd.{FrontEnd}
 use Rattle.item_progress.specs.Courses.{Course}
-use Rattle.item_progress.specs.Falling.{Falls, IsLeft, Left, left_by}
+use Rattle.item_progress.specs.Falling.{Falls, IsLeft, Left, Standing, left_by}
 use Rattle.std.specs.Prelude.{None, length, ℕ, ◌+◌, ◌<◌, ◌≡◌, ◌⊎◌}
 
 -- how many calls a client may still make that aren't counted, where an item has so many tries
@@ -12,11 +12,14 @@ uncounted tries c = owed c.duties + calls_in tries c.phase
 
 -- how far it has come in its items
 abbrev pub course_of : FrontEnd → Course
-course_of f = f.progress.course
+course_of f = f.progress
+
+abbrev pub standing_of : FrontEnd → Standing
+standing_of f = record { course = f.progress; attempts = f.attempts }
 
 -- what is left for it to do
 abbrev pub left_of : FrontEnd → Left
-left_of f = left_by f.progress (uncounted f.progress.each f.client)
+left_of f = left_by (standing_of f) (uncounted f.attempts.each f.client)
 
 -- what is left stays as it is, or it falls
 abbrev pub Keeps : Left → Left → Type 0

@@ -1,32 +1,38 @@
 //! A client of repositories, which goes on by steps.
 
 ghost use Rattle.client_state.specs.Owing.{asking_in};
-ghost use Rattle.front_end.specs.Moving.{GoesOn, Keeps, MovesOn, course_of, left_of, uncounted};
+ghost use Rattle.front_end.specs.Moving.{GoesOn, Keeps, MovesOn, course_of, left_of, standing_of, uncounted};
 ghost use Rattle.front_end.specs.declared.front_end.Step.TheVariants as step;
 ghost use Rattle.item_progress.specs.Courses.{Goes, IsInOrder};
-ghost use Rattle.item_progress.specs.Falling.{CountsDown, Falls, IsLeft, NeverRises, ends_try};
+ghost use Rattle.item_progress.specs.Ending.{ends_try};
+ghost use Rattle.item_progress.specs.Falling.{CountsDown, Falls, IsLeft, NeverRises};
 ghost use Rattle.std.specs.Prelude.{◌≡◌, ◌<◌, ◌^◌, [], IfOk, IsSome, IsTrue, OnOk, length, not, Ok, true, ℕ};
 
 use crate::client::Client;
 use crate::rule::{Counted, Rule};
 use client_state::REPOSITORIES;
-use item_progress::{Items, News, Opened, Progress};
+use item_progress::{Attempts, Items, News, Opened, Progress};
 use message_outbox::At;
 use port::Port;
 use serial_model::{Cause, Ended, Ends};
 use std::alloc::Global;
 use thor_value::NoMemory;
 
-/// A client of repositories: what it holds and owes, and how far it has come in its items. It runs them one
-/// after the other.
+/// A client of repositories: what it holds and owes, how far it has come in its items, and in the tries of the
+/// present one. It runs them one after the other.
 pub struct FrontEnd {
     client: Client,
     progress: Progress,
+    attempts: Attempts,
 }
 
 impl Drop for FrontEnd {
     fn drop(self) {
-        let FrontEnd { client, progress } = self;
+        let FrontEnd {
+            client,
+            progress,
+            ..
+        } = self;
         drop(client);
         drop(progress);
     }
@@ -57,7 +63,8 @@ impl FrontEnd {
     {
         Ok(FrontEnd {
             client: Client::new(alloc, client, cache)?,
-            progress: Progress::new(alloc, client, items, tries),
+            progress: Progress::new(alloc, client, items),
+            attempts: Attempts::new(tries),
         })
     }
 
@@ -120,10 +127,10 @@ impl FrontEnd {
         ensures goes { Goes (course_of self.old) (course_of self.new) }
         ensures falls { GoesOn self.old → OnOk result (Falls (left_of self.old) (left_of self.new)) }
     {
-        if !self.progress.count_call() {
+        if !self.attempts.count_call() {
             return self.run_out_of_calls(port);
         }
-        let task = self.progress.task(opened);
+        let task = self.progress.task(opened, self.attempts.each);
         let news = self.client.follow(port, opened, task, rule)?;
         self.take_down(news)
     }
@@ -133,7 +140,7 @@ impl FrontEnd {
         ensures goes { Goes (course_of self.old) (course_of self.new) }
         ensures falls { IsSome (asking_in self.old.client.phase) → OnOk result (Falls (left_of self.old) (left_of self.new)) }
     {
-        let task = self.progress.task(opened);
+        let task = self.progress.task(opened, self.attempts.each);
         let news = self.client.ask(port, opened, task)?;
         self.take_down(news)
     }
@@ -155,18 +162,18 @@ impl FrontEnd {
     /// try back is given up, since none begins.
     fn take_down(&mut self, news: News) -> Result<(), NoMemory>
         ensures goes { Goes (course_of self.old) (course_of self.new) }
-        ensures each { self.new.progress.each ≡ self.old.progress.each }
-        ensures left { OnOk result (NeverRises self.old.progress self.new.progress) }
-        ensures tried { ends_try news ≡ true → IsLeft (course_of self.old) → OnOk result (CountsDown self.old.progress self.new.progress) }
+        ensures each { self.new.attempts.each ≡ self.old.attempts.each }
+        ensures left { OnOk result (NeverRises (standing_of self.old) (standing_of self.new)) }
+        ensures tried { ends_try news ≡ true → IsLeft (course_of self.old) → OnOk result (CountsDown (standing_of self.old) (standing_of self.new)) }
         ensures uncounted { (tries : ℕ) → uncounted tries self.new.client ≡ uncounted tries self.old.client }
     {
         self.stop_waiting_behind(&news);
-        self.progress.take_down(news)
+        self.progress.take_down(&mut self.attempts, news)
     }
 
     /// What held a next try back is given up, where a try has ended and no item is left.
     fn stop_waiting_behind(&mut self, news: &News)
-        ensures progress { self.new.progress ≡ self.old.progress }
+        ensures rest { self.new ≡ record self.old { client = self.new.client } }
         ensures uncounted { (tries : ℕ) → uncounted tries self.new.client ≡ uncounted tries self.old.client }
     {
         if news.ends_try() && self.progress.has_ended() {
@@ -231,7 +238,11 @@ impl FrontEnd {
     pub fn close(self) -> (Ends, Items)
         ensures { result.0 ≡ (course_of self).ended }
     {
-        let FrontEnd { client, progress } = self;
+        let FrontEnd {
+            client,
+            progress,
+            ..
+        } = self;
         drop(client);
         progress.close()
     }

@@ -1,8 +1,10 @@
 -- What falls, and what leads on to it.
-use Rattle.item_progress.specs.Courses.{Course, Ends, Settles}
-use Rattle.item_progress.specs.Falling.{CountsDown, Falls, IsLeft, Left, NeverRises, Standing, left_by}
+use Rattle.item_progress.specs.Courses.{Course, Ends, Learns}
+use Rattle.item_progress.specs.Falling.{CountsDown, Falls, Left, NeverRises, Standing, StandsStill, left_by, most_calls}
+use Rattle.item_progress.specs.declared.attempts.Attempts.{Attempts}
+use Rattle.std.proofs.lemmas.List.{length-set}
 use Rattle.item_progress.proofs.Places.{end_length}
-use Rattle.std.proofs.Common.{List, ap, arith, inl, inr, length, refl, subst, suc, sym, ◌+◌, ◌-◌, ◌<◌, ◌≡◌, ◌∙◌, ℕ}
+use Rattle.std.proofs.Common.{ap, arith, inl, inr, length, refl, subst, sym, ◌+◌, ◌-◌, ◌<◌, ◌≡◌, ◌∙◌, ℕ}
 use Rattle.std.proofs.Math.Nat.{eq-or-lt_of_le}
 use Rattle.std.specs.Prelude.{◌≤◌, ◌⊎◌}
 
@@ -26,28 +28,36 @@ both_fall a b c (inr (inr (inr p))) (inr (inr (inr q))) = inr (inr (inr (q.0 ∙
 
 -- the next item has ended
 pub item_falls : (old new : Standing) → Ends old.course new.course → CountsDown old new
-item_falls old new e n m = inl (rw (ap (λ (c : Course). c.count - length c.ended) e.grown, end_length old.course.ended e.last) (omega (arith, e.left)))
+item_falls old new e = record { falls = λ n m. inl (rw (ap (λ (c : Course). c.count - length c.ended) e.grown, end_length old.course.ended e.last) (omega (arith, e.left))) }
 
-pub tries_fall : (old new : Standing) → new.course ≡ old.course → new.tries < old.tries → CountsDown old new
-tries_fall old new same less n m = inr (inl (ap (λ (c : Course). c.count - length c.ended) same, less))
+pub tries_fall : (old new : Standing) → new.course ≡ old.course → new.attempts.each - new.attempts.tried < old.attempts.each - old.attempts.tried → CountsDown old new
+tries_fall old new same less = record { falls = λ n m. inr (inl (ap (λ (c : Course). c.count - length c.ended) same, less)) }
 
-pub calls_fall : (old new : Standing) → new.course ≡ old.course → new.tries ≡ old.tries → new.calls < old.calls → CountsDown old new
-calls_fall old new same tries less n m = inr (inr (inl (ap (λ (c : Course). c.count - length c.ended) same, tries, less)))
+pub calls_fall : (old new : Standing) → new.course ≡ old.course → old.attempts.calls < most_calls → new.attempts ≡ record old.attempts { calls = old.attempts.calls + 1 } → CountsDown old new
+calls_fall old new same room counted = record { falls = λ n m. inr (inr (inl (ap (λ (c : Course). c.count - length c.ended) same, ap (λ (a : Attempts). a.each - a.tried) counted, rw (ap (λ (a : Attempts). most_calls - a.calls) counted) (omega (arith, room))))) }
+
+pub stands_still : (old new : Standing) → new.course ≡ old.course → new.attempts ≡ old.attempts → StandsStill old new
+stands_still old new same tries = record { same = λ n. rw (same, tries) refl }
+
+-- an item that had ended is another
+pub settling_stands : (old new : Standing) → Learns old.course new.course → new.attempts ≡ old.attempts → StandsStill old new
+settling_stands old new (inl same) tries = stands_still old new same tries
+settling_stands old new (inr s) tries = record { same = λ n. rw (ap (λ (c : Course). c.count - length c.ended) s.set, length-set old.course.ended s.place (record s.was { outcome = s.outcome }), tries) refl }
 
 -- what has fallen and never rises then has fallen
 pub then_never_rises : (a b c : Standing) → CountsDown a b → NeverRises b c → CountsDown a c
-then_never_rises a b c falls (inl same) n m = subst (Falls (left_by a n)) (sym (same m)) (falls n m)
-then_never_rises a b c falls (inr more) n m = both_fall (left_by a n) (left_by b 0) (left_by c m) (falls n 0) (more 0 m)
+then_never_rises a b c falls (inl same) = record { falls = λ n m. subst (Falls (left_by a n)) (sym (same.same m)) (falls.falls n m) }
+then_never_rises a b c falls (inr more) = record { falls = λ n m. both_fall (left_by a n) (left_by b 0) (left_by c m) (falls.falls n 0) (more.falls 0 m) }
 
 -- where what isn't counted falls, and what is counted never rises, what is left falls
 pub uncounted_falls : (old new : Standing) (n m : ℕ) → NeverRises old new → m < n → Falls (left_by old n) (left_by new m)
-uncounted_falls old new n m (inl same) less = let e = same m in inr (inr (inr (ap (λ (l : Left). l.items) e, ap (λ (l : Left). l.tries) e, ap (λ (l : Left). l.calls) e, less)))
-uncounted_falls old new n m (inr more) less = more n m
+uncounted_falls old new n m (inl same) less = let e = same.same m in inr (inr (inr (ap (λ (l : Left). l.items) e, ap (λ (l : Left). l.tries) e, ap (λ (l : Left). l.calls) e, less)))
+uncounted_falls old new n m (inr more) less = more.falls n m
 
 -- where what isn't counted doesn't rise either, what is left stays or falls
 pub nothing_rises : (old new : Standing) (n m : ℕ) → NeverRises old new → m ≤ n → (left_by new m ≡ left_by old n) ⊎ Falls (left_by old n) (left_by new m)
-nothing_rises old new n m (inr more) less = inr (more n m)
+nothing_rises old new n m (inr more) less = inr (more.falls n m)
 nothing_rises old new n m (inl same) less = elim (eq-or-lt_of_le less) [
-  | inl e ↦ inl (ap (left_by new) e ∙ same n)
+  | inl e ↦ inl (ap (left_by new) e ∙ same.same n)
   | inr l ↦ inr (uncounted_falls old new n m (inl same) l)
 ]

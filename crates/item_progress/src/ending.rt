@@ -1,6 +1,6 @@
 //! Whether a try has ended.
 
-ghost use Rattle.item_progress.specs.Falling.{ends_try};
+ghost use Rattle.item_progress.specs.Ending.{ends_try};
 ghost use Rattle.std.specs.Prelude.{◌≡◌};
 
 use crate::news::News;

@@ -1,10 +1,12 @@
 //! How far a client has come in its items.
 
 ghost use Rattle.item_progress.specs.Courses.{Ends, Goes, IsInOrder, IsLateOutcome, Learns, who_behind};
-ghost use Rattle.item_progress.specs.Falling.{CountsDown, IsLeft, NeverRises, ends_try};
+ghost use Rattle.item_progress.specs.Ending.{ends_try};
+ghost use Rattle.item_progress.specs.Falling.{CountsDown, IsLeft, NeverRises};
 ghost use Rattle.serial_model.specs.declared.outcomes.ItemOutcome.TheVariants as outcomes;
-ghost use Rattle.std.specs.Prelude.{◌≡◌, ◌+◌, ◌-◌, ◌<◌, ◌^◌, ◌⊎◌, [], IsSome, IsTrue, OnOk, length, not, true, ◌↔◌};
+ghost use Rattle.std.specs.Prelude.{◌≡◌, ◌+◌, ◌<◌, ◌^◌, ◌⊎◌, [], IsSome, IsTrue, OnOk, length, not, true, ◌↔◌};
 
+use crate::attempts::Attempts;
 use crate::news::{News, Settled, Task};
 use crate::opened::{Items, Opened};
 use serial_model::{Cause, Ended, Ends, ItemOutcome, What};
@@ -12,8 +14,8 @@ use std::alloc::Global;
 use std::marker::Model;
 use thor_value::{NoMemory, Sequence, Ts, Who};
 
-/// How far a client has come in its items, which contracts see as their number, how those ended that
-/// have, and how many tries and calls are left of the present one.
+/// How far a client has come in its items, which contracts see as their number and how those ended that
+/// have.
 #[derive(Drop)]
 pub struct Progress {
     client: u8,
@@ -21,22 +23,15 @@ pub struct Progress {
     ended: Ends,
     /// How many of the items that ended are upgrades.
     upgrades: u32,
-    /// How many tries an item has.
-    tries: u32,
-    /// How many tries of the present item have ended.
-    tried: u32,
-    /// How many calls were counted since it began or its last try ended.
-    calls: u32,
 }
 
 impl Model for Progress {
-    ghost use Rattle.item_progress.specs.Courses.{IsInOrder};
-    ghost use Rattle.item_progress.specs.Falling.{Standing};
-    ghost use Rattle.std.specs.Prelude.{length, ◌-◌, ◌^◌};
+    ghost use Rattle.item_progress.specs.Courses.{Course, IsInOrder};
+    ghost use Rattle.std.specs.Prelude.{length};
 
-    ghost Value = { Standing };
+    ghost Value = { Course };
 
-    ghost view = { λ p. record { course = record { client = p.client; count = length p.items; ended = p.ended }; each = p.tries; tries = p.tries - p.tried; calls = 2 ^ 32 - 1 - p.calls } };
+    ghost view = { λ p. record { client = p.client; count = length p.items; ended = p.ended } };
 
     ghost invariant = { λ p. IsInOrder (record { client = p.client; count = length p.items; ended = p.ended }) };
 }
@@ -56,39 +51,36 @@ fn is_unknown(outcome: &ItemOutcome, ts: Ts) -> bool
 
 impl Progress {
     /// No item has begun.
-    pub fn new(alloc: Global, client: u8, items: Items, tries: u32) -> Progress
+    pub fn new(alloc: Global, client: u8, items: Items) -> Progress
         requires { length items < 2 ^ 32 }
-        ensures { result ≡ record { course = record { client = client; count = length items; ended = [] }; each = tries; tries = tries; calls = 2 ^ 32 - 1 } }
+        ensures { result ≡ record { client = client; count = length items; ended = [] } }
     {
         Progress {
             client,
             items,
             ended: Sequence::new(alloc),
             upgrades: 0,
-            tries,
-            tried: 0,
-            calls: 0,
         }
     }
 
     /// The present item, where one is left.
     pub fn item(&self) -> Option<&What>
-        ensures { IsSome result ↔ IsLeft self.now.course }
+        ensures { IsSome result ↔ (length self.now.ended < self.now.count) }
     {
         self.items.get(self.ended.len())
     }
 
     /// Whether no item is left.
     pub fn has_ended(&self) -> bool
-        ensures ended { IsTrue result → length self.now.course.ended ≡ self.now.course.count }
-        ensures left { IsTrue (not result) → IsLeft self.now.course }
+        ensures ended { IsTrue result → length self.now.ended ≡ self.now.count }
+        ensures left { IsTrue (not result) → IsLeft self.now }
     {
         self.ended.len() >= self.items.len()
     }
 
     /// Who the present item is, where one is left.
     fn who(&self) -> Who
-        ensures { IsLeft self.now.course → result ≡ who_behind self.now.course.client (length self.now.course.ended) }
+        ensures { length self.now.ended < self.now.count → result ≡ who_behind self.now.client (length self.now.ended) }
     {
         let before = self.ended.len() as u32;
         Who {
@@ -97,62 +89,48 @@ impl Progress {
         }
     }
 
-    /// What the client is to do. The k-th upgrade of the script gets the number of the opened store's
-    /// epoch plus k.
-    pub fn task(&self, opened: &Opened) -> Task<'_>
-        ensures { result.tries ≡ self.now.each }
+    /// What the client is to do, where an item has so many tries. The k-th upgrade of the script gets the
+    /// number of the opened store's epoch plus k.
+    pub fn task(&self, opened: &Opened, tries: u32) -> Task<'_>
+        ensures { result.tries ≡ tries }
     {
         Task {
             who: self.who(),
             what: self.item(),
             number: opened.epoch.saturating_add(self.upgrades).saturating_add(1),
-            tries: self.tries,
+            tries,
         }
     }
 
     /// How the items ended so far, which is in their order.
     pub fn ended(&self) -> &[Ended]
-        ensures value { result.now ≡ self.now.course.ended }
-        ensures order { IsInOrder self.now.course }
+        ensures value { result.now ≡ self.now.ended }
+        ensures order { IsInOrder self.now }
     {
         self.ended.as_slice()
     }
 
     /// The outcomes, and the items.
     pub fn close(self) -> (Ends, Items)
-        ensures { result.0 ≡ self.course.ended }
+        ensures { result.0 ≡ self.ended }
     {
         let Progress { items, ended, .. } = self;
         (ended, items)
     }
 
-    /// Counts a call, where one may still be made.
-    pub fn count_call(&mut self) -> bool
-        ensures course { self.new.course ≡ self.old.course }
-        ensures each { self.new.each ≡ self.old.each }
-        ensures counted { IsTrue result → CountsDown self.old self.new }
-        ensures none { IsTrue (not result) → self.new ≡ self.old }
-    {
-        if self.calls == u32::MAX {
-            return false;
-        }
-        self.calls += 1;
-        true
-    }
-
     /// Takes down what a step has come to. After `NoMemory` nothing has ended.
-    pub fn take_down(&mut self, news: News) -> Result<(), NoMemory>
-        ensures goes { Goes self.old.course self.new.course }
-        ensures each { self.new.each ≡ self.old.each }
-        ensures left { OnOk result (NeverRises self.old self.new) }
-        ensures tried { ends_try news ≡ true → IsLeft self.old.course → OnOk result (CountsDown self.old self.new) }
+    pub fn take_down(&mut self, attempts: &mut Attempts, news: News) -> Result<(), NoMemory>
+        ensures goes { Goes self.old self.new }
+        ensures each { attempts.new.each ≡ attempts.old.each }
+        ensures left { OnOk result (NeverRises (record { course = self.old; attempts = attempts.old }) (record { course = self.new; attempts = attempts.new })) }
+        ensures tried { ends_try news ≡ true → IsLeft self.old → OnOk result (CountsDown (record { course = self.old; attempts = attempts.old }) (record { course = self.new; attempts = attempts.new })) }
     {
         match news {
             News::Nothing => Ok(()),
-            News::TryEnded { cause } => self.end_try(cause),
+            News::TryEnded { cause } => self.end_try(attempts, cause),
             News::Ended { outcome } => {
-                let tries = self.tried.saturating_add(1);
-                self.end_item(tries, outcome)
+                let tries = attempts.tried.saturating_add(1);
+                self.end_item(attempts, tries, outcome)
             }
             News::Settled { settled } => {
                 self.settle(settled);
@@ -163,36 +141,42 @@ impl Progress {
 
     /// A try of the present item has ended without a commit. Behind the last one the item is Refused.
     /// Nothing changes where no item is left.
-    fn end_try(&mut self, cause: Cause) -> Result<(), NoMemory>
-        ensures goes { Goes self.old.course self.new.course }
-        ensures each { self.new.each ≡ self.old.each }
-        ensures left { OnOk result (NeverRises self.old self.new) }
-        ensures tried { IsLeft self.old.course → OnOk result (CountsDown self.old self.new) }
+    fn end_try(&mut self, attempts: &mut Attempts, cause: Cause) -> Result<(), NoMemory>
+        ensures goes { Goes self.old self.new }
+        ensures each { attempts.new.each ≡ attempts.old.each }
+        ensures left { OnOk result (NeverRises (record { course = self.old; attempts = attempts.old }) (record { course = self.new; attempts = attempts.new })) }
+        ensures tried { IsLeft self.old → OnOk result (CountsDown (record { course = self.old; attempts = attempts.old }) (record { course = self.new; attempts = attempts.new })) }
     {
-        if self.has_ended() || self.begin_next_try() {
+        if self.has_ended() {
             return Ok(());
         }
-        let tries = self.tried;
-        self.end_item(tries, ItemOutcome::Refused { cause })
+        self.end_left_try(attempts, cause)
     }
 
-    /// The present item's next try may begin, where it has one left. No call of it is counted.
-    fn begin_next_try(&mut self) -> bool
-        ensures course { self.new.course ≡ self.old.course }
-        ensures each { self.new.each ≡ self.old.each }
-        ensures tried { IsTrue result → CountsDown self.old self.new }
+    /// A try has ended of an item that is left.
+    fn end_left_try(&mut self, attempts: &mut Attempts, cause: Cause) -> Result<(), NoMemory>
+        ensures goes { Goes self.old self.new }
+        ensures each { attempts.new.each ≡ attempts.old.each }
+        ensures tried { IsLeft self.old → OnOk result (CountsDown (record { course = self.old; attempts = attempts.old }) (record { course = self.new; attempts = attempts.new })) }
     {
-        self.calls = 0;
-        self.tried = self.tried.saturating_add(1);
-        self.tried < self.tries
+        if attempts.begin_next_try() {
+            return Ok(());
+        }
+        let tries = attempts.tried;
+        self.end_item(attempts, tries, ItemOutcome::Refused { cause })
     }
 
     /// The present item has ended, in the try with this number. Nothing ends where no item is left.
-    fn end_item(&mut self, tries: u32, outcome: ItemOutcome) -> Result<(), NoMemory>
-        ensures goes { (self.new.course ≡ self.old.course) ⊎ Ends self.old.course self.new.course }
-        ensures each { self.new.each ≡ self.old.each }
-        ensures left { OnOk result ((self.new ≡ self.old) ⊎ Ends self.old.course self.new.course) }
-        ensures ended { IsLeft self.old.course → OnOk result (Ends self.old.course self.new.course) }
+    fn end_item(
+        &mut self,
+        attempts: &mut Attempts,
+        tries: u32,
+        outcome: ItemOutcome,
+    ) -> Result<(), NoMemory>
+        ensures goes { (self.new ≡ self.old) ⊎ Ends self.old self.new }
+        ensures each { attempts.new.each ≡ attempts.old.each }
+        ensures left { OnOk result (((self.new ≡ self.old) × (attempts.new ≡ attempts.old)) ⊎ Ends self.old self.new) }
+        ensures ended { IsLeft self.old → OnOk result (Ends self.old self.new) }
     {
         let who = self.who();
         let upgrades = match self.item() {
@@ -206,16 +190,13 @@ impl Progress {
             outcome,
         })?;
         self.upgrades = upgrades;
-        self.tried = 0;
-        self.calls = 0;
+        attempts.begin_next_item();
         Ok(())
     }
 
     /// An item that was Unknown has ended, in the try that was sent.
     fn settle(&mut self, settled: Settled)
-        ensures learns { Learns self.old.course self.new.course }
-        ensures each { self.new.each ≡ self.old.each }
-        ensures left { NeverRises self.old self.new }
+        ensures { Learns self.old self.new }
     {
         let Settled { index, ts, outcome } = settled;
         if index == 0 {
