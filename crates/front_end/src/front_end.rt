@@ -31,10 +31,11 @@ impl Drop for FrontEnd {
         let FrontEnd {
             client,
             progress,
-            ..
+            attempts,
         } = self;
         drop(client);
         drop(progress);
+        let _ = attempts;
     }
 }
 
@@ -241,9 +242,10 @@ impl FrontEnd {
         let FrontEnd {
             client,
             progress,
-            ..
+            attempts,
         } = self;
         drop(client);
+        let _ = attempts;
         progress.close()
     }
 }
