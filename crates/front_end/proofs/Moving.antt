@@ -26,6 +26,12 @@ pub keeps_behind : (old new : FrontEnd) (client : Client) → NeverRises (standi
     → Keeps (left_of old) (left_of new)
 keeps_behind old new client never each same less = subst (λ (m : ℕ). Keeps (left_of old) (left_by (standing_of new) m)) (sym (ap (λ (e : ℕ). uncounted e new.client) each ∙ same old.attempts.each)) (nothing_rises (standing_of old) (standing_of new) (uncounted old.attempts.each old.client) (uncounted old.attempts.each client) never (less old.attempts.each))
 
+-- What isn't counted has fallen by a client's function, and what was taken down behind it never rises.
+pub falls_behind : (old new : FrontEnd) (client : Client) (tries : ℕ) → NeverRises (standing_of old) (standing_of new) → new.attempts.each ≡ old.attempts.each
+    → ((n : ℕ) → uncounted n new.client ≡ uncounted n client) → tries ≡ old.attempts.each → uncounted tries client < uncounted tries old.client
+    → Falls (left_of old) (left_of new)
+falls_behind old new client tries never each same is less = subst (λ (m : ℕ). Falls (left_of old) (left_by (standing_of new) m)) (sym (ap (λ (e : ℕ). uncounted e new.client) each ∙ same old.attempts.each)) (uncounted_falls (standing_of old) (standing_of new) (uncounted old.attempts.each old.client) (uncounted old.attempts.each client) never (subst (λ (e : ℕ). uncounted e client < uncounted e old.client) is less))
+
 -- a client of which what it holds has changed alone owes as much
 pub nothing_owed : (old new : Client) → new ≡ record old { held = new.held } → (n : ℕ) → uncounted n new ≤ uncounted n old
 nothing_owed old new same n = le_of_eq (ap (λ (c : Client). uncounted n c) same)
