@@ -1,5 +1,5 @@
 -- What falls comes to an end.
-use Rattle.client_laws.specs.Falling.{Falls, Left}
+use Rattle.item_progress.specs.Falling.{Falls, Left}
 use Rattle.std.proofs.Common.{arith, inl, inr, refl, subst, suc, sym, zero, ◌+◌, ◌<◌, ◌≡◌, ℕ}
 
 -- what holds as soon as it holds of all below holds of all

@@ -1,5 +1,4 @@
 pub mod Examples
-pub mod Falling
 pub mod Fitting
 pub mod Links
 pub mod Seen

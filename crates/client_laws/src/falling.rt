@@ -1,7 +1,8 @@
 //! That a client comes to an end, where something falls at each of its steps.
 
-ghost use Rattle.client_laws.specs.Falling.{Falls, Left, calls_of, calls_of_all};
+ghost use Rattle.client_state.specs.Owing.{calls_of, calls_of_all};
 ghost use Rattle.client_state.specs.declared.duties.Duty.TheVariants.{Finish, Forget};
+ghost use Rattle.item_progress.specs.Falling.{Falls, Left};
 ghost use Rattle.message_outbox.specs.declared.answers.Verdict.{Verdict};
 ghost use Rattle.std.specs.Prelude.{Bool, [], true, ℕ, ◌+◌, ◌∷◌, ◌≡◌};
 ghost use Rattle.thor_value.specs.declared.names.Ts.{Ts};

@@ -2,4 +2,5 @@ pub mod Calling
 pub mod Causes
 pub mod Learning
 pub mod Links
+pub mod Owing
 pub mod Taking

@@ -1,5 +1,9 @@
 //! How far a try has come.
 
+ghost use Rattle.client_state.specs.Owing.{asking_in, calls_in, calls_of_abort};
+ghost use Rattle.client_state.specs.declared.phase.Phase.TheVariants as phase;
+ghost use Rattle.std.specs.Prelude.{IfSome, ℕ, ◌≡◌, ◌≤◌};
+
 use crate::duties::Abort;
 use crate::link::Link;
 use crate::transaction::{Sent, Transaction};
@@ -61,7 +65,9 @@ fn awaited_by(stage: &Stage) -> Option<Oref> {
 
 impl Phase {
     /// What its coordinator has prepared, where that is so: it is to be aborted.
-    pub fn into_abort(self) -> Option<Abort> {
+    pub fn into_abort(self) -> Option<Abort>
+        ensures { (tries : ℕ) → calls_of_abort result ≤ calls_in tries self }
+    {
         match self {
             Phase::Preparing {
                 ts,
@@ -84,7 +90,10 @@ impl Phase {
     }
 
     /// What was sent, and how many answers had no verdict, where its verdict is asked for.
-    pub fn into_asking(self) -> Option<(Sent, u32)> {
+    pub fn into_asking(self) -> Option<(Sent, u32)>
+        ensures asked { result ≡ asking_in self }
+        ensures calls { IfSome result (λ asking. (tries : ℕ) → calls_in tries self ≡ calls_in tries (phase.Asking asking.0 asking.1)) }
+    {
         match self {
             Phase::Asking { sent, answers } => Some((sent, answers)),
             phase => {

@@ -1,5 +1,7 @@
 //! A transaction that a try has made, and what is sent of it.
 
+ghost use Rattle.std.specs.Prelude.{IfOk, length, ◌≤◌};
+
 use crate::link::Link;
 use item_progress::Meaning;
 use message_outbox::At;
@@ -166,7 +168,9 @@ impl Sent {
     }
 
     /// The participants other than the coordinator, rising.
-    pub fn others(&self) -> Result<Repos, NoMemory> {
+    pub fn others(&self) -> Result<Repos, NoMemory>
+        ensures { IfOk result (λ others. length others ≤ length self.now.participants) }
+    {
         others_of(&self.participants, self.coordinator())
     }
 }
@@ -190,7 +194,9 @@ fn first_of(participants: &Repos) -> u8 {
     }
 }
 
-fn others_of(participants: &Repos, repo: u8) -> Result<Repos, NoMemory> {
+fn others_of(participants: &Repos, repo: u8) -> Result<Repos, NoMemory>
+    ensures { IfOk result (λ others. length others ≤ length participants.now) }
+{
     let mut others = Sequence::new(participants.allocator());
     for other in participants.as_slice() {
         if *other != repo {

@@ -1,6 +1,9 @@
 //! Before the rules: a transaction that its coordinator has prepared and whose try has ended is aborted
 //! there.
 
+ghost use Rattle.front_end.specs.Moving.{uncounted};
+ghost use Rattle.std.specs.Prelude.{OnOk, length, ℕ, ◌+◌, ◌≤◌};
+
 use crate::client::Client;
 use client_state::Abort;
 use port::Port;
@@ -11,7 +14,9 @@ use validation_window::Refusal;
 impl Client {
     /// Has the coordinator abort. Where it answers, the participants are to be told; where it refuses,
     /// nothing is handed on.
-    pub fn abort<Q: Port>(&mut self, port: &mut Q, abort: Abort) -> Result<(), NoMemory> {
+    pub fn abort<Q: Port>(&mut self, port: &mut Q, abort: Abort) -> Result<(), NoMemory>
+        ensures { OnOk result ((tries : ℕ) → uncounted tries self.new ≤ uncounted tries self.old + (length abort.prepared + 1)) }
+    {
         let Abort {
             coordinator,
             ts,

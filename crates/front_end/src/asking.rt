@@ -1,5 +1,10 @@
 //! The fourth rule: the client asks for its own transaction, which was sent to be decided.
 
+ghost use Rattle.client_state.specs.Owing.{asking_in, calls_in};
+ghost use Rattle.client_state.specs.declared.phase.Phase.TheVariants as phase;
+ghost use Rattle.front_end.specs.Moving.{uncounted};
+ghost use Rattle.std.specs.Prelude.{IsSome, OnOk, length, ℕ, ◌+◌, ◌<◌, ◌≡◌, ◌≤◌};
+
 use crate::client::Client;
 use client_state::{Link, Phase, Sent};
 use item_progress::{News, Opened, Task};
@@ -16,7 +21,9 @@ impl Client {
         port: &mut Q,
         opened: &Opened,
         task: Task<'_>,
-    ) -> Result<News, NoMemory> {
+    ) -> Result<News, NoMemory>
+        ensures { IsSome (asking_in self.old.phase) → OnOk result (uncounted task.entry.tries self.new < uncounted task.entry.tries self.old) }
+    {
         match self.take_phase().into_asking() {
             Some((sent, answers)) => self.ask_coordinator(port, opened, task, sent, answers),
             None => Ok(News::Nothing),
@@ -30,7 +37,9 @@ impl Client {
         task: Task<'_>,
         sent: Sent,
         answers: u32,
-    ) -> Result<News, NoMemory> {
+    ) -> Result<News, NoMemory>
+        ensures { OnOk result (uncounted task.entry.tries self.new < uncounted task.entry.tries self.old + calls_in task.entry.tries (phase.Asking sent answers)) }
+    {
         match port.ask(sent.coordinator(), sent.ts) {
             Ok(Asked::Settled(verdict)) => self.learn_own(opened, sent, verdict),
             Err(Refusal::NoMemory) => Err(NoMemory),
@@ -46,7 +55,9 @@ impl Client {
         opened: &Opened,
         sent: Sent,
         verdict: Verdict,
-    ) -> Result<News, NoMemory> {
+    ) -> Result<News, NoMemory>
+        ensures { OnOk result ((tries : ℕ) → uncounted tries self.new ≤ uncounted tries self.old + (length sent.participants + 1)) }
+    {
         let coordinator = sent.coordinator();
         self.duties.hand_on(verdict, sent.others()?)?;
         if verdict.commit() {
@@ -56,7 +67,9 @@ impl Client {
     }
 
     /// An answer had no verdict. Behind as many as there are tries, the item is held as Unknown.
-    fn ask_again(&mut self, task: Task<'_>, sent: Sent, answers: u32) -> News {
+    fn ask_again(&mut self, task: Task<'_>, sent: Sent, answers: u32) -> News
+        ensures { (before : ℕ) → (answers < task.entry.tries → before < answers) → uncounted task.entry.tries self.new < uncounted task.entry.tries self.old + calls_in task.entry.tries (phase.Asking sent before) }
+    {
         if answers < task.tries {
             self.set_phase(Phase::Asking { sent, answers });
             return News::Nothing;
@@ -66,7 +79,9 @@ impl Client {
 
     /// The client goes on without the verdict. It leaves every participant, so that what may still be
     /// committed there comes from another session.
-    fn hold_as_unknown(&mut self, task: Task<'_>, sent: Sent) -> News {
+    fn hold_as_unknown(&mut self, task: Task<'_>, sent: Sent) -> News
+        ensures { self.new ≡ record self.old { held = self.new.held } }
+    {
         for repo in sent.participants.as_slice() {
             self.held.leave(*repo);
         }

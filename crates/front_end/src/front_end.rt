@@ -1,39 +1,41 @@
 //! A client of repositories, which goes on by steps.
 
-ghost use Rattle.item_progress.specs.Courses.{Goes, IsInOrder};
+ghost use Rattle.client_state.specs.Owing.{asking_in};
+ghost use Rattle.front_end.specs.Moving.{GoesOn, Keeps, MovesOn, course_of, left_of, standing_of, uncounted};
 ghost use Rattle.front_end.specs.declared.front_end.Step.TheVariants as step;
-ghost use Rattle.std.specs.Prelude.{◌≡◌, ◌<◌, ◌^◌, [], IfOk, length, Ok};
+ghost use Rattle.item_progress.specs.Courses.{Goes, IsInOrder};
+ghost use Rattle.item_progress.specs.Ending.{ends_try};
+ghost use Rattle.item_progress.specs.Falling.{CountsDown, Falls, IsLeft, NeverRises};
+ghost use Rattle.std.specs.Prelude.{◌≡◌, ◌<◌, ◌^◌, [], IfOk, IsSome, IsTrue, OnOk, length, not, Ok, true, ℕ};
 
 use crate::client::Client;
-use crate::rule::Rule;
+use crate::rule::{Counted, Rule};
 use client_state::REPOSITORIES;
-use item_progress::{Items, News, Opened, Progress};
+use item_progress::{Attempts, Items, News, Opened, Progress};
+use message_outbox::At;
 use port::Port;
 use serial_model::{Cause, Ended, Ends};
 use std::alloc::Global;
-use std::marker::Model;
 use thor_value::NoMemory;
 
-/// A client of repositories, which contracts see as the number of its items and how those ended that
-/// have. It runs them one after the other.
+/// A client of repositories: what it holds and owes, how far it has come in its items, and in the tries of the
+/// present one. It runs them one after the other.
 pub struct FrontEnd {
     client: Client,
     progress: Progress,
-}
-
-impl Model for FrontEnd {
-    ghost use Rattle.item_progress.specs.Courses.{Course};
-
-    ghost Value = { Course };
-
-    ghost view = { λ f. f.progress };
+    attempts: Attempts,
 }
 
 impl Drop for FrontEnd {
     fn drop(self) {
-        let FrontEnd { client, progress } = self;
+        let FrontEnd {
+            client,
+            progress,
+            attempts,
+        } = self;
         drop(client);
         drop(progress);
+        let _ = attempts;
     }
 }
 
@@ -58,135 +60,224 @@ impl FrontEnd {
     ) -> Result<FrontEnd, NoMemory>
         requires items { length items < 2 ^ 32 }
         requires cache { 0 < cache }
-        ensures { IfOk result (λ made. made ≡ record { client = client; count = length items; ended = [] }) }
+        ensures { IfOk result (λ made. course_of made ≡ record { client = client; count = length items; ended = [] }) }
     {
         Ok(FrontEnd {
             client: Client::new(alloc, client, cache)?,
-            progress: Progress::new(alloc, client, items, tries),
+            progress: Progress::new(alloc, client, items),
+            attempts: Attempts::new(tries),
         })
     }
 
     /// Takes one step: it makes the call that is next, where an item is left. At most one item ends by
-    /// it: the next one, or one whose outcome was Unknown.
+    /// it: the next one, or one whose outcome was Unknown. What is left for the client to do falls.
     ///
     /// An item has ended where its outcome stands and no verdict on the client's transactions is left to
     /// hand on. After `NoMemory` the repositories stand as after their events, and the client isn't used
     /// any more.
     pub fn step<Q: Port>(&mut self, port: &mut Q, opened: &Opened) -> Result<Step, NoMemory>
-        ensures goes { Goes self.old self.new }
-        ensures ended { result ≡ Ok step.Ended → (self.new ≡ self.old) × (length self.old.ended ≡ self.old.count) }
+        ensures goes { Goes (course_of self.old) (course_of self.new) }
+        ensures ended { result ≡ Ok step.Ended → (self.new ≡ self.old) × (length (course_of self.old).ended ≡ (course_of self.old).count) }
+        ensures falls { result ≡ Ok step.Moved → Falls (left_of self.old) (left_of self.new) }
     {
-        if self.progress.has_ended() && !self.client.duties.owes_verdicts() {
+        if self.has_ended() {
             return Ok(Step::Ended);
         }
-        let news = match self.client.duties.abort.take() {
-            Some(abort) => {
-                self.client.abort(port, abort)?;
-                News::Nothing
-            }
-            None => self.follow(port, opened)?,
-        };
-        self.take_down(news)?;
+        self.move_on(port, opened)?;
         Ok(Step::Moved)
     }
 
-    /// Takes down what a step has come to.
+    /// Whether every item has ended, and no verdict is left to hand on.
+    fn has_ended(&self) -> bool
+        ensures ended { IsTrue result → length (course_of self.now).ended ≡ (course_of self.now).count }
+        ensures left { IsTrue (not result) → MovesOn self.now }
+    {
+        self.progress.has_ended() && !self.client.duties.owes_verdicts()
+    }
+
+    /// What is to be aborted is aborted, or the rule that is next is followed.
+    #[tactic(auto, using(crate::proofs::Moving::same_standing_falls))]
+    fn move_on<Q: Port>(&mut self, port: &mut Q, opened: &Opened) -> Result<(), NoMemory>
+        ensures goes { Goes (course_of self.old) (course_of self.new) }
+        ensures falls { MovesOn self.old → OnOk result (Falls (left_of self.old) (left_of self.new)) }
+    {
+        match self.client.duties.abort.take() {
+            Some(abort) => self.client.abort(port, abort),
+            None => self.follow(port, opened),
+        }
+    }
+
+    /// Follows the rule that is next.
+    #[tactic(auto, using(crate::proofs::Moving::same_standing_falls))]
+    fn follow<Q: Port>(&mut self, port: &mut Q, opened: &Opened) -> Result<(), NoMemory>
+        ensures goes { Goes (course_of self.old) (course_of self.new) }
+        ensures falls { GoesOn self.old → OnOk result (Falls (left_of self.old) (left_of self.new)) }
+    {
+        match self.client.next_rule(opened) {
+            Rule::Counted { rule } => self.follow_counted(port, opened, rule),
+            Rule::Ask => self.ask(port, opened),
+            Rule::HandOn => self.client.hand_on(port),
+        }
+    }
+
+    /// Follows a rule whose calls are counted.
+    #[tactic(auto, using(item_progress::proofs::Falling::then_never_rises))]
+    fn follow_counted<Q: Port>(
+        &mut self,
+        port: &mut Q,
+        opened: &Opened,
+        rule: Counted,
+    ) -> Result<(), NoMemory>
+        ensures goes { Goes (course_of self.old) (course_of self.new) }
+        ensures falls { GoesOn self.old → OnOk result (Falls (left_of self.old) (left_of self.new)) }
+    {
+        if !self.count_call() {
+            return self.run_out_of_calls(port);
+        }
+        self.make_counted(port, opened, rule)
+    }
+
+    /// Counts a call, where one may still be made.
+    #[tactic(auto, using(item_progress::proofs::Falling::calls_fall))]
+    fn count_call(&mut self) -> bool
+        ensures each { self.new.attempts.each ≡ self.old.attempts.each }
+        ensures counted { IsTrue result → CountsDown (standing_of self.old) (standing_of self.new) }
+        ensures course { course_of self.new ≡ course_of self.old }
+        ensures none { IsTrue (not result) → self.new ≡ self.old }
+    {
+        self.attempts.count_call()
+    }
+
+    /// Makes the call of a rule whose calls are counted, and takes down what it has come to.
+    fn make_counted<Q: Port>(
+        &mut self,
+        port: &mut Q,
+        opened: &Opened,
+        rule: Counted,
+    ) -> Result<(), NoMemory>
+        ensures goes { Goes (course_of self.old) (course_of self.new) }
+        ensures each { self.new.attempts.each ≡ self.old.attempts.each }
+        ensures left { OnOk result (NeverRises (standing_of self.old) (standing_of self.new)) }
+    {
+        let task = self.progress.task(opened, self.attempts.each);
+        let news = self.client.follow(port, opened, task, rule)?;
+        self.take_down(news)
+    }
+
+    /// Asks for the verdict on the client's own transaction.
+    #[tactic(auto, using(item_progress::proofs::Falling::uncounted_falls))]
+    fn ask<Q: Port>(&mut self, port: &mut Q, opened: &Opened) -> Result<(), NoMemory>
+        ensures goes { Goes (course_of self.old) (course_of self.new) }
+        ensures falls { IsSome (asking_in self.old.client.phase) → OnOk result (Falls (left_of self.old) (left_of self.new)) }
+    {
+        let task = self.progress.task(opened, self.attempts.each);
+        let news = self.client.ask(port, opened, task)?;
+        self.take_down(news)
+    }
+
+    /// The calls of the try are used up: it ends. Where no item is left, what held a next try back is passed
+    /// over, and a verdict is handed on.
+    #[tactic(auto, using(crate::proofs::Moving::same_standing_falls))]
+    fn run_out_of_calls<Q: Port>(&mut self, port: &mut Q) -> Result<(), NoMemory>
+        ensures goes { Goes (course_of self.old) (course_of self.new) }
+        ensures falls { GoesOn self.old → OnOk result (Falls (left_of self.old) (left_of self.new)) }
+    {
+        if self.progress.has_ended() {
+            return self.client.hand_on(port);
+        }
+        let news = self.client.end_try(Cause::Calls);
+        self.take_down(news)
+    }
+
+    /// Takes down what a step has come to. Where it is the end of a try and no item is left, what held a next
+    /// try back is given up, since none begins.
     fn take_down(&mut self, news: News) -> Result<(), NoMemory>
-        ensures { Goes self.old self.new }
+        ensures goes { Goes (course_of self.old) (course_of self.new) }
+        ensures each { self.new.attempts.each ≡ self.old.attempts.each }
+        ensures left { OnOk result (NeverRises (standing_of self.old) (standing_of self.new)) }
+        ensures tried { ends_try news ≡ true → IsLeft (course_of self.old) → OnOk result (CountsDown (standing_of self.old) (standing_of self.new)) }
+        ensures uncounted { (tries : ℕ) → uncounted tries self.new.client ≡ uncounted tries self.old.client }
     {
-        match news {
-            News::TryEnded { cause } => self.end_try(cause),
-            news => self.progress.take_down(news),
-        }
+        self.stop_waiting_behind(&news);
+        self.progress.take_down(&mut self.attempts, news)
     }
 
-    /// A try has ended without a commit. Where no item is left, what held a next try back is given up, since
-    /// none begins.
-    fn end_try(&mut self, cause: Cause) -> Result<(), NoMemory>
-        ensures { Goes self.old self.new }
+    /// What held a next try back is given up, where a try has ended and no item is left.
+    fn stop_waiting_behind(&mut self, news: &News)
+        ensures rest { self.new ≡ record self.old { client = self.new.client } }
+        ensures uncounted { (tries : ℕ) → uncounted tries self.new.client ≡ uncounted tries self.old.client }
     {
-        if self.progress.has_ended() {
+        if news.ends_try() && self.progress.has_ended() {
             self.client.stop_waiting();
-            return Ok(());
         }
-        self.progress.take_down(News::TryEnded { cause })
-    }
-
-    /// Follows the rule that is next. Where its call would be counted and none is left, the try ends.
-    fn follow<Q: Port>(&mut self, port: &mut Q, opened: &Opened) -> Result<News, NoMemory>
-        ensures { self.new ≡ self.old }
-    {
-        let rule = self.client.next_rule(opened);
-        if rule.is_counted() && !self.progress.count_call() {
-            return Ok(self.run_out_of_calls());
-        }
-        let task = self.progress.task(opened);
-        match rule {
-            Rule::Await { at } => self.client.await_reply(port, opened, at),
-            Rule::CatchUp { at } => self.client.catch_up(port, opened, at),
-            Rule::Help { helping } => self.client.help(port, opened, helping),
-            Rule::Ask => self.client.ask(port, opened, task),
-            Rule::HandOn => {
-                self.client.hand_on(port)?;
-                Ok(News::Nothing)
-            }
-            Rule::GoOn => self.client.go_on(port, opened, task),
-        }
-    }
-
-    /// The calls of the try are used up. Where no item is left, what held a next try back is given up.
-    fn run_out_of_calls(&mut self) -> News
-        ensures { self.new ≡ self.old }
-    {
-        if self.progress.has_ended() {
-            self.client.stop_waiting();
-            return News::Nothing;
-        }
-        self.client.end_try(Cause::Calls)
     }
 
     /// Takes one message of a repository, where there is a session. Nothing changes where none waits,
-    /// and where the repository is down.
+    /// and where the repository is down. What is left for the client to do doesn't rise.
     pub fn deliver<Q: Port>(
         &mut self,
         port: &mut Q,
         opened: &Opened,
         repo: u8,
     ) -> Result<(), NoMemory>
-        ensures { Goes self.old self.new }
+        ensures goes { Goes (course_of self.old) (course_of self.new) }
+        ensures keeps { OnOk result (Keeps (left_of self.old) (left_of self.new)) }
     {
         match self.client.held.at(repo) {
-            Some(at) => {
-                let news = self.client.receive_delivered(port, opened, at)?;
-                self.take_down(news)
-            }
+            Some(at) => self.receive(port, opened, at),
             None => Ok(()),
         }
     }
 
-    /// Asks once for each Unknown item.
-    pub fn last<Q: Port>(&mut self, port: &mut Q, opened: &Opened) -> Result<(), NoMemory> {
+    /// Takes one message of a session.
+    #[tactic(auto, using(item_progress::proofs::Falling::nothing_rises))]
+    fn receive<Q: Port>(&mut self, port: &mut Q, opened: &Opened, at: At) -> Result<(), NoMemory>
+        ensures goes { Goes (course_of self.old) (course_of self.new) }
+        ensures keeps { OnOk result (Keeps (left_of self.old) (left_of self.new)) }
+    {
+        let news = self.client.receive_delivered(port, opened, at)?;
+        self.take_down(news)
+    }
+
+    /// Asks once for each Unknown item. What is left for the client to do doesn't rise.
+    pub fn last<Q: Port>(&mut self, port: &mut Q, opened: &Opened) -> Result<(), NoMemory>
+        ensures { OnOk result (Keeps (left_of self.old) (left_of self.new)) }
+    {
         for repo in 0..REPOSITORIES {
-            let news = self.client.ask_last(port, opened, repo)?;
-            self.progress.take_down(news)?;
+            self.ask_last(port, opened, repo)?;
         }
         Ok(())
     }
 
+    /// Asks once for the Unknown item that a repository coordinates.
+    #[tactic(auto, using(item_progress::proofs::Falling::nothing_rises))]
+    fn ask_last<Q: Port>(&mut self, port: &mut Q, opened: &Opened, repo: u8) -> Result<(), NoMemory>
+        ensures goes { Goes (course_of self.old) (course_of self.new) }
+        ensures keeps { OnOk result (Keeps (left_of self.old) (left_of self.new)) }
+    {
+        let news = self.client.ask_last(port, opened, repo)?;
+        self.take_down(news)
+    }
+
     /// How the items ended so far: those of the first items, one each, in their order.
     pub fn outcomes(&self) -> &[Ended]
-        ensures value { result.now ≡ self.now.ended }
-        ensures order { IsInOrder self.now }
+        ensures value { result.now ≡ (course_of self.now).ended }
+        ensures order { IsInOrder (course_of self.now) }
     {
         self.progress.ended()
     }
 
     /// The outcomes, and the items.
     pub fn close(self) -> (Ends, Items)
-        ensures { result.0 ≡ self.ended }
+        ensures { result.0 ≡ (course_of self).ended }
     {
-        let FrontEnd { client, progress } = self;
+        let FrontEnd {
+            client,
+            progress,
+            attempts,
+        } = self;
         drop(client);
+        let _ = attempts;
         progress.close()
     }
 }

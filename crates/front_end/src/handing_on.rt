@@ -1,5 +1,9 @@
 //! The fifth rule: verdicts are handed on.
 
+ghost use Rattle.client_state.specs.Owing.{calls_of};
+ghost use Rattle.front_end.specs.Moving.{uncounted};
+ghost use Rattle.std.specs.Prelude.{OnOk, length, ℕ, ◌+◌, ◌<◌, ◌≡◌};
+
 use crate::client::Client;
 use client_state::Duty;
 use message_outbox::Verdict;
@@ -9,11 +13,20 @@ use validation_window::Refusal;
 
 impl Client {
     /// Hands on the oldest verdict to its next participant, or has the coordinator forget.
-    pub fn hand_on<Q: Port>(&mut self, port: &mut Q) -> Result<(), NoMemory> {
-        if self.duties.verdicts.is_empty() {
-            return Ok(());
+    pub fn hand_on<Q: Port>(&mut self, port: &mut Q) -> Result<(), NoMemory>
+        ensures { 0 < length self.old.duties.verdicts → OnOk result ((tries : ℕ) → uncounted tries self.new < uncounted tries self.old) }
+    {
+        match self.duties.take_first() {
+            Some(duty) => self.do_next(port, duty),
+            None => Ok(()),
         }
-        match self.duties.verdicts.remove(0) {
+    }
+
+    /// Makes the next call of a duty, and keeps what is to be done behind it.
+    fn do_next<Q: Port>(&mut self, port: &mut Q, duty: Duty) -> Result<(), NoMemory>
+        ensures { OnOk result ((tries : ℕ) → uncounted tries self.new < uncounted tries self.old + calls_of duty) }
+    {
+        match duty {
             Duty::Finish {
                 verdict,
                 to,
@@ -30,34 +43,24 @@ impl Client {
         verdict: Verdict,
         mut to: Repos,
         forgets: bool,
-    ) -> Result<(), NoMemory> {
+    ) -> Result<(), NoMemory>
+        ensures { OnOk result ((tries : ℕ) → uncounted tries self.new < uncounted tries self.old + (length to + 1)) }
+    {
         if to.is_empty() {
             return Ok(());
         }
         let repo = to.remove(0);
-        let told = match port.finish(repo, &verdict) {
-            Ok(_) => true,
-            Err(Refusal::NoMemory) => return Err(NoMemory),
-            Err(_) => false,
-        };
-        let forgets = forgets && told;
-        if !to.is_empty() {
-            return self.duties.verdicts.insert(
-                0,
-                Duty::Finish {
-                    verdict,
-                    to,
-                    forgets,
-                },
-            );
-        }
-        if forgets {
-            return self
-                .duties
-                .verdicts
-                .insert(0, Duty::Forget { ts: verdict.tx() });
-        }
-        Ok(())
+        let told = tell(port, repo, &verdict)?;
+        self.duties.keep_behind(verdict, to, forgets && told)
+    }
+}
+
+/// Tells a participant the verdict. It answers whether it has taken it.
+fn tell<Q: Port>(port: &mut Q, repo: u8, verdict: &Verdict) -> Result<bool, NoMemory> {
+    match port.finish(repo, verdict) {
+        Ok(_) => Ok(true),
+        Err(Refusal::NoMemory) => Err(NoMemory),
+        Err(_) => Ok(false),
     }
 }
 

@@ -1,5 +1,8 @@
 //! What a client does with the messages of a repository.
 
+ghost use Rattle.front_end.specs.Moving.{uncounted};
+ghost use Rattle.std.specs.Prelude.{OnOk, ℕ, ◌≤◌};
+
 use crate::client::Client;
 use client_state::cause_of;
 use item_progress::{News, Opened};
@@ -45,7 +48,9 @@ impl Client {
         port: &mut Q,
         opened: &Opened,
         at: At,
-    ) -> Result<News, NoMemory> {
+    ) -> Result<News, NoMemory>
+        ensures { OnOk result ((tries : ℕ) → uncounted tries self.new ≤ uncounted tries self.old) }
+    {
         match self.held.receive(port, at) {
             Ok(Some(message)) => self.take(opened, at.repo, message),
             Ok(None) => Ok(News::Nothing),
@@ -60,14 +65,18 @@ impl Client {
 
     /// The session was gone as a message was to be taken. A try that its coordinator has prepared goes on
     /// as it is; any other begins its evaluation anew.
-    fn lose_in_receive(&mut self, repo: u8, session: u32) {
+    fn lose_in_receive(&mut self, repo: u8, session: u32)
+        ensures { (tries : ℕ) → uncounted tries self.new ≤ uncounted tries self.old }
+    {
         self.held.lose(repo, session);
         if self.phase.runs_unprepared() {
             self.begin_anew();
         }
     }
 
-    fn take(&mut self, opened: &Opened, repo: u8, message: Message) -> Result<News, NoMemory> {
+    fn take(&mut self, opened: &Opened, repo: u8, message: Message) -> Result<News, NoMemory>
+        ensures { OnOk result ((tries : ℕ) → uncounted tries self.new ≤ uncounted tries self.old) }
+    {
         match message {
             Message::Page { page, bytes, .. } => self.take_page(repo, page, &bytes),
             Message::Grant { page, .. } => self.take_grant(repo, page),
@@ -77,7 +86,9 @@ impl Client {
     }
 
     /// A page has come. Where it lacks the object that is needed next, the try ends.
-    fn take_page(&mut self, repo: u8, page: u32, bytes: &Text) -> Result<News, NoMemory> {
+    fn take_page(&mut self, repo: u8, page: u32, bytes: &Text) -> Result<News, NoMemory>
+        ensures { OnOk result ((tries : ℕ) → uncounted tries self.new ≤ uncounted tries self.old) }
+    {
         self.held.place(repo, page, bytes)?;
         match self.phase.awaited() {
             Some(oref) if is_on(oref, repo, page) && !self.held.holds(oref) => {
@@ -88,7 +99,9 @@ impl Client {
     }
 
     /// An empty page has come, whose names may be given.
-    fn take_grant(&mut self, repo: u8, page: u32) -> Result<News, NoMemory> {
+    fn take_grant(&mut self, repo: u8, page: u32) -> Result<News, NoMemory>
+        ensures { OnOk result ((tries : ℕ) → uncounted tries self.new ≤ uncounted tries self.old) }
+    {
         let bytes = Page::empty(self.held.alloc, page)?.spell()?;
         self.held.place(repo, page, &bytes)?;
         if self.held.names.has_none_of(repo, page) {
@@ -98,7 +111,9 @@ impl Client {
     }
 
     /// Objects were written by others. A try that has read one of them ends.
-    fn take_invalid(&mut self, orefs: &Orefs, place: u64) -> News {
+    fn take_invalid(&mut self, orefs: &Orefs, place: u64) -> News
+        ensures { (tries : ℕ) → uncounted tries self.new ≤ uncounted tries self.old }
+    {
         self.held.drop_copies(orefs);
         match self.phase.first_read(orefs) {
             Some(oref) => self.end_try(Cause::Reason(Reason::Stale { oref, place })),
@@ -107,7 +122,9 @@ impl Client {
     }
 
     /// An upgrade was installed. Where it is the next one, a running try ends.
-    fn take_upgrade(&mut self, opened: &Opened, number: u32) -> News {
+    fn take_upgrade(&mut self, opened: &Opened, number: u32) -> News
+        ensures { (tries : ℕ) → uncounted tries self.new ≤ uncounted tries self.old }
+    {
         if self.held.learn_next_epoch(opened, number) && self.phase.runs() {
             return self.end_try(Cause::Reason(Reason::Epoch { n: number }));
         }

@@ -13,7 +13,9 @@ use validation_window::Refusal;
 
 impl Client {
     /// The present item has committed: what its try has changed is kept.
-    pub fn end_committed(&mut self, opened: &Opened, sent: Sent) -> News {
+    pub fn end_committed(&mut self, opened: &Opened, sent: Sent) -> News
+        ensures { self.new ≡ record self.old { held = self.new.held } }
+    {
         let Sent { ts, meaning, .. } = sent;
         self.held.keep();
         self.learn_commit(opened, ts, &meaning);
@@ -24,7 +26,9 @@ impl Client {
 
     /// A transaction of the client has committed. Where it is an upgrade, that is learnt. It answers
     /// whether the epoch rises.
-    fn learn_commit(&mut self, opened: &Opened, ts: Ts, meaning: &Meaning) -> bool {
+    fn learn_commit(&mut self, opened: &Opened, ts: Ts, meaning: &Meaning) -> bool
+        ensures { self.new ≡ record self.old { held = self.new.held } }
+    {
         self.held.raise_floor(ts);
         match meaning {
             Meaning::Upgrade { number, .. } => self.held.learn_epoch(opened, *number),
@@ -56,7 +60,8 @@ impl Client {
 
     /// What becomes of an Unknown item by the verdict: its transaction stands exactly where that commits.
     fn settle(&mut self, opened: &Opened, sent: Sent, index: u32, verdict: Verdict) -> Learnt
-        ensures { is_committed result.settled.outcome ≡ verdict.commit }
+        ensures stands { is_committed result.settled.outcome ≡ verdict.commit }
+        ensures rest { self.new ≡ record self.old { held = self.new.held } }
     {
         let repo = sent.coordinator();
         let Sent { ts, meaning, .. } = sent;
@@ -74,7 +79,9 @@ impl Client {
         port: &mut Q,
         opened: &Opened,
         repo: u8,
-    ) -> Result<News, NoMemory> {
+    ) -> Result<News, NoMemory>
+        ensures { self.new ≡ record self.old { held = self.new.held } }
+    {
         let (sent, index) = match self.held.take_link(repo) {
             Link::Unsettled { sent, index } => (sent, index),
             link => {

@@ -1,55 +1,90 @@
 //! Which rule a step follows.
 
+ghost use Rattle.client_state.specs.Owing.{asking_in};
+ghost use Rattle.front_end.specs.Rules.{asks, hands_on};
+ghost use Rattle.std.specs.Prelude.{IsSome, length, true, ◌<◌, ◌≡◌};
+
 use crate::client::Client;
 use client_state::{Helping, Phase};
-use item_progress::Opened;
+use item_progress::{News, Opened, Task};
 use message_outbox::At;
+use port::Port;
+use thor_value::NoMemory;
 
-/// The rule that a step follows. They are tried in this order.
+/// The rule that a step follows. They are tried in this order: the first three counted ones, the two that aren't
+/// counted, and the last counted one.
 #[derive(Clone, Copy)]
 pub enum Rule {
+    /// One whose calls are counted.
+    Counted { rule: Counted },
+    /// The client asks for its own transaction.
+    Ask,
+    /// A verdict is handed on.
+    HandOn,
+}
+
+/// A rule whose calls are counted.
+#[derive(Clone, Copy)]
+pub enum Counted {
     /// A reply is outstanding in this session: a message is taken.
     Await { at: At },
     /// A message of this session is taken, to catch up with the repository.
     CatchUp { at: At },
     /// Another's transaction is helped on.
     Help { helping: Helping },
-    /// The client asks for its own transaction.
-    Ask,
-    /// A verdict is handed on.
-    HandOn,
     /// The try goes on.
     GoOn,
 }
 
-impl Rule {
-    /// Whether its calls are counted.
-    pub fn is_counted(&self) -> bool {
-        match self {
-            Rule::Await { .. } | Rule::CatchUp { .. } | Rule::Help { .. } | Rule::GoOn => true,
-            Rule::Ask | Rule::HandOn => false,
-        }
-    }
-}
-
 impl Client {
     /// The rule that the next step follows.
-    pub fn next_rule(&self, opened: &Opened) -> Rule {
+    pub fn next_rule(&self, opened: &Opened) -> Rule
+        ensures asks { asks result ≡ true → IsSome (asking_in self.now.phase) }
+        ensures hands_on { hands_on result ≡ true → 0 < length self.now.duties.verdicts }
+    {
         if let Some(at) = self.held.awaited() {
-            return Rule::Await { at };
+            let rule = Counted::Await { at };
+            return Rule::Counted { rule };
         }
         if let Some(at) = self.held.behind(opened) {
-            return Rule::CatchUp { at };
+            let rule = Counted::CatchUp { at };
+            return Rule::Counted { rule };
         }
         if let Some(helping) = self.duties.helping {
-            return Rule::Help { helping };
+            let rule = Counted::Help { helping };
+            return Rule::Counted { rule };
         }
+        self.rule_behind()
+    }
+
+    /// The rule that is next where nothing holds a try back.
+    fn rule_behind(&self) -> Rule
+        ensures asks { asks result ≡ true → IsSome (asking_in self.now.phase) }
+        ensures hands_on { hands_on result ≡ true → 0 < length self.now.duties.verdicts }
+    {
         if let Phase::Asking { .. } = &self.phase {
             return Rule::Ask;
         }
         if !self.duties.verdicts.is_empty() {
             return Rule::HandOn;
         }
-        Rule::GoOn
+        let rule = Counted::GoOn;
+        Rule::Counted { rule }
+    }
+
+    /// Makes the call of a rule whose calls are counted.
+    pub fn follow<Q: Port>(
+        &mut self,
+        port: &mut Q,
+        opened: &Opened,
+        task: Task<'_>,
+        rule: Counted,
+    ) -> Result<News, NoMemory> {
+        match rule {
+            Counted::Await { at } => self.await_reply(port, opened, at),
+            Counted::CatchUp { at } => self.catch_up(port, opened, at),
+            Counted::Help { helping } => self.help(port, opened, helping),
+            Counted::GoOn => self.go_on(port, opened, task),
+        }
     }
 }

@@ -1,5 +1,10 @@
 //! How a try goes on behind a call, begins anew, and ends.
 
+ghost use Rattle.client_state.specs.declared.phase.Phase.TheVariants as phase;
+ghost use Rattle.front_end.specs.Moving.{uncounted};
+ghost use Rattle.item_progress.specs.declared.news.News.TheVariants as news;
+ghost use Rattle.std.specs.Prelude.{OnOk, ℕ, ◌≡◌, ◌≤◌};
+
 use crate::client::Client;
 use client_state::{Came, Helping, Phase, cause_of};
 use item_progress::{Learnt, News};
@@ -21,12 +26,17 @@ fn helping_behind(refusal: Refusal, refuser: u8) -> Option<Helping> {
 
 impl Client {
     /// Takes the phase out; no try runs then.
-    pub fn take_phase(&mut self) -> Phase {
+    pub fn take_phase(&mut self) -> Phase
+        ensures phase { result ≡ self.old.phase }
+        ensures rest { self.new ≡ record self.old { phase = phase.Between } }
+    {
         mem::replace(&mut self.phase, Phase::Between)
     }
 
     /// Puts a phase in the place of the one before.
-    pub fn set_phase(&mut self, phase: Phase) {
+    pub fn set_phase(&mut self, phase: Phase)
+        ensures { self.new ≡ record self.old { phase = phase } }
+    {
         drop(mem::replace(&mut self.phase, phase));
     }
 
@@ -54,23 +64,41 @@ impl Client {
     }
 
     /// The evaluation begins anew in the same try.
-    pub fn begin_anew(&mut self) {
+    pub fn begin_anew(&mut self)
+        ensures phase { self.new.phase ≡ phase.Beginning }
+        ensures duties { self.new.duties ≡ self.old.duties }
+    {
         self.held.undo();
         self.set_phase(Phase::Beginning);
     }
 
     /// The try that runs, or that would begin, ends. What its coordinator has prepared is to be
     /// aborted.
-    pub fn end_try(&mut self, cause: Cause) -> News {
-        if let Some(abort) = self.take_phase().into_abort() {
-            self.duties.note_abort(abort);
-        }
+    pub fn end_try(&mut self, cause: Cause) -> News
+        ensures news { result ≡ news.TryEnded cause }
+        ensures phase { self.new.phase ≡ phase.Between }
+        ensures left { (tries : ℕ) → uncounted tries self.new ≤ uncounted tries self.old }
+    {
+        self.end_phase();
         self.held.give_up();
         News::TryEnded { cause }
     }
 
+    /// No try runs any more. What its coordinator has prepared is to be aborted.
+    fn end_phase(&mut self)
+        ensures phase { self.new.phase ≡ phase.Between }
+        ensures left { (tries : ℕ) → uncounted tries self.new ≤ uncounted tries self.old }
+    {
+        match self.take_phase().into_abort() {
+            Some(abort) => self.duties.note_abort(abort),
+            None => {}
+        }
+    }
+
     /// A request was refused: the client learns from it, and the try ends.
-    pub fn end_refused(&mut self, repo: u8, refusal: Refusal) -> Result<News, NoMemory> {
+    pub fn end_refused(&mut self, repo: u8, refusal: Refusal) -> Result<News, NoMemory>
+        ensures { OnOk result (self.new.phase ≡ phase.Between) }
+    {
         let cause = cause_of(refusal, repo)?;
         self.held.learn(repo, refusal);
         if let Some(helping) = helping_behind(refusal, repo) {
@@ -80,7 +108,9 @@ impl Client {
     }
 
     /// What holds a next try back is given up, since none is left.
-    pub fn stop_waiting(&mut self) {
+    pub fn stop_waiting(&mut self)
+        ensures { (tries : ℕ) → uncounted tries self.new ≡ uncounted tries self.old }
+    {
         self.held.stop_waiting();
         self.duties.helping = None;
     }

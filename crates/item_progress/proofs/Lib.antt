@@ -1,3 +1,4 @@
+pub mod Falling
 mod Orders
 mod Places
 mod Settling

@@ -2,10 +2,10 @@
 use Rattle.item_progress.proofs.Places.{end_cases, end_length, set_cases}
 use Rattle.item_progress.specs.Courses.{Course, IsInOrder, who_behind}
 use Rattle.serial_model.specs.declared.outcomes.Ended.{Ended}
-use Rattle.std.proofs.Common.{List, [], ap, arith, inl, inr, length, refl, subst, suc, sym, zero, ℕ, ◌++◌, ◌<◌, ◌≡◌, ◌∙◌, ◌∷◌}
+use Rattle.std.proofs.Common.{[], ap, arith, inl, inr, length, sym, ℕ, ◌++◌, ◌<◌, ◌≡◌, ◌∙◌, ◌∷◌}
 use Rattle.std.proofs.lemmas.List.{length-set}
 use Rattle.std.specs.List.{slice_get}
-use Rattle.std.specs.Prelude.{Option, Some, slice_set, ◌⊎◌, ◌≤◌}
+use Rattle.std.specs.Prelude.{Some, slice_set}
 
 -- the next item has ended
 pub one_more : (c : Course) (e : Ended) → IsInOrder c → length c.ended < c.count → e.who ≡ who_behind c.client (length c.ended)

@@ -1,8 +1,8 @@
 -- What stands at a place of a list that has grown, or of which one place is set.
-use Rattle.std.proofs.Common.{List, [], ap, arith, inl, inr, length, refl, suc, sym, zero, ℕ, ◌++◌, ◌<◌, ◌≡◌, ◌∷◌}
+use Rattle.std.proofs.Common.{List, [], ap, inl, inr, length, refl, suc, sym, zero, ℕ, ◌++◌, ◌≡◌, ◌∷◌}
 use Rattle.std.proofs.lemmas.Option.{same_Some}
 use Rattle.std.specs.List.{slice_get}
-use Rattle.std.specs.Prelude.{Option, Some, slice_set, ◌⊎◌}
+use Rattle.std.specs.Prelude.{Some, slice_set, ◌⊎◌}
 
 -- an element of a list with one more is of the list, or it is that one
 pub end_cases : {X : Type 0} (xs : List X) (y x : X) (k : ℕ) → slice_get (xs ++ y ∷ []) k ≡ Some x → (slice_get xs k ≡ Some x) ⊎ ((k ≡ length xs) × (x ≡ y))

@@ -1,5 +1,5 @@
 -- An item that was Unknown ends in its place.
-use Rattle.item_progress.specs.Courses.{Course, IsLateOutcome, Learns, Settles}
+use Rattle.item_progress.specs.Courses.{Course, IsLateOutcome, Learns}
 use Rattle.serial_model.specs.declared.outcomes.Ended.{Ended}
 use Rattle.serial_model.specs.declared.outcomes.ItemOutcome.{ItemOutcome}
 use Rattle.serial_model.specs.declared.outcomes.ItemOutcome.TheVariants.{Unknown}

@@ -1,11 +1,14 @@
 //! How far a client has come in its items, and how they end.
 #![tactic(auto)]
 
+mod attempts;
+mod ending;
 mod meaning;
 mod news;
 mod opened;
 mod progress;
 
+pub use attempts::Attempts;
 pub use meaning::Meaning;
 pub use news::{Learnt, News, Settled, Task};
 pub use opened::{Items, Opened};

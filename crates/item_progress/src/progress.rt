@@ -1,9 +1,12 @@
 //! How far a client has come in its items.
 
 ghost use Rattle.item_progress.specs.Courses.{Ends, Goes, IsInOrder, IsLateOutcome, Learns, who_behind};
+ghost use Rattle.item_progress.specs.Ending.{ends_try};
+ghost use Rattle.item_progress.specs.Falling.{CountsDown, IsLeft, NeverRises};
 ghost use Rattle.serial_model.specs.declared.outcomes.ItemOutcome.TheVariants as outcomes;
-ghost use Rattle.std.specs.Prelude.{◌≡◌, ◌+◌, ◌<◌, ◌^◌, ◌⊎◌, [], IsSome, IsTrue, length, ◌↔◌};
+ghost use Rattle.std.specs.Prelude.{◌≡◌, ◌+◌, ◌<◌, ◌^◌, ◌⊎◌, [], IsSome, IsTrue, OnOk, length, not, true, ◌↔◌};
 
+use crate::attempts::Attempts;
 use crate::news::{News, Settled, Task};
 use crate::opened::{Items, Opened};
 use serial_model::{Cause, Ended, Ends, ItemOutcome, What};
@@ -20,12 +23,6 @@ pub struct Progress {
     ended: Ends,
     /// How many of the items that ended are upgrades.
     upgrades: u32,
-    /// How many tries an item has.
-    tries: u32,
-    /// How many tries of the present item have ended.
-    tried: u32,
-    /// How many calls were counted since it began or its last try ended.
-    calls: u32,
 }
 
 impl Model for Progress {
@@ -54,7 +51,7 @@ fn is_unknown(outcome: &ItemOutcome, ts: Ts) -> bool
 
 impl Progress {
     /// No item has begun.
-    pub fn new(alloc: Global, client: u8, items: Items, tries: u32) -> Progress
+    pub fn new(alloc: Global, client: u8, items: Items) -> Progress
         requires { length items < 2 ^ 32 }
         ensures { result ≡ record { client = client; count = length items; ended = [] } }
     {
@@ -63,9 +60,6 @@ impl Progress {
             items,
             ended: Sequence::new(alloc),
             upgrades: 0,
-            tries,
-            tried: 0,
-            calls: 0,
         }
     }
 
@@ -78,7 +72,8 @@ impl Progress {
 
     /// Whether no item is left.
     pub fn has_ended(&self) -> bool
-        ensures { IsTrue result → length self.now.ended ≡ self.now.count }
+        ensures ended { IsTrue result → length self.now.ended ≡ self.now.count }
+        ensures left { IsTrue (not result) → IsLeft self.now }
     {
         self.ended.len() >= self.items.len()
     }
@@ -94,14 +89,16 @@ impl Progress {
         }
     }
 
-    /// What the client is to do. The k-th upgrade of the script gets the number of the opened store's
-    /// epoch plus k.
-    pub fn task(&self, opened: &Opened) -> Task<'_> {
+    /// What the client is to do, where an item has so many tries. The k-th upgrade of the script gets the
+    /// number of the opened store's epoch plus k.
+    pub fn task(&self, opened: &Opened, tries: u32) -> Task<'_>
+        ensures { result.tries ≡ tries }
+    {
         Task {
             who: self.who(),
             what: self.item(),
             number: opened.epoch.saturating_add(self.upgrades).saturating_add(1),
-            tries: self.tries,
+            tries,
         }
     }
 
@@ -121,27 +118,19 @@ impl Progress {
         (ended, items)
     }
 
-    /// Counts a call, where one may still be made.
-    pub fn count_call(&mut self) -> bool
-        ensures { self.new ≡ self.old }
-    {
-        if self.calls == u32::MAX {
-            return false;
-        }
-        self.calls += 1;
-        true
-    }
-
     /// Takes down what a step has come to. After `NoMemory` nothing has ended.
-    pub fn take_down(&mut self, news: News) -> Result<(), NoMemory>
-        ensures { Goes self.old self.new }
+    pub fn take_down(&mut self, attempts: &mut Attempts, news: News) -> Result<(), NoMemory>
+        ensures goes { Goes self.old self.new }
+        ensures each { attempts.new.each ≡ attempts.old.each }
+        ensures left { OnOk result (NeverRises (record { course = self.old; attempts = attempts.old }) (record { course = self.new; attempts = attempts.new })) }
+        ensures tried { ends_try news ≡ true → IsLeft self.old → OnOk result (CountsDown (record { course = self.old; attempts = attempts.old }) (record { course = self.new; attempts = attempts.new })) }
     {
         match news {
             News::Nothing => Ok(()),
-            News::TryEnded { cause } => self.end_try(cause),
+            News::TryEnded { cause } => self.end_try(attempts, cause),
             News::Ended { outcome } => {
-                let tries = self.tried.saturating_add(1);
-                self.end_item(tries, outcome)
+                let tries = attempts.tried.saturating_add(1);
+                self.end_item(attempts, tries, outcome)
             }
             News::Settled { settled } => {
                 self.settle(settled);
@@ -151,21 +140,43 @@ impl Progress {
     }
 
     /// A try of the present item has ended without a commit. Behind the last one the item is Refused.
-    fn end_try(&mut self, cause: Cause) -> Result<(), NoMemory>
-        ensures { Goes self.old self.new }
+    /// Nothing changes where no item is left.
+    fn end_try(&mut self, attempts: &mut Attempts, cause: Cause) -> Result<(), NoMemory>
+        ensures goes { Goes self.old self.new }
+        ensures each { attempts.new.each ≡ attempts.old.each }
+        ensures left { OnOk result (NeverRises (record { course = self.old; attempts = attempts.old }) (record { course = self.new; attempts = attempts.new })) }
+        ensures tried { IsLeft self.old → OnOk result (CountsDown (record { course = self.old; attempts = attempts.old }) (record { course = self.new; attempts = attempts.new })) }
     {
-        self.calls = 0;
-        self.tried = self.tried.saturating_add(1);
-        if self.tried < self.tries {
+        if self.has_ended() {
             return Ok(());
         }
-        let tries = self.tried;
-        self.end_item(tries, ItemOutcome::Refused { cause })
+        self.end_left_try(attempts, cause)
+    }
+
+    /// A try has ended of an item that is left.
+    fn end_left_try(&mut self, attempts: &mut Attempts, cause: Cause) -> Result<(), NoMemory>
+        ensures goes { Goes self.old self.new }
+        ensures each { attempts.new.each ≡ attempts.old.each }
+        ensures tried { IsLeft self.old → OnOk result (CountsDown (record { course = self.old; attempts = attempts.old }) (record { course = self.new; attempts = attempts.new })) }
+    {
+        if attempts.begin_next_try() {
+            return Ok(());
+        }
+        let tries = attempts.tried;
+        self.end_item(attempts, tries, ItemOutcome::Refused { cause })
     }
 
     /// The present item has ended, in the try with this number. Nothing ends where no item is left.
-    fn end_item(&mut self, tries: u32, outcome: ItemOutcome) -> Result<(), NoMemory>
-        ensures { (self.new ≡ self.old) ⊎ Ends self.old self.new }
+    fn end_item(
+        &mut self,
+        attempts: &mut Attempts,
+        tries: u32,
+        outcome: ItemOutcome,
+    ) -> Result<(), NoMemory>
+        ensures goes { (self.new ≡ self.old) ⊎ Ends self.old self.new }
+        ensures each { attempts.new.each ≡ attempts.old.each }
+        ensures left { OnOk result (((self.new ≡ self.old) × (attempts.new ≡ attempts.old)) ⊎ Ends self.old self.new) }
+        ensures ended { IsLeft self.old → OnOk result (Ends self.old self.new) }
     {
         let who = self.who();
         let upgrades = match self.item() {
@@ -179,8 +190,7 @@ impl Progress {
             outcome,
         })?;
         self.upgrades = upgrades;
-        self.tried = 0;
-        self.calls = 0;
+        attempts.begin_next_item();
         Ok(())
     }
 

@@ -1,0 +1,34 @@
+-- What is left for a client to do, which falls at each step by which it moves on (this project's).
+use Rattle.client_state.specs.Owing.{calls_in, owed}
+use Rattle.front_end.specs.declared.client.Client.{Client}
+use Rattle.front_end.specs.declared.front_end.FrontEnd.{FrontEnd}
+use Rattle.item_progress.specs.Courses.{Course}
+use Rattle.item_progress.specs.Falling.{Falls, IsLeft, Left, Standing, left_by}
+use Rattle.std.specs.Prelude.{None, length, ℕ, ◌+◌, ◌<◌, ◌≡◌, ◌⊎◌}
+
+-- how many calls a client may still make that aren't counted, where an item has so many tries
+abbrev pub uncounted : ℕ → Client → ℕ
+uncounted tries c = owed c.duties + calls_in tries c.phase
+
+-- how far it has come in its items
+abbrev pub course_of : FrontEnd → Course
+course_of f = f.progress
+
+abbrev pub standing_of : FrontEnd → Standing
+standing_of f = record { course = f.progress; attempts = f.attempts }
+
+-- what is left for it to do
+abbrev pub left_of : FrontEnd → Left
+left_of f = left_by (standing_of f) (uncounted f.attempts.each f.client)
+
+-- what is left stays as it is, or it falls
+abbrev pub Keeps : Left → Left → Type 0
+Keeps old new = (new ≡ old) ⊎ Falls old new
+
+-- an item is left, or a verdict is to be handed on
+abbrev pub GoesOn : FrontEnd → Type 0
+GoesOn f = IsLeft (course_of f) ⊎ (0 < length f.client.duties.verdicts)
+
+-- the same where what is to be aborted comes first
+abbrev pub MovesOn : FrontEnd → Type 0
+MovesOn f = f.client.duties.abort ≡ None → GoesOn f
