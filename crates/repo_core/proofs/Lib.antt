@@ -1,5 +1,6 @@
 pub mod Alike
 pub mod Begun
+pub mod Entered
 pub mod Falls
 pub mod Judged
 pub mod Letting

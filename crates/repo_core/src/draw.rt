@@ -1,12 +1,13 @@
 //! A client draws a timestamp.
 
-ghost use Rattle.std.specs.Prelude.{◌≡◌, ◌<◌, ◌^◌, IfErr, IfOk, None, OnOk, false, true};
+ghost use Rattle.std.specs.Prelude.{◌≡◌, ◌<◌, ◌^◌, IfErr, IfOk, IsErrOf, None, OnOk, false, true};
 ghost use Rattle.live_sessions.specs.Sessions.{is_live};
 ghost use Rattle.repo_core.specs.Behind.{Stands, is_marked, with_refusal};
 ghost use Rattle.session_outbox.specs.declared.mark.Mark.TheVariants.{Drew as Draws};
 ghost use Rattle.trace_record.specs.Recorded.{with_mark};
 ghost use Rattle.repo_core.specs.Refusing.{Leaves, StaysAsWas};
-ghost use Rattle.repo_core.specs.Calls.{DrawIsRefused};
+ghost use Rattle.repo_core.specs.Calls.{DrawIsRefused, WasAsked};
+ghost use Rattle.validation_window.specs.declared.refusal.Refusal.TheVariants.{ClockEnd as IsClockEnd, Gone as IsGone};
 
 use crate::repo::Repo;
 use disk_trait::Parts;
@@ -35,6 +36,8 @@ impl<P: Parts> Repo<P> {
         ensures why { IfErr result (λ r. is_marked r ≡ true → (self.old.is_up ≡ true) × DrawIsRefused self.old.memory session floor r) }
         ensures refused { IfErr result (λ r. self.new.trace ≡ with_refusal self.old.trace session None r) }
         ensures left { IfErr result (Leaves self.old self.new None) }
+        ensures asked { IsErrOf result IsClockEnd → WasAsked self.old self.new floor }
+        ensures unasked { IsErrOf result (IsGone session) → self.new.clock ≡ self.old.clock }
         ensures opened { self.new.opened_in ≡ self.old.opened_in }
     {
         self.check_up()?;
@@ -56,6 +59,8 @@ impl<P: Parts> Repo<P> {
         ensures marked { IfErr result (λ r. is_marked r ≡ true) }
         ensures why { IfErr result (DrawIsRefused self.old.memory session floor) }
         ensures rests { StaysAsWas self.old self.new }
+        ensures asked { IsErrOf result IsClockEnd → WasAsked self.old self.new floor }
+        ensures unasked { IsErrOf result (IsGone session) → self.new.clock ≡ self.old.clock }
         ensures opened { self.new.opened_in ≡ self.old.opened_in }
     {
         self.check_live(session)?;

@@ -2,6 +2,7 @@
 
 ghost use Rattle.std.specs.Prelude.{◌≡◌, ◌≢◌, ◌≤◌, IfOk, false, length, true};
 ghost use Rattle.held_state.specs.Keeps.{Keeps};
+ghost use Rattle.held_state.specs.Said.{said};
 ghost use Rattle.local_history.specs.History.{Base};
 ghost use Rattle.log_bytes.specs.declared.state.State.{State as AState};
 ghost use Rattle.repo_core.specs.Calls.{MayRequest};
@@ -28,6 +29,7 @@ pub fn open<P: Parts>(
     recovered: Recovered,
 ) -> Result<Repo<P>, OpenFault<P>>
     requires holds { (s : AState) × Holds (P.disks parts) recovered.log s }
+    requires said { Holds (P.disks parts) recovered.log (said recovered.state) }
     requires keeps { Keeps recovered.state }
     requires pages { AgreesWhere recovered.state.objects.pages }
     ensures { (b : Base) → IsBase b recovered.state → IfOk result (StandsRight b) }

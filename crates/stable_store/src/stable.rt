@@ -5,10 +5,12 @@ ghost use Rattle.std.specs.Prelude.{◌≡◌, ◌≤◌, IfErr, IfOk, IsTrue, N
 ghost use Rattle.disk_trait.specs.Disks.{Disks, SameDisks};
 ghost use Rattle.held_state.specs.Entering.{can_enter, entered};
 ghost use Rattle.held_state.specs.Keeps.{Keeps};
+ghost use Rattle.held_state.specs.Said.{said};
 ghost use Rattle.log_bytes.specs.Grammar.{BodyFits};
 ghost use Rattle.log_bytes.specs.declared.body.Body.TheVariants.{Entry as AnEntry};
-ghost use Rattle.stable_store.specs.Kept.{GoesOnUp, IsKept, IsOpen, RestsWith, StandsAfter, disks_of, down, down_with, held_of, is_fault, is_up, lowered, torn};
+ghost use Rattle.stable_store.specs.Kept.{GoesOnUp, IsKept, IsOpen, RestsWith, StandsAfter, disks_of, down, down_with, held_of, is_fault, is_up, lowered, parts_in, torn};
 ghost use Rattle.stable_store.specs.Flushes.{IsLastFlush};
+ghost use Rattle.stable_store.specs.Saying.{ImagesSay, IsAhead, IsSaid, LogSays};
 ghost use Rattle.stable_store.specs.declared.stable.Phase.TheVariants.{Torn as IsTorn, Up as IsUp};
 ghost use Rattle.thor_value.specs.FiniteMap.{get};
 ghost use Rattle.two_phase.specs.Contents.{keeps, without};
@@ -67,6 +69,7 @@ impl<P: Parts> Stable<P> {
         ensures kept { IsKept P.disks result }
         ensures up { is_up result ≡ true }
         ensures held { held_of result ≡ held }
+        ensures says { LogSays (P.disks parts) log (said held) → IsSaid P.disks result }
     {
         Stable {
             parts: Fused::new(parts),
@@ -99,6 +102,13 @@ impl<P: Parts> Stable<P> {
         self.held.repo()
     }
 
+    /// The parts, with the schedule's stop.
+    pub fn parts(&self) -> &Fused<P>
+        ensures { result.now ≡ parts_in self.now }
+    {
+        &self.parts
+    }
+
     /// The parts.
     pub fn into_parts(self) -> P {
         let Stable { parts, phase, held } = self;
@@ -113,6 +123,7 @@ impl<P: Parts> Stable<P> {
         ensures new { self.new ≡ down self.old }
         ensures rests { is_up self.old ≡ true → RestsWith None self.new }
         ensures kept { IsKept P.disks self.new }
+        ensures says { IsSaid P.disks self.old → IsSaid P.disks self.new }
     {
         if let Phase::Up { .. } = &self.phase {
             self.set_phase(Phase::Down { pending: None });
@@ -130,6 +141,7 @@ impl<P: Parts> Stable<P> {
     pub fn fail_with(&mut self, entry: Entry)
         ensures new { self.new ≡ torn self.old entry }
         ensures kept { IsKept P.disks self.new }
+        ensures says { IsSaid P.disks self.new }
     {
         self.set_phase(Phase::Torn { entry });
     }
@@ -141,6 +153,7 @@ impl<P: Parts> Stable<P> {
         requires kept { IsKept P.disks self.old }
         ensures new { self.new ≡ down_with self.old (Some entry) }
         ensures kept { IsKept P.disks self.new }
+        ensures says { IsAhead P.disks self.old entry → IsSaid P.disks self.new }
     {
         self.set_phase(Phase::Down {
             pending: Some(entry),
@@ -154,6 +167,7 @@ impl<P: Parts> Stable<P> {
         ensures held { held_of self.new ≡ held_of self.old }
         ensures up { is_up self.new ≡ cond (nat_eq calls 0) false (is_up self.old) }
         ensures phase { self.new.phase ≡ cond (nat_eq calls 0) (lowered self.old.phase) self.old.phase }
+        ensures says { IsSaid P.disks self.old → IsSaid P.disks self.new }
     {
         if calls == 0 {
             self.parts.disarm();
@@ -169,6 +183,7 @@ impl<P: Parts> Stable<P> {
         ensures kept { IsKept P.disks self.new }
         ensures held { held_of self.new ≡ held_of self.old }
         ensures phase { self.new.phase ≡ self.old.phase }
+        ensures says { IsSaid P.disks self.old → IsSaid P.disks self.new }
     {
         self.parts.disarm();
     }
@@ -181,6 +196,7 @@ impl<P: Parts> Stable<P> {
         ensures clock { (disks_of P.disks self.new).clock ≡ max (disks_of P.disks self.old).clock result }
         ensures held { held_of self.new ≡ held_of self.old }
         ensures phase { self.new.phase ≡ self.old.phase }
+        ensures says { IsSaid P.disks self.old → IsSaid P.disks self.new }
     {
         self.parts.now()
     }
@@ -215,6 +231,9 @@ impl<P: Parts> Stable<P> {
         ensures err { IfErr result (StandsAfter self.old self.new (Some entry)) }
         ensures rests { is_up self.old ≡ true → OnErr result (RestsWith (Some entry) self.new) }
         ensures held { held_of self.new ≡ held_of self.old }
+        ensures ahead { IsSaid P.disks self.old → OnOk result (IsAhead P.disks self.new entry) }
+        ensures says { IsSaid P.disks self.old → OnErr result (IsSaid P.disks self.new) }
+        ensures pages { (disks_of P.disks self.new).content 2 ≡ (disks_of P.disks self.old).content 2 }
     {
         let Some(mut log) = self.take_log() else {
             drop(entry);
@@ -247,6 +266,8 @@ impl<P: Parts> Stable<P> {
         ensures ok { OnOk result (held_of self.new ≡ entered (held_of self.old) entry) }
         ensures phase { OnOk result (self.new.phase ≡ self.old.phase) }
         ensures err { OnErr result (self.new.phase ≡ IsTorn entry) }
+        ensures says { IsAhead P.disks self.old entry → IsSaid P.disks self.new }
+        ensures parts { self.new.parts ≡ self.old.parts }
     {
         match self.held.enter(&entry) {
             Ok(()) => Ok(entry),
@@ -263,6 +284,7 @@ impl<P: Parts> Stable<P> {
         ensures kept { IsKept P.disks self.new }
         ensures held { held_of self.new ≡ record (held_of self.old) { table = cond (keeps (get (held_of self.old).table.transactions tx)) (without (held_of self.old).table tx) (held_of self.old).table } }
         ensures phase { self.new.phase ≡ self.old.phase }
+        ensures says { is_up self.old ≡ true → IsSaid P.disks self.old → IsSaid P.disks self.new }
     {
         self.held.forget(tx);
     }
@@ -274,6 +296,7 @@ impl<P: Parts> Stable<P> {
         ensures kept { IsKept P.disks self.new }
         ensures held { held_of self.new ≡ record (held_of self.old) { next_grant = max (held_of self.old).next_grant page } }
         ensures phase { self.new.phase ≡ self.old.phase }
+        ensures says { is_up self.old ≡ true → IsSaid P.disks self.old → IsSaid P.disks self.new }
     {
         self.held.grant_from(page);
     }
@@ -288,6 +311,7 @@ impl<P: Parts> Stable<P> {
         ensures rests { is_up self.old ≡ true → OnErr result (RestsWith None self.new) }
         ensures held { held_of self.new ≡ record (held_of self.old) { objects = (held_of self.new).objects } }
         ensures limit { (held_of self.new).objects.mob.limit ≡ (held_of self.old).objects.mob.limit }
+        ensures says { IsSaid P.disks self.old → IsSaid P.disks self.new }
     {
         let Some(log) = self.take_log() else {
             return Err(Refusal::Down { repo: self.repo() });
@@ -313,6 +337,7 @@ impl<P: Parts> Stable<P> {
         ensures rests { is_up self.old ≡ true → OnErr result (RestsWith None self.new) }
         ensures held { held_of self.new ≡ record (held_of self.old) { objects = (held_of self.new).objects } }
         ensures limit { (held_of self.new).objects.mob.limit ≡ (held_of self.old).objects.mob.limit }
+        ensures says { IsSaid P.disks self.old → IsSaid P.disks self.new }
     {
         let Some(mut log) = self.take_log() else {
             return Err(Refusal::Down { repo: self.repo() });
@@ -338,6 +363,8 @@ impl<P: Parts> Stable<P> {
         ensures limit { (held_of self.new).objects.mob.limit ≡ (held_of self.old).objects.mob.limit }
         ensures phase { self.new.phase ≡ self.old.phase }
         ensures fault { IfErr result (λ r. is_fault r ≡ true) }
+        ensures log { LogSays (disks_of P.disks self.old) log.old (said (held_of self.old)) → OnOk result (LogSays (disks_of P.disks self.new) log.new (said (held_of self.new))) }
+        ensures images { LogSays (disks_of P.disks self.old) log.old (said (held_of self.old)) → OnErr result (ImagesSay (disks_of P.disks self.new) (held_of self.new) None) }
     {
         match self.held.flush_one(&mut self.parts) {
             Ok(flushed) => self.put_flushed(log, flushed),
@@ -355,6 +382,8 @@ impl<P: Parts> Stable<P> {
         ensures limit { (held_of self.new).objects.mob.limit ≡ (held_of self.old).objects.mob.limit }
         ensures phase { self.new.phase ≡ self.old.phase }
         ensures fault { IfErr result (λ r. is_fault r ≡ true) }
+        ensures log { LogSays (disks_of P.disks self.old) log.old (said (held_of self.old)) → OnOk result (LogSays (disks_of P.disks self.new) log.new (said (held_of self.new))) }
+        ensures images { LogSays (disks_of P.disks self.old) log.old (said (held_of self.old)) → OnErr result (ImagesSay (disks_of P.disks self.new) (held_of self.new) None) }
     {
         let Flushed::Installed { page, side } = flushed else {
             return Ok(flushed);
@@ -378,6 +407,7 @@ impl<P: Parts> Stable<P> {
         ensures err { IfErr result (StandsAfter self.old self.new None) }
         ensures rests { is_up self.old ≡ true → OnErr result (RestsWith None self.new) }
         ensures held { held_of self.new ≡ held_of self.old }
+        ensures says { IsSaid P.disks self.old → IsSaid P.disks self.new }
     {
         let Some(mut log) = self.take_log() else {
             return Err(Refusal::Down { repo: self.repo() });

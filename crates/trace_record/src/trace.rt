@@ -10,12 +10,19 @@ pub type Marks = Sequence<Mark>;
 
 /// What happened at a repository since it was opened: the entries of its history, and the marks, among
 /// which each entry is named by its place.
-#[derive(Drop)]
 pub struct Trace {
     /// The entries. An entry's place is its index.
     pub history: Entries,
     /// The items of the trace, in order.
     pub marks: Marks,
+}
+
+impl Drop for Trace {
+    fn drop(self) {
+        let Trace { history, marks } = self;
+        drop(history);
+        drop(marks);
+    }
 }
 
 /// One trace for each repository.
