@@ -6,7 +6,7 @@ use Rattle.repo_core.specs.Refusing.{GoesDown}
 use Rattle.repo_core.specs.Shown.{Shown}
 use Rattle.stable_store.specs.Kept.{held_of, is_torn, pending}
 use Rattle.stable_store.specs.declared.stable.Stable.{Stable}
-use Rattle.std.proofs.Common.{Bool, Err, Ok, Result, absurd, false, inr, sym, true, ◌∙◌, ◌≡◌}
+use Rattle.std.proofs.Common.{Bool, Err, Ok, Result, false, inr, sym, true, ◌∙◌, ◌≡◌}
 use Rattle.std.specs.Prelude.{OnErr, Some}
 use Rattle.volatile_state.specs.Volatile.{Outlasts}
 

@@ -7,7 +7,7 @@ use Rattle.commit_log.specs.declared.request.Request.{Request}
 use Rattle.log_bytes.specs.declared.state.State.{State}
 use Rattle.stable_store.proofs.Remembering.{remembers_fewer, stamp, stamps}
 use Rattle.stable_store.specs.Remembering.{Remembers, is_kept}
-use Rattle.std.proofs.Common.{Bool, List, None, Option, Some, absurd, ap, cond, false, map, refl, subst, sym, true, ℕ, ◌∙◌, ◌≡◌}
+use Rattle.std.proofs.Common.{Bool, List, None, Option, Some, ap, cond, false, map, refl, subst, sym, true, ℕ, ◌∙◌, ◌≡◌}
 use Rattle.std.specs.BTreeMap.{is_at}
 use Rattle.std.specs.Map.{keys_of, lookup, remove_entry}
 use Rattle.std.specs.Option.{is_some, option_and_then}

@@ -92,9 +92,6 @@ entry_sides s (Finished t c) = sides_finished s c (request_at s.prepared t)
 -- ---- a record more
 
 module _ (a : State) (n : ℕ) (k : List Ts) (i : Sides) (m : Writes) where
-  v : State
-  v = with_four a n k i m
-
   -- the rest moves alike
   abbrev Rest : State → State → Type 0
   Rest s b = s ≡ with_four b s.next_page s.kept s.installed s.mob
@@ -240,7 +237,8 @@ data Last (x : Oref) (ws : Writes) : Type 0 where
 last_one : (x : Oref) (w : Oref × Obj) (ws : Writes) (b : Bool) → same_oref x w.0 ≡ b → Last x ws → Last x (w ∷ ws)
 last_one x w ws true is (Unwritten f) = Written (Some w.1) (λ found. f (cond (same_oref x w.0) (Some w.1) found) ∙ ap (λ (c : Bool). cond c (Some w.1) found) is)
 last_one x w ws false is (Unwritten f) = Unwritten (λ found. f (cond (same_oref x w.0) (Some w.1) found) ∙ ap (λ (c : Bool). cond c (Some w.1) found) is)
-last_one x w ws b is (Written o f) = Written o (λ found. f (cond (same_oref x w.0) (Some w.1) found))
+last_one x w ws true is (Written o f) = Written o (λ found. f (cond (same_oref x w.0) (Some w.1) found))
+last_one x w ws false is (Written o f) = Written o (λ found. f (cond (same_oref x w.0) (Some w.1) found))
 
 last_of : (x : Oref) (ws : Writes) → Last x ws
 last_of x [] = Unwritten (λ found. refl)

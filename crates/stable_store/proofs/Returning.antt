@@ -70,7 +70,7 @@ reads_of disks tells = (bytes, reads)
     reads zero within = (tells 0 (omega arith)).1
     reads (suc zero) within = (tells 1 (omega arith)).1
     reads (suc (suc zero)) within = (tells 2 (omega arith)).1
-    reads (suc (suc (suc n))) within = absurd (omega (arith, within))
+    reads (suc (suc (suc n))) within = let none : ⊥ = omega (arith, within) in absurd none
 
 pub finds_one : (old new : Disks) (log : Place) (h : Held) (s : State) → LeavesNoMore old new → Holds new log s → ((bytes : ℕ → List ℕ) → ReadsAs new bytes → MayLeaveAll new new.time bytes) → FindsOneOf old new h s
 finds_one old new log h s more holds left = λ pending says tells.

@@ -25,7 +25,7 @@ use Rattle.stable_store.specs.declared.stable.Stable.{Stable}
 use Rattle.state_log.proofs.Holding.{is_log, stands_of}
 use Rattle.state_log.specs.Holds.{Holds, SaysEither, SaysOneOf, Under, beside}
 use Rattle.state_log.specs.Recovered.{after, stands}
-use Rattle.std.proofs.Common.{List, None, Option, Some, absurd, ap, arith, false, inl, inr, is_some, refl, subst, sym, true, ◌+◌, ◌<◌, ◌∙◌, ◌≡◌, ◌≢◌, ◌≤◌, ℕ}
+use Rattle.std.proofs.Common.{List, None, Option, Some, ap, arith, false, inl, inr, is_some, refl, subst, sym, true, ◌+◌, ◌<◌, ◌∙◌, ◌≡◌, ◌≢◌, ◌≤◌, ℕ}
 use Rattle.std.proofs.lemmas.Bool.{cases_eq}
 use Rattle.log_frame.specs.Log.{read_log}
 
