@@ -1,9 +1,10 @@
 //! Queues and requests in tables, each request with what stands against it.
 
+use refusal_reasons::Reason;
 use std::alloc::Global;
 use std::test::Fail;
 use thor_value::{NoMemory, Obj, Oref, Orefs, Ts, Values, Writes};
-use validation_queue::{Clash, Queue, is_in_order};
+use validation_queue::{Queue, is_in_order};
 
 /// A transaction as a table has it: its time, and the slots of the objects that it read and of those
 /// that it wrote.
@@ -81,21 +82,21 @@ fn oref(slot: u8) -> Oref {
     }
 }
 
-fn expected(stands: &Stands) -> Result<(), Clash> {
+fn expected(stands: &Stands) -> Result<(), Reason> {
     match stands {
         Stands::Nothing => Ok(()),
-        Stands::Threshold(time) => Err(Clash::TooOld {
+        Stands::Threshold(time) => Err(Reason::TooOld {
             threshold: ts(*time),
         }),
-        Stands::Earlier(time, slot) => Err(Clash::Earlier {
+        Stands::Earlier(time, slot) => Err(Reason::Earlier {
             tx: ts(*time),
             oref: oref(*slot),
         }),
-        Stands::Later(time, slot) => Err(Clash::Later {
+        Stands::Later(time, slot) => Err(Reason::Later {
             tx: ts(*time),
             oref: oref(*slot),
         }),
-        Stands::Room => Err(Clash::Full { limit: 1_024 }),
+        Stands::Room => Err(Reason::Full { limit: 1_024 }),
     }
 }
 

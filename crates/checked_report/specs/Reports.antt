@@ -13,6 +13,7 @@ use Rattle.serial_model.specs.Outcomes.{Answers, all_items}
 use Rattle.serial_model.specs.declared.entries.Did.{Did}
 use Rattle.serial_model.specs.declared.entries.What.{What}
 use Rattle.serial_model.specs.declared.outcomes.Cause.{Cause}
+use Rattle.refusal_reasons.specs.declared.reason.Reason.TheVariants as reasons
 use Rattle.serial_model.specs.declared.outcomes.Cause.TheVariants as cause
 use Rattle.serial_model.specs.declared.outcomes.Ended.{Ended}
 use Rattle.serial_model.specs.declared.outcomes.ItemOutcome.{ItemOutcome}
@@ -55,16 +56,16 @@ runs_alone script = is_some script.setup && (is_alone script.clients && length s
 abbrev pub can_come_alone : Cause → Bool
 can_come_alone (cause.Missing oref) = true
 can_come_alone (cause.Down repo) = true
-can_come_alone (cause.Full limit) = true
-can_come_alone cause.ClockEnd = true
+can_come_alone (cause.Reason (reasons.Full limit)) = true
+can_come_alone (cause.Reason reasons.ClockEnd) = true
 can_come_alone cause.Calls = true
-can_come_alone (cause.Stale oref place) = false
-can_come_alone (cause.Earlier tx oref) = false
-can_come_alone (cause.Later tx oref) = false
-can_come_alone (cause.TooOld threshold) = false
-can_come_alone (cause.Epoch n) = false
-can_come_alone (cause.Blocked tx) = false
-can_come_alone (cause.Gone session) = false
+can_come_alone (cause.Reason (reasons.Stale oref place)) = false
+can_come_alone (cause.Reason (reasons.Earlier tx oref)) = false
+can_come_alone (cause.Reason (reasons.Later tx oref)) = false
+can_come_alone (cause.Reason (reasons.TooOld threshold)) = false
+can_come_alone (cause.Reason (reasons.Epoch n)) = false
+can_come_alone (cause.Reason (reasons.Blocked tx)) = false
+can_come_alone (cause.Reason (reasons.Gone session)) = false
 
 -- how an item of such a client ends: at its first try, where it isn't refused
 abbrev pub ends_at_once_as : ℕ → ItemOutcome → Bool

@@ -13,6 +13,7 @@ use crate::reply::Reply;
 use crate::status::Status;
 use class_defs::{Plain, Schemas};
 use history_check::{CheckedHistory, Lines, checked_history};
+use refusal_reasons::Reason;
 use report_text::print_report;
 use run_summary::{accounts_sum, print_summary};
 use script_parse::{Items, Script};
@@ -86,16 +87,17 @@ fn can_come_alone(cause: &Cause) -> bool
     match cause {
         Cause::Missing { .. }
         | Cause::Down { .. }
-        | Cause::Full { .. }
-        | Cause::ClockEnd
+        | Cause::Reason(Reason::Full { .. } | Reason::ClockEnd)
         | Cause::Calls => true,
-        Cause::Stale { .. }
-        | Cause::Earlier { .. }
-        | Cause::Later { .. }
-        | Cause::TooOld { .. }
-        | Cause::Epoch { .. }
-        | Cause::Blocked { .. }
-        | Cause::Gone { .. } => false,
+        Cause::Reason(
+            Reason::Stale { .. }
+            | Reason::Earlier { .. }
+            | Reason::Later { .. }
+            | Reason::TooOld { .. }
+            | Reason::Epoch { .. }
+            | Reason::Blocked { .. }
+            | Reason::Gone { .. },
+        ) => false,
     }
 }
 

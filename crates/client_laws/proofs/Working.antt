@@ -60,33 +60,17 @@ module _ (c : ℕ) (b : Base) (committed : Ts → Bool) where
     refused_mark q r w = then_fits at after u (M (the.Refused kept.session q r)) kept w (fits_marked c b at committed kept (the.Refused kept.session q r) (sound_at (the.Refused kept.session q r) w) (none_at (the.Refused kept.session q r) w) h refl refl refl)
 
     pub unmarked_fits : (r : Refusal) → RefusedUnmarked b at kept.session r after u → FitsAt c b u after committed kept
-    unmarked_fits (refused.Gone n) w = as_met at after u kept w.2 h
-    unmarked_fits (refused.Epoch n) w = as_met at after u kept w.1 h
-    unmarked_fits (refused.Blocked t) w = as_met at after u kept w.1 h
-    unmarked_fits (refused.TooOld t) w = as_met at after u kept w.1 h
-    unmarked_fits (refused.Stale x k) w = as_met at after u kept w.1 h
-    unmarked_fits (refused.Earlier t x) w = as_met at after u kept w.1 h
-    unmarked_fits (refused.Later t x) w = as_met at after u kept w.1 h
-    unmarked_fits (refused.Full n) w = as_met at after u kept w.1 h
+    unmarked_fits (refused.Reason r) w = as_met at after u kept w.2 h
     unmarked_fits (refused.Down n) w = as_met at after u kept w.1 h
     unmarked_fits (refused.Stopped n) w = as_met at after u kept w.1 h
     unmarked_fits (refused.Damaged n k) w = as_met at after u kept w.1 h
-    unmarked_fits refused.ClockEnd w = as_met at after u kept w.1 h
     unmarked_fits refused.NoMemory w = as_met at after u kept w.1 h
 
     pub marked_fits : (r : Refusal) → RefusedMarked b at kept.session r after u → FitsAt c b u after committed kept
-    marked_fits (refused.Gone n) w = refused_mark None (refused.Gone n) w.1
-    marked_fits (refused.Epoch n) w = refused_mark None (refused.Epoch n) w.1
-    marked_fits (refused.Blocked t) w = refused_mark None (refused.Blocked t) w.1
-    marked_fits (refused.TooOld t) w = refused_mark None (refused.TooOld t) w.1
-    marked_fits (refused.Stale x k) w = refused_mark None (refused.Stale x k) w.1
-    marked_fits (refused.Earlier t x) w = refused_mark None (refused.Earlier t x) w.1
-    marked_fits (refused.Later t x) w = refused_mark None (refused.Later t x) w.1
-    marked_fits (refused.Full n) w = refused_mark None (refused.Full n) w.1
+    marked_fits (refused.Reason r) w = refused_mark None (refused.Reason r) w.1
     marked_fits (refused.Down n) w = as_met at after u kept w h
     marked_fits (refused.Stopped n) w = as_met at after u kept w h
     marked_fits (refused.Damaged n k) w = as_met at after u kept w h
-    marked_fits refused.ClockEnd w = refused_mark None refused.ClockEnd w.1
     marked_fits refused.NoMemory w = as_met at after u kept w h
 
     -- a call that stopped
@@ -99,33 +83,17 @@ module _ (c : ℕ) (b : Base) (committed : Ts → Bool) where
         by Came l = absurd l
 
     pub request_fits : (e : Entry) (q : Request) (r : Refusal) → RequestRefused e b at kept.session q r after u → FitsAt c b u after committed kept
-    request_fits e q (refused.Gone n) w = refused_mark (Some q) (refused.Gone n) w.1
-    request_fits e q (refused.Epoch n) w = refused_mark (Some q) (refused.Epoch n) w.1
-    request_fits e q (refused.Blocked t) w = refused_mark (Some q) (refused.Blocked t) w.1
-    request_fits e q (refused.TooOld t) w = refused_mark (Some q) (refused.TooOld t) w.1
-    request_fits e q (refused.Stale x k) w = refused_mark (Some q) (refused.Stale x k) w.1
-    request_fits e q (refused.Earlier t x) w = refused_mark (Some q) (refused.Earlier t x) w.1
-    request_fits e q (refused.Later t x) w = refused_mark (Some q) (refused.Later t x) w.1
-    request_fits e q (refused.Full n) w = refused_mark (Some q) (refused.Full n) w.1
+    request_fits e q (refused.Reason r) w = refused_mark (Some q) (refused.Reason r) w.1
     request_fits e q (refused.Down n) w = as_met at after u kept w h
     request_fits e q (refused.Stopped n) w = stopped e _ w
     request_fits e q (refused.Damaged n k) w = as_met at after u kept w h
-    request_fits e q refused.ClockEnd w = refused_mark (Some q) refused.ClockEnd w.1
     request_fits e q refused.NoMemory w = stopped e _ w
 
     pub outage_fits : (e : Entry) (valid : Type 0) (r : Refusal) → OutageWith e valid at r after u → FitsAt c b u after committed kept
-    outage_fits e valid (refused.Gone n) w = absurd w
-    outage_fits e valid (refused.Epoch n) w = absurd w
-    outage_fits e valid (refused.Blocked t) w = absurd w
-    outage_fits e valid (refused.TooOld t) w = absurd w
-    outage_fits e valid (refused.Stale x k) w = absurd w
-    outage_fits e valid (refused.Earlier t x) w = absurd w
-    outage_fits e valid (refused.Later t x) w = absurd w
-    outage_fits e valid (refused.Full n) w = absurd w
+    outage_fits e valid (refused.Reason r) w = absurd w
     outage_fits e valid (refused.Down n) w = as_met at after u kept w h
     outage_fits e valid (refused.Stopped n) w = stopped e valid w
     outage_fits e valid (refused.Damaged n k) w = as_met at after u kept w h
-    outage_fits e valid refused.ClockEnd w = absurd w
     outage_fits e valid refused.NoMemory w = stopped e valid w
 
     -- ---- sessions
@@ -211,18 +179,10 @@ module _ (c : ℕ) (b : Base) (committed : Ts → Bool) where
         by false x = as_met at after u kept x.1 h
 
     pub undecided : (t : Ts) (k : Bool) (r : Refusal) → DecideWork kept.session t k (Err r) b at after u → FitsAt c b u after committed kept
-    undecided t k (refused.Gone n) w = unmarked_fits (refused.Gone n) w
-    undecided t k (refused.Epoch n) w = absurd w
-    undecided t k (refused.Blocked t') w = absurd w
-    undecided t k (refused.TooOld t') w = absurd w
-    undecided t k (refused.Stale x n) w = absurd w
-    undecided t k (refused.Earlier t' x) w = absurd w
-    undecided t k (refused.Later t' x) w = absurd w
-    undecided t k (refused.Full n) w = absurd w
+    undecided t k (refused.Reason r) w = unmarked_fits (refused.Reason r) w
     undecided t k (refused.Down n) w = outage_fits (Decided t k) (is_prepared_by kept.session (known_by b (entries at) t) ≡ true) (refused.Down n) w
     undecided t k (refused.Stopped n) w = outage_fits (Decided t k) (is_prepared_by kept.session (known_by b (entries at) t) ≡ true) (refused.Stopped n) w
     undecided t k (refused.Damaged n p) w = outage_fits (Decided t k) (is_prepared_by kept.session (known_by b (entries at) t) ≡ true) (refused.Damaged n p) w
-    undecided t k refused.ClockEnd w = absurd w
     undecided t k refused.NoMemory w = outage_fits (Decided t k) (is_prepared_by kept.session (known_by b (entries at) t) ≡ true) refused.NoMemory w
 
     -- ---- calls that name no session

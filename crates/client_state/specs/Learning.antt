@@ -4,7 +4,8 @@ use Rattle.client_state.specs.declared.link.Link.{Link}
 use Rattle.client_state.specs.declared.link.Link.TheVariants.{Apart, Joined, Unsettled}
 use Rattle.client_state.specs.declared.link.Waits.TheVariants as waits
 use Rattle.std.specs.Prelude.{Bool, List, cond, false, max, nat_eq, ℕ}
-use Rattle.validation_window.specs.declared.refusal.Refusal.TheVariants.{Blocked, ClockEnd, Damaged, Down, Earlier, Epoch, Full, Gone, Later, NoMemory, Stale, Stopped, TooOld}
+use Rattle.refusal_reasons.specs.declared.reason.Reason.TheVariants as reasons
+use Rattle.validation_window.specs.declared.refusal.Refusal.TheVariants as refused
 use Rattle.validation_window.specs.declared.refusal.Refusal.{Refusal}
 
 -- whether a link is a session of this number
@@ -20,32 +21,32 @@ without_session n link = cond (is_session n link) Apart link
 -- How a client stands with the repositories behind a refusal by one of them: a session that is gone is no more, behind
 -- Stale the messages of the write are waited for, and behind Epoch those of the upgrades.
 abbrev pub links_learnt : Refusal → ℕ → List Link → List Link
-links_learnt (Gone session) repo links = at_repo links repo (without_session session)
-links_learnt (Epoch n) repo links = at_repo links repo (waiting (waits.Epoch n))
-links_learnt (Blocked tx) repo links = links
-links_learnt (TooOld threshold) repo links = links
-links_learnt (Stale oref place) repo links = at_repo links repo (waiting (waits.Past place))
-links_learnt (Earlier tx oref) repo links = links
-links_learnt (Later tx oref) repo links = links
-links_learnt (Full limit) repo links = links
-links_learnt (Down n) repo links = links
-links_learnt (Stopped n) repo links = links
-links_learnt (Damaged n place) repo links = links
-links_learnt ClockEnd repo links = links
-links_learnt NoMemory repo links = links
+links_learnt (refused.Reason (reasons.Gone session)) repo links = at_repo links repo (without_session session)
+links_learnt (refused.Reason (reasons.Epoch n)) repo links = at_repo links repo (waiting (waits.Epoch n))
+links_learnt (refused.Reason (reasons.Blocked tx)) repo links = links
+links_learnt (refused.Reason (reasons.TooOld threshold)) repo links = links
+links_learnt (refused.Reason (reasons.Stale oref place)) repo links = at_repo links repo (waiting (waits.Past place))
+links_learnt (refused.Reason (reasons.Earlier tx oref)) repo links = links
+links_learnt (refused.Reason (reasons.Later tx oref)) repo links = links
+links_learnt (refused.Reason (reasons.Full limit)) repo links = links
+links_learnt (refused.Down n) repo links = links
+links_learnt (refused.Stopped n) repo links = links
+links_learnt (refused.Damaged n place) repo links = links
+links_learnt (refused.Reason reasons.ClockEnd) repo links = links
+links_learnt refused.NoMemory repo links = links
 
 -- The time above which the next transaction is drawn: above what the refusal was for.
 abbrev pub floor_learnt : Refusal → ℕ → ℕ
-floor_learnt (Gone session) floor = floor
-floor_learnt (Epoch n) floor = floor
-floor_learnt (Blocked tx) floor = floor
-floor_learnt (TooOld threshold) floor = max floor threshold.time
-floor_learnt (Stale oref place) floor = floor
-floor_learnt (Earlier tx oref) floor = floor
-floor_learnt (Later tx oref) floor = max floor tx.time
-floor_learnt (Full limit) floor = floor
-floor_learnt (Down n) floor = floor
-floor_learnt (Stopped n) floor = floor
-floor_learnt (Damaged n place) floor = floor
-floor_learnt ClockEnd floor = floor
-floor_learnt NoMemory floor = floor
+floor_learnt (refused.Reason (reasons.Gone session)) floor = floor
+floor_learnt (refused.Reason (reasons.Epoch n)) floor = floor
+floor_learnt (refused.Reason (reasons.Blocked tx)) floor = floor
+floor_learnt (refused.Reason (reasons.TooOld threshold)) floor = max floor threshold.time
+floor_learnt (refused.Reason (reasons.Stale oref place)) floor = floor
+floor_learnt (refused.Reason (reasons.Earlier tx oref)) floor = floor
+floor_learnt (refused.Reason (reasons.Later tx oref)) floor = max floor tx.time
+floor_learnt (refused.Reason (reasons.Full limit)) floor = floor
+floor_learnt (refused.Down n) floor = floor
+floor_learnt (refused.Stopped n) floor = floor
+floor_learnt (refused.Damaged n place) floor = floor
+floor_learnt (refused.Reason reasons.ClockEnd) floor = floor
+floor_learnt refused.NoMemory floor = floor

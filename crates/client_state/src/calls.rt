@@ -6,6 +6,7 @@ use crate::link::{Link, Waits};
 use item_progress::{Learnt, Opened};
 use message_outbox::{At, Welcome};
 use port::Port;
+use refusal_reasons::Reason;
 use serial_model::Cause;
 use thor_value::{NoMemory, Ts};
 use validation_window::Refusal;
@@ -103,7 +104,7 @@ impl Held {
     /// A call was refused that sends nothing of the try: where the session is gone, the evaluation begins
     /// anew.
     fn refused(&mut self, repo: u8, refusal: Refusal) -> Result<Came, NoMemory> {
-        if let Refusal::Gone { session } = refusal {
+        if let Refusal::Reason(Reason::Gone { session }) = refusal {
             self.lose(repo, session);
             return Ok(Came::Anew);
         }

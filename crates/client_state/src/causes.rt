@@ -13,18 +13,10 @@ pub fn cause_of(refusal: Refusal, repo: u8) -> Result<Cause, NoMemory>
     ensures none { OnErr result (cause_behind refusal repo ≡ None) }
 {
     match refusal {
-        Refusal::Gone { session } => Ok(Cause::Gone { session }),
-        Refusal::Epoch { n } => Ok(Cause::Epoch { n }),
-        Refusal::Blocked { tx } => Ok(Cause::Blocked { tx }),
-        Refusal::TooOld { threshold } => Ok(Cause::TooOld { threshold }),
-        Refusal::Stale { oref, place } => Ok(Cause::Stale { oref, place }),
-        Refusal::Earlier { tx, oref } => Ok(Cause::Earlier { tx, oref }),
-        Refusal::Later { tx, oref } => Ok(Cause::Later { tx, oref }),
-        Refusal::Full { limit } => Ok(Cause::Full { limit }),
+        Refusal::Reason(reason) => Ok(Cause::Reason(reason)),
         Refusal::Down { .. } | Refusal::Stopped { .. } | Refusal::Damaged { .. } => {
             Ok(Cause::Down { repo })
         }
-        Refusal::ClockEnd => Ok(Cause::ClockEnd),
         Refusal::NoMemory => Err(NoMemory),
     }
 }

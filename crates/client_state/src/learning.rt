@@ -5,6 +5,7 @@ ghost use Rattle.std.specs.Prelude.{◌≡◌};
 
 use crate::held::Held;
 use crate::link::Waits;
+use refusal_reasons::Reason;
 use validation_window::Refusal;
 
 impl Held {
@@ -14,18 +15,20 @@ impl Held {
         ensures floor { self.new.floor ≡ floor_learnt refusal self.old.floor }
     {
         match refusal {
-            Refusal::Gone { session } => self.lose(repo, session),
-            Refusal::Stale { place, .. } => self.wait(repo, Waits::Past { place }),
-            Refusal::Epoch { n } => self.wait(repo, Waits::Epoch { n }),
-            Refusal::TooOld { threshold } => self.raise_floor(threshold),
-            Refusal::Later { tx, .. } => self.raise_floor(tx),
-            Refusal::Earlier { .. }
-            | Refusal::Blocked { .. }
-            | Refusal::Full { .. }
+            Refusal::Reason(Reason::Gone { session }) => self.lose(repo, session),
+            Refusal::Reason(Reason::Stale { place, .. }) => self.wait(repo, Waits::Past { place }),
+            Refusal::Reason(Reason::Epoch { n }) => self.wait(repo, Waits::Epoch { n }),
+            Refusal::Reason(Reason::TooOld { threshold }) => self.raise_floor(threshold),
+            Refusal::Reason(Reason::Later { tx, .. }) => self.raise_floor(tx),
+            Refusal::Reason(
+                Reason::Earlier { .. }
+                | Reason::Blocked { .. }
+                | Reason::Full { .. }
+                | Reason::ClockEnd,
+            )
             | Refusal::Down { .. }
             | Refusal::Stopped { .. }
             | Refusal::Damaged { .. }
-            | Refusal::ClockEnd
             | Refusal::NoMemory => {}
         }
     }

@@ -4,6 +4,7 @@
 use crate::client::Client;
 use client_state::Abort;
 use port::Port;
+use refusal_reasons::Reason;
 use thor_value::NoMemory;
 use validation_window::Refusal;
 
@@ -19,7 +20,7 @@ impl Client {
         match port.decide(coordinator, ts, false) {
             Ok(verdict) => self.duties.hand_on(verdict, prepared),
             Err(Refusal::NoMemory) => Err(NoMemory),
-            Err(Refusal::Gone { session }) => {
+            Err(Refusal::Reason(Reason::Gone { session })) => {
                 self.held.lose(coordinator.repo, session);
                 Ok(())
             }

@@ -5,6 +5,7 @@ use client_state::{Drew, Phase, Sending, Sent, Transaction};
 use item_progress::{News, Opened};
 use message_outbox::At;
 use port::Port;
+use refusal_reasons::Reason;
 use thor_value::{NoMemory, Repos, Sequence, Ts, Who};
 use validation_window::Refusal;
 
@@ -173,7 +174,7 @@ impl Client {
         match port.decide(coordinator, sent.ts, true) {
             Ok(verdict) => self.learn_own(opened, sent, verdict),
             Err(Refusal::NoMemory) => Err(NoMemory),
-            Err(Refusal::Gone { session }) => {
+            Err(Refusal::Reason(Reason::Gone { session })) => {
                 self.held.lose(coordinator.repo, session);
                 self.begin_asking(sent);
                 Ok(News::Nothing)

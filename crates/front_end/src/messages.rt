@@ -6,6 +6,7 @@ use item_progress::{News, Opened};
 use message_outbox::{At, Message};
 use page_format::Page;
 use port::Port;
+use refusal_reasons::Reason;
 use serial_model::Cause;
 use thor_value::{NoMemory, Oref, Orefs, Text};
 use validation_window::Refusal;
@@ -27,7 +28,7 @@ impl Client {
         match self.held.receive(port, at) {
             Ok(Some(message)) => Ok(Some(self.take(opened, at.repo, message)?)),
             Ok(None) => Ok(None),
-            Err(Refusal::Gone { session }) => {
+            Err(Refusal::Reason(Reason::Gone { session })) => {
                 self.lose_in_receive(at.repo, session);
                 Ok(Some(News::Nothing))
             }
@@ -48,7 +49,7 @@ impl Client {
         match self.held.receive(port, at) {
             Ok(Some(message)) => self.take(opened, at.repo, message),
             Ok(None) => Ok(News::Nothing),
-            Err(Refusal::Gone { session }) => {
+            Err(Refusal::Reason(Reason::Gone { session })) => {
                 self.lose_in_receive(at.repo, session);
                 Ok(News::Nothing)
             }
@@ -100,7 +101,7 @@ impl Client {
     fn take_invalid(&mut self, orefs: &Orefs, place: u64) -> News {
         self.held.drop_copies(orefs);
         match self.phase.first_read(orefs) {
-            Some(oref) => self.end_try(Cause::Stale { oref, place }),
+            Some(oref) => self.end_try(Cause::Reason(Reason::Stale { oref, place })),
             None => News::Nothing,
         }
     }
@@ -108,7 +109,7 @@ impl Client {
     /// An upgrade was installed. Where it is the next one, a running try ends.
     fn take_upgrade(&mut self, opened: &Opened, number: u32) -> News {
         if self.held.learn_next_epoch(opened, number) && self.phase.runs() {
-            return self.end_try(Cause::Epoch { n: number });
+            return self.end_try(Cause::Reason(Reason::Epoch { n: number }));
         }
         News::Nothing
     }

@@ -3,6 +3,7 @@
 use crate::client::Client;
 use client_state::{Came, Helping, Phase, cause_of};
 use item_progress::{Learnt, News};
+use refusal_reasons::Reason;
 use serial_model::Cause;
 use std::mem;
 use thor_value::NoMemory;
@@ -11,7 +12,7 @@ use validation_window::Refusal;
 /// The transaction that stood against a request and is to be asked about, if there is one.
 fn helping_behind(refusal: Refusal, refuser: u8) -> Option<Helping> {
     match refusal {
-        Refusal::Earlier { tx, .. } | Refusal::Blocked { tx } => {
+        Refusal::Reason(Reason::Earlier { tx, .. } | Reason::Blocked { tx }) => {
             Some(Helping::Ask { ts: tx, refuser })
         }
         _ => None,

@@ -1,6 +1,7 @@
 //! Reports of items that end in each way, many of which no run has today.
 
 use class_defs::Upgrade;
+use refusal_reasons::Reason;
 use report_text::print_report;
 use serial_model::{Cause, Did, Dids, Ended, Ends, ItemOutcome, What};
 use std::alloc::Global;
@@ -200,37 +201,37 @@ const REPORTS: &[(&[Item], &[Entry], &[u8])] = &[
                 2,
                 1,
                 1,
-                How::Refused(Cause::Stale {
+                How::Refused(Cause::Reason(Reason::Stale {
                     oref: ZERO,
                     place: 1,
-                }),
+                })),
             ),
             (
                 2,
                 2,
                 1,
-                How::Refused(Cause::Earlier {
+                How::Refused(Cause::Reason(Reason::Earlier {
                     tx: SEVENTH,
                     oref: OTHER,
-                }),
+                })),
             ),
             (
                 2,
                 3,
                 1,
-                How::Refused(Cause::Later {
+                How::Refused(Cause::Reason(Reason::Later {
                     tx: EIGHTH,
                     oref: OTHER,
-                }),
+                })),
             ),
-            (2, 4, 1, How::Refused(Cause::TooOld { threshold: NINTH })),
-            (2, 5, 1, How::Refused(Cause::Epoch { n: 3 })),
-            (2, 6, 1, How::Refused(Cause::Blocked { tx: TENTH })),
-            (2, 7, 1, How::Refused(Cause::Gone { session: 4 })),
+            (2, 4, 1, How::Refused(Cause::Reason(Reason::TooOld { threshold: NINTH }))),
+            (2, 5, 1, How::Refused(Cause::Reason(Reason::Epoch { n: 3 }))),
+            (2, 6, 1, How::Refused(Cause::Reason(Reason::Blocked { tx: TENTH }))),
+            (2, 7, 1, How::Refused(Cause::Reason(Reason::Gone { session: 4 }))),
             (2, 8, 1, How::Refused(Cause::Missing { oref: END })),
             (2, 9, 1, How::Refused(Cause::Down { repo: 2 })),
-            (2, 10, 1, How::Refused(Cause::Full { limit: 12 })),
-            (2, 11, 1, How::Refused(Cause::ClockEnd)),
+            (2, 10, 1, How::Refused(Cause::Reason(Reason::Full { limit: 12 }))),
+            (2, 11, 1, How::Refused(Cause::Reason(Reason::ClockEnd))),
             (2, 12, 1, How::Refused(Cause::Calls)),
         ],
         &[],
@@ -248,10 +249,10 @@ const REPORTS: &[(&[Item], &[Entry], &[u8])] = &[
                 64,
                 1,
                 1,
-                How::Refused(Cause::Stale {
+                How::Refused(Cause::Reason(Reason::Stale {
                     oref: FAR,
                     place: 18446744073709551615,
-                }),
+                })),
             ),
             (64, 2, 1, How::Upgraded(LATE, 4294967295)),
         ],

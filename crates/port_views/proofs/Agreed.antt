@@ -21,6 +21,7 @@ use Rattle.std.specs.List.{slice_get}
 use Rattle.std.specs.Option.{option_map}
 use Rattle.std.specs.Prelude.{None, Ok, Option, Some}
 use Rattle.validation_window.specs.Window.{window}
+use Rattle.refusal_reasons.specs.declared.reason.Reason.TheVariants as reasons
 use Rattle.validation_window.specs.declared.refusal.Refusal.TheVariants as refused
 
 pub connects : (b : Base) (T : List Item) (K : Kept) (c : ℕ) (w : Welcome) → SessionsAgree b T K → w.session ≡ K.last + 1 → w.epoch ≡ epoch_of (state b (entries T)) → w.threshold ≡ (window b (entries T)).threshold → w.place ≡ length (entries T) → w.upgrades ≡ (state b (entries T)).texts
@@ -36,7 +37,7 @@ fetches b T K s page upto a h = (there b T K s a h, (refl, refl))
 pub grants : (b : Base) (T : List Item) (K : Kept) (s : ℕ) → SessionsAgree b T K → is_live K s ≡ true → next_page b T < most_pages → GrantWork s (Ok tt) b T (T ++ M (the.Granted s (next_page b T)) ∷ []) Calm
 grants b T K s a h l = (there b T K s a h, l, (refl, refl))
 
-pub is_gone : (b : Base) (T : List Item) (K : Kept) (s : ℕ) → SessionsAgree b T K → is_live K s ≡ false → RefusedUnmarked b T s (refused.Gone s) T Calm
+pub is_gone : (b : Base) (T : List Item) (K : Kept) (s : ℕ) → SessionsAgree b T K → is_live K s ≡ false → RefusedUnmarked b T s (refused.Reason (reasons.Gone s)) T Calm
 is_gone b T K s a h = (refl, gone (session b T s) (sym (live_answer b T K s a) ∙ h), (refl, refl))
   where
     gone : (o : Option Session) → lives o ≡ false → IsGoneIn o

@@ -15,6 +15,7 @@ use Rattle.validation_queue.specs.Clashes.{first_some}
 use Rattle.validation_queue.specs.Contents.{room_for}
 use Rattle.validation_window.specs.Refusals.{bar, behind, blocks, bytes_of, comes_earlier, comes_later, first_refusal, full, full_of_undecided, full_of_writes, least_name, reads_from, set_of, too_old, writes_over}
 use Rattle.validation_window.specs.Window.{Window, window}
+use Rattle.refusal_reasons.specs.declared.reason.Reason.TheVariants as reasons
 use Rattle.validation_window.specs.declared.refusal.Refusal.TheVariants as refused
 use Rattle.validation_window.specs.declared.refusal.Refusal.{Refusal}
 
@@ -50,17 +51,17 @@ stale_marks b H s v q = first_of (λ x. option_and_then (stale_from q.upto x) (i
   where
     one : (x : Oref) (o : Option ℕ) → Marks (option_and_then (stale_from q.upto x) o)
     one x None = tt
-    one x (Some k) = where_so (nat_le q.upto k) (refused.Stale x k) tt
+    one x (Some k) = where_so (nat_le q.upto k) (refused.Reason (reasons.Stale x k)) tt
 
 first_marks : (b : Base) (S : State) (W : Window) (o : Option Refusal) (q : Request) → Marks o → Marks (first_refusal S W o (full b W q) q)
 first_marks b S W o q h =
-    either (first_some (blocks q) W.members.pairs) _ (first_of (blocks q) W.members.pairs (λ e. where_so _ (refused.Blocked e.0) tt))
-    (either (behind S q) _ (unless_so (nat_eq q.epoch (epoch_of S)) (refused.Epoch (epoch_of S)) tt)
-    (either (too_old W q) _ (unless_so _ (refused.TooOld (bar W q)) tt)
+    either (first_some (blocks q) W.members.pairs) _ (first_of (blocks q) W.members.pairs (λ e. where_so _ (refused.Reason (reasons.Blocked e.0)) tt))
+    (either (behind S q) _ (unless_so (nat_eq q.epoch (epoch_of S)) (refused.Reason (reasons.Epoch (epoch_of S))) tt)
+    (either (too_old W q) _ (unless_so _ (refused.Reason (reasons.TooOld (bar W q))) tt)
     (either o _ h
-    (either (first_some (comes_earlier q) W.members.pairs) _ (first_of (comes_earlier q) W.members.pairs (λ e. mapped_where _ (λ x. refused.Earlier e.0 x) (least_name q (reads_from q e.1.request)) (λ x. tt)))
-    (either (first_some (comes_later q) W.members.pairs) _ (first_of (comes_later q) W.members.pairs (λ e. mapped_where _ (λ x. refused.Later e.0 x) (least_name q (λ x. reads_from q e.1.request x || writes_over q e.1.request x)) (λ x. tt)))
-    (either (full_of_undecided W) (full_of_writes b q) (where_so _ (refused.Full room_for) tt) (where_so (nat_lt b.limit (bytes_of q)) (refused.Full b.limit) tt)))))))
+    (either (first_some (comes_earlier q) W.members.pairs) _ (first_of (comes_earlier q) W.members.pairs (λ e. mapped_where _ (λ x. refused.Reason (reasons.Earlier e.0 x)) (least_name q (reads_from q e.1.request)) (λ x. tt)))
+    (either (first_some (comes_later q) W.members.pairs) _ (first_of (comes_later q) W.members.pairs (λ e. mapped_where _ (λ x. refused.Reason (reasons.Later e.0 x)) (least_name q (λ x. reads_from q e.1.request x || writes_over q e.1.request x)) (λ x. tt)))
+    (either (full_of_undecided W) (full_of_writes b q) (where_so _ (refused.Reason (reasons.Full room_for)) tt) (where_so (nat_lt b.limit (bytes_of q)) (refused.Reason (reasons.Full b.limit)) tt)))))))
 
 pub verdict_marks : (b : Base) (T : List Item) (s : ℕ) (q : Request) → IfSome (verdict b T s q) (λ r. IsMarked r)
 verdict_marks b T s q = by (session b T s)
@@ -69,6 +70,6 @@ verdict_marks b T s q = by (session b T s)
     by None = tt
     by (Some v) = at (session_lives v)
       where
-        at : (t : Bool) → Marks (cond t (first_refusal (state b (entries T)) (window b (entries T)) (stale b (entries T) s v q) (full b (window b (entries T)) q) q) (Some (refused.Gone s)))
+        at : (t : Bool) → Marks (cond t (first_refusal (state b (entries T)) (window b (entries T)) (stale b (entries T) s v q) (full b (window b (entries T)) q) q) (Some (refused.Reason (reasons.Gone s))))
         at true = first_marks b (state b (entries T)) (window b (entries T)) (stale b (entries T) s v q) q (stale_marks b (entries T) s v q)
         at false = tt

@@ -24,6 +24,7 @@ use Rattle.std.specs.List.{slice_get}
 use Rattle.std.specs.Option.{IfSome, IsSomeAnd}
 use Rattle.std.specs.Prelude.{Err, None, Ok, Option, Some, max, nat_lt, suc, zero}
 use Rattle.thor_value.specs.declared.names.Ts.{Ts}
+use Rattle.refusal_reasons.specs.declared.reason.Reason.TheVariants as reasons
 use Rattle.validation_window.specs.declared.refusal.Refusal.TheVariants as refused
 use Rattle.validation_window.specs.declared.refusal.Refusal.{Refusal}
 
@@ -61,7 +62,7 @@ MeetsFetch b T s page upto p = FetchWork s page upto p.0 b T p.1 Calm
 pub fetches : (b : Base) (T : List Item) (s page upto : ℕ) → FetchWork s page upto (plain.fetch b T s page upto).0 b T (plain.fetch b T s page upto).1 Calm
 fetches b T s page upto = by (lives (session b T s)) refl
   where
-    by : (t : Bool) → lives (session b T s) ≡ t → MeetsFetch b T s page upto (cond t (Ok tt, T ++ M (the.Fetched s page upto) ∷ []) (Err (refused.Gone s), T))
+    by : (t : Bool) → lives (session b T s) ≡ t → MeetsFetch b T s page upto (cond t (Ok tt, T ++ M (the.Fetched s page upto) ∷ []) (Err (refused.Reason (reasons.Gone s)), T))
     by true e = (e, (refl, refl))
     by false e = (refl, gone (session b T s) e, (refl, refl))
 
@@ -73,7 +74,7 @@ pub grants : (b : Base) (T : List Item) (s : ℕ) → GrantWork s (plain.grant b
 grants b T s = by (lives (session b T s)) refl (nat_lt (next_page b T) most_pages) refl
   where
     by : (t : Bool) → lives (session b T s) ≡ t → (u : Bool) → nat_lt (next_page b T) most_pages ≡ u
-        → MeetsGrant b T s (cond t (cond u (Ok tt, T ++ M (the.Granted s (next_page b T)) ∷ []) (refuse T s None (refused.Full most_pages))) (refuse T s None (refused.Gone s)))
+        → MeetsGrant b T s (cond t (cond u (Ok tt, T ++ M (the.Granted s (next_page b T)) ∷ []) (refuse T s None (refused.Reason (reasons.Full most_pages)))) (refuse T s None (refused.Reason (reasons.Gone s))))
     by true e true f = (e, below (next_page b T) most_pages f, (refl, refl))
     by true e false f = ((refl, live_and (session b T s) (λ v. most_pages ≤ next_page b T) e (λ v. not_below (next_page b T) most_pages f)), (refl, refl))
     by false e u f = ((refl, gone (session b T s) e), (refl, refl))
@@ -100,7 +101,7 @@ MeetsReceive b T s p = ReceiveWork s p.0 b T p.1 Calm
 pub receives : (pages : ℕ → ℕ → List ℕ) (texts : ℕ → List ℕ) (b : Base) (T : List Item) (s : ℕ) → ReceiveWork s (plain.receive (message_of pages texts) b T s).0 b T (plain.receive (message_of pages texts) b T s).1 Calm
 receives pages texts b T s = by (session b T s) refl
   where
-    none : (o : Option Session) → session b T s ≡ o → lives o ≡ false → MeetsReceive b T s (Err (refused.Gone s), T)
+    none : (o : Option Session) → session b T s ≡ o → lives o ≡ false → MeetsReceive b T s (Err (refused.Reason (reasons.Gone s)), T)
     none o e h = (refl, gone (session b T s) (ap lives e ∙ h), (refl, refl))
 
     message : (v : Session) → session b T s ≡ Some v → session_lives v ≡ true → (m : Option Notice) → slice_get v.sent v.taken ≡ m → MeetsReceive b T s (received (message_of pages texts) T s m)
@@ -113,7 +114,7 @@ receives pages texts b T s = by (session b T s) refl
     by None e = none None e refl
     by (Some v) e = at (session_lives v) refl
       where
-        at : (t : Bool) → session_lives v ≡ t → MeetsReceive b T s (cond t (received (message_of pages texts) T s (slice_get v.sent v.taken)) (Err (refused.Gone s), T))
+        at : (t : Bool) → session_lives v ≡ t → MeetsReceive b T s (cond t (received (message_of pages texts) T s (slice_get v.sent v.taken)) (Err (refused.Reason (reasons.Gone s)), T))
         at true l = message v e l (slice_get v.sent v.taken) refl
         at false l = none (Some v) e l
 
@@ -133,25 +134,17 @@ draws b T s now floor = by (lives (session b T s)) refl (nat_lt (next_stamp b T 
     drawn f = record { time = (now, floor, refl); below = below (next_stamp b T now floor).time (2 ^ 62) f; repo = refl; life = refl }
 
     by : (t : Bool) → lives (session b T s) ≡ t → (u : Bool) → nat_lt (next_stamp b T now floor).time (2 ^ 62) ≡ u
-        → MeetsDraw b T s floor (cond t (cond u (Ok (next_stamp b T now floor), T ++ M (the.Drew s (next_stamp b T now floor)) ∷ []) (refuse T s None refused.ClockEnd)) (refuse T s None (refused.Gone s)))
+        → MeetsDraw b T s floor (cond t (cond u (Ok (next_stamp b T now floor), T ++ M (the.Drew s (next_stamp b T now floor)) ∷ []) (refuse T s None (refused.Reason reasons.ClockEnd))) (refuse T s None (refused.Reason (reasons.Gone s))))
     by true e true f = (e, drawn f, above_floor now (last_drawn b T) floor, (refl, refl))
     by true e false f = (live_and (session b T s) (λ v. (n : ℕ) × (m : ℕ) × (2 ^ 62 ≤ drawn_time n (last_drawn b T) m)) e (λ v. (now, floor, not_below (next_stamp b T now floor).time (2 ^ 62) f)), (refl, refl))
     by false e u f = ((refl, gone (session b T s) e), (refl, refl))
 
 -- a refused request
 refused_so : (b : Base) (T : List Item) (s : ℕ) (q : Request) (e : Entry) (r : Refusal) → q.session ≡ s → verdict b T s q ≡ Some r → IsMarked r → RequestRefused e b T s q r (T ++ M (the.Refused s (Some q) r) ∷ []) Calm
-refused_so b T s q e (refused.Gone n) h v m = ((h, v), (refl, refl))
-refused_so b T s q e (refused.Epoch n) h v m = ((h, v), (refl, refl))
-refused_so b T s q e (refused.Blocked t) h v m = ((h, v), (refl, refl))
-refused_so b T s q e (refused.TooOld t) h v m = ((h, v), (refl, refl))
-refused_so b T s q e (refused.Stale x k) h v m = ((h, v), (refl, refl))
-refused_so b T s q e (refused.Earlier t x) h v m = ((h, v), (refl, refl))
-refused_so b T s q e (refused.Later t x) h v m = ((h, v), (refl, refl))
-refused_so b T s q e (refused.Full n) h v m = ((h, v), (refl, refl))
+refused_so b T s q e (refused.Reason r) h v m = ((h, v), (refl, refl))
 refused_so b T s q e (refused.Down n) h v m = absurd m
 refused_so b T s q e (refused.Stopped n) h v m = absurd m
 refused_so b T s q e (refused.Damaged n k) h v m = absurd m
-refused_so b T s q e refused.ClockEnd h v m = ((h, v), (refl, refl))
 refused_so b T s q e refused.NoMemory h v m = absurd m
 
 -- what the call promises of an answer and a trace
@@ -190,7 +183,7 @@ decides b T s t c = by (lives (session b T s)) refl (is_prepared_by s (known_by 
     stands = (refl, (refl, refl))
 
     by : (l : Bool) → lives (session b T s) ≡ l → (u : Bool) → is_prepared_by s (known_by b (entries T) t) ≡ u
-        → MeetsDecide b T s t c (cond l (cond u (Ok (record { tx = t; commit = c }), T ++ E (Decided t c) ∷ []) (Ok (record { tx = t; commit = commits_by b T t }), T)) (Err (refused.Gone s), T))
+        → MeetsDecide b T s t c (cond l (cond u (Ok (record { tx = t; commit = c }), T ++ E (Decided t c) ∷ []) (Ok (record { tx = t; commit = commits_by b T t }), T)) (Err (refused.Reason (reasons.Gone s)), T))
     by true e true f = (e, refl, subst (λ (u : Bool). Decides u t c (record { tx = t; commit = c }) b T (T ++ E (Decided t c) ∷ []) Calm) (sym f) decided)
     by true e false f = (e, refl, subst (λ (u : Bool). Decides u t c (record { tx = t; commit = commits_by b T t }) b T T Calm) (sym f) stands)
     by false e u f = (refl, gone (session b T s) e, (refl, refl))

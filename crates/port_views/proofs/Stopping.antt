@@ -28,78 +28,38 @@ use Rattle.validation_window.specs.declared.refusal.Refusal.{Refusal}
 
 module _ (b : Base) (T : List Item) where
   pub unmarked : (s : ℕ) (r : Refusal) → IsOutage r → RefusedUnmarked b T s r T Calm
-  unmarked s (refused.Gone n) h = absurd h
-  unmarked s (refused.Epoch n) h = absurd h
-  unmarked s (refused.Blocked t) h = absurd h
-  unmarked s (refused.TooOld t) h = absurd h
-  unmarked s (refused.Stale x k) h = absurd h
-  unmarked s (refused.Earlier t x) h = absurd h
-  unmarked s (refused.Later t x) h = absurd h
-  unmarked s (refused.Full n) h = absurd h
+  unmarked s (refused.Reason r) h = absurd h
   unmarked s (refused.Down n) h = (tt, (refl, refl))
   unmarked s (refused.Stopped n) h = (tt, (refl, refl))
   unmarked s (refused.Damaged n k) h = (tt, (refl, refl))
-  unmarked s refused.ClockEnd h = absurd h
   unmarked s refused.NoMemory h = (tt, (refl, refl))
 
   pub marked : (s : ℕ) (r : Refusal) → IsOutage r → RefusedMarked b T s r T Calm
-  marked s (refused.Gone n) h = absurd h
-  marked s (refused.Epoch n) h = absurd h
-  marked s (refused.Blocked t) h = absurd h
-  marked s (refused.TooOld t) h = absurd h
-  marked s (refused.Stale x k) h = absurd h
-  marked s (refused.Earlier t x) h = absurd h
-  marked s (refused.Later t x) h = absurd h
-  marked s (refused.Full n) h = absurd h
+  marked s (refused.Reason r) h = absurd h
   marked s (refused.Down n) h = (refl, refl)
   marked s (refused.Stopped n) h = (refl, refl)
   marked s (refused.Damaged n k) h = (refl, refl)
-  marked s refused.ClockEnd h = absurd h
   marked s refused.NoMemory h = (refl, refl)
 
   pub request : (e : Entry) (s : ℕ) (q : Request) (r : Refusal) → IsOutage r → RequestRefused e b T s q r T Calm
-  request e s q (refused.Gone n) h = absurd h
-  request e s q (refused.Epoch n) h = absurd h
-  request e s q (refused.Blocked t) h = absurd h
-  request e s q (refused.TooOld t) h = absurd h
-  request e s q (refused.Stale x k) h = absurd h
-  request e s q (refused.Earlier t x) h = absurd h
-  request e s q (refused.Later t x) h = absurd h
-  request e s q (refused.Full n) h = absurd h
+  request e s q (refused.Reason r) h = absurd h
   request e s q (refused.Down n) h = (refl, refl)
   request e s q (refused.Stopped n) h = (refl, tt)
   request e s q (refused.Damaged n k) h = (refl, refl)
-  request e s q refused.ClockEnd h = absurd h
   request e s q refused.NoMemory h = (refl, tt)
 
   pub with_entry : (e : Entry) (valid : Type 0) (r : Refusal) → IsOutage r → OutageWith e valid T r T Calm
-  with_entry e valid (refused.Gone n) h = absurd h
-  with_entry e valid (refused.Epoch n) h = absurd h
-  with_entry e valid (refused.Blocked t) h = absurd h
-  with_entry e valid (refused.TooOld t) h = absurd h
-  with_entry e valid (refused.Stale x k) h = absurd h
-  with_entry e valid (refused.Earlier t x) h = absurd h
-  with_entry e valid (refused.Later t x) h = absurd h
-  with_entry e valid (refused.Full n) h = absurd h
+  with_entry e valid (refused.Reason r) h = absurd h
   with_entry e valid (refused.Down n) h = (refl, refl)
   with_entry e valid (refused.Stopped n) h = (refl, tt)
   with_entry e valid (refused.Damaged n k) h = (refl, refl)
-  with_entry e valid refused.ClockEnd h = absurd h
   with_entry e valid refused.NoMemory h = (refl, tt)
 
 pub deciding : (b : Base) (T : List Item) (s : ℕ) (t : Ts) (k : Bool) (r : Refusal) → IsOutage r → DecideWork s t k (Err r) b T T Calm
-deciding b T s t k (refused.Gone n) h = absurd h
-deciding b T s t k (refused.Epoch n) h = absurd h
-deciding b T s t k (refused.Blocked u) h = absurd h
-deciding b T s t k (refused.TooOld u) h = absurd h
-deciding b T s t k (refused.Stale x n) h = absurd h
-deciding b T s t k (refused.Earlier u x) h = absurd h
-deciding b T s t k (refused.Later u x) h = absurd h
-deciding b T s t k (refused.Full n) h = absurd h
+deciding b T s t k (refused.Reason r) h = absurd h
 deciding b T s t k (refused.Down n) h = (refl, refl)
 deciding b T s t k (refused.Stopped n) h = (refl, tt)
 deciding b T s t k (refused.Damaged n p) h = (refl, refl)
-deciding b T s t k refused.ClockEnd h = absurd h
 deciding b T s t k refused.NoMemory h = (refl, tt)
 
 -- what may have been left, by a test of whether the entry is valid

@@ -21,6 +21,7 @@ use Rattle.session_outbox.specs.declared.mark.Mark.TheVariants as the
 use Rattle.std.specs.List.{slice_get}
 use Rattle.std.specs.Prelude.{Bool, Err, List, None, Ok, Option, Result, Some, [], cond, length, nat_lt, ℕ, ◌++◌, ◌^◌, ◌∷◌}
 use Rattle.thor_value.specs.declared.names.Ts.{Ts}
+use Rattle.refusal_reasons.specs.declared.reason.Reason.TheVariants as reasons
 use Rattle.validation_window.specs.declared.refusal.Refusal.TheVariants as refused
 use Rattle.validation_window.specs.declared.refusal.Refusal.{Refusal}
 
@@ -39,13 +40,13 @@ connect b T c =
     (Err refused.NoMemory, T)
 
 abbrev pub fetch : Base → List Item → ℕ → ℕ → ℕ → Stepped (Unit {0})
-fetch b T s page upto = cond (lives (session b T s)) (Ok tt, T ++ M (the.Fetched s page upto) ∷ []) (Err (refused.Gone s), T)
+fetch b T s page upto = cond (lives (session b T s)) (Ok tt, T ++ M (the.Fetched s page upto) ∷ []) (Err (refused.Reason (reasons.Gone s)), T)
 
 abbrev pub grant : Base → List Item → ℕ → Stepped (Unit {0})
 grant b T s =
     cond (lives (session b T s))
-    (cond (nat_lt (next_page b T) most_pages) (Ok tt, T ++ M (the.Granted s (next_page b T)) ∷ []) (refuse T s None (refused.Full most_pages)))
-    (refuse T s None (refused.Gone s))
+    (cond (nat_lt (next_page b T) most_pages) (Ok tt, T ++ M (the.Granted s (next_page b T)) ∷ []) (refuse T s None (refused.Reason (reasons.Full most_pages))))
+    (refuse T s None (refused.Reason (reasons.Gone s)))
 
 -- a message with its bytes, where these say what pages and upgrades hold
 abbrev pub message_of : (ℕ → ℕ → List ℕ) → (ℕ → List ℕ) → Notice → Message
@@ -59,8 +60,8 @@ received spell T s None = (Ok None, T)
 received spell T s (Some m) = (Ok (Some (spell m)), T ++ M (the.Took s (place_of m)) ∷ [])
 
 abbrev pub received_by : (Notice → Message) → List Item → ℕ → Option Session → Stepped (Option Message)
-received_by spell T s None = (Err (refused.Gone s), T)
-received_by spell T s (Some v) = cond (lives (Some v)) (received spell T s (slice_get v.sent v.taken)) (Err (refused.Gone s), T)
+received_by spell T s None = (Err (refused.Reason (reasons.Gone s)), T)
+received_by spell T s (Some v) = cond (lives (Some v)) (received spell T s (slice_get v.sent v.taken)) (Err (refused.Reason (reasons.Gone s)), T)
 
 abbrev pub receive : (Notice → Message) → Base → List Item → ℕ → Stepped (Option Message)
 receive spell b T s = received_by spell T s (session b T s)
@@ -72,8 +73,8 @@ next_stamp b T now floor = record { time = drawn_time now (last_drawn b T) floor
 abbrev pub draw : Base → List Item → ℕ → ℕ → ℕ → Stepped Ts
 draw b T s now floor =
     cond (lives (session b T s))
-    (cond (nat_lt (next_stamp b T now floor).time (2 ^ 62)) (Ok (next_stamp b T now floor), T ++ M (the.Drew s (next_stamp b T now floor)) ∷ []) (refuse T s None refused.ClockEnd))
-    (refuse T s None (refused.Gone s))
+    (cond (nat_lt (next_stamp b T now floor).time (2 ^ 62)) (Ok (next_stamp b T now floor), T ++ M (the.Drew s (next_stamp b T now floor)) ∷ []) (refuse T s None (refused.Reason reasons.ClockEnd)))
+    (refuse T s None (refused.Reason (reasons.Gone s)))
 
 abbrev pub requested : List Item → ℕ → Request → Entry → Option Refusal → Stepped ℕ
 requested T s q e None = (Ok (length (entries T)), T ++ E e ∷ [])
@@ -89,7 +90,7 @@ abbrev pub decide : Base → List Item → ℕ → Ts → Bool → Stepped Verdi
 decide b T s t c =
     cond (lives (session b T s))
     (cond (is_prepared_by s (known_by b (entries T) t)) (Ok (record { tx = t; commit = c }), T ++ E (Decided t c) ∷ []) (Ok (record { tx = t; commit = commits_by b T t }), T))
-    (Err (refused.Gone s), T)
+    (Err (refused.Reason (reasons.Gone s)), T)
 
 abbrev pub finish : Base → List Item → Ts → Bool → Stepped (Option ℕ)
 finish b T t c = cond (is_undecided (known_by b (entries T) t)) (Ok (Some (length (entries T))), T ++ E (Finished t c) ∷ []) (Ok None, T)

@@ -24,6 +24,7 @@ use Rattle.std.specs.List.{slice_get}
 use Rattle.std.specs.Option.{IsSomeAnd}
 use Rattle.std.specs.Prelude.{Bool, Err, List, None, Ok, Option, Result, Some, [], cond, false, length, nat_eq, true, ℕ, ◌&&◌, ◌++◌, ◌||◌, ◌<◌, ◌∷◌, ◌≡◌}
 use Rattle.thor_value.specs.declared.names.Ts.{Ts}
+use Rattle.refusal_reasons.specs.declared.reason.Reason.TheVariants as reasons
 use Rattle.validation_window.specs.declared.refusal.Refusal.TheVariants as refused
 use Rattle.validation_window.specs.declared.refusal.Refusal.{Refusal}
 
@@ -59,39 +60,23 @@ IsBehind at i after u = (after ≡ at ++ i ∷ []) × (u ≡ Calm)
 
 -- the call did nothing, since the repository was out of order or couldn't do its work
 abbrev pub IsOutage : Refusal → Type 0
-IsOutage (refused.Gone s) = ⊥
-IsOutage (refused.Epoch n) = ⊥
-IsOutage (refused.Blocked t) = ⊥
-IsOutage (refused.TooOld t) = ⊥
-IsOutage (refused.Stale x k) = ⊥
-IsOutage (refused.Earlier t x) = ⊥
-IsOutage (refused.Later t x) = ⊥
-IsOutage (refused.Full n) = ⊥
+IsOutage (refused.Reason r) = ⊥
 IsOutage (refused.Down r) = Unit {0}
 IsOutage (refused.Stopped r) = Unit {0}
 IsOutage (refused.Damaged r k) = Unit {0}
-IsOutage refused.ClockEnd = ⊥
 IsOutage refused.NoMemory = Unit {0}
 
 -- the repository was in order: such a refusal gets a mark, where it is one of a draw, a grant or a request
 abbrev pub IsMarked : Refusal → Type 0
-IsMarked (refused.Gone s) = Unit {0}
-IsMarked (refused.Epoch n) = Unit {0}
-IsMarked (refused.Blocked t) = Unit {0}
-IsMarked (refused.TooOld t) = Unit {0}
-IsMarked (refused.Stale x k) = Unit {0}
-IsMarked (refused.Earlier t x) = Unit {0}
-IsMarked (refused.Later t x) = Unit {0}
-IsMarked (refused.Full n) = Unit {0}
+IsMarked (refused.Reason r) = Unit {0}
 IsMarked (refused.Down r) = ⊥
 IsMarked (refused.Stopped r) = ⊥
 IsMarked (refused.Damaged r k) = ⊥
-IsMarked refused.ClockEnd = Unit {0}
 IsMarked refused.NoMemory = ⊥
 
 -- how a call of a session that isn't marked is refused: the session is gone, or there was an outage
 abbrev pub RefusedUnmarked : Base → List Item → ℕ → Refusal → List Item → Unsettled → Type 0
-RefusedUnmarked b at s (refused.Gone n) after u = (n ≡ s) × IsGoneIn (session b at s) × IsAsMet at after u
+RefusedUnmarked b at s (refused.Reason r) after u = (r ≡ reasons.Gone s) × IsGoneIn (session b at s) × IsAsMet at after u
 RefusedUnmarked b at s r after u = IsOutage r × IsAsMet at after u
 
 -- how a draw or a grant is refused, which gets a mark but in an outage
@@ -191,7 +176,7 @@ Decides false t c v b at after u = (v.commit ≡ commits_by b at t) × IsAsMet a
 
 abbrev pub DecideWork : ℕ → Ts → Bool → Result Verdict Refusal → Base → List Item → List Item → Unsettled → Type 0
 DecideWork s t c (Ok v) b at after u = (lives (session b at s) ≡ true) × (v.tx ≡ t) × Decides (is_prepared_by s (known_by b (entries at) t)) t c v b at after u
-DecideWork s t c (Err (refused.Gone n)) b at after u = RefusedUnmarked b at s (refused.Gone n) after u
+DecideWork s t c (Err (refused.Reason r)) b at after u = RefusedUnmarked b at s (refused.Reason r) after u
 DecideWork s t c (Err r) b at after u = OutageWith (Decided t c) (is_prepared_by s (known_by b (entries at) t) ≡ true) at r after u
 
 abbrev pub FinishWork : Ts → Bool → Result (Option ℕ) Refusal → Base → List Item → List Item → Unsettled → Type 0

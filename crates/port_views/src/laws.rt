@@ -21,6 +21,7 @@ ghost use Rattle.session_outbox.specs.declared.mark.Mark.TheVariants as the;
 ghost use Rattle.std.specs.Prelude.{Bool, List, Ok, Option, [], false, length, true, ℕ, ◌+◌, ◌++◌, ◌<◌, ◌∷◌, ◌≡◌};
 ghost use Rattle.thor_value.specs.declared.names.Ts.{Ts};
 ghost use Rattle.validation_window.specs.Window.{window};
+ghost use Rattle.refusal_reasons.specs.declared.reason.Reason.TheVariants as reasons;
 ghost use Rattle.validation_window.specs.declared.refusal.Refusal.TheVariants as refused;
 
 /// A trace that didn't grow grew by nothing, and what grew twice grew. Where nothing is unsettled, what comes is
@@ -71,7 +72,7 @@ pub fn kept_sessions_keep_promises()
         next_page b T < most_pages →
         GrantWork s (Ok tt) b T (T ++ M (the.Granted s (next_page b T)) ∷ []) Calm }
     ensures gone { (b : Base) (T : List Item) (K : Kept) (s : ℕ) → SessionsAgree b T K → is_live K s ≡ false →
-        RefusedUnmarked b T s (refused.Gone s) T Calm }
+        RefusedUnmarked b T s (refused.Reason (reasons.Gone s)) T Calm }
     ensures receive { (b : Base) (T : List Item) (K : Kept) (s : ℕ) (m : Option Message) → SessionsAgree b T K →
         is_live K s ≡ true → first (waiting K.waiting s) ≡ m →
         ReceiveWork s (Ok m) b T (behind_taken T s m) Calm }

@@ -26,15 +26,7 @@ falls old new e (refused.Down n) (d, s) = record { stands = ap is_up s; unmarked
 falls old new e (refused.Stopped n) f = record { stands = down_now old new e f; unmarked = refl; fault = λ (u : is_up old ≡ true). refl }
 falls old new e (refused.Damaged n k) f = record { stands = down_now old new e f; unmarked = refl; fault = λ (u : is_up old ≡ true). refl }
 falls old new e refused.NoMemory f = record { stands = down_now old new e f; unmarked = refl; fault = λ (u : is_up old ≡ true). refl }
-falls old new e (refused.Gone s) f = absurd f
-falls old new e (refused.Epoch n) f = absurd f
-falls old new e (refused.Blocked t) f = absurd f
-falls old new e (refused.TooOld t) f = absurd f
-falls old new e (refused.Stale x k) f = absurd f
-falls old new e (refused.Earlier t x) f = absurd f
-falls old new e (refused.Later t x) f = absurd f
-falls old new e (refused.Full n) f = absurd f
-falls old new e refused.ClockEnd f = absurd f
+falls old new e (refused.Reason r) f = absurd f
 
 keeps_in : (disks : Disks) (h : Held) (p : Phase) → IsOpenIn disks h p → is_up_in p ≡ true → Keeps h
 keeps_in disks h (Up log) o u = o.keeps

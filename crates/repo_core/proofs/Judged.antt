@@ -10,11 +10,12 @@ use Rattle.std.specs.Prelude.{IfErr, nat_lt}
 use Rattle.thor_value.specs.declared.names.Oref.{Oref}
 use Rattle.validation_queue.specs.Clashes.{clash}
 use Rattle.validation_queue.specs.Contents.{first_blocking}
-use Rattle.validation_queue.specs.declared.clash.Clash.TheVariants as clashes
-use Rattle.validation_queue.specs.declared.clash.Clash.{Clash}
+use Rattle.refusal_reasons.specs.declared.reason.Reason.TheVariants as reasons
+use Rattle.refusal_reasons.specs.declared.reason.Reason.{Reason}
+use Rattle.validation_window.specs.Queue.{is_too_old}
 use Rattle.validation_window.specs.declared.refusal.Refusal.TheVariants as refused
 use Rattle.validation_window.specs.declared.refusal.Refusal.{Refusal}
-use Rattle.volatile_state.specs.Volatile.{Memory, against, answer, is_too_old, is_upgrade_kind, refusal_of, transaction_of, verdict}
+use Rattle.volatile_state.specs.Volatile.{Memory, against, answer, is_upgrade_kind, transaction_of, verdict}
 
 -- where there is a refusal, it gets a mark
 abbrev Marked : Option Refusal → Type 0
@@ -33,31 +34,25 @@ marked_map : {A : Type 0} (f : A → Refusal) → ((a : A) → is_marked (f a) �
 marked_map f each None = tt
 marked_map f each (Some a) = each a
 
-marked_clash : (c : Clash) → is_marked (refusal_of c) ≡ true
-marked_clash (clashes.TooOld t) = refl
-marked_clash (clashes.Earlier t x) = refl
-marked_clash (clashes.Later t x) = refl
-marked_clash (clashes.Full n) = refl
+marked_stale : (stale : Option (Oref × ℕ)) → Marked (option_map (λ s. refused.Reason (reasons.Stale s.0 s.1)) stale)
+marked_stale stale = marked_map (λ s. refused.Reason (reasons.Stale s.0 s.1)) (λ s. refl) stale
 
-marked_stale : (stale : Option (Oref × ℕ)) → Marked (option_map (λ s. refused.Stale s.0 s.1) stale)
-marked_stale stale = marked_map (λ s. refused.Stale s.0 s.1) (λ s. refl) stale
-
-marked_against : (c : Option Clash) (stale : Option (Oref × ℕ)) → Marked (against c stale)
+marked_against : (c : Option Reason) (stale : Option (Oref × ℕ)) → Marked (against c stale)
 marked_against None stale = marked_stale stale
 marked_against (Some c) stale =
-    marked_cond (is_too_old c) (Some (refusal_of c)) (option_or (option_map (λ s. refused.Stale s.0 s.1) stale) (Some (refusal_of c)))
-    (marked_clash c)
-    (marked_or (option_map (λ s. refused.Stale s.0 s.1) stale) (Some (refusal_of c)) (marked_stale stale) (marked_clash c))
+    marked_cond (is_too_old c) (Some (refused.Reason c)) (option_or (option_map (λ s. refused.Reason (reasons.Stale s.0 s.1)) stale) (Some (refused.Reason c)))
+    refl
+    (marked_or (option_map (λ s. refused.Reason (reasons.Stale s.0 s.1)) stale) (Some (refused.Reason c)) (marked_stale stale) refl)
 
 marked_verdict : (M : Memory) (epoch s : ℕ) (q : Request) → Marked (verdict M epoch s q)
 marked_verdict M epoch s q =
     let found : Option Refusal = against (clash M.queue (transaction_of q)) (sets.stale M.sessions.sets s q.ros q.upto) in
-    let later : Option Refusal = cond (nat_eq q.epoch epoch) found (Some (refused.Epoch epoch)) in
-    let blocked : Option Refusal = option_map (λ t. refused.Blocked t) (first_blocking M.queue (is_upgrade_kind q.kind)) in
-    marked_cond (is_live M.sessions s) (option_or blocked later) (Some (refused.Gone s))
+    let later : Option Refusal = cond (nat_eq q.epoch epoch) found (Some (refused.Reason (reasons.Epoch epoch))) in
+    let blocked : Option Refusal = option_map (λ t. refused.Reason (reasons.Blocked t)) (first_blocking M.queue (is_upgrade_kind q.kind)) in
+    marked_cond (is_live M.sessions s) (option_or blocked later) (Some (refused.Reason (reasons.Gone s)))
     (marked_or blocked later
-    (marked_map (λ t. refused.Blocked t) (λ t. refl) (first_blocking M.queue (is_upgrade_kind q.kind)))
-    (marked_cond (nat_eq q.epoch epoch) found (Some (refused.Epoch epoch)) (marked_against (clash M.queue (transaction_of q)) (sets.stale M.sessions.sets s q.ros q.upto)) refl))
+    (marked_map (λ t. refused.Reason (reasons.Blocked t)) (λ t. refl) (first_blocking M.queue (is_upgrade_kind q.kind)))
+    (marked_cond (nat_eq q.epoch epoch) found (Some (refused.Reason (reasons.Epoch epoch))) (marked_against (clash M.queue (transaction_of q)) (sets.stale M.sessions.sets s q.ros q.upto)) refl))
     refl
 
 of_answer : (o : Option Refusal) (r : Refusal) → Marked o → answer o ≡ Err r → is_marked r ≡ true
@@ -82,13 +77,13 @@ pub refused_by : (o : Option Refusal) (r : Refusal) → answer o ≡ Err r → o
 refused_by None r e = absurd (cc)
 refused_by (Some s) r e = cc
 
-pub room_judged : (limit bytes : ℕ) (o : Option Refusal) → bytes ≤ limit → o ≡ None → Ok tt ≡ answer (option_or o (cond (nat_lt limit bytes) (Some (refused.Full limit)) None))
+pub room_judged : (limit bytes : ℕ) (o : Option Refusal) → bytes ≤ limit → o ≡ None → Ok tt ≡ answer (option_or o (cond (nat_lt limit bytes) (Some (refused.Reason (reasons.Full limit))) None))
 room_judged limit bytes o fits none =
-    sym (ap (λ (p : Option Refusal). answer (option_or p (cond (nat_lt limit bytes) (Some (refused.Full limit)) None))) none ∙ ap (λ (b : Bool). answer (cond b (Some (refused.Full limit)) None)) (le-ltb limit bytes fits))
+    sym (ap (λ (p : Option Refusal). answer (option_or p (cond (nat_lt limit bytes) (Some (refused.Reason (reasons.Full limit))) None))) none ∙ ap (λ (b : Bool). answer (cond b (Some (refused.Reason (reasons.Full limit))) None)) (le-ltb limit bytes fits))
 
-pub full_judged : (limit bytes : ℕ) (r : Refusal) (o : Option Refusal) → r ≡ refused.Full limit → limit < bytes → o ≡ None → Err r ≡ answer (option_or o (cond (nat_lt limit bytes) (Some (refused.Full limit)) None))
+pub full_judged : (limit bytes : ℕ) (r : Refusal) (o : Option Refusal) → r ≡ refused.Reason (reasons.Full limit) → limit < bytes → o ≡ None → Err r ≡ answer (option_or o (cond (nat_lt limit bytes) (Some (refused.Reason (reasons.Full limit))) None))
 full_judged limit bytes r o is over none =
-    ap (λ (s : Refusal). Err s) is ∙ sym (ap (λ (p : Option Refusal). answer (option_or p (cond (nat_lt limit bytes) (Some (refused.Full limit)) None))) none ∙ ap (λ (b : Bool). answer (cond b (Some (refused.Full limit)) None)) (lt-ltb limit bytes over))
+    ap (λ (s : Refusal). Err s) is ∙ sym (ap (λ (p : Option Refusal). answer (option_or p (cond (nat_lt limit bytes) (Some (refused.Reason (reasons.Full limit))) None))) none ∙ ap (λ (b : Bool). answer (cond b (Some (refused.Reason (reasons.Full limit))) None)) (lt-ltb limit bytes over))
 
 pub first_of : (result : Result (Unit {0}) Refusal) (o : Option Refusal) → result ≡ answer o → IfErr result (λ r. (p : Option Refusal) → Err r ≡ answer (option_or o p))
 first_of (Ok t) o is = tt

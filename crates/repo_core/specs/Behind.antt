@@ -32,15 +32,7 @@ Stands before (Err r) after = after ≡ cond (is_fault r) false before
 
 -- Whether a draw, a grant or a request that is refused so gets a mark: not where the repository is down.
 abbrev pub is_marked : Refusal → Bool
-is_marked (the.Gone s) = true
-is_marked (the.Epoch n) = true
-is_marked (the.Blocked t) = true
-is_marked (the.TooOld t) = true
-is_marked (the.Stale x k) = true
-is_marked (the.Earlier t x) = true
-is_marked (the.Later t x) = true
-is_marked (the.Full n) = true
-is_marked the.ClockEnd = true
+is_marked (the.Reason r) = true
 is_marked (the.Down r) = false
 is_marked (the.Stopped r) = false
 is_marked (the.Damaged r k) = false

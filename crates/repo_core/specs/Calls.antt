@@ -18,6 +18,7 @@ use Rattle.std.specs.Prelude.{[], Bool, IsTrue, None, Option, Some, cond, false,
 use Rattle.thor_value.specs.FiniteMap.{has}
 use Rattle.validation_queue.specs.Clashes.{clash}
 use Rattle.validation_queue.specs.Names.{IsInOrder}
+use Rattle.refusal_reasons.specs.declared.reason.Reason.TheVariants as reasons
 use Rattle.validation_window.specs.declared.refusal.Refusal.TheVariants as refused
 use Rattle.validation_window.specs.declared.refusal.Refusal.{Refusal}
 use Rattle.volatile_state.specs.Volatile.{Memory, knows, transaction_of, verdict}
@@ -34,7 +35,7 @@ pub record MayRequest (h : Held) (M : Memory) (q : Request) (alone : Bool) : Typ
 
 -- what the buffer's limit has against a request
 abbrev pub full_of : Held → Request → Option Refusal
-full_of h q = cond (nat_lt h.objects.mob.limit (bytes_of q.writes)) (Some (refused.Full h.objects.mob.limit)) None
+full_of h q = cond (nat_lt h.objects.mob.limit (bytes_of q.writes)) (Some (refused.Reason (reasons.Full h.objects.mob.limit))) None
 
 -- what stands against a request of a session: the first refusal that holds, and behind all others that the buffer can't
 -- hold what it writes
@@ -73,14 +74,14 @@ IsTold M (Upgraded q) = Unit {0}
 -- a draw is refused so, where the client has seen times up to the floor
 abbrev pub DrawIsRefused : Memory → ℕ → ℕ → Refusal → Type 0
 DrawIsRefused M s floor r =
-    ((r ≡ refused.Gone s) × (is_live M.sessions s ≡ false))
-    ⊎ ((r ≡ refused.ClockEnd) × (is_live M.sessions s ≡ true) × ((now : ℕ) × (2 ^ 62 ≤ drawn_time now M.drawn floor)))
+    ((r ≡ refused.Reason (reasons.Gone s)) × (is_live M.sessions s ≡ false))
+    ⊎ ((r ≡ (refused.Reason reasons.ClockEnd)) × (is_live M.sessions s ≡ true) × ((now : ℕ) × (2 ^ 62 ≤ drawn_time now M.drawn floor)))
 
 -- a grant is refused so
 abbrev pub GrantIsRefused : Held → Memory → ℕ → Refusal → Type 0
 GrantIsRefused h M s r =
-    ((r ≡ refused.Gone s) × (is_live M.sessions s ≡ false))
-    ⊎ ((r ≡ refused.Full 65536) × (is_live M.sessions s ≡ true) × (65536 ≤ h.next_grant))
+    ((r ≡ refused.Reason (reasons.Gone s)) × (is_live M.sessions s ≡ false))
+    ⊎ ((r ≡ refused.Reason (reasons.Full 65536)) × (is_live M.sessions s ≡ true) × (65536 ≤ h.next_grant))
 
 -- the clock was asked once, by a draw above the floor, and what it gave ends the times that can be drawn
 pub record WasAsked (old new : Shown) (floor : ℕ) : Type 0 where

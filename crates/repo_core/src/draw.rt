@@ -7,10 +7,12 @@ ghost use Rattle.session_outbox.specs.declared.mark.Mark.TheVariants.{Drew as Dr
 ghost use Rattle.trace_record.specs.Recorded.{with_mark};
 ghost use Rattle.repo_core.specs.Refusing.{Leaves, StaysAsWas};
 ghost use Rattle.repo_core.specs.Calls.{DrawIsRefused, WasAsked};
-ghost use Rattle.validation_window.specs.declared.refusal.Refusal.TheVariants.{ClockEnd as IsClockEnd, Gone as IsGone};
+ghost use Rattle.refusal_reasons.specs.declared.reason.Reason.TheVariants.{ClockEnd as IsClockEnd, Gone as IsGone};
+ghost use Rattle.validation_window.specs.declared.refusal.Refusal.TheVariants.{Reason as IsReason};
 
 use crate::repo::Repo;
 use disk_trait::Parts;
+use refusal_reasons::Reason;
 use session_outbox::Mark;
 use thor_value::Ts;
 use validation_window::Refusal;
@@ -36,8 +38,8 @@ impl<P: Parts> Repo<P> {
         ensures why { IfErr result (λ r. is_marked r ≡ true → (self.old.is_up ≡ true) × DrawIsRefused self.old.memory session floor r) }
         ensures refused { IfErr result (λ r. self.new.trace ≡ with_refusal self.old.trace session None r) }
         ensures left { IfErr result (Leaves self.old self.new None) }
-        ensures asked { IsErrOf result IsClockEnd → WasAsked self.old self.new floor }
-        ensures unasked { IsErrOf result (IsGone session) → self.new.clock ≡ self.old.clock }
+        ensures asked { IsErrOf result (IsReason IsClockEnd) → WasAsked self.old self.new floor }
+        ensures unasked { IsErrOf result (IsReason (IsGone session)) → self.new.clock ≡ self.old.clock }
         ensures opened { self.new.opened_in ≡ self.old.opened_in }
     {
         self.check_up()?;
@@ -59,8 +61,8 @@ impl<P: Parts> Repo<P> {
         ensures marked { IfErr result (λ r. is_marked r ≡ true) }
         ensures why { IfErr result (DrawIsRefused self.old.memory session floor) }
         ensures rests { StaysAsWas self.old self.new }
-        ensures asked { IsErrOf result IsClockEnd → WasAsked self.old self.new floor }
-        ensures unasked { IsErrOf result (IsGone session) → self.new.clock ≡ self.old.clock }
+        ensures asked { IsErrOf result (IsReason IsClockEnd) → WasAsked self.old self.new floor }
+        ensures unasked { IsErrOf result (IsReason (IsGone session)) → self.new.clock ≡ self.old.clock }
         ensures opened { self.new.opened_in ≡ self.old.opened_in }
     {
         self.check_live(session)?;
@@ -70,7 +72,7 @@ impl<P: Parts> Repo<P> {
         if time < CLOCK_END {
             Ok(time)
         } else {
-            Err(Refusal::ClockEnd)
+            Err(Refusal::Reason(Reason::ClockEnd))
         }
     }
 

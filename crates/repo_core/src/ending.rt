@@ -7,10 +7,12 @@ ghost use Rattle.repo_core.specs.Refusing.{GoesDown, Leaves, StaysAsWas};
 ghost use Rattle.std.specs.Prelude.{◌≡◌, IfErr, Ok, OnErr, OnOk, Option, false, true};
 ghost use Rattle.live_sessions.specs.Sessions.{is_live};
 ghost use Rattle.trace_record.specs.Recorded.{with_mark};
-ghost use Rattle.validation_window.specs.declared.refusal.Refusal.TheVariants.{Down as IsDown, Gone as IsGone, NoMemory as IsNoMemory};
+ghost use Rattle.refusal_reasons.specs.declared.reason.Reason.TheVariants.{Gone as IsGone};
+ghost use Rattle.validation_window.specs.declared.refusal.Refusal.TheVariants.{Down as IsDown, NoMemory as IsNoMemory, Reason as IsReason};
 
 use crate::repo::Repo;
 use disk_trait::Parts;
+use refusal_reasons::Reason;
 use session_outbox::Mark;
 use thor_value::NoMemory;
 use validation_window::Refusal;
@@ -37,14 +39,14 @@ impl<P: Parts> Repo<P> {
     #[tactic(auto, using(crate::proofs::Refused::leaves_same))]
     pub(crate) fn check_live(&self, session: u32) -> Result<(), Refusal>
         ensures live { OnOk result (is_live self.now.memory.sessions session ≡ true) }
-        ensures refusal { IfErr result (λ r. r ≡ IsGone session) }
+        ensures refusal { IfErr result (λ r. r ≡ IsReason (IsGone session)) }
         ensures gone { OnErr result (is_live self.now.memory.sessions session ≡ false) }
         ensures left { IfErr result (λ r. (e : Option AnEntry) → Leaves self.now self.now e r) }
     {
         if self.memory.sessions().is_live(session) {
             Ok(())
         } else {
-            Err(Refusal::Gone { session })
+            Err(Refusal::Reason(Reason::Gone { session }))
         }
     }
 

@@ -13,6 +13,7 @@ ghost use Rattle.repo_core.specs.Calls.{GrantIsRefused};
 
 use crate::repo::Repo;
 use disk_trait::Parts;
+use refusal_reasons::Reason;
 use session_outbox::Mark;
 use thor_value::NoMemory;
 use validation_window::Refusal;
@@ -55,7 +56,7 @@ impl<P: Parts> Repo<P> {
         if page < PAGES {
             Ok(page)
         } else {
-            Err(Refusal::Full { limit: PAGES })
+            Err(Refusal::Reason(Reason::Full { limit: PAGES }))
         }
     }
 

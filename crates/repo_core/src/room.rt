@@ -10,13 +10,15 @@ ghost use Rattle.stable_store.specs.Kept.{IsKept, RestsWith, held_of, is_fault, 
 ghost use Rattle.stable_store.specs.Saying.{IsSaid};
 ghost use Rattle.commit_log.specs.declared.entry.Entry.{Entry as AnEntry};
 ghost use Rattle.repo_core.specs.Refusing.{Leaves};
-ghost use Rattle.validation_window.specs.declared.refusal.Refusal.TheVariants.{Full as IsFull};
+ghost use Rattle.refusal_reasons.specs.declared.reason.Reason.TheVariants.{Full as IsFull};
+ghost use Rattle.validation_window.specs.declared.refusal.Refusal.TheVariants.{Reason as IsReason};
 
 use crate::repo::Repo;
 use disk_trait::Parts;
 use held_state::HeldState;
 use mob_buffer::spelled_bytes;
 use mob_flusher::Flushed;
+use refusal_reasons::Reason;
 use stable_store::Stable;
 use thor_value::{Ts, Writes};
 use validation_window::Refusal;
@@ -26,12 +28,12 @@ impl<P: Parts> Repo<P> {
     pub(crate) fn check_room(&self, writes: &Writes) -> Result<(), Refusal>
         requires { AllByRecursion CanStand writes.now }
         ensures marked { IfErr result (λ r. is_marked r ≡ true) }
-        ensures full { IfErr result (λ r. (r ≡ IsFull self.now.held.objects.mob.limit) × (self.now.held.objects.mob.limit < bytes_of writes.now)) }
+        ensures full { IfErr result (λ r. (r ≡ IsReason (IsFull self.now.held.objects.mob.limit)) × (self.now.held.objects.mob.limit < bytes_of writes.now)) }
         ensures room { OnOk result (bytes_of writes.now ≤ self.now.held.objects.mob.limit) }
     {
         let limit = self.stable.held().objects().mob().limit();
         if spelled_bytes(writes) > u64::from(limit) {
-            Err(Refusal::Full { limit })
+            Err(Refusal::Reason(Reason::Full { limit }))
         } else {
             Ok(())
         }

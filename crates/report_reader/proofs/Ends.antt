@@ -12,7 +12,9 @@ use Rattle.thor_value.specs.declared.values.Who.{Who}
 use Rattle.thor_value.specs.declared.values.Answer.{Answer}
 use Rattle.thor_value.specs.declared.values.Answer.TheVariants.{Ints, Fault}
 use Rattle.serial_model.specs.declared.outcomes.Cause.{Cause}
-use Rattle.serial_model.specs.declared.outcomes.Cause.TheVariants.{Stale, Earlier, Later, TooOld, Epoch, Blocked, Gone, Missing, Down, Full, ClockEnd, Calls}
+use Rattle.serial_model.specs.declared.outcomes.Cause.TheVariants.{Missing, Down, Calls}
+use Rattle.serial_model.specs.declared.outcomes.Cause.TheVariants as cause
+use Rattle.refusal_reasons.specs.declared.reason.Reason.TheVariants.{Stale, Earlier, Later, TooOld, Epoch, Blocked, Gone, Full, ClockEnd}
 use Rattle.serial_model.specs.declared.outcomes.Ended.{Ended}
 use Rattle.serial_model.specs.declared.outcomes.ItemOutcome.{ItemOutcome}
 use Rattle.serial_model.specs.declared.outcomes.ItemOutcome.TheVariants.{Done, Upgraded, Faulted, Refused, Unknown}
@@ -42,17 +44,17 @@ who_fits : (w : Who) → IsWho w → FitsWho w
 who_fits w h = (omega (arith, h.0), omega (arith, h.1))
 
 cause_fits : (c : Cause) → IsCause c → FitsCause c
-cause_fits (Stale x p) h = (oref_fits x h.0, h.1)
-cause_fits (Earlier t x) h = (ts_fits t h.0, oref_fits x h.1)
-cause_fits (Later t x) h = (ts_fits t h.0, oref_fits x h.1)
-cause_fits (TooOld t) h = ts_fits t h
-cause_fits (Epoch n) h = omega (arith, h)
-cause_fits (Blocked t) h = ts_fits t h
-cause_fits (Gone n) h = omega (arith, h)
+cause_fits (cause.Reason (Stale x p)) h = (oref_fits x h.0, h.1)
+cause_fits (cause.Reason (Earlier t x)) h = (ts_fits t h.0, oref_fits x h.1)
+cause_fits (cause.Reason (Later t x)) h = (ts_fits t h.0, oref_fits x h.1)
+cause_fits (cause.Reason (TooOld t)) h = ts_fits t h
+cause_fits (cause.Reason (Epoch n)) h = omega (arith, h)
+cause_fits (cause.Reason (Blocked t)) h = ts_fits t h
+cause_fits (cause.Reason (Gone n)) h = omega (arith, h)
 cause_fits (Missing x) h = oref_fits x h
 cause_fits (Down n) h = omega (arith, h)
-cause_fits (Full n) h = omega (arith, h)
-cause_fits ClockEnd h = tt
+cause_fits (cause.Reason (Full n)) h = omega (arith, h)
+cause_fits (cause.Reason ClockEnd) h = tt
 cause_fits Calls h = tt
 
 outcome_fits : (o : ItemOutcome) → IsOutcome o → FitsOutcome o

@@ -4,7 +4,9 @@ use Rattle.std.specs.Fmt.{decimal}
 use Rattle.thor_value.specs.declared.names.Oref.{Oref}
 use Rattle.thor_value.specs.declared.names.Ts.{Ts}
 use Rattle.serial_model.specs.declared.outcomes.Cause.{Cause}
-use Rattle.serial_model.specs.declared.outcomes.Cause.TheVariants.{Stale, Earlier, Later, TooOld, Epoch, Blocked, Gone, Missing, Down, Full, ClockEnd, Calls}
+use Rattle.serial_model.specs.declared.outcomes.Cause.TheVariants.{Missing, Down, Calls}
+use Rattle.serial_model.specs.declared.outcomes.Cause.TheVariants as cause
+use Rattle.refusal_reasons.specs.declared.reason.Reason.TheVariants.{Stale, Earlier, Later, TooOld, Epoch, Blocked, Gone, Full, ClockEnd}
 use Rattle.report_text.specs.Lines.{spaced_words}
 use Rattle.report_text.specs.Words.{Word, ts_word, oref_word, cause_words}
 use Rattle.report_reader.specs.Reading.{Reading, made}
@@ -50,22 +52,22 @@ alone text word = ap (λ (w : List ℕ). text ++ w) (append-nil word)
 alone_both : (text first second : List ℕ) → text ++ (first ++ (32 ∷ (second ++ []))) ≡ text ++ (first ++ (32 ∷ second))
 alone_both text first second = ap (λ (w : List ℕ). text ++ (first ++ (32 ∷ w))) (append-nil second)
 
-stale : IsCase {X = Oref × ℕ} NoDigit IsCause cause_text (λ x. IsOref x.0 × Below 64 x.1) (λ x. Stale x.0 x.1) (codes "Stale ", made (λ x. Stale x.0 x.1) place_at)
+stale : IsCase {X = Oref × ℕ} NoDigit IsCause cause_text (λ x. IsOref x.0 × Below 64 x.1) (λ x. cause.Reason (Stale x.0 x.1)) (codes "Stale ", made (λ x. cause.Reason (Stale x.0 x.1)) place_at)
 unfolding cause_text cause_words
 stale =
-    case_made NoDigit IsCause cause_text (λ x. IsOref x.0 × Below 64 x.1) (λ x. oref_word x.0 ++ (gap ++ decimal x.1)) (codes "Stale ") (λ x. Stale x.0 x.1) place_at exact_place
+    case_made NoDigit IsCause cause_text (λ x. IsOref x.0 × Below 64 x.1) (λ x. oref_word x.0 ++ (gap ++ decimal x.1)) (codes "Stale ") (λ x. cause.Reason (Stale x.0 x.1)) place_at exact_place
     (λ x h. (h, alone_both (codes "Stale ") (oref_word x.0) (decimal x.1)))
 
-earlier : IsCase {X = Ts × Oref} NoDigit IsCause cause_text (λ x. IsTs x.0 × IsOref x.1) (λ x. Earlier x.0 x.1) (codes "Earlier ", made (λ x. Earlier x.0 x.1) ts_with_oref_at)
+earlier : IsCase {X = Ts × Oref} NoDigit IsCause cause_text (λ x. IsTs x.0 × IsOref x.1) (λ x. cause.Reason (Earlier x.0 x.1)) (codes "Earlier ", made (λ x. cause.Reason (Earlier x.0 x.1)) ts_with_oref_at)
 unfolding cause_text cause_words
 earlier =
-    case_made NoDigit IsCause cause_text (λ x. IsTs x.0 × IsOref x.1) (λ x. ts_word x.0 ++ (gap ++ oref_word x.1)) (codes "Earlier ") (λ x. Earlier x.0 x.1) ts_with_oref_at exact_ts_with_oref
+    case_made NoDigit IsCause cause_text (λ x. IsTs x.0 × IsOref x.1) (λ x. ts_word x.0 ++ (gap ++ oref_word x.1)) (codes "Earlier ") (λ x. cause.Reason (Earlier x.0 x.1)) ts_with_oref_at exact_ts_with_oref
     (λ x h. (h, alone_both (codes "Earlier ") (ts_word x.0) (oref_word x.1)))
 
-later : IsCase {X = Ts × Oref} NoDigit IsCause cause_text (λ x. IsTs x.0 × IsOref x.1) (λ x. Later x.0 x.1) (codes "Later ", made (λ x. Later x.0 x.1) ts_with_oref_at)
+later : IsCase {X = Ts × Oref} NoDigit IsCause cause_text (λ x. IsTs x.0 × IsOref x.1) (λ x. cause.Reason (Later x.0 x.1)) (codes "Later ", made (λ x. cause.Reason (Later x.0 x.1)) ts_with_oref_at)
 unfolding cause_text cause_words
 later =
-    case_made NoDigit IsCause cause_text (λ x. IsTs x.0 × IsOref x.1) (λ x. ts_word x.0 ++ (gap ++ oref_word x.1)) (codes "Later ") (λ x. Later x.0 x.1) ts_with_oref_at exact_ts_with_oref
+    case_made NoDigit IsCause cause_text (λ x. IsTs x.0 × IsOref x.1) (λ x. ts_word x.0 ++ (gap ++ oref_word x.1)) (codes "Later ") (λ x. cause.Reason (Later x.0 x.1)) ts_with_oref_at exact_ts_with_oref
     (λ x h. (h, alone_both (codes "Later ") (ts_word x.0) (oref_word x.1)))
 
 -- a cause that names one thing
@@ -74,21 +76,21 @@ module _ {X : Type 0} (HasX : X → Type 0) (word : X → List ℕ) (read : Read
       → IsCase NoDigit IsCause cause_text HasX make (text, made make read)
   one text make fits spelt = case_made NoDigit IsCause cause_text HasX word text make read ok (λ x h. (fits x h, spelt x ∙ alone text (word x)))
 
-too_old : IsCase NoDigit IsCause cause_text IsTs (λ t. TooOld t) (codes "TooOld ", made (λ t. TooOld t) ts_at)
+too_old : IsCase NoDigit IsCause cause_text IsTs (λ t. cause.Reason (TooOld t)) (codes "TooOld ", made (λ t. cause.Reason (TooOld t)) ts_at)
 unfolding cause_text cause_words
-too_old = one IsTs ts_word ts_at exact_ts (codes "TooOld ") (λ t. TooOld t) (λ t h. h) (λ t. refl)
+too_old = one IsTs ts_word ts_at exact_ts (codes "TooOld ") (λ t. cause.Reason (TooOld t)) (λ t h. h) (λ t. refl)
 
-blocked : IsCase NoDigit IsCause cause_text IsTs (λ t. Blocked t) (codes "Blocked ", made (λ t. Blocked t) ts_at)
+blocked : IsCase NoDigit IsCause cause_text IsTs (λ t. cause.Reason (Blocked t)) (codes "Blocked ", made (λ t. cause.Reason (Blocked t)) ts_at)
 unfolding cause_text cause_words
-blocked = one IsTs ts_word ts_at exact_ts (codes "Blocked ") (λ t. Blocked t) (λ t h. h) (λ t. refl)
+blocked = one IsTs ts_word ts_at exact_ts (codes "Blocked ") (λ t. cause.Reason (Blocked t)) (λ t h. h) (λ t. refl)
 
-epoch : IsCase NoDigit IsCause cause_text (Below 32) (λ n. Epoch n) (codes "Epoch ", made (λ n. Epoch n) u32_at)
+epoch : IsCase NoDigit IsCause cause_text (Below 32) (λ n. cause.Reason (Epoch n)) (codes "Epoch ", made (λ n. cause.Reason (Epoch n)) u32_at)
 unfolding cause_text cause_words
-epoch = one (Below 32) decimal u32_at exact_u32 (codes "Epoch ") (λ n. Epoch n) (λ n h. h) (λ n. refl)
+epoch = one (Below 32) decimal u32_at exact_u32 (codes "Epoch ") (λ n. cause.Reason (Epoch n)) (λ n h. h) (λ n. refl)
 
-gone : IsCase NoDigit IsCause cause_text (Below 32) (λ n. Gone n) (codes "Gone ", made (λ n. Gone n) u32_at)
+gone : IsCase NoDigit IsCause cause_text (Below 32) (λ n. cause.Reason (Gone n)) (codes "Gone ", made (λ n. cause.Reason (Gone n)) u32_at)
 unfolding cause_text cause_words
-gone = one (Below 32) decimal u32_at exact_u32 (codes "Gone ") (λ n. Gone n) (λ n h. h) (λ n. refl)
+gone = one (Below 32) decimal u32_at exact_u32 (codes "Gone ") (λ n. cause.Reason (Gone n)) (λ n h. h) (λ n. refl)
 
 missing : IsCase NoDigit IsCause cause_text IsOref (λ x. Missing x) (codes "Missing ", made (λ x. Missing x) oref_at)
 unfolding cause_text cause_words
@@ -98,11 +100,11 @@ down : IsCase NoDigit IsCause cause_text (Below 8) (λ n. Down n) (codes "Down "
 unfolding cause_text cause_words
 down = one (Below 8) decimal u8_at exact_u8 (codes "Down ") (λ n. Down n) (λ n h. h) (λ n. refl)
 
-full : IsCase NoDigit IsCause cause_text (Below 32) (λ n. Full n) (codes "Full ", made (λ n. Full n) u32_at)
+full : IsCase NoDigit IsCause cause_text (Below 32) (λ n. cause.Reason (Full n)) (codes "Full ", made (λ n. cause.Reason (Full n)) u32_at)
 unfolding cause_text cause_words
-full = one (Below 32) decimal u32_at exact_u32 (codes "Full ") (λ n. Full n) (λ n h. h) (λ n. refl)
+full = one (Below 32) decimal u32_at exact_u32 (codes "Full ") (λ n. cause.Reason (Full n)) (λ n h. h) (λ n. refl)
 
-clock_end : IsCause ClockEnd × (cause_text ClockEnd ≡ codes "ClockEnd")
+clock_end : IsCause (cause.Reason ClockEnd) × (cause_text (cause.Reason ClockEnd) ≡ codes "ClockEnd")
 unfolding cause_text cause_words
 clock_end = (tt, refl)
 
@@ -111,17 +113,17 @@ unfolding cause_text cause_words
 calls = (tt, refl)
 
 causes_stand : (c : Cause) → IsCause c → StandsAmong NoDigit IsCause cause_text c causes
-causes_stand (Stale x p) h = inl (stale.stands (x, p) h)
-causes_stand (Earlier t x) h = inr (inl (earlier.stands (t, x) h))
-causes_stand (Later t x) h = inr (inr (inl (later.stands (t, x) h)))
-causes_stand (TooOld t) h = inr (inr (inr (inl (too_old.stands t h))))
-causes_stand (Blocked t) h = inr (inr (inr (inr (inl (blocked.stands t h)))))
-causes_stand (Epoch n) h = inr (inr (inr (inr (inr (inl (epoch.stands n h))))))
-causes_stand (Gone n) h = inr (inr (inr (inr (inr (inr (inl (gone.stands n h)))))))
+causes_stand (cause.Reason (Stale x p)) h = inl (stale.stands (x, p) h)
+causes_stand (cause.Reason (Earlier t x)) h = inr (inl (earlier.stands (t, x) h))
+causes_stand (cause.Reason (Later t x)) h = inr (inr (inl (later.stands (t, x) h)))
+causes_stand (cause.Reason (TooOld t)) h = inr (inr (inr (inl (too_old.stands t h))))
+causes_stand (cause.Reason (Blocked t)) h = inr (inr (inr (inr (inl (blocked.stands t h)))))
+causes_stand (cause.Reason (Epoch n)) h = inr (inr (inr (inr (inr (inl (epoch.stands n h))))))
+causes_stand (cause.Reason (Gone n)) h = inr (inr (inr (inr (inr (inr (inl (gone.stands n h)))))))
 causes_stand (Missing x) h = inr (inr (inr (inr (inr (inr (inr (inl (missing.stands x h))))))))
 causes_stand (Down n) h = inr (inr (inr (inr (inr (inr (inr (inr (inl (down.stands n h)))))))))
-causes_stand (Full n) h = inr (inr (inr (inr (inr (inr (inr (inr (inr (inl (full.stands n h))))))))))
-causes_stand ClockEnd h = inr (inr (inr (inr (inr (inr (inr (inr (inr (inr (inl (only_stands NoDigit IsCause cause_text (codes "ClockEnd") ClockEnd clock_end)))))))))))
+causes_stand (cause.Reason (Full n)) h = inr (inr (inr (inr (inr (inr (inr (inr (inr (inl (full.stands n h))))))))))
+causes_stand (cause.Reason ClockEnd) h = inr (inr (inr (inr (inr (inr (inr (inr (inr (inr (inl (only_stands NoDigit IsCause cause_text (codes "ClockEnd") (cause.Reason ClockEnd) clock_end)))))))))))
 causes_stand Calls h = inr (inr (inr (inr (inr (inr (inr (inr (inr (inr (inr (inl (only_stands NoDigit IsCause cause_text (codes "Calls") Calls calls))))))))))))
 
 pub exact_cause : IsExact NoDigit IsCause cause_text cause_at
@@ -148,7 +150,7 @@ exact_cause =
                       (
                         full.finds,
                         (
-                          only_finds NoDigit IsCause cause_text (codes "ClockEnd") ClockEnd clock_end,
+                          only_finds NoDigit IsCause cause_text (codes "ClockEnd") (cause.Reason ClockEnd) clock_end,
                           (only_finds NoDigit IsCause cause_text (codes "Calls") Calls calls, tt),
                         ),
                       ),
@@ -165,15 +167,15 @@ exact_cause =
 -- the words of a cause behind others
 pub cause_spaced : (c : Cause) → spaced_words (cause_words c) ≡ 32 ∷ cause_text c
 unfolding cause_text cause_words
-cause_spaced (Stale x p) = refl
-cause_spaced (Earlier t x) = refl
-cause_spaced (Later t x) = refl
-cause_spaced (TooOld t) = refl
-cause_spaced (Epoch n) = refl
-cause_spaced (Blocked t) = refl
-cause_spaced (Gone n) = refl
+cause_spaced (cause.Reason (Stale x p)) = refl
+cause_spaced (cause.Reason (Earlier t x)) = refl
+cause_spaced (cause.Reason (Later t x)) = refl
+cause_spaced (cause.Reason (TooOld t)) = refl
+cause_spaced (cause.Reason (Epoch n)) = refl
+cause_spaced (cause.Reason (Blocked t)) = refl
+cause_spaced (cause.Reason (Gone n)) = refl
 cause_spaced (Missing x) = refl
 cause_spaced (Down n) = refl
-cause_spaced (Full n) = refl
-cause_spaced ClockEnd = refl
+cause_spaced (cause.Reason (Full n)) = refl
+cause_spaced (cause.Reason ClockEnd) = refl
 cause_spaced Calls = refl

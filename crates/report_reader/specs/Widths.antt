@@ -9,7 +9,9 @@ use Rattle.thor_value.specs.declared.values.Who.{Who}
 use Rattle.thor_value.specs.declared.values.Answer.{Answer}
 use Rattle.thor_value.specs.declared.values.Answer.TheVariants.{Ints, Fault}
 use Rattle.serial_model.specs.declared.outcomes.Cause.{Cause}
-use Rattle.serial_model.specs.declared.outcomes.Cause.TheVariants.{Stale, Earlier, Later, TooOld, Epoch, Blocked, Gone, Missing, Down, Full, ClockEnd, Calls}
+use Rattle.serial_model.specs.declared.outcomes.Cause.TheVariants.{Missing, Down, Calls}
+use Rattle.serial_model.specs.declared.outcomes.Cause.TheVariants as cause
+use Rattle.refusal_reasons.specs.declared.reason.Reason.TheVariants.{Stale, Earlier, Later, TooOld, Epoch, Blocked, Gone, Full, ClockEnd}
 use Rattle.serial_model.specs.declared.outcomes.ItemOutcome.{ItemOutcome}
 use Rattle.serial_model.specs.declared.outcomes.ItemOutcome.TheVariants.{Done, Upgraded, Faulted, Refused, Unknown}
 
@@ -31,17 +33,17 @@ IsInt z = FitsSigned w64 z
 
 -- a cause
 abbrev pub IsCause : Cause → Type 0
-IsCause (Stale oref place) = IsOref oref × (place < 2 ^ 64)
-IsCause (Earlier tx oref) = IsTs tx × IsOref oref
-IsCause (Later tx oref) = IsTs tx × IsOref oref
-IsCause (TooOld threshold) = IsTs threshold
-IsCause (Epoch n) = n < 2 ^ 32
-IsCause (Blocked tx) = IsTs tx
-IsCause (Gone session) = session < 2 ^ 32
+IsCause (cause.Reason (Stale oref place)) = IsOref oref × (place < 2 ^ 64)
+IsCause (cause.Reason (Earlier tx oref)) = IsTs tx × IsOref oref
+IsCause (cause.Reason (Later tx oref)) = IsTs tx × IsOref oref
+IsCause (cause.Reason (TooOld threshold)) = IsTs threshold
+IsCause (cause.Reason (Epoch n)) = n < 2 ^ 32
+IsCause (cause.Reason (Blocked tx)) = IsTs tx
+IsCause (cause.Reason (Gone session)) = session < 2 ^ 32
 IsCause (Missing oref) = IsOref oref
 IsCause (Down repo) = repo < 2 ^ 8
-IsCause (Full limit) = limit < 2 ^ 32
-IsCause ClockEnd = ⊤
+IsCause (cause.Reason (Full limit)) = limit < 2 ^ 32
+IsCause (cause.Reason ClockEnd) = ⊤
 IsCause Calls = ⊤
 
 -- an outcome

@@ -7,6 +7,7 @@ ghost use Rattle.report_reader.specs.Causes.{cause_at, other_causes, place_at, t
 use crate::names::{oref_at, ts_at};
 use crate::numbers::{behind, stripped, u8_at, u32_at, u64_at};
 use crate::unread::Unread;
+use refusal_reasons::Reason;
 use serial_model::Cause;
 use thor_value::{Oref, Ts};
 
@@ -38,10 +39,10 @@ fn other_cause_at(bytes: &[u8]) -> Result<(Cause, &[u8]), Unread>
 {
     if let Some(rest) = stripped(b"Epoch ", bytes) {
         let (n, rest) = u32_at(rest)?;
-        Ok((Cause::Epoch { n }, rest))
+        Ok((Cause::Reason(Reason::Epoch { n }), rest))
     } else if let Some(rest) = stripped(b"Gone ", bytes) {
         let (session, rest) = u32_at(rest)?;
-        Ok((Cause::Gone { session }, rest))
+        Ok((Cause::Reason(Reason::Gone { session }), rest))
     } else if let Some(rest) = stripped(b"Missing ", bytes) {
         let (oref, rest) = oref_at(rest)?;
         Ok((Cause::Missing { oref }, rest))
@@ -50,9 +51,9 @@ fn other_cause_at(bytes: &[u8]) -> Result<(Cause, &[u8]), Unread>
         Ok((Cause::Down { repo }, rest))
     } else if let Some(rest) = stripped(b"Full ", bytes) {
         let (limit, rest) = u32_at(rest)?;
-        Ok((Cause::Full { limit }, rest))
+        Ok((Cause::Reason(Reason::Full { limit }), rest))
     } else if let Some(rest) = stripped(b"ClockEnd", bytes) {
-        Ok((Cause::ClockEnd, rest))
+        Ok((Cause::Reason(Reason::ClockEnd), rest))
     } else {
         let rest = behind(b"Calls", bytes)?;
         Ok((Cause::Calls, rest))
@@ -66,19 +67,19 @@ pub(crate) fn cause_at(bytes: &[u8]) -> Result<(Cause, &[u8]), Unread>
 {
     if let Some(rest) = stripped(b"Stale ", bytes) {
         let ((oref, place), rest) = place_at(rest)?;
-        Ok((Cause::Stale { oref, place }, rest))
+        Ok((Cause::Reason(Reason::Stale { oref, place }), rest))
     } else if let Some(rest) = stripped(b"Earlier ", bytes) {
         let ((tx, oref), rest) = ts_with_oref_at(rest)?;
-        Ok((Cause::Earlier { tx, oref }, rest))
+        Ok((Cause::Reason(Reason::Earlier { tx, oref }), rest))
     } else if let Some(rest) = stripped(b"Later ", bytes) {
         let ((tx, oref), rest) = ts_with_oref_at(rest)?;
-        Ok((Cause::Later { tx, oref }, rest))
+        Ok((Cause::Reason(Reason::Later { tx, oref }), rest))
     } else if let Some(rest) = stripped(b"TooOld ", bytes) {
         let (threshold, rest) = ts_at(rest)?;
-        Ok((Cause::TooOld { threshold }, rest))
+        Ok((Cause::Reason(Reason::TooOld { threshold }), rest))
     } else if let Some(rest) = stripped(b"Blocked ", bytes) {
         let (tx, rest) = ts_at(rest)?;
-        Ok((Cause::Blocked { tx }, rest))
+        Ok((Cause::Reason(Reason::Blocked { tx }), rest))
     } else {
         other_cause_at(bytes)
     }

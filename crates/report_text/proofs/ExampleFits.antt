@@ -8,7 +8,8 @@ use Rattle.thor_value.specs.declared.values.Answer.TheVariants.{Ints, Fault}
 use Rattle.thor_value.specs.declared.values.Fault.TheVariants.{NullCall}
 use Rattle.serial_model.specs.declared.outcomes.ItemOutcome.{ItemOutcome}
 use Rattle.serial_model.specs.declared.outcomes.ItemOutcome.TheVariants.{Done, Upgraded, Faulted, Refused, Unknown}
-use Rattle.serial_model.specs.declared.outcomes.Cause.TheVariants.{Stale}
+use Rattle.serial_model.specs.declared.outcomes.Cause.TheVariants as cause
+use Rattle.refusal_reasons.specs.declared.reason.Reason.TheVariants.{Stale}
 use Rattle.report_text.specs.Fits.{FitsTs, FitsOref, FitsInts, FitsOutcome}
 use Rattle.report_text.specs.Shown.{FitsItem, FitsEntry, IsReported}
 use Rattle.report_text.specs.Examples.{at_time, at_slot, ended, entry, example_ends, example_history}
@@ -53,7 +54,7 @@ ends_fit = all_of FitsItem example_ends (
       (
         item_fits 4 (Faulted (at_time 6) NullCall) (omega arith) (time_fits 6 (omega arith)),
         (
-          item_fits 5 (Refused (Stale (at_slot 0) 9)) (omega arith) (slot_fits 0 (omega arith), omega arith),
+          item_fits 5 (Refused (cause.Reason (Stale (at_slot 0) 9))) (omega arith) (slot_fits 0 (omega arith), omega arith),
           (item_fits 6 (Unknown (at_time 12)) (omega arith) (time_fits 12 (omega arith)), tt),
         ),
       ),

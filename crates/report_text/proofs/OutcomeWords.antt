@@ -5,7 +5,9 @@ use Rattle.std.specs.Fmt.{decimal, signed_decimal}
 use Rattle.std.specs.Int.{w64}
 use Rattle.std.proofs.Common.{FitsSigned}
 use Rattle.serial_model.specs.declared.outcomes.Cause.{Cause}
-use Rattle.serial_model.specs.declared.outcomes.Cause.TheVariants.{Stale, Earlier, Later, TooOld, Epoch, Blocked, Gone, Missing, Down, Full, ClockEnd, Calls}
+use Rattle.serial_model.specs.declared.outcomes.Cause.TheVariants.{Missing, Down, Calls}
+use Rattle.serial_model.specs.declared.outcomes.Cause.TheVariants as cause
+use Rattle.refusal_reasons.specs.declared.reason.Reason.TheVariants.{Stale, Earlier, Later, TooOld, Epoch, Blocked, Gone, Full, ClockEnd}
 use Rattle.serial_model.specs.declared.outcomes.ItemOutcome.{ItemOutcome}
 use Rattle.serial_model.specs.declared.outcomes.ItemOutcome.TheVariants.{Done, Upgraded, Faulted, Refused, Unknown}
 use Rattle.report_text.specs.Words.{Word, ts_word, oref_word, fault_word, cause_words}
@@ -42,17 +44,17 @@ values_tell xs ys f g e = map_tells signed_decimal (λ z. FitsSigned w64 z) (λ 
 
 pub cause_plain : (c : Cause) → FitsCause c → Plain (cause_words c)
 unfolding cause_words
-cause_plain (Stale oref place) f = (tested_above 32 (codes "Stale") refl, (oref_plain oref f.0, (decimal_plain place f.1, tt)))
-cause_plain (Earlier tx oref) f = (tested_above 32 (codes "Earlier") refl, (ts_plain tx f.0, (oref_plain oref f.1, tt)))
-cause_plain (Later tx oref) f = (tested_above 32 (codes "Later") refl, (ts_plain tx f.0, (oref_plain oref f.1, tt)))
-cause_plain (TooOld threshold) f = (tested_above 32 (codes "TooOld") refl, (ts_plain threshold f, tt))
-cause_plain (Epoch n) f = (tested_above 32 (codes "Epoch") refl, (decimal_plain n f, tt))
-cause_plain (Blocked tx) f = (tested_above 32 (codes "Blocked") refl, (ts_plain tx f, tt))
-cause_plain (Gone session) f = (tested_above 32 (codes "Gone") refl, (decimal_plain session f, tt))
+cause_plain (cause.Reason (Stale oref place)) f = (tested_above 32 (codes "Stale") refl, (oref_plain oref f.0, (decimal_plain place f.1, tt)))
+cause_plain (cause.Reason (Earlier tx oref)) f = (tested_above 32 (codes "Earlier") refl, (ts_plain tx f.0, (oref_plain oref f.1, tt)))
+cause_plain (cause.Reason (Later tx oref)) f = (tested_above 32 (codes "Later") refl, (ts_plain tx f.0, (oref_plain oref f.1, tt)))
+cause_plain (cause.Reason (TooOld threshold)) f = (tested_above 32 (codes "TooOld") refl, (ts_plain threshold f, tt))
+cause_plain (cause.Reason (Epoch n)) f = (tested_above 32 (codes "Epoch") refl, (decimal_plain n f, tt))
+cause_plain (cause.Reason (Blocked tx)) f = (tested_above 32 (codes "Blocked") refl, (ts_plain tx f, tt))
+cause_plain (cause.Reason (Gone session)) f = (tested_above 32 (codes "Gone") refl, (decimal_plain session f, tt))
 cause_plain (Missing oref) f = (tested_above 32 (codes "Missing") refl, (oref_plain oref f, tt))
 cause_plain (Down repo) f = (tested_above 32 (codes "Down") refl, (decimal_plain repo f, tt))
-cause_plain (Full limit) f = (tested_above 32 (codes "Full") refl, (decimal_plain limit f, tt))
-cause_plain ClockEnd f = (tested_above 32 (codes "ClockEnd") refl, tt)
+cause_plain (cause.Reason (Full limit)) f = (tested_above 32 (codes "Full") refl, (decimal_plain limit f, tt))
+cause_plain (cause.Reason ClockEnd) f = (tested_above 32 (codes "ClockEnd") refl, tt)
 cause_plain Calls f = (tested_above 32 (codes "Calls") refl, tt)
 
 pub outcome_plain : (n : ℕ) (o : ItemOutcome) → n < 2 ^ 64 → FitsOutcome o → Plain (outcome_words n o)
@@ -69,40 +71,40 @@ outcome_plain n (Unknown tx) h f = (tested_above 32 (codes "Unknown") refl, (ts_
 pub cause_tells : (c d : Cause) (n m : ℕ) → FitsCause c → FitsCause d → n < 2 ^ 64 → m < 2 ^ 64
     → cause_words c ++ try_words n ≡ cause_words d ++ try_words m → (c ≡ d) × (n ≡ m)
 unfolding cause_words
-cause_tells (Stale x p) (Stale y q) n m f g h k e =
+cause_tells (cause.Reason (Stale x p)) (cause.Reason (Stale y q)) n m f g h k e =
     let a : oref_word x ≡ oref_word y = cc in let b : decimal p ≡ decimal q = cc in let t : decimal n ≡ decimal m = cc in
     let same = oref_tells x y f.0 g.0 a in let place = decimal_injective p q f.1 g.1 b in
-    ((λ i. Stale (same i) (place i)), decimal_injective n m h k t)
-cause_tells (Earlier t x) (Earlier u y) n m f g h k e =
+    ((λ i. cause.Reason (Stale (same i) (place i))), decimal_injective n m h k t)
+cause_tells (cause.Reason (Earlier t x)) (cause.Reason (Earlier u y)) n m f g h k e =
     let a : ts_word t ≡ ts_word u = cc in let b : oref_word x ≡ oref_word y = cc in let c : decimal n ≡ decimal m = cc in
     let tx = ts_tells t u f.0 g.0 a in let same = oref_tells x y f.1 g.1 b in
-    ((λ i. Earlier (tx i) (same i)), decimal_injective n m h k c)
-cause_tells (Later t x) (Later u y) n m f g h k e =
+    ((λ i. cause.Reason (Earlier (tx i) (same i))), decimal_injective n m h k c)
+cause_tells (cause.Reason (Later t x)) (cause.Reason (Later u y)) n m f g h k e =
     let a : ts_word t ≡ ts_word u = cc in let b : oref_word x ≡ oref_word y = cc in let c : decimal n ≡ decimal m = cc in
     let tx = ts_tells t u f.0 g.0 a in let same = oref_tells x y f.1 g.1 b in
-    ((λ i. Later (tx i) (same i)), decimal_injective n m h k c)
-cause_tells (TooOld t) (TooOld u) n m f g h k e =
+    ((λ i. cause.Reason (Later (tx i) (same i))), decimal_injective n m h k c)
+cause_tells (cause.Reason (TooOld t)) (cause.Reason (TooOld u)) n m f g h k e =
     let a : ts_word t ≡ ts_word u = cc in let c : decimal n ≡ decimal m = cc in
-    (ap TooOld (ts_tells t u f g a), decimal_injective n m h k c)
-cause_tells (Epoch a) (Epoch b) n m f g h k e =
+    (ap (λ t. cause.Reason (TooOld t)) (ts_tells t u f g a), decimal_injective n m h k c)
+cause_tells (cause.Reason (Epoch a)) (cause.Reason (Epoch b)) n m f g h k e =
     let a' : decimal a ≡ decimal b = cc in let c : decimal n ≡ decimal m = cc in
-    (ap Epoch (decimal_injective a b f g a'), decimal_injective n m h k c)
-cause_tells (Blocked t) (Blocked u) n m f g h k e =
+    (ap (λ t. cause.Reason (Epoch t)) (decimal_injective a b f g a'), decimal_injective n m h k c)
+cause_tells (cause.Reason (Blocked t)) (cause.Reason (Blocked u)) n m f g h k e =
     let a : ts_word t ≡ ts_word u = cc in let c : decimal n ≡ decimal m = cc in
-    (ap Blocked (ts_tells t u f g a), decimal_injective n m h k c)
-cause_tells (Gone a) (Gone b) n m f g h k e =
+    (ap (λ t. cause.Reason (Blocked t)) (ts_tells t u f g a), decimal_injective n m h k c)
+cause_tells (cause.Reason (Gone a)) (cause.Reason (Gone b)) n m f g h k e =
     let a' : decimal a ≡ decimal b = cc in let c : decimal n ≡ decimal m = cc in
-    (ap Gone (decimal_injective a b f g a'), decimal_injective n m h k c)
+    (ap (λ t. cause.Reason (Gone t)) (decimal_injective a b f g a'), decimal_injective n m h k c)
 cause_tells (Missing x) (Missing y) n m f g h k e =
     let a : oref_word x ≡ oref_word y = cc in let c : decimal n ≡ decimal m = cc in
     (ap Missing (oref_tells x y f g a), decimal_injective n m h k c)
 cause_tells (Down a) (Down b) n m f g h k e =
     let a' : decimal a ≡ decimal b = cc in let c : decimal n ≡ decimal m = cc in
     (ap Down (decimal_injective a b f g a'), decimal_injective n m h k c)
-cause_tells (Full a) (Full b) n m f g h k e =
+cause_tells (cause.Reason (Full a)) (cause.Reason (Full b)) n m f g h k e =
     let a' : decimal a ≡ decimal b = cc in let c : decimal n ≡ decimal m = cc in
-    (ap Full (decimal_injective a b f g a'), decimal_injective n m h k c)
-cause_tells ClockEnd ClockEnd n m f g h k e = let c : decimal n ≡ decimal m = cc in (refl, decimal_injective n m h k c)
+    (ap (λ t. cause.Reason (Full t)) (decimal_injective a b f g a'), decimal_injective n m h k c)
+cause_tells (cause.Reason ClockEnd) (cause.Reason ClockEnd) n m f g h k e = let c : decimal n ≡ decimal m = cc in (refl, decimal_injective n m h k c)
 cause_tells Calls Calls n m f g h k e = let c : decimal n ≡ decimal m = cc in (refl, decimal_injective n m h k c)
 cause_tells c d n m f g h k e =
     let same : first_mark (cause_words c ++ try_words n) ≡ first_mark (cause_words d ++ try_words m) = ap first_mark e in absurd (omega arith)

@@ -9,7 +9,8 @@ use Rattle.thor_value.specs.declared.values.Fault.TheVariants.{NullCall}
 use Rattle.serial_model.specs.declared.entries.Did.{Did}
 use Rattle.serial_model.specs.declared.entries.What.TheVariants.{Tx}
 use Rattle.serial_model.specs.declared.outcomes.Ended.{Ended}
-use Rattle.serial_model.specs.declared.outcomes.Cause.TheVariants.{Stale}
+use Rattle.serial_model.specs.declared.outcomes.Cause.TheVariants as cause
+use Rattle.refusal_reasons.specs.declared.reason.Reason.TheVariants.{Stale}
 use Rattle.serial_model.specs.declared.outcomes.ItemOutcome.{ItemOutcome}
 use Rattle.serial_model.specs.declared.outcomes.ItemOutcome.TheVariants.{Done, Upgraded, Faulted, Refused, Unknown}
 
@@ -37,7 +38,7 @@ example_ends =
     ∷ ended 2 (Upgraded (at_time 2) 1)
     ∷ ended 3 (Done (at_time 5) (pos 70 ∷ negsuc 6 ∷ []))
     ∷ ended 4 (Faulted (at_time 6) NullCall)
-    ∷ ended 5 (Refused (Stale (at_slot 0) 9))
+    ∷ ended 5 (Refused (cause.Reason (Stale (at_slot 0) 9)))
     ∷ ended 6 (Unknown (at_time 12))
     ∷ []
 

@@ -8,7 +8,9 @@ use Rattle.thor_value.specs.declared.values.Who.{Who}
 use Rattle.thor_value.specs.declared.values.Answer.{Answer}
 use Rattle.thor_value.specs.declared.values.Answer.TheVariants.{Ints, Fault}
 use Rattle.serial_model.specs.declared.outcomes.Cause.{Cause}
-use Rattle.serial_model.specs.declared.outcomes.Cause.TheVariants.{Stale, Earlier, Later, TooOld, Epoch, Blocked, Gone, Missing, Down, Full, ClockEnd, Calls}
+use Rattle.serial_model.specs.declared.outcomes.Cause.TheVariants.{Missing, Down, Calls}
+use Rattle.serial_model.specs.declared.outcomes.Cause.TheVariants as cause
+use Rattle.refusal_reasons.specs.declared.reason.Reason.TheVariants.{Stale, Earlier, Later, TooOld, Epoch, Blocked, Gone, Full, ClockEnd}
 use Rattle.serial_model.specs.declared.outcomes.ItemOutcome.{ItemOutcome}
 use Rattle.serial_model.specs.declared.outcomes.ItemOutcome.TheVariants.{Done, Upgraded, Faulted, Refused, Unknown}
 
@@ -30,17 +32,17 @@ FitsInts values = All (λ z. FitsSigned w64 z) values
 
 -- those of a cause
 abbrev pub FitsCause : Cause → Type 0
-FitsCause (Stale oref place) = FitsOref oref × (place < 2 ^ 64)
-FitsCause (Earlier tx oref) = FitsTs tx × FitsOref oref
-FitsCause (Later tx oref) = FitsTs tx × FitsOref oref
-FitsCause (TooOld threshold) = FitsTs threshold
-FitsCause (Epoch n) = n < 2 ^ 64
-FitsCause (Blocked tx) = FitsTs tx
-FitsCause (Gone session) = session < 2 ^ 64
+FitsCause (cause.Reason (Stale oref place)) = FitsOref oref × (place < 2 ^ 64)
+FitsCause (cause.Reason (Earlier tx oref)) = FitsTs tx × FitsOref oref
+FitsCause (cause.Reason (Later tx oref)) = FitsTs tx × FitsOref oref
+FitsCause (cause.Reason (TooOld threshold)) = FitsTs threshold
+FitsCause (cause.Reason (Epoch n)) = n < 2 ^ 64
+FitsCause (cause.Reason (Blocked tx)) = FitsTs tx
+FitsCause (cause.Reason (Gone session)) = session < 2 ^ 64
 FitsCause (Missing oref) = FitsOref oref
 FitsCause (Down repo) = repo < 2 ^ 64
-FitsCause (Full limit) = limit < 2 ^ 64
-FitsCause ClockEnd = ⊤
+FitsCause (cause.Reason (Full limit)) = limit < 2 ^ 64
+FitsCause (cause.Reason ClockEnd) = ⊤
 FitsCause Calls = ⊤
 
 -- those of an outcome

@@ -7,7 +7,9 @@ use Rattle.thor_value.specs.declared.values.Who.{Who}
 use Rattle.thor_value.specs.declared.values.Fault.{Fault}
 use Rattle.thor_value.specs.declared.values.Fault.TheVariants.{NullCall, Steps, Depth, Large}
 use Rattle.serial_model.specs.declared.outcomes.Cause.{Cause}
-use Rattle.serial_model.specs.declared.outcomes.Cause.TheVariants.{Stale, Earlier, Later, TooOld, Epoch, Blocked, Gone, Missing, Down, Full, ClockEnd, Calls}
+use Rattle.serial_model.specs.declared.outcomes.Cause.TheVariants.{Missing, Down, Calls}
+use Rattle.serial_model.specs.declared.outcomes.Cause.TheVariants as cause
+use Rattle.refusal_reasons.specs.declared.reason.Reason.TheVariants.{Stale, Earlier, Later, TooOld, Epoch, Blocked, Gone, Full, ClockEnd}
 
 -- a word: bytes without a space or the end of a line
 abbrev pub Word : Type 0
@@ -42,15 +44,15 @@ fault_word Large = codes "Large"
 
 -- a cause by its name, then what it names
 unfoldable pub cause_words : Cause → List Word
-cause_words (Stale oref place) = codes "Stale" ∷ oref_word oref ∷ decimal place ∷ []
-cause_words (Earlier tx oref) = codes "Earlier" ∷ ts_word tx ∷ oref_word oref ∷ []
-cause_words (Later tx oref) = codes "Later" ∷ ts_word tx ∷ oref_word oref ∷ []
-cause_words (TooOld threshold) = codes "TooOld" ∷ ts_word threshold ∷ []
-cause_words (Epoch n) = codes "Epoch" ∷ decimal n ∷ []
-cause_words (Blocked tx) = codes "Blocked" ∷ ts_word tx ∷ []
-cause_words (Gone session) = codes "Gone" ∷ decimal session ∷ []
+cause_words (cause.Reason (Stale oref place)) = codes "Stale" ∷ oref_word oref ∷ decimal place ∷ []
+cause_words (cause.Reason (Earlier tx oref)) = codes "Earlier" ∷ ts_word tx ∷ oref_word oref ∷ []
+cause_words (cause.Reason (Later tx oref)) = codes "Later" ∷ ts_word tx ∷ oref_word oref ∷ []
+cause_words (cause.Reason (TooOld threshold)) = codes "TooOld" ∷ ts_word threshold ∷ []
+cause_words (cause.Reason (Epoch n)) = codes "Epoch" ∷ decimal n ∷ []
+cause_words (cause.Reason (Blocked tx)) = codes "Blocked" ∷ ts_word tx ∷ []
+cause_words (cause.Reason (Gone session)) = codes "Gone" ∷ decimal session ∷ []
 cause_words (Missing oref) = codes "Missing" ∷ oref_word oref ∷ []
 cause_words (Down repo) = codes "Down" ∷ decimal repo ∷ []
-cause_words (Full limit) = codes "Full" ∷ decimal limit ∷ []
-cause_words ClockEnd = codes "ClockEnd" ∷ []
+cause_words (cause.Reason (Full limit)) = codes "Full" ∷ decimal limit ∷ []
+cause_words (cause.Reason ClockEnd) = codes "ClockEnd" ∷ []
 cause_words Calls = codes "Calls" ∷ []

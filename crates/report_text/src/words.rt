@@ -4,6 +4,7 @@ ghost use Rattle.report_text.specs.Fits.{FitsCause, FitsOref, FitsTs, FitsWho};
 ghost use Rattle.report_text.specs.Lines.{spaced, spaced_words};
 ghost use Rattle.report_text.specs.Words.{who_word, ts_word, oref_word, fault_word, cause_words};
 
+use refusal_reasons::Reason;
 use serial_model::Cause;
 use std::fmt::Write;
 use thor_value::{Fault, NoMemory, Oref, Ts, Who};
@@ -68,30 +69,30 @@ pub fn print_cause(out: &mut String, cause: Cause) -> Result<(), NoMemory>
     ensures fits { OnOk result (FitsCause cause) }
 {
     match cause {
-        Cause::Stale { oref, place } => {
+        Cause::Reason(Reason::Stale { oref, place }) => {
             out.push_str(" Stale")?;
             print_oref(out, oref)?;
             write!(out, " {place}")?;
         }
-        Cause::Earlier { tx, oref } => {
+        Cause::Reason(Reason::Earlier { tx, oref }) => {
             print_with_ts(out, "Earlier", tx)?;
             print_oref(out, oref)?;
         }
-        Cause::Later { tx, oref } => {
+        Cause::Reason(Reason::Later { tx, oref }) => {
             print_with_ts(out, "Later", tx)?;
             print_oref(out, oref)?;
         }
-        Cause::TooOld { threshold } => print_with_ts(out, "TooOld", threshold)?,
-        Cause::Epoch { n } => write!(out, " Epoch {n}")?,
-        Cause::Blocked { tx } => print_with_ts(out, "Blocked", tx)?,
-        Cause::Gone { session } => write!(out, " Gone {session}")?,
+        Cause::Reason(Reason::TooOld { threshold }) => print_with_ts(out, "TooOld", threshold)?,
+        Cause::Reason(Reason::Epoch { n }) => write!(out, " Epoch {n}")?,
+        Cause::Reason(Reason::Blocked { tx }) => print_with_ts(out, "Blocked", tx)?,
+        Cause::Reason(Reason::Gone { session }) => write!(out, " Gone {session}")?,
         Cause::Missing { oref } => {
             out.push_str(" Missing")?;
             print_oref(out, oref)?;
         }
         Cause::Down { repo } => write!(out, " Down {repo}")?,
-        Cause::Full { limit } => write!(out, " Full {limit}")?,
-        Cause::ClockEnd => out.push_str(" ClockEnd")?,
+        Cause::Reason(Reason::Full { limit }) => write!(out, " Full {limit}")?,
+        Cause::Reason(Reason::ClockEnd) => out.push_str(" ClockEnd")?,
         Cause::Calls => out.push_str(" Calls")?,
     }
     Ok(())

@@ -37,6 +37,7 @@ use Rattle.thor_value.specs.Names.{oref_cmp}
 use Rattle.thor_value.specs.declared.names.Oref.{Oref}
 use Rattle.thor_value.specs.declared.values.Obj.{Obj}
 use Rattle.validation_window.specs.Refusals.{bytes_of}
+use Rattle.refusal_reasons.specs.declared.reason.Reason.TheVariants as reasons
 use Rattle.validation_window.specs.declared.refusal.Refusal.TheVariants as refused
 use Rattle.validation_window.specs.declared.refusal.Refusal.{Refusal}
 use Rattle.volatile_state.specs.Volatile.{verdict}
@@ -77,11 +78,11 @@ either : (o p : Option Refusal) (r : Refusal) → option_or o p ≡ Some r → (
 either None p r e = inr (refl, e)
 either (Some s) p r e = inl e
 
-fits_so : (limit bytes : ℕ) (x : Bool) → nat_lt limit bytes ≡ x → cond x (Some (refused.Full limit)) None ≡ None → bytes ≤ limit
+fits_so : (limit bytes : ℕ) (x : Bool) → nat_lt limit bytes ≡ x → cond x (Some (refused.Reason (reasons.Full limit))) None ≡ None → bytes ≤ limit
 fits_so limit bytes true is e = absurd (cc)
 fits_so limit bytes false is e = ltb-false limit bytes is
 
-full_so : (limit bytes : ℕ) (r : Refusal) (x : Bool) → nat_lt limit bytes ≡ x → cond x (Some (refused.Full limit)) None ≡ Some r → (r ≡ refused.Full limit) × (limit < bytes)
+full_so : (limit bytes : ℕ) (r : Refusal) (x : Bool) → nat_lt limit bytes ≡ x → cond x (Some (refused.Reason (reasons.Full limit))) None ≡ Some r → (r ≡ refused.Reason (reasons.Full limit)) × (limit < bytes)
 full_so limit bytes r true is e = (cc, ltb-true limit bytes is)
 full_so limit bytes r false is e = absurd (cc)
 
@@ -129,11 +130,11 @@ module _ (b : Base) (x : Shown) (k : StandsRight b x) (up : x.is_up ≡ true) (s
   was_refused r e = (sent.own, (may.in_order, why (either (verdict x.memory (epoch_of x.held) s q) (full_of x.held q) r e)))
     where
       why : (verdict x.memory (epoch_of x.held) s q ≡ Some r) ⊎ ((verdict x.memory (epoch_of x.held) s q ≡ None) × (full_of x.held q ≡ Some r))
-          → (verdict x.memory (history.epoch_of (state_of b x.trace)) q.session q ≡ Some r) ⊎ ((verdict x.memory (history.epoch_of (state_of b x.trace)) q.session q ≡ None) × (r ≡ refused.Full b.limit) × (b.limit < bytes_of q))
+          → (verdict x.memory (history.epoch_of (state_of b x.trace)) q.session q ≡ Some r) ⊎ ((verdict x.memory (history.epoch_of (state_of b x.trace)) q.session q ≡ None) × (r ≡ refused.Reason (reasons.Full b.limit)) × (b.limit < bytes_of q))
       why (inl first) = inl (by_history (Some r) first)
       why (inr last) =
-          let full : (r ≡ refused.Full x.held.objects.mob.limit) × (x.held.objects.mob.limit < buffer.bytes_of q.writes) = full_so x.held.objects.mob.limit (buffer.bytes_of q.writes) r (nat_lt x.held.objects.mob.limit (buffer.bytes_of q.writes)) refl last.1 in
-          inr (by_history None last.0, full.0 ∙ ap refused.Full (limit_up b x k up), subst (λ (n : ℕ). n < bytes_of q) (limit_up b x k up) (subst (λ (n : ℕ). x.held.objects.mob.limit < n) (sym bytes) full.1))
+          let full : (r ≡ refused.Reason (reasons.Full x.held.objects.mob.limit)) × (x.held.objects.mob.limit < buffer.bytes_of q.writes) = full_so x.held.objects.mob.limit (buffer.bytes_of q.writes) r (nat_lt x.held.objects.mob.limit (buffer.bytes_of q.writes)) refl last.1 in
+          inr (by_history None last.0, full.0 ∙ ap (λ t. refused.Reason (reasons.Full t)) (limit_up b x k up), subst (λ (n : ℕ). n < bytes_of q) (limit_up b x k up) (subst (λ (n : ℕ). x.held.objects.mob.limit < n) (sym bytes) full.1))
 
   -- ---- its entry
 

@@ -75,15 +75,7 @@ pub runs_mark : (b : Base) (x y : Shown) (m : Mark) → x.is_up ≡ true → y.i
 runs_mark b x y m u v made o l = runs_one b x y (Marks m) (up_phase x u, up_phase y v, made) o (λ w. (whole_up x u, l))
 
 no_fault : (r : Refusal) → is_marked r ≡ true → is_fault r ≡ false
-no_fault (the.Gone s) m = refl
-no_fault (the.Epoch n) m = refl
-no_fault (the.Blocked t) m = refl
-no_fault (the.TooOld t) m = refl
-no_fault (the.Stale x k) m = refl
-no_fault (the.Earlier t x) m = refl
-no_fault (the.Later t x) m = refl
-no_fault (the.Full n) m = refl
-no_fault the.ClockEnd m = refl
+no_fault (the.Reason reason) m = refl
 no_fault (the.Down r) m = absurd (cc)
 no_fault (the.Stopped r) m = absurd (cc)
 no_fault (the.Damaged r k) m = absurd (cc)

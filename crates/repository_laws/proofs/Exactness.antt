@@ -30,6 +30,7 @@ use Rattle.trace_record.specs.Recorded.{Recorded}
 use Rattle.two_phase.specs.Contents.{open_at}
 use Rattle.validation_queue.specs.Names.{IsInOrder}
 use Rattle.validation_window.specs.Refusals.{bytes_of, full_of_writes}
+use Rattle.refusal_reasons.specs.declared.reason.Reason.TheVariants as reasons
 use Rattle.validation_window.specs.declared.refusal.Refusal.TheVariants as refused
 use Rattle.validation_window.specs.declared.refusal.Refusal.{Refusal}
 use Rattle.volatile_state.specs.Volatile.{Memory, verdict}
@@ -69,17 +70,17 @@ pub request-exact : (b : Base) (r : Recorded) (h : Held) (M : Memory) (q : Reque
 request-exact b r h M q why a sessions in_order e = (refl, verdict-exact b r h M q.session q a sessions in_order ∙ ap (λ o. option_or o (full_of_writes b q)) e)
 
 pub buffer-exact : (b : Base) (r : Recorded) (h : Held) (M : Memory) (q : Request) → Agrees b r h M → SessionsAnswer b (trace_of r) M.sessions → IsInOrder q.ros (keys_of q.writes) → verdict M (epoch_of (state_of b r)) q.session q ≡ None → b.limit < bytes_of q
-    → MarkIsExact b (trace_of r) (the.Refused q.session (Some q) (refused.Full b.limit))
+    → MarkIsExact b (trace_of r) (the.Refused q.session (Some q) (refused.Reason (reasons.Full b.limit)))
 buffer-exact b r h M q a sessions in_order e over =
-    (refl, verdict-exact b r h M q.session q a sessions in_order ∙ (ap (λ o. option_or o (full_of_writes b q)) e ∙ ap (λ y. cond y (Some (refused.Full b.limit)) None) (lt-ltb b.limit (bytes_of q) over)))
+    (refl, verdict-exact b r h M q.session q a sessions in_order ∙ (ap (λ o. option_or o (full_of_writes b q)) e ∙ ap (λ y. cond y (Some (refused.Reason (reasons.Full b.limit))) None) (lt-ltb b.limit (bytes_of q) over)))
 
-pub gone-exact : (b : Base) (r : Recorded) (h : Held) (M : Memory) (s : ℕ) → Agrees b r h M → SessionsAnswer b (trace_of r) M.sessions → is_live M.sessions s ≡ false → MarkIsExact b (trace_of r) (the.Refused s None (refused.Gone s))
+pub gone-exact : (b : Base) (r : Recorded) (h : Held) (M : Memory) (s : ℕ) → Agrees b r h M → SessionsAnswer b (trace_of r) M.sessions → is_live M.sessions s ≡ false → MarkIsExact b (trace_of r) (the.Refused s None (refused.Reason (reasons.Gone s)))
 gone-exact b r h M s a sessions e = (refl, gone_none (session b (trace_of r) s) (sym (sessions.live s) ∙ e))
 
-pub pages-exact : (b : Base) (r : Recorded) (h : Held) (M : Memory) (s : ℕ) → Agrees b r h M → SessionsAnswer b (trace_of r) M.sessions → is_live M.sessions s ≡ true → most_pages ≤ h.next_grant → MarkIsExact b (trace_of r) (the.Refused s None (refused.Full most_pages))
+pub pages-exact : (b : Base) (r : Recorded) (h : Held) (M : Memory) (s : ℕ) → Agrees b r h M → SessionsAnswer b (trace_of r) M.sessions → is_live M.sessions s ≡ true → most_pages ≤ h.next_grant → MarkIsExact b (trace_of r) (the.Refused s None (refused.Reason (reasons.Full most_pages)))
 pages-exact b r h M s a sessions live all = (refl, live-and b r h M s a sessions (λ v. most_pages ≤ next_page b (trace_of r)) live (λ v. subst (λ n. most_pages ≤ n) a.held.next all))
 
-pub clock-exact : (b : Base) (r : Recorded) (h : Held) (M : Memory) (s now floor : ℕ) → Agrees b r h M → SessionsAnswer b (trace_of r) M.sessions → is_live M.sessions s ≡ true → 2 ^ 62 ≤ drawn_time now M.drawn floor → MarkIsExact b (trace_of r) (the.Refused s None refused.ClockEnd)
+pub clock-exact : (b : Base) (r : Recorded) (h : Held) (M : Memory) (s now floor : ℕ) → Agrees b r h M → SessionsAnswer b (trace_of r) M.sessions → is_live M.sessions s ≡ true → 2 ^ 62 ≤ drawn_time now M.drawn floor → MarkIsExact b (trace_of r) (the.Refused s None (refused.Reason reasons.ClockEnd))
 clock-exact b r h M s now floor a sessions live over =
     live-and b r h M s a sessions (λ v. (m : ℕ) × (f : ℕ) × (2 ^ 62 ≤ drawn_time m (last_drawn b (trace_of r)) f)) live
     (λ v. (now, floor, subst (λ n. 2 ^ 62 ≤ drawn_time now n floor) a.drawn over))

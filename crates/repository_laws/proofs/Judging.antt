@@ -29,11 +29,11 @@ use Rattle.thor_value.specs.declared.names.Ts.{Ts}
 use Rattle.trace_record.specs.Recorded.{Recorded}
 use Rattle.validation_queue.specs.Clashes.{clash, first_some}
 use Rattle.validation_queue.specs.Contents.{Contents, first_blocking, transaction}
-use Rattle.validation_queue.specs.declared.clash.Clash.TheVariants as clashes
-use Rattle.validation_queue.specs.declared.clash.Clash.{Clash}
+use Rattle.refusal_reasons.specs.declared.reason.Reason.TheVariants as reasons
+use Rattle.refusal_reasons.specs.declared.reason.Reason.{Reason}
 use Rattle.validation_window.proofs.Clashing.{names_read, refusal_alike}
 use Rattle.validation_window.specs.Queue as queued
-use Rattle.validation_window.specs.Queue.{old_of, queue_of, refusal_by}
+use Rattle.validation_window.specs.Queue.{is_too_old, old_of, queue_of, refusal_by}
 use Rattle.validation_window.specs.Refusals.{behind, bytes_of, first_refusal, full, full_of_writes}
 use Rattle.validation_window.specs.Window.{window}
 use Rattle.validation_window.specs.declared.refusal.Refusal.TheVariants as refused
@@ -42,7 +42,7 @@ use Rattle.volatile_state.specs.Volatile.{Memory, against, is_upgrade_kind, know
 
 -- a name with a place, as the refusal that it is
 abbrev stale_at : Oref × ℕ → Refusal
-stale_at p = refused.Stale p.0 p.1
+stale_at p = refused.Reason (reasons.Stale p.0 p.1)
 
 -- ---- the two words for a request's kind
 
@@ -68,27 +68,28 @@ stale_mapped : (upto : ℕ) (x : Oref) (o : Option ℕ) → option_and_then (sta
 stale_mapped upto x None = refl
 stale_mapped upto x (Some k) = by (nat_le upto k)
   where
-    by : (y : Bool) → cond y (Some (refused.Stale x k)) None ≡ option_map stale_at (cond y (Some (x, k)) None)
+    by : (y : Bool) → cond y (Some (refused.Reason (reasons.Stale x k))) None ≡ option_map stale_at (cond y (Some (x, k)) None)
     by true = refl
     by false = refl
 
 -- ---- the two orders of the answers
 
 -- the parts of a verdict in the one order are those in the other
-same-order : (blocked : Option Refusal) (current : Bool) (other : Refusal) (c : Option Clash) (st : Option (Oref × ℕ)) (full : Option Refusal)
-    → option_or blocked (option_or (cond current None (Some other)) (option_or (option_and_then old_of c) (option_or (option_map stale_at st) (option_or (option_map queued.refusal_of c) full))))
+same-order : (blocked : Option Refusal) (current : Bool) (other : Refusal) (c : Option Reason) (st : Option (Oref × ℕ)) (full : Option Refusal)
+    → option_or blocked (option_or (cond current None (Some other)) (option_or (option_and_then old_of c) (option_or (option_map stale_at st) (option_or (option_map refused.Reason c) full))))
     ≡ option_or (option_or blocked (cond current (against c st) (Some other))) full
 same-order (Some r) current other c st full = refl
 same-order None false other c st full = refl
 same-order None true other None None full = refl
 same-order None true other None (Some p) full = refl
-same-order None true other (Some (clashes.TooOld t)) st full = refl
-same-order None true other (Some (clashes.Earlier t x)) None full = refl
-same-order None true other (Some (clashes.Earlier t x)) (Some p) full = refl
-same-order None true other (Some (clashes.Later t x)) None full = refl
-same-order None true other (Some (clashes.Later t x)) (Some p) full = refl
-same-order None true other (Some (clashes.Full n)) None full = refl
-same-order None true other (Some (clashes.Full n)) (Some p) full = refl
+same-order None true other (Some c) st full = by (is_too_old c) st
+  where
+    by : (x : Bool) (st : Option (Oref × ℕ))
+        → option_or (cond x (Some (refused.Reason c)) None) (option_or (option_map stale_at st) (Some (refused.Reason c)))
+        ≡ option_or (cond x (Some (refused.Reason c)) (option_or (option_map stale_at st) (Some (refused.Reason c)))) full
+    by true st = refl
+    by false None = refl
+    by false (Some p) = refl
 
 -- ---- the verdict by the trace
 
@@ -110,7 +111,7 @@ module _ (b : Base) (r : Recorded) (h : Held) (M : Memory) (s : ℕ) (q : Reques
       (λ x. ap (option_and_then (stale_from q.upto x)) (sym (sessions.invalid s v x is live)) ∙ stale_mapped q.upto x (get (set_of M.sessions.sets.invalid s) x))
 
   abbrev refusal_with : ℕ → Contents → Option Refusal
-  refusal_with n Q = option_or (option_or (option_map refused.Blocked (first_blocking Q (is_upgrade_kind q.kind))) (cond (nat_eq q.epoch n) (against (clash Q (transaction_of q)) (sets.stale M.sessions.sets s q.ros q.upto)) (Some (refused.Epoch n)))) (full_of_writes b q)
+  refusal_with n Q = option_or (option_or (option_map (λ t. refused.Reason (reasons.Blocked t)) (first_blocking Q (is_upgrade_kind q.kind))) (cond (nat_eq q.epoch n) (against (clash Q (transaction_of q)) (sets.stale M.sessions.sets s q.ros q.upto)) (Some (refused.Reason (reasons.Epoch n))))) (full_of_writes b q)
 
   -- the refusal of a request of a live session
   refusal-here : (v : Session) → session b (trace_of r) s ≡ Some v → session_lives v ≡ true → first_refusal (state b H) (window b H) (stale b H s v q) (full b (window b H) q) q ≡ refusal_with (epoch_of (state_of b r)) M.queue
@@ -118,9 +119,9 @@ module _ (b : Base) (r : Recorded) (h : Held) (M : Memory) (s : ℕ) (q : Reques
       let Q : Contents = queue_of (window b H) in
       refusal_alike b (state b H) (window b H) q (stale b H s v q) in_order
       ∙ (ap (λ o. refusal_by Q q (behind (state b H) q) o (full_of_writes b q)) (stale-here v is live)
-      ∙ (ap (λ x. option_or (option_map refused.Blocked (first_blocking Q x)) (option_or (behind (state b H) q) (option_or (option_and_then old_of (clash Q (queued.transaction_of q))) (option_or (option_map stale_at (sets.stale M.sessions.sets s q.ros q.upto)) (option_or (option_map queued.refusal_of (clash Q (queued.transaction_of q))) (full_of_writes b q)))))) (sym (same-kind q.kind))
-      ∙ (ap (λ t. option_or (option_map refused.Blocked (first_blocking Q (is_upgrade_kind q.kind))) (option_or (behind (state b H) q) (option_or (option_and_then old_of (clash Q t)) (option_or (option_map stale_at (sets.stale M.sessions.sets s q.ros q.upto)) (option_or (option_map queued.refusal_of (clash Q t)) (full_of_writes b q)))))) (sym (same-transaction q))
-      ∙ (same-order (option_map refused.Blocked (first_blocking Q (is_upgrade_kind q.kind))) (nat_eq q.epoch (epoch_of (state b H))) (refused.Epoch (epoch_of (state b H))) (clash Q (transaction_of q)) (sets.stale M.sessions.sets s q.ros q.upto) (full_of_writes b q)
+      ∙ (ap (λ x. option_or (option_map (λ t. refused.Reason (reasons.Blocked t)) (first_blocking Q x)) (option_or (behind (state b H) q) (option_or (option_and_then old_of (clash Q (queued.transaction_of q))) (option_or (option_map stale_at (sets.stale M.sessions.sets s q.ros q.upto)) (option_or (option_map refused.Reason (clash Q (queued.transaction_of q))) (full_of_writes b q)))))) (sym (same-kind q.kind))
+      ∙ (ap (λ t. option_or (option_map (λ t. refused.Reason (reasons.Blocked t)) (first_blocking Q (is_upgrade_kind q.kind))) (option_or (behind (state b H) q) (option_or (option_and_then old_of (clash Q t)) (option_or (option_map stale_at (sets.stale M.sessions.sets s q.ros q.upto)) (option_or (option_map refused.Reason (clash Q t)) (full_of_writes b q)))))) (sym (same-transaction q))
+      ∙ (same-order (option_map (λ t. refused.Reason (reasons.Blocked t)) (first_blocking Q (is_upgrade_kind q.kind))) (nat_eq q.epoch (epoch_of (state b H))) (refused.Reason (reasons.Epoch (epoch_of (state b H)))) (clash Q (transaction_of q)) (sets.stale M.sessions.sets s q.ros q.upto) (full_of_writes b q)
       ∙ (ap (λ (G : List Entry). refusal_with (epoch_of (state b G)) Q) history
       ∙ ap (refusal_with (epoch_of (state_of b r))) (sym queue-here))))))
 
@@ -130,24 +131,24 @@ module _ (b : Base) (r : Recorded) (h : Held) (M : Memory) (s : ℕ) (q : Reques
     where
       by_life : (v : Session) → session b (trace_of r) s ≡ Some v → (x : Bool) → session_lives v ≡ x → is_live M.sessions s ≡ x → verdict_by b H s q (Some v) ≡ option_or (verdict M (epoch_of (state_of b r)) s q) (full_of_writes b q)
       by_life v is true e k =
-          ap (λ y. cond y (first_refusal (state b H) (window b H) (stale b H s v q) (full b (window b H) q) q) (Some (refused.Gone s))) e
+          ap (λ y. cond y (first_refusal (state b H) (window b H) (stale b H s v q) (full b (window b H) q) q) (Some (refused.Reason (reasons.Gone s)))) e
           ∙ (refusal-here v is e
-          ∙ sym (ap (λ y. option_or (cond y (option_or (option_map (λ t. refused.Blocked t) (first_blocking M.queue (is_upgrade_kind q.kind))) (cond (nat_eq q.epoch (epoch_of (state_of b r))) (against (clash M.queue (transaction_of q)) (sets.stale M.sessions.sets s q.ros q.upto)) (Some (refused.Epoch (epoch_of (state_of b r)))))) (Some (refused.Gone s))) (full_of_writes b q)) k))
+          ∙ sym (ap (λ y. option_or (cond y (option_or (option_map (λ t. refused.Reason (reasons.Blocked t)) (first_blocking M.queue (is_upgrade_kind q.kind))) (cond (nat_eq q.epoch (epoch_of (state_of b r))) (against (clash M.queue (transaction_of q)) (sets.stale M.sessions.sets s q.ros q.upto)) (Some (refused.Reason (reasons.Epoch (epoch_of (state_of b r))))))) (Some (refused.Reason (reasons.Gone s)))) (full_of_writes b q)) k))
       by_life v is false e k =
-          ap (λ y. cond y (first_refusal (state b H) (window b H) (stale b H s v q) (full b (window b H) q) q) (Some (refused.Gone s))) e
-          ∙ sym (ap (λ y. option_or (cond y (option_or (option_map (λ t. refused.Blocked t) (first_blocking M.queue (is_upgrade_kind q.kind))) (cond (nat_eq q.epoch (epoch_of (state_of b r))) (against (clash M.queue (transaction_of q)) (sets.stale M.sessions.sets s q.ros q.upto)) (Some (refused.Epoch (epoch_of (state_of b r)))))) (Some (refused.Gone s))) (full_of_writes b q)) k)
+          ap (λ y. cond y (first_refusal (state b H) (window b H) (stale b H s v q) (full b (window b H) q) q) (Some (refused.Reason (reasons.Gone s)))) e
+          ∙ sym (ap (λ y. option_or (cond y (option_or (option_map (λ t. refused.Reason (reasons.Blocked t)) (first_blocking M.queue (is_upgrade_kind q.kind))) (cond (nat_eq q.epoch (epoch_of (state_of b r))) (against (clash M.queue (transaction_of q)) (sets.stale M.sessions.sets s q.ros q.upto)) (Some (refused.Reason (reasons.Epoch (epoch_of (state_of b r))))))) (Some (refused.Reason (reasons.Gone s)))) (full_of_writes b q)) k)
 
       by : (o : Option Session) → session b (trace_of r) s ≡ o → verdict_by b H s q o ≡ option_or (verdict M (epoch_of (state_of b r)) s q) (full_of_writes b q)
       by None is =
           let k : is_live M.sessions s ≡ false = sessions.live s ∙ ap lives is in
-          sym (ap (λ y. option_or (cond y (option_or (option_map (λ t. refused.Blocked t) (first_blocking M.queue (is_upgrade_kind q.kind))) (cond (nat_eq q.epoch (epoch_of (state_of b r))) (against (clash M.queue (transaction_of q)) (sets.stale M.sessions.sets s q.ros q.upto)) (Some (refused.Epoch (epoch_of (state_of b r)))))) (Some (refused.Gone s))) (full_of_writes b q)) k)
+          sym (ap (λ y. option_or (cond y (option_or (option_map (λ t. refused.Reason (reasons.Blocked t)) (first_blocking M.queue (is_upgrade_kind q.kind))) (cond (nat_eq q.epoch (epoch_of (state_of b r))) (against (clash M.queue (transaction_of q)) (sets.stale M.sessions.sets s q.ros q.upto)) (Some (refused.Reason (reasons.Epoch (epoch_of (state_of b r))))))) (Some (refused.Reason (reasons.Gone s)))) (full_of_writes b q)) k)
       by (Some v) is = by_life v is (session_lives v) refl (sessions.live s ∙ ap lives is)
 
 pub accepted-by-trace : (b : Base) (r : Recorded) (h : Held) (M : Memory) (s : ℕ) (q : Request) → Agrees b r h M → SessionsAnswer b (trace_of r) M.sessions → IsAccepted b r h M s q → traced.verdict b (trace_of r) s q ≡ None
 accepted-by-trace b r h M s q agrees sessions accepted =
     verdict-exact b r h M s q agrees sessions accepted.in_order
     ∙ (ap (λ o. option_or o (full_of_writes b q)) accepted.verdict
-    ∙ ap (λ y. cond y (Some (refused.Full b.limit)) None) (le-ltb b.limit (bytes_of q) accepted.fits))
+    ∙ ap (λ y. cond y (Some (refused.Reason (reasons.Full b.limit))) None) (le-ltb b.limit (bytes_of q) accepted.fits))
 
 -- ---- what isn't known, and the epoch
 

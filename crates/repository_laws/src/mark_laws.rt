@@ -23,6 +23,7 @@ ghost use Rattle.trace_record.specs.Recorded.{Recorded};
 ghost use Rattle.two_phase.specs.Contents.{open_at};
 ghost use Rattle.validation_queue.specs.Names.{IsInOrder};
 ghost use Rattle.validation_window.specs.Refusals.{bytes_of};
+ghost use Rattle.refusal_reasons.specs.declared.reason.Reason.TheVariants as reasons;
 ghost use Rattle.validation_window.specs.declared.refusal.Refusal.TheVariants as refused;
 ghost use Rattle.validation_window.specs.declared.refusal.Refusal.{Refusal};
 ghost use Rattle.volatile_state.specs.Volatile.{Memory, verdict};
@@ -54,16 +55,16 @@ pub fn refusals_are_exact()
     ensures buffer { (b : Base) (r : Recorded) (h : Held) (M : Memory) (q : Request) → Agrees b r h M →
         SessionsAnswer b (trace_of r) M.sessions → IsInOrder q.ros (keys_of q.writes) →
         verdict M (epoch_of (state_of b r)) q.session q ≡ None → b.limit < bytes_of q →
-        MarkIsExact b (trace_of r) (the.Refused q.session (Some q) (refused.Full b.limit)) }
+        MarkIsExact b (trace_of r) (the.Refused q.session (Some q) (refused.Reason (reasons.Full b.limit))) }
     ensures gone { (b : Base) (r : Recorded) (h : Held) (M : Memory) (s : ℕ) → Agrees b r h M →
         SessionsAnswer b (trace_of r) M.sessions → is_live M.sessions s ≡ false →
-        MarkIsExact b (trace_of r) (the.Refused s None (refused.Gone s)) }
+        MarkIsExact b (trace_of r) (the.Refused s None (refused.Reason (reasons.Gone s))) }
     ensures pages { (b : Base) (r : Recorded) (h : Held) (M : Memory) (s : ℕ) → Agrees b r h M →
         SessionsAnswer b (trace_of r) M.sessions → is_live M.sessions s ≡ true → most_pages ≤ h.next_grant →
-        MarkIsExact b (trace_of r) (the.Refused s None (refused.Full most_pages)) }
+        MarkIsExact b (trace_of r) (the.Refused s None (refused.Reason (reasons.Full most_pages))) }
     ensures clock { (b : Base) (r : Recorded) (h : Held) (M : Memory) (s now floor : ℕ) → Agrees b r h M →
         SessionsAnswer b (trace_of r) M.sessions → is_live M.sessions s ≡ true → 2 ^ 62 ≤ drawn_time now M.drawn floor →
-        MarkIsExact b (trace_of r) (the.Refused s None refused.ClockEnd) }
+        MarkIsExact b (trace_of r) (the.Refused s None (refused.Reason reasons.ClockEnd)) }
 {}
 
 /// A request that is accepted by what is in memory comes from its session, where its sender is the session's client and

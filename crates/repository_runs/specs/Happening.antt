@@ -31,6 +31,7 @@ use Rattle.trace_record.specs.Recorded.{with_entry}
 use Rattle.two_phase.specs.Contents.{open_at}
 use Rattle.validation_queue.specs.Names.{IsInOrder}
 use Rattle.validation_window.specs.Refusals.{bytes_of}
+use Rattle.refusal_reasons.specs.declared.reason.Reason.TheVariants as reasons
 use Rattle.validation_window.specs.declared.refusal.Refusal.TheVariants as refused
 use Rattle.validation_window.specs.declared.refusal.Refusal.{Refusal}
 use Rattle.volatile_state.specs.Telling.{CommitTold, TellsDecided}
@@ -97,16 +98,16 @@ pub record EntryIsMade (b : Base) (x : Repository) (e : Entry) (y : Repository) 
 -- a draw or a grant of the session s is refused so
 abbrev pub CallRefused : Repository → ℕ → Refusal → Type 0
 CallRefused x s r =
-    ((r ≡ refused.Gone s) × (is_live x.memory.sessions s ≡ false))
-    ⊎ ((r ≡ refused.Full most_pages) × (is_live x.memory.sessions s ≡ true) × (most_pages ≤ x.held.next_grant))
-    ⊎ ((r ≡ refused.ClockEnd) × (is_live x.memory.sessions s ≡ true) × ((now : ℕ) × (floor : ℕ) × (2 ^ 62 ≤ drawn_time now x.memory.drawn floor)))
+    ((r ≡ refused.Reason (reasons.Gone s)) × (is_live x.memory.sessions s ≡ false))
+    ⊎ ((r ≡ refused.Reason (reasons.Full most_pages)) × (is_live x.memory.sessions s ≡ true) × (most_pages ≤ x.held.next_grant))
+    ⊎ ((r ≡ (refused.Reason reasons.ClockEnd)) × (is_live x.memory.sessions s ≡ true) × ((now : ℕ) × (floor : ℕ) × (2 ^ 62 ≤ drawn_time now x.memory.drawn floor)))
 
 -- a request is refused so: by the first refusal that holds, or, where none does, by the buffer
 abbrev pub RequestRefused : Base → Repository → Request → Refusal → Type 0
 RequestRefused b x q r =
     IsInOrder q.ros (keys_of q.writes)
     × ((verdict x.memory (epoch_of (state_of b x.trace)) q.session q ≡ Some r)
-    ⊎ ((verdict x.memory (epoch_of (state_of b x.trace)) q.session q ≡ None) × (r ≡ refused.Full b.limit) × (b.limit < bytes_of q)))
+    ⊎ ((verdict x.memory (epoch_of (state_of b x.trace)) q.session q ≡ None) × (r ≡ refused.Reason (reasons.Full b.limit)) × (b.limit < bytes_of q)))
 
 abbrev pub WasRefused : Base → Repository → ℕ → Option Request → Refusal → Type 0
 WasRefused b x s None r = CallRefused x s r

@@ -1,3 +1,4 @@
+use refusal_reasons::Reason;
 use thor_value::{Fault, Ints, NoMemory, Oref, Sequence, TryCopy, Ts, Who};
 
 /// How an item ended.
@@ -31,28 +32,12 @@ pub enum ItemOutcome {
 /// Why a try ended without a commit.
 #[derive(Clone, Copy, Debug, PartialEq, Eq)]
 pub enum Cause {
-    /// The object that it had read was written by another client, at a place of the repository's history.
-    Stale { oref: Oref, place: u64 },
-    /// A transaction below it that is undecided wrote an object that it read.
-    Earlier { tx: Ts, oref: Oref },
-    /// A transaction above it read what it wrote, or wrote what it read.
-    Later { tx: Ts, oref: Oref },
-    /// Its timestamp was not above the repository's threshold.
-    TooOld { threshold: Ts },
-    /// The repository had installed this number of upgrades, and the client another.
-    Epoch { n: u32 },
-    /// An upgrade was prepared and undecided, or, for an upgrade, any transaction.
-    Blocked { tx: Ts },
-    /// The repository no longer had the client's session.
-    Gone { session: u32 },
+    /// A repository refused it for this, or the client learnt of it before it asked.
+    Reason(Reason),
     /// The page had no such object.
     Missing { oref: Oref },
     /// The repository was down.
     Down { repo: u8 },
-    /// A counted quantity stood at its limit.
-    Full { limit: u32 },
-    /// No timestamp was left to draw.
-    ClockEnd,
     /// The calls of the try were used up.
     Calls,
 }

@@ -26,6 +26,7 @@ use Rattle.thor_value.specs.FiniteMap.{get}
 use Rattle.thor_value.specs.declared.names.Oref.{Oref}
 use Rattle.validation_queue.specs.Clashes.{first_some}
 use Rattle.validation_queue.specs.Names.{Rises}
+use Rattle.refusal_reasons.specs.declared.reason.Reason.TheVariants as reasons
 use Rattle.validation_window.specs.declared.refusal.Refusal.TheVariants as refused
 use Rattle.validation_window.specs.declared.refusal.Refusal.{Refusal}
 
@@ -59,7 +60,7 @@ live_there b T K s a h =
 
 -- a stale object as a refusal
 abbrev pub stale_of : Oref × ℕ → Refusal
-stale_of p = refused.Stale p.0 p.1
+stale_of p = refused.Reason (reasons.Stale p.0 p.1)
 
 map_or : (o p : Option (Oref × ℕ)) → option_map stale_of (option_or o p) ≡ option_or (option_map stale_of o) (option_map stale_of p)
 map_or None p = refl
@@ -81,7 +82,7 @@ stale_answer b T K s v names upto a is = first_mapped (λ x. option_and_then (if
     at x None = refl
     at x (Some k) = by (nat_le upto k)
       where
-        by : (t : Bool) → option_map stale_of (cond t (Some (x, k)) None) ≡ cond t (Some (refused.Stale x k)) None
+        by : (t : Bool) → option_map stale_of (cond t (Some (x, k)) None) ≡ cond t (Some (refused.Reason (reasons.Stale x k))) None
         by true = refl
         by false = refl
 

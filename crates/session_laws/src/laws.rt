@@ -24,6 +24,7 @@ ghost use Rattle.thor_value.specs.declared.names.Oref.{Oref};
 ghost use Rattle.thor_value.specs.declared.names.Ts.{Ts};
 ghost use Rattle.validation_queue.specs.Clashes.{first_some};
 ghost use Rattle.validation_queue.specs.Names.{Rises};
+ghost use Rattle.refusal_reasons.specs.declared.reason.Reason.TheVariants as reasons;
 ghost use Rattle.validation_window.specs.declared.refusal.Refusal.TheVariants as refused;
 ghost use Rattle.validation_window.specs.declared.refusal.Refusal.{Refusal};
 
@@ -75,7 +76,7 @@ pub fn agreement_answers()
         IsSomeAnd (session b T s) (λ v. session_lives v ≡ true) }
     ensures stale { (b : Base) (T : List Item) (K : Kept) (s : ℕ) (v : Session) (q : Request) → SessionsAgree b T K →
         session b T s ≡ Some v → Rises q.ros →
-        option_map (λ p. refused.Stale p.0 p.1) (sets.stale K.sets s q.ros q.upto) ≡ stale b (entries T) s v q }
+        option_map (λ p. refused.Reason (reasons.Stale p.0 p.1)) (sets.stale K.sets s q.ros q.upto) ≡ stale b (entries T) s v q }
     ensures not_stale { (b : Base) (T : List Item) (K : Kept) (s : ℕ) (v : Session) (names : List Oref) (upto : ℕ) →
         SessionsAgree b T K → session b T s ≡ Some v → sets.stale K.sets s names upto ≡ None →
         first_some (λ x. option_and_then (stale_from upto x) (invalid b (entries T) s v x)) names ≡ None }

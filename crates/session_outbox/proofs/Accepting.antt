@@ -15,6 +15,7 @@ use Rattle.session_outbox.specs.Trace.{Item, entries}
 use Rattle.validation_window.specs.Refusals.{bytes_of, full, full_of_undecided, full_of_writes, set_of}
 use Rattle.session_outbox.specs.Verdict.{stale, stale_from, verdict}
 use Rattle.validation_window.specs.Window.{first_decided, window}
+use Rattle.refusal_reasons.specs.declared.reason.Reason.TheVariants as reasons
 use Rattle.validation_window.specs.declared.refusal.Refusal.TheVariants as refused
 use Rattle.validation_window.specs.declared.refusal.Refusal.{Refusal}
 use Rattle.std.proofs.Common.{List, [], ap, arith, inl, inr, refl, subst, sym, ◌≡◌, ◌∙◌, ◌∷◌}
@@ -52,7 +53,7 @@ among_keys names x e = sym (is_some-lookup (is_at (oref_cmp x)) (set_of names).p
 
 known_below : (upto : ℕ) (x : Oref) (o : Option ℕ) → option_and_then (stale_from upto x) o ≡ None → IfSome o (λ k. k < upto)
 known_below upto x None e = tt
-known_below upto x (Some k) e = leb-false upto k (unless_some (nat_le upto k) (refused.Stale x k) e)
+known_below upto x (Some k) e = leb-false upto k (unless_some (nat_le upto k) (refused.Reason (reasons.Stale x k)) e)
 
 room_by : (x y : Bool) (n : ℕ) (o : Option Ts) → nat_le room_for n ≡ x → is_none o ≡ y → (x && y) ≡ false → (n < room_for) ⊎ IsSome o
 room_by false y n o e f h = inl (leb-false room_for n e)
@@ -86,7 +87,7 @@ module _ (b : Base) (T : List Item) (s : ℕ) (q : Request) (sd : sound b (entri
           known = λ x r. known_below q.upto x (invalid b H s v x) (none_named (λ y. option_and_then (stale_from q.upto y) (invalid b H s v y)) (keys (set_of q.ros)) x none.copies (among_keys q.ros x r));
           settled = λ t o is at_first. unread (reads_of q o.request) (λ r. open_unread t o is at_first (a.1 t) r);
           room = room_by (nat_le room_for (len W.members)) (is_none (first_decided W.members.pairs)) (len W.members) (first_decided W.members.pairs) refl refl (unless_some _ _ p6.0);
-          fits = ltb-false b.limit (bytes_of q) (unless_some (nat_lt b.limit (bytes_of q)) (refused.Full b.limit) p6.1);
+          fits = ltb-false b.limit (bytes_of q) (unless_some (nat_lt b.limit (bytes_of q)) (refused.Reason (reasons.Full b.limit)) p6.1);
         },
       )
     where

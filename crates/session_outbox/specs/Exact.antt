@@ -12,6 +12,7 @@ use Rattle.session_outbox.specs.Trace.{E, Item, M, entries}
 use Rattle.session_outbox.specs.Verdict.{verdict}
 use Rattle.session_outbox.specs.declared.mark.Mark.TheVariants as the
 use Rattle.session_outbox.specs.declared.mark.Mark.{Mark}
+use Rattle.refusal_reasons.specs.declared.reason.Reason.TheVariants as reasons
 use Rattle.validation_window.specs.declared.refusal.Refusal.TheVariants as refused
 use Rattle.validation_window.specs.declared.refusal.Refusal.{Refusal}
 use Rattle.std.specs.List.{slice_get}
@@ -65,15 +66,15 @@ EntryIsExact b T (Upgraded q) = ComesFromSession b T q
 
 -- a draw or a grant of the session s is refused so
 abbrev pub CallIsRefused : Base → List Item → ℕ → Refusal → Type 0
-CallIsRefused b T s (refused.Gone n) = (n ≡ s) × IsGoneIn (session b T s)
-CallIsRefused b T s (refused.Full limit) = (limit ≡ most_pages) × IsLiveAnd b T s (λ v. most_pages ≤ next_page b T)
-CallIsRefused b T s refused.ClockEnd = IsLiveAnd b T s (λ v. (now : ℕ) × (floor : ℕ) × (2 ^ 62 ≤ drawn_time now (last_drawn b T) floor))
-CallIsRefused b T s (refused.Epoch n) = ⊥
-CallIsRefused b T s (refused.Blocked t) = ⊥
-CallIsRefused b T s (refused.TooOld t) = ⊥
-CallIsRefused b T s (refused.Stale x k) = ⊥
-CallIsRefused b T s (refused.Earlier t x) = ⊥
-CallIsRefused b T s (refused.Later t x) = ⊥
+CallIsRefused b T s (refused.Reason (reasons.Gone n)) = (n ≡ s) × IsGoneIn (session b T s)
+CallIsRefused b T s (refused.Reason (reasons.Full limit)) = (limit ≡ most_pages) × IsLiveAnd b T s (λ v. most_pages ≤ next_page b T)
+CallIsRefused b T s (refused.Reason reasons.ClockEnd) = IsLiveAnd b T s (λ v. (now : ℕ) × (floor : ℕ) × (2 ^ 62 ≤ drawn_time now (last_drawn b T) floor))
+CallIsRefused b T s (refused.Reason (reasons.Epoch n)) = ⊥
+CallIsRefused b T s (refused.Reason (reasons.Blocked t)) = ⊥
+CallIsRefused b T s (refused.Reason (reasons.TooOld t)) = ⊥
+CallIsRefused b T s (refused.Reason (reasons.Stale x k)) = ⊥
+CallIsRefused b T s (refused.Reason (reasons.Earlier t x)) = ⊥
+CallIsRefused b T s (refused.Reason (reasons.Later t x)) = ⊥
 CallIsRefused b T s (refused.Down r) = ⊥
 CallIsRefused b T s (refused.Stopped r) = ⊥
 CallIsRefused b T s (refused.Damaged r k) = ⊥

@@ -6,6 +6,7 @@ use Rattle.session_outbox.specs.SessionExamples.{written_since}
 use Rattle.session_outbox.specs.Trace.{E, Item, M}
 use Rattle.session_outbox.specs.VerdictExamples.{second_reads}
 use Rattle.session_outbox.specs.declared.mark.Mark.TheVariants as the
+use Rattle.refusal_reasons.specs.declared.reason.Reason.TheVariants as reasons
 use Rattle.validation_window.specs.declared.refusal.Refusal.TheVariants as refused
 use Rattle.std.specs.Prelude.{Bool, List, Some, [], drop, false, take, true, ◌++◌, ◌∷◌}
 use Rattle.thor_value.specs.FiniteMap.{Map, empty, insert}
@@ -29,7 +30,7 @@ forgetting = deciding ++ M (the.Forgot (at 1)) ∷ []
 
 -- a copy of x is stale, and its reader is told so
 abbrev pub refusing : List Item
-refusing = written_since ++ M (the.Refused 2 (Some (second_reads 3 0)) (refused.Stale x 2)) ∷ []
+refusing = written_since ++ M (the.Refused 2 (Some (second_reads 3 0)) (refused.Reason (reasons.Stale x 2))) ∷ []
 
 -- ---- what is owed to the first items of `creating`
 

@@ -7,6 +7,7 @@ use Rattle.local_history.specs.History.{Base, state}
 use Rattle.session_outbox.specs.Session.{Session, invalid, session, session_lives}
 use Rattle.session_outbox.specs.Trace.{Item, entries}
 use Rattle.validation_window.specs.Window.{window}
+use Rattle.refusal_reasons.specs.declared.reason.Reason.TheVariants as reasons
 use Rattle.validation_window.specs.declared.refusal.Refusal.TheVariants as refused
 use Rattle.validation_window.specs.declared.refusal.Refusal.{Refusal}
 use Rattle.std.specs.Option.{option_and_then}
@@ -17,7 +18,7 @@ use Rattle.validation_queue.specs.Clashes.{first_some}
 
 -- the copy of x, where the place k of its last write by another session isn't below upto
 abbrev pub stale_from : ℕ → Oref → ℕ → Option Refusal
-stale_from upto x k = cond (nat_le upto k) (Some (refused.Stale x k)) None
+stale_from upto x k = cond (nat_le upto k) (Some (refused.Reason (reasons.Stale x k))) None
 
 -- Of the names that q read, the least that its session's invalid set has at a place not below q's
 -- `upto`: its client hadn't taken the message of that write.
@@ -26,8 +27,8 @@ stale b H s v q = first_some (λ x. option_and_then (stale_from q.upto x) (inval
 
 -- the refusal of q, which comes from the session s, where that stands so
 abbrev pub verdict_by : Base → List Entry → ℕ → Request → Option Session → Option Refusal
-verdict_by b H s q None = Some (refused.Gone s)
-verdict_by b H s q (Some v) = cond (session_lives v) (first_refusal (state b H) (window b H) (stale b H s v q) (full b (window b H) q) q) (Some (refused.Gone s))
+verdict_by b H s q None = Some (refused.Reason (reasons.Gone s))
+verdict_by b H s q (Some v) = cond (session_lives v) (first_refusal (state b H) (window b H) (stale b H s v q) (full b (window b H) q) q) (Some (refused.Reason (reasons.Gone s)))
 
 -- What a repository with this trace answers to the request q of the session s: the first of Gone,
 -- Blocked, Epoch, TooOld, Stale, Earlier, Later, Full of the window and Full of the buffer that holds,

@@ -14,6 +14,7 @@ ghost use Rattle.session_outbox.specs.SessionExamples.{connected_anew, invalid_t
 ghost use Rattle.session_outbox.specs.Trace.{E, M};
 ghost use Rattle.session_outbox.specs.VerdictExamples.{second_reads};
 ghost use Rattle.session_outbox.specs.declared.mark.Mark.TheVariants as the;
+ghost use Rattle.refusal_reasons.specs.declared.reason.Reason.TheVariants as reasons;
 ghost use Rattle.validation_window.specs.declared.refusal.Refusal.TheVariants as refused;
 ghost use Rattle.std.specs.Prelude.{None, Some, [], ◌∷◌, ◌++◌, ◌≡◌, false, take, true};
 ghost use Rattle.thor_value.specs.Names.{zero_ts};
@@ -36,7 +37,7 @@ pub fn inexact_examples()
     ensures message { ¬ ItemIsExact home opened (M (the.Took 1 1)) }
     ensures time { ¬ ItemIsExact home (take 3 creating) (M (the.Drew 1 (at 1))) }
     ensures life { ¬ ItemIsExact home opened (M (the.Drew 1 (again 1))) }
-    ensures refusal { ¬ ItemIsExact home opened (M (the.Refused 1 (Some (reading_x 3)) (refused.Epoch 1))) }
+    ensures refusal { ¬ ItemIsExact home opened (M (the.Refused 1 (Some (reading_x 3)) (refused.Reason (reasons.Epoch 1)))) }
     ensures ended { ¬ ItemIsExact home connected_anew (M (the.Fetched 2 0 0)) }
     ensures client { ¬ ComesFromSession home invalid_taken borrowed }
     ensures granted { ¬ ItemIsExact home opened (E (create_z 1)) }

@@ -8,6 +8,7 @@ ghost use Rattle.session_outbox.specs.Session.{Ended, Invalid, Live, Page, Retir
 ghost use Rattle.session_outbox.specs.SessionExamples.{acknowledged, committed_there, connected_anew, hasty, invalid_taken, kept_marks, known_in, own_aborted, own_finished, own_prepared, restarted, stage_in, waiting_in, written_since, x_invalid_in};
 ghost use Rattle.session_outbox.specs.Trace.{E, entries, items};
 ghost use Rattle.session_outbox.specs.Verdict.{verdict};
+ghost use Rattle.refusal_reasons.specs.declared.reason.Reason.TheVariants as reasons;
 ghost use Rattle.validation_window.specs.declared.refusal.Refusal.TheVariants as refused;
 ghost use Rattle.std.specs.Option.{IsSomeAnd, option_map};
 ghost use Rattle.std.specs.Prelude.{◌≡◌, [], ◌∷◌, ◌++◌, None, Some, false, take, true};
@@ -39,7 +40,7 @@ pub fn session_life_examples()
     ensures untold { option_map waiting (session hasty (written_since ++ E (set_x 3 8) ∷ []) 2) ≡ Some (Invalid (x ∷ []) 2 ∷ []) }
     ensures silent_anew { stage_in hasty connected_anew ≡ Some Ended }
     ensures silent_restarted { stage_in hasty restarted ≡ Some Ended }
-    ensures gone { verdict hasty written_since 2 (reading_x 3) ≡ Some (refused.Gone 2) }
+    ensures gone { verdict hasty written_since 2 (reading_x 3) ≡ Some (refused.Reason (reasons.Gone 2)) }
     ensures nobody { stage_in home (take 2 written_since) ≡ None }
 {}
 

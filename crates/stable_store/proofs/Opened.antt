@@ -55,15 +55,7 @@ after_fault old new entry (refused.Stopped r) is fallen = fallen
 after_fault old new entry (refused.Damaged r k) is fallen = fallen
 after_fault old new entry refused.NoMemory is fallen = fallen
 after_fault old new entry (refused.Down r) is fallen = cc
-after_fault old new entry (refused.Gone s) is fallen = cc
-after_fault old new entry (refused.Epoch n) is fallen = cc
-after_fault old new entry (refused.Blocked t) is fallen = cc
-after_fault old new entry (refused.TooOld t) is fallen = cc
-after_fault old new entry (refused.Stale x k) is fallen = cc
-after_fault old new entry (refused.Earlier t x) is fallen = cc
-after_fault old new entry (refused.Later t x) is fallen = cc
-after_fault old new entry (refused.Full n) is fallen = cc
-after_fault old new entry refused.ClockEnd is fallen = cc
+after_fault old new entry (refused.Reason r) is fallen = cc
 
 -- ---- what is open stays so
 

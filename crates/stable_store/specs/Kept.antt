@@ -112,15 +112,7 @@ StandsAfter old new entry (refused.Down r) = (is_up old ≡ false) × (new ≡ o
 StandsAfter old new entry (refused.Stopped r) = IsFallen old new entry
 StandsAfter old new entry (refused.Damaged r k) = IsFallen old new entry
 StandsAfter old new entry refused.NoMemory = IsFallen old new entry
-StandsAfter old new entry (refused.Gone s) = ⊥
-StandsAfter old new entry (refused.Epoch n) = ⊥
-StandsAfter old new entry (refused.Blocked t) = ⊥
-StandsAfter old new entry (refused.TooOld t) = ⊥
-StandsAfter old new entry (refused.Stale x k) = ⊥
-StandsAfter old new entry (refused.Earlier t x) = ⊥
-StandsAfter old new entry (refused.Later t x) = ⊥
-StandsAfter old new entry (refused.Full n) = ⊥
-StandsAfter old new entry refused.ClockEnd = ⊥
+StandsAfter old new entry (refused.Reason r) = ⊥
 
 -- a refusal after which a repository is down
 abbrev pub is_fault : Refusal → Bool
@@ -128,15 +120,7 @@ is_fault (refused.Stopped r) = true
 is_fault (refused.Damaged r k) = true
 is_fault refused.NoMemory = true
 is_fault (refused.Down r) = false
-is_fault (refused.Gone s) = false
-is_fault (refused.Epoch n) = false
-is_fault (refused.Blocked t) = false
-is_fault (refused.TooOld t) = false
-is_fault (refused.Stale x k) = false
-is_fault (refused.Earlier t x) = false
-is_fault (refused.Later t x) = false
-is_fault (refused.Full n) = false
-is_fault refused.ClockEnd = false
+is_fault (refused.Reason r) = false
 
 -- it was up and is so
 pub record GoesOnUp {P : Type 0} (old new : Stable P) : Type 0 where

@@ -14,7 +14,7 @@ use Rattle.thor_value.specs.declared.names.Ts.{Ts}
 use Rattle.validation_queue.specs.Clashes.{comes_earlier, first_some, is_before}
 use Rattle.validation_queue.specs.Contents.{is_blocking, omit}
 use Rattle.validation_queue.specs.Names.{is_among}
-use Rattle.validation_queue.specs.declared.clash.Clash.TheVariants as clashes
+use Rattle.refusal_reasons.specs.declared.reason.Reason.TheVariants as reasons
 use Rattle.validation_queue.specs.declared.member.Member.{Member}
 
 abbrev is_open : Ts × Member → Bool
@@ -32,7 +32,7 @@ pub none_earlier : (tx : Ts) (read : List Oref) (es : List (Ts × Member)) → f
 none_earlier tx read [] h = refl
 none_earlier tx read (e ∷ es) h = by e.1.decided h (none_earlier tx read es)
   where
-    by : (d : Bool) → cond (not d) (Some e) (find is_open es) ≡ None → (find is_open es ≡ None → first_some (comes_earlier tx read) es ≡ None) → option_or (cond (not d && is_before e.0 tx) (option_map (clashes.Earlier e.0) (find (is_among e.1.written) read)) None) (first_some (comes_earlier tx read) es) ≡ None
+    by : (d : Bool) → cond (not d) (Some e) (find is_open es) ≡ None → (find is_open es ≡ None → first_some (comes_earlier tx read) es ≡ None) → option_or (cond (not d && is_before e.0 tx) (option_map (reasons.Earlier e.0) (find (is_among e.1.written) read)) None) (first_some (comes_earlier tx read) es) ≡ None
     by true h more = more h
     by false h more = cc
 

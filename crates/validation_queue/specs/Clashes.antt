@@ -11,8 +11,8 @@ use Rattle.thor_value.specs.declared.names.Oref.{Oref}
 use Rattle.thor_value.specs.declared.names.Ts.{Ts}
 use Rattle.validation_queue.specs.Contents.{Contents, Transaction, first_decided, is_full, room_for}
 use Rattle.validation_queue.specs.Names.{is_among}
-use Rattle.validation_queue.specs.declared.clash.Clash.TheVariants as clashes
-use Rattle.validation_queue.specs.declared.clash.Clash.{Clash}
+use Rattle.refusal_reasons.specs.declared.reason.Reason.TheVariants as reasons
+use Rattle.refusal_reasons.specs.declared.reason.Reason.{Reason}
 use Rattle.validation_queue.specs.declared.member.Member.{Member}
 
 -- t comes before u
@@ -29,38 +29,38 @@ abbrev pub bar : Contents → Bool → Ts
 bar Q upgrade = cond upgrade (fold later_of Q.threshold (keys Q.members)) Q.threshold
 
 -- t isn't above its bar
-abbrev pub too_old : Contents → Transaction → Option Clash
-too_old Q t = cond (is_before (bar Q t.upgrade) t.tx) None (Some (clashes.TooOld (bar Q t.upgrade)))
+abbrev pub too_old : Contents → Transaction → Option Reason
+too_old Q t = cond (is_before (bar Q t.upgrade) t.tx) None (Some (reasons.TooOld (bar Q t.upgrade)))
 
 -- an undecided transaction below tx wrote what tx read
-abbrev pub comes_earlier : Ts → List Oref → Ts × Member → Option Clash
-comes_earlier tx read e = cond (not e.1.decided && is_before e.0 tx) (option_map (clashes.Earlier e.0) (find (is_among e.1.written) read)) None
+abbrev pub comes_earlier : Ts → List Oref → Ts × Member → Option Reason
+comes_earlier tx read e = cond (not e.1.decided && is_before e.0 tx) (option_map (reasons.Earlier e.0) (find (is_among e.1.written) read)) None
 
 -- whether m wrote x, or x is written here and m read it
 abbrev pub meets_at : List Oref → Member → Oref → Bool
 meets_at written m x = is_among m.written x || (is_among written x && is_among m.read x)
 
 -- a transaction above tx wrote what tx read, or read what tx wrote, which is among what tx read
-abbrev pub comes_later : Ts → List Oref → List Oref → Ts × Member → Option Clash
-comes_later tx read written e = cond (is_before tx e.0) (option_map (clashes.Later e.0) (find (meets_at written e.1) read)) None
+abbrev pub comes_later : Ts → List Oref → List Oref → Ts × Member → Option Reason
+comes_later tx read written e = cond (is_before tx e.0) (option_map (reasons.Later e.0) (find (meets_at written e.1) read)) None
 
 -- t isn't before any of the members
 abbrev pub IsBehindAll : Ts → List (Ts × Member) → Type 0
 IsBehindAll t members = AllByRecursion (λ e. is_before t e.0 ≡ false) members
 
 -- there is no room, and no transaction that may leave
-abbrev pub full : Contents → Option Clash
-full Q = cond (is_full Q && is_none (first_decided Q)) (Some (clashes.Full room_for)) None
+abbrev pub full : Contents → Option Reason
+full Q = cond (is_full Q && is_none (first_decided Q)) (Some (reasons.Full room_for)) None
 
 -- What stands against t: the first of these that does, each with the least transaction and then with
 -- the least name. (Members are in the order of their timestamps, and the names of a request rise.)
-abbrev pub clash : Contents → Transaction → Option Clash
+abbrev pub clash : Contents → Transaction → Option Reason
 clash Q t =
     option_or (too_old Q t)
     (option_or (first_some (comes_earlier t.tx t.read) Q.members.pairs)
     (option_or (first_some (comes_later t.tx t.read t.written) Q.members.pairs) (full Q)))
 
 -- Ok where nothing stands against it
-abbrev pub answer : Option Clash → Result (Unit {0}) Clash
+abbrev pub answer : Option Reason → Result (Unit {0}) Reason
 answer None = Ok tt
 answer (Some c) = Err c

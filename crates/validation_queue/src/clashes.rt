@@ -9,11 +9,11 @@ ghost use Rattle.validation_queue.specs.Clashes.{comes_earlier, comes_later, fir
 ghost use Rattle.validation_queue.specs.Contents.{is_blocking};
 ghost use Rattle.validation_queue.specs.Names.{IsInOrder, Rises, is_among, least_of};
 
-use crate::clash::Clash;
 use crate::common::first_common;
 use crate::member::Member;
 use crate::members::Members;
 use crate::name_set::NameSet;
+use refusal_reasons::Reason;
 use std::cmp::Ordering;
 use thor_value::{Obj, Oref, Ts};
 
@@ -70,7 +70,7 @@ fn first_meeting(ros: &[Oref], writes: &[(Oref, Obj)], member: &Member) -> Optio
 }
 
 /// What stands against a request by a member's being earlier.
-fn earlier(tx: Ts, ros: &[Oref], of: Ts, member: &Member) -> Option<Clash>
+fn earlier(tx: Ts, ros: &[Oref], of: Ts, member: &Member) -> Option<Reason>
     requires { Rises ros.now }
     ensures { result ≡ comes_earlier tx ros.now (of, member.now) }
 {
@@ -78,13 +78,13 @@ fn earlier(tx: Ts, ros: &[Oref], of: Ts, member: &Member) -> Option<Clash>
         return None;
     }
     match first_in(ros, &member.written) {
-        Some(oref) => Some(Clash::Earlier { tx: of, oref }),
+        Some(oref) => Some(Reason::Earlier { tx: of, oref }),
         None => None,
     }
 }
 
 /// What stands against a request by a member's being later.
-fn later(tx: Ts, ros: &[Oref], writes: &[(Oref, Obj)], of: Ts, member: &Member) -> Option<Clash>
+fn later(tx: Ts, ros: &[Oref], writes: &[(Oref, Obj)], of: Ts, member: &Member) -> Option<Reason>
     requires { IsInOrder ros.now (keys_of writes.now) }
     ensures { result ≡ comes_later tx ros.now (keys_of writes.now) (of, member.now) }
 {
@@ -92,13 +92,13 @@ fn later(tx: Ts, ros: &[Oref], writes: &[(Oref, Obj)], of: Ts, member: &Member) 
         return None;
     }
     match first_meeting(ros, writes, member) {
-        Some(oref) => Some(Clash::Later { tx: of, oref }),
+        Some(oref) => Some(Reason::Later { tx: of, oref }),
         None => None,
     }
 }
 
 /// The clash with the least undecided member that is earlier.
-pub fn first_earlier(members: &Members, tx: Ts, ros: &[Oref]) -> Option<Clash>
+pub fn first_earlier(members: &Members, tx: Ts, ros: &[Oref]) -> Option<Reason>
     requires { Rises ros.now }
     ensures { result ≡ first_some (comes_earlier tx ros.now) members.now.entries }
 {
@@ -112,7 +112,7 @@ pub fn first_earlier(members: &Members, tx: Ts, ros: &[Oref]) -> Option<Clash>
 }
 
 /// The clash with the least member that is later.
-pub fn first_later(members: &Members, tx: Ts, ros: &[Oref], writes: &[(Oref, Obj)]) -> Option<Clash>
+pub fn first_later(members: &Members, tx: Ts, ros: &[Oref], writes: &[(Oref, Obj)]) -> Option<Reason>
     requires { IsInOrder ros.now (keys_of writes.now) }
     ensures { result ≡ first_some (comes_later tx ros.now (keys_of writes.now)) members.now.entries }
 {

@@ -2,7 +2,6 @@
 //! that committed last. The threshold stands for all that committed before.
 #![tactic(auto)]
 
-mod clash;
 mod clashes;
 mod common;
 mod member;
@@ -10,7 +9,6 @@ mod members;
 mod name_set;
 mod queue;
 
-pub use clash::Clash;
 pub use member::Member;
 pub use name_set::{NameSet, is_in_order, is_one_of};
 pub use queue::Queue;

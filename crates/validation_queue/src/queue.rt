@@ -5,11 +5,11 @@ ghost use Rattle.std.specs.Map.{keys_of};
 ghost use Rattle.validation_queue.specs.Clashes.{answer, bar, clash, comes_earlier, comes_later, first_some, full};
 ghost use Rattle.validation_queue.specs.Contents.{cleared, decide, enter, first_blocking, first_undecided, leaving, room_for, transaction, with_one};
 
-use crate::clash::Clash;
 use crate::clashes::{
     first_blocking, first_decided, first_earlier, first_later, first_undecided, greatest, is_before,
 };
 use crate::members::{Members, is_behind_all, member_of, raised, replace, stay_decided};
+use refusal_reasons::Reason;
 use std::alloc::Global;
 use std::collections::BTreeMap;
 use std::marker::Model;
@@ -100,13 +100,13 @@ impl Queue {
     ///
     /// It looks at the transactions in the queue alone, of which there are at most 1,024, and takes no
     /// memory. Where all of them are decided and the transaction is above them, it looks at one.
-    pub fn validate(&self, tx: Ts, upgrade: bool, ros: &Orefs, writes: &Writes) -> Result<(), Clash>
+    pub fn validate(&self, tx: Ts, upgrade: bool, ros: &Orefs, writes: &Writes) -> Result<(), Reason>
         requires { IsInOrder ros.now (keys_of writes.now) }
         ensures { result ≡ answer (clash self.now (transaction tx upgrade ros.now writes.now)) }
     {
         let threshold = self.bar(upgrade);
         if !is_before(threshold, tx) {
-            return Err(Clash::TooOld { threshold });
+            return Err(Reason::TooOld { threshold });
         }
         if let Some(clash) = self.earlier(tx, ros.as_slice()) {
             return Err(clash);
@@ -117,13 +117,13 @@ impl Queue {
         if self.has_room() {
             Ok(())
         } else {
-            Err(Clash::Full { limit: LIMIT })
+            Err(Reason::Full { limit: LIMIT })
         }
     }
 
     /// The clash with the least undecided transaction that is earlier.
     #[tactic(auto, using(crate::proofs::Decided::none_earlier))]
-    fn earlier(&self, tx: Ts, ros: &[Oref]) -> Option<Clash>
+    fn earlier(&self, tx: Ts, ros: &[Oref]) -> Option<Reason>
         requires { Rises ros.now }
         ensures { result ≡ first_some (comes_earlier tx ros.now) self.now.members.pairs }
     {
@@ -135,7 +135,7 @@ impl Queue {
 
     /// The clash with the least transaction that is later.
     #[tactic(auto, using(crate::proofs::Behind::none_later))]
-    fn later(&self, tx: Ts, ros: &[Oref], writes: &[(Oref, Obj)]) -> Option<Clash>
+    fn later(&self, tx: Ts, ros: &[Oref], writes: &[(Oref, Obj)]) -> Option<Reason>
         requires { IsInOrder ros.now (keys_of writes.now) }
         ensures { result ≡ first_some (comes_later tx ros.now (keys_of writes.now)) self.now.members.pairs }
     {

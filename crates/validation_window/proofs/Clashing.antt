@@ -5,10 +5,11 @@ use Rattle.local_history.proofs.Meeting.{or_second}
 use Rattle.validation_window.proofs.Queued.{first-on, len-queue, on}
 use Rattle.validation_window.proofs.Validated.{neither, nothing_holds, unmapped}
 use Rattle.local_history.specs.History.{Base, State}
-use Rattle.validation_window.specs.Queue.{TellsInOrder, old_of, queue_of, queued_of, refusal_by, refusal_of, transaction_of}
+use Rattle.validation_window.specs.Queue.{TellsInOrder, old_of, queue_of, queued_of, refusal_by, transaction_of}
 use Rattle.local_history.specs.Requests.{has_read, has_written, is_upgrade, written}
 use Rattle.validation_window.specs.Refusals.{bar, behind, blocks, comes_earlier, comes_later, first_refusal, full, full_of_undecided, full_of_writes, least_name, names_of, passing, reads_from, set_of, too_old, writes_over}
 use Rattle.validation_window.specs.Window.{Member, Window, first_decided}
+use Rattle.refusal_reasons.specs.declared.reason.Reason.TheVariants as reasons
 use Rattle.validation_window.specs.declared.refusal.Refusal.TheVariants as refused
 use Rattle.validation_window.specs.declared.refusal.Refusal.{Refusal}
 use Rattle.std.proofs.Common.{List, [], ap, cond, refl, subst, sym, ◌++◌, ◌≡◌, ◌∙◌, ◌∷◌}
@@ -32,8 +33,7 @@ use Rattle.validation_queue.specs.Clashes as queue
 use Rattle.validation_queue.specs.Clashes.{clash, first_some, is_before, meets_at}
 use Rattle.validation_queue.specs.Contents.{first_blocking, is_blocking, room_for}
 use Rattle.validation_queue.specs.Names.{Rises, is_among}
-use Rattle.validation_queue.specs.declared.clash.Clash.TheVariants as clashes
-use Rattle.validation_queue.specs.declared.clash.Clash.{Clash}
+use Rattle.refusal_reasons.specs.declared.reason.Reason.{Reason}
 use Rattle.validation_queue.specs.declared.member.Member as queued
 
 -- ---- tests
@@ -146,52 +146,52 @@ mapped_or : {A B : Type 0} (f : A → B) (a c : Option A) → option_map f (opti
 mapped_or f None c = refl
 mapped_or f (Some x) c = refl
 
-module _ (r : Clash → Refusal) (f : Ts × queued.Member → Option Clash) (g : Ts × Member → Option Refusal) (each : (e : Ts × Member) → option_map r (f (e.0, queued_of e.1)) ≡ g e) where
+module _ (r : Reason → Refusal) (f : Ts × queued.Member → Option Reason) (g : Ts × Member → Option Refusal) (each : (e : Ts × Member) → option_map r (f (e.0, queued_of e.1)) ≡ g e) where
   firsts_alike : (es : List (Ts × Member)) → option_map r (first_some f (on queued_of es)) ≡ first_some g es
   firsts_alike [] = refl
   firsts_alike (e ∷ es) = mapped_or r (f (e.0, queued_of e.1)) (first_some f (on queued_of es)) ∙ ap (λ o. option_or o (option_map r (first_some f (on queued_of es)))) (each e) ∙ ap (option_or (g e)) (firsts_alike es)
 
 -- ---- each check
 
-pub blocks_alike : (W : Window) (q : Request) → first_some (blocks q) W.members.pairs ≡ option_map refused.Blocked (first_blocking (queue_of W) (is_upgrade q))
+pub blocks_alike : (W : Window) (q : Request) → first_some (blocks q) W.members.pairs ≡ option_map (λ t. refused.Reason (reasons.Blocked t)) (first_blocking (queue_of W) (is_upgrade q))
 blocks_alike W q = over W.members.pairs
   where
-    by : (d u v : Bool) (t : Ts) (o : Option Refusal) (p : Option (Ts × queued.Member)) (m : queued.Member) → o ≡ option_map refused.Blocked (option_map (λ e. e.0) p)
-        → option_or (cond (not d && (u || v)) (Some (refused.Blocked t)) None) o ≡ option_map refused.Blocked (option_map (λ e. e.0) (cond (cond d false (cond u true v)) (Some (t, m)) p))
+    by : (d u v : Bool) (t : Ts) (o : Option Refusal) (p : Option (Ts × queued.Member)) (m : queued.Member) → o ≡ option_map (λ t. refused.Reason (reasons.Blocked t)) (option_map (λ e. e.0) p)
+        → option_or (cond (not d && (u || v)) (Some (refused.Reason (reasons.Blocked t))) None) o ≡ option_map (λ t. refused.Reason (reasons.Blocked t)) (option_map (λ e. e.0) (cond (cond d false (cond u true v)) (Some (t, m)) p))
     by true u v t o p m h = h
     by false true v t o p m h = refl
     by false false true t o p m h = refl
     by false false false t o p m h = h
 
-    over : (es : List (Ts × Member)) → first_some (blocks q) es ≡ option_map refused.Blocked (option_map (λ e. e.0) (find (λ e. is_blocking (is_upgrade q) e.1) (on queued_of es)))
+    over : (es : List (Ts × Member)) → first_some (blocks q) es ≡ option_map (λ t. refused.Reason (reasons.Blocked t)) (option_map (λ e. e.0) (find (λ e. is_blocking (is_upgrade q) e.1) (on queued_of es)))
     over [] = refl
     over (e ∷ es) = by e.1.decided (is_upgrade q) (is_upgrade e.1.request) e.0 (first_some (blocks q) es) (find (λ e. is_blocking (is_upgrade q) e.1) (on queued_of es)) (queued_of e.1) (over es)
 
 bar_alike : (W : Window) (q : Request) → queue.bar (queue_of W) (is_upgrade q) ≡ bar W q
 bar_alike W q = ap (λ ks. cond (is_upgrade q) (fold later_of W.threshold ks) W.threshold) (keys_of-map_values queued_of W.members.pairs)
 
-old_alike : (W : Window) (q : Request) → option_map refusal_of (queue.too_old (queue_of W) (transaction_of q)) ≡ too_old W q
-old_alike W q = ap (λ t. option_map refusal_of (cond (is_before t q.tx) None (Some (clashes.TooOld t)))) (bar_alike W q) ∙ by (bar W q) (is_before (bar W q) q.tx)
+old_alike : (W : Window) (q : Request) → option_map refused.Reason (queue.too_old (queue_of W) (transaction_of q)) ≡ too_old W q
+old_alike W q = ap (λ t. option_map refused.Reason (cond (is_before t q.tx) None (Some (reasons.TooOld t)))) (bar_alike W q) ∙ by (bar W q) (is_before (bar W q) q.tx)
   where
-    by : (t : Ts) (x : Bool) → option_map refusal_of (cond x None (Some (clashes.TooOld t))) ≡ cond x None (Some (refused.TooOld t))
+    by : (t : Ts) (x : Bool) → option_map refused.Reason (cond x None (Some (reasons.TooOld t))) ≡ cond x None (Some (refused.Reason (reasons.TooOld t)))
     by t true = refl
     by t false = refl
 
-earlier_by : (b : Bool) (t : Ts) (o p : Option Oref) → p ≡ o → option_map refusal_of (cond b (option_map (clashes.Earlier t) o) None) ≡ cond b (option_map (λ x. refused.Earlier t x) p) None
+earlier_by : (b : Bool) (t : Ts) (o p : Option Oref) → p ≡ o → option_map refused.Reason (cond b (option_map (reasons.Earlier t) o) None) ≡ cond b (option_map (λ x. refused.Reason (reasons.Earlier t x)) p) None
 earlier_by false t o p h = refl
 earlier_by true t None p h = rw h refl
 earlier_by true t (Some x) p h = rw h refl
 
-later_by : (b : Bool) (t : Ts) (o p : Option Oref) → p ≡ o → option_map refusal_of (cond b (option_map (clashes.Later t) o) None) ≡ cond b (option_map (λ x. refused.Later t x) p) None
+later_by : (b : Bool) (t : Ts) (o p : Option Oref) → p ≡ o → option_map refused.Reason (cond b (option_map (reasons.Later t) o) None) ≡ cond b (option_map (λ x. refused.Reason (reasons.Later t x)) p) None
 later_by false t o p h = refl
 later_by true t None p h = rw h refl
 later_by true t (Some x) p h = rw h refl
 
-earlier_alike : (q : Request) → TellsInOrder q → (e : Ts × Member) → option_map refusal_of (queue.comes_earlier q.tx q.ros (e.0, queued_of e.1)) ≡ comes_earlier q e
+earlier_alike : (q : Request) → TellsInOrder q → (e : Ts × Member) → option_map refused.Reason (queue.comes_earlier q.tx q.ros (e.0, queued_of e.1)) ≡ comes_earlier q e
 earlier_alike q h e = earlier_by (not e.1.decided && is_before e.0 q.tx) e.0 (find (is_among (keys_of e.1.request.writes)) q.ros) (least_name q (reads_from q e.1.request))
     (least_alike q h (reads_from q e.1.request) (is_among (keys_of e.1.request.writes)) (λ x m. ap (λ k. k && has_written e.1.request x) m ∙ written_among e.1.request x))
 
-later_alike : (q : Request) → TellsInOrder q → (e : Ts × Member) → option_map refusal_of (queue.comes_later q.tx q.ros (keys_of q.writes) (e.0, queued_of e.1)) ≡ comes_later q e
+later_alike : (q : Request) → TellsInOrder q → (e : Ts × Member) → option_map refused.Reason (queue.comes_later q.tx q.ros (keys_of q.writes) (e.0, queued_of e.1)) ≡ comes_later q e
 later_alike q h e = later_by (is_before q.tx e.0) e.0 (find (meets_at (keys_of q.writes) (queued_of e.1)) q.ros) (least_name q (λ x. reads_from q e.1.request x || writes_over q e.1.request x))
     (least_alike q h (λ x. reads_from q e.1.request x || writes_over q e.1.request x) (meets_at (keys_of q.writes) (queued_of e.1)) agree)
   where
@@ -201,13 +201,13 @@ later_alike q h e = later_by (is_before q.tx e.0) e.0 (find (meets_at (keys_of q
         ∙ ap (λ k. k || (has_written q x && has_read e.1.request x)) (written_among e.1.request x)
         ∙ ap (λ k. is_among (keys_of e.1.request.writes) x || (k && has_read e.1.request x)) (written_among q x)
 
-full_alike : (W : Window) → option_map refusal_of (queue.full (queue_of W)) ≡ full_of_undecided W
+full_alike : (W : Window) → option_map refused.Reason (queue.full (queue_of W)) ≡ full_of_undecided W
 full_alike W =
-    ap (λ n. option_map refusal_of (cond (nat_le room_for n && is_none (option_map (λ e. e.0) (find (λ e. e.1.decided) (on queued_of W.members.pairs)))) (Some (clashes.Full room_for)) None)) (len-queue W)
-    ∙ ap (λ o. option_map refusal_of (cond (nat_le room_for (len W.members) && is_none o) (Some (clashes.Full room_for)) None)) (first-on W.members.pairs)
+    ap (λ n. option_map refused.Reason (cond (nat_le room_for n && is_none (option_map (λ e. e.0) (find (λ e. e.1.decided) (on queued_of W.members.pairs)))) (Some (reasons.Full room_for)) None)) (len-queue W)
+    ∙ ap (λ o. option_map refused.Reason (cond (nat_le room_for (len W.members) && is_none o) (Some (reasons.Full room_for)) None)) (first-on W.members.pairs)
     ∙ by (nat_le room_for (len W.members) && is_none (first_decided W.members.pairs))
   where
-    by : (x : Bool) → option_map refusal_of (cond x (Some (clashes.Full room_for)) None) ≡ cond x (Some (refused.Full room_for)) None
+    by : (x : Bool) → option_map refused.Reason (cond x (Some (reasons.Full room_for)) None) ≡ cond x (Some (refused.Reason (reasons.Full room_for))) None
     by true = refl
     by false = refl
 
@@ -217,25 +217,25 @@ module _ (W : Window) (q : Request) (h : TellsInOrder q) where
   abbrev ts : List (Ts × queued.Member)
   ts = on queued_of W.members.pairs
 
-  abbrev E' : Option Clash
+  abbrev E' : Option Reason
   E' = first_some (queue.comes_earlier q.tx q.ros) ts
 
-  abbrev L' : Option Clash
+  abbrev L' : Option Reason
   L' = first_some (queue.comes_later q.tx q.ros (keys_of q.writes)) ts
 
-  pub rest_alike : option_map refusal_of (option_or E' (option_or L' (queue.full (queue_of W)))) ≡ option_or (first_some (comes_earlier q) W.members.pairs) (option_or (first_some (comes_later q) W.members.pairs) (full_of_undecided W))
+  pub rest_alike : option_map refused.Reason (option_or E' (option_or L' (queue.full (queue_of W)))) ≡ option_or (first_some (comes_earlier q) W.members.pairs) (option_or (first_some (comes_later q) W.members.pairs) (full_of_undecided W))
   rest_alike =
-      mapped_or refusal_of E' (option_or L' (queue.full (queue_of W)))
-      ∙ ap (λ o. option_or o (option_map refusal_of (option_or L' (queue.full (queue_of W))))) (firsts_alike refusal_of (queue.comes_earlier q.tx q.ros) (comes_earlier q) (earlier_alike q h) W.members.pairs)
+      mapped_or refused.Reason E' (option_or L' (queue.full (queue_of W)))
+      ∙ ap (λ o. option_or o (option_map refused.Reason (option_or L' (queue.full (queue_of W))))) (firsts_alike refused.Reason (queue.comes_earlier q.tx q.ros) (comes_earlier q) (earlier_alike q h) W.members.pairs)
       ∙ ap (option_or (first_some (comes_earlier q) W.members.pairs)) (
-      mapped_or refusal_of L' (queue.full (queue_of W))
-      ∙ ap (λ o. option_or o (option_map refusal_of (queue.full (queue_of W)))) (firsts_alike refusal_of (queue.comes_later q.tx q.ros (keys_of q.writes)) (comes_later q) (later_alike q h) W.members.pairs)
+      mapped_or refused.Reason L' (queue.full (queue_of W))
+      ∙ ap (λ o. option_or o (option_map refused.Reason (queue.full (queue_of W)))) (firsts_alike refused.Reason (queue.comes_later q.tx q.ros (keys_of q.writes)) (comes_later q) (later_alike q h) W.members.pairs)
       ∙ ap (option_or (first_some (comes_later q) W.members.pairs)) (full_alike W))
 
-  pub clash_alike : option_map refusal_of (clash (queue_of W) (transaction_of q)) ≡ option_or (too_old W q) (option_or (first_some (comes_earlier q) W.members.pairs) (option_or (first_some (comes_later q) W.members.pairs) (full_of_undecided W)))
+  pub clash_alike : option_map refused.Reason (clash (queue_of W) (transaction_of q)) ≡ option_or (too_old W q) (option_or (first_some (comes_earlier q) W.members.pairs) (option_or (first_some (comes_later q) W.members.pairs) (full_of_undecided W)))
   clash_alike =
-      mapped_or refusal_of (queue.too_old (queue_of W) (transaction_of q)) (option_or E' (option_or L' (queue.full (queue_of W))))
-      ∙ ap (λ o. option_or o (option_map refusal_of (option_or E' (option_or L' (queue.full (queue_of W)))))) (old_alike W q)
+      mapped_or refused.Reason (queue.too_old (queue_of W) (transaction_of q)) (option_or E' (option_or L' (queue.full (queue_of W))))
+      ∙ ap (λ o. option_or o (option_map refused.Reason (option_or E' (option_or L' (queue.full (queue_of W)))))) (old_alike W q)
       ∙ ap (option_or (too_old W q)) rest_alike
 
 -- ---- a clash without TooOld
@@ -244,43 +244,43 @@ together : {X : Type 0} (a c d : Option X) → option_or (option_or a c) d ≡ o
 together None c d = refl
 together (Some x) c d = refl
 
-abbrev NotOld : Option Clash → Type 0
+abbrev NotOld : Option Reason → Type 0
 NotOld o = option_and_then old_of o ≡ None
 
-neither_old : (a c : Option Clash) → NotOld a → NotOld c → NotOld (option_or a c)
+neither_old : (a c : Option Reason) → NotOld a → NotOld c → NotOld (option_or a c)
 neither_old None c h k = k
 neither_old (Some x) c h k = h
 
-firsts_not_old : (f : Ts × queued.Member → Option Clash) → ((e : Ts × queued.Member) → NotOld (f e)) → (es : List (Ts × queued.Member)) → NotOld (first_some f es)
+firsts_not_old : (f : Ts × queued.Member → Option Reason) → ((e : Ts × queued.Member) → NotOld (f e)) → (es : List (Ts × queued.Member)) → NotOld (first_some f es)
 firsts_not_old f each [] = refl
 firsts_not_old f each (e ∷ es) = neither_old (f e) (first_some f es) (each e) (firsts_not_old f each es)
 
-earlier_not_old : (x : Bool) (t : Ts) (o : Option Oref) → NotOld (cond x (option_map (clashes.Earlier t) o) None)
+earlier_not_old : (x : Bool) (t : Ts) (o : Option Oref) → NotOld (cond x (option_map (reasons.Earlier t) o) None)
 earlier_not_old false t o = refl
 earlier_not_old true t None = refl
 earlier_not_old true t (Some y) = refl
 
-later_not_old : (x : Bool) (t : Ts) (o : Option Oref) → NotOld (cond x (option_map (clashes.Later t) o) None)
+later_not_old : (x : Bool) (t : Ts) (o : Option Oref) → NotOld (cond x (option_map (reasons.Later t) o) None)
 later_not_old false t o = refl
 later_not_old true t None = refl
 later_not_old true t (Some y) = refl
 
-full_not_old : (x : Bool) → NotOld (cond x (Some (clashes.Full room_for)) None)
+full_not_old : (x : Bool) → NotOld (cond x (Some (reasons.Full room_for)) None)
 full_not_old true = refl
 full_not_old false = refl
 
-old_is : (x : Bool) (t : Ts) → option_and_then old_of (cond x None (Some (clashes.TooOld t))) ≡ option_map refusal_of (cond x None (Some (clashes.TooOld t)))
+old_is : (x : Bool) (t : Ts) → option_and_then old_of (cond x None (Some (reasons.TooOld t))) ≡ option_map refused.Reason (cond x None (Some (reasons.TooOld t)))
 old_is true t = refl
 old_is false t = refl
 
 -- what stands between the first and the rest of a clash doesn't see the one of them that isn't there
-joined : (o r : Option Clash) (x y stale w : Option Refusal) → option_map refusal_of o ≡ x → option_and_then old_of o ≡ option_map refusal_of o → NotOld r → option_map refusal_of r ≡ y
-    → option_or (option_and_then old_of (option_or o r)) (option_or stale (option_or (option_map refusal_of (option_or o r)) w)) ≡ option_or x (option_or stale (option_or y w))
+joined : (o r : Option Reason) (x y stale w : Option Refusal) → option_map refused.Reason o ≡ x → option_and_then old_of o ≡ option_map refused.Reason o → NotOld r → option_map refused.Reason r ≡ y
+    → option_or (option_and_then old_of (option_or o r)) (option_or stale (option_or (option_map refused.Reason (option_or o r)) w)) ≡ option_or x (option_or stale (option_or y w))
 joined None r x y stale w h k n m =
-    ap (λ u. option_or u (option_or stale (option_or (option_map refusal_of r) w))) (n ∙ h)
+    ap (λ u. option_or u (option_or stale (option_or (option_map refused.Reason r) w))) (n ∙ h)
     ∙ ap (λ u. option_or x (option_or stale (option_or u w))) m
 joined (Some c) r x y stale w h k n m =
-    ap (λ u. option_or u (option_or stale (option_or (Some (refusal_of c)) w))) k
+    ap (λ u. option_or u (option_or stale (option_or (Some (refused.Reason c)) w))) k
     ∙ ap (λ u. option_or u (option_or stale (option_or y w))) h
 
 pub refusal_alike : (b : Base) (S : State) (W : Window) (q : Request) (stale : Option Refusal) → TellsInOrder q → first_refusal S W stale (full b W q) q ≡ refusal_by (queue_of W) q (behind S q) stale (full_of_writes b q)
@@ -302,7 +302,7 @@ refusal_alike b S W q stale h =
     let kept : option_or (option_or e (option_or l (full_of_undecided W))) w ≡ option_or e (option_or l (full b W q)) = together e (option_or l (full_of_undecided W)) w ∙ ap (option_or e) (together l (full_of_undecided W) w) in
     let tail = joined (queue.too_old Q (transaction_of q)) r (too_old W q) (option_or e (option_or l (full_of_undecided W))) stale w (old_alike W q) (old_is (is_before (queue.bar Q (is_upgrade q)) q.tx) (queue.bar Q (is_upgrade q))) not_old (rest_alike W q h) in
     ap (λ o. option_or o (option_or (behind S q) (option_or (too_old W q) (option_or stale (option_or e (option_or l (full b W q))))))) (blocks_alike W q)
-    ∙ ap (λ o. option_or (option_map refused.Blocked (first_blocking Q (is_upgrade q))) (option_or (behind S q) o)) (ap (λ o. option_or (too_old W q) (option_or stale o)) (sym kept) ∙ sym tail)
+    ∙ ap (λ o. option_or (option_map (λ t. refused.Reason (reasons.Blocked t)) (first_blocking Q (is_upgrade q))) (option_or (behind S q) o)) (ap (λ o. option_or (too_old W q) (option_or stale o)) (sym kept) ∙ sym tail)
 
 -- where nothing refuses, the queue has nothing against it
 pub clash_none : (b : Base) (S : State) (W : Window) (q : Request) (stale : Option Refusal) → TellsInOrder q → first_refusal S W stale (full b W q) q ≡ None → clash (queue_of W) (transaction_of q) ≡ None
@@ -311,7 +311,7 @@ clash_none b S W q stale h none =
     let room = neither (full_of_undecided W) (full_of_writes b q) n.limits in
     let e : option_or (too_old W q) (option_or (first_some (comes_earlier q) W.members.pairs) (option_or (first_some (comes_later q) W.members.pairs) (full_of_undecided W))) ≡ None =
     none_of (too_old W q) (first_some (comes_earlier q) W.members.pairs) (first_some (comes_later q) W.members.pairs) (full_of_undecided W) n.old n.earlier n.later room.0 in
-    unmapped refusal_of (clash (queue_of W) (transaction_of q)) (clash_alike W q h ∙ e)
+    unmapped refused.Reason (clash (queue_of W) (transaction_of q)) (clash_alike W q h ∙ e)
   where
     none_of : (a c d f : Option Refusal) → a ≡ None → c ≡ None → d ≡ None → f ≡ None → option_or a (option_or c (option_or d f)) ≡ None
     none_of a c d f x y z w = rw (x, y, z, w) refl

@@ -12,6 +12,7 @@ use Rattle.local_history.specs.Requests.{is_upgrade}
 use Rattle.local_history.specs.Sound.{owes, sound}
 use Rattle.validation_window.specs.Refusals.{full_of_undecided}
 use Rattle.validation_window.specs.Window.{Member, Window, cleared, close, close_by, enter, first_decided, slide, window, with_room, without}
+use Rattle.refusal_reasons.specs.declared.reason.Reason.TheVariants as reasons
 use Rattle.validation_window.specs.declared.refusal.Refusal.TheVariants as refused
 use Rattle.std.proofs.Common.{List, [], ap, arith, cond, length, refl, subst, sym, ◌+◌, ◌++◌, ◌<◌, ◌≡◌, ◌≤◌, ◌∙◌, ◌∷◌}
 use Rattle.std.proofs.lemmas.Bool.{leb-false, leb-true}
@@ -225,7 +226,7 @@ module _ (b : Base) (S : State) (W : Window) (top : Ts) (h : Held (known_in b S)
 
   -- where the window isn't full of undecided ones, they are fewer than it holds
   room_found : full_of_undecided W ≡ None → len W.members ≤ room_for → len (undecided_in b S) < room_for
-  room_found e l = by (nat_le room_for (len W.members)) refl (unless_some _ (refused.Full room_for) e)
+  room_found e l = by (nat_le room_for (len W.members)) refl (unless_some _ (refused.Reason (reasons.Full room_for)) e)
     where
       by_first : (o : Option Ts) → first_decided W.members.pairs ≡ o → is_none o ≡ false → len (undecided_in b S) < room_for
       by_first None k f = cc

@@ -6,6 +6,7 @@ use Rattle.commit_log.specs.declared.request.Request.{Request}
 use Rattle.local_history.specs.History.{Aborted, Base, Committed, Fate, Open, Known, State, is_undecided, put, known_in}
 use Rattle.local_history.specs.Requests.{is_upgrade}
 use Rattle.validation_window.specs.Window.{Member, Window}
+use Rattle.refusal_reasons.specs.declared.reason.Reason.TheVariants as reasons
 use Rattle.validation_window.specs.declared.refusal.Refusal.TheVariants as refused
 use Rattle.validation_window.specs.declared.refusal.Refusal.{Refusal}
 use Rattle.std.specs.Map.{keys_of}
@@ -17,8 +18,7 @@ use Rattle.validation_queue.specs.Clashes.{clash}
 use Rattle.validation_queue.specs.Contents as queue
 use Rattle.validation_queue.specs.Contents.{Contents, Transaction, first_blocking}
 use Rattle.validation_queue.specs.Names.{IsInOrder}
-use Rattle.validation_queue.specs.declared.clash.Clash.TheVariants as clashes
-use Rattle.validation_queue.specs.declared.clash.Clash.{Clash}
+use Rattle.refusal_reasons.specs.declared.reason.Reason.{Reason}
 use Rattle.validation_queue.specs.declared.member.Member as queued
 
 -- what validation looks at of a request
@@ -37,30 +37,25 @@ queue_of W = record { threshold = W.threshold; members = record { pairs = map (�
 abbrev pub TellsInOrder : Request → Type 0
 TellsInOrder q = IsInOrder q.ros (keys_of q.writes)
 
--- a clash as the refusal that it is
-abbrev pub refusal_of : Clash → Refusal
-refusal_of (clashes.TooOld threshold) = refused.TooOld threshold
-refusal_of (clashes.Earlier tx x) = refused.Earlier tx x
-refusal_of (clashes.Later tx x) = refused.Later tx x
-refusal_of (clashes.Full limit) = refused.Full limit
+-- whether what stands against a request comes before the invalid set is looked at
+abbrev pub is_too_old : Reason → Bool
+is_too_old (reasons.TooOld threshold) = true
+is_too_old r = false
 
 -- the refusal of a clash that comes before the invalid set is looked at
-abbrev pub old_of : Clash → Option Refusal
-old_of (clashes.TooOld threshold) = Some (refused.TooOld threshold)
-old_of (clashes.Earlier tx x) = None
-old_of (clashes.Later tx x) = None
-old_of (clashes.Full limit) = None
+abbrev pub old_of : Reason → Option Refusal
+old_of r = cond (is_too_old r) (Some (refused.Reason r)) None
 
 -- The verdict by a queue: what blocks q, then `behind`, which is the test of its epoch, then what the
 -- queue answers, with `stale` behind its TooOld alone, and `full` last.
 abbrev pub refusal_by : Contents → Request → Option Refusal → Option Refusal → Option Refusal → Option Refusal
 refusal_by Q q behind stale full =
     let found = clash Q (transaction_of q) in
-    option_or (option_map refused.Blocked (first_blocking Q (is_upgrade q)))
+    option_or (option_map (λ t. refused.Reason (reasons.Blocked t)) (first_blocking Q (is_upgrade q)))
     (option_or behind
     (option_or (option_and_then old_of found)
     (option_or stale
-    (option_or (option_map refusal_of found) full))))
+    (option_or (option_map refused.Reason found) full))))
 
 abbrev pub close_queue_by : Contents → Ts → Bool → Request → Fate → Contents
 close_queue_by Q t c q Open = cond (c && is_upgrade q) (queue.cleared t) (queue.decide Q t c)

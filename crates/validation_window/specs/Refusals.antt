@@ -6,6 +6,7 @@ use Rattle.object_codec.specs.Spelling.{obj_bytes}
 use Rattle.local_history.specs.History.{Base, State, epoch_of}
 use Rattle.local_history.specs.Requests.{has_read, has_written, is_upgrade, written}
 use Rattle.validation_window.specs.Window.{Member, Window, first_decided}
+use Rattle.refusal_reasons.specs.declared.reason.Reason.TheVariants as reasons
 use Rattle.validation_window.specs.declared.refusal.Refusal.TheVariants as refused
 use Rattle.validation_window.specs.declared.refusal.Refusal.{Refusal}
 use Rattle.std.specs.List.{fold, sum_by}
@@ -36,7 +37,7 @@ least_name q test = first_some (passing test) (keys (names_of q))
 
 -- an undecided transaction that q has to wait for, since one of the two is an upgrade
 abbrev pub blocks : Request → Ts × Member → Option Refusal
-blocks q e = cond (not e.1.decided && (is_upgrade q || is_upgrade e.1.request)) (Some (refused.Blocked e.0)) None
+blocks q e = cond (not e.1.decided && (is_upgrade q || is_upgrade e.1.request)) (Some (refused.Reason (reasons.Blocked e.0))) None
 
 -- the timestamp that q has to be above: for an upgrade, that of every member too
 abbrev pub bar : Window → Request → Ts
@@ -44,7 +45,7 @@ bar W q = cond (is_upgrade q) (fold later_of W.threshold (keys W.members)) W.thr
 
 -- q isn't above its bar
 abbrev pub too_old : Window → Request → Option Refusal
-too_old W q = cond (is_before (bar W q) q.tx) None (Some (refused.TooOld (bar W q)))
+too_old W q = cond (is_before (bar W q) q.tx) None (Some (refused.Reason (reasons.TooOld (bar W q))))
 
 -- whether q read x and s wrote it
 abbrev pub reads_from : Request → Request → Oref → Bool
@@ -56,15 +57,15 @@ writes_over q s x = has_written q x && has_read s x
 
 -- an undecided transaction below q that wrote what q read
 abbrev pub comes_earlier : Request → Ts × Member → Option Refusal
-comes_earlier q e = cond (not e.1.decided && is_before e.0 q.tx) (option_map (λ x. refused.Earlier e.0 x) (least_name q (reads_from q e.1.request))) None
+comes_earlier q e = cond (not e.1.decided && is_before e.0 q.tx) (option_map (λ x. refused.Reason (reasons.Earlier e.0 x)) (least_name q (reads_from q e.1.request))) None
 
 -- a transaction above q that wrote what q read, or read what q wrote
 abbrev pub comes_later : Request → Ts × Member → Option Refusal
-comes_later q e = cond (is_before q.tx e.0) (option_map (λ x. refused.Later e.0 x) (least_name q (λ x. reads_from q e.1.request x || writes_over q e.1.request x))) None
+comes_later q e = cond (is_before q.tx e.0) (option_map (λ x. refused.Reason (reasons.Later e.0 x)) (least_name q (λ x. reads_from q e.1.request x || writes_over q e.1.request x))) None
 
 -- q's client hasn't seen just the upgrades that are installed
 abbrev pub behind : State → Request → Option Refusal
-behind S q = cond (nat_eq q.epoch (epoch_of S)) None (Some (refused.Epoch (epoch_of S)))
+behind S q = cond (nat_eq q.epoch (epoch_of S)) None (Some (refused.Reason (reasons.Epoch (epoch_of S))))
 
 -- The first refusal of q that holds, or None where it is accepted, but for the session's end. `stale`
 -- is what the session's invalid set has against it, and `full` what the limits have.
@@ -79,7 +80,7 @@ first_refusal S W stale full q =
 
 -- the window has no room, and no member that may leave
 abbrev pub full_of_undecided : Window → Option Refusal
-full_of_undecided W = cond (nat_le room_for (len W.members) && is_none (first_decided W.members.pairs)) (Some (refused.Full room_for)) None
+full_of_undecided W = cond (nat_le room_for (len W.members) && is_none (first_decided W.members.pairs)) (Some (refused.Reason (reasons.Full room_for))) None
 
 -- how many bytes the objects that q wrote have, as they are spelled
 abbrev pub bytes_of : Request → ℕ
@@ -87,7 +88,7 @@ bytes_of q = sum_by (λ o. length (obj_bytes o)) (values (written q))
 
 -- the buffer of modified objects can't hold what q wrote, were it empty
 abbrev pub full_of_writes : Base → Request → Option Refusal
-full_of_writes b q = cond (nat_lt b.limit (bytes_of q)) (Some (refused.Full b.limit)) None
+full_of_writes b q = cond (nat_lt b.limit (bytes_of q)) (Some (refused.Reason (reasons.Full b.limit))) None
 
 -- what the limits have against q
 abbrev pub full : Base → Window → Request → Option Refusal

@@ -3,11 +3,12 @@
 ghost use Rattle.commit_log.specs.declared.entry.Entry.{Entry};
 ghost use Rattle.commit_log.specs.declared.request.Request.{Request};
 ghost use Rattle.local_history.specs.History.{Base, State, state};
-ghost use Rattle.validation_window.specs.Queue.{TellsInOrder, queue_of, queued_of, refusal_by, refusal_of, slide_queue, transaction_of};
+ghost use Rattle.validation_window.specs.Queue.{TellsInOrder, queue_of, queued_of, refusal_by, slide_queue, transaction_of};
 ghost use Rattle.local_history.specs.Requests.{is_upgrade};
 ghost use Rattle.local_history.specs.Sound.{sound};
 ghost use Rattle.validation_window.specs.Refusals.{behind, blocks, comes_earlier, comes_later, first_refusal, full, full_of_undecided, full_of_writes, set_of, too_old};
 ghost use Rattle.validation_window.specs.Window.{Member, Window, decide, enter, leave, restarted, window};
+ghost use Rattle.refusal_reasons.specs.declared.reason.Reason.TheVariants as reasons;
 ghost use Rattle.validation_window.specs.declared.refusal.Refusal.TheVariants as refused;
 ghost use Rattle.validation_window.specs.declared.refusal.Refusal.{Refusal};
 ghost use Rattle.std.specs.Option.{option_map, option_or};
@@ -51,9 +52,9 @@ pub fn queues_keep_the_window()
 pub fn queues_answer_by_the_window()
     ensures blocked { (W : Window) (q : Request) →
         first_some (blocks q) W.members.pairs
-        ≡ option_map refused.Blocked (first_blocking (queue_of W) (is_upgrade q)) }
+        ≡ option_map (λ t. refused.Reason (reasons.Blocked t)) (first_blocking (queue_of W) (is_upgrade q)) }
     ensures clash { (W : Window) (q : Request) → TellsInOrder q →
-        option_map refusal_of (clash (queue_of W) (transaction_of q))
+        option_map refused.Reason (clash (queue_of W) (transaction_of q))
         ≡ option_or (too_old W q)
         (option_or (first_some (comes_earlier q) W.members.pairs)
         (option_or (first_some (comes_later q) W.members.pairs) (full_of_undecided W))) }

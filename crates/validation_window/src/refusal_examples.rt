@@ -7,6 +7,7 @@ ghost use Rattle.local_history.specs.History.{Aborted, Committed, Open, epoch_of
 ghost use Rattle.local_history.specs.Opening.{IsBase};
 ghost use Rattle.local_history.specs.Order.{HasOrder};
 ghost use Rattle.validation_window.specs.Window.{window};
+ghost use Rattle.refusal_reasons.specs.declared.reason.Reason.TheVariants as reasons;
 ghost use Rattle.validation_window.specs.declared.refusal.Refusal.TheVariants as refused;
 ghost use Rattle.std.specs.Option.{option_map};
 ghost use Rattle.std.specs.Prelude.{Bool, ◌≡◌, [], ◌∷◌, None, Some, false, take, true};
@@ -16,12 +17,12 @@ ghost use Rattle.thor_value.specs.Names.{zero_ts};
 /// What a repository answers to a request.
 pub fn verdict_examples()
     ensures accepted { answer_to (take 3 two_commits) (reading_x 3) ≡ None }
-    ensures earlier { answer_to (take 2 earlier) (reading_x 2) ≡ Some (refused.Earlier (at 1) x) }
-    ensures later_write { answer_to (take 2 later_write) (reading_x 2) ≡ Some (refused.Later (at 5) x) }
-    ensures later_read { answer_to (take 2 later_read) (setting_x 2 6) ≡ Some (refused.Later (at 5) x) }
-    ensures blocked { answer_to (take 2 upgrade_in_haste) (upgrading 2) ≡ Some (refused.Blocked (at 1)) }
-    ensures left_behind { answer_to (take 3 left_behind) (reading_x 2) ≡ Some (refused.Epoch 1) }
-    ensures before_upgrade { answer_to (take 3 before_upgrade) (reading_upgraded 2) ≡ Some (refused.TooOld (at 5)) }
+    ensures earlier { answer_to (take 2 earlier) (reading_x 2) ≡ Some (refused.Reason (reasons.Earlier (at 1) x)) }
+    ensures later_write { answer_to (take 2 later_write) (reading_x 2) ≡ Some (refused.Reason (reasons.Later (at 5) x)) }
+    ensures later_read { answer_to (take 2 later_read) (setting_x 2 6) ≡ Some (refused.Reason (reasons.Later (at 5) x)) }
+    ensures blocked { answer_to (take 2 upgrade_in_haste) (upgrading 2) ≡ Some (refused.Reason (reasons.Blocked (at 1))) }
+    ensures left_behind { answer_to (take 3 left_behind) (reading_x 2) ≡ Some (refused.Reason (reasons.Epoch 1)) }
+    ensures before_upgrade { answer_to (take 3 before_upgrade) (reading_upgraded 2) ≡ Some (refused.Reason (reasons.TooOld (at 5))) }
     ensures lost { answer_to (take 3 lost_by_life) (setting_x 2 6) ≡ None }
 {}
 

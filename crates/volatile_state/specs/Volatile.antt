@@ -12,8 +12,9 @@ use Rattle.thor_value.specs.declared.names.Oref.{Oref}
 use Rattle.thor_value.specs.declared.names.Ts.{Ts}
 use Rattle.validation_queue.specs.Clashes.{clash}
 use Rattle.validation_queue.specs.Contents.{Contents, Transaction, cleared, enter, first_blocking, transaction}
-use Rattle.validation_queue.specs.declared.clash.Clash.TheVariants as clashes
-use Rattle.validation_queue.specs.declared.clash.Clash.{Clash}
+use Rattle.refusal_reasons.specs.declared.reason.Reason.TheVariants as reasons
+use Rattle.refusal_reasons.specs.declared.reason.Reason.{Reason}
+use Rattle.validation_window.specs.Queue.{is_too_old}
 use Rattle.validation_window.specs.declared.refusal.Refusal.TheVariants as refused
 use Rattle.validation_window.specs.declared.refusal.Refusal.{Refusal}
 
@@ -41,31 +42,19 @@ knows M t = cond (has M.requested t) true (has M.queue.members t)
 
 -- ---- what stands against a request
 
-abbrev pub refusal_of : Clash → Refusal
-refusal_of (clashes.TooOld t) = refused.TooOld t
-refusal_of (clashes.Earlier t x) = refused.Earlier t x
-refusal_of (clashes.Later t x) = refused.Later t x
-refusal_of (clashes.Full n) = refused.Full n
-
-abbrev pub is_too_old : Clash → Bool
-is_too_old (clashes.TooOld t) = true
-is_too_old (clashes.Earlier t x) = false
-is_too_old (clashes.Later t x) = false
-is_too_old (clashes.Full n) = false
-
 -- what others' transactions have against a request, and what its session's invalid set has, which is tried
 -- behind the threshold
-abbrev pub against : Option Clash → Option (Oref × ℕ) → Option Refusal
-against None stale = option_map (λ s. refused.Stale s.0 s.1) stale
-against (Some c) stale = cond (is_too_old c) (Some (refusal_of c)) (option_or (option_map (λ s. refused.Stale s.0 s.1) stale) (Some (refusal_of c)))
+abbrev pub against : Option Reason → Option (Oref × ℕ) → Option Refusal
+against None stale = option_map (λ s. refused.Reason (reasons.Stale s.0 s.1)) stale
+against (Some c) stale = cond (is_too_old c) (Some (refused.Reason c)) (option_or (option_map (λ s. refused.Reason (reasons.Stale s.0 s.1)) stale) (Some (refused.Reason c)))
 
 -- the first refusal that holds of a request of a session, at an epoch
 abbrev pub verdict : Memory → ℕ → ℕ → Request → Option Refusal
 verdict M epoch s q =
     cond (is_live M.sessions s)
-    (option_or (option_map (λ t. refused.Blocked t) (first_blocking M.queue (is_upgrade_kind q.kind)))
-    (cond (nat_eq q.epoch epoch) (against (clash M.queue (transaction_of q)) (sets.stale M.sessions.sets s q.ros q.upto)) (Some (refused.Epoch epoch))))
-    (Some (refused.Gone s))
+    (option_or (option_map (λ t. refused.Reason (reasons.Blocked t)) (first_blocking M.queue (is_upgrade_kind q.kind)))
+    (cond (nat_eq q.epoch epoch) (against (clash M.queue (transaction_of q)) (sets.stale M.sessions.sets s q.ros q.upto)) (Some (refused.Reason (reasons.Epoch epoch)))))
+    (Some (refused.Reason (reasons.Gone s)))
 
 abbrev pub answer : Option Refusal → Result (Unit {0}) Refusal
 answer None = Ok tt

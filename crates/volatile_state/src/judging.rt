@@ -5,11 +5,11 @@ ghost use Rattle.std.specs.Prelude.{◌≡◌, None, OnOk};
 ghost use Rattle.validation_queue.specs.Clashes.{clash};
 ghost use Rattle.validation_queue.specs.Names.{IsInOrder};
 ghost use Rattle.cached_sets.specs.Sets as sets;
-ghost use Rattle.volatile_state.specs.Volatile.{against, answer, refusal_of, transaction_of, verdict};
+ghost use Rattle.volatile_state.specs.Volatile.{against, answer, transaction_of, verdict};
 
 use crate::memory::{Memory, is_upgrade};
 use commit_log::Request;
-use validation_queue::Clash;
+use refusal_reasons::Reason;
 use validation_window::Refusal;
 
 impl Memory {
@@ -21,13 +21,13 @@ impl Memory {
         ensures accepted { OnOk result (clash self.now.queue (transaction_of request.now) ≡ None) }
     {
         if !self.sessions.is_live(session) {
-            return Err(Refusal::Gone { session });
+            return Err(Refusal::Reason(Reason::Gone { session }));
         }
         if let Some(tx) = self.queue.blocking(is_upgrade(request)) {
-            return Err(Refusal::Blocked { tx });
+            return Err(Refusal::Reason(Reason::Blocked { tx }));
         }
         if request.epoch != epoch {
-            return Err(Refusal::Epoch { n: epoch });
+            return Err(Refusal::Reason(Reason::Epoch { n: epoch }));
         }
         self.validate(session, request)
     }
@@ -44,26 +44,15 @@ impl Memory {
             &request.ros,
             &request.writes,
         );
-        if let Err(Clash::TooOld { threshold }) = clash {
-            return Err(Refusal::TooOld { threshold });
+        if let Err(Reason::TooOld { threshold }) = clash {
+            return Err(Refusal::Reason(Reason::TooOld { threshold }));
         }
         if let Some((oref, place)) = self.sessions.stale(session, &request.ros, request.upto) {
-            return Err(Refusal::Stale { oref, place });
+            return Err(Refusal::Reason(Reason::Stale { oref, place }));
         }
         match clash {
             Ok(()) => Ok(()),
-            Err(clash) => Err(of_clash(clash)),
+            Err(clash) => Err(Refusal::Reason(clash)),
         }
-    }
-}
-
-fn of_clash(clash: Clash) -> Refusal
-    ensures { result ≡ refusal_of clash }
-{
-    match clash {
-        Clash::TooOld { threshold } => Refusal::TooOld { threshold },
-        Clash::Earlier { tx, oref } => Refusal::Earlier { tx, oref },
-        Clash::Later { tx, oref } => Refusal::Later { tx, oref },
-        Clash::Full { limit } => Refusal::Full { limit },
     }
 }

@@ -1,0 +1,6 @@
+//! A trial.
+#![tactic(auto)]
+
+mod laws;
+
+pub use laws::remembers;
