@@ -3,6 +3,8 @@ use Rattle.commit_log.specs.declared.entry.Entry.{Entry}
 use Rattle.disk_trait.specs.AllDisks.{LeavesAll, MayLeaveAll, ReadsAs, TellsAll}
 use Rattle.disk_trait.proofs.Several.{all_now}
 use Rattle.disk_trait.specs.Disks.{Disks, NoNewImage, OnDisk}
+use Rattle.disk_trait.specs.Fused.{fused_disks}
+use Rattle.disk_trait.specs.declared.fused.Fused.{Fused}
 use Rattle.held_state.specs.Entering.{entered}
 use Rattle.held_state.specs.Said.{said}
 use Rattle.held_state.specs.declared.held.Held.{Held}
@@ -11,15 +13,20 @@ use Rattle.log_bytes.specs.declared.state.State.{State}
 use Rattle.log_frame.specs.Log.{Place}
 use Rattle.mob_flusher.specs.Map.{Kept}
 use Rattle.stable_store.proofs.Remembering.{comes_back, comes_behind, comes_installed}
-use Rattle.stable_store.proofs.Saying.{log_says, tells_before}
+use Rattle.stable_store.proofs.Saying.{log_says, said_in_phase, tells_before}
 use Rattle.stable_store.specs.Agreeing.{numbers_of}
+use Rattle.stable_store.specs.Kept.{disks_of, lowered}
 use Rattle.stable_store.specs.Remembering.{Remembers}
-use Rattle.stable_store.specs.Saying.{FindsOneOf, ImagesSay, IsOneOf, LeavesNoMore, LogSays, SayOneOf}
+use Rattle.stable_store.specs.Saying.{FindsOneOf, ImagesSay, IsOneOf, IsSaid, LeavesNoMore, SaysIn}
 use Rattle.stable_store.specs.declared.agreement.Numbers.{Numbers}
+use Rattle.stable_store.specs.declared.stable.Phase.TheVariants.{Down, Torn, Up}
+use Rattle.stable_store.specs.declared.stable.Phase.{Phase}
+use Rattle.stable_store.specs.declared.stable.Stable.{Stable}
 use Rattle.state_log.specs.Holds.{Holds}
 use Rattle.state_log.specs.Recovered.{after, stands}
-use Rattle.std.proofs.Common.{List, None, Option, Some, ap, arith, inl, inr, refl, suc, zero, subst, sym, ◌+◌, ◌<◌, ◌∙◌, ◌≡◌, ◌≢◌, ◌≤◌, ℕ}
+use Rattle.std.proofs.Common.{Err, List, None, Ok, Option, Result, Some, ap, arith, inl, inr, refl, suc, zero, subst, sym, ◌+◌, ◌<◌, ◌∙◌, ◌≡◌, ◌≢◌, ◌≤◌, ℕ}
 use Rattle.std.proofs.lemmas.Bool.{cases_eq}
+use Rattle.std.specs.Prelude.{IfOk, OnErr}
 use Rattle.disk_trait.proofs.Several.{goes_one}
 
 -- ---- what a crash leaves
@@ -108,3 +115,38 @@ back_with_pending found h objects e taken same is = subst (λ (k : Kept). Rememb
     by : IsOneOf h (Some e) (said found) → Remembers (said found) (after (said (record h { objects = found.objects })) (AnEntry e))
     by (inl r) = absurd (never_one_more found.count h.count (same_count (said found) (said h) r) (count_of (numbers_of found) (numbers_of (entered h e)) same))
     by (inr r) = comes_behind (said found) (said h) e r
+
+-- ---- while it is down
+
+says_more : (old new : Disks) (h : Held) (p : Phase) → LeavesNoMore old new → SaysIn old h (lowered p) → SaysIn new h (lowered p)
+says_more old new h (Up log) more says = images_more old new h None more says
+says_more old new h (Down pending) more says = images_more old new h pending more says
+says_more old new h (Torn e) more says = tt
+
+-- nothing was recovered
+pub fails_said : {P : Type 0} (disks : P → Disks) (old new : Stable P) (p : Phase) → IsSaid disks old → old.phase ≡ lowered p → LeavesNoMore (disks_of disks old) (disks_of disks new) → new.phase ≡ old.phase → new.held ≡ old.held → IsSaid disks new
+fails_said disks old new p is down more phase held = record {
+  says = subst (λ (h : Held). SaysIn (disks_of disks new) h new.phase) (sym held) (subst (SaysIn (disks_of disks new) old.held) (sym (phase ∙ down))
+      (says_more (disks_of disks old) (disks_of disks new) old.held p more (subst (SaysIn (disks_of disks old) old.held) down is.says)));
+}
+
+-- what was recovered is one of what the disks may have said
+pub restart_finds : {P : Type 0} (disks : P → Disks) (old new : Stable P) (pending : Option Entry) (s : State) → IsSaid disks old → old.phase ≡ Down pending → new.held ≡ old.held → FindsOneOf (disks_of disks old) (disks_of disks new) old.held s → TellsAll (disks_of disks new) → IsOneOf new.held pending s
+restart_finds disks old new pending s is down held found tells =
+    subst (λ (h : Held). IsOneOf h pending s) (sym held) (found pending (subst (SaysIn (disks_of disks old) old.held) down is.says) tells)
+
+-- it stays down, with what was pending
+pub restart_stays : {P : Type 0} (disks : P → Disks) (old mid new : Stable P) (pending : Option Entry) → IsSaid disks old → old.phase ≡ Down pending → LeavesNoMore (disks_of disks old) (disks_of disks mid) → mid.held ≡ old.held → new.parts ≡ mid.parts → new.held ≡ mid.held → new.phase ≡ Down pending → IsSaid disks new
+restart_stays {P = P} disks old mid new pending is down more held parts same phase =
+    let images : ImagesSay (disks_of disks mid) old.held pending = images_more (disks_of disks old) (disks_of disks mid) old.held pending more (subst (SaysIn (disks_of disks old) old.held) down is.says) in
+    let there : ImagesSay (disks_of disks mid) new.held pending = subst (λ (h : Held). ImagesSay (disks_of disks mid) h pending) (sym (same ∙ held)) images in
+    said_in_phase disks new pending phase (subst (λ (p : Fused P). ImagesSay (fused_disks disks p) new.held pending) (sym parts) there)
+
+-- what holds of an answer
+pub if_ok_on : {T E : Type 0} (r : Result T E) (A B : T → Type 0) → ((x : T) → A x → B x) → IfOk r A → IfOk r B
+if_ok_on (Ok x) A B f h = f x h
+if_ok_on (Err e) A B f h = tt
+
+pub on_err_two : {T E : Type 0} (r : Result T E) (A B F : Type 0) → OnErr r A → OnErr r B → (A → B → F) → OnErr r F
+on_err_two (Ok x) A B F a b f = tt
+on_err_two (Err e) A B F a b f = f a b
