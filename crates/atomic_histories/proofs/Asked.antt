@@ -1,5 +1,5 @@
 -- What a coordinator answers about a transaction is told rightly.
-use Rattle.atomic_histories.proofs.Committing.{AloneIn, CommittedIn, among-lookup, and-both, decided-committed, kept-decided, last_in, made, neither, or-cases, or-right, singles-committed, still-kept}
+use Rattle.atomic_histories.proofs.Committing.{AloneIn, CommittedIn, among-lookup, and-both, decided-committed, kept-decided, last_in, made, or-cases, singles-committed, still-kept}
 use Rattle.atomic_histories.proofs.Parts.{some-none, there}
 use Rattle.atomic_histories.specs.Asking.{ForgottenAreFinished, IsFollowed, IsGivenUp, SinglesWereBefore, answer_by, state_of, told}
 use Rattle.atomic_histories.specs.Growing.{MayFinish}
@@ -15,7 +15,7 @@ use Rattle.local_history.specs.Sound.{sound}
 use Rattle.session_outbox.specs.Calls.{Settled, Undecided, asked, is_forgotten, is_kept, is_last_alone}
 use Rattle.session_outbox.specs.Trace.{Item, entries}
 use Rattle.std.proofs.Common.{Bool, List, [], ap, arith, eq-eqb, false, inl, inr, length, refl, subst, suc, sym, take, true, ℕ, ◌<◌, ◌≡◌, ◌≢◌, ◌≤◌, ◌∙◌, ◌∷◌}
-use Rattle.std.proofs.lemmas.Bool.{eqb-true}
+use Rattle.std.proofs.lemmas.Bool.{eqb-true, and_left, or_right, or_parts}
 use Rattle.std.proofs.lemmas.Option.{same_Some}
 use Rattle.std.specs.List.{filter, list_any}
 use Rattle.std.specs.Option.{option_and_then}
@@ -49,10 +49,6 @@ and-false : (x y : Bool) → (x && y) ≡ false → y ≡ true → x ≡ false
 and-false true true h e = cc
 and-false true false h e = cc
 and-false false y h e = refl
-
-false-and : (x y : Bool) → x ≡ false → (x && y) ≡ false
-false-and true y e = cc
-false-and false y e = refl
 
 -- a table that agrees with the trace answers as that about what is coordinated here
 pub table-answers : (b : Base) (T : List Item) (c : Contents) (t : Ts) → t.repo ≡ b.repo → is_some (open_at c t) ≡ is_undecided (known_by b (entries T) t) → keeps (get c.transactions t) ≡ is_kept b T t
@@ -142,11 +138,11 @@ module _ (R : Repositories) (sd : AreSound (histories R)) where
       let b = R.base t.repo in
       let T = R.trace t.repo in
       says (is_undecided (part (histories R) t.repo t) && nat_eq t.repo b.repo) (is_kept b T t || is_last_alone b T t)
-      (false-and (is_undecided (part (histories R) t.repo t)) (nat_eq t.repo b.repo) (ap is_undecided h.there ∙ committed-decided w.fate h.commits))
+      (and_left (is_undecided (part (histories R) t.repo t)) (nat_eq t.repo b.repo) (ap is_undecided h.there ∙ committed-decided w.fate h.commits))
       (by why)
     where
       by : (w.request.others ≢ []) ⊎ (is_last_alone (R.base t.repo) (R.trace t.repo) t ≡ true) → (is_kept (R.base t.repo) (R.trace t.repo) t || is_last_alone (R.base t.repo) (R.trace t.repo) t) ≡ true
-      by (inr last) = or-right (is_kept (R.base t.repo) (R.trace t.repo) t) (is_last_alone (R.base t.repo) (R.trace t.repo) t) last
+      by (inr last) = or_right (is_kept (R.base t.repo) (R.trace t.repo) t) (is_last_alone (R.base t.repo) (R.trace t.repo) t) last
       by (inl shared) = elim (made (R.base t.repo) (entries (R.trace t.repo)) (sd.each t.repo) t w h.there h.commits (own t w h.there)) [
         | inl d ↦ ap (λ (x : Bool). x || is_last_alone (R.base t.repo) (R.trace t.repo) t) (still-kept (R.base t.repo) (R.trace t.repo) (sd.each t.repo) t kept d)
         | inr alone ↦ absurd (shared alone.0)
@@ -158,7 +154,7 @@ module _ (R : Repositories) (sd : AreSound (histories R)) where
       let b = R.base t.repo in
       let T = R.trace t.repo in
       let no = said (is_undecided (part (histories R) t.repo t) && nat_eq t.repo b.repo) (is_kept b T t || is_last_alone b T t) false h in
-      let both = neither (is_kept b T t) (is_last_alone b T t) no.1 in
+      let both = or_parts (is_kept b T t) (is_last_alone b T t) no.1 in
       by (part (histories R) t.repo t) refl no.0 both.0 both.1
     where
       followed : (w : Known) → is_last_alone (R.base t.repo) (R.trace t.repo) t ≡ false → AloneIn (R.base t.repo) (entries (R.trace t.repo)) w → IsFollowed R t w

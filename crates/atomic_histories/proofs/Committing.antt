@@ -20,6 +20,7 @@ use Rattle.std.proofs.Common.{Bool, List, [], ap, eq-eqb, false, inl, inr, lengt
 use Rattle.std.proofs.lemmas.Cmp.{tied_itself}
 use Rattle.std.proofs.lemmas.Map.Views.{tells_apart}
 use Rattle.std.proofs.lemmas.Option.{same_Some}
+use Rattle.std.proofs.lemmas.Bool.{and_from, or_right}
 use Rattle.std.specs.BTreeMap.{insert_entry}
 use Rattle.std.specs.List.{fold, list_any, slice_get}
 use Rattle.std.specs.Map.{lookup, values_of}
@@ -44,18 +45,6 @@ pub and-both : (x y : Bool) → (x && y) ≡ true → (x ≡ true) × (y ≡ tru
 and-both true y h = (refl, h)
 and-both false y h = cc
 
-pub or-right : (x y : Bool) → y ≡ true → (x || y) ≡ true
-or-right true y h = refl
-or-right false y h = h
-
-pub neither : (x y : Bool) → (x || y) ≡ false → (x ≡ false) × (y ≡ false)
-neither true y h = cc
-neither false y h = (refl, h)
-
-pub and-true : (x y : Bool) → x ≡ true → y ≡ true → (x && y) ≡ true
-and-true true y p q = q
-and-true false y p q = cc
-
 pub is-same : (t u : Ts) → same_ts t u ≡ true → t ≡ u
 is-same t u h = tells_apart ts_exact t u h
 
@@ -76,10 +65,10 @@ among-insert t (e ∷ es) c u h = by (nat_cmp c e.0) h (among-insert t es c u)
         → (list_any (same_ts t) (values_of (insert_entry nat_cmp es c u)) ≡ true → (same_ts t u ≡ true) ⊎ (list_any (same_ts t) (values_of es) ≡ true))
         → (same_ts t u ≡ true) ⊎ ((same_ts t e.1 || list_any (same_ts t) (values_of es)) ≡ true)
     by Less k more = or-cases (same_ts t u) (same_ts t e.1 || list_any (same_ts t) (values_of es)) k
-    by Equal k more = elim (or-cases (same_ts t u) (list_any (same_ts t) (values_of es)) k) [ inl a ↦ inl a | inr a ↦ inr (or-right (same_ts t e.1) (list_any (same_ts t) (values_of es)) a) ]
+    by Equal k more = elim (or-cases (same_ts t u) (list_any (same_ts t) (values_of es)) k) [ inl a ↦ inl a | inr a ↦ inr (or_right (same_ts t e.1) (list_any (same_ts t) (values_of es)) a) ]
     by Greater k more = elim (or-cases (same_ts t e.1) (list_any (same_ts t) (values_of (insert_entry nat_cmp es c u))) k) [
       | inl a ↦ inr (ap (λ (x : Bool). x || list_any (same_ts t) (values_of es)) a)
-      | inr a ↦ elim (more a) [ inl y ↦ inl y | inr y ↦ inr (or-right (same_ts t e.1) (list_any (same_ts t) (values_of es)) y) ]
+      | inr a ↦ elim (more a) [ inl y ↦ inl y | inr y ↦ inr (or_right (same_ts t e.1) (list_any (same_ts t) (values_of es)) y) ]
     ]
 
 pub among-lookup : (p : ℕ → Bool) (t : Ts) (es : List (ℕ × Ts)) → lookup p es ≡ Some t → list_any (same_ts t) (values_of es) ≡ true
@@ -88,7 +77,7 @@ among-lookup p t (e ∷ es) h = by (p e.0) h (among-lookup p t es)
   where
     by : (x : Bool) → cond x (Some e.1) (lookup p es) ≡ Some t → (lookup p es ≡ Some t → list_any (same_ts t) (values_of es) ≡ true) → (same_ts t e.1 || list_any (same_ts t) (values_of es)) ≡ true
     by true k more = ap (λ (x : Bool). x || list_any (same_ts t) (values_of es)) (subst (λ (u : Ts). same_ts t u ≡ true) (sym (same_Some e.1 t k)) (same-itself t))
-    by false k more = or-right (same_ts t e.1) (list_any (same_ts t) (values_of es)) (more k)
+    by false k more = or_right (same_ts t e.1) (list_any (same_ts t) (values_of es)) (more k)
 
 module _ (b : Base) where
   -- t has committed here
@@ -244,4 +233,4 @@ module _ (b : Base) (T : List Item) (sd : sound b (entries T)) where
 
   -- and one that was made and isn't forgotten is kept
   pub still-kept : (t : Ts) → is_forgotten T t ≡ false → DecidedIn b (entries T) t → is_kept b T t ≡ true
-  still-kept t f d = and-true (has (state b (entries T)).kept t) (not (is_forgotten T t)) (((make b (entries T) sd).kept t).1 d) (ap not f)
+  still-kept t f d = and_from (has (state b (entries T)).kept t) (not (is_forgotten T t)) (((make b (entries T) sd).kept t).1 d) (ap not f)

@@ -10,7 +10,7 @@ use Rattle.local_history.specs.History.{Aborted, Committed, Fate, IsCommitted, L
 use Rattle.local_history.specs.Participants.{takes_part}
 use Rattle.local_history.specs.Sound.{sound}
 use Rattle.std.proofs.Common.{Bool, List, [], ap, arith, false, inl, inr, refl, subst, sym, true, ℕ, ◌++◌, ◌<◌, ◌≡◌, ◌≤◌, ◌∙◌, ◌∷◌}
-use Rattle.std.proofs.lemmas.Bool.{eqb-true}
+use Rattle.std.proofs.lemmas.Bool.{eqb-true, cases_lt}
 use Rattle.std.specs.List.{AllByRecursion, list_any}
 use Rattle.std.specs.Prelude.{None, Option, Some, nat_eq, ◌||◌, ◌⊎◌}
 use Rattle.thor_value.specs.declared.names.Ts.{Ts}
@@ -37,9 +37,6 @@ pub is_committed-from : (f : Fate) → IsCommitted f → is_committed f ≡ true
 is_committed-from Open c = absurd c
 is_committed-from (Committed at) c = refl
 is_committed-from Aborted c = absurd c
-
-low-or-high : (m n : ℕ) → (m < n) ⊎ (n ≤ m)
-low-or-high m n = grind arith
 
 -- the test finds what has committed
 pub has-committed : (S : Several) (t : Ts) → committed S t ≡ true → (w : Known) × HasCommitted S t w
@@ -73,7 +70,7 @@ module _ (S : Several) (at : IsAtomic S) where
 module _ (S : Several) (sd : AreSound S) where
   -- where something stands there is a repository
   pub there : (r : ℕ) (t : Ts) (o : Known) → part S r t ≡ Some o → r < S.repos
-  there r t o is = elim (low-or-high r S.repos) [
+  there r t o is = elim (cases_lt r S.repos) [
     | inl l ↦ l
     | inr l ↦ some-none o (subst (λ (H : List Entry). known_by (S.base r) H t ≡ Some o) (sd.outside r l) is)
   ]

@@ -5,7 +5,7 @@ use Rattle.cached_sets.specs.Sets.{Sets, cache, holders, marked, opened, touch, 
 use Rattle.link_table.specs.Pairs.{is_linked, is_pair, lefts}
 use Rattle.std.proofs.Common.{Bool, List, [], ap, arith, cond, false, map, nat_eq, refl, sym, true, ◌++◌, ◌∙◌, ◌∷◌, ◌≡◌, ℕ}
 use Rattle.std.proofs.lemmas.Bool.Decides.{nat_tests}
-use Rattle.std.proofs.lemmas.Bool.{eq-eqb, eqb-true}
+use Rattle.std.proofs.lemmas.Bool.{eq-eqb, eqb-true, and_parts}
 use Rattle.std.proofs.lemmas.Cmp.{eq_by_cmp_equiv}
 use Rattle.std.proofs.lemmas.Map.{lookup-set_value}
 use Rattle.std.specs.BTreeMap.{is_at}
@@ -33,17 +33,9 @@ equal Greater h = cc
 pub same_test : (a b : ℕ) → eq_by_cmp nat_cmp a b ≡ nat_eq a b
 same_test a b = grind (arith, nat_tests)
 
-both : (s t : Bool) → (s && t) ≡ true → (s ≡ true) × (t ≡ true)
-both true t h = (refl, h)
-both false t h = cc
-
 or_false : (t : Bool) → (t || false) ≡ t
 or_false true = refl
 or_false false = refl
-
-or_true : (t : Bool) → (t || true) ≡ true
-or_true true = refl
-or_true false = refl
 
 or_assoc : (a b c : Bool) → ((a || b) || c) ≡ (a || (b || c))
 or_assoc true b c = refl
@@ -60,7 +52,7 @@ cached S n page s p = by (is_linked S.cached n page) refl (is_pair s p (n, page)
   where
     by : (a : Bool) → is_linked S.cached n page ≡ a → (b : Bool) → is_pair s p (n, page) ≡ b → is_linked (cond a S.cached (S.cached ++ (n, page) ∷ [])) s p ≡ (is_linked S.cached s p || b)
     by true e true f =
-        let parts = both (nat_eq n s) (nat_eq page p) f in
+        let parts = and_parts (nat_eq n s) (nat_eq page p) f in
         let i : n ≡ s = eqb-true n s parts.0 in
         let j : page ≡ p = eqb-true page p parts.1 in
         let h : is_linked S.cached s p ≡ true = rw (← i, ← j) e in

@@ -4,6 +4,7 @@ use Rattle.std.proofs.Common.{◌≡◌, Bool, List, [], ◌∷◌, ap, cond, fa
 use Rattle.std.proofs.lemmas.Cmp.{eq_by_cmp_equiv, tied_itself}
 use Rattle.std.proofs.lemmas.Map.Lookups.{CmpEqualImpliesEq}
 use Rattle.std.proofs.lemmas.Map.{keys-set_value, lookup-set_value}
+use Rattle.std.proofs.lemmas.Map.Views.{tells_apart}
 use Rattle.std.specs.BTreeMap.{is_at}
 use Rattle.std.specs.Cmp.{IsTotalOrder}
 use Rattle.std.specs.List.Sorted.{IsStrictlySortedBy}
@@ -76,9 +77,6 @@ module _ {K X : Type 0} (test : K → Bool) where
       by true f more = rw f refl
       by false f more = rw f (ap (λ (fs : List (K × X)). e ∷ fs) more)
 
-one : {K : Type 0} {R : K → K → Ordering} → CmpEqualImpliesEq R → (x y : K) → eq_by_cmp R x y ≡ true → x ≡ y
-one {R = R} exact x y h = exact x y (equal (R x y) h)
-
 itself : {K : Type 0} {R : K → K → Ordering} → IsTotalOrder R → (x : K) → eq_by_cmp R x x ≡ true
 itself {R = R} o x = let e : R x x ≡ Equal = tied_itself o x in rw e refl
 
@@ -90,8 +88,8 @@ module _ {K X : Type 0} {R : K → K → Ordering} (o : IsTotalOrder R) (exact :
       (λ q. get-remove o (insert m k v) k q (IsSorted-insert o m k v h) ∙ ap (cond (eq_by_cmp R k q) None) (get-insert o m k v q) ∙ by q (eq_by_cmp R k q) refl (eq_by_cmp R q k) refl)
     where
       by : (q : K) (s : Bool) → eq_by_cmp R k q ≡ s → (t : Bool) → eq_by_cmp R q k ≡ t → cond s None (cond t (Some v) (get m q)) ≡ get m q
-      by q true e t f = let a : k ≡ q = one exact k q e in sym n ∙ ap (get m) a
-      by q false e true f = let a : q ≡ k = one exact q k f in let b : eq_by_cmp R k k ≡ false = ap (eq_by_cmp R k) (sym a) ∙ e in let c : eq_by_cmp R k k ≡ true = itself o k in cc
+      by q true e t f = let a : k ≡ q = tells_apart exact k q e in sym n ∙ ap (get m) a
+      by q false e true f = let a : q ≡ k = tells_apart exact q k f in let b : eq_by_cmp R k k ≡ false = ap (eq_by_cmp R k) (sym a) ∙ e in let c : eq_by_cmp R k k ≡ true = itself o k in cc
       by q false e false f = refl
 
   -- a key gets another value and then the one before
@@ -104,6 +102,6 @@ module _ {K X : Type 0} {R : K → K → Ordering} (o : IsTotalOrder R) (exact :
       there = let a : get (insert m k v) k ≡ Some v = get-insert o m k v k ∙ ap (λ (t : Bool). cond t (Some v) (get m k)) (itself o k) in rw a refl
 
       by : (q : K) (s : Bool) → eq_by_cmp R k q ≡ s → (t : Bool) → eq_by_cmp R q k ≡ t → cond s (Some w) (cond t (Some v) (get m q)) ≡ get m q
-      by q true e t f = let a : k ≡ q = one exact k q e in sym n ∙ ap (get m) a
-      by q false e true f = let a : q ≡ k = one exact q k f in let b : eq_by_cmp R k k ≡ false = ap (eq_by_cmp R k) (sym a) ∙ e in let c : eq_by_cmp R k k ≡ true = itself o k in cc
+      by q true e t f = let a : k ≡ q = tells_apart exact k q e in sym n ∙ ap (get m) a
+      by q false e true f = let a : q ≡ k = tells_apart exact q k f in let b : eq_by_cmp R k k ≡ false = ap (eq_by_cmp R k) (sym a) ∙ e in let c : eq_by_cmp R k k ≡ true = itself o k in cc
       by q false e false f = refl

@@ -1,17 +1,19 @@
 -- What a text that breaks no rule says of its parts.
-use Rattle.std.proofs.Common.{◌≡◌, arith, Bool, true, false, cond, List, [], ◌∷◌, ◌++◌, Option, Some, None, refl, sym, subst, ◌∙◌, ◌⊎◌, inl, inr, ℕ, zero, suc}
+use Rattle.std.proofs.Common.{◌≡◌, arith, Bool, true, false, cond, if◌then◌else◌, List, [], ◌∷◌, ◌++◌, Option, Some, None, refl, sym, subst, ◌∙◌, ◌⊎◌, inl, inr, ℕ, zero, suc}
 use Rattle.std.proofs.lemmas.List.Folds.{find_at}
 use Rattle.std.proofs.lemmas.Option.{slice_get_within}
 use Rattle.std.specs.List.{AllByRecursion, flat_map, position_or_len}
 use Rattle.std.specs.Prelude.{◌+◌, ◌<◌, find, is_some, nat_lt, position, slice_get}
 use Rattle.class_defs.specs.Types.{IsDeclared, class_named, class_or_untold, type_named}
-use Rattle.class_defs.specs.Rules.{must, is_class, is_type, is_free_type}
+use Rattle.class_defs.specs.Objects.{first_of}
+use Rattle.class_defs.specs.Rules.{least, least_with, must, told_before, is_class, is_type, is_free_type}
 use Rattle.class_defs.specs.SchemaRules.{schema_rules, class_rules, classes_from, method_rules, body_rules, class_names, root_names, root_rules, member_names, body_names, method_types}
 use Rattle.class_defs.specs.declared.classes.Class.{Class}
 use Rattle.class_defs.specs.declared.classes.Method.{Method}
 use Rattle.class_defs.specs.declared.expressions.TypeName.{TypeName}
 use Rattle.class_defs.specs.declared.expressions.TypeName.TheVariants as type_name
 use Rattle.class_defs.specs.declared.rules.Rule.{Rule}
+use Rattle.class_defs.specs.declared.rules.RuleFault.{RuleFault}
 use Rattle.class_defs.specs.declared.store.Schema.{Schema}
 
 -- ---- lists of faults
@@ -27,6 +29,20 @@ held false rule line h = cc
 pub each_nothing : {A B : Type 0} (f : A → List B) (xs : List A) → flat_map f xs ≡ [] → AllByRecursion (λ x. f x ≡ []) xs
 each_nothing f [] h = tt
 each_nothing f (x ∷ xs) h = let p = nothing (f x) (flat_map f xs) h in (p.0, each_nothing f xs p.1)
+
+stays : (fs : List RuleFault) (g : RuleFault) → least_with (Some g) fs ≡ None → ⊥
+stays [] g h = cc
+stays (f ∷ fs) g h = elim (told_before f g) as (λ b. least_with (if b then Some f else Some g) fs ≡ None → ⊥) [ true ↦ stays fs f | false ↦ stays fs g ] h
+
+-- where no fault is told there is none
+pub none_told : (fs : List RuleFault) → least fs ≡ None → fs ≡ []
+none_told [] h = refl
+none_told (f ∷ fs) h = absurd (stays fs f h)
+
+-- where nothing is told of the one nor of the other
+pub neither : {A : Type 0} (a b : Option A) → first_of a b ≡ None → (a ≡ None) × (b ≡ None)
+neither None b h = (refl, h)
+neither (Some x) b h = cc
 
 -- ---- what is found in a list
 

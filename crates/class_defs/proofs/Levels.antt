@@ -1,6 +1,6 @@
 -- What holds of levels: behind which upgrades an object lags, and whether it is due.
 use Rattle.std.proofs.Common.{◌≡◌, ◌≤◌, arith, Bool, true, false, cond, not, ℕ, zero, suc, nat_lt, Option, Some, None, is_some, refl, sym, ◌∙◌, subst}
-use Rattle.std.proofs.lemmas.Bool.{lt-ltb, ltb-true, le-ltb, ltb-false}
+use Rattle.std.proofs.lemmas.Bool.{lt-ltb, ltb-true, le-ltb, ltb-false, not-true, or_from, or_parts}
 use Rattle.std.specs.Prelude.{◌&&◌, ◌||◌}
 use Rattle.thor_value.specs.declared.values.Obj.{Obj}
 use Rattle.class_defs.specs.Epochs.{next_of}
@@ -10,22 +10,14 @@ use Rattle.class_defs.specs.declared.upgrades.ClassUpgrade.{ClassUpgrade}
 
 -- ---- lagging
 
-first_false : (a b : Bool) → (a || b) ≡ false → a ≡ false
-first_false true b h = h
-first_false false b h = refl
-
-second_false : (a b : Bool) → (a || b) ≡ false → b ≡ false
-second_false true b h = cc
-second_false false b h = h
-
 -- an object that lags behind no upgrade up to k + 1 lags behind none up to k
 pub lags_less : (s : Schemas) (o : Obj) (k : ℕ) → lags s o (suc k) ≡ false → lags s o k ≡ false
 unfolding lags
-lags_less s o k h = first_false (lags s o k) (changes s k o) h
+lags_less s o k h = (or_parts (lags s o k) (changes s k o) h).0
 
 pub changes_not : (s : Schemas) (o : Obj) (k : ℕ) → lags s o (suc k) ≡ false → changes s k o ≡ false
 unfolding lags
-changes_not s o k h = second_false (lags s o k) (changes s k o) h
+changes_not s o k h = (or_parts (lags s o k) (changes s k o) h).1
 
 down_by : (s : Schemas) (o : Obj) (k j : ℕ) (b : Bool) → nat_lt k j ≡ b → j ≤ suc k → lags s o (suc k) ≡ false
     → (j ≤ k → lags s o j ≡ false) → lags s o j ≡ false
@@ -40,16 +32,12 @@ changes_never : (b : Bool) (u : Option ClassUpgrade) → b ≡ true → (not b &
 changes_never true u h = refl
 changes_never false u h = cc
 
-neither : (a b : Bool) → a ≡ false → b ≡ false → (a || b) ≡ false
-neither true b h g = h
-neither false b h g = g
-
 -- an object lags behind no upgrade before the epoch in which it was written
 pub lags_early : (s : Schemas) (o : Obj) (k : ℕ) → k ≤ o.ver → lags s o k ≡ false
 unfolding lags
 lags_early s o zero h = refl
 lags_early s o (suc k) h =
-    neither (lags s o k) (changes s k o) (lags_early s o k (omega (arith, h)))
+    or_from (lags s o k) (changes s k o) (lags_early s o k (omega (arith, h)))
     (changes_never (nat_lt k o.ver) (next_of s k o.class) (lt-ltb k o.ver (omega (arith, h))))
 
 -- ---- the level
@@ -72,13 +60,9 @@ unfolding greatest
 greatest_within test zero = omega arith
 greatest_within test (suc n) = bounded n (greatest test n) (test (suc n)) (greatest_within test n)
 
-not_true : (b : Bool) → not b ≡ true → b ≡ false
-not_true true h = cc
-not_true false h = refl
-
 pub lags_at_level : (s : Schemas) (e : ℕ) (o : Obj) → lags s o (level s e o) ≡ false
 unfolding lags
-lags_at_level s e o = not_true _ (greatest_passes (λ k. not (lags s o k)) e refl)
+lags_at_level s e o = not-true _ (greatest_passes (λ k. not (lags s o k)) e refl)
 
 pub lags_to_level : (s : Schemas) (e k : ℕ) (o : Obj) → k ≤ level s e o → lags s o k ≡ false
 lags_to_level s e k o h = lags_down s o (level s e o) k h (lags_at_level s e o)

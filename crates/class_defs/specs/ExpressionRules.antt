@@ -14,7 +14,7 @@ use Rattle.class_defs.specs.declared.expressions.Operator.TheVariants.{Add, Subt
 use Rattle.class_defs.specs.declared.rules.Position.{Position}
 use Rattle.class_defs.specs.declared.rules.Position.TheVariants.{Receiver, BesideNull, IntoOwnedField, Value}
 use Rattle.class_defs.specs.declared.rules.Rule.TheVariants.{T2, T3, T4, T6, T7, T8}
-use Rattle.class_defs.specs.declared.rules.TypeFault.{TypeFault}
+use Rattle.class_defs.specs.declared.rules.RuleFault.{RuleFault}
 use Rattle.class_defs.specs.declared.types.ExprType.{ExprType}
 use Rattle.class_defs.specs.declared.types.ExprType.TheVariants as type
 
@@ -26,7 +26,7 @@ pub record Judged : Type 0 where
   -- whether it is the word `null`
   pub null : Bool
   -- the rules that it breaks where it stands
-  pub broken : Position → List TypeFault
+  pub broken : Position → List RuleFault
 
 -- the line of an expression's own token
 abbrev pub line_at : {A : Type 0} → Expr-F A → ℕ
@@ -96,23 +96,23 @@ may_be_made Value = false
 -- ---- one node
 
 -- T7: `this` of a part isn't handed on. (T2: in an item there is none; the text of an item can't say it.)
-abbrev pub this_rules : Sight → ℕ → Position → List TypeFault
+abbrev pub this_rules : Sight → ℕ → Position → List RuleFault
 this_rules s line place =
     must (is_some s.this) T2 line ++ must (may_be_this place || not (is_part s.schema.classes (class_or_untold s.this))) T7 line
 
 -- T2 and T6: the class has the field, and an owned one isn't handed on
-abbrev pub field_rules : Sight → Name → Position → List TypeFault
+abbrev pub field_rules : Sight → Name → Position → List RuleFault
 field_rules s name place =
     must (is_some (option_and_then (λ c. field_of s.schema.classes c name.text) s.this)) T2 name.line
     ++ must (may_be_read place || not (is_part s.schema.classes (field_type (scope_of s) name.text))) T6 name.line
 
 -- T8: `at` stands in items alone and names a repository
-abbrev pub at_rules : Sight → Option At → List TypeFault
+abbrev pub at_rules : Sight → Option At → List RuleFault
 at_rules s None = []
 at_rules s (Some at) = must (is_none s.this) T8 at.line ++ must (nat_lt at.number s.repos) T8 at.number_line
 
 -- T2 and T8 of `new`
-abbrev pub new_rules : Sight → Name → Option At → Position → List TypeFault
+abbrev pub new_rules : Sight → Name → Option At → Position → List RuleFault
 new_rules s class at place =
     is_class s.schema.classes class
     ++ must (may_be_made place || not (is_part s.schema.classes (class_or_untold (class_named s.schema.classes class.text)))) T8 class.line
@@ -144,7 +144,7 @@ takes classes Equal a b = comparable classes a b
 takes classes Unequal a b = comparable classes a b
 
 -- T3 of the unary `-`
-abbrev pub negate_rules : Judged → ℕ → List TypeFault
+abbrev pub negate_rules : Judged → ℕ → List RuleFault
 negate_rules operand line = operand.broken Value ++ must (is_number operand.kind) T3 line
 
 -- the place beside an operator, with null on the other side or not
@@ -159,7 +159,7 @@ beside Multiply null = Value
 beside Less null = Value
 
 -- T3 of an operator
-abbrev pub binary_rules : Sight → Operator → Judged → Judged → ℕ → List TypeFault
+abbrev pub binary_rules : Sight → Operator → Judged → Judged → ℕ → List RuleFault
 binary_rules s operator left right line =
     left.broken (beside operator right.null) ++ right.broken (beside operator left.null)
     ++ must (takes s.schema.classes operator left.kind right.kind) T3 line
@@ -180,7 +180,7 @@ is_told (type.Class c) = true
 is_told type.Untold = false
 
 -- T2 and T4: the receiver's class has the method, with as many parameters as there are arguments
-abbrev pub called_rules : ExprType → Option Method → Name → ℕ → List TypeFault
+abbrev pub called_rules : ExprType → Option Method → Name → ℕ → List RuleFault
 called_rules receiver None name arguments = must (not (is_told receiver)) T2 name.line
 called_rules receiver (Some method) name arguments = must (length method.parameters == arguments) T4 name.line
 
@@ -189,19 +189,19 @@ parameters_of None = []
 parameters_of (Some method) = method.parameters
 
 -- T3 of an argument beside its parameter; one without a parameter is compared with nothing
-abbrev pub argument_fits : List Class → Option Parameter → ExprType → ℕ → List TypeFault
+abbrev pub argument_fits : List Class → Option Parameter → ExprType → ℕ → List RuleFault
 argument_fits classes None given line = []
 argument_fits classes (Some p) given line = must (fits (type_named classes p.type_name) given) T3 line
 
-abbrev pub argument_rules : List Class → Option Parameter → Judged → List TypeFault
+abbrev pub argument_rules : List Class → Option Parameter → Judged → List RuleFault
 argument_rules classes p a = a.broken Value ++ argument_fits classes p a.kind a.line
 
 -- the arguments, each beside its parameter
-abbrev pub arguments_rules : List Class → List Parameter → List Judged → List TypeFault
+abbrev pub arguments_rules : List Class → List Parameter → List Judged → List RuleFault
 arguments_rules classes ps [] = []
 arguments_rules classes ps (a ∷ more) = argument_rules classes (slice_get ps 0) a ++ arguments_rules classes (drop 1 ps) more
 
-abbrev pub call_rules : Sight → Judged → Name → List Judged → List TypeFault
+abbrev pub call_rules : Sight → Judged → Name → List Judged → List RuleFault
 call_rules s receiver name arguments =
     let method = method_called s.schema.classes receiver.kind name in
     receiver.broken Receiver
@@ -211,7 +211,7 @@ call_rules s receiver name arguments =
 -- ---- any expression
 
 -- The rules that an expression breaks: those that its parts break where they stand, and its own.
-abbrev pub broken_at : Sight → Expr-F Judged → Position → List TypeFault
+abbrev pub broken_at : Sight → Expr-F Judged → Position → List RuleFault
 broken_at s (Expr-F.Int value line) place = []
 broken_at s (Expr-F.Null line) place = []
 broken_at s (Expr-F.This line) place = this_rules s line place

@@ -14,7 +14,7 @@ use Rattle.class_defs.specs.declared.expressions.Name.{Name}
 use Rattle.class_defs.specs.declared.expressions.TypeName.{TypeName}
 use Rattle.class_defs.specs.declared.expressions.TypeName.TheVariants as type_name
 use Rattle.class_defs.specs.declared.rules.Rule.{Rule}
-use Rattle.class_defs.specs.declared.rules.TypeFault.{TypeFault}
+use Rattle.class_defs.specs.declared.rules.RuleFault.{RuleFault}
 use Rattle.class_defs.specs.declared.statements.Stmt.{Stmt}
 use Rattle.class_defs.specs.declared.statements.Stmt.TheVariants as stmt
 use Rattle.class_defs.specs.declared.store.RootDeclaration.{RootDeclaration}
@@ -69,13 +69,13 @@ root = record { name = named (codes "a") 1; class = named (codes "Box") 1; at = 
 abbrev pub sample : Schema
 sample = record { classes = box ∷ part ∷ []; upgraded = 0 ∷ 0 ∷ []; roots = root ∷ [] }
 
-abbrev pub broken : ℕ → Rule → Option TypeFault
+abbrev pub broken : ℕ → Rule → Option RuleFault
 broken line rule = Some (record { line = line; rule = rule })
 
 -- what is told of an item over two repositories
-abbrev pub told_of_item : List Stmt → Option TypeFault
+abbrev pub told_of_item : List Stmt → Option RuleFault
 told_of_item block = least (item_rules sample 2 block)
 
 -- what is told of the body of an int method without parameters of class c
-abbrev pub told_of_body : ℕ → List Stmt → Option TypeFault
+abbrev pub told_of_body : ℕ → List Stmt → Option RuleFault
 told_of_body c block = least (block_rules (record { schema = sample; repos = 2; this = Some c; result = type.Int; locals = [] }) block)

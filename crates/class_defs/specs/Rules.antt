@@ -1,6 +1,6 @@
--- The rules T1 to T8 of the language (this project's): what a broken rule is, which one a check tells, and the
--- rules on names and on the words of types.
-use Rattle.std.specs.Prelude.{ℕ, ◌||◌, ◌&&◌, ◌==◌, nat_lt, not, if◌then◌else◌, find, List, [], ◌∷◌, ◌++◌, Bool, true, false, Option, Some, None, is_some, option_map, slice_get}
+-- The rules of the language (this project's): what a broken rule is, its word, which one a check tells, and the rules T on
+-- names and on the words of types.
+use Rattle.std.specs.Prelude.{ℕ, ◌||◌, ◌&&◌, ◌==◌, nat_lt, not, if◌then◌else◌, find, List, [], ◌∷◌, ◌++◌, Bool, true, false, Option, Some, None, codes, is_some, option_map, slice_get}
 use Rattle.std.specs.List.{list_any}
 use Rattle.std.specs.Str.{bytes_eq}
 use Rattle.class_defs.specs.Objects.{first_of}
@@ -13,20 +13,21 @@ use Rattle.class_defs.specs.declared.expressions.TypeName.{TypeName}
 use Rattle.class_defs.specs.declared.expressions.TypeName.TheVariants as type_name
 use Rattle.class_defs.specs.declared.rules.NamedType.{NamedType}
 use Rattle.class_defs.specs.declared.rules.Rule.{Rule}
-use Rattle.class_defs.specs.declared.rules.Rule.TheVariants.{T1, T2, T3, T4, T5, T6, T7, T8}
-use Rattle.class_defs.specs.declared.rules.TypeFault.{TypeFault}
+use Rattle.class_defs.specs.declared.rules.Rule.TheVariants.{T1, T2, T3, T4, T5, T6, T7, T8, T9, O1, O2, O3, O4, O5, O6, O7}
+use Rattle.class_defs.specs.declared.rules.RuleFault.{RuleFault}
 use Rattle.class_defs.specs.declared.store.RootDeclaration.{RootDeclaration}
 use Rattle.class_defs.specs.declared.store.Schema.{Schema}
 use Rattle.class_defs.specs.declared.types.ExprType.{ExprType}
 use Rattle.class_defs.specs.declared.types.ExprType.TheVariants as type
 
 -- What must hold. Where it doesn't, the rule is broken on the line.
-abbrev pub must : Bool → Rule → ℕ → List TypeFault
+abbrev pub must : Bool → Rule → ℕ → List RuleFault
 must true rule line = []
 must false rule line = record { line = line; rule = rule } ∷ []
 
 -- ---- the answer of a check
 
+-- a rule's place among the rules
 abbrev pub rule_number : Rule → ℕ
 rule_number T1 = 1
 rule_number T2 = 2
@@ -36,28 +37,55 @@ rule_number T5 = 5
 rule_number T6 = 6
 rule_number T7 = 7
 rule_number T8 = 8
+rule_number T9 = 9
+rule_number O1 = 10
+rule_number O2 = 11
+rule_number O3 = 12
+rule_number O4 = 13
+rule_number O5 = 14
+rule_number O6 = 15
+rule_number O7 = 16
+
+-- the word that is printed for a rule
+abbrev pub rule_word : Rule → List ℕ
+rule_word T1 = codes "T1"
+rule_word T2 = codes "T2"
+rule_word T3 = codes "T3"
+rule_word T4 = codes "T4"
+rule_word T5 = codes "T5"
+rule_word T6 = codes "T6"
+rule_word T7 = codes "T7"
+rule_word T8 = codes "T8"
+rule_word T9 = codes "T9"
+rule_word O1 = codes "O1"
+rule_word O2 = codes "O2"
+rule_word O3 = codes "O3"
+rule_word O4 = codes "O4"
+rule_word O5 = codes "O5"
+rule_word O6 = codes "O6"
+rule_word O7 = codes "O7"
 
 -- whether one fault is told rather than another: it has the lesser line, or the lesser rule on the same line
-abbrev pub told_before : TypeFault → TypeFault → Bool
+abbrev pub told_before : RuleFault → RuleFault → Bool
 told_before f g = nat_lt f.line g.line || (f.line == g.line && nat_lt (rule_number f.rule) (rule_number g.rule))
 
-abbrev pub lesser : Option TypeFault → TypeFault → Option TypeFault
+abbrev pub lesser : Option RuleFault → RuleFault → Option RuleFault
 lesser None f = Some f
 lesser (Some g) f = if told_before f g then Some f else Some g
 
 -- the least of some faults and of one that was found before
-abbrev pub least_with : Option TypeFault → List TypeFault → Option TypeFault
+abbrev pub least_with : Option RuleFault → List RuleFault → Option RuleFault
 least_with found [] = found
 least_with found (f ∷ fs) = least_with (lesser found f) fs
 
 -- what a check answers: the fault with the least line, and of those on that line the one with the least rule
-abbrev pub least : List TypeFault → Option TypeFault
+abbrev pub least : List RuleFault → Option RuleFault
 least fs = least_with None fs
 
 -- ---- names
 
 -- T1: each of these names stands for the first time, also behind the earlier ones
-abbrev pub stand_once : List Name → List Name → List TypeFault
+abbrev pub stand_once : List Name → List Name → List RuleFault
 stand_once earlier [] = []
 stand_once earlier (n ∷ ns) = must (not (list_any (λ m. bytes_eq m.text n.text) earlier)) T1 n.line ++ stand_once (earlier ++ n ∷ []) ns
 
@@ -110,20 +138,20 @@ is_part classes type.Null = false
 is_part classes type.Untold = false
 
 -- T2: the name is that of a class
-abbrev pub is_class : List Class → Name → List TypeFault
+abbrev pub is_class : List Class → Name → List RuleFault
 is_class classes name = must (is_some (class_named classes name.text)) T2 name.line
 
 -- T2 and T5: the name is that of a class, and not of a part class
-abbrev pub is_free_class : List Class → Name → List TypeFault
+abbrev pub is_free_class : List Class → Name → List RuleFault
 is_free_class classes name = is_class classes name ++ must (not (is_part classes (class_or_untold (class_named classes name.text)))) T5 name.line
 
 -- T2 of the word of a field's type
-abbrev pub is_type : List Class → TypeName → List TypeFault
+abbrev pub is_type : List Class → TypeName → List RuleFault
 is_type classes (type_name.Int line) = []
 is_type classes (type_name.Class name) = is_class classes name
 
 -- T2 and T5 of the word of a parameter's, a result's or a local's type
-abbrev pub is_free_type : List Class → TypeName → List TypeFault
+abbrev pub is_free_type : List Class → TypeName → List RuleFault
 is_free_type classes (type_name.Int line) = []
 is_free_type classes (type_name.Class name) = is_free_class classes name
 

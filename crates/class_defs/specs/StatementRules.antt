@@ -13,7 +13,7 @@ use Rattle.class_defs.specs.declared.rules.NamedType.{NamedType}
 use Rattle.class_defs.specs.declared.rules.Position.{Position}
 use Rattle.class_defs.specs.declared.rules.Position.TheVariants.{IntoOwnedField, Value}
 use Rattle.class_defs.specs.declared.rules.Rule.TheVariants.{T2, T3, T6}
-use Rattle.class_defs.specs.declared.rules.TypeFault.{TypeFault}
+use Rattle.class_defs.specs.declared.rules.RuleFault.{RuleFault}
 use Rattle.class_defs.specs.declared.statements.Stmt.{Stmt, fold-Stmt}
 use Rattle.class_defs.specs.declared.statements.Stmt.TheOpen.{Stmt-F}
 use Rattle.class_defs.specs.declared.store.RootDeclaration.{RootDeclaration}
@@ -43,19 +43,19 @@ names_in block = flat_map names_declared block
 -- ---- statements
 
 -- T3 of an expression with a type of its own: the word that is told is the expression's own token
-abbrev pub must_fit : Sight → ExprType → Expr → List TypeFault
+abbrev pub must_fit : Sight → ExprType → Expr → List RuleFault
 must_fit s kind e = (judged s e).broken Value ++ must (fits kind (judged s e).kind) T3 (line_of e)
 
-abbrev pub must_be_number : Sight → Expr → List TypeFault
+abbrev pub must_be_number : Sight → Expr → List RuleFault
 must_be_number s e = (judged s e).broken Value ++ must (is_number (judged s e).kind) T3 (line_of e)
 
 -- T2 and T3 of an assignment by name: it is a local's or parameter's, whose type the value fits, and no root's
-abbrev pub assigned_fits : Option NamedType → Option RootDeclaration → Name → ExprType → ℕ → List TypeFault
+abbrev pub assigned_fits : Option NamedType → Option RootDeclaration → Name → ExprType → ℕ → List RuleFault
 assigned_fits (Some l) root name given line = must (fits l.kind given) T3 line
 assigned_fits None (Some r) name given line = must false T3 name.line
 assigned_fits None None name given line = must false T2 name.line
 
-abbrev pub assign_rules : Sight → Name → ℕ → Expr → List TypeFault
+abbrev pub assign_rules : Sight → Name → ℕ → Expr → List RuleFault
 assign_rules s name line e =
     (judged s e).broken Value
     ++ assigned_fits (local_named s.locals name.text) (root_named s name.text) name (judged s e).kind line
@@ -79,7 +79,7 @@ place_for true = IntoOwnedField
 place_for false = Value
 
 -- T2, T3 and T6 of an assignment to a field
-abbrev pub field_assign_rules : Sight → Name → ℕ → Expr → List TypeFault
+abbrev pub field_assign_rules : Sight → Name → ℕ → Expr → List RuleFault
 field_assign_rules s field line e =
     let kind = field_type (scope_of s) field.text in
     let owned = is_part s.schema.classes kind in
@@ -89,7 +89,7 @@ field_assign_rules s field line e =
     ++ must (fits kind (judged s e).kind) T3 line
 
 -- T2, T3 and T5 of a local
-abbrev pub var_rules : Sight → TypeName → ℕ → Expr → List TypeFault
+abbrev pub var_rules : Sight → TypeName → ℕ → Expr → List RuleFault
 var_rules s type_name line e =
     is_free_type s.schema.classes type_name
     ++ (judged s e).broken Value
@@ -98,7 +98,7 @@ var_rules s type_name line e =
 -- What a check says of a statement.
 pub record Ruled : Type 0 where
   -- the rules that it breaks in sight of names and classes
-  pub broken : Sight → List TypeFault
+  pub broken : Sight → List RuleFault
   -- the local that is in sight behind it
   pub declares : List Class → List NamedType
 
@@ -107,11 +107,11 @@ with_locals s more = record s { locals = s.locals ++ more }
 
 -- Statements one after the other: each has those locals in sight that the ones before it declared. Behind a
 -- block its locals are in sight no more.
-abbrev pub in_turn : List Ruled → Sight → List TypeFault
+abbrev pub in_turn : List Ruled → Sight → List RuleFault
 in_turn [] s = []
 in_turn (r ∷ rs) s = r.broken s ++ in_turn rs (with_locals s (r.declares s.schema.classes))
 
-abbrev pub broken_at : Stmt-F Ruled → Sight → List TypeFault
+abbrev pub broken_at : Stmt-F Ruled → Sight → List RuleFault
 broken_at (Stmt-F.Var type_name name line e) s = var_rules s type_name line e
 broken_at (Stmt-F.Assign name line e) s = assign_rules s name line e
 broken_at (Stmt-F.FieldAssign field line e) s = field_assign_rules s field line e
@@ -141,5 +141,5 @@ unfoldable pub ruled : Stmt → Ruled
 ruled = fold-Stmt Ruled rule_step
 
 -- the rules that a block breaks
-abbrev pub block_rules : Sight → List Stmt → List TypeFault
+abbrev pub block_rules : Sight → List Stmt → List RuleFault
 block_rules s block = in_turn (map ruled block) s

@@ -4,14 +4,13 @@ use Rattle.std.specs.Prelude.{ℕ, ◌&&◌, ◌==◌, nat_le, not, List, [], �
 use Rattle.std.specs.List.{flat_map, list_any}
 use Rattle.std.specs.Str.{bytes_eq}
 use Rattle.class_defs.specs.Ownership.{type_at}
-use Rattle.class_defs.specs.Rules.{is_part}
+use Rattle.class_defs.specs.Rules.{is_part, must}
 use Rattle.class_defs.specs.Types.{class_named, field_named, type_named}
 use Rattle.class_defs.specs.declared.classes.Class.{Class}
 use Rattle.class_defs.specs.declared.expressions.Name.{Name}
-use Rattle.class_defs.specs.declared.own_rules.BrokenRule.TheVariants.{Own}
-use Rattle.class_defs.specs.declared.own_rules.OwnFault.{OwnFault}
-use Rattle.class_defs.specs.declared.own_rules.OwnRule.{OwnRule}
-use Rattle.class_defs.specs.declared.own_rules.OwnRule.TheVariants.{O1, O2, O3, O4, O5, O6}
+use Rattle.class_defs.specs.declared.rules.Rule.{Rule}
+use Rattle.class_defs.specs.declared.rules.Rule.TheVariants.{O1, O2, O3, O4, O5, O6}
+use Rattle.class_defs.specs.declared.rules.RuleFault.{RuleFault}
 use Rattle.class_defs.specs.declared.types.ExprType.{ExprType}
 use Rattle.class_defs.specs.declared.types.ExprType.TheVariants as type
 use Rattle.class_defs.specs.declared.upgrades.ClassUpgrade.{ClassUpgrade}
@@ -19,11 +18,6 @@ use Rattle.class_defs.specs.declared.upgrades.FieldUpgrade.{FieldUpgrade}
 use Rattle.class_defs.specs.declared.upgrades.Tf.{Tf, fold-Tf, out-Tf}
 use Rattle.class_defs.specs.declared.upgrades.Tf.TheOpen.{Tf-F}
 use Rattle.class_defs.specs.declared.upgrades.Upgrade.{Upgrade}
-
--- What must hold of an upgrade. Where it doesn't, the rule is broken on the line.
-abbrev pub must_own : Bool → OwnRule → ℕ → List OwnFault
-must_own true rule line = []
-must_own false rule line = record { line = line; rule = Own rule } ∷ []
 
 -- ---- the line that is told
 
@@ -132,22 +126,22 @@ gives_reference classes c d (Tf-F.Binary operator left right line) = false
 -- ---- new fields
 
 -- the rule on references to objects of a part class, or of a free one
-abbrev pub reference_rule : Bool → OwnRule
+abbrev pub reference_rule : Bool → Rule
 reference_rule true = O6
 reference_rule false = O3
 
 -- O2, O3 and O6: the expression of a new field fits its type. A type that isn't declared says nothing of it.
-abbrev pub value_rules : List Class → ℕ → ExprType → Tf → List OwnFault
-value_rules classes c type.Int e = must_own (gives_int classes c e) O2 (first_line e)
-value_rules classes c (type.Class d) e = must_own (gives_reference classes c d (out-Tf e)) (reference_rule (is_part classes (type.Class d))) (first_line e)
+abbrev pub value_rules : List Class → ℕ → ExprType → Tf → List RuleFault
+value_rules classes c type.Int e = must (gives_int classes c e) O2 (first_line e)
+value_rules classes c (type.Class d) e = must (gives_reference classes c d (out-Tf e)) (reference_rule (is_part classes (type.Class d))) (first_line e)
 value_rules classes c type.Null e = []
 value_rules classes c type.Untold e = []
 
 -- The rules that the expression of a new field breaks by itself: O2, O3, O6, and O4.
-abbrev pub field_rules : List Class → ℕ → FieldUpgrade → List OwnFault
+abbrev pub field_rules : List Class → ℕ → FieldUpgrade → List RuleFault
 field_rules classes c f =
     value_rules classes c (type_named classes f.type_name) f.value
-    ++ must_own (reads_parts classes c f.value) O4 (first_line f.value)
+    ++ must (reads_parts classes c f.value) O4 (first_line f.value)
 
 -- the place of the field that a path of one name is
 abbrev pub field_at_path : List Class → ℕ → List Name → Option ℕ
@@ -182,30 +176,30 @@ as_list None = []
 as_list (Some i) = i ∷ []
 
 -- O5: what a new field takes over isn't taken over by an earlier one, nor are these
-abbrev pub handed_once : List Class → ℕ → List ℕ → List FieldUpgrade → List OwnFault
+abbrev pub handed_once : List Class → ℕ → List ℕ → List FieldUpgrade → List RuleFault
 handed_once classes c earlier [] = []
 handed_once classes c earlier (f ∷ fs) =
-    must_own (is_new earlier (hands_over classes c f)) O5 (first_line f.value)
+    must (is_new earlier (hands_over classes c f)) O5 (first_line f.value)
     ++ handed_once classes c (earlier ++ as_list (hands_over classes c f)) fs
 
 -- ---- upgrades
 
 -- O1: each of these is the name of a class, for the first time
-abbrev pub named_once : List Class → List Name → List Name → List OwnFault
+abbrev pub named_once : List Class → List Name → List Name → List RuleFault
 named_once classes earlier [] = []
 named_once classes earlier (n ∷ ns) =
-    must_own (is_some (class_named classes n.text) && not (list_any (λ m. bytes_eq m.text n.text) earlier)) O1 n.line
+    must (is_some (class_named classes n.text) && not (list_any (λ m. bytes_eq m.text n.text) earlier)) O1 n.line
     ++ named_once classes (earlier ++ n ∷ []) ns
 
 -- What an upgrade says of a class that isn't there breaks O1 alone, on a line that is told before all others.
-abbrev pub fields_rules : List Class → Option ℕ → List FieldUpgrade → List OwnFault
+abbrev pub fields_rules : List Class → Option ℕ → List FieldUpgrade → List RuleFault
 fields_rules classes None fs = []
 fields_rules classes (Some c) fs = flat_map (field_rules classes c) fs ++ handed_once classes c [] fs
 
 -- the rules that the new fields of one class break
-abbrev pub class_upgrade_rules : List Class → ClassUpgrade → List OwnFault
+abbrev pub class_upgrade_rules : List Class → ClassUpgrade → List RuleFault
 class_upgrade_rules classes k = fields_rules classes (class_named classes k.name.text) k.fields
 
 -- The rules O1 to O6 that an upgrade breaks on the classes that it finds.
-unfoldable pub upgrade_rules : List Class → Upgrade → List OwnFault
+unfoldable pub upgrade_rules : List Class → Upgrade → List RuleFault
 upgrade_rules classes u = named_once classes [] (map (λ k. k.name) u.classes) ++ flat_map (class_upgrade_rules classes) u.classes

@@ -9,8 +9,8 @@ mod limits;
 mod look;
 mod machine;
 mod operations;
-mod own_rules;
 mod places;
+mod rule_words;
 mod rules;
 mod statements;
 mod store;
@@ -27,9 +27,9 @@ pub use limits::{CREATE_LIMIT, DEPTH_LIMIT, READ_LIMIT, STAND_IN_LIMIT, STEP_LIM
 pub use look::{class_named, class_type, field_named, field_of, method_of, type_named};
 pub use machine::{Flow, Local, Locals, Machine, NameSupply, Receiver, Stop};
 pub use operations::{beginning, combined, fitted, number};
-pub use own_rules::{BrokenRule, OwnFault, OwnRule};
 pub use places::Place;
-pub use rules::{NamedType, NamedTypes, Position, Rule, TypeFault};
+pub use rule_words::rule_word;
+pub use rules::{NamedType, NamedTypes, Position, Rule, RuleFault};
 pub use statements::{Block, Blocks, Stmt};
 pub use store::{
     Epochs, Object, Plain, PlainObjects, Root, RootDeclaration, RootDeclarations, Roots, Schema,

@@ -1,9 +1,8 @@
 use crate::types::ExprType;
-use std::fmt;
 use thor_value::{NoMemory, Sequence, Text, TryCopy};
 
-/// A rule of the language, by the word that the program prints for it. The lesser of two is the one that
-/// comes first here.
+/// A rule of the language, by the word that the program prints for it: T1 to T9 are rules on classes, roots,
+/// transactions and events, O1 to O7 rules on upgrades. The lesser of two is the one that comes first here.
 #[derive(Clone, Copy, Debug, PartialEq, Eq)]
 pub enum Rule {
     /// A name is declared once.
@@ -22,11 +21,27 @@ pub enum Rule {
     T7,
     /// A part is made for an owned field alone; `at` names a repository that is there, in items alone.
     T8,
+    /// An event of the schedule is one of those that there are, and names a client and a repository that are there.
+    T9,
+    /// A class that an upgrade names is there, and is named once.
+    O1,
+    /// A new int is made of numbers and of paths that end in an int.
+    O2,
+    /// A new reference to a free object is null or an old field of its class.
+    O3,
+    /// A path goes on through owned fields alone.
+    O4,
+    /// An owned field is handed over once.
+    O5,
+    /// A new owned field is null or an old field of its class.
+    O6,
+    /// What the upgrade doesn't name breaks no rule with it.
+    O7,
 }
 
 /// A rule that is broken.
 #[derive(Clone, Copy, Debug, PartialEq, Eq)]
-pub struct TypeFault {
+pub struct RuleFault {
     /// The line of the name or symbol that breaks it, from 1.
     pub line: u32,
     pub rule: Rule,
@@ -54,21 +69,6 @@ pub struct NamedType {
 
 /// Locals and parameters in sight, in the order in which they were declared.
 pub type NamedTypes = Sequence<NamedType>;
-
-impl fmt::Display for Rule {
-    fn fmt<W: fmt::Write>(&self, f: &mut fmt::Formatter<W>) -> fmt::Result {
-        f.write_str(match self {
-            Rule::T1 => "T1",
-            Rule::T2 => "T2",
-            Rule::T3 => "T3",
-            Rule::T4 => "T4",
-            Rule::T5 => "T5",
-            Rule::T6 => "T6",
-            Rule::T7 => "T7",
-            Rule::T8 => "T8",
-        })
-    }
-}
 
 impl TryCopy for NamedType {
     fn copy(&self) -> Result<NamedType, NoMemory> {

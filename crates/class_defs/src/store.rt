@@ -70,12 +70,20 @@ pub struct UpgradedSchema {
 pub type UpgradedSchemas = Sequence<UpgradedSchema>;
 
 /// The schemas of all epochs.
-#[derive(Debug, Drop)]
+#[derive(Debug)]
 pub struct Schemas {
     /// That of epoch 0.
     pub first: Schema,
     /// Those of the epochs 1, 2, .., each with the upgrade that leads to it.
     pub upgraded: UpgradedSchemas,
+}
+
+impl Drop for Schemas {
+    fn drop(self) {
+        let Schemas { first, upgraded } = self;
+        drop(first);
+        drop(upgraded);
+    }
 }
 
 /// What a setup section declares.

@@ -4,6 +4,7 @@ use Rattle.std.specs.List.{IsDistinct, list_all}
 use Rattle.std.specs.Map.{keys_of, lookup, remove_entry}
 use Rattle.std.specs.Option.{option_map_or}
 use Rattle.std.proofs.lemmas.Map.{lookup-remove_entry}
+use Rattle.std.proofs.lemmas.Bool.{and_parts}
 use Rattle.thor_value.specs.declared.names.Oref.{Oref}
 use Rattle.thor_value.specs.declared.values.Obj.{Obj}
 use Rattle.client_cache.specs.Copies.{Held, told}
@@ -11,7 +12,7 @@ use Rattle.client_cache.specs.Pages.{page_of, same_page}
 use Rattle.client_cache.specs.Slots.{is_bare, kept_in, written_in}
 use Rattle.client_cache.specs.declared.page_copies.Slot.{Slot}
 use Rattle.client_cache.specs.declared.page_name.PageName.{PageName}
-use Rattle.client_cache.proofs.PageLookups.{both, names-are-equal, one-page}
+use Rattle.client_cache.proofs.PageLookups.{names-are-equal, one-page}
 
 none-of : (o : Option Obj) → is_none o ≡ true → o ≡ None
 none-of None h = refl
@@ -19,13 +20,13 @@ none-of (Some x) h = cc
 
 pub bare-kept : (slots : List Slot) (s : ℕ) → list_all is_bare slots ≡ true → kept_in slots s ≡ None
 bare-kept [] s h = refl
-bare-kept (x ∷ xs) zero h = let b = both (is_bare x) (list_all is_bare xs) h in none-of x.kept (both (is_none x.kept) (is_none x.written) b.0).0
-bare-kept (x ∷ xs) (suc s) h = bare-kept xs s (both (is_bare x) (list_all is_bare xs) h).1
+bare-kept (x ∷ xs) zero h = let b = and_parts (is_bare x) (list_all is_bare xs) h in none-of x.kept (and_parts (is_none x.kept) (is_none x.written) b.0).0
+bare-kept (x ∷ xs) (suc s) h = bare-kept xs s (and_parts (is_bare x) (list_all is_bare xs) h).1
 
 pub bare-written : (slots : List Slot) (s : ℕ) → list_all is_bare slots ≡ true → written_in slots s ≡ None
 bare-written [] s h = refl
-bare-written (x ∷ xs) zero h = let b = both (is_bare x) (list_all is_bare xs) h in none-of x.written (both (is_none x.kept) (is_none x.written) b.0).1
-bare-written (x ∷ xs) (suc s) h = bare-written xs s (both (is_bare x) (list_all is_bare xs) h).1
+bare-written (x ∷ xs) zero h = let b = and_parts (is_bare x) (list_all is_bare xs) h in none-of x.written (and_parts (is_none x.kept) (is_none x.written) b.0).1
+bare-written (x ∷ xs) (suc s) h = bare-written xs s (and_parts (is_bare x) (list_all is_bare xs) h).1
 
 module _ (g : List Slot → ℕ → Option Obj) (p : PageName) (held : Held) where
   left-of : (slots : List Slot) → IsDistinct same_page (keys_of held) → lookup (same_page p) held ≡ Some slots → ((s : ℕ) → g slots s ≡ None)

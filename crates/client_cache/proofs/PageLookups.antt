@@ -3,18 +3,12 @@ use Rattle.std.proofs.Common.{◌≡◌, ℕ, Bool, true, false, cond, ◌&&◌,
 use Rattle.std.specs.Cmp.{IsEquivalence, nat_eq_equiv}
 use Rattle.std.specs.Option.{option_map_or}
 use Rattle.std.specs.Map.{lookup, lookup_entry, remove_entry}
-use Rattle.std.proofs.lemmas.Bool.{eqb-true, eq-eqb}
+use Rattle.std.proofs.lemmas.Bool.{eqb-true, eq-eqb, and_parts}
 use Rattle.lru.specs.LruCache.{promoted}
 use Rattle.lru.proofs.Pairs.{lookup-lookup_entry}
 use Rattle.lru.proofs.CallerLemmas.{Contains-lookup_entry}
 use Rattle.client_cache.specs.Pages.{same_page}
 use Rattle.client_cache.specs.declared.page_name.PageName.{PageName}
-
-pub both : (a b : Bool) → (a && b) ≡ true → (a ≡ true) × (b ≡ true)
-both true true e = (refl, refl)
-both true false e = cc
-both false true e = cc
-both false false e = cc
 
 abbrev named : ℕ → ℕ → PageName
 named r n = record { repo = r; page = n }
@@ -23,7 +17,7 @@ joined : (a b c d : ℕ) → a ≡ b → c ≡ d → named a c ≡ named b d
 joined a b c d e f = rw (e, f) refl
 
 pub one-page : (p q : PageName) → same_page p q ≡ true → p ≡ q
-one-page p q e = let h = both (nat_eq p.repo q.repo) (nat_eq p.page q.page) e in
+one-page p q e = let h = and_parts (nat_eq p.repo q.repo) (nat_eq p.page q.page) e in
     joined p.repo q.repo p.page q.page (eqb-true p.repo q.repo h.0) (eqb-true p.page q.page h.1)
 
 pub itself : (p : PageName) → same_page p p ≡ true

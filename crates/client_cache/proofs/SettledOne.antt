@@ -2,14 +2,14 @@
 use Rattle.std.proofs.Common.{◌≡◌, ℕ, true, false, cond, nat_eq, List, Option, Some, None, refl, sym, ap, ◌∙◌}
 use Rattle.std.specs.Map.{lookup}
 use Rattle.std.specs.Option.{option_or, option_and_then}
-use Rattle.std.proofs.lemmas.Bool.{eqb-true}
+use Rattle.std.proofs.lemmas.Bool.{eqb-true, and_parts}
 use Rattle.thor_value.specs.declared.names.Oref.{Oref}
 use Rattle.thor_value.specs.declared.values.Obj.{Obj}
 use Rattle.client_cache.specs.Copies.{Held, told}
 use Rattle.client_cache.specs.Pages.{page_of, same_name, same_page}
 use Rattle.client_cache.specs.Slots.{kept_in, seen_in, written_in}
 use Rattle.client_cache.specs.declared.page_copies.Slot.{Slot}
-use Rattle.client_cache.proofs.PageLookups.{both, one-page}
+use Rattle.client_cache.proofs.PageLookups.{one-page}
 
 seen-by : (s : ℕ) (o : Option (List Slot))
     → option_and_then (λ slots. seen_in slots s) o ≡ option_or (option_and_then (λ slots. written_in slots s) o) (option_and_then (λ slots. kept_in slots s) o)
@@ -27,7 +27,7 @@ seen-at held r p s = told seen_in held (at r p s)
 
 -- two names of one object
 pub one-name : (x y : Oref) → same_name x y ≡ true → x ≡ y
-one-name x y e = let h = both (same_page (page_of x) (page_of y)) (nat_eq x.slot y.slot) e in
+one-name x y e = let h = and_parts (same_page (page_of x) (page_of y)) (nat_eq x.slot y.slot) e in
     let p = one-page (page_of x) (page_of y) h.0 in
     ap (λ k. at k.repo k.page x.slot) p ∙ ap (λ k. at y.repo y.page k) (eqb-true x.slot y.slot h.1)
 

@@ -2,7 +2,7 @@
 use Rattle.std.proofs.Common.{◌≡◌, ℕ, ◌+◌, ◌-◌, ◌%◌, ◌<◌, ◌≤◌, min, max, Bool, true, false, cond, ◌&&◌, ◌||◌, nat_le, nat_lt, List, [], ◌∷◌, ◌++◌, length, take, drop, get_or, replicate, slice_index, refl, ap, sym, ◌∙◌, arith, inl, inr, ◌⊎◌, length-append}
 use Rattle.std.proofs.lemmas.List.{length-take, get_or-take, get_or_append_left, get_or-append_right, get_or-drop, length-drop, length-replicate}
 use Rattle.std.proofs.lemmas.Grind.{same_number_lists}
-use Rattle.std.proofs.lemmas.Bool.{cases_lt, false≢true}
+use Rattle.std.proofs.lemmas.Bool.{cases_lt, false≢true, or_parts}
 use Rattle.std.proofs.lemmas.Bool.Decides.{nat_tests}
 use Rattle.disk_trait.specs.Disks.{Torn, written}
 use Rattle.disk_trait.specs.Images.{is_in, greatest, Image}
@@ -105,14 +105,10 @@ image_written synced ranges old at put is = record {
   no_shorter = omega (arith, is.no_shorter, length-written old at put);
   no_longer = omega (arith, is.no_longer, length-written old at put);
   outside = λ i within out.
-      let apart = or_false (nat_le at i && nat_lt i (at + length put)) (is_in ranges i) out in
+      let apart = or_parts (nat_le at i && nat_lt i (at + length put)) (is_in ranges i) out in
       written_outside old at put i (omega (arith, within, is.no_shorter)) (missed i apart.0) ∙ is.outside i within apart.1;
 }
   where
-    or_false : (a b : Bool) → a || b ≡ false → (a ≡ false) × (b ≡ false)
-    or_false true b e = cc
-    or_false false b e = (refl, e)
-
     missed : (i : ℕ) → (nat_le at i && nat_lt i (at + length put)) ≡ false → (i < at) ⊎ (at + length put ≤ i)
     missed i miss = elim (cases_lt i at) [
       | inl before ↦ inl before

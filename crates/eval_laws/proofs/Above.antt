@@ -1,6 +1,7 @@
 -- An evaluation of checked code over a part of a store, beside that over the whole store: what holds in each state of it, and
 -- what actions tell of the owners of an object that is needed.
 use Rattle.std.proofs.Common.{◌≡◌, Bool, true, false, cond, List, [], ◌∷◌, ◌++◌, Option, Some, None, Result, Ok, Err, refl, ap, sym, subst, ◌∙◌, ℕ}
+use Rattle.std.proofs.lemmas.Bool.{both_ways}
 use Rattle.std.specs.Prelude.{is_some, nat_lt, ◌+◌, length}
 use Rattle.thor_value.specs.FiniteMap.{insert}
 use Rattle.thor_value.specs.declared.names.Oref.{Oref}
@@ -26,7 +27,6 @@ use Rattle.eval_laws.proofs.Ends.{AtHand, Sound as KnownSound}
 use Rattle.fitting_laws.specs.Fits.{MachineFits}
 use Rattle.part_laws.proofs.Made.{is_among}
 use Rattle.part_laws.proofs.Steps.{Any, TidyAt}
-use Rattle.part_laws.proofs.Tidy.{not_both}
 use Rattle.part_laws.specs.Owning.{OwnsIn}
 use Rattle.run_laws.proofs.Alike.{Sound as AlikeSound}
 use Rattle.run_laws.proofs.AlikeSteps.{Went as Alike}
@@ -103,7 +103,7 @@ module _ (schema : Schema) (repos : ℕ) (f g : Oref → Option Object) where
   above_on m n same more h q at out = h q (sym same ∙ at) (before (is_among m.created q.oref) refl)
     where
       before : (b : Bool) → is_among m.created q.oref ≡ b → is_among m.created q.oref ≡ false
-      before true e = not_both (is_among n.created q.oref) (more q.oref e) out
+      before true e = absurd (both_ways (is_among n.created q.oref) out (more q.oref e))
       before false e = e
 
   -- ---- the whole store

@@ -1,5 +1,6 @@
 -- Calls and expressions of checked code tell the owners above what they need, where their parts and the bodies of methods do.
 use Rattle.std.proofs.Common.{◌≡◌, ◌⊎◌, Bool, true, false, cond, map, List, [], ◌∷◌, ◌++◌, Option, Some, None, Result, Ok, Err, refl, ap, sym, subst, ◌∙◌, ℕ, zero, suc, append-nil, append_assoc, arith, inl, inr, length}
+use Rattle.std.proofs.lemmas.Bool.{both_ways}
 use Rattle.std.specs.List.{AllByRecursion}
 use Rattle.std.specs.Prelude.{find, is_some, nat_lt, option_map, slice_get, ◌+◌, ◌==◌, ◌||◌}
 use Rattle.thor_value.specs.FiniteMap.{has, insert, len}
@@ -63,7 +64,7 @@ use Rattle.part_laws.proofs.Bodies.{block_goes as part_block}
 use Rattle.part_laws.proofs.Made.{is_among}
 use Rattle.part_laws.proofs.Runs.{Deep, deep}
 use Rattle.part_laws.proofs.Steps.{Any, AreFree, BlocksGo, GrowsTo, Held, Placed, TidyAt, touch_goes as part_touch}
-use Rattle.part_laws.proofs.Tidy.{CanReach, can_more, grows_no, grows_then, is_known, not_both, or_right, tidy_this}
+use Rattle.part_laws.proofs.Tidy.{CanReach, can_more, grows_no, grows_then, is_known, tidy_this}
 use Rattle.part_laws.proofs.Walk.{parameters_free, receiver_held as receiver_over, receiver_reached, sound_method}
 use Rattle.part_laws.specs.Owning.{OwnsIn}
 use Rattle.run_laws.proofs.Alike.{known as is_alike_known}
@@ -242,9 +243,9 @@ module _ (schema : Schema) (repos : ℕ) (sound : (c : ℕ) (d : Class) → slic
       through x m o q false e h at this more held new =
           let one : held.receiver ≡ q = same_this held.receiver q (sym held.this ∙ this ∙ at) in
           elim held.is [
-            | inl same ↦ not_both (same_oref x q.oref) (ap (same_oref x) (sym (same ∙ ap (λ (p : Receiver). p.oref) one)) ∙ same_itself x) e
+            | inl same ↦ absurd (both_ways (same_oref x q.oref) e (ap (same_oref x) (sym (same ∙ ap (λ (p : Receiver). p.oref) one)) ∙ same_itself x))
             | inr other ↦ elim other [
-              | inl made ↦ not_both (is_among o.created x) (more x made) new
+              | inl made ↦ absurd (both_ways (is_among o.created x) new (more x made))
               | inr owned ↦
                   let own : OwnsIn schema.classes g q.oref owned.0 x = subst (λ (p : Receiver). OwnsIn schema.classes g p.oref owned.0 x) one owned.1 in
                   ((owned.0, own), h.above q at (unmade own (is_among o.created q.oref) refl))
@@ -363,7 +364,7 @@ module _ (schema : Schema) (repos : ℕ) (sound : (c : ℕ) (d : Class) → slic
       }
         where
           new : (k : Bool) → is_among m.created x ≡ k → is_among m.created x ≡ false
-          new true e = not_both (is_known_here m x) (or_right (has m.reads x) (is_among m.created x) e) is
+          new true e = absurd (both_ways (is_known_here m x) is (or_right (has m.reads x) (is_among m.created x) e))
           new false e = e
       touched_tells false false o owners x m h is there above = faults schema repos f g Any m fault.Large
 
@@ -420,7 +421,7 @@ module _ (schema : Schema) (repos : ℕ) (sound : (c : ℕ) (d : Class) → slic
           }
         where
           before : (k : Bool) {o : Bool} → is_among m.created this.oref ≡ k → (is_among m.created this.oref ≡ true → o ≡ true) → o ≡ false → is_among m.created this.oref ≡ false
-          before true e more out = not_both _ (more e) out
+          before true e more out = absurd (both_ways _ out (more e))
           before false e more out = e
 
       object_tells : (few : Bool) (c : ℕ) (x : Oref) (owners : List Oref) (name : Name) (es : List Expr) (us : List Value) (m : Machine) → CallUnbroken (type.Class c) name es

@@ -1,5 +1,6 @@
 -- The owners that an evaluation tells are those above the object that it needs in the stored map.
 use Rattle.std.proofs.Common.{◌≡◌, Bool, true, false, cond, List, [], ◌∷◌, Option, Some, None, Result, refl, ap, sym, subst, ◌∙◌, ℕ}
+use Rattle.std.proofs.lemmas.Bool.{both_ways}
 use Rattle.std.specs.Prelude.{is_some, nat_lt, option_map}
 use Rattle.thor_value.specs.FiniteMap.{get}
 use Rattle.thor_value.specs.declared.names.Oref.{Oref}
@@ -36,7 +37,6 @@ use Rattle.method_eval.specs.declared.view.Ran.TheVariants.{Need}
 use Rattle.method_eval.specs.declared.view.View.{View}
 use Rattle.owned_runs.proofs.Plainly.{owns-stored, part-at, plain-at, some_and, store-fits}
 use Rattle.part_laws.proofs.Runs.{begun_tidy, block_unbroken, roots_free, roots_unbroken}
-use Rattle.part_laws.proofs.Tidy.{not_both}
 
 module _ (s : Schemas) (N : Stored) (schema : Schema) (repos : ℕ) (tx : List Stmt) (view : View) (h : IsCheckedOver s N schema repos tx view) where
   abbrev f : Oref → Option Object
@@ -92,7 +92,7 @@ module _ (s : Schemas) (N : Stored) (schema : Schema) (repos : ℕ) (tx : List S
       let stands : g x ≡ Some v = plain x ∙ ap (option_map (value s N.objects N.epoch)) o.1 in
       let part : is_part schema.classes (type.Class v.class) ≡ true =
       part-at s N schema repos h.epoch h.rules h.keeps h.fits h.roots v.class ∙ (ap (λ c. is_part (classes_of s 0) (type.Class c)) (value_class s N.objects N.epoch o.0 ∙ o.2) ∙ own.part) in
-      not_both (is_part schema.classes (type.Class v.class)) part (free v stands)
+      absurd (both_ways (is_part schema.classes (type.Class v.class)) (free v stands) part)
 
   stored_above : (owners : List Oref) (x : Oref) → AreAbove schema repos f g x owners → AreOwnersAbove s N.objects x owners
   stored_above [] x above = unowned x above

@@ -1,5 +1,6 @@
 -- What reading, writing and creating objects say of how a run ends.
 use Rattle.std.proofs.Common.{◌≡◌, ◌⊎◌, Bool, true, false, cond, List, [], ◌∷◌, ◌++◌, Option, Some, None, Result, Ok, Err, refl, ap, sym, ◌∙◌, subst, inl, inr, ℕ, zero, suc, length}
+use Rattle.std.proofs.lemmas.Bool.{or_right}
 use Rattle.std.specs.Prelude.{◌||◌, ◌+◌, ◌==◌, find, is_some, nat_lt, option_map, position, remove, slice_get}
 use Rattle.thor_value.specs.FiniteMap.{get, has, insert, len}
 use Rattle.thor_value.specs.Names.{same_oref}
@@ -183,12 +184,8 @@ module _ (w : World) where
   new_grows : (m : Machine) (n : Oref × NameSupply) (o : Object) → Grows m (new m n o)
   new_grows m n o x h = either _ _ _ _ (λ k. k) (found_on m.created (n.0 ∷ []) x) h
 
-  or_found : (a b : Bool) → b ≡ true → (a || b) ≡ true
-  or_found true b h = refl
-  or_found false b h = h
-
   new_written : (m : Machine) (n : Oref × NameSupply) (o : Object) (x : Oref) → Sound m → (x ≡ n.0) ⊎ (has m.writes x ≡ true) → known (new m n o) x ≡ true
-  new_written m n o x s (inl e) = subst (λ z. known (new m n o) z ≡ true) (sym e) (or_found (has m.reads n.0) _ (found_last m.created n.0))
+  new_written m n o x s (inl e) = subst (λ z. known (new m n o) z ≡ true) (sym e) (or_right (has m.reads n.0) _ (found_last m.created n.0))
   new_written m n o x s (inr h) = new_grows m n o x (s.written x h)
 
   new_sound : (m : Machine) (n : Oref × NameSupply) (o : Object) → Sound m → Sound (new m n o)

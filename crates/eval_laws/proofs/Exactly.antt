@@ -1,6 +1,7 @@
 -- An evaluation over a part of some objects answers as over all of them, or needs one that this reads.
 use Rattle.std.proofs.Common.{◌≡◌, ◌⊎◌, Bool, true, false, cond, List, [], ◌∷◌, Option, Some, None, Result, Ok, Err, refl, ap, sym, subst, ◌∙◌, ℕ, zero, suc, arith, inl, inr}
 use Rattle.std.proofs.lemmas.Map.Views.{Contains-keys_from_lookup, tells_apart}
+use Rattle.std.proofs.lemmas.Bool.{both_ways}
 use Rattle.std.specs.BTreeMap.{is_at}
 use Rattle.std.specs.Map.{keys_of, lookup}
 use Rattle.std.specs.Prelude.{Contains, is_some}
@@ -32,10 +33,6 @@ use Rattle.method_eval.specs.declared.view.Ran.{Ran}
 use Rattle.method_eval.specs.declared.view.Ran.TheVariants.{Done, Need}
 use Rattle.method_eval.specs.declared.view.View.{View}
 use Rattle.run_laws.proofs.TouchedStores.{state_alike}
-
-not_both : {A : Type 0} (b : Bool) → b ≡ true → b ≡ false → A
-not_both true h k = cc
-not_both false h k = cc
 
 -- a map has its keys
 found : {X : Type 0} (m : Map oref_cmp X) (x : Oref) → has m x ≡ true → Contains (keys m) x
@@ -121,7 +118,7 @@ module _ (tx : List Stmt) (schema : Schema) (view other : View) (more : HasAsMuc
         absent = ap (λ b. cond b None (g x)) (same_itself x)
 
         there : (y : Oref) → is_some (f y) ≡ true → without x y ≡ f y
-        there y k = apart y (same_oref y x) refl (λ e. not_both (is_some (f x)) (ap (λ z. is_some (f z)) (sym e) ∙ k) (ap is_some none)) ∙ more.objects y k
+        there y k = apart y (same_oref y x) refl (λ e. absurd (both_ways (is_some (f x)) (ap is_some none) (ap (λ z. is_some (f z)) (sym e) ∙ k))) ∙ more.objects y k
 
         no_need : (o : Result Flow Stop) (m : Machine) → ran_at view.epoch o m ≡ Done a reads writes fresh → ran_at view.epoch o m ≡ Need x owners → ⊥
         no_need o m p q = let e : Done a reads writes fresh ≡ Need x owners = sym p ∙ q in cc
@@ -131,7 +128,7 @@ module _ (tx : List Stmt) (schema : Schema) (view other : View) (more : HasAsMuc
         by false e =
             let same : runs (without x) ≡ runs g =
             state_alike schema g (without x) tx names.waiting names.stand_in (runs g).0 (runs g).1 refl told.0
-            (λ y c. apart y (same_oref y x) refl (λ same. not_both (has (runs g).1.reads x) (ap (λ z. has (runs g).1.reads z) (sym same) ∙ kept (runs g).1.reads.pairs y c) e)) in
+            (λ y c. apart y (same_oref y x) refl (λ same. absurd (both_ways (has (runs g).1.reads x) e (ap (λ z. has (runs g).1.reads z) (sym same) ∙ kept (runs g).1.reads.pairs y c)))) in
             let wanted : answered (runs f) view.epoch ≡ Need x owners = sym over_view ∙ is in
             let alike : runs (without x) ≡ runs f = needs (without x) x owners wanted there absent in
             absurd (no_need (runs g).0 (runs g).1 done_there (ap (λ p. answered p view.epoch) (sym same ∙ alike) ∙ wanted))

@@ -1,6 +1,7 @@
 -- That values that fit don't get stuck where the rules let them stand.
 use Rattle.std.proofs.Common.{◌≡◌, arith, Bool, true, false, List, [], ◌∷◌, Option, Some, None, refl, ℕ}
 use Rattle.std.proofs.lemmas.Bool.Decides.{nat_tests}
+use Rattle.std.proofs.lemmas.Bool.{and_parts}
 use Rattle.std.specs.Prelude.{◌==◌, ◌&&◌, option_map}
 use Rattle.thor_value.specs.declared.names.Oref.{Oref}
 use Rattle.thor_value.specs.declared.values.Value.{Value}
@@ -78,13 +79,9 @@ comparable_so f classes (type.Class c) (type.Class d) a b h fit good = reference
 comparable_so f classes (type.Class c) type.Untold a b h fit good = absurd good
 comparable_so f classes type.Untold k a b h fit good = absurd fit
 
-two_so : (b c : Bool) → (b && c) ≡ true → (b ≡ true) × (c ≡ true)
-two_so true c h = (refl, h)
-two_so false c h = cc
-
 numbers_so : (f : Oref → Option Object) (j k : ExprType) (a b : Value) → (is_number j && is_number k) ≡ true → ValueFits f j a → ValueFits f k b
     → (is_int a && is_int b) ≡ true
-numbers_so f j k a b h fit good = let p = two_so (is_number j) (is_number k) h in rw (number_so f j a p.0 fit, number_so f k b p.1 good) refl
+numbers_so f j k a b h fit good = let p = and_parts (is_number j) (is_number k) h in rw (number_so f j a p.0 fit, number_so f k b p.1 good) refl
 
 -- an operator takes values of types that it takes
 pub operands_so : (f : Oref → Option Object) (classes : List Class) (operator : Operator) (j k : ExprType) (a b : Value)

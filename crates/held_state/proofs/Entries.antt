@@ -1,5 +1,6 @@
 -- What is kept in memory moves by an entry as its log does.
 use Rattle.std.proofs.Common.{◌≡◌, Bool, List, None, Option, Some, [], ◌∷◌, ap, arith, cond, false, max, not, refl, subst, sym, true, ℕ, ◌&&◌, ◌==◌, ◌+◌, ◌<◌, ◌^◌, ◌∙◌, ◌≤◌}
+use Rattle.std.proofs.lemmas.Bool.{not-true, and_parts}
 use Rattle.std.specs.List.{AllByRecursion, fold}
 use Rattle.std.specs.Ordering.{match_ordering}
 use Rattle.std.specs.Prelude.{IsTrue}
@@ -32,7 +33,7 @@ use Rattle.thor_value.specs.declared.values.Obj.{Obj}
 use Rattle.two_phase.specs.Contents.{Contents, keeping, keeps, open_at, without}
 use Rattle.two_phase.specs.Lists.{aborted_of, kept_decisions, open_requests}
 use Rattle.held_state.proofs.Buffers.{put_all_is}
-use Rattle.held_state.proofs.Kept.{each_filtered, first_of, fits_aborted, fits_alone, fits_keeping, fits_open, fits_without, of_writes, open_fits, second_of}
+use Rattle.held_state.proofs.Kept.{each_filtered, fits_aborted, fits_alone, fits_keeping, fits_open, fits_without, of_writes, open_fits}
 use Rattle.held_state.proofs.Pages.{pages_within}
 use Rattle.held_state.proofs.Tables.{aborted_kept, aborted_open, absent_open, gone_kept, gone_open, is_new, keeping_kept, keeping_open, kept_is, more_kept, more_open, open_not_kept, opened_again, request_open}
 use Rattle.held_state.specs.Entering.{CanMove, IsNew, are_of, can_enter, committed_in, decided_by, entered, finished_by, installed_in, kept_in, loaded, moved, opened_in, prepared_in, reached}
@@ -93,10 +94,6 @@ module _ (h : Held) (keeps_h : Keeps h) where
       ∙ same_three s h.objects.mob.objects h.objects.mob.objects (open_requests (opened_in h.table q)) s.prepared (kept_decisions (opened_in h.table q)) (kept_decisions h.table) refl
       (more_open h.repo h.table keeps_h.table q) (more_kept h.repo h.table keeps_h.table q isnt)
 
-  not_true : (b : Bool) → not b ≡ true → b ≡ false
-  not_true true is = cc
-  not_true false is = refl
-
   -- each entry moves what is said as the log's record of it does
   pub said_entered : (e : Entry) → IsTrue (can_enter h e) → said (entered h e) ≡ after (said h) (AnEntry e)
   said_entered (Life n) can =
@@ -104,7 +101,7 @@ module _ (h : Held) (keeps_h : Keeps h) where
       same_three s h.objects.mob.objects h.objects.mob.objects (open_requests (aborted_of h.table h.repo)) s.prepared (kept_decisions (aborted_of h.table h.repo)) (kept_decisions h.table) refl (aborted_open h.repo h.repo h.table keeps_h.table) (aborted_kept h.repo h.table)
   said_entered (One q) can = alone_is q
   said_entered (Upgraded q) can = alone_is q
-  said_entered (Prepared q) can = prepared_is q (not_true (keeps (get h.table.transactions q.tx)) (first_of (not (keeps (get h.table.transactions q.tx))) (are_of h.repo q.writes) can))
+  said_entered (Prepared q) can = prepared_is q (not-true (keeps (get h.table.transactions q.tx)) ((and_parts (not (keeps (get h.table.transactions q.tx))) (are_of h.repo q.writes) can).0))
   said_entered (Decided t commit) can =
       decided_is t commit (open_at h.table t) refl
       ∙ ap (λ (o : Option Request). record (kept_by (record (decided (said h) commit o) { prepared = opened_without (open_requests h.table) t }) t commit) { count = h.count + 1 }) (sym (request_open h.repo h.table keeps_h.table t))
@@ -197,7 +194,7 @@ module _ (h : Held) (keeps_h : Keeps h) where
   keeps_entered (Life n) fit can = changes (aborted_of h.table h.repo) n (h.count + 1) (fits_aborted h.repo h.table keeps_h.table h.repo) fit
   keeps_entered (One q) fit can = alone_keeps q fit (of_writes h.repo q.writes can fit.writes)
   keeps_entered (Upgraded q) fit can = alone_keeps q fit (of_writes h.repo q.writes can fit.writes)
-  keeps_entered (Prepared q) fit can = prepared_keeps q fit (of_writes h.repo q.writes (second_of (not (keeps (get h.table.transactions q.tx))) (are_of h.repo q.writes) can) fit.writes)
+  keeps_entered (Prepared q) fit can = prepared_keeps q fit (of_writes h.repo q.writes ((and_parts (not (keeps (get h.table.transactions q.tx))) (are_of h.repo q.writes) can).1) fit.writes)
   keeps_entered (Decided t commit) fit can = decided_keeps t commit (open_at h.table t) (h.count + 1) fit refl
   keeps_entered (Finished t commit) fit can = finished_keeps t commit (open_at h.table t) (h.count + 1) refl
 
@@ -220,7 +217,7 @@ module _ (h : Held) (keeps_h : Keeps h) where
   new_of (Life n) can = tt
   new_of (One q) can = tt
   new_of (Upgraded q) can = tt
-  new_of (Prepared q) can = is_new h.repo h.table keeps_h.table q.tx (not_true (keeps (get h.table.transactions q.tx)) (first_of (not (keeps (get h.table.transactions q.tx))) (are_of h.repo q.writes) can))
+  new_of (Prepared q) can = is_new h.repo h.table keeps_h.table q.tx (not-true (keeps (get h.table.transactions q.tx)) ((and_parts (not (keeps (get h.table.transactions q.tx))) (are_of h.repo q.writes) can).0))
   new_of (Decided t commit) can = tt
   new_of (Finished t commit) can = tt
 

@@ -1,6 +1,6 @@
 -- What holds of a table stays behind each change of it.
 use Rattle.std.proofs.Common.{◌≡◌, Bool, List, None, Option, Some, [], ◌∷◌, ap, cond, false, nat_eq, not, refl, subst, sym, true, ℕ, ◌&&◌, ◌∙◌}
-use Rattle.std.proofs.lemmas.Bool.{eqb-true}
+use Rattle.std.proofs.lemmas.Bool.{eqb-true, and_parts}
 use Rattle.std.proofs.lemmas.Map.Lookups.{CmpEqualImpliesEq, exact_unsigned}
 use Rattle.std.specs.BTreeMap.{insert_entry, is_at}
 use Rattle.std.specs.Cmp.{nat_cmp_total}
@@ -138,14 +138,6 @@ open_fits repo c h t q is = open_fits_in repo t c.transactions.pairs h.each q is
 
 -- ---- writes of one repository
 
-pub first_of : (a b : Bool) → (a && b) ≡ true → a ≡ true
-first_of true b is = refl
-first_of false b is = is
-
-pub second_of : (a b : Bool) → (a && b) ≡ true → b ≡ true
-second_of true b is = is
-second_of false b is = cc
-
 pub of_writes : (repo : ℕ) (writes : List (Oref × Obj)) → IsTrue (are_of repo writes) → AllByRecursion WriteFits writes → AreOf repo writes
 of_writes repo [] all fit = tt
-of_writes repo (w ∷ ws) all fit = (record { repo_is = eqb-true w.0.repo repo (first_of (nat_eq w.0.repo repo) (are_of repo ws) all); name = fit.0.0; object = fit.0.1 }, of_writes repo ws (second_of (nat_eq w.0.repo repo) (are_of repo ws) all) fit.1)
+of_writes repo (w ∷ ws) all fit = (record { repo_is = eqb-true w.0.repo repo ((and_parts (nat_eq w.0.repo repo) (are_of repo ws) all).0); name = fit.0.0; object = fit.0.1 }, of_writes repo ws ((and_parts (nat_eq w.0.repo repo) (are_of repo ws) all).1) fit.1)

@@ -1,7 +1,7 @@
 -- What one upgrade does to the references of an object: those behind it are references of the object before, each
 -- declared to be of the same class; and no part is handed to two fields.
 use Rattle.std.proofs.Common.{◌≡◌, List, [], ◌∷◌, ℕ, suc, Option, Some, None, option_map, slice_get, map, refl, ap, sym, ◌∙◌, subst}
-use Rattle.std.proofs.lemmas.Option.{slice_get-map}
+use Rattle.std.proofs.lemmas.Option.{slice_get-map, same_Some}
 use Rattle.thor_value.specs.declared.names.Oref.{Oref}
 use Rattle.thor_value.specs.declared.values.Value.{Value}
 use Rattle.thor_value.specs.declared.values.Value.TheVariants as value
@@ -105,9 +105,6 @@ types_of new fs gs i h =
     through_upgrade (Some f) = refl
     through_upgrade None = refl
 
-some : {X : Type 0} (x y : X) → Some x ≡ Some y → x ≡ y
-some x y h = cc
-
 module _ (s : Schemas) (old new : List Class) (objects : Oref → Option Object) (v : Object) (u : ClassUpgrade) (keeps : KeepsOwnership s old new v.class u) where
   abbrev becomes : FieldUpgrade → Value
   becomes f = fitted_or_beginning (type_named new f.type_name) (tf_value old objects v f.value)
@@ -140,7 +137,7 @@ module _ (s : Schemas) (old new : List Class) (objects : Oref → Option Object)
       → option_map (λ f. type_named new f.type_name) f ≡ Some (type.Class d)
       → option_map becomes f ≡ Some (value.Ref z) → From old new v u i d z
   by_place i d z None place t h = cc
-  by_place i d z (Some f) place t h = from_upgrade i d z f place (some _ _ t) (some _ _ h)
+  by_place i d z (Some f) place t h = from_upgrade i d z f place (same_Some _ _ t) (same_Some _ _ h)
 
   pub from : (i d : ℕ) (z : Oref) → Refers new (transformed old new objects v (Some u)) i d z → From old new v u i d z
   from i d z r =

@@ -1,6 +1,6 @@
 -- That the value of an object depends on the object and on those below it alone: they are all that the upgrades read.
 use Rattle.std.proofs.Common.{◌≡◌, ◌≤◌, ◌<◌, arith, Bool, true, false, cond, not, is_some, List, [], ◌∷◌, ℕ, zero, suc, nat_lt, Option, Some, None, option_map, slice_get, map, refl, ap, sym, ◌∙◌, subst}
-use Rattle.std.proofs.lemmas.Bool.{ltb-false, ltb-true}
+use Rattle.std.proofs.lemmas.Bool.{ltb-false, ltb-true, and_parts, true≢false}
 use Rattle.std.specs.Option.{IsSomeAnd, option_and_then}
 use Rattle.std.specs.Prelude.{◌&&◌}
 use Rattle.thor_value.specs.FiniteMap.{get}
@@ -42,15 +42,6 @@ down_one s m (suc n) x y z i h o = (h.0, (h.1.0, (h.1.1.0, down_one s m n h.0 y 
 
 -- ---- expressions over two maps
 
--- the operands of && where it holds
-first_true : (a b : Bool) → (a && b) ≡ true → a ≡ true
-first_true true b h = refl
-first_true false b h = cc
-
-second_true : (a b : Bool) → (a && b) ≡ true → b ≡ true
-second_true true b h = h
-second_true false b h = cc
-
 module _ (classes : List Class) (f g : Oref → Option Object) (v : Object)
     (paths : (names : List Name) → is_owned_path classes (Some v.class) names ≡ true → path_value classes f (Some v) names ≡ path_value classes g (Some v) names) where
   abbrev IsAlike : Tf → Type 0
@@ -66,8 +57,8 @@ module _ (classes : List Class) (f g : Oref → Option Object) (v : Object)
   by_layer (Tf-F.Parens inner line) h = inner.1 h
   by_layer (Tf-F.Negate operand line) h = ap (λ w. tf_step classes f v (Tf-F.Negate w line)) (operand.1 h)
   by_layer (Tf-F.Binary operator left right line) h =
-      ap (λ w. tf_step classes f v (Tf-F.Binary operator w (tf_value classes f v right.0) line)) (left.1 (first_true _ _ h))
-      ∙ ap (λ w. tf_step classes f v (Tf-F.Binary operator (tf_value classes g v left.0) w line)) (right.1 (second_true _ _ h))
+      ap (λ w. tf_step classes f v (Tf-F.Binary operator w (tf_value classes f v right.0) line)) (left.1 ((and_parts _ _ h).0))
+      ∙ ap (λ w. tf_step classes f v (Tf-F.Binary operator (tf_value classes g v left.0) w line)) (right.1 ((and_parts _ _ h).1))
 
   -- an expression whose paths go through owned fields gives the same over both
   pub expression_alike : (t : Tf) → IsAlike t
@@ -219,10 +210,7 @@ not_passed : (s : Schemas) (e k : ℕ) (o : Obj) (b : Bool) → nat_lt k (level 
 not_passed s e k o true is h =
     let past : suc k ≤ level s e o = omega (arith, ltb-true k (level s e o) is) in
     let none : changes s k o ≡ false = changes_not s o k (lags_to_level s e (suc k) o past) in
-    absurd (true_false (sym h ∙ none))
-  where
-    true_false : true ≡ false → ⊥
-    true_false e = cc
+    absurd (true≢false (sym h ∙ none))
 not_passed s e k o false is h = ltb-false k (level s e o) is
 
 -- an object that an upgrade changes has its level before it

@@ -1,7 +1,7 @@
 -- That an object stays of its class through upgrades: it gets as many fields as its class, each of its kind.
 use Rattle.std.proofs.Common.{◌≡◌, List, ℕ, suc, length, Option, Some, None, is_some, true, option_map, slice_get, refl, ap, sym, ◌∙◌, subst}
 use Rattle.std.proofs.lemmas.List.{length-map}
-use Rattle.std.proofs.lemmas.Option.{slice_get-map}
+use Rattle.std.proofs.lemmas.Option.{slice_get-map, same_Some}
 use Rattle.thor_value.specs.declared.names.Oref.{Oref}
 use Rattle.thor_value.specs.declared.values.Value.{Value}
 use Rattle.thor_value.specs.declared.values.Value.TheVariants as value
@@ -58,9 +58,6 @@ fitted_class type.Untold None z h = cc
 abbrev pub AreDeclared : List Class → Object → Type 0
 AreDeclared classes v = (i : ℕ) → (z : Oref) → slice_get v.fields i ≡ Some (value.Ref z) → (d : ℕ) × (type_at classes v.class i ≡ Some (type.Class d))
 
-some : {X : Type 0} (x y : X) → Some x ≡ Some y → x ≡ y
-some x y h = cc
-
 module _ (s : Schemas) (old new : List Class) (objects : Oref → Option Object) (v : Object) (u : ClassUpgrade) (keeps : KeepsOwnership s old new v.class u) where
   abbrev becomes : FieldUpgrade → Value
   becomes f = fitted_or_beginning (type_named new f.type_name) (tf_value old objects v f.value)
@@ -69,15 +66,15 @@ module _ (s : Schemas) (old new : List Class) (objects : Oref → Option Object)
       → option_map becomes f ≡ Some w → fitted t w ≡ w
   kind None t w h g = cc
   kind (Some f) t w h g =
-      let a : type_named new f.type_name ≡ t = some _ _ h in
-      let b : becomes f ≡ w = some _ _ g in
+      let a : type_named new f.type_name ≡ t = same_Some _ _ h in
+      let b : becomes f ≡ w = same_Some _ _ g in
       subst (λ x. fitted t x ≡ x) b (subst (λ k. fitted k (becomes f) ≡ becomes f) a (fitted_then (type_named new f.type_name) (tf_value old objects v f.value)))
 
   class_of : (i : ℕ) (z : Oref) (f : Option FieldUpgrade) → slice_get u.fields i ≡ f → option_map becomes f ≡ Some (value.Ref z)
       → (d : ℕ) × (type_at new v.class i ≡ Some (type.Class d))
   class_of i z None is h = cc
   class_of i z (Some f) is h =
-      let p = fitted_class (type_named new f.type_name) (tf_value old objects v f.value) z (some _ _ h) in
+      let p = fitted_class (type_named new f.type_name) (tf_value old objects v f.value) z (same_Some _ _ h) in
       (p.0, types_of new (fields_of new v.class) u.fields i keeps.fields ∙ ap (option_map (λ f. type_named new f.type_name)) is ∙ ap Some p.1)
 
   declared : AreDeclared new (transformed old new objects v (Some u))

@@ -1,6 +1,7 @@
 -- That a map stays well owned where its objects are brought, one or all, and where an upgrade is installed.
 use Rattle.std.proofs.Common.{◌≡◌, ◌≤◌, ◌+◌, arith, Bool, true, false, cond, not, ℕ, zero, suc, Option, Some, None, option_map, inl, inr, refl, ap, sym, ◌∙◌, subst}
 use Rattle.std.proofs.lemmas.Map.Views.{tells_apart}
+use Rattle.std.proofs.lemmas.Option.{same_Some}
 use Rattle.std.specs.Option.{IsSomeAnd}
 use Rattle.thor_value.proofs.FiniteMap.{get-insert}
 use Rattle.thor_value.proofs.NameOrders.{oref_exact, oref_total}
@@ -23,9 +24,6 @@ use Rattle.class_defs.specs.declared.store.Schemas.{Schemas}
 pub new_level : (s : Schemas) (e : ℕ) (q : Obj) → q.ver ≡ e → level s e q ≡ e
 new_level s e q h = undue_level s e q (due_is s e q ∙ lags_early s q e (omega (arith, h)))
 
-some : {X : Type 0} {x y : X} → Some x ≡ Some y → x ≡ y
-some h = cc
-
 -- ---- all objects brought
 
 module _ (s : Schemas) (L : Stored) (keeps : AllKeepClasses s L.epoch) (owned : IsWellOwned s L) where
@@ -39,7 +37,7 @@ module _ (s : Schemas) (L : Stored) (keeps : AllKeepClasses s L.epoch) (owned : 
   from_all : (a : Oref) (q : Obj) (o : Option Obj) → get L.objects a ≡ o
       → option_map (in_epoch L.epoch) (option_map (value s L.objects L.epoch) o) ≡ Some q → From s L a q
   from_all a q None is h = cc
-  from_all a q (Some o) is h = record { object = o; stored = is; is = inr (sym (some h)) }
+  from_all a q (Some o) is h = record { object = o; stored = is; is = inr (sym (same_Some _ _ h)) }
 
   all_back : (a : Oref) (q : Obj) → get all a ≡ Some q → From s L a q
   all_back a q h = from_all a q (get L.objects a) refl (sym (all_at a) ∙ h)
@@ -52,7 +50,7 @@ module _ (s : Schemas) (L : Stored) (keeps : AllKeepClasses s L.epoch) (owned : 
 
   version_of : (q : Obj) (o : Option Obj) → option_map (in_epoch L.epoch) (option_map (value s L.objects L.epoch) o) ≡ Some q → q.ver ≡ L.epoch
   version_of q None h = cc
-  version_of q (Some o) h = sym (ap (λ w. w.ver) (some h))
+  version_of q (Some o) h = sym (ap (λ w. w.ver) (same_Some _ _ h))
 
   all_new : (a : Oref) (q : Obj) → get all a ≡ Some q → q.ver ≡ L.epoch
   all_new a q h = version_of q (get L.objects a) (sym (all_at a) ∙ h)
@@ -81,7 +79,7 @@ module _ (s : Schemas) (L : Stored) (x : Oref) (o : Obj) (keeps : AllKeepClasses
   here y h = subst (λ w. get L.objects w ≡ Some o) (sym (tells_apart oref_exact y x h)) is
 
   from_one : (a : Oref) (q : Obj) (b : Bool) → same_oref a x ≡ b → get one a ≡ Some q → From s L a q
-  from_one a q true h g = record { object = o; stored = here a h; is = inr (some (sym g ∙ one_at a true h)) }
+  from_one a q true h g = record { object = o; stored = here a h; is = inr (same_Some _ _ (sym g ∙ one_at a true h)) }
   from_one a q false h g = record { object = q; stored = sym (one_at a false h) ∙ g; is = inl refl }
 
   one_back : (a : Oref) (q : Obj) → get one a ≡ Some q → From s L a q
@@ -90,7 +88,7 @@ module _ (s : Schemas) (L : Stored) (x : Oref) (o : Obj) (keeps : AllKeepClasses
   forth_by : (z : Oref) (p : Obj) (b : Bool) → same_oref z x ≡ b → get L.objects z ≡ Some p → IsSomeAnd (get one z) (λ q. q.class ≡ p.class)
   forth_by z p true h g =
       subst (λ w. IsSomeAnd w (λ q. q.class ≡ p.class)) (sym (one_at z true h))
-      (value_class s L.objects L.epoch o ∙ ap (λ w. w.class) (some (sym (here z h) ∙ g)))
+      (value_class s L.objects L.epoch o ∙ ap (λ w. w.class) (same_Some _ _ (sym (here z h) ∙ g)))
   forth_by z p false h g = subst (λ w. IsSomeAnd w (λ q. q.class ≡ p.class)) (sym (one_at z false h ∙ g)) refl
 
   one_forth : (z : Oref) (p : Obj) → get L.objects z ≡ Some p → IsSomeAnd (get one z) (λ q. q.class ≡ p.class)
@@ -102,7 +100,7 @@ module _ (s : Schemas) (L : Stored) (x : Oref) (o : Obj) (keeps : AllKeepClasses
   module _ (undue : (n : ℕ) (a : Oref) (p : Obj) → IsAbove s L.objects (suc n) a x → get L.objects a ≡ Some p → is_due s L.epoch p ≡ false) where
     -- the object that is brought is of the map's epoch
     brought_level : (a : Oref) (q : Obj) → same_oref a x ≡ true → get one a ≡ Some q → level s L.epoch q ≡ L.epoch
-    brought_level a q h g = new_level s L.epoch q (ap (λ w. w.ver) (sym (some (sym (one_at a true h) ∙ g))))
+    brought_level a q h g = new_level s L.epoch q (ap (λ w. w.ver) (sym (same_Some _ _ (sym (one_at a true h) ∙ g))))
 
     level_by : (j : ℕ) (a z : Oref) (q p : Obj) → IsAbove s L.objects (suc j) a z → get one a ≡ Some q → get one z ≡ Some p
         → (b c : Bool) → same_oref a x ≡ b → same_oref z x ≡ c → p.ver ≤ level s L.epoch q
@@ -112,7 +110,7 @@ module _ (s : Schemas) (L : Stored) (x : Oref) (o : Obj) (keeps : AllKeepClasses
         omega (arith, l, v)
     level_by j a z q p h g t false true k r =
         let l = undue_level s L.epoch q (undue j a q (subst (λ w. IsAbove s L.objects (suc j) a w) (tells_apart oref_exact z x r) h) (sym (one_at a false k) ∙ g)) in
-        let v : p.ver ≡ L.epoch = ap (λ w. w.ver) (sym (some (sym (one_at z true r) ∙ t))) in
+        let v : p.ver ≡ L.epoch = ap (λ w. w.ver) (sym (same_Some _ _ (sym (one_at z true r) ∙ t))) in
         omega (arith, l, v)
     level_by j a z q p h g t false false k r = owned.levels j a z q p h (sym (one_at a false k) ∙ g) (sym (one_at z false r) ∙ t)
 

@@ -2,6 +2,7 @@
 use Rattle.std.proofs.Common.{◌≡◌, ◌≤◌, arith, Bool, true, false, cond, ℕ, zero, suc, Option, Some, None, option_map, refl, ap, sym, ◌∙◌, subst}
 use Rattle.std.proofs.lemmas.Cmp.{eq_by_cmp_equiv}
 use Rattle.std.proofs.lemmas.Map.Views.{tells_apart}
+use Rattle.std.proofs.lemmas.Bool.{both_ways}
 use Rattle.thor_value.proofs.FiniteMap.{IsSorted-insert, get-insert}
 use Rattle.thor_value.proofs.NameOrders.{oref_exact, oref_total}
 use Rattle.thor_value.specs.FiniteMap.{IsSorted, Map, get, insert}
@@ -41,10 +42,6 @@ module _ (s : Schemas) (L : Stored) (x : Oref) (o : Obj) (keeps : AllKeepClasses
   itself : (y : Oref) → y ≡ x → same_oref y x ≡ true
   itself y h = subst (λ w. same_oref y w ≡ true) h ((eq_by_cmp_equiv oref_total).refl y)
 
-  not_true : (b : Bool) → b ≡ true → b ≡ false → ⊥
-  not_true true h g = cc
-  not_true false h g = cc
-
   -- what isn't above the object
   abbrev NotAbove : Oref → Type 0
   NotAbove y = (n : ℕ) → ¬ IsAbove s L.objects n y x
@@ -54,8 +51,8 @@ module _ (s : Schemas) (L : Stored) (x : Oref) (o : Obj) (keeps : AllKeepClasses
   apart y false h q = sym (behind_at y false h)
 
   due_is_not_above : (y : Oref) (p : Obj) → get L.objects y ≡ Some p → same_oref y x ≡ false → is_due s L.epoch p ≡ true → NotAbove y
-  due_is_not_above y p t h d zero a = not_true (same_oref y x) (itself y a) h
-  due_is_not_above y p t h d (suc n) a = not_true (is_due s L.epoch p) d (undue n y p a t)
+  due_is_not_above y p t h d zero a = both_ways (same_oref y x) h (itself y a)
+  due_is_not_above y p t h d (suc n) a = both_ways (is_due s L.epoch p) (undue n y p a t) d
 
   other : (y : Oref) (p : Obj) → get L.objects y ≡ Some p → same_oref y x ≡ false → (d : Bool) → is_due s L.epoch p ≡ d
       → value s behind L.epoch p ≡ value s L.objects L.epoch p

@@ -151,11 +151,3 @@ pub drop_is : {X : Type 0} (xs : List X) (i : ℕ) (x : X) → i < length xs →
 drop_is xs i x within is =
     let e : suc i ≡ i + 1 = omega arith in
     drop-cons xs i x within ∙ ap (λ q. q ∷ drop (suc i) xs) (sym is) ∙ ap (λ n. x ∷ drop n xs) e
-
-pub on_ok : {A E : Type 0} (r : Result A E) (P Q : Type 0) → (P → Q) → OnOk r P → OnOk r Q
-on_ok (Ok a) P Q f h = f h
-on_ok (Err e) P Q f h = tt
-
-pub if_ok : {A E : Type 0} (r : Result A E) (P Q : A → Type 0) → ((a : A) → P a → Q a) → IfOk r P → IfOk r Q
-if_ok (Ok a) P Q f h = f a h
-if_ok (Err e) P Q f h = tt

@@ -9,7 +9,7 @@ use Rattle.link_table.specs.declared.node.Chain.{Chain}
 use Rattle.link_table.specs.declared.node.Neighbors.{Neighbors}
 use Rattle.link_table.specs.declared.node.Node.{Node}
 use Rattle.std.proofs.Common.{ap, length-append, refl, sym, ◌∙◌}
-use Rattle.std.proofs.lemmas.Bool.{eq-eqb, eqb-true}
+use Rattle.std.proofs.lemmas.Bool.{eq-eqb, eqb-true, and_parts}
 use Rattle.std.specs.List.{last_or}
 use Rattle.std.specs.Map.{keys_of}
 use Rattle.std.specs.Option.{option_map}
@@ -22,10 +22,6 @@ same_itself p =
     let a : nat_eq p.0 p.0 ≡ true = eq-eqb p.0 p.0 refl in
     let b : nat_eq p.1 p.1 ≡ true = eq-eqb p.1 p.1 refl in
     rw (a, b) refl
-
-and_parts : (s t : Bool) → (s && t) ≡ true → (s ≡ true) × (t ≡ true)
-and_parts true t h = (refl, h)
-and_parts false t h = cc
 
 pub one_pair : (p q : ℕ × ℕ) → same_pair p q ≡ true → p ≡ q
 one_pair p q h =

@@ -4,7 +4,7 @@ use Rattle.link_table.specs.Tables.{Entries, entry_at, members, stands_with, wit
 use Rattle.link_table.specs.declared.node.Chain.TheVariants.{All, Left, Right}
 use Rattle.link_table.specs.declared.node.Chain.{Chain}
 use Rattle.std.proofs.Common.{ap, arith, refl, sym}
-use Rattle.std.proofs.lemmas.Bool.{eq-eqb, eqb-true}
+use Rattle.std.proofs.lemmas.Bool.{eq-eqb, eqb-true, or_right}
 use Rattle.std.specs.List.{AllByRecursion, IsDistinct, filter}
 use Rattle.std.specs.Map.{keys_of}
 use Rattle.std.specs.Prelude.{Bool, List, None, Some, [], cond, false, length, nat_eq, not, true, ℕ, ◌+◌, ◌++◌, ◌∷◌, ◌≡◌, ◌||◌}
@@ -84,16 +84,12 @@ pub stands_there : (c : Chain) (p q : ℕ × ℕ) (E : Entries) (k : ℕ) → en
 stands_there c p q [] k h f = cc
 stands_there c p q (e ∷ es) k h f = by (nat_eq k e.0) (stands_with c p e.1) refl refl h (stands_there c p q es k)
   where
-    or_true : (t : Bool) → (t || true) ≡ true
-    or_true true = refl
-    or_true false = refl
-
     by : (s t : Bool) → nat_eq k e.0 ≡ s → stands_with c p e.1 ≡ t → cond s (Some e.1) (entry_at es k) ≡ Some q
         → (entry_at es k ≡ Some q → stands_with c p q ≡ true → has_key k (members c p es) ≡ true)
         → has_key k (keys_of (cond t (e ∷ filter (λ d. stands_with c p d.1) es) (filter (λ d. stands_with c p d.1) es))) ≡ true
     by true true g i j more = let a : nat_eq e.0 k ≡ true = eq-eqb e.0 k (sym (eqb-true k e.0 g)) in rw a refl
     by true false g i j more = let a : e.1 ≡ q = cc in let b : stands_with c p q ≡ false = rw a at i in cc
-    by false true g i j more = let a : has_key k (members c p es) ≡ true = more j f in rw a (or_true (nat_eq e.0 k))
+    by false true g i j more = let a : has_key k (members c p es) ≡ true = more j f in rw a (or_right (nat_eq e.0 k) true refl)
     by false false g i j more = more j f
 
 none_of : (x : ℕ) (c : Chain) (p : ℕ × ℕ) (E : Entries) → AllByRecursion (λ y. nat_eq x y ≡ false) (keys_of E) → AllByRecursion (λ y. nat_eq x y ≡ false) (members c p E)

@@ -5,7 +5,7 @@ use Rattle.link_table.proofs.Members.{all_from, drop_key}
 use Rattle.link_table.specs.Pairs.{behind, first, is_linked, is_pair, unlink}
 use Rattle.link_table.specs.Tables.{Entries, entry_at}
 use Rattle.std.proofs.Common.{ap, refl, sym, ◌∙◌}
-use Rattle.std.proofs.lemmas.Bool.{eq-eqb, eqb-true}
+use Rattle.std.proofs.lemmas.Bool.{eq-eqb, eqb-true, or_right}
 use Rattle.std.specs.List.{AllByRecursion, IsDistinct}
 use Rattle.std.specs.Map.{keys_of, values_of}
 use Rattle.std.specs.Option.{option_and_then, option_map}
@@ -60,17 +60,13 @@ pub linked_at : (l r k : ℕ) (E : Entries) → entry_at E k ≡ Some (l, r) →
 linked_at l r k [] h = cc
 linked_at l r k (e ∷ es) h = by (nat_eq k e.0) h (linked_at l r k es)
   where
-    or_true : (t : Bool) → (t || true) ≡ true
-    or_true true = refl
-    or_true false = refl
-
     by : (t : Bool) → cond t (Some e.1) (entry_at es k) ≡ Some (l, r) → (entry_at es k ≡ Some (l, r) → is_linked (values_of es) l r ≡ true) → (is_pair l r e.1 || is_linked (values_of es) l r) ≡ true
     by true g more =
         let a : e.1 ≡ (l, r) = cc in
         let b : nat_eq e.1.0 l ≡ true = eq-eqb e.1.0 l (ap (λ (p : ℕ × ℕ). p.0) a) in
         let c : nat_eq e.1.1 r ≡ true = eq-eqb e.1.1 r (ap (λ (p : ℕ × ℕ). p.1) a) in
         rw (b, c) refl
-    by false g more = let a : is_linked (values_of es) l r ≡ true = more g in rw a (or_true (is_pair l r e.1))
+    by false g more = let a : is_linked (values_of es) l r ≡ true = more g in rw a (or_right (is_pair l r e.1) true refl)
 
 -- ---- one pair leaves
 

@@ -5,7 +5,7 @@ use Rattle.live_sessions.specs.Noting.{IsGathered, IsNoted, Named, if_any, named
 use Rattle.std.proofs.Common.{Bool, List, [], add-one, ap, append_assoc, arith, cond, false, get_or, length, map, nat_eq, refl, subst, suc, sym, take, true, zero, ◌+◌, ◌++◌, ◌<◌, ◌∙◌, ◌∷◌, ◌≡◌, ℕ}
 use Rattle.std.proofs.lemmas.Bool.Decides.{nat_tests}
 use Rattle.std.proofs.lemmas.Bool.{eqb-true}
-use Rattle.std.proofs.lemmas.Cmp.{eq_by_cmp_equiv}
+use Rattle.std.proofs.lemmas.Cmp.{eq_by_cmp_equiv, nat_eq_equiv}
 use Rattle.std.proofs.lemmas.List.Elements.{filter-append}
 use Rattle.std.proofs.lemmas.List.{append-nil}
 use Rattle.std.proofs.lemmas.Map.{keys-set_value, lookup-set_value}
@@ -22,13 +22,10 @@ use Rattle.thor_value.specs.FiniteMap.{IsSorted, empty, get, insert}
 use Rattle.thor_value.specs.declared.names.Oref.{Oref}
 use Rattle.thor_value.specs.declared.values.Obj.{Obj}
 
-turned : (a b : ℕ) → nat_eq a b ≡ nat_eq b a
-turned a b = grind (arith, nat_tests)
-
 -- ---- one more name of one session
 
 get_put : (N : Named) (n s : ℕ) (xs : List Oref) → get (insert N n xs) s ≡ cond (nat_eq n s) (Some xs) (get N s)
-get_put N n s xs = get-insert nat_cmp_total N n xs s ∙ ap (λ (t : Bool). cond t (Some xs) (get N s)) (same_test s n ∙ turned s n)
+get_put N n s xs = get-insert nat_cmp_total N n xs s ∙ ap (λ (t : Bool). cond t (Some xs) (get N s)) (same_test s n ∙ nat_eq_equiv.symm s n)
 
 get_set : (N : Named) (n s : ℕ) (xs os : List Oref) → get N n ≡ Some os → get (named (set_value (is_at (nat_cmp n)) N.pairs xs)) s ≡ cond (nat_eq n s) (Some xs) (get N s)
 get_set N n s xs os h =
@@ -96,7 +93,7 @@ is_in s ss = list_any (λ n. nat_eq n s) ss
 missed : (n s : ℕ) (ss : List ℕ) → nat_eq n s ≡ true → AllByRecursion (λ y. nat_eq n y ≡ false) ss → is_in s ss ≡ false
 missed n s [] e h = refl
 missed n s (y ∷ ys) e h =
-    let f : nat_eq y s ≡ false = ap (nat_eq y) (sym (eqb-true n s e)) ∙ turned y n ∙ h.0 in
+    let f : nat_eq y s ≡ false = ap (nat_eq y) (sym (eqb-true n s e)) ∙ nat_eq_equiv.symm y n ∙ h.0 in
     ap (λ (t : Bool). t || is_in s ys) f ∙ missed n s ys e h.1
 
 names_all : (N : Named) (ss : List ℕ) (s : ℕ) (x : Oref) → IsDistinct nat_eq ss → names_of (noted_for N ss x) s ≡ names_of N s ++ cond (is_in s ss) (x ∷ []) []

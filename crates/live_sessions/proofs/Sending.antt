@@ -14,6 +14,7 @@ use Rattle.std.proofs.lemmas.Bool.Decides.{nat_tests}
 use Rattle.std.proofs.lemmas.Bool.{eqb-true}
 use Rattle.std.proofs.lemmas.List.{append-nil}
 use Rattle.std.proofs.lemmas.Map.{keys-set_value}
+use Rattle.std.proofs.lemmas.Cmp.{nat_eq_equiv}
 use Rattle.std.specs.BTreeMap.{is_at}
 use Rattle.std.specs.Cmp.{nat_cmp_total}
 use Rattle.std.specs.List.Sorted.{IsStrictlySortedBy}
@@ -27,9 +28,6 @@ use Rattle.std.specs.declared.cmp.Ordering.{Ordering}
 use Rattle.thor_value.proofs.FiniteMap.{IsSorted-insert}
 use Rattle.thor_value.specs.FiniteMap.{IsSorted, get}
 use Rattle.thor_value.specs.declared.names.Oref.{Oref}
-
-turned : (a b : ℕ) → nat_eq a b ≡ nat_eq b a
-turned a b = grind (arith, nat_tests)
 
 -- ---- what waits stays in order
 
@@ -63,7 +61,7 @@ message_for f (Some v) = f v ∷ []
 -- the first, and those for the others
 step_for : {X : Type 0} (f : X → Message) (s : ℕ) (e : ℕ × X) (es : List (ℕ × X)) → AllByRecursion (λ y. nat_cmp e.0 y ≡ Less) (keys_of es)
     → cond (nat_eq e.0 s) (f e.1 ∷ []) [] ++ message_for f (lookup (is_at (nat_cmp s)) es) ≡ message_for f (lookup (is_at (nat_cmp s)) (e ∷ es))
-step_for f s e es h = by (nat_eq e.0 s) refl ∙ ap (λ (t : Bool). message_for f (cond t (Some e.1) (lookup (is_at (nat_cmp s)) es))) (sym (same_test s e.0 ∙ turned s e.0))
+step_for f s e es h = by (nat_eq e.0 s) refl ∙ ap (λ (t : Bool). message_for f (cond t (Some e.1) (lookup (is_at (nat_cmp s)) es))) (sym (same_test s e.0 ∙ nat_eq_equiv.symm s e.0))
   where
     by : (t : Bool) → nat_eq e.0 s ≡ t → cond t (f e.1 ∷ []) [] ++ message_for f (lookup (is_at (nat_cmp s)) es) ≡ message_for f (cond (nat_eq e.0 s) (Some e.1) (lookup (is_at (nat_cmp s)) es))
     by true g =

@@ -15,6 +15,7 @@ use Rattle.std.proofs.lemmas.Cmp.{eq_by_cmp_equiv, tied_itself}
 use Rattle.std.proofs.lemmas.Map.Keys.{IsDistinct-from_sorted}
 use Rattle.std.proofs.lemmas.Map.Made.{is_some-lookup}
 use Rattle.std.proofs.lemmas.Map.Views.{lookup-from_Contains, tells_apart}
+use Rattle.std.proofs.lemmas.Bool.{and_from, and_parts, or_cases, or_left, or_right}
 use Rattle.std.specs.BTreeMap.{is_at}
 use Rattle.std.specs.Bool.{Decides}
 use Rattle.std.specs.List.{Contains, fold, list_all, list_any, range_with_len}
@@ -52,26 +53,6 @@ decides_accepted q t o =
 
 -- ---- what holds of each name, and of each transaction
 
-and_parts : (x y : Bool) → (x && y) ≡ true → (x ≡ true) × (y ≡ true)
-and_parts true y e = (refl, e)
-and_parts false y e = cc
-
-and_both : (x y : Bool) → x ≡ true → y ≡ true → (x && y) ≡ true
-and_both true y d e = e
-and_both false y d e = cc
-
-or_cases : (x y : Bool) → (x || y) ≡ true → (x ≡ true) ⊎ (y ≡ true)
-or_cases true y e = inl refl
-or_cases false y e = inr e
-
-or_right : (x y : Bool) → y ≡ true → (x || y) ≡ true
-or_right true y e = refl
-or_right false y e = e
-
-or_left : (x y : Bool) → x ≡ true → (x || y) ≡ true
-or_left true y e = refl
-or_left false y e = cc
-
 at_each : (test : Oref → Bool) (ys : List Oref) (x : Oref) → list_all test ys ≡ true → list_any (same_oref x) ys ≡ true → test x ≡ true
 at_each test [] x a e = cc
 at_each test (y ∷ ys) x a e =
@@ -83,7 +64,7 @@ at_each test (y ∷ ys) x a e =
 
 from_each : (test : Oref → Bool) (ys : List Oref) → ((x : Oref) → list_any (same_oref x) ys ≡ true → test x ≡ true) → list_all test ys ≡ true
 from_each test [] h = refl
-from_each test (y ∷ ys) h = and_both (test y) (list_all test ys)
+from_each test (y ∷ ys) h = and_from (test y) (list_all test ys)
     (h y (or_left (same_oref y y) (list_any (same_oref y) ys) (ap is_eq (tied_itself oref_total y))))
     (from_each test ys (λ x e. h x (or_right (same_oref x y) (list_any (same_oref x) ys) e)))
 
@@ -116,7 +97,7 @@ shifted es e d c = let k : ℕ = c.0 in let l : k < length es = c.1 in (suc k, o
 
 from_pairs : {X : Type 0} (test : X → Bool) (es : List X) → ((e : X) → Contains es e → test e ≡ true) → list_all test es ≡ true
 from_pairs test [] h = refl
-from_pairs test (e ∷ es) h = and_both (test e) (list_all test es) (h e (0, omega arith, refl)) (from_pairs test es (λ d c. h d (shifted es e d c)))
+from_pairs test (e ∷ es) h = and_from (test e) (list_all test es) (h e (0, omega arith, refl)) (from_pairs test es (λ d c. h d (shifted es e d c)))
 
 if_some : {X : Type 0} (o : Option X) (P Q : X → Type 0) → ((x : X) → P x → Q x) → IfSome o P → IfSome o Q
 if_some None P Q f h = tt

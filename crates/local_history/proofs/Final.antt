@@ -8,7 +8,7 @@ use Rattle.local_history.specs.History.{Aborted, Base, Committed, Fate, Open, Kn
 use Rattle.local_history.specs.Laws.{Stays}
 use Rattle.local_history.specs.Sound.{sound}
 use Rattle.std.proofs.Common.{List, [], ap, length, refl, subst, sym, take, ℕ, ◌++◌, ◌<◌, ◌≡◌, ◌≢◌, ◌≤◌, ◌∷◌, eq-eqb}
-use Rattle.std.proofs.lemmas.Bool.{lt-ltb}
+use Rattle.std.proofs.lemmas.Bool.{lt-ltb, and_from}
 use Rattle.std.proofs.lemmas.Option.{same_Some}
 use Rattle.std.specs.Option.{IfSome, IsSomeAnd, option_map}
 use Rattle.std.specs.Prelude.{Bool, None, Option, Some, nat_eq, true, ◌&&◌}
@@ -29,10 +29,6 @@ stood_some b H sd n h t w is l =
     let y = stood b H sd n h t w is l in
     subst (λ k. IsSomeAnd k (λ o. Stays o w)) (sym y.1) y.2
 
-both_hold : (x y : Bool) → x ≡ true → y ≡ true → (x && y) ≡ true
-both_hold true y p q = q
-both_hold Bool.false y p q = cc
-
 ended : (f : Fate) (lost : Bool) → lost ≡ true → lapse f lost ≢ Open
 ended Open true e f = cc
 ended Open Bool.false e f = cc
@@ -45,7 +41,7 @@ module _ (b : Base) where
   behind_life S n t o h own (Some p) known is =
       let before : known_in b S t ≡ Some (or_lost b S t p) = ap (option_map (or_lost b S t)) known in
       let l : p.place < S.length = (h.fits t (or_lost b S t p) before).below in
-      let lost = both_hold (nat_eq t.repo b.repo) _ (eq-eqb t.repo b.repo own) (lt-ltb p.place S.length l) in
+      let lost = and_from (nat_eq t.repo b.repo) _ (eq-eqb t.repo b.repo own) (lt-ltb p.place S.length l) in
       subst (λ (w : Known). w.fate ≢ Open) (same_Some _ o is) (ended p.fate _ lost)
 
   -- a Life leaves none undecided that this repository coordinates

@@ -4,6 +4,7 @@ use Rattle.local_history.specs.Requests.{bars, has_read, has_written, is_upgrade
 use Rattle.std.proofs.Common.{◌≡◌, ◌<◌, ℕ, List, [], ◌∷◌, refl, ap, sym, ◌∙◌, subst, arith, inl, inr}
 use Rattle.std.proofs.lemmas.Map.Made.{is_some-lookup}
 use Rattle.std.proofs.lemmas.Map.Views.{tells_apart}
+use Rattle.std.proofs.lemmas.Bool.{or_left}
 use Rattle.std.specs.BTreeMap.{is_at}
 use Rattle.std.specs.List.{list_any}
 use Rattle.std.specs.Ordering.{ordering_reverse}
@@ -15,10 +16,6 @@ use Rattle.thor_value.specs.FiniteMap.{keys}
 use Rattle.thor_value.specs.Names.{Before, oref_cmp, same_oref, ts_cmp}
 use Rattle.thor_value.specs.declared.names.Oref.{Oref}
 use Rattle.thor_value.specs.declared.names.Ts.{Ts}
-
-pub or_first : (x y : Bool) → x ≡ true → (x || y) ≡ true
-or_first true y h = refl
-or_first false y h = cc
 
 pub or_second : (x y : Bool) → y ≡ true → (x || y) ≡ true
 or_second true y h = refl
@@ -32,7 +29,7 @@ or_cases false y h = inr h
 pub any_at : (test : Oref → Bool) (x : Oref) (ys : List Oref) → list_any (same_oref x) ys ≡ true → test x ≡ true → list_any test ys ≡ true
 any_at test x [] h t = h
 any_at test x (y ∷ ys) h t = elim (or_cases (same_oref x y) (list_any (same_oref x) ys) h) [
-  | inl e ↦ or_first (test y) (list_any test ys) (subst (λ z. test z ≡ true) (tells_apart oref_exact x y e) t)
+  | inl e ↦ or_left (test y) (list_any test ys) (subst (λ z. test z ≡ true) (tells_apart oref_exact x y e) t)
   | inr r ↦ or_second (test y) (list_any test ys) (any_at test x ys r t)
 ]
 
@@ -45,10 +42,10 @@ pub overwrites-reads : (q s : Request) (x : Oref) → IsTrue (has_written q x) �
 overwrites-reads q s x w r = any_at (has_read s) x (keys (written q)) (sym (is_some-lookup (is_at (oref_cmp x)) (written q).pairs) ∙ w) r
 
 pub bars-upgrade : (q s : Request) → IsTrue (is_upgrade q) → IsTrue (bars q s)
-bars-upgrade q s u = or_first (is_upgrade q || is_upgrade s) (reads_of q s) (or_first (is_upgrade q) (is_upgrade s) u)
+bars-upgrade q s u = or_left (is_upgrade q || is_upgrade s) (reads_of q s) (or_left (is_upgrade q) (is_upgrade s) u)
 
 pub bars-behind_upgrade : (q s : Request) → IsTrue (is_upgrade s) → IsTrue (bars q s)
-bars-behind_upgrade q s u = or_first (is_upgrade q || is_upgrade s) (reads_of q s) (or_second (is_upgrade q) (is_upgrade s) u)
+bars-behind_upgrade q s u = or_left (is_upgrade q || is_upgrade s) (reads_of q s) (or_second (is_upgrade q) (is_upgrade s) u)
 
 -- ---- timestamps
 

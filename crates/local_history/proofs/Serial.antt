@@ -13,6 +13,7 @@ use Rattle.local_history.specs.Sound.{Accepts, sound}
 use Rattle.std.proofs.Common.{◌≡◌, ◌≢◌, ◌≤◌, ◌<◌, ℕ, List, length, take, refl, ap, sym, ◌∙◌, subst, arith, inl, inr, ◌↔◌}
 use Rattle.std.proofs.lemmas.List.{length-take-le}
 use Rattle.std.proofs.lemmas.Option.{MatchOption-at_some, same_Some}
+use Rattle.std.proofs.lemmas.Bool.{false_from_ne_true}
 use Rattle.std.specs.Bool.{⊤}
 use Rattle.std.specs.Prelude.{Bool, IsTrue, Some, true, false}
 use Rattle.thor_value.specs.Names.{Before}
@@ -58,10 +59,6 @@ apart_fates : (f : Fate) → IsCommitted f → f ≡ Open → ⊥
 apart_fates Open c e = c
 apart_fates (Committed a) c e = cc
 apart_fates Aborted c e = c
-
-not_written : (x : Bool) → (x ≡ true → ⊥) → x ≡ false
-not_written true h = absurd (h refl)
-not_written false h = refl
 
 module _ (b : Base) (H : List Entry) (sd : sound b H) where
   -- what a transaction owed to another whose request stands below its own, as it is now
@@ -199,7 +196,7 @@ module _ (b : Base) (H : List Entry) (sd : sound b H) where
       | inl l ↦ first_in_place t s o w x r is l
       | inr h ↦ elim h [
         | inl same ↦ absurd (not_same s t e (one_at_a_place b H sd s t w o is r.there same))
-        | inr l ↦ not_written (has_written w.request x) (λ wrote. not_both_ways s t e ((behind s t w o is r.there lo l).0 (bars-reads w.request o.request x (read_too s w x is wrote) r.wrote)).1)
+        | inr l ↦ false_from_ne_true (has_written w.request x) (λ wrote. not_both_ways s t e ((behind s t w o is r.there lo l).0 (bars-reads w.request o.request x (read_too s w x is wrote) r.wrote)).1)
       ]
     ];
   }

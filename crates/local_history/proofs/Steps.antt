@@ -6,7 +6,7 @@ use Rattle.local_history.specs.History.{Base, Fate, Known, State, Open, Committe
 use Rattle.local_history.specs.Laws.{Asks}
 use Rattle.local_history.specs.Sound.{owes}
 use Rattle.std.proofs.Common.{◌≡◌, ◌≤◌, ℕ, ◌+◌, refl, ap, sym, ◌∙◌, subst, arith, inl, inr}
-use Rattle.std.proofs.lemmas.Bool.{le-ltb, lt-ltb, ltb-true}
+use Rattle.std.proofs.lemmas.Bool.{le-ltb, lt-ltb, ltb-true, and_right}
 use Rattle.std.proofs.lemmas.Map.Views.{tells_apart}
 use Rattle.std.specs.Option.{option_map}
 use Rattle.std.specs.Ordering.{eq_by_cmp}
@@ -71,10 +71,6 @@ under_and : (a x y : Bool) → (x ≡ true → y ≡ true) → (a && x) ≡ true
 under_and true x y h p = h p
 under_and false x y h p = p
 
-and_false : (a x : Bool) → x ≡ false → (a && x) ≡ false
-and_false true x h = h
-and_false false x h = refl
-
 module _ (b : Base) where
   -- by cases on how t stands: what holds of the state as it is, and of it with t committed or aborted
   -- where t is undecided, holds of the state in which t is settled
@@ -113,7 +109,7 @@ module _ (b : Base) where
       by_key false h = unmoved e cs n t (known_in b S t)
 
   pub not_lost : (S : State) (t : Ts) → LifeBegan S → is_lost b S t S.length ≡ false
-  not_lost S t h = and_false (nat_eq t.repo b.repo) _ (le-ltb S.length S.last_life h)
+  not_lost S t h = and_right (nat_eq t.repo b.repo) _ (le-ltb S.length S.last_life h)
 
   -- the request of an undecided or committed transaction
   begun : (S : State) (e : Entry) (cs : List (ℕ × Request)) (q : Request) → LifeBegan S → Asks e q → known_in b S q.tx ≡ None → (f : Fate) → FateBegun cs S.length q (lapse f (is_lost b S q.tx S.length))

@@ -3,8 +3,9 @@ use Rattle.std.proofs.Common.{◌≡◌, ℕ, suc, ◌^◌, Bool, true, false, c
 use Rattle.std.specs.Prelude.{◌&&◌, ◌↔◌, IfSome, IsSome}
 use Rattle.std.specs.List.{AllByRecursion}
 use Rattle.std.specs.Ordering.{nat_cmp}
-use Rattle.std.proofs.lemmas.Bool.{ltb-true, lt-ltb, leb-true, le-leb, eqb-true}
+use Rattle.std.proofs.lemmas.Bool.{ltb-true, lt-ltb, leb-true, le-leb, eqb-true, and_from, and_parts}
 use Rattle.std.proofs.lemmas.Cmp.{nat_cmp_total}
+use Rattle.std.proofs.lemmas.Option.{same_Some}
 use Rattle.thor_value.proofs.NameOrders.{ts_total}
 use Rattle.thor_value.specs.FiniteMap.{empty}
 use Rattle.thor_value.specs.Names.{ts_cmp}
@@ -22,9 +23,6 @@ use Rattle.log_bytes.proofs.Exact.{IsExactFormat, TakesBytes, exact_list, exact_
 use Rattle.log_bytes.proofs.Grammars.{any_bytes, exact_oref, exact_request, exact_text, exact_ts, exact_writes, request_takes, ts_takes, u8_takes}
 use Rattle.log_bytes.proofs.RiseLaws.{rise_from_sorted, sorted_from_rise}
 
-same_some : {A : Type 0} (x y : A) → Some x ≡ Some y → x ≡ y
-same_some x y e = cc
-
 -- ---- roots and texts
 
 exact_root_parts : IsExactFormat (list u8_format then u16_format then oref_format)
@@ -33,7 +31,7 @@ exact_root_parts = exact_then (list u8_format) (u16_format then oref_format) exa
 pub exact_root : IsExactFormat root_format
 unfolding root_format
 exact_root =
-    exact_of_those RootFits _ (exact_made _ _ (list u8_format then u16_format then oref_format) exact_root_parts (λ v. refl) (λ w v e. ap (λ (p : List ℕ × (ℕ × _)). record { name = p.0; class = p.1.0; oref = p.1.1 }) (same_some (w.name, (w.class, w.oref)) v e)))
+    exact_of_those RootFits _ (exact_made _ _ (list u8_format then u16_format then oref_format) exact_root_parts (λ v. refl) (λ w v e. ap (λ (p : List ℕ × (ℕ × _)). record { name = p.0; class = p.1.0; oref = p.1.1 }) (same_Some (w.name, (w.class, w.oref)) v e)))
     (λ r h. (any_bytes r.name, (h.0, h.1)))
     (λ r h. (h.1.0, h.1.1))
 
@@ -97,19 +95,9 @@ exact_parts = exact_then head_format (texts_format then kept_state_format) exact
 
 -- ---- what has a spelling
 
-halves : (a b : Bool) → (a && b) ≡ true → (a ≡ true) × (b ≡ true)
-halves true true h = (refl, refl)
-halves true false h = cc
-halves false b h = cc
-
-both : (a b : Bool) → a ≡ true → b ≡ true → (a && b) ≡ true
-both true true p q = refl
-both true false p q = cc
-both false b p q = cc
-
 pub are_sides_from : (low : ℕ) (ps : List (ℕ × ℕ)) → Rises low ps → AllByRecursion SideFits ps → are_sides low ps ≡ true
 are_sides_from low [] r h = refl
-are_sides_from low (p ∷ ps) r h = both (leb low p.0) (ltb p.1 2 && are_sides (suc p.0) ps) (le-leb low p.0 r.0) (both (ltb p.1 2) (are_sides (suc p.0) ps) (lt-ltb p.1 2 h.0.1) (are_sides_from (suc p.0) ps r.1 h.1))
+are_sides_from low (p ∷ ps) r h = and_from (leb low p.0) (ltb p.1 2 && are_sides (suc p.0) ps) (le-leb low p.0 r.0) (and_from (ltb p.1 2) (are_sides (suc p.0) ps) (lt-ltb p.1 2 h.0.1) (are_sides_from (suc p.0) ps r.1 h.1))
 
 numbers_from : (ps : List (ℕ × ℕ)) → AllByRecursion SideFits ps → AllByRecursion (u32_format then u8_format).Fits ps
 numbers_from [] h = tt
@@ -118,8 +106,8 @@ numbers_from (p ∷ ps) h = ((h.0.0, tt), numbers_from ps h.1)
 sides_are : (low : ℕ) (ps : List (ℕ × ℕ)) → AllByRecursion (u32_format then u8_format).Fits ps → are_sides low ps ≡ true → Rises low ps × AllByRecursion SideFits ps
 sides_are low [] n h = (tt, tt)
 sides_are low (p ∷ ps) n h =
-    let a = halves (leb low p.0) (ltb p.1 2 && are_sides (suc p.0) ps) h in
-    let b = halves (ltb p.1 2) (are_sides (suc p.0) ps) a.1 in
+    let a = and_parts (leb low p.0) (ltb p.1 2 && are_sides (suc p.0) ps) h in
+    let b = and_parts (ltb p.1 2) (are_sides (suc p.0) ps) a.1 in
     let more = sides_are (suc p.0) ps n.1 b.1 in
     ((leb-true low p.0 a.0, more.0), ((n.0.0, ltb-true p.1 2 b.0), more.1))
 
@@ -207,4 +195,4 @@ state_has s p = record {
 
 pub exact_state : IsExactFormat state_format
 unfolding state_format
-exact_state = exact_of_those StateFits (made state_of (λ s. Some (state_parts s)) Parts) (exact_made state_of (λ s. Some (state_parts s)) Parts exact_parts (λ v. refl) (λ w v e. ap state_of (same_some (state_parts w) v e))) state_fits state_has
+exact_state = exact_of_those StateFits (made state_of (λ s. Some (state_parts s)) Parts) (exact_made state_of (λ s. Some (state_parts s)) Parts exact_parts (λ v. refl) (λ w v e. ap state_of (same_Some (state_parts w) v e))) state_fits state_has

@@ -4,6 +4,7 @@ use Rattle.std.specs.Option.{IfSome, IsSomeAnd}
 use Rattle.std.specs.List.{flat_map, AllByRecursion}
 use Rattle.std.specs.Int.{w16, w32, w64, to_be_bytes}
 use Rattle.std.proofs.lemmas.List.Concat.{flat_map-cons}
+use Rattle.std.proofs.lemmas.Option.{cond_some, same_Some}
 use Rattle.thor_value.specs.Reading.{number_at}
 use Rattle.thor_value.proofs.Exactness.{IsBytes, IsBytes-rest, IsExact}
 use Rattle.thor_value.proofs.Fields.{exact_number, wide16, wide32, wide64}
@@ -28,13 +29,10 @@ bind_some None f y e = absurd cc
 pub some_on : {A B : Type 0} (r : Option A) (f : A → Option B) (x : A) → r ≡ Some x → (r >>= f) ≡ f x
 some_on {A = A} r f x e = ap (λ (q : Option A). q >>= f) e
 
-same_some : {A : Type 0} (x y : A) → Some x ≡ Some y → x ≡ y
-same_some x y e = cc
-
 -- ---- readers that say their fault
 
 found_ok : {X F : Type 0} (r : Result X F) (x : X) → found_by r ≡ Some x → r ≡ Ok x
-found_ok (Ok y) x e = ap (λ z. Ok z) (same_some y x e)
+found_ok (Ok y) x e = ap (λ z. Ok z) (same_Some y x e)
 found_ok (Err d) x e = absurd cc
 
 pub exact_read : {V F : Type 0} (Has : V → Type 0) (spelling : V → List ℕ) (short : F) (reader : List ℕ → Result (V × List ℕ) F) → IsExact Has spelling short reader → IsExactFormat (read_by Has spelling reader)
@@ -70,11 +68,11 @@ takes_by Has spelling reader some v h = some v
 
 byte_found : (bytes : List ℕ) (x : ℕ × List ℕ) → first_byte bytes ≡ Some x → bytes ≡ (x.0 ∷ []) ++ x.1
 byte_found [] x e = absurd cc
-byte_found (b ∷ bytes) x e = ap (λ (y : ℕ × List ℕ). y.0 ∷ y.1) (same_some (b, bytes) x e)
+byte_found (b ∷ bytes) x e = ap (λ (y : ℕ × List ℕ). y.0 ∷ y.1) (same_Some (b, bytes) x e)
 
 byte_below : (bytes : List ℕ) (x : ℕ × List ℕ) → IsBytes bytes → first_byte bytes ≡ Some x → x.0 < 2 ^ 8
 byte_below [] x b e = absurd cc
-byte_below (c ∷ bytes) x b e = subst (λ (y : ℕ × List ℕ). y.0 < 2 ^ 8) (same_some (c, bytes) x e) (b 0)
+byte_below (c ∷ bytes) x b e = subst (λ (y : ℕ × List ℕ). y.0 < 2 ^ 8) (same_Some (c, bytes) x e) (b 0)
 
 pub exact_u8 : IsExactFormat u8_format
 exact_u8 = record {
@@ -95,7 +93,7 @@ module _ {A B : Type 0} (a : Format A) (b : Format B) (ea : IsExactFormat a) (eb
       let q = bind_some (b.reading p.0.1) (λ y. Some ((p.0.0, y.0), y.1)) x p.2 in
       let fa = ea.found bytes p.0 h p.1 in
       let fb = eb.found p.0.1 q.0 (IsBytes-rest bytes (a.spelling p.0.0) p.0.1 fa.2 h) q.1 in
-      subst (Whole bytes) (same_some ((p.0.0, q.0.0), q.0.1) x q.2)
+      subst (Whole bytes) (same_Some ((p.0.0, q.0.0), q.0.1) x q.2)
       ((fa.0, fb.0), (fa.1, fb.1), fa.2 ∙ ap (λ (r : List ℕ). a.spelling p.0.0 ++ r) fb.2 ∙ sym (append_assoc (a.spelling p.0.0) (b.spelling q.0.0) q.0.1))
 
   then_again : (v : A × B) (rest : List ℕ) → (a then b).Fits v → (a then b).Countable v → (a then b).reading ((a then b).spelling v ++ rest) ≡ Some (v, rest)
@@ -125,7 +123,7 @@ module _ {V W : Type 0} (make : V → W) (parts : W → Option V) (f : Format V)
       let p = bind_some (f.reading bytes) (λ x. Some (make x.0, x.1)) x e in
       let g = ef.found bytes p.0 h p.1 in
       let at = there p.0.0 in
-      subst (Made bytes) (same_some (make p.0.0, p.0.1) x p.2)
+      subst (Made bytes) (same_Some (make p.0.0, p.0.1) x p.2)
       (subst (λ (o : Option V). IsSomeAnd o f.Fits) (sym at) g.0, subst (λ (o : Option V). IfSome o f.Countable) (sym at) g.1, g.2 ∙ ap (λ (o : Option V). spelled f.spelling o ++ p.0.1) (sym at))
 
   by_parts : (w : W) (rest : List ℕ) (o : Option V) → parts w ≡ o → IsSomeAnd o f.Fits → IfSome o f.Countable → (made make parts f).reading (spelled f.spelling o ++ rest) ≡ Some (w, rest)
@@ -154,10 +152,6 @@ exact_of_those P f ef to from = record {
 
 -- ---- those that pass a test
 
-chosen_some : {A : Type 0} (b : Bool) (x y : A) → cond b (Some x) None ≡ Some y → (b ≡ true) × (x ≡ y)
-chosen_some true x y e = (refl, cc)
-chosen_some false x y e = absurd cc
-
 module _ {V : Type 0} (test : V → Bool) (f : Format V) (ef : IsExactFormat f) where
   abbrev Tested : List ℕ → V × List ℕ → Type 0
   Tested bytes y = (such_that test f).Fits y.0 × f.Countable y.0 × (bytes ≡ f.spelling y.0 ++ y.1)
@@ -165,7 +159,7 @@ module _ {V : Type 0} (test : V → Bool) (f : Format V) (ef : IsExactFormat f) 
   such_found : (bytes : List ℕ) (x : V × List ℕ) → IsBytes bytes → (such_that test f).reading bytes ≡ Some x → Tested bytes x
   such_found bytes x b e =
       let p = bind_some (f.reading bytes) (λ x. cond (test x.0) (Some x) None) x e in
-      let c = chosen_some (test p.0.0) p.0 x p.2 in
+      let c = cond_some (test p.0.0) p.0 x p.2 in
       let g = ef.found bytes p.0 b p.1 in
       subst (Tested bytes) c.1 ((g.0, c.0), g.1, g.2)
 
@@ -180,7 +174,7 @@ module _ {V : Type 0} (test : V → Bool) (f : Format V) (ef : IsExactFormat f) 
 
 pub exact_only : {W : Type 0} (w : W) → IsExactFormat (only w)
 exact_only {W = W} w = record {
-  found = λ bytes x b e. subst (λ (y : W × List ℕ). (y.0 ≡ w) × Unit {0} × (bytes ≡ [] ++ y.1)) (same_some (w, bytes) x e) (refl, tt, refl);
+  found = λ bytes x b e. subst (λ (y : W × List ℕ). (y.0 ≡ w) × Unit {0} × (bytes ≡ [] ++ y.1)) (same_Some (w, bytes) x e) (refl, tt, refl);
   again = λ v rest h c. ap (λ (u : W). Some (u, rest)) (sym h);
   counts = λ v h n. tt;
 }
@@ -221,14 +215,14 @@ module _ {V : Type 0} (f : Format V) (ef : IsExactFormat f) where
 
   several_found : (n : ℕ) (bytes : List ℕ) (x : List V × List ℕ) → IsBytes bytes → several f.reading n bytes ≡ Some x → Several n bytes x
   unfolding several
-  several_found zero bytes x b e = subst (Several 0 bytes) (same_some ([], bytes) x e) (refl, tt, tt, refl)
+  several_found zero bytes x b e = subst (Several 0 bytes) (same_Some ([], bytes) x e) (refl, tt, tt, refl)
   several_found (suc n) bytes x b e =
       let p = bind_some (f.reading bytes) (λ first. several f.reading n first.1 >>= λ others. Some (first.0 ∷ others.0, others.1)) x e in
       let q = bind_some (several f.reading n p.0.1) (λ others. Some (p.0.0 ∷ others.0, others.1)) x p.2 in
       let g = ef.found bytes p.0 b p.1 in
       let s = several_found n p.0.1 q.0 (IsBytes-rest bytes (f.spelling p.0.0) p.0.1 g.2 b) q.1 in
       let joined : bytes ≡ flat_map f.spelling (p.0.0 ∷ q.0.0) ++ q.0.1 = g.2 ∙ ap (λ (r : List ℕ). f.spelling p.0.0 ++ r) s.3 ∙ sym (append_assoc (f.spelling p.0.0) (flat_map f.spelling q.0.0) q.0.1) ∙ ap (λ (t : List ℕ). t ++ q.0.1) (sym (flat_map-cons f.spelling p.0.0 q.0.0)) in
-      subst (Several (suc n) bytes) (same_some (p.0.0 ∷ q.0.0, q.0.1) x q.2) (ap suc s.0, (g.0, s.1), (g.1, s.2), joined)
+      subst (Several (suc n) bytes) (same_Some (p.0.0 ∷ q.0.0, q.0.1) x q.2) (ap suc s.0, (g.0, s.1), (g.1, s.2), joined)
 
   several_again : (vs : List V) (rest : List ℕ) → AllByRecursion f.Fits vs → AllByRecursion f.Countable vs → several f.reading (length vs) (flat_map f.spelling vs ++ rest) ≡ Some (vs, rest)
   unfolding several

@@ -8,6 +8,7 @@ use Rattle.std.proofs.lemmas.Bool.{ltb-true, lt-ltb}
 use Rattle.std.proofs.lemmas.Cmp.{nat_cmp_total}
 use Rattle.std.proofs.lemmas.Int.{to_z-of_z, of_z-to_z}
 use Rattle.std.proofs.Math.Facts.{sfits_to_z, Fits-of_lt, Fits-of_z}
+use Rattle.std.proofs.lemmas.Option.{same_Some}
 use Rattle.thor_value.proofs.Exactness.{IsBytes}
 use Rattle.thor_value.proofs.Spellings.{exact_oref as exact_oref_reader, exact_ts as exact_ts_reader}
 use Rattle.thor_value.specs.Reading.{oref_at, ts_at}
@@ -37,9 +38,6 @@ use Rattle.log_bytes.specs.declared.body.Body.{Body}
 use Rattle.log_bytes.proofs.Exact.{IsExactFormat, TakesBytes, bind_some, exact_choice, exact_list, exact_made, exact_none, exact_of_those, exact_only, exact_read, exact_short, exact_such, exact_then, exact_u8, exact_u32, exact_u64, takes_by, then_takes}
 use Rattle.log_bytes.proofs.RiseLaws.{rise_from_sorted, sorted_from_rise}
 
-same_some : {A : Type 0} (x y : A) → Some x ≡ Some y → x ≡ y
-same_some x y e = cc
-
 -- ---- names, timestamps, objects, numbers
 
 pub exact_oref : IsExactFormat oref_format
@@ -68,7 +66,7 @@ i64_found : (bytes : List ℕ) (x : ℤ × List ℕ) → IsBytes bytes → i64_f
 i64_found bytes x b e =
     let p = bind_some (u64_format.reading bytes) (λ n. Some (cast_signed w64 n.0, n.1)) x e in
     let g = exact_u64.found bytes p.0 b p.1 in
-    subst (λ (y : ℤ × List ℕ). FitsSigned w64 y.0 × Unit {0} × (bytes ≡ u64_format.spelling (cast_unsigned w64 y.0) ++ y.1)) (same_some (cast_signed w64 p.0.0, p.0.1) x p.2)
+    subst (λ (y : ℤ × List ℕ). FitsSigned w64 y.0 × Unit {0} × (bytes ≡ u64_format.spelling (cast_unsigned w64 y.0) ++ y.1)) (same_Some (cast_signed w64 p.0.0, p.0.1) x p.2)
     (sfits_to_z (Fits-of_lt g.0), tt, g.2 ∙ ap (λ (n : ℕ). u64_format.spelling n ++ p.0.1) (sym (of_z-to_z w64 p.0.0 g.0)))
 
 pub exact_i64 : IsExactFormat i64_format
@@ -105,12 +103,12 @@ any_bytes (b ∷ bytes) = (tt, any_bytes bytes)
 
 pub exact_who : IsExactFormat who_format
 unfolding who_format
-exact_who = exact_made _ _ (u8_format then u32_format) (exact_then u8_format u32_format exact_u8 exact_u32) (λ v. refl) (λ w v e. ap (λ (p : ℕ × ℕ). record { client = p.0; index = p.1 }) (same_some (w.client, w.index) v e))
+exact_who = exact_made _ _ (u8_format then u32_format) (exact_then u8_format u32_format exact_u8 exact_u32) (λ v. refl) (λ w v e. ap (λ (p : ℕ × ℕ). record { client = p.0; index = p.1 }) (same_Some (w.client, w.index) v e))
 
 text_back : (w : Kind) (v : List ℕ) → text_in w ≡ Some v → w ≡ Upgrade v
 text_back App v e = absurd cc
 text_back Transform v e = absurd cc
-text_back (Upgrade text) v e = ap (λ (t : List ℕ). Upgrade t) (same_some text v e)
+text_back (Upgrade text) v e = ap (λ (t : List ℕ). Upgrade t) (same_Some text v e)
 
 each_kind : (k : ℕ) → IsExactFormat (behind_kind k)
 each_kind zero = exact_only App
@@ -164,12 +162,12 @@ any_fault Depth = refl
 any_fault Large = refl
 
 ints_back : (w : Answer) (v : List ℤ) → ints_in w ≡ Some v → w ≡ Ints v
-ints_back (Ints ns) v e = ap (λ (t : List ℤ). Ints t) (same_some ns v e)
+ints_back (Ints ns) v e = ap (λ (t : List ℤ). Ints t) (same_Some ns v e)
 ints_back (Faulted f) v e = absurd cc
 
 fault_back : (w : Answer) (v : Fault) → fault_in w ≡ Some v → w ≡ Faulted v
 fault_back (Ints ns) v e = absurd cc
-fault_back (Faulted f) v e = ap (λ (t : Fault). Faulted t) (same_some f v e)
+fault_back (Faulted f) v e = ap (λ (t : Fault). Faulted t) (same_Some f v e)
 
 each_answer : (k : ℕ) → IsExactFormat (behind_answer k)
 each_answer zero = exact_made Ints ints_in (list i64_format) (exact_list i64_format exact_i64 i64_takes) (λ v. refl) ints_back
@@ -247,7 +245,7 @@ request_has q (tx, (who, (session, (kind, (epoch, (upto, (ros, (writes, (fresh, 
 pub exact_request : IsExactFormat request_format
 unfolding request_format
 exact_request =
-    exact_of_those RequestFits (made request_of request_parts chain) (exact_made request_of request_parts chain exact_chain (λ v. refl) (λ w v e. ap request_of (same_some (w.tx, (w.who, (w.session, (w.kind, (w.epoch, (w.upto, (w.ros, (w.writes, (w.fresh, (w.answer, w.others)))))))))) v e))) request_fits request_has
+    exact_of_those RequestFits (made request_of request_parts chain) (exact_made request_of request_parts chain exact_chain (λ v. refl) (λ w v e. ap request_of (same_Some (w.tx, (w.who, (w.session, (w.kind, (w.epoch, (w.upto, (w.ros, (w.writes, (w.fresh, (w.answer, w.others)))))))))) v e))) request_fits request_has
 
 pub request_spells : (q : Request) → RequestFits q → request_format.Fits q
 unfolding request_format
@@ -260,31 +258,31 @@ request_takes q h = then_takes ts_format behind_tx exact_ts exact_behind ts_take
 -- ---- the bodies of records
 
 life_back : (w : Body) (v : ℕ) → life_in w ≡ Some v → w ≡ AnEntry (Life v)
-life_back (AnEntry (Life n)) v e = ap (λ (m : ℕ). AnEntry (Life m)) (same_some n v e)
+life_back (AnEntry (Life n)) v e = ap (λ (m : ℕ). AnEntry (Life m)) (same_Some n v e)
 life_back other v e = absurd cc
 
 one_back : (w : Body) (v : Request) → one_in w ≡ Some v → w ≡ AnEntry (One v)
-one_back (AnEntry (One q)) v e = ap (λ (r : Request). AnEntry (One r)) (same_some q v e)
+one_back (AnEntry (One q)) v e = ap (λ (r : Request). AnEntry (One r)) (same_Some q v e)
 one_back other v e = absurd cc
 
 prepared_back : (w : Body) (v : Request) → prepared_in w ≡ Some v → w ≡ AnEntry (Prepared v)
-prepared_back (AnEntry (Prepared q)) v e = ap (λ (r : Request). AnEntry (Prepared r)) (same_some q v e)
+prepared_back (AnEntry (Prepared q)) v e = ap (λ (r : Request). AnEntry (Prepared r)) (same_Some q v e)
 prepared_back other v e = absurd cc
 
 upgraded_back : (w : Body) (v : Request) → upgraded_in w ≡ Some v → w ≡ AnEntry (Upgraded v)
-upgraded_back (AnEntry (Upgraded q)) v e = ap (λ (r : Request). AnEntry (Upgraded r)) (same_some q v e)
+upgraded_back (AnEntry (Upgraded q)) v e = ap (λ (r : Request). AnEntry (Upgraded r)) (same_Some q v e)
 upgraded_back other v e = absurd cc
 
 decided_back : (w : Body) (v : Ts × Bool) → decided_in w ≡ Some v → w ≡ AnEntry (Decided v.0 v.1)
-decided_back (AnEntry (Decided t c)) v e = ap (λ (p : Ts × Bool). AnEntry (Decided p.0 p.1)) (same_some (t, c) v e)
+decided_back (AnEntry (Decided t c)) v e = ap (λ (p : Ts × Bool). AnEntry (Decided p.0 p.1)) (same_Some (t, c) v e)
 decided_back other v e = absurd cc
 
 finished_back : (w : Body) (v : Ts × Bool) → finished_in w ≡ Some v → w ≡ AnEntry (Finished v.0 v.1)
-finished_back (AnEntry (Finished t c)) v e = ap (λ (p : Ts × Bool). AnEntry (Finished p.0 p.1)) (same_some (t, c) v e)
+finished_back (AnEntry (Finished t c)) v e = ap (λ (p : Ts × Bool). AnEntry (Finished p.0 p.1)) (same_Some (t, c) v e)
 finished_back other v e = absurd cc
 
 installed_back : (w : Body) (v : ℕ × ℕ) → installed_in w ≡ Some v → w ≡ Installed v.0 v.1
-installed_back (Installed page side) v e = ap (λ (p : ℕ × ℕ). Installed p.0 p.1) (same_some (page, side) v e)
+installed_back (Installed page side) v e = ap (λ (p : ℕ × ℕ). Installed p.0 p.1) (same_Some (page, side) v e)
 installed_back other v e = absurd cc
 
 each_body : (k : ℕ) → IsExactFormat (behind_body k)

@@ -1,5 +1,6 @@
 -- What the test of rising keys tells.
 use Rattle.std.proofs.Common.{◌≡◌, Bool, List, [], ◌∷◌, Some, false, refl, subst, sym, true}
+use Rattle.std.proofs.lemmas.Bool.{and_from, and_parts}
 use Rattle.std.specs.Cmp.{IsTotalOrder}
 use Rattle.std.specs.List.{AllByRecursion}
 use Rattle.std.specs.List.Sorted.{IsStrictlySortedBy}
@@ -14,16 +15,6 @@ less Less h = refl
 less Equal h = cc
 less Greater h = cc
 
-halves : (a b : Bool) → (a && b) ≡ true → (a ≡ true) × (b ≡ true)
-halves true true h = (refl, refl)
-halves true false h = cc
-halves false b h = cc
-
-whole : (a b : Bool) → a ≡ true → b ≡ true → (a && b) ≡ true
-whole true true p q = refl
-whole true false p q = cc
-whole false b p q = cc
-
 module _ {K : Type 0} (cmp : K → K → Ordering) (order : IsTotalOrder cmp) where
   below_all : (x y : K) (xs : List K) → cmp x y ≡ Less → AllByRecursion (λ z. cmp y z ≡ Less) xs → AllByRecursion (λ z. cmp x z ≡ Less) xs
   below_all x y [] l h = tt
@@ -33,7 +24,7 @@ module _ {K : Type 0} (cmp : K → K → Ordering) (order : IsTotalOrder cmp) wh
   unfolding IsStrictlySortedBy
   behind x [] h = (tt, tt)
   behind x (y ∷ ys) h =
-      let p = halves (is_lt (cmp x y)) (rise_from cmp (Some y) ys) h in
+      let p = and_parts (is_lt (cmp x y)) (rise_from cmp (Some y) ys) h in
       let l : cmp x y ≡ Less = less (cmp x y) p.0 in
       let q = behind y ys p.1 in
       ((l, below_all x y ys l q.0), (q.0, q.1))
@@ -46,7 +37,7 @@ module _ {K : Type 0} (cmp : K → K → Ordering) (order : IsTotalOrder cmp) wh
   rises : (x : K) (xs : List K) → AllByRecursion (λ y. cmp x y ≡ Less) xs → IsStrictlySortedBy cmp xs → rise_from cmp (Some x) xs ≡ true
   unfolding IsStrictlySortedBy
   rises x [] a h = refl
-  rises x (y ∷ ys) a h = whole (is_lt (cmp x y)) (rise_from cmp (Some y) ys) (subst (λ (o : Ordering). is_lt o ≡ true) (sym a.0) refl) (rises y ys h.0 h.1)
+  rises x (y ∷ ys) a h = and_from (is_lt (cmp x y)) (rise_from cmp (Some y) ys) (subst (λ (o : Ordering). is_lt o ≡ true) (sym a.0) refl) (rises y ys h.0 h.1)
 
   pub rise_from_sorted : (xs : List K) → IsStrictlySortedBy cmp xs → rise cmp xs ≡ true
   unfolding IsStrictlySortedBy

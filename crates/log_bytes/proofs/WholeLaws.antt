@@ -2,17 +2,15 @@
 use Rattle.std.proofs.Common.{◌≡◌, ℕ, ◌<◌, ◌^◌, List, [], ◌∷◌, ◌++◌, length, Some, None, Result, Ok, Err, refl, sym, ap, subst, ◌∙◌}
 use Rattle.std.specs.Prelude.{IfOk, IsErrOf}
 use Rattle.std.proofs.lemmas.List.{append-nil}
+use Rattle.std.proofs.lemmas.Option.{same_Some}
 use Rattle.thor_value.proofs.Exactness.{IsBytes}
 use Rattle.log_bytes.specs.Format.{Answered, Format, Gives, IsSpelled, to_the_end, value_of}
 use Rattle.log_bytes.specs.declared.fault.BodyFault.{BodyFault}
 use Rattle.log_bytes.specs.declared.fault.BodyFault.TheVariants.{NotOne, NoMemory}
 use Rattle.log_bytes.proofs.Exact.{IsExactFormat, bind_some, some_on}
 
-same_some : {A : Type 0} (x y : A) → Some x ≡ Some y → x ≡ y
-same_some x y e = cc
-
 at_end : {V : Type 0} (x : V × List ℕ) (v : V) → to_the_end x ≡ Some v → (x.0 ≡ v) × (x.1 ≡ [])
-at_end (w, []) v e = (same_some w v e, refl)
+at_end (w, []) v e = (same_Some w v e, refl)
 at_end (w, b ∷ bytes) v e = absurd cc
 
 module _ {V : Type 0} (f : Format V) (ef : IsExactFormat f) (bytes : List ℕ) (b : IsBytes bytes) where
@@ -43,7 +41,7 @@ module _ {V : Type 0} (f : Format V) (ef : IsExactFormat f) (bytes : List ℕ) (
   no_value v e g = let c : None ≡ Some v = sym e ∙ g in cc
 
   pub is_only : (r : Answer) → Gives (λ v. v) r (value_of f bytes) → (v : V) → IsSpelled f bytes v → Answered r (Ok v)
-  is_only (Ok w) g v s = ap (λ (x : V). Ok x) (same_some w v (sym g ∙ value_from v s))
+  is_only (Ok w) g v s = ap (λ (x : V). Ok x) (same_Some w v (sym g ∙ value_from v s))
   is_only (Err NotOne) g v s = absurd (no_value v g (value_from v s))
   is_only (Err NoMemory) g v s = tt
 

@@ -14,7 +14,7 @@ use crate::least::must;
 use crate::nodes::{is_class, line_of};
 use class_defs::{
     Classes, Expr, ExprType, Name, NamedType, NamedTypes, Position, RootDeclaration, Rule,
-    TypeFault, TypeName, class_type, type_named,
+    RuleFault, TypeName, class_type, type_named,
 };
 use thor_value::{NoMemory, TryCopy};
 
@@ -25,7 +25,7 @@ pub fn must_fit(
     locals: &NamedTypes,
     declared: ExprType,
     value: &Expr,
-    found: &mut Option<TypeFault>,
+    found: &mut Option<RuleFault>,
 )
     ensures { found.new ≡ least_with found.old (spec.must_fit (sight body.now locals.now) declared value.now) }
 {
@@ -39,7 +39,7 @@ pub fn must_be_number(
     body: &Body<'_>,
     locals: &NamedTypes,
     value: &Expr,
-    found: &mut Option<TypeFault>,
+    found: &mut Option<RuleFault>,
 )
     ensures { found.new ≡ least_with found.old (spec.must_be_number (sight body.now locals.now) value.now) }
 {
@@ -49,7 +49,7 @@ pub fn must_be_number(
 
 /// T2 and T5: the name is that of a class, and not of a part class.
 #[tactic(auto, using(crate::proofs::Pieces::least_append))]
-pub fn is_free_class(classes: &Classes, name: &Name, found: &mut Option<TypeFault>)
+pub fn is_free_class(classes: &Classes, name: &Name, found: &mut Option<RuleFault>)
     requires { length classes.now ≤ 65536 }
     ensures { found.new ≡ least_with found.old (rules.is_free_class classes.now name.now) }
 {
@@ -59,7 +59,7 @@ pub fn is_free_class(classes: &Classes, name: &Name, found: &mut Option<TypeFaul
 }
 
 /// T2 and T5 of the word of a parameter's, a result's or a local's type.
-pub fn is_free_type(classes: &Classes, type_name: &TypeName, found: &mut Option<TypeFault>)
+pub fn is_free_type(classes: &Classes, type_name: &TypeName, found: &mut Option<RuleFault>)
     requires { length classes.now ≤ 65536 }
     ensures { found.new ≡ least_with found.old (rules.is_free_type classes.now type_name.now) }
 {
@@ -77,7 +77,7 @@ pub fn var_rules(
     type_name: &TypeName,
     line: u32,
     value: &Expr,
-    found: &mut Option<TypeFault>,
+    found: &mut Option<RuleFault>,
 )
     ensures { found.new ≡ least_with found.old (spec.var_rules (sight body.now locals.now) type_name.now line value.now) }
 {
@@ -94,7 +94,7 @@ fn assigned_fits(
     name: &Name,
     given: ExprType,
     line: u32,
-    found: &mut Option<TypeFault>,
+    found: &mut Option<RuleFault>,
 )
     ensures { found.new ≡ least_with found.old (spec.assigned_fits (option_copied local.entry) (option_copied root.entry) name.now given line) }
 {
@@ -113,7 +113,7 @@ pub fn assign_rules(
     name: &Name,
     line: u32,
     value: &Expr,
-    found: &mut Option<TypeFault>,
+    found: &mut Option<RuleFault>,
 )
     ensures { found.new ≡ least_with found.old (spec.assign_rules (sight body.now locals.now) name.now line value.now) }
 {
@@ -154,7 +154,7 @@ pub fn field_assign_rules(
     field: &Name,
     line: u32,
     value: &Expr,
-    found: &mut Option<TypeFault>,
+    found: &mut Option<RuleFault>,
 )
     ensures { found.new ≡ least_with found.old (spec.field_assign_rules (sight body.now locals.now) field.now line value.now) }
 {

@@ -8,7 +8,7 @@ use crate::assignments::{
 };
 use crate::body::Body;
 use crate::judge::judge;
-use class_defs::{Block, NamedTypes, Position, Stmt, TypeFault};
+use class_defs::{Block, NamedTypes, Position, RuleFault, Stmt};
 use thor_value::NoMemory;
 
 /// Finds the rules that a statement breaks, and puts the local that it declares in sight.
@@ -18,7 +18,7 @@ fn statement(
     body: &Body<'_>,
     locals: &mut NamedTypes,
     stmt: &Stmt,
-    found: &mut Option<TypeFault>,
+    found: &mut Option<RuleFault>,
 ) -> Result<(), NoMemory>
     ensures broken { OnOk result (found.new ≡ least_with found.old ((ruled stmt.now).broken (sight body.now locals.old))) }
     ensures locals { OnOk result (locals.new ≡ locals.old ++ (ruled stmt.now).declares body.now.schema.now.classes) }
@@ -75,7 +75,7 @@ pub fn block(
     body: &Body<'_>,
     locals: &mut NamedTypes,
     stmts: &Block,
-    found: &mut Option<TypeFault>,
+    found: &mut Option<RuleFault>,
 ) -> Result<(), NoMemory>
     ensures broken { OnOk result (found.new ≡ least_with found.old (block_rules (sight body.now locals.old) stmts.now)) }
     ensures locals { OnOk result (locals.new ≡ locals.old) }

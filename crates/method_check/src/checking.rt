@@ -15,7 +15,7 @@ use crate::error::CheckError;
 use crate::least::must;
 use crate::names::{names_in, stand_once};
 use class_defs::{
-    Block, Checked, Classes, ExprType, NamedTypes, Names, RootDeclaration, Rule, Schema, TypeFault,
+    Block, Checked, Classes, ExprType, NamedTypes, Names, RootDeclaration, Rule, RuleFault, Schema,
 };
 use std::alloc::Global;
 use thor_value::{NoMemory, TryCopy};
@@ -24,7 +24,7 @@ use thor_value::{NoMemory, TryCopy};
 fn class_names(
     alloc: Global,
     schema: &Schema,
-    found: &mut Option<TypeFault>,
+    found: &mut Option<RuleFault>,
 ) -> Result<(), NoMemory>
     ensures { OnOk result (found.new ≡ least_with found.old (spec.class_names schema.now)) }
 {
@@ -34,7 +34,7 @@ fn class_names(
 }
 
 /// T1 of the roots.
-fn root_names(alloc: Global, schema: &Schema, found: &mut Option<TypeFault>) -> Result<(), NoMemory>
+fn root_names(alloc: Global, schema: &Schema, found: &mut Option<RuleFault>) -> Result<(), NoMemory>
     ensures { OnOk result (found.new ≡ least_with found.old (spec.root_names schema.now)) }
 {
     let mut names = Names::new(alloc);
@@ -44,7 +44,7 @@ fn root_names(alloc: Global, schema: &Schema, found: &mut Option<TypeFault>) -> 
 
 /// What a root breaks.
 #[tactic(auto, using(crate::proofs::Pieces::least_append))]
-fn root_rules(classes: &Classes, repos: u8, root: &RootDeclaration, found: &mut Option<TypeFault>)
+fn root_rules(classes: &Classes, repos: u8, root: &RootDeclaration, found: &mut Option<RuleFault>)
     requires { length classes.now ≤ 65536 }
     ensures { found.new ≡ least_with found.old (spec.root_rules classes.now repos root.now) }
 {
@@ -56,7 +56,7 @@ fn root_rules(classes: &Classes, repos: u8, root: &RootDeclaration, found: &mut 
 }
 
 /// What the roots break.
-fn roots(classes: &Classes, repos: u8, roots: &[RootDeclaration], found: &mut Option<TypeFault>)
+fn roots(classes: &Classes, repos: u8, roots: &[RootDeclaration], found: &mut Option<RuleFault>)
     requires { length classes.now ≤ 65536 }
     ensures { found.new ≡ least_with found.old (flat_map (spec.root_rules classes.now repos) roots.now) }
 {
@@ -73,7 +73,7 @@ pub fn note_schema(
     alloc: Global,
     schema: &Schema,
     repos: u8,
-    found: &mut Option<TypeFault>,
+    found: &mut Option<RuleFault>,
 ) -> Result<(), NoMemory>
     requires few_classes { length schema.now.classes ≤ 65536 }
     ensures found { OnOk result (found.new ≡ least_with found.old (schema_rules schema.now repos)) }
@@ -86,7 +86,7 @@ pub fn note_schema(
 }
 
 /// The fault of a schema that is told.
-fn schema_fault(alloc: Global, schema: &Schema, repos: u8) -> Result<Option<TypeFault>, NoMemory>
+fn schema_fault(alloc: Global, schema: &Schema, repos: u8) -> Result<Option<RuleFault>, NoMemory>
     requires { length schema.now.classes ≤ 65536 }
     ensures { IfOk result (λ fault. fault ≡ least (schema_rules schema.now repos)) }
 {
@@ -116,7 +116,7 @@ fn item_names(
     alloc: Global,
     schema: &Schema,
     item: &Block,
-    found: &mut Option<TypeFault>,
+    found: &mut Option<RuleFault>,
 ) -> Result<(), NoMemory>
     ensures { OnOk result (found.new ≡ least_with found.old (spec.item_names schema.now item.now)) }
 {
@@ -142,7 +142,7 @@ pub fn note_item(
     schema: &Schema,
     item: &Block,
     repos: u8,
-    found: &mut Option<TypeFault>,
+    found: &mut Option<RuleFault>,
 ) -> Result<(), NoMemory>
     requires few_classes { length schema.now.classes ≤ 65536 }
     ensures found { OnOk result (found.new ≡ least_with found.old (item_rules schema.now repos item.now)) }
@@ -164,7 +164,7 @@ fn item_fault(
     schema: &Schema,
     item: &Block,
     repos: u8,
-) -> Result<Option<TypeFault>, NoMemory>
+) -> Result<Option<RuleFault>, NoMemory>
     requires { length schema.now.classes ≤ 65536 }
     ensures { IfOk result (λ fault. fault ≡ least (item_rules schema.now repos item.now)) }
 {

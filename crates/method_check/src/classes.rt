@@ -8,12 +8,12 @@ use crate::declared::names_of;
 use crate::methods::method_rules;
 use crate::names::stand_once;
 use crate::nodes::is_class;
-use class_defs::{Class, Classes, Field, Method, Names, Schema, TypeFault, TypeName};
+use class_defs::{Class, Classes, Field, Method, Names, RuleFault, Schema, TypeName};
 use std::alloc::Global;
 use thor_value::NoMemory;
 
 /// T2 of the word of a field's type.
-fn is_type(classes: &Classes, type_name: &TypeName, found: &mut Option<TypeFault>)
+fn is_type(classes: &Classes, type_name: &TypeName, found: &mut Option<RuleFault>)
     requires { length classes.now ≤ 65536 }
     ensures { found.new ≡ least_with found.old (rules.is_type classes.now type_name.now) }
 {
@@ -25,7 +25,7 @@ fn is_type(classes: &Classes, type_name: &TypeName, found: &mut Option<TypeFault
 
 /// What the words of the fields' types break.
 #[tactic(auto, using(crate::proofs::Pieces::least_append))]
-fn field_types(classes: &Classes, fields: &[Field], found: &mut Option<TypeFault>)
+fn field_types(classes: &Classes, fields: &[Field], found: &mut Option<RuleFault>)
     requires { length classes.now ≤ 65536 }
     ensures { found.new ≡ least_with found.old (flat_map (λ f. rules.is_type classes.now f.type_name) fields.now) }
 {
@@ -35,7 +35,7 @@ fn field_types(classes: &Classes, fields: &[Field], found: &mut Option<TypeFault
 }
 
 /// T1 of a class's fields and methods.
-fn member_names(alloc: Global, class: &Class, found: &mut Option<TypeFault>) -> Result<(), NoMemory>
+fn member_names(alloc: Global, class: &Class, found: &mut Option<RuleFault>) -> Result<(), NoMemory>
     ensures { OnOk result (found.new ≡ least_with found.old (spec.member_names class.now)) }
 {
     let mut names = Names::new(alloc);
@@ -52,7 +52,7 @@ pub fn methods(
     repos: u8,
     class: u16,
     methods: &[Method],
-    found: &mut Option<TypeFault>,
+    found: &mut Option<RuleFault>,
 ) -> Result<(), NoMemory>
     requires { length schema.now.classes ≤ 65536 }
     ensures { OnOk result (found.new ≡ least_with found.old (flat_map (spec.method_rules schema.now repos class) methods.now)) }
@@ -71,7 +71,7 @@ pub fn class_rules(
     repos: u8,
     number: u16,
     class: &Class,
-    found: &mut Option<TypeFault>,
+    found: &mut Option<RuleFault>,
 ) -> Result<(), NoMemory>
     requires { length schema.now.classes ≤ 65536 }
     ensures { OnOk result (found.new ≡ least_with found.old (spec.class_rules schema.now repos number class.now)) }
@@ -94,7 +94,7 @@ pub fn classes(
     alloc: Global,
     schema: &Schema,
     repos: u8,
-    found: &mut Option<TypeFault>,
+    found: &mut Option<RuleFault>,
 ) -> Result<(), NoMemory>
     requires { length schema.now.classes ≤ 65536 }
     ensures { OnOk result (found.new ≡ least_with found.old (spec.classes_from schema.now repos 0 schema.now.classes)) }

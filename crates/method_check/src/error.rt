@@ -1,15 +1,15 @@
 ghost use Rattle.std.specs.Prelude.{◌≡◌};
 
-use class_defs::TypeFault;
+use class_defs::RuleFault;
 use std::error::Error;
 use std::fmt;
 use thor_value::NoMemory;
 
-/// Why a check doesn't answer Ok.
+/// Why a check of a schema, an item or an upgrade doesn't answer Ok.
 #[derive(Debug, Drop)]
 pub enum CheckError {
     /// A rule is broken.
-    Broken(TypeFault),
+    Broken(RuleFault),
     /// Memory was not there.
     NoMemory,
 }
@@ -27,7 +27,7 @@ impl From<NoMemory> for CheckError {
 impl fmt::Display for CheckError {
     fn fmt<W: fmt::Write>(&self, f: &mut fmt::Formatter<W>) -> fmt::Result {
         match self {
-            CheckError::Broken(fault) => write!(f, "{} {}", fault.line, fault.rule),
+            CheckError::Broken(fault) => write!(f, "{fault}"),
             CheckError::NoMemory => write!(f, "out of memory"),
         }
     }

@@ -11,7 +11,7 @@ use crate::nodes::{
     argument_fits, behind_first, beside, called_rules, field_rules, line_of, name_rules, new_rules,
     parameters_of, result_type, this_rules,
 };
-use class_defs::{Expr, ExprType, Exprs, NamedTypes, Parameter, Position, Rule, TypeFault};
+use class_defs::{Expr, ExprType, Exprs, NamedTypes, Parameter, Position, Rule, RuleFault};
 
 /// Finds the rules that an expression breaks where it stands, and gives its type.
 #[cycle(judge)]
@@ -21,7 +21,7 @@ pub fn judge(
     locals: &NamedTypes,
     expr: &Expr,
     place: Position,
-    found: &mut Option<TypeFault>,
+    found: &mut Option<RuleFault>,
 ) -> ExprType
     ensures kind { result ≡ (judged (sight body.now locals.now) expr.now).kind }
     ensures broken { found.new ≡ least_with found.old ((judged (sight body.now locals.now) expr.now).broken place) }
@@ -75,7 +75,7 @@ fn judge_arguments(
     locals: &NamedTypes,
     parameters: &[Parameter],
     arguments: &Exprs,
-    found: &mut Option<TypeFault>,
+    found: &mut Option<RuleFault>,
 )
     ensures { found.new ≡ least_with found.old (arguments_rules body.now.schema.now.classes parameters.now (map (judged (sight body.now locals.now)) arguments.now)) }
 {
@@ -94,7 +94,7 @@ fn judge_argument(
     locals: &NamedTypes,
     parameter: Option<&Parameter>,
     argument: &Expr,
-    found: &mut Option<TypeFault>,
+    found: &mut Option<RuleFault>,
 )
     ensures { found.new ≡ least_with found.old (argument_rules body.now.schema.now.classes (option_copied parameter.entry) (judged (sight body.now locals.now) argument.now)) }
 {

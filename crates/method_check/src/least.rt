@@ -2,7 +2,7 @@ ghost use Rattle.std.specs.Prelude.{◌≡◌};
 ghost use Rattle.class_defs.specs.Rules as spec;
 ghost use Rattle.class_defs.specs.Rules.{least_with};
 
-use class_defs::{Rule, TypeFault};
+use class_defs::{Rule, RuleFault};
 
 /// The place of a rule among the rules, from 1.
 fn rule_number(rule: Rule) -> u8
@@ -17,11 +17,19 @@ fn rule_number(rule: Rule) -> u8
         Rule::T6 => 6,
         Rule::T7 => 7,
         Rule::T8 => 8,
+        Rule::T9 => 9,
+        Rule::O1 => 10,
+        Rule::O2 => 11,
+        Rule::O3 => 12,
+        Rule::O4 => 13,
+        Rule::O5 => 14,
+        Rule::O6 => 15,
+        Rule::O7 => 16,
     }
 }
 
 /// Whether a fault is told rather than another.
-fn told_before(fault: TypeFault, other: TypeFault) -> bool
+fn told_before(fault: RuleFault, other: RuleFault) -> bool
     ensures { result ≡ spec.told_before fault other }
 {
     fault.line < other.line
@@ -29,8 +37,8 @@ fn told_before(fault: TypeFault, other: TypeFault) -> bool
 }
 
 /// The one of two faults that is told.
-fn lesser(found: Option<TypeFault>, fault: TypeFault) -> Option<TypeFault>
-    ensures { result ≡ spec.lesser found fault }
+pub fn lesser(found: Option<RuleFault>, fault: RuleFault) -> Option<RuleFault>
+    ensures told { result ≡ spec.lesser found fault }
 {
     match found {
         None => Some(fault),
@@ -45,10 +53,10 @@ fn lesser(found: Option<TypeFault>, fault: TypeFault) -> Option<TypeFault>
 }
 
 /// Notes a rule that doesn't hold, if no fault that was found before is told rather than it.
-pub fn must(holds: bool, rule: Rule, line: u32, found: &mut Option<TypeFault>)
-    ensures { found.new ≡ least_with found.old (spec.must holds rule line) }
+pub fn must(holds: bool, rule: Rule, line: u32, found: &mut Option<RuleFault>)
+    ensures told { found.new ≡ least_with found.old (spec.must holds rule line) }
 {
     if !holds {
-        *found = lesser(*found, TypeFault { line, rule });
+        *found = lesser(*found, RuleFault { line, rule });
     }
 }

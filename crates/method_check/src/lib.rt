@@ -21,3 +21,4 @@ pub use classes::{class_rules, methods as methods_rules};
 pub use error::CheckError;
 pub use kinds::is_part;
 pub use laws::the_least_fault_is_told;
+pub use least::{lesser, must};

@@ -10,14 +10,14 @@ use crate::body::Body;
 use crate::declared::names_of;
 use crate::names::{names_in, stand_once};
 use class_defs::{
-    Classes, Method, NamedType, NamedTypes, Names, Parameter, Schema, TypeFault, type_named,
+    Classes, Method, NamedType, NamedTypes, Names, Parameter, RuleFault, Schema, type_named,
 };
 use std::alloc::Global;
 use thor_value::{NoMemory, TryCopy};
 
 /// What the words of the parameters' types break.
 #[tactic(auto, using(crate::proofs::Pieces::least_append))]
-fn parameter_types(classes: &Classes, parameters: &[Parameter], found: &mut Option<TypeFault>)
+fn parameter_types(classes: &Classes, parameters: &[Parameter], found: &mut Option<RuleFault>)
     requires { length classes.now ≤ 65536 }
     ensures { found.new ≡ least_with found.old (flat_map (λ p. rules.is_free_type classes.now p.type_name) parameters.now) }
 {
@@ -28,7 +28,7 @@ fn parameter_types(classes: &Classes, parameters: &[Parameter], found: &mut Opti
 
 /// What the words of a method's types break.
 #[tactic(auto, using(crate::proofs::Pieces::least_append))]
-fn method_types(classes: &Classes, method: &Method, found: &mut Option<TypeFault>)
+fn method_types(classes: &Classes, method: &Method, found: &mut Option<RuleFault>)
     requires { length classes.now ≤ 65536 }
     ensures { found.new ≡ least_with found.old (spec.method_types classes.now method.now) }
 {
@@ -37,7 +37,7 @@ fn method_types(classes: &Classes, method: &Method, found: &mut Option<TypeFault
 }
 
 /// T1 of a method's parameters and locals.
-fn body_names(alloc: Global, method: &Method, found: &mut Option<TypeFault>) -> Result<(), NoMemory>
+fn body_names(alloc: Global, method: &Method, found: &mut Option<RuleFault>) -> Result<(), NoMemory>
     ensures { OnOk result (found.new ≡ least_with found.old (spec.body_names method.now)) }
 {
     let mut names = Names::new(alloc);
@@ -78,7 +78,7 @@ fn method_body(
     repos: u8,
     class: u16,
     method: &Method,
-    found: &mut Option<TypeFault>,
+    found: &mut Option<RuleFault>,
 ) -> Result<(), NoMemory>
     requires { length schema.now.classes ≤ 65536 }
     ensures { OnOk result (found.new ≡ least_with found.old (spec.body_rules schema.now repos class method.now)) }
@@ -101,7 +101,7 @@ pub fn method_rules(
     repos: u8,
     class: u16,
     method: &Method,
-    found: &mut Option<TypeFault>,
+    found: &mut Option<RuleFault>,
 ) -> Result<(), NoMemory>
     requires { length schema.now.classes ≤ 65536 }
     ensures { OnOk result (found.new ≡ least_with found.old (spec.method_rules schema.now repos class method.now)) }

@@ -9,7 +9,7 @@ ghost use Rattle.class_defs.specs.declared.rules.Rule.TheVariants.{T1};
 ghost use Rattle.method_check.specs.Seen.{Has};
 
 use crate::least::must;
-use class_defs::{Block, Name, Names, Rule, Stmt, TypeFault};
+use class_defs::{Block, Name, Names, Rule, RuleFault, Stmt};
 use std::alloc::Global;
 use std::collections::HashSet;
 use thor_value::{NoMemory, TryCopy};
@@ -78,7 +78,7 @@ fn is_new(seen: &mut Seen, name: &Name) -> Result<bool, NoMemory>
 }
 
 /// T1 of one name behind those that were seen.
-fn stands_once(seen: &mut Seen, name: &Name, found: &mut Option<TypeFault>) -> Result<(), NoMemory>
+fn stands_once(seen: &mut Seen, name: &Name, found: &mut Option<RuleFault>) -> Result<(), NoMemory>
     ensures found { OnOk result ((earlier : List Name) → Has seen.old earlier → found.new ≡ least_with found.old (rules.must (not (list_any (λ m. bytes_eq m.text name.now.text) earlier)) T1 name.now.line)) }
     ensures seen { OnOk result ((earlier : List Name) → Has seen.old earlier → Has seen.new (earlier ++ name.now ∷ [])) }
 {
@@ -103,7 +103,7 @@ pub fn stand_once(
     alloc: Global,
     names: &Names,
     earlier: usize,
-    found: &mut Option<TypeFault>,
+    found: &mut Option<RuleFault>,
 ) -> Result<(), NoMemory>
     requires { earlier ≤ length names.now }
     ensures { OnOk result (found.new ≡ least_with found.old (rules.stand_once (take earlier names.now) (drop earlier names.now))) }

@@ -15,7 +15,7 @@ use crate::kinds::{field_in_sight, field_type, fits, is_part, type_in_sight};
 use crate::least::must;
 use class_defs::{
     At, Classes, Expr, ExprType, Method, Name, NamedTypes, Operator, Parameter, Position, Rule,
-    TypeFault, class_named, class_type, type_named,
+    RuleFault, class_named, class_type, type_named,
 };
 
 /// The line of an expression's own token.
@@ -100,7 +100,7 @@ pub fn beside(operator: Operator, other: &Expr) -> Position
 
 /// T2: the name is that of a class.
 #[tactic(auto, using(crate::proofs::Pieces::least_append))]
-pub fn is_class(classes: &Classes, name: &Name, found: &mut Option<TypeFault>)
+pub fn is_class(classes: &Classes, name: &Name, found: &mut Option<RuleFault>)
     requires { length classes.now ≤ 65536 }
     ensures { found.new ≡ least_with found.old (rules.is_class classes.now name.now) }
 {
@@ -115,7 +115,7 @@ pub fn this_rules(
     locals: &NamedTypes,
     line: u32,
     place: Position,
-    found: &mut Option<TypeFault>,
+    found: &mut Option<RuleFault>,
 ) -> ExprType
     ensures kind { result ≡ class_or_untold body.now.this }
     ensures broken { found.new ≡ least_with found.old (spec.this_rules (sight body.now locals.now) line place) }
@@ -137,7 +137,7 @@ pub fn field_rules(
     locals: &NamedTypes,
     name: &Name,
     place: Position,
-    found: &mut Option<TypeFault>,
+    found: &mut Option<RuleFault>,
 ) -> ExprType
     ensures kind { result ≡ types.field_type (rules.scope_of (sight body.now locals.now)) name.now.text }
     ensures broken { found.new ≡ least_with found.old (spec.field_rules (sight body.now locals.now) name.now place) }
@@ -155,7 +155,7 @@ pub fn name_rules(
     body: &Body<'_>,
     locals: &NamedTypes,
     name: &Name,
-    found: &mut Option<TypeFault>,
+    found: &mut Option<RuleFault>,
 ) -> ExprType
     ensures kind { result ≡ types.name_type (rules.scope_of (sight body.now locals.now)) name.now.text }
     ensures broken { found.new ≡ least_with found.old (rules.must (is_some (rules.type_in_sight (sight body.now locals.now) name.now.text)) T2 name.now.line) }
@@ -170,7 +170,7 @@ pub fn name_rules(
 
 /// What the word `at` and the number behind it break.
 #[tactic(auto, using(crate::proofs::Pieces::least_append))]
-fn at_rules(body: &Body<'_>, locals: &NamedTypes, at: Option<At>, found: &mut Option<TypeFault>)
+fn at_rules(body: &Body<'_>, locals: &NamedTypes, at: Option<At>, found: &mut Option<RuleFault>)
     ensures { found.new ≡ least_with found.old (spec.at_rules (sight body.now locals.now) at) }
 {
     if let Some(at) = at {
@@ -188,7 +188,7 @@ pub fn new_rules(
     class: &Name,
     at: Option<At>,
     place: Position,
-    found: &mut Option<TypeFault>,
+    found: &mut Option<RuleFault>,
 ) -> ExprType
     ensures kind { result ≡ class_or_untold (types.class_named body.now.schema.now.classes class.now.text) }
     ensures broken { found.new ≡ least_with found.old (spec.new_rules (sight body.now locals.now) class.now at place) }
@@ -217,7 +217,7 @@ pub fn called_rules(
     method: Option<&Method>,
     name: &Name,
     arguments: usize,
-    found: &mut Option<TypeFault>,
+    found: &mut Option<RuleFault>,
 )
     ensures { found.new ≡ least_with found.old (spec.called_rules receiver (option_copied method.entry) name.now arguments) }
 {
@@ -236,7 +236,7 @@ pub fn argument_fits(
     parameter: Option<&Parameter>,
     given: ExprType,
     line: u32,
-    found: &mut Option<TypeFault>,
+    found: &mut Option<RuleFault>,
 )
     requires { length classes.now ≤ 65536 }
     ensures { found.new ≡ least_with found.old (spec.argument_fits classes.now (option_copied parameter.entry) given line) }

@@ -4,6 +4,7 @@ use Rattle.std.specs.Prelude.{codes, ◌&&◌, option_map}
 use Rattle.std.specs.Str.{bytes_eq}
 use Rattle.std.specs.Option.{is_some}
 use Rattle.std.proofs.lemmas.Slice.Eq.{bytes_eq-Decides}
+use Rattle.std.proofs.lemmas.Bool.{and_right}
 use Rattle.script_text.specs.declared.token.Token.{Token}
 use Rattle.script_text.specs.declared.token.TokenKind.{TokenKind}
 use Rattle.script_text.specs.declared.token.TokenKind.TheVariants as kinds
@@ -25,11 +26,7 @@ fixed_is text t kind same = rw (kind, same) ((bytes_eq-Decides text text).1 refl
 
 -- and not another one
 pub is_not : (text other : List ℕ) (t : Token) → t.text ≡ text → bytes_eq text other ≡ false → is other t ≡ false
-is_not text other t same apart = not_both (is_fixed_kind t.kind) (bytes_eq t.text other) (rw same apart)
-  where
-    not_both : (a b : Bool) → b ≡ false → (a && b) ≡ false
-    not_both true b e = e
-    not_both false b e = refl
+is_not text other t same apart = and_right (is_fixed_kind t.kind) (bytes_eq t.text other) (rw same apart)
 
 -- the tokens are one word and more
 pub record First (ts : List Token) (w : Word) (ws : List Word) : Type 0 where

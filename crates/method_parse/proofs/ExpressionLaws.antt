@@ -3,7 +3,7 @@
 use Rattle.std.proofs.Common.{◌≡◌, ℕ, zero, suc, ◌+◌, ◌-◌, ◌≤◌, ◌<◌, max, Bool, true, false, List, [], ◌∷◌, ◌++◌, map, Option, Some, None, pos, refl, sym, ap, subst, ◌∙◌, arith}
 use Rattle.std.specs.Prelude.{codes, ◌&&◌, nat_lt, nat_le}
 use Rattle.std.proofs.lemmas.List.{append-nil}
-use Rattle.std.proofs.lemmas.Bool.{ltb-true, le-leb}
+use Rattle.std.proofs.lemmas.Bool.{ltb-true, le-leb, and_parts, and_from}
 use Rattle.std.specs.Str.{bytes_eq}
 use Rattle.std.specs.Option.{is_some}
 use Rattle.std.proofs.lemmas.Slice.Eq.{bytes_eq-Decides}
@@ -32,9 +32,9 @@ use Rattle.method_parse.specs.Matching.{AreWords, is, is_fixed_kind}
 use Rattle.method_parse.specs.Reader.{Reader, ◌>>=◌, repeat}
 use Rattle.method_parse.specs.Expressions.{at, with_argument, first_argument, argument, is_comma, more_arguments, some_arguments, listed, arguments, call, leaf, may_call, is_field_call, after_field, after_this, created, parens, fixed_start, start_by, start, primary_by, primary, called, is_call, calls, postfix, Parts, is_minus, unary, operator_of, operator_by, operator_in, with_operator_line, operator, tighter, joined, is_join, joins, at_level, expression_in}
 use Rattle.method_parse.proofs.Lawful.{Says, Lawful, Some_text, behind, lawful_bind, lawful_give, lawful_last, lawful_stuck, lawful_as, lawful_if, lawful_repeat, lawful_repeat_all}
-use Rattle.method_parse.proofs.Matched.{join, plain, SaysWord, SaysName, both_true, lawful_one, lawful_word, lawful_name, lawful_number}
+use Rattle.method_parse.proofs.Matched.{join, plain, SaysWord, SaysName, lawful_one, lawful_word, lawful_name, lawful_number}
 use Rattle.method_parse.proofs.Equations as eq
-use Rattle.method_parse.proofs.Fits.{tightness, FitsIn, IsRead, looser, ListFits, IsListed, IsBegun, IsApplied, commas-push, filled-push, deepest-push, nested-push, and-both, proper-push}
+use Rattle.method_parse.proofs.Fits.{tightness, FitsIn, IsRead, looser, ListFits, IsListed, IsBegun, IsApplied, commas-push, filled-push, deepest-push, nested-push, proper-push}
 
 abbrev pub SaysAt : Says (Option At)
 SaysAt o ts = AreWords ts (at_words o)
@@ -79,7 +79,7 @@ module _ (place : Place) (brackets room : ℕ) (inner : Reader Deep) (law : Lawf
         deep = omega (arith, s.fits.deep);
         within = s.fits.within;
         nested = omega (arith, s.fits.nested);
-        proper = and-both (shape place d.expr).proper true s.fits.proper refl;
+        proper = and_from (shape place d.expr).proper true s.fits.proper refl;
       };
     };
     filled = tt;
@@ -107,10 +107,6 @@ module _ (place : Place) (brackets room : ℕ) (inner : Reader Deep) (law : Lawf
             (join f2 f3 (with_commas (map expr_words a.exprs)) (Fixed (codes ")") ∷ []) s2.spelled (plain f3 (codes ")") c s3));
         fits = s2.fits;
       })))
-
--- a test of two parts
-pub test_both : (a b : Bool) → (a && b) ≡ true → (a ≡ true) × (b ≡ true)
-test_both a b e = both_true a b e
 
 pub picked : {X : Type 0} (P : X → Type 0) (b : Bool) (x y : X) → (b ≡ true → P x) → P y → P (cond b x y)
 picked P true x y one other = one refl
@@ -250,8 +246,8 @@ module _ (place : Place) (room : Room) (below : ℕ) (deeper : room.depth ≡ be
       within = omega (arith, s3.fits.within);
       nested = omega (arith, receiver.fits.nested, s3.fits.nested);
       tight = omega arith;
-      proper = and-both ((shape place r.expr).proper && nat_le 4 (shape place r.expr).level) (all_proper (map (shape place) a.exprs))
-          (and-both (shape place r.expr).proper (nat_le 4 (shape place r.expr).level) receiver.fits.proper (le-leb 4 (shape place r.expr).level receiver.fits.tight)) s3.fits.proper;
+      proper = and_from ((shape place r.expr).proper && nat_le 4 (shape place r.expr).level) (all_proper (map (shape place) a.exprs))
+          (and_from (shape place r.expr).proper (nat_le 4 (shape place r.expr).level) receiver.fits.proper (le-leb 4 (shape place r.expr).level receiver.fits.tight)) s3.fits.proper;
     });
   }
 
@@ -269,15 +265,15 @@ module _ (place : Place) (room : Room) (below : ℕ) (deeper : room.depth ≡ be
   unfolding calls
   lawful_calls r front receiver =
       lawful_repeat (Here 4) (is_call room) (called inner) (λ x f s t p.
-      let two = both_true (is (codes ".") t) (nat_lt 0 room.brackets && nat_lt x.depth room.depth) p in
-      let may = both_true (nat_lt 0 room.brackets) (nat_lt x.depth room.depth) two.1 in
+      let two = and_parts (is (codes ".") t) (nat_lt 0 room.brackets && nat_lt x.depth room.depth) p in
+      let may = and_parts (nat_lt 0 room.brackets) (nat_lt x.depth room.depth) two.1 in
       lawful_called x f s (ltb-true x.depth room.depth may.1) (ltb-true 0 room.brackets may.0))
       room.depth r front receiver
 
   may_be : (t : Token) → is_field_call room t ≡ true → (0 < room.brackets) × (0 < below)
   may_be t p =
-      let two = both_true (is (codes "(") t) (nat_lt 0 room.brackets && nat_lt 1 room.depth) p in
-      let may = both_true (nat_lt 0 room.brackets) (nat_lt 1 room.depth) two.1 in
+      let two = and_parts (is (codes "(") t) (nat_lt 0 room.brackets && nat_lt 1 room.depth) p in
+      let may = and_parts (nat_lt 0 room.brackets) (nat_lt 1 room.depth) two.1 in
       let deep : 1 < room.depth = ltb-true 1 room.depth may.1 in
       (ltb-true 0 room.brackets may.0, omega arith)
 
@@ -349,10 +345,10 @@ module _ (place : Place) (room : Room) (below : ℕ) (deeper : room.depth ≡ be
   fixed_allows : (text : List ℕ) → Allows (fixed_start place room text)
   fixed_allows text =
       picked Allows (bytes_eq text (codes "null")) starts.Null _ (λ p. tt)
-      (picked Allows (bytes_eq text (codes "this") && in_method place) starts.This _ (λ p. (both_true (bytes_eq text (codes "this")) (in_method place) p).1)
-      (picked Allows (bytes_eq text (codes "new") && nat_lt 0 room.brackets) starts.New _ (λ p. ltb-true 0 room.brackets (both_true (bytes_eq text (codes "new")) (nat_lt 0 room.brackets) p).1)
+      (picked Allows (bytes_eq text (codes "this") && in_method place) starts.This _ (λ p. (and_parts (bytes_eq text (codes "this")) (in_method place) p).1)
+      (picked Allows (bytes_eq text (codes "new") && nat_lt 0 room.brackets) starts.New _ (λ p. ltb-true 0 room.brackets (and_parts (bytes_eq text (codes "new")) (nat_lt 0 room.brackets) p).1)
       (picked Allows (bytes_eq text (codes "(") && may_call room) starts.Parens starts.Other (λ p.
-      let may = both_true (nat_lt 0 room.brackets) (nat_lt 1 room.depth) (both_true (bytes_eq text (codes "(")) (may_call room) p).1 in
+      let may = and_parts (nat_lt 0 room.brackets) (nat_lt 1 room.depth) (and_parts (bytes_eq text (codes "(")) (may_call room) p).1 in
       let deep : 1 < room.depth = ltb-true 1 room.depth may.1 in
       (ltb-true 0 room.brackets may.0, omega arith)) tt)))
 
@@ -400,7 +396,7 @@ module _ (place : Place) (room : Room) (below : ℕ) (deeper : room.depth ≡ be
   lawful_unary =
       lawful_if (is_minus room)
       (λ t p.
-      let two = both_true (is (codes "-") t) (nat_lt 1 room.depth) p in
+      let two = and_parts (is (codes "-") t) (nat_lt 1 room.depth) p in
       let deep : 1 < room.depth = ltb-true 1 room.depth two.1 in
       let more : 0 < below = omega arith in
       lawful_bind (lawful_word (codes "-")) (λ l f1 s1. lawful_last (λ d. record { expr = e.Negate d.expr l; depth = d.depth + 1 }) (parts_law more levels.Unary) (λ d f2 s2. record {
@@ -412,7 +408,7 @@ module _ (place : Place) (room : Room) (below : ℕ) (deeper : room.depth ≡ be
           within = omega (arith, s2.fits.within);
           nested = s2.fits.nested;
           tight = omega arith;
-          proper = and-both (shape place d.expr).proper (nat_le 3 (shape place d.expr).level) s2.fits.proper (le-leb 3 (shape place d.expr).level s2.fits.tight);
+          proper = and_from (shape place d.expr).proper (nat_le 3 (shape place d.expr).level) s2.fits.proper (le-leb 3 (shape place d.expr).level s2.fits.tight);
         });
       })))
       (lawful_as (λ d ts s. looser place room.brackets room.depth 4 3 d ts (omega arith) s) lawful_postfix)
@@ -433,14 +429,14 @@ module _ (place : Place) (room : Room) (below : ℕ) (deeper : room.depth ≡ be
           within = omega (arith, s2.fits.within);
           nested = omega (arith, left.fits.nested, s2.fits.nested);
           tight = omega (arith, s1.of.at);
-          proper = and-both ((shape place l.expr).proper && nat_le (left_level o.0) (shape place l.expr).level) ((shape place r.expr).proper && nat_le (right_level o.0) (shape place r.expr).level)
-              (and-both (shape place l.expr).proper (nat_le (left_level o.0) (shape place l.expr).level) left.fits.proper (le-leb (left_level o.0) (shape place l.expr).level (omega (arith, s1.of.left, left.fits.tight))))
-              (and-both (shape place r.expr).proper (nat_le (right_level o.0) (shape place r.expr).level) s2.fits.proper (le-leb (right_level o.0) (shape place r.expr).level (omega (arith, s1.of.at, has.next, s2.fits.tight))));
+          proper = and_from ((shape place l.expr).proper && nat_le (left_level o.0) (shape place l.expr).level) ((shape place r.expr).proper && nat_le (right_level o.0) (shape place r.expr).level)
+              (and_from (shape place l.expr).proper (nat_le (left_level o.0) (shape place l.expr).level) left.fits.proper (le-leb (left_level o.0) (shape place l.expr).level (omega (arith, s1.of.left, left.fits.tight))))
+              (and_from (shape place r.expr).proper (nat_le (right_level o.0) (shape place r.expr).level) s2.fits.proper (le-leb (right_level o.0) (shape place r.expr).level (omega (arith, s1.of.at, has.next, s2.fits.tight))));
         });
       }))
 
   join_deep : (level : Level) (x : Deep) (t : Token) → is_join level room x t ≡ true → x.depth < room.depth
-  join_deep level x t p = ltb-true x.depth room.depth (both_true (is_some (operator_in level t)) (nat_lt x.depth room.depth) p).1
+  join_deep level x t p = ltb-true x.depth room.depth (and_parts (is_some (operator_in level t)) (nat_lt x.depth room.depth) p).1
 
   lawful_terms : (l : Deep) (front : List Token) → Here 2 l front → Lawful (behind front (Here 2)) (joins levels.Term room parts l)
   unfolding joins

@@ -1,7 +1,7 @@
 -- Expressions that are spelled are read.
 use Rattle.std.proofs.Common.{◌≡◌, ℕ, ℤ, zero, suc, ◌+◌, ◌-◌, ◌≤◌, ◌<◌, max, Bool, true, false, List, [], ◌∷◌, ◌++◌, map, Option, Some, None, Result, Ok, pos, refl, sym, ap, subst, ◌∙◌, append_assoc, arith}
 use Rattle.std.specs.Prelude.{codes, ◌&&◌, nat_lt, nat_le, option_map}
-use Rattle.std.proofs.lemmas.Bool.{leb-true, lt-ltb}
+use Rattle.std.proofs.lemmas.Bool.{leb-true, lt-ltb, and_from, and_parts}
 use Rattle.script_text.specs.declared.token.Token.{Token}
 use Rattle.script_text.specs.declared.token.TokenKind.{TokenKind}
 use Rattle.script_text.specs.declared.token.TokenKind.TheVariants as kinds
@@ -25,9 +25,8 @@ use Rattle.method_parse.specs.declared.deep.Start.TheVariants as starts
 use Rattle.method_parse.specs.Matching.{IsWord, AreWords, is, is_fixed_kind, is_name_kind}
 use Rattle.method_parse.specs.Reader.{Reader, ◌>>=◌, onward, give, word, name, number, next, repeat}
 use Rattle.method_parse.specs.Expressions.{at, arguments, call, leaf, may_call, is_field_call, after_field, after_this, created, parens, fixed_start, start_by, start, primary_by, primary, called, is_call, calls, postfix, Parts}
-use Rattle.method_parse.proofs.Matched.{both_true}
 use Rattle.method_parse.proofs.Repeats.{no_turn}
-use Rattle.method_parse.proofs.Fits.{tightness, and-both}
+use Rattle.method_parse.proofs.Fits.{tightness}
 use Rattle.method_parse.proofs.Equations as eq
 use Rattle.method_parse.proofs.Eats.{fixed_is, first, split, nothing, word_then, line_then, name_then, number_then, part_then, stops_before, stop_close}
 use Rattle.method_parse.proofs.Heads.{positive}
@@ -163,7 +162,7 @@ module _ (place : Place) (room : Room) (below : ℕ) (deeper : room.depth ≡ be
   room_for x fit more = omega (arith, fit.within)
 
   may : 0 < room.brackets → 0 < below → may_call room ≡ true
-  may some deep = and-both (nat_lt 0 room.brackets) (nat_lt 1 room.depth) (lt-ltb 0 room.brackets some) (lt-ltb 1 room.depth (omega arith))
+  may some deep = and_from (nat_lt 0 room.brackets) (nat_lt 1 room.depth) (lt-ltb 0 room.brackets some) (lt-ltb 1 room.depth (omega arith))
 
   -- what fits of a call
   record CallFit (r : Expr) (xs : List Expr) : Type 0 where
@@ -177,8 +176,8 @@ module _ (place : Place) (room : Room) (below : ℕ) (deeper : room.depth ≡ be
   call_fit r n xs fit =
       let f : Suits room.brackets room.depth 4 (record { level = 4; depth = max (shape place r).depth (deepest (map (shape place) xs)) + 1; nesting = max (shape place r).nesting (most_nested (map (shape place) xs) + 1); proper = ((shape place r).proper && nat_le 4 (shape place r).level) && all_proper (map (shape place) xs) })
       = subst (λ (s : Shape). Suits room.brackets room.depth 4 s) (eq.shape-Call place r n xs) fit in
-      let all = both_true ((shape place r).proper && nat_le 4 (shape place r).level) (all_proper (map (shape place) xs)) f.proper in
-      let two = both_true (shape place r).proper (nat_le 4 (shape place r).level) all.0 in
+      let all = and_parts ((shape place r).proper && nat_le 4 (shape place r).level) (all_proper (map (shape place) xs)) f.proper in
+      let two = and_parts (shape place r).proper (nat_le 4 (shape place r).level) all.0 in
       record {
         receiver = record { within = omega (arith, f.within); nested = omega (arith, f.nested); tight = leb-true 4 (shape place r).level two.1; proper = two.0 };
         less = omega (arith, f.within);
@@ -189,7 +188,7 @@ module _ (place : Place) (room : Room) (below : ℕ) (deeper : room.depth ≡ be
 
   field_call_passes : 0 < room.brackets → 0 < below → (us rest : List Token) (ws : List Word) → AreWords us (Fixed (codes "(") ∷ ws) → next (is_field_call room) (us ++ rest) ≡ true
   field_call_passes some enough [] rest ws h = absurd h
-  field_call_passes some enough (t ∷ us) rest ws h = and-both (is (codes "(") t) (may_call room) (fixed_is (codes "(") t h.0.0 h.0.1) (may some enough)
+  field_call_passes some enough (t ∷ us) rest ws h = and_from (is (codes "(") t) (may_call room) (fixed_is (codes "(") t h.0.0 h.0.1) (may some enough)
 
   -- a call of a method of `this`
   this_call_reads : (l : ℕ) (n : Name) (xs : List Expr) (ts rest : List Token) → AreWords ts (expr_words (e.Call (e.This l) n xs)) → Fit 4 (e.Call (e.This l) n xs)
@@ -264,8 +263,8 @@ module _ (place : Place) (room : Room) (below : ℕ) (deeper : room.depth ≡ be
   call_passes : (d : Deep) → 0 < room.brackets → d.depth < room.depth → (us rest : List Token) (ws : List Word) → AreWords us (Fixed (codes ".") ∷ ws) → next (is_call room d) (us ++ rest) ≡ true
   call_passes d some less [] rest ws h = absurd h
   call_passes d some less (t ∷ us) rest ws h =
-      and-both (is (codes ".") t) (nat_lt 0 room.brackets && nat_lt d.depth room.depth) (fixed_is (codes ".") t h.0.0 h.0.1)
-      (and-both (nat_lt 0 room.brackets) (nat_lt d.depth room.depth) (lt-ltb 0 room.brackets some) (lt-ltb d.depth room.depth less))
+      and_from (is (codes ".") t) (nat_lt 0 room.brackets && nat_lt d.depth room.depth) (fixed_is (codes ".") t h.0.0 h.0.1)
+      (and_from (nat_lt 0 room.brackets) (nat_lt d.depth room.depth) (lt-ltb 0 room.brackets some) (lt-ltb d.depth room.depth less))
 
   call_step : (r : Expr) (n : Name) (xs : List Expr) (k : ℕ) (us rest : List Token) → CallFit r xs → AreWords us (Fixed (codes ".") ∷ name_word n ∷ Fixed (codes "(") ∷ (with_commas (map expr_words xs) ++ Fixed (codes ")") ∷ []))
       → go_on (suc k) (deep place r) (us ++ rest) ≡ go_on k (deep place (e.Call r n xs)) rest

@@ -2,6 +2,7 @@
 use Rattle.std.proofs.Common.{◌≡◌, ℕ, ◌≤◌, ◌<◌, max, Bool, true, false, List, [], ◌∷◌, ◌++◌, map, refl, sym, ap, ◌∙◌, append_assoc, arith}
 use Rattle.std.specs.Prelude.{codes, ◌&&◌}
 use Rattle.std.proofs.lemmas.List.{append-nil}
+use Rattle.std.proofs.lemmas.Bool.{and_from, and_parts}
 use Rattle.script_text.specs.declared.token.Token.{Token}
 use Rattle.class_defs.specs.declared.expressions.Expr.{Expr}
 use Rattle.class_defs.specs.declared.places.Place.{Place}
@@ -13,7 +14,6 @@ use Rattle.method_parse.specs.declared.deep.Arguments.{Arguments}
 use Rattle.method_parse.specs.declared.deep.Level.{Level}
 use Rattle.method_parse.specs.declared.deep.Level.TheVariants as levels
 use Rattle.method_parse.specs.Matching.{AreWords}
-use Rattle.method_parse.proofs.Matched.{both_true}
 
 -- the number of a level
 abbrev pub tightness : Level → ℕ
@@ -96,13 +96,8 @@ pub nested-push : (f : Expr → Shape) (xs : List Expr) (x : Expr) → most_nest
 nested-push f [] x = omega arith
 nested-push f (y ∷ ys) x = omega (arith, nested-push f ys x)
 
-pub and-both : (a b : Bool) → a ≡ true → b ≡ true → (a && b) ≡ true
-and-both true true p q = refl
-and-both true false p q = absurd cc
-and-both false b p q = absurd cc
-
 pub proper-push : (f : Expr → Shape) (xs : List Expr) (x : Expr) → all_proper (map f xs) ≡ true → (f x).proper ≡ true → all_proper (map f (xs ++ x ∷ [])) ≡ true
-proper-push f [] x p q = and-both (f x).proper true q refl
+proper-push f [] x p q = and_from (f x).proper true q refl
 proper-push f (y ∷ ys) x p q =
-    let b = both_true (f y).proper (all_proper (map f ys)) p in
-    and-both (f y).proper (all_proper (map f (ys ++ x ∷ []))) b.0 (proper-push f ys x b.1 q)
+    let b = and_parts (f y).proper (all_proper (map f ys)) p in
+    and_from (f y).proper (all_proper (map f (ys ++ x ∷ []))) b.0 (proper-push f ys x b.1 q)

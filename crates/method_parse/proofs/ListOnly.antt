@@ -3,6 +3,7 @@ use Rattle.std.proofs.Common.{◌≡◌, ℕ, zero, suc, ◌≤◌, max, Bool, t
 use Rattle.std.specs.Prelude.{codes}
 use Rattle.std.specs.Str.{bytes_eq}
 use Rattle.std.proofs.lemmas.List.{append-nil, length-append}
+use Rattle.std.proofs.lemmas.Bool.{and_parts}
 use Rattle.script_text.specs.declared.token.Token.{Token}
 use Rattle.class_defs.specs.declared.expressions.Expr.{Expr}
 use Rattle.class_defs.specs.declared.places.Place.{Place}
@@ -14,7 +15,6 @@ use Rattle.method_parse.specs.declared.deep.Arguments.{Arguments}
 use Rattle.method_parse.specs.Matching.{AreWords, is}
 use Rattle.method_parse.specs.Reader.{Reader, ◌>>=◌, onward, give, word, next, repeat}
 use Rattle.method_parse.specs.Expressions.{with_argument, first_argument, argument, is_comma, more_arguments, some_arguments, listed, arguments}
-use Rattle.method_parse.proofs.Matched.{both_true}
 use Rattle.method_parse.proofs.Repeats.{no_turn}
 use Rattle.method_parse.proofs.Eats.{fixed_is, is_not, split, nothing, word_then, part_then, Stops, stops_before, stop_close, stop_comma}
 use Rattle.method_parse.proofs.Heads.{Starter, AtNull, AtThis, AtNew, AtOpen, AtMinus, starter_text, head_not, begins}
@@ -45,14 +45,14 @@ suits_first place brackets room x xs all = record {
   within = omega (arith, all.within);
   nested = omega (arith, all.nested);
   tight = omega arith;
-  proper = (both_true (shape place x).proper (all_proper (map (shape place) xs)) all.proper).0;
+  proper = (and_parts (shape place x).proper (all_proper (map (shape place) xs)) all.proper).0;
 }
 
 suit_rest : (place : Place) (brackets room : ℕ) (x : Expr) (xs : List Expr) → SuitAll place brackets room (x ∷ xs) → SuitAll place brackets room xs
 suit_rest place brackets room x xs all = record {
   within = omega (arith, all.within);
   nested = omega (arith, all.nested);
-  proper = (both_true (shape place x).proper (all_proper (map (shape place) xs)) all.proper).1;
+  proper = (and_parts (shape place x).proper (all_proper (map (shape place) xs)) all.proper).1;
 }
 
 -- binds in a row

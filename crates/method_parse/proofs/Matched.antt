@@ -3,6 +3,8 @@ use Rattle.std.proofs.Common.{◌≡◌, ℕ, Bool, true, false, cond, List, [],
 use Rattle.std.specs.Prelude.{codes, ◌&&◌, option_map}
 use Rattle.std.specs.Str.{bytes_eq}
 use Rattle.std.proofs.lemmas.Slice.Eq.{bytes_eq-Decides}
+use Rattle.std.proofs.lemmas.Option.{cond_some}
+use Rattle.std.proofs.lemmas.Bool.{and_parts}
 use Rattle.script_text.specs.declared.token.Token.{Token}
 use Rattle.script_text.specs.declared.token.TokenKind.{TokenKind}
 use Rattle.script_text.specs.declared.token.TokenKind.TheVariants as kinds
@@ -57,31 +59,22 @@ module _ {X : Type 0} (S : Says X) (says : Token → Option X) (law : (t : Token
   pub lawful_one : Lawful S (take_by says)
   lawful_one = record { reads = reads_one; some = some }
 
-pub both_true : (a b : Bool) → (a && b) ≡ true → (a ≡ true) × (b ≡ true)
-both_true true true e = (refl, refl)
-both_true true false e = absurd cc
-both_true false b e = absurd cc
-
 -- what it means that a token is a keyword or symbol
 pub is_text : (text : List ℕ) (t : Token) → is text t ≡ true → (is_fixed_kind t.kind ≡ true) × (t.text ≡ text)
 is_text text t e =
-    let b = both_true (is_fixed_kind t.kind) (bytes_eq t.text text) e in
+    let b = and_parts (is_fixed_kind t.kind) (bytes_eq t.text text) e in
     (b.0, (bytes_eq-Decides t.text text).0 b.1)
-
-when_some : {X : Type 0} (b : Bool) (x y : X) → cond b (Some x) None ≡ Some y → (b ≡ true) × (x ≡ y)
-when_some true x y e = (refl, cc)
-when_some false x y e = absurd cc
 
 pub lawful_word : (text : List ℕ) → Lawful (SaysWord text) (word text)
 unfolding word
 lawful_word text = lawful_one (SaysWord text) (λ t. cond (is text t) (Some t.line) None)
-    (λ t line e. let w = when_some (is text t) t.line line e in let i = is_text text t w.0 in ((i.0, i.1, w.1), tt))
+    (λ t line e. let w = cond_some (is text t) t.line line e in let i = is_text text t w.0 in ((i.0, i.1, w.1), tt))
     (record { value = 1; text = token_of kinds.Keyword text ∷ []; said = ((refl, refl, refl), tt) })
 
 pub lawful_name : Lawful SaysName name
 unfolding name
 lawful_name = lawful_one SaysName name_in
-    (λ t n e. let w = when_some (is_name_kind t.kind) (record { text = t.text; line = t.line }) n e in
+    (λ t n e. let w = cond_some (is_name_kind t.kind) (record { text = t.text; line = t.line }) n e in
     subst (λ (m : Name). SaysName m (t ∷ [])) w.1 ((w.0, refl, refl), tt))
     (record { value = record { text = []; line = 1 }; text = token_of kinds.Name [] ∷ []; said = ((refl, refl, refl), tt) })
 
@@ -103,7 +96,7 @@ typed t true ty e h =
     let i = is_text (codes "int") t e in
     subst (λ (m : TypeName). SaysType m (t ∷ [])) p ((i.0, i.1, refl), tt)
 typed t false ty e h =
-    let w = when_some (is_name_kind t.kind) (types.Class (record { text = t.text; line = t.line })) ty h in
+    let w = cond_some (is_name_kind t.kind) (types.Class (record { text = t.text; line = t.line })) ty h in
     subst (λ (m : TypeName). SaysType m (t ∷ [])) w.1 ((w.0, refl, refl), tt)
 
 pub lawful_type : Lawful SaysType type_word

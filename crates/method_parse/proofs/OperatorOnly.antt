@@ -2,7 +2,7 @@
 use Rattle.std.proofs.Common.{◌≡◌, ℕ, zero, suc, ◌+◌, ◌-◌, ◌≤◌, ◌<◌, max, Bool, true, false, leb, List, [], ◌∷◌, ◌++◌, Some, Result, pos, ℤ, refl, sym, ap, subst, ◌∙◌, append_assoc, arith}
 use Rattle.std.specs.Prelude.{codes, ◌&&◌, nat_lt, nat_le, option_map}
 use Rattle.std.specs.Option.{is_some}
-use Rattle.std.proofs.lemmas.Bool.{leb-true, leb-false, lt-ltb}
+use Rattle.std.proofs.lemmas.Bool.{leb-true, leb-false, lt-ltb, and_from, and_parts}
 use Rattle.script_text.specs.declared.token.Token.{Token}
 use Rattle.script_text.specs.declared.token.TokenKind.{TokenKind}
 use Rattle.script_text.specs.declared.token.TokenKind.TheVariants as kinds
@@ -23,9 +23,8 @@ use Rattle.method_parse.specs.declared.deep.Room.{Room}
 use Rattle.method_parse.specs.Matching.{IsWord, AreWords, is, is_fixed_kind, is_name_kind}
 use Rattle.method_parse.specs.Reader.{Reader, ◌>>=◌, onward, give, next, repeat}
 use Rattle.method_parse.specs.Expressions.{Parts, is_minus, unary, operator_of, operator_by, operator_in, with_operator_line, operator, tighter, joined, is_join, most_joins, joins, at_level, expression_in}
-use Rattle.method_parse.proofs.Matched.{both_true}
 use Rattle.method_parse.proofs.Repeats.{no_turn}
-use Rattle.method_parse.proofs.Fits.{tightness, and-both}
+use Rattle.method_parse.proofs.Fits.{tightness}
 use Rattle.method_parse.proofs.Equations as eq
 use Rattle.method_parse.proofs.Eats.{fixed_is, is_not, split, line_then, Stops, StopWord, stops_before}
 use Rattle.method_parse.proofs.Heads.{positive}
@@ -169,8 +168,8 @@ module _ (place : Place) (room : Room) (below : ℕ) (deeper : room.depth ≡ be
       let w = subst (λ (w : List Word). AreWords ts w) (ap expr_words back ∙ eq.words-Call r n xs) h in
       let s = split ts (expr_words r) _ w in
       let f = subst (λ (s : Shape). Suits room.brackets room.depth 4 s) (ap (shape place) back ∙ eq.shape-Call place r n xs) fit in
-      let all = both_true ((shape place r).proper && nat_le 4 (shape place r).level) _ f.proper in
-      let two = both_true (shape place r).proper (nat_le 4 (shape place r).level) all.0 in
+      let all = and_parts ((shape place r).proper && nat_le 4 (shape place r).level) _ f.proper in
+      let two = and_parts (shape place r).proper (nat_le 4 (shape place r).level) all.0 in
       let e1 : ts ++ rest ≡ s.front ++ (s.rest ++ rest) = ap (λ (u : List Token). u ++ rest) s.parts ∙ append_assoc s.front s.rest rest in
       ap (next (is_minus room)) e1
       ∙ to r (omega (arith, depth_is (ap (shape place) back ∙ eq.shape-Call place r n xs)))
@@ -187,14 +186,14 @@ module _ (place : Place) (room : Room) (below : ℕ) (deeper : room.depth ≡ be
 
   minus_passes : 0 < below → (ts rest : List Token) (ws : List Word) → AreWords ts (Fixed (codes "-") ∷ ws) → next (is_minus room) (ts ++ rest) ≡ true
   minus_passes enough [] rest ws h = absurd h
-  minus_passes enough (t ∷ ts) rest ws h = and-both (is (codes "-") t) (nat_lt 1 room.depth) (fixed_is (codes "-") t h.0.0 h.0.1) (lt-ltb 1 room.depth (omega arith))
+  minus_passes enough (t ∷ ts) rest ws h = and_from (is (codes "-") t) (nat_lt 1 room.depth) (fixed_is (codes "-") t h.0.0 h.0.1) (lt-ltb 1 room.depth (omega arith))
 
   negate_case : (x : Expr) (l : ℕ) → Fit 3 (e.Negate x l) → (ts rest : List Token) → AreWords ts (expr_words (e.Negate x l)) → Stops 3 rest → unary place room inner parts (ts ++ rest) ≡ got (deep place (e.Negate x l)) rest
   unfolding unary
   negate_case x l fit ts rest h stops =
       let k : AreWords ts (FixedAt (codes "-") l ∷ expr_words x) = subst (λ (w : List Word). AreWords ts w) (eq.words-Negate x l) h in
       let f : Suits room.brackets room.depth 3 (record { level = 3; depth = (shape place x).depth + 1; nesting = (shape place x).nesting; proper = (shape place x).proper && nat_le 3 (shape place x).level }) = subst (λ (s : Shape). Suits room.brackets room.depth 3 s) (eq.shape-Negate place x l) fit in
-      let two = both_true (shape place x).proper (nat_le 3 (shape place x).level) f.proper in
+      let two = and_parts (shape place x).proper (nat_le 3 (shape place x).level) f.proper in
       let enough : 0 < below = omega (arith, f.within, positive place x) in
       let part : Suits room.brackets below 3 (shape place x) = record { within = omega (arith, f.within); nested = f.nested; tight = leb-true 3 (shape place x).level two.1; proper = two.0 } in
       rw (minus_passes enough ts rest _ (weak ts (codes "-") l (expr_words x) k))
@@ -237,9 +236,9 @@ module _ (place : Place) (room : Room) (below : ℕ) (deeper : room.depth ≡ be
   binary_fit level o l r line fit =
       let f : Suits room.brackets room.depth level (record { level = level_of o; depth = max (shape place l).depth (shape place r).depth + 1; nesting = max (shape place l).nesting (shape place r).nesting; proper = ((shape place l).proper && nat_le (left_level o) (shape place l).level) && ((shape place r).proper && nat_le (right_level o) (shape place r).level) })
       = subst (λ (s : Shape). Suits room.brackets room.depth level s) (eq.shape-Binary place o l r line) fit in
-      let all = both_true ((shape place l).proper && nat_le (left_level o) (shape place l).level) ((shape place r).proper && nat_le (right_level o) (shape place r).level) f.proper in
-      let a = both_true (shape place l).proper (nat_le (left_level o) (shape place l).level) all.0 in
-      let b = both_true (shape place r).proper (nat_le (right_level o) (shape place r).level) all.1 in
+      let all = and_parts ((shape place l).proper && nat_le (left_level o) (shape place l).level) ((shape place r).proper && nat_le (right_level o) (shape place r).level) f.proper in
+      let a = and_parts (shape place l).proper (nat_le (left_level o) (shape place l).level) all.0 in
+      let b = and_parts (shape place r).proper (nat_le (right_level o) (shape place r).level) all.1 in
       record {
         left = record { within = omega (arith, f.within); nested = omega (arith, f.nested); tight = leb-true (left_level o) (shape place l).level a.1; proper = a.0 };
         right = record { within = omega (arith, f.within); nested = omega (arith, f.nested); tight = leb-true (right_level o) (shape place r).level b.1; proper = b.0 };
@@ -254,7 +253,7 @@ module _ (place : Place) (room : Room) (below : ℕ) (deeper : room.depth ≡ be
     join_passes : (o : Operator) (d : Deep) (line : ℕ) → tightness level ≡ level_of o → d.depth < room.depth → (us rest : List Token) (ws : List Word) → AreWords us (FixedAt (symbol_of o) line ∷ ws) → next (is_join level room d) (us ++ rest) ≡ true
     join_passes o d line of less [] rest ws h = absurd h
     join_passes o d line of less (t ∷ us) rest ws h =
-        and-both (is_some (operator_in level t)) (nat_lt d.depth room.depth) (ap is_some (operator_found level o t.kind t.text h.0.0 h.0.1 of)) (lt-ltb d.depth room.depth less)
+        and_from (is_some (operator_in level t)) (nat_lt d.depth room.depth) (ap is_some (operator_found level o t.kind t.text h.0.0 h.0.1 of)) (lt-ltb d.depth room.depth less)
 
     join_step : (o : Operator) (l r : Expr) (line : ℕ) (k : ℕ) (us rest : List Token) → tightness level ≡ level_of o → BinaryFit o l r → AreWords us (FixedAt (symbol_of o) line ∷ expr_words r) → Stops (tightness level + 1) rest
         → join_on (suc k) (deep place l) (us ++ rest) ≡ join_on k (deep place (e.Binary o l r line)) rest

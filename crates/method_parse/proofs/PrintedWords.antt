@@ -4,7 +4,7 @@ use Rattle.std.proofs.Common.{take-append-drop}
 use Rattle.std.specs.Prelude.{◌||◌, ◌==◌}
 use Rattle.std.specs.List.{list_any, list_all, count_by, AllByRecursion}
 use Rattle.std.specs.Str.{bytes_eq}
-use Rattle.std.proofs.lemmas.Bool.{or_cases, or_left, or_right, and_parts, and_from, eqb-true, false_from_ne_true}
+use Rattle.std.proofs.lemmas.Bool.{or_cases, or_left, or_right, and_parts, and_from, eqb-true, false_from_ne_true, both_ways}
 use Rattle.std.proofs.lemmas.List.Sums.{sum_by-append, sum_by-cons}
 use Rattle.std.proofs.lemmas.Slice.Eq.{bytes_eq-Decides}
 use Rattle.script_text.specs.declared.token.TokenKind.{TokenKind}
@@ -32,17 +32,13 @@ line_take n s a =
     sym (sum_by-append counted (take n s) (drop n s)) ∙ ap (λ t. count_by is_newline t) (take-append-drop n s) in
     omega (arith, parts, a)
 
-never : (x : Bool) → x ≡ false → x ≡ true → ⊥
-never true no_test yes_test = cc
-never false no_test yes_test = cc
-
 -- bytes that pass a test which the end of a line doesn't pass
 passing : (test : ℕ → Bool) → test 10 ≡ false → (s : List ℕ) → list_all test s ≡ true → OnOneLine s
 passing test fails [] all = refl
 passing test fails (b ∷ s) all =
     let parts = and_parts (test b) (list_all test s) all in
     line_cons b s
-    (false_from_ne_true (is_newline b) (λ e. never (test 10) fails (subst (λ c. test c ≡ true) (eqb-true b 10 e) parts.0)))
+    (false_from_ne_true (is_newline b) (λ e. both_ways (test 10) fails (subst (λ c. test c ≡ true) (eqb-true b 10 e) parts.0)))
     (passing test fails s parts.1)
 
 -- what holds of each text of a list holds of one that is among them
@@ -85,7 +81,7 @@ space_last (b ∷ bs) = or_right (b == 32) (has_space (bs ++ 32 ∷ [])) (space_
 
 no_symbol : (text : List ℕ) → is_symbol (text ++ 32 ∷ []) ≡ false
 no_symbol text = false_from_ne_true (is_symbol (text ++ 32 ∷ [])) (λ e.
-    never (has_space (text ++ 32 ∷ []))
+    both_ways (has_space (text ++ 32 ∷ []))
     (each_among (λ t. has_space t ≡ false) symbols (text ++ 32 ∷ [])
     (refl, (refl, (refl, (refl, (refl, (refl, (refl, (refl, (refl, (refl, (refl, (refl, (refl, (refl, tt)))))))))))))) e)
     (space_last text))

@@ -4,7 +4,7 @@ use Rattle.std.proofs.Common.{◌≡◌, ℕ, zero, suc, ◌+◌, ◌-◌, ◌�
 use Rattle.std.specs.Prelude.{codes, ◌&&◌, nat_lt}
 use Rattle.std.specs.Str.{bytes_eq}
 use Rattle.std.proofs.lemmas.List.{append-nil}
-use Rattle.std.proofs.lemmas.Bool.{ltb-true}
+use Rattle.std.proofs.lemmas.Bool.{ltb-true, and_from, and_parts}
 use Rattle.script_text.specs.declared.token.Token.{Token}
 use Rattle.script_text.specs.declared.token.TokenKind.{TokenKind}
 use Rattle.script_text.specs.declared.token.TokenKind.TheVariants as kinds
@@ -28,9 +28,9 @@ use Rattle.method_parse.specs.Matching.{AreWords, is}
 use Rattle.method_parse.specs.Reader.{Reader}
 use Rattle.method_parse.specs.Statements.{expression, ended, condition, variable, returned, printed, evaluated, assigned_name, assigned_field, after_expression_by, after_expression, simple, after_branch, branch, while_loop, fixed_start, start_by, start, statement_by, statement, goes_on, more_statements, statements, braces, block_in}
 use Rattle.method_parse.proofs.Lawful.{Lawful, behind, lawful_bind, lawful_give, lawful_last, lawful_if, lawful_repeat_all}
-use Rattle.method_parse.proofs.Matched.{join, plain, both_true, lawful_word, lawful_name, lawful_type}
+use Rattle.method_parse.proofs.Matched.{join, plain, lawful_word, lawful_name, lawful_type}
 use Rattle.method_parse.proofs.Equations as eq
-use Rattle.method_parse.proofs.Fits.{IsRead, and-both}
+use Rattle.method_parse.proofs.Fits.{IsRead}
 use Rattle.method_parse.proofs.ExpressionLaws.{lawful_expression, picked}
 
 -- a whole expression that fits
@@ -75,15 +75,15 @@ turn-push (y ∷ ys) x = ap (λ (w : List Word). stmt_words y ++ w) (turn-push y
 
 inside-push : (place : Place) (brackets : ℕ) (xs : List Stmt) (x : Stmt) → FormFits brackets (inside (map (form place) xs)) → FormFits brackets (form place x)
     → FormFits brackets (inside (map (form place) (xs ++ x ∷ [])))
-inside-push place brackets [] x before one = record { deep = omega (arith, one.deep); nested = omega (arith, one.nested); proper = and-both (form place x).proper true one.proper refl }
+inside-push place brackets [] x before one = record { deep = omega (arith, one.deep); nested = omega (arith, one.nested); proper = and_from (form place x).proper true one.proper refl }
 inside-push place brackets (y ∷ ys) x before one =
-    let two = both_true (form place y).proper (inside (map (form place) ys)).proper before.proper in
+    let two = and_parts (form place y).proper (inside (map (form place) ys)).proper before.proper in
     let rest : FormFits brackets (inside (map (form place) ys)) = record { deep = omega (arith, before.deep); nested = omega (arith, before.nested); proper = two.1 } in
     let all = inside-push place brackets ys x rest one in
     record {
       deep = omega (arith, before.deep, all.deep);
       nested = omega (arith, before.nested, all.nested);
-      proper = and-both (form place y).proper (inside (map (form place) (ys ++ x ∷ []))).proper two.0 all.proper;
+      proper = and_from (form place y).proper (inside (map (form place) (ys ++ x ∷ []))).proper two.0 all.proper;
     }
 
 expr_read : (place : Place) (brackets : ℕ) (d : Deep) (ts : List Token) → IsRead place brackets max_depth 0 d ts → IsExpr place brackets d.expr ts
@@ -113,7 +113,7 @@ module _ (place : Place) (brackets : ℕ) where
 
   -- a statement that has a value
   value_fits : (x : Expr) (b : Bool) → ExprFits place brackets x → b ≡ true → FormFits brackets (with_value place x b)
-  value_fits x b fits ok = record { deep = fits.deep; nested = fits.nested; proper = and-both (shape place x).proper b fits.proper ok }
+  value_fits x b fits ok = record { deep = fits.deep; nested = fits.nested; proper = and_from (shape place x).proper b fits.proper ok }
 
   made : (x : Stmt) (ws : List Word) (f : Form) (ts : List Token) → stmt_words x ≡ ws → form place x ≡ f → AreWords ts ws → FormFits brackets f → IsStmt place brackets x ts
   made x ws f ts words formed spelled fits = record {
@@ -199,11 +199,11 @@ module _ (place : Place) (brackets : ℕ) where
     if_fits x b some fits block_fits = record {
       deep = omega (arith, fits.deep, block_fits.deep);
       nested = omega (arith, fits.nested, block_fits.nested);
-      proper = and-both (shape place x).proper b.proper fits.proper block_fits.proper;
+      proper = and_from (shape place x).proper b.proper fits.proper block_fits.proper;
     }
 
     both_fit : (a b : Form) → FormFits brackets a → FormFits brackets b → FormFits brackets (both a b)
-    both_fit a b p q = record { deep = omega (arith, p.deep, q.deep); nested = omega (arith, p.nested, q.nested); proper = and-both a.proper b.proper p.proper q.proper }
+    both_fit a b p q = record { deep = omega (arith, p.deep, q.deep); nested = omega (arith, p.nested, q.nested); proper = and_from a.proper b.proper p.proper q.proper }
 
     lawful_after_branch : 0 < brackets → (x : Expr) (b : List Stmt) (f1 f2 f3 : List Token) → AreWords f1 (Fixed (codes "if") ∷ []) → IsCondition place brackets x f2 → IsBraces place brackets b f3
         → Lawful (behind f3 (behind f2 (behind f1 (IsStmt place brackets)))) (after_branch block x b)
@@ -250,10 +250,10 @@ module _ (place : Place) (brackets : ℕ) where
     fixed_allows : (text : List ℕ) → Allows (fixed_start place brackets text)
     fixed_allows text =
         picked Allows (bytes_eq text (codes "var")) starts.Var _ (λ p. tt)
-        (picked Allows (bytes_eq text (codes "return") && in_method place) starts.Return _ (λ p. (both_true (bytes_eq text (codes "return")) (in_method place) p).1)
-        (picked Allows (bytes_eq text (codes "if") && nat_lt 0 brackets) starts.If _ (λ p. ltb-true 0 brackets (both_true (bytes_eq text (codes "if")) (nat_lt 0 brackets) p).1)
-        (picked Allows (bytes_eq text (codes "while") && nat_lt 0 brackets) starts.While _ (λ p. ltb-true 0 brackets (both_true (bytes_eq text (codes "while")) (nat_lt 0 brackets) p).1)
-        (picked Allows (bytes_eq text (codes "print") && in_item place) starts.Print starts.Other (λ p. (both_true (bytes_eq text (codes "print")) (in_item place) p).1) tt))))
+        (picked Allows (bytes_eq text (codes "return") && in_method place) starts.Return _ (λ p. (and_parts (bytes_eq text (codes "return")) (in_method place) p).1)
+        (picked Allows (bytes_eq text (codes "if") && nat_lt 0 brackets) starts.If _ (λ p. ltb-true 0 brackets (and_parts (bytes_eq text (codes "if")) (nat_lt 0 brackets) p).1)
+        (picked Allows (bytes_eq text (codes "while") && nat_lt 0 brackets) starts.While _ (λ p. ltb-true 0 brackets (and_parts (bytes_eq text (codes "while")) (nat_lt 0 brackets) p).1)
+        (picked Allows (bytes_eq text (codes "print") && in_item place) starts.Print starts.Other (λ p. (and_parts (bytes_eq text (codes "print")) (in_item place) p).1) tt))))
 
     kind_allows : (k : TokenKind) (text : List ℕ) → Allows (start_by place brackets k text)
     kind_allows kinds.Name text = tt

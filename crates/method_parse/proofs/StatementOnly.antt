@@ -3,7 +3,7 @@ use Rattle.std.proofs.Common.{◌≡◌, ℕ, zero, suc, ◌+◌, ◌-◌, ◌�
 use Rattle.std.specs.Prelude.{codes, ◌&&◌, not}
 use Rattle.std.specs.Str.{bytes_eq}
 use Rattle.std.proofs.lemmas.List.{append-nil, length-append}
-use Rattle.std.proofs.lemmas.Bool.{lt-ltb}
+use Rattle.std.proofs.lemmas.Bool.{lt-ltb, and_parts}
 use Rattle.script_text.specs.declared.token.Token.{Token}
 use Rattle.script_text.specs.declared.token.TokenKind.{TokenKind}
 use Rattle.script_text.specs.declared.token.TokenKind.TheVariants as kinds
@@ -28,7 +28,6 @@ use Rattle.method_parse.specs.declared.deep.StmtStart.TheVariants as starts
 use Rattle.method_parse.specs.Matching.{AreWords, is, is_fixed_kind, is_name_kind}
 use Rattle.method_parse.specs.Reader.{Reader, ◌>>=◌, onward, give, word, name, type_word, next, repeat}
 use Rattle.method_parse.specs.Statements.{expression, ended, condition, variable, returned, printed, evaluated, assigned_name, assigned_field, after_expression_by, after_expression, simple, after_branch, branch, while_loop, fixed_start, start_by, start, statement_by, statement, is_not_end, goes_on, more_statements, statements, braces, block_in}
-use Rattle.method_parse.proofs.Matched.{both_true}
 use Rattle.method_parse.proofs.Repeats.{no_turn}
 use Rattle.method_parse.proofs.Equations as eq
 use Rattle.method_parse.proofs.Eats.{fixed_is, is_not, split, nothing, word_then, line_then, name_then, type_then, part_then, Stops, stops_before, stop_close, stop_semicolon, stop_equals}
@@ -168,7 +167,7 @@ module _ (place : Place) (brackets : ℕ) where
 
   -- what fits of a statement that has a value
   value_fits : (x : Expr) (b : Bool) → FormFits brackets (with_value place x b) → ExprFits place brackets x × (b ≡ true)
-  value_fits x b fits = let two = both_true (shape place x).proper b fits.proper in (record { deep = fits.deep; nested = fits.nested; proper = two.0 }, two.1)
+  value_fits x b fits = let two = and_parts (shape place x).proper b fits.proper in (record { deep = fits.deep; nested = fits.nested; proper = two.0 }, two.1)
 
   evaluated_reads : (x : Expr) (ts rest : List Token) → AreWords ts (Fixed (codes ";") ∷ []) → evaluated x (ts ++ rest) ≡ gives (s.Evaluate x) rest
   unfolding evaluated
@@ -265,7 +264,7 @@ module _ (place : Place) (brackets : ℕ) where
 
     if_fits : (x : Expr) (b : Form) → FormFits brackets (with_condition place x b) → IfFits x b
     if_fits x b fits =
-        let two = both_true (shape place x).proper b.proper fits.proper in
+        let two = and_parts (shape place x).proper b.proper fits.proper in
         record {
           some = omega (arith, fits.nested);
           test = record { deep = omega (arith, fits.deep); nested = omega (arith, fits.nested); proper = two.0 };
@@ -290,7 +289,7 @@ module _ (place : Place) (brackets : ℕ) where
 
     both_fits : (a b : Form) → FormFits brackets (both a b) → FormFits brackets a × FormFits brackets b
     both_fits a b fits =
-        let two = both_true a.proper b.proper fits.proper in
+        let two = and_parts a.proper b.proper fits.proper in
         (record { deep = omega (arith, fits.deep); nested = omega (arith, fits.nested); proper = two.0 }, record { deep = omega (arith, fits.deep); nested = omega (arith, fits.nested); proper = two.1 })
 
     else_reads : (x : Expr) (b c : List Stmt) (ts rest : List Token) → AreWords ts (Fixed (codes "if") ∷ (condition_words x ++ (brace_words (map stmt_words b) ++ Fixed (codes "else") ∷ brace_words (map stmt_words c)))) → IfFits x (both (in_braces (map (form place) b)) (in_braces (map (form place) c))) → branch place brackets block (ts ++ rest) ≡ gives (s.IfElse x b c) rest
@@ -370,7 +369,7 @@ module _ (place : Place) (brackets : ℕ) where
 
     first_fits : (x : Stmt) (xs : List Stmt) → FormFits brackets (inside (map (form place) (x ∷ xs))) → FormFits brackets (form place x) × FormFits brackets (inside (map (form place) xs))
     first_fits x xs fits =
-        let two = both_true (form place x).proper (inside (map (form place) xs)).proper fits.proper in
+        let two = and_parts (form place x).proper (inside (map (form place) xs)).proper fits.proper in
         (record { deep = omega (arith, fits.deep); nested = omega (arith, fits.nested); proper = two.0 }, record { deep = omega (arith, fits.deep); nested = omega (arith, fits.nested); proper = two.1 })
 
     goes_next : (ts rest : List Token) → Opens ts → (next (is (codes "else")) (ts ++ rest) ≡ false) × (next is_not_end (ts ++ rest) ≡ true)

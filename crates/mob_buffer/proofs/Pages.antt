@@ -1,7 +1,7 @@
 -- The objects of a page, taken slot by slot.
 use Rattle.std.proofs.Common.{◌≡◌, ℕ, ◌+◌, Bool, true, false, cond, not, ◌&&◌, ◌||◌, ◌==◌, [], ◌∷◌, filter, Some, refl, ap, sym, subst, ◌∙◌, arith, inl, inr}
 use Rattle.std.specs.Prelude.{nat_lt}
-use Rattle.std.proofs.lemmas.Bool.{cases_lt, eq-eqb, le-ltb, lt-ltb}
+use Rattle.std.proofs.lemmas.Bool.{cases_lt, eq-eqb, le-ltb, lt-ltb, and_right}
 use Rattle.std.proofs.lemmas.Bool.Decides.{eqb_tells}
 use Rattle.std.proofs.lemmas.Map.Keys.{IsDistinct-head, IsDistinct-tail}
 use Rattle.std.specs.List.{AllByRecursion}
@@ -86,14 +86,10 @@ slot_taken repo page slot (q ∷ objects) all distinct =
 
 -- ---- no slot, and all slots
 
-and_none : (p l : Bool) → l ≡ false → (p && l) ≡ false
-and_none true l none = none
-and_none false l none = refl
-
 pub no_slots : (objects : Objects) (page : ℕ) → without_slots objects page 0 ≡ objects
 no_slots [] page = refl
 no_slots (q ∷ objects) page =
-    alike q (without_slots objects page 0) objects (is_below page 0 q) false (sym (and_none (page == q.0.page) (nat_lt q.0.slot 0) (le-ltb q.0.slot 0 (omega arith)))) (no_slots objects page)
+    alike q (without_slots objects page 0) objects (is_below page 0 q) false (sym (and_right (page == q.0.page) (nat_lt q.0.slot 0) (le-ltb q.0.slot 0 (omega arith)))) (no_slots objects page)
 
 eq_turn : (a b : ℕ) → (a == b) ≡ (b == a)
 eq_turn a b = elim (eqb_tells a b) [

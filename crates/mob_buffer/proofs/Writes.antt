@@ -1,6 +1,6 @@
 -- Objects behind writes, and how many bytes they have.
 use Rattle.std.proofs.Common.{◌≡◌, ℕ, zero, suc, ◌+◌, ◌-◌, ◌<◌, ◌≤◌, Bool, true, false, cond, ◌&&◌, ◌==◌, List, [], ◌∷◌, ◌++◌, length, take, Option, Some, None, refl, ap, sym, subst, ◌∙◌, arith, length-append, slice_get, get_or}
-use Rattle.std.proofs.lemmas.Bool.{eqb-true, eq-eqb}
+use Rattle.std.proofs.lemmas.Bool.{eqb-true, eq-eqb, and_parts}
 use Rattle.std.specs.List.{AllByRecursion}
 use Rattle.std.specs.Option.{option_map, unwrap_or}
 use Rattle.indexmap.proofs.MapLemmas.{insert_all_push}
@@ -12,23 +12,15 @@ use Rattle.mob_buffer.proofs.Sizes.{bytes_put, of_put, size_within, taken_next}
 
 -- ---- names
 
-first_true : (a b : Bool) → (a && b) ≡ true → a ≡ true
-first_true true b is = refl
-first_true false b is = is
-
-second_true : (a b : Bool) → (a && b) ≡ true → b ≡ true
-second_true true b is = is
-second_true false b is = cc
-
 abbrev named : ℕ → ℕ → ℕ → Oref
 named repo page slot = record { repo = repo; page = page; slot = slot }
 
 pub same_is : (x y : Oref) → same_name x y ≡ true → x ≡ y
 same_is x y is =
-    let repo = eqb-true x.repo y.repo (first_true (x.repo == y.repo) ((x.page == y.page) && (x.slot == y.slot)) is) in
-    let more = second_true (x.repo == y.repo) ((x.page == y.page) && (x.slot == y.slot)) is in
-    let page = eqb-true x.page y.page (first_true (x.page == y.page) (x.slot == y.slot) more) in
-    let slot = eqb-true x.slot y.slot (second_true (x.page == y.page) (x.slot == y.slot) more) in
+    let repo = eqb-true x.repo y.repo ((and_parts (x.repo == y.repo) ((x.page == y.page) && (x.slot == y.slot)) is).0) in
+    let more = (and_parts (x.repo == y.repo) ((x.page == y.page) && (x.slot == y.slot)) is).1 in
+    let page = eqb-true x.page y.page ((and_parts (x.page == y.page) (x.slot == y.slot) more).0) in
+    let slot = eqb-true x.slot y.slot ((and_parts (x.page == y.page) (x.slot == y.slot) more).1) in
     ap (λ (r : ℕ). named r x.page x.slot) repo ∙ ap (λ (p : ℕ). named y.repo p x.slot) page ∙ ap (λ (s : ℕ). named y.repo y.page s) slot
 
 both_true : (a b c : Bool) → a ≡ true → b ≡ true → c ≡ true → (a && (b && c)) ≡ true

@@ -143,10 +143,6 @@ pub still_keeps : (old new : Disks) (sides : List (ℕ × ℕ)) (disk : List ℕ
 still_keeps old new sides disk still settled told =
     leaves_weaker old new 2 (MayLeave old 2) (KeepsSides sides disk) (λ image left. subst (KeepsSides sides disk) (sym (settled disk told image left)) (λ page side is. refl)) still
 
-pub if_ok_more : {T E : Type 0} (r : Result T E) (P Q : T → Type 0) → ((x : T) → P x → Q x) → IfOk r P → IfOk r Q
-if_ok_more (Ok x) P Q more ok = more x ok
-if_ok_more (Err e) P Q more ok = tt
-
 pub if_ok_both : {T E : Type 0} (r : Result T E) (P R : T → Type 0) (Q : Type 0) → ((x : T) → P x → Q → R x) → IfOk r P → OnOk r Q → IfOk r R
 if_ok_both (Ok x) P R Q more p q = more x p q
 if_ok_both (Err e) P R Q more p q = tt

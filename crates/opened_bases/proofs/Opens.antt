@@ -9,6 +9,8 @@ use Rattle.opened_bases.specs.Recovering.{CanOpen, IsPrepared, IsStored}
 use Rattle.std.proofs.Common.{List, [], arith, refl, subst, sym, ◌++◌, ◌≡◌, ◌∙◌, ◌∷◌, length, ℕ, ◌+◌, ◌≤◌}
 use Rattle.std.proofs.lemmas.Bool.Decides.{nat_tests}
 use Rattle.std.proofs.lemmas.List.{length-append}
+use Rattle.std.proofs.lemmas.Cmp.{nat_eq_equiv}
+use Rattle.std.proofs.lemmas.Bool.{true≢false}
 use Rattle.std.specs.BTreeMap.{insert_entry}
 use Rattle.std.specs.List.{AllByRecursion}
 use Rattle.std.specs.Ordering.{eq_by_cmp, match_ordering}
@@ -26,9 +28,6 @@ abbrev Objects : Type 0
 Objects = Map oref_cmp Obj
 
 -- ---- lists
-
-apart : true ≡ false → ⊥
-apart e = cc
 
 every : {X : Type 0} (P Q : X → Type 0) (xs : List X) → ((x : X) → P x → Q x) → AllByRecursion P xs → AllByRecursion Q xs
 every P Q [] f h = tt
@@ -134,9 +133,6 @@ stamps_count t (e ∷ es) = (counted, stamps_count (cond e.1.commits (later_of t
 
 -- ---- which transactions are left
 
-same_number : (n : ℕ) → nat_eq n n ≡ true
-same_number n = grind (arith, nat_tests)
-
 module _ (R : Recovered) (commits : Ts → Bool) where
   abbrev Left : Ts × LeftOver → Type 0
   Left e = (e.1.request.tx ≡ e.0) × ((e.0.repo ≢ R.repo) × AllByRecursion (IsStored R) e.1.request.writes)
@@ -150,7 +146,7 @@ module _ (R : Recovered) (commits : Ts → Bool) where
       by false e = ((h.0.named, ((λ same. absurd (differs e same)), h.0.writes)), tt)
         where
           differs : nat_eq p.0.repo R.repo ≡ false → p.0.repo ≡ R.repo → ⊥
-          differs f same = absurd (apart (sym (same_number R.repo) ∙ subst (λ n. nat_eq n R.repo ≡ false) same f))
+          differs f same = absurd (true≢false (sym (nat_eq_equiv.refl R.repo) ∙ subst (λ n. nat_eq n R.repo ≡ false) same f))
 
 mixed : (R : Recovered) (e f : Oref × Obj) → IsStored R e → IsStored R f → IsStored R (e.0, f.1)
 mixed R e f h k = record { here = h.here; page = h.page; version = k.version }

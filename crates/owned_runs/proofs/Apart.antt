@@ -17,6 +17,8 @@ use Rattle.owned_runs.proofs.Plainly.{parts_kept, some_and}
 use Rattle.owned_runs.specs.Checked.{AreItsWrites, CheckedRun, TouchedUndue}
 use Rattle.run_laws.proofs.TouchedStores.{store_alike}
 use Rattle.std.proofs.Common.{Bool, List, ap, false, inl, inr, refl, sym, subst, true, ℕ, zero, suc, ◌≡◌, ◌∙◌}
+use Rattle.std.proofs.lemmas.Bool.{both_ways}
+use Rattle.std.proofs.lemmas.Option.{none-some}
 use Rattle.std.specs.List.{Contains}
 use Rattle.std.specs.Option.{option_and_then, option_map}
 use Rattle.std.specs.Prelude.{None, Option, Some, is_some}
@@ -27,10 +29,7 @@ use Rattle.thor_value.specs.declared.names.Oref.{Oref}
 use Rattle.thor_value.specs.declared.values.Obj.{Obj}
 
 pub none_some : {A X : Type 0} (o : Option X) (v : X) → o ≡ None → o ≡ Some v → A
-none_some o v h k = none_is v (sym h ∙ k)
-  where
-    none_is : {A X : Type 0} (v : X) → ◌≡◌ {A = Option X} None (Some v) → A
-    none_is v e = cc
+none_some o v h k = absurd (none-some v (sym h ∙ k))
 
 -- what is owned is there
 above_there : (s : Schemas) (N : Stored) → MapFits s N → (n : ℕ) (a x : Oref) (o : Obj) → get N.objects a ≡ Some o → IsAbove s N.objects n a x → (p : Obj) × (get N.objects x ≡ Some p)
@@ -57,7 +56,7 @@ module _ (s : Schemas) (N : Stored) (schema : Schema) (repos : ℕ) (tx : List S
     pub apart : WritesApart s N ws
     apart n a x o v there due above wrote =
         elim ((parts_kept s N schema repos tx names r h).wrote x (written (left_at r.written x) (sym (is x) ∙ wrote))) [
-          | inl touched ↦ not_both (is_due s N.epoch o) due (undue a o (owners_touched s N schema repos tx names r h n a x touched above) there)
+          | inl touched ↦ both_ways (is_due s N.epoch o) (undue a o (owners_touched s N schema repos tx names r h n a x touched above) there) due
           | inr none ↦
               let k = above_there s N h.fits n a x o there above in
               none_some (get (eager s N).objects x) (value s N.objects N.epoch k.0) none (get-each (value s N.objects N.epoch) N.objects x ∙ ap (option_map (value s N.objects N.epoch)) k.1)
@@ -66,10 +65,6 @@ module _ (s : Schemas) (N : Stored) (schema : Schema) (repos : ℕ) (tx : List S
         written : (g : Option Object) → option_map (in_epoch N.epoch) g ≡ Some v → is_some g ≡ true
         written None e = none_some None v refl e
         written (Some u) e = refl
-
-        not_both : (b : Bool) → b ≡ true → b ≡ false → ⊥
-        not_both true d u = cc
-        not_both false d u = cc
 
     -- the map with its writes stands for the store behind it
     pub commutes : IsSorted N.objects → eager s (record N { objects = overwrite N.objects ws }) ≡ r.store

@@ -29,6 +29,7 @@ use Rattle.owned_runs.proofs.Search.{owner_or_none}
 use Rattle.owned_runs.specs.Checked.{AreItsWrites, CheckedRun, TouchedUndue}
 use Rattle.part_laws.specs.Owning.{KeepsParts, OwnsIn}
 use Rattle.std.proofs.Common.{List, [], ap, arith, inl, inr, length, refl, subst, sym, ℕ, zero, suc, ◌<◌, ◌≡◌, ◌≤◌, ◌∙◌, ◌∷◌}
+use Rattle.std.proofs.lemmas.Option.{none-some}
 use Rattle.std.specs.List.{Contains}
 use Rattle.std.specs.Option.{IsSomeAnd, option_and_then, option_map, option_or}
 use Rattle.std.specs.Prelude.{None, Option, Some, is_some, slice_get, ◌⊎◌}
@@ -41,10 +42,7 @@ use Rattle.thor_value.specs.declared.values.Value.TheVariants as value_form
 use Rattle.thor_value.specs.declared.values.Value.{Value}
 
 none_some : {A X : Type 0} (o : Option X) (v : X) → o ≡ None → o ≡ Some v → A
-none_some o v h k = none_is v (sym h ∙ k)
-  where
-    none_is : {A X : Type 0} (v : X) → ◌≡◌ {A = Option X} None (Some v) → A
-    none_is v e = cc
+none_some o v h k = absurd (none-some v (sym h ∙ k))
 
 same_some : {X : Type 0} (x y : X) → ◌≡◌ {A = Option X} (Some x) (Some y) → x ≡ y
 same_some x y e = cc

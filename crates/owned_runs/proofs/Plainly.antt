@@ -38,6 +38,7 @@ use Rattle.part_laws.specs.Owning.{KeepsParts, OwnsIn}
 use Rattle.serial_model.specs.History.{are_fresh}
 use Rattle.std.proofs.Common.{Bool, List, [], ap, arith, cond, false, length, not, refl, subst, sym, true, ℕ, zero, suc, ◌≡◌, ◌∙◌, ◌∷◌}
 use Rattle.std.proofs.lemmas.Bool.Decides.{nat_tests}
+use Rattle.std.proofs.lemmas.Bool.{and_parts, not-true, or_parts}
 use Rattle.std.specs.List.{AllByRecursion, IsDistinct, list_any}
 use Rattle.std.specs.Option.{IsSomeAnd, option_map, unwrap_or}
 use Rattle.std.specs.Prelude.{Err, None, Ok, Option, Result, Some, is_some, slice_get, ◌==◌, ◌&&◌, ◌||◌}
@@ -79,30 +80,18 @@ fresh_names : (store : Plain) (names : List Oref) → are_fresh store names ≡ 
 unfolding IsDistinct
 fresh_names store [] h = (tt, tt)
 fresh_names store (x ∷ xs) h =
-    let p = both _ _ h in
-    let q = both _ _ p.0 in
+    let p = and_parts _ _ h in
+    let q = and_parts _ _ p.0 in
     let more = fresh_names store xs p.1 in
-    ((none (get store.objects x) q.0, more.0), (apart xs (negated _ q.1), more.1))
+    ((none (get store.objects x) q.0, more.0), (apart xs (not-true _ q.1), more.1))
   where
-    both : (a b : Bool) → (a && b) ≡ true → (a ≡ true) × (b ≡ true)
-    both true b e = (refl, e)
-    both false b e = cc
-
-    negated : (b : Bool) → not b ≡ true → b ≡ false
-    negated true e = cc
-    negated false e = refl
-
     none : (o : Option Object) → not (is_some o) ≡ true → o ≡ None
     none None e = refl
     none (Some v) e = cc
 
     apart : (ys : List Oref) → list_any (same_oref x) ys ≡ false → AllByRecursion (λ y. same_oref x y ≡ false) ys
     apart [] e = tt
-    apart (y ∷ ys) e = let k = or_none (same_oref x y) (list_any (same_oref x) ys) e in (k.0, apart ys k.1)
-      where
-        or_none : (a b : Bool) → (a || b) ≡ false → (a ≡ false) × (b ≡ false)
-        or_none true b e = cc
-        or_none false b e = (refl, e)
+    apart (y ∷ ys) e = let k = or_parts (same_oref x y) (list_any (same_oref x) ys) e in (k.0, apart ys k.1)
 
 no_ran : {A : Type 0} (r : Ran) → ◌≡◌ {A = Option Ran} None (Some r) → A
 no_ran r e = cc

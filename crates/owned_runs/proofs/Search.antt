@@ -9,6 +9,7 @@ use Rattle.class_defs.specs.declared.types.ExprType.TheVariants as type
 use Rattle.class_defs.specs.declared.types.ExprType.{ExprType}
 use Rattle.std.proofs.Common.{Bool, List, [], ap, arith, cond, false, inl, inr, length, refl, subst, sym, true, ℕ, zero, suc, ◌<◌, ◌≡◌, ◌∙◌, ◌∷◌}
 use Rattle.std.proofs.lemmas.Option.{slice_get_within}
+use Rattle.std.proofs.lemmas.Bool.{and_parts, both_ways}
 use Rattle.std.specs.BTreeMap.{is_at}
 use Rattle.std.specs.Map.{lookup}
 use Rattle.std.specs.Prelude.{None, Option, Some, is_some, slice_get, ◌&&◌, ◌⊎◌}
@@ -51,13 +52,9 @@ module _ (s : Schemas) (m : Objects) (z : Oref) where
   abbrev test : Obj → ℕ → Bool
   test o i = owns_by (slice_get o.fields i) (type_at (classes_of s o.ver) o.class i)
 
-  both : (a b : Bool) → (a && b) ≡ true → (a ≡ true) × (b ≡ true)
-  both true b e = (refl, e)
-  both false b e = cc
-
   found_by : (a : Oref) (o : Obj) (i : ℕ) → get m a ≡ Some o → (v : Option Value) (t : Option ExprType) → slice_get o.fields i ≡ v → type_at (classes_of s o.ver) o.class i ≡ t → owns_by v t ≡ true → Owns s m a i z
   found_by a o i at (Some (value.Ref y)) (Some (type.Class d)) v t h =
-      let p = both (same_oref y z) _ h in
+      let p = and_parts (same_oref y z) _ h in
       record { class = d; part = p.1; reference = record { object = o; stored = at; refers = record { declared = t; names = v ∙ ap (λ (x : Oref). Some (value.Ref x)) (one_name y z true p.0 refl) } } }
   found_by a o i at (Some (value.Ref y)) (Some type.Int) v t h = cc
   found_by a o i at (Some (value.Ref y)) (Some type.Null) v t h = cc
@@ -83,10 +80,6 @@ module _ (s : Schemas) (m : Objects) (z : Oref) where
   no_object : {A : Type 0} (o : Obj) → ◌≡◌ {A = Option Obj} None (Some o) → A
   no_object o e = cc
 
-  not_both : {A : Type 0} (b : Bool) → b ≡ true → b ≡ false → A
-  not_both true h k = cc
-  not_both false h k = cc
-
   at_key : (a : Oref) (o : Option Obj) → get m a ≡ o → Found ⊎ ((i : ℕ) → Owns s m a i z → ⊥)
   at_key a None is = inr (λ i own. no_object own.reference.object (sym is ∙ own.reference.stored))
   at_key a (Some o) is = elim (below (test o) (length o.fields)) [
@@ -94,7 +87,7 @@ module _ (s : Schemas) (m : Objects) (z : Oref) where
     | inr k ↦ inr (λ i own.
         let same : own.reference.object ≡ o = one_object own.reference.object o (sym own.reference.stored ∙ is) in
         let l : i < length o.fields = slice_get_within o.fields i (value.Ref z) (subst (λ (p : Obj). slice_get p.fields i ≡ Some (value.Ref z)) same own.reference.refers.names) in
-        not_both (test o i) (passes a o i is own same) (k i l))
+        absurd (both_ways (test o i) (k i l) (passes a o i is own same)))
   ]
 
   among_keys : (es : List (Oref × Obj)) → Found ⊎ ((a : Oref) (i : ℕ) → is_some (lookup (is_at (oref_cmp a)) es) ≡ true → Owns s m a i z → ⊥)

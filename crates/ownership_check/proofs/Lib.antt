@@ -1,5 +1,4 @@
 pub mod Behind
-pub mod LeastOwn
 pub mod Names
 pub mod OneTold
 pub mod Pieces

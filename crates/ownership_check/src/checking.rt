@@ -2,16 +2,14 @@ ghost use Rattle.std.specs.Prelude.{◌≡◌, ◌≤◌, ◌<◌, ◌^◌, leng
 ghost use Rattle.class_defs.specs.Applied.{applied, next_number};
 ghost use Rattle.class_defs.specs.UpgradeOrder as spec;
 ghost use Rattle.class_defs.specs.UpgradeOrder.{outside_rules, own_fault};
-ghost use Rattle.ownership_check.specs.Told.{Tells};
+ghost use Rattle.method_check.specs.Told.{Tells};
 
 use crate::applied::apply;
 use crate::classes::upgrade_fault;
-use crate::error::OwnError;
 use crate::inside::inside_fault;
 use crate::outside::outside_fault;
-use class_defs::{
-    Block, Blocks, BrokenRule, Checked, OwnFault, OwnRule, Schema, TypeFault, Upgrade,
-};
+use class_defs::{Block, Blocks, Checked, Rule, RuleFault, Schema, Upgrade};
+use method_check::CheckError;
 use std::alloc::Global;
 use thor_value::NoMemory;
 
@@ -19,17 +17,6 @@ use thor_value::NoMemory;
 #[derive(Debug, Drop)]
 pub struct Owned {
     pub checked: Checked,
-}
-
-/// A fault of the rules T, as one that is told of an upgrade.
-fn as_own(fault: TypeFault) -> OwnFault
-    ensures { result ≡ spec.as_own fault }
-{
-    let rule = BrokenRule::Typing(fault.rule);
-    OwnFault {
-        line: fault.line,
-        rule,
-    }
 }
 
 /// O7: what the upgrade doesn't name breaks no rule behind it.
@@ -40,19 +27,16 @@ fn breaks_outside(
     behind: &Schema,
     repos: u8,
     items: &[Block],
-) -> Result<Option<OwnFault>, NoMemory>
+) -> Result<Option<RuleFault>, NoMemory>
     requires { length behind.now.classes ≤ 65536 }
     ensures { IfOk result (λ fault. fault ≡ spec.breaks_outside upgrade.now.line (outside_rules upgrade.now behind.now repos items.now)) }
 {
     match outside_fault(alloc, upgrade, behind, repos, items)? {
         None => Ok(None),
-        Some(_) => {
-            let rule = BrokenRule::Own(OwnRule::O7);
-            Ok(Some(OwnFault {
-                line: upgrade.line,
-                rule,
-            }))
-        }
+        Some(_) => Ok(Some(RuleFault {
+            line: upgrade.line,
+            rule: Rule::O7,
+        })),
     }
 }
 
@@ -65,7 +49,7 @@ fn told(
     upgrade: &Upgrade,
     behind: &Schema,
     items: &[Block],
-) -> Result<Option<OwnFault>, NoMemory>
+) -> Result<Option<RuleFault>, NoMemory>
     requires few_classes { length schema.now.classes ≤ 65536 }
     requires few_behind { length behind.now.classes ≤ 65536 }
     requires behind { behind.now ≡ applied schema.now upgrade.now }
@@ -75,7 +59,7 @@ fn told(
         return Ok(Some(fault));
     }
     if let Some(fault) = inside_fault(alloc, upgrade, behind, repos)? {
-        return Ok(Some(as_own(fault)));
+        return Ok(Some(fault));
     }
     breaks_outside(alloc, upgrade, behind, repos, items)
 }
@@ -89,7 +73,7 @@ pub fn own_check(
     schema: &Checked,
     upgrade: &Upgrade,
     items: &Blocks,
-) -> Result<Owned, OwnError>
+) -> Result<Owned, CheckError>
     requires few_classes { length schema.now.schema.classes ≤ 65536 }
     requires few_upgrades { next_number schema.now.schema.upgraded < 2 ^ 32 }
     ensures sound { OnOk result (own_fault schema.now.schema schema.now.repos upgrade.now items.now ≡ None) }
@@ -107,7 +91,7 @@ pub fn own_check(
         items.as_slice(),
     )?;
     match fault {
-        Some(fault) => Err(OwnError::Broken(fault)),
+        Some(fault) => Err(CheckError::Broken(fault)),
         None => {
             let checked = Checked::new(behind, schema.repos);
             Ok(Owned { checked })

@@ -1,21 +1,20 @@
 ghost use Rattle.std.specs.Prelude.{◌≡◌, ◌==◌, ◌++◌, ◌≤◌, length, [], OnOk};
 ghost use Rattle.std.specs.List.{flat_map, list_any};
 ghost use Rattle.class_defs.specs.Types as types;
-ghost use Rattle.class_defs.specs.UpgradeOrder.{least_own_with};
+ghost use Rattle.class_defs.specs.Rules.{least_with};
 ghost use Rattle.class_defs.specs.UpgradeRules as spec;
 
 use crate::expressions::{field_read, first_line, gives_int, gives_reference, reads_parts};
-use crate::least::must_own;
-use class_defs::{Classes, ExprType, FieldUpgrade, OwnFault, OwnRule, Tf, type_named};
-use method_check::is_part;
+use class_defs::{Classes, ExprType, FieldUpgrade, Rule, RuleFault, Tf, type_named};
+use method_check::{is_part, must};
 use std::alloc::Global;
 use thor_value::{NoMemory, Sequence};
 
 /// The rule on references to objects of a part class, or of a free one.
-fn reference_rule(part: bool) -> OwnRule
+fn reference_rule(part: bool) -> Rule
     ensures { result ≡ spec.reference_rule part }
 {
-    if part { OwnRule::O6 } else { OwnRule::O3 }
+    if part { Rule::O6 } else { Rule::O3 }
 }
 
 /// O2, O3 and O6: the expression of a new field fits its type.
@@ -24,20 +23,20 @@ fn value_rules(
     class: u16,
     kind: ExprType,
     value: &Tf,
-    found: &mut Option<OwnFault>,
+    found: &mut Option<RuleFault>,
 )
     requires { length classes.now ≤ 65536 }
-    ensures { found.new ≡ least_own_with found.old (spec.value_rules classes.now class kind value.now) }
+    ensures { found.new ≡ least_with found.old (spec.value_rules classes.now class kind value.now) }
 {
     match kind {
         ExprType::Int => {
             let holds = gives_int(classes, class, value);
-            must_own(holds, OwnRule::O2, first_line(value), found);
+            must(holds, Rule::O2, first_line(value), found);
         }
         ExprType::Class(other) => {
             let holds = gives_reference(classes, class, other, value);
             let rule = reference_rule(is_part(classes, kind));
-            must_own(holds, rule, first_line(value), found);
+            must(holds, rule, first_line(value), found);
         }
         ExprType::Null => {}
         ExprType::Untold => {}
@@ -45,15 +44,15 @@ fn value_rules(
 }
 
 /// The rules that the expression of a new field breaks by itself.
-#[tactic(auto, using(crate::proofs::Pieces::least_own_append))]
-fn field_rules(classes: &Classes, class: u16, field: &FieldUpgrade, found: &mut Option<OwnFault>)
+#[tactic(auto, using(method_check::proofs::Pieces::least_append))]
+fn field_rules(classes: &Classes, class: u16, field: &FieldUpgrade, found: &mut Option<RuleFault>)
     requires { length classes.now ≤ 65536 }
-    ensures { found.new ≡ least_own_with found.old (spec.field_rules classes.now class field.now) }
+    ensures { found.new ≡ least_with found.old (spec.field_rules classes.now class field.now) }
 {
     let kind = type_named(classes, &field.type_name);
     value_rules(classes, class, kind, &field.value, found);
     let holds = reads_parts(classes, class, &field.value);
-    must_own(holds, OwnRule::O4, first_line(&field.value), found);
+    must(holds, Rule::O4, first_line(&field.value), found);
 }
 
 /// The rules that the expressions of new fields break by themselves.
@@ -61,10 +60,10 @@ pub fn each_field(
     classes: &Classes,
     class: u16,
     fields: &[FieldUpgrade],
-    found: &mut Option<OwnFault>,
+    found: &mut Option<RuleFault>,
 )
     requires { length classes.now ≤ 65536 }
-    ensures { found.new ≡ least_own_with found.old (flat_map (spec.field_rules classes.now class) fields.now) }
+    ensures { found.new ≡ least_with found.old (flat_map (spec.field_rules classes.now class) fields.now) }
 {
     for field in fields {
         field_rules(classes, class, field, found);
@@ -125,16 +124,16 @@ pub fn handed_once(
     classes: &Classes,
     class: u16,
     fields: &[FieldUpgrade],
-    found: &mut Option<OwnFault>,
+    found: &mut Option<RuleFault>,
 ) -> Result<(), NoMemory>
     requires { length classes.now ≤ 65536 }
-    ensures { OnOk result (found.new ≡ least_own_with found.old (spec.handed_once classes.now class [] fields.now)) }
+    ensures { OnOk result (found.new ≡ least_with found.old (spec.handed_once classes.now class [] fields.now)) }
 {
     let mut earlier = Sequence::new(alloc);
     for field in fields {
         let over = hands_over(classes, class, field);
         let holds = is_new(earlier.as_slice(), over);
-        must_own(holds, OwnRule::O5, first_line(&field.value), found);
+        must(holds, Rule::O5, first_line(&field.value), found);
         take_over(&mut earlier, over)?;
     }
     Ok(())

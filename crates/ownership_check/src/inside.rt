@@ -4,7 +4,7 @@ ghost use Rattle.class_defs.specs.UpgradeOrder as spec;
 ghost use Rattle.class_defs.specs.UpgradeOrder.{inside_rules};
 
 use crate::applied::said_of;
-use class_defs::{Class, Schema, TypeFault, Upgrade};
+use class_defs::{Class, RuleFault, Schema, Upgrade};
 use method_check::class_rules;
 use std::alloc::Global;
 use thor_value::NoMemory;
@@ -17,7 +17,7 @@ fn inside_class(
     repos: u8,
     number: u16,
     class: &Class,
-    found: &mut Option<TypeFault>,
+    found: &mut Option<RuleFault>,
 ) -> Result<(), NoMemory>
     requires { length schema.now.classes ≤ 65536 }
     ensures { OnOk result (found.new ≡ least_with found.old (spec.inside_class upgrade.now schema.now repos number class.now)) }
@@ -36,7 +36,7 @@ pub fn inside_fault(
     upgrade: &Upgrade,
     schema: &Schema,
     repos: u8,
-) -> Result<Option<TypeFault>, NoMemory>
+) -> Result<Option<RuleFault>, NoMemory>
     requires { length schema.now.classes ≤ 65536 }
     ensures { IfOk result (λ fault. fault ≡ least (inside_rules upgrade.now schema.now repos)) }
 {

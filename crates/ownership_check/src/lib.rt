@@ -4,16 +4,13 @@
 mod applied;
 mod checking;
 mod classes;
-mod error;
 mod expressions;
 mod fields;
 mod inside;
 mod laws;
-mod least;
 mod outside;
 mod paths;
 
 pub use applied::{apply, has_next_number};
 pub use checking::{Owned, own_check};
-pub use error::OwnError;
-pub use laws::{one_upgrade_follows_another, the_least_own_fault_is_told};
+pub use laws::one_upgrade_follows_another;

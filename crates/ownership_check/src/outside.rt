@@ -6,7 +6,7 @@ ghost use Rattle.class_defs.specs.UpgradeOrder as spec;
 ghost use Rattle.class_defs.specs.UpgradeOrder.{outside_rules};
 
 use crate::applied::said_of;
-use class_defs::{Block, Class, Schema, TypeFault, Upgrade};
+use class_defs::{Block, Class, RuleFault, Schema, Upgrade};
 use method_check::{methods_rules, note_item};
 use std::alloc::Global;
 use thor_value::NoMemory;
@@ -19,7 +19,7 @@ fn outside_class(
     repos: u8,
     number: u16,
     class: &Class,
-    found: &mut Option<TypeFault>,
+    found: &mut Option<RuleFault>,
 ) -> Result<(), NoMemory>
     requires { length schema.now.classes ≤ 65536 }
     ensures { OnOk result (found.new ≡ least_with found.old (spec.outside_class upgrade.now schema.now repos number class.now)) }
@@ -43,7 +43,7 @@ fn classes_outside(
     upgrade: &Upgrade,
     schema: &Schema,
     repos: u8,
-    found: &mut Option<TypeFault>,
+    found: &mut Option<RuleFault>,
 ) -> Result<(), NoMemory>
     requires { length schema.now.classes ≤ 65536 }
     ensures { OnOk result (found.new ≡ least_with found.old (spec.over_classes (spec.outside_class upgrade.now schema.now repos) 0 schema.now.classes)) }
@@ -60,7 +60,7 @@ fn items_outside(
     schema: &Schema,
     repos: u8,
     items: &[Block],
-    found: &mut Option<TypeFault>,
+    found: &mut Option<RuleFault>,
 ) -> Result<(), NoMemory>
     requires { length schema.now.classes ≤ 65536 }
     ensures { OnOk result (found.new ≡ least_with found.old (flat_map (item_rules schema.now repos) items.now)) }
@@ -72,14 +72,14 @@ fn items_outside(
 }
 
 /// One of the faults of the methods of other classes, and of the items, on the schema behind an upgrade.
-#[tactic(auto, using(crate::proofs::Pieces::least_append), unfolding(class_defs::specs::UpgradeOrder::outside_rules))]
+#[tactic(auto, using(method_check::proofs::Pieces::least_append), unfolding(class_defs::specs::UpgradeOrder::outside_rules))]
 pub fn outside_fault(
     alloc: Global,
     upgrade: &Upgrade,
     schema: &Schema,
     repos: u8,
     items: &[Block],
-) -> Result<Option<TypeFault>, NoMemory>
+) -> Result<Option<RuleFault>, NoMemory>
     requires { length schema.now.classes ≤ 65536 }
     ensures { IfOk result (λ fault. fault ≡ least (outside_rules upgrade.now schema.now repos items.now)) }
 {

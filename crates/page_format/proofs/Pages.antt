@@ -4,7 +4,7 @@ use Rattle.std.specs.Prelude.{replicate, slice_index, ◌&&◌}
 use Rattle.std.specs.Int.{w32, from_be_bytes, to_be_bytes}
 use Rattle.std.specs.List.{AllByRecursion}
 use Rattle.std.specs.Option.{option_map_or}
-use Rattle.std.proofs.lemmas.Bool.{eqb-true, eq-eqb}
+use Rattle.std.proofs.lemmas.Bool.{eqb-true, eq-eqb, and_parts}
 use Rattle.std.proofs.lemmas.List.{append-nil, length-append, length-replicate, take_all}
 use Rattle.std.proofs.lemmas.List.Elements.{recursion_from_All}
 use Rattle.std.proofs.lemmas.Nat.{be_bytes_4, from_be_bytes-to_be_bytes_4}
@@ -21,10 +21,6 @@ abbrev Head : Type 0
 Head = (ℕ × ℕ) × List ℕ
 
 -- ---- the head
-
-both : (a b : Bool) → a && b ≡ true → (a ≡ true) × (b ≡ true)
-both true b e = (refl, e)
-both false b e = absurd cc
 
 chosen_head : (b : Bool) (x y : Head) → cond b (Some x) None ≡ Some y → (b ≡ true) × (x ≡ y)
 chosen_head true x y e = (refl, cc)
@@ -46,15 +42,15 @@ pub record Headed (bytes : List ℕ) (h : Head) : Type 0 where
 
 too_short : (bytes : List ℕ) → length bytes < 8 → has_head bytes ≡ true → ⊥
 too_short bytes lt e =
-    let size : length bytes ≡ 4096 = eqb-true _ _ (both _ _ e).0 in
+    let size : length bytes ≡ 4096 = eqb-true _ _ (and_parts _ _ e).0 in
     omega arith
 
 headed : (a b c d e f g h : ℕ) (bytes : List ℕ) → IsBytes (a ∷ b ∷ c ∷ d ∷ e ∷ f ∷ g ∷ h ∷ bytes) → has_head (a ∷ b ∷ c ∷ d ∷ e ∷ f ∷ g ∷ h ∷ bytes) ≡ true
     → Headed (a ∷ b ∷ c ∷ d ∷ e ∷ f ∷ g ∷ h ∷ bytes) ((from_be_bytes w32 (e ∷ f ∷ g ∷ h ∷ []), d), bytes)
 headed a b c d e f g h bytes k t =
-    let p = both _ _ t in
-    let q = both _ _ p.1 in
-    let r = both _ _ q.1 in
+    let p = and_parts _ _ t in
+    let q = and_parts _ _ p.1 in
+    let r = and_parts _ _ q.1 in
     let first : a ≡ 84 = eqb-true _ _ q.0 in
     let second : b ≡ 80 = eqb-true _ _ r.0 in
     let third : c ≡ 1 = eqb-true _ _ r.1 in
@@ -94,7 +90,7 @@ head_again number count body below size =
 pub zeros_are : (bytes : List ℕ) → all_zero bytes ≡ true → bytes ≡ replicate (length bytes) 0
 zeros_are [] e = refl
 zeros_are (b ∷ bytes) e =
-    let p = both (eqb b 0) (all_zero bytes) e in
+    let p = and_parts (eqb b 0) (all_zero bytes) e in
     let first : b ≡ 0 = eqb-true b 0 p.0 in
     ap (λ (x : ℕ). x ∷ bytes) first ∙ ap (λ (t : List ℕ). 0 ∷ t) (zeros_are bytes p.1)
 

@@ -1,9 +1,10 @@
 -- What a store of pages keeps through its calls.
 use Rattle.std.proofs.Common.{◌≡◌, ℕ, zero, suc, ◌+◌, ◌-◌, ◌<◌, ◌≤◌, Bool, true, false, cond, List, [], ◌∷◌, length, take, Option, Some, None, is_some, IsSome, nat_eq, refl, ap, sym, subst, ◌∙◌, arith, inl, inr, ◌⊎◌}
-use Rattle.std.proofs.lemmas.Bool.{eqb-true, eq-eqb}
+use Rattle.std.proofs.lemmas.Bool.{eqb-true, eq-eqb, cases_eq, false≢true}
 use Rattle.std.proofs.lemmas.Bool.Decides.{eqb_tells}
 use Rattle.std.specs.Cmp.{nat_eq_equiv, nat_cmp_is}
 use Rattle.std.proofs.lemmas.Cmp.{nat_cmp_total, ranked}
+use Rattle.std.proofs.lemmas.Option.{same_Some}
 use Rattle.std.specs.Ordering.{nat_cmp, is_eq, eq_by_cmp}
 use Rattle.std.specs.declared.cmp.Ordering.{Ordering}
 use Rattle.std.specs.declared.cmp.Ordering.TheVariants.{Less, Equal, Greater}
@@ -189,10 +190,7 @@ abbrev pub store_of : List (ℕ × ℕ) → Cache → Option (Contents × ℕ) �
 store_of sides cache staged = record { sides = sides; held = cache.entries; staged = staged }
 
 pub some_of : (o : Option Contents) (b : Bool) → b ≡ is_some o → b ≡ true → (found : Contents) × (o ≡ Some found)
-some_of None b is true_is = absurd (tells (sym is ∙ true_is))
-  where
-    tells : false ≡ true → ⊥
-    tells h = cc
+some_of None b is true_is = absurd (false≢true (sym is ∙ true_is))
 some_of (Some found) b is true_is = (found, refl)
 
 module _ (sides : List (ℕ × ℕ)) (staged : Option (Contents × ℕ)) (was now : Cache) (page : ℕ) (found : Contents) (cap_is : was.cap ≡ most_held) (put : now ≡ lru_cache (put_entries nat_eq was page (Some found)) was.cap) where
@@ -229,12 +227,6 @@ module _ (sides : List (ℕ × ℕ)) (staged : Option (Contents × ℕ)) (was no
 
 some_is : (a b : Contents) → Some a ≡ Some b → a ≡ b
 some_is a b is = cc
-
-number_is : (a b : ℕ) → Some a ≡ Some b → a ≡ b
-number_is a b is = cc
-
-either : (a b : ℕ) → (a ≡ b) ⊎ (a ≡ b → ⊥)
-either a b = elim (eqb_tells a b) [ inl same ↦ inl same.1 | inr apart ↦ inr apart.1 ]
 
 not_there : (held : Held) (page other : ℕ) (that : Contents) → lookup (nat_eq page) held ≡ None → other ≡ page → page_in held other ≡ Some that → ⊥
 not_there held page other that none same is =
@@ -285,14 +277,14 @@ module _ (store : Store) (page side : ℕ) (found : Contents) (number : found.nu
     reaches_by : (other used : ℕ) → (other ≡ page) ⊎ (other ≡ page → ⊥) → side_in_use (insert_entry nat_cmp store.sides page side) other ≡ Some used → place_of other used + page_size ≤ length disk
     reaches_by other used (inl same) is =
         let here : Some side ≡ Some used = sym (in_use_here store.sides page side) ∙ ap (side_in_use (insert_entry nat_cmp store.sides page side)) (sym same) ∙ is in
-        let at : side ≡ used = number_is side used here in
+        let at : side ≡ used = same_Some side used here in
         let long = spelled_reaches disk page side found stands in
         omega (arith, long, at, same)
     reaches_by other used (inr apart) is = agrees.reaches other used (sym (in_use_other store.sides page side other apart) ∙ is)
 
     pub agrees_settled : Agrees settled disk
     agrees_settled = record {
-      reaches = λ other used is. reaches_by other used (either other page) is;
+      reaches = λ other used is. reaches_by other used (cases_eq other page) is;
       held = λ other that is. elim (refreshed_put store.held page other found that is) [
         | inl was ↦ subst (λ (u : Option ℕ). Shows disk u other that) (sym (in_use_other store.sides page side other was.1)) (agrees.held other that was.0)
         | inr put ↦ subst (λ (u : Option ℕ). Shows disk u other that) (sym (ap (side_in_use (insert_entry nat_cmp store.sides page side)) put.0 ∙ in_use_here store.sides page side)) (subst (λ (c : Contents). Spells (side_bytes disk other side) other c) put.1 (subst (λ (p : ℕ). Spells (side_bytes disk p side) p found) (sym put.0) stands))
@@ -323,13 +315,13 @@ module _ (store : Store) (page side : ℕ) where
     side_reaches : (other used : ℕ) → (other ≡ page) ⊎ (other ≡ page → ⊥) → side_in_use (insert_entry nat_cmp store.sides page side) other ≡ Some used → place_of other used + page_size ≤ length disk
     side_reaches other used (inl same) is =
         let here : Some side ≡ Some used = sym (in_use_here store.sides page side) ∙ ap (side_in_use (insert_entry nat_cmp store.sides page side)) (sym same) ∙ is in
-        let at : side ≡ used = number_is side used here in
+        let at : side ≡ used = same_Some side used here in
         omega (arith, within, at, same)
     side_reaches other used (inr apart) is = agrees.reaches other used (sym (in_use_other store.sides page side other apart) ∙ is)
 
     agrees_side : Agrees (with_side store page side) disk
     agrees_side = record {
-      reaches = λ other used is. side_reaches other used (either other page) is;
+      reaches = λ other used is. side_reaches other used (cases_eq other page) is;
       held = λ other that is. (let was = forgotten store.held page other that is in
           subst (λ (u : Option ℕ). Shows disk u other that) (sym (in_use_other store.sides page side other was.1)) (agrees.held other that was.0));
       staged = λ that written is. none_left (Spells (side_bytes disk that.number written) that.number that) None that written refl is;

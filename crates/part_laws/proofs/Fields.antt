@@ -28,11 +28,13 @@ use Rattle.fitting_laws.proofs.FitValues.{field_there}
 use Rattle.fitting_laws.specs.Fits.{MachineFits, ObjectsFit, ThisFits, ValueFits}
 use Rattle.part_laws.proofs.Made.{age, age-less, age-more, age-new, among-cases, among-new, is_among}
 use Rattle.part_laws.proofs.Steps.{Any, Goes, TidyAt, still, stops}
-use Rattle.part_laws.proofs.Tidy.{CanReach, IsFresh, IsPartAt, Owner, grows_made, grows_no, newest, or_either, or_right, sees, tidy_made, tidy_set, unowned}
+use Rattle.part_laws.proofs.Tidy.{CanReach, IsFresh, IsPartAt, Owner, grows_made, grows_no, newest, sees, tidy_made, tidy_set, unowned}
 use Rattle.part_laws.specs.Owning.{OwnsIn}
 use Rattle.std.proofs.Common.{Bool, List, [], ap, arith, cond, false, inl, inr, length, map, refl, subst, sym, true, ℕ, zero, suc, ◌+◌, ◌++◌, ◌<◌, ◌≡◌, ◌∙◌, ◌∷◌}
 use Rattle.std.proofs.lemmas.Bool.Decides.{nat_tests}
 use Rattle.std.proofs.lemmas.List.Folds.{find_at}
+use Rattle.std.proofs.lemmas.Bool.{or_cases}
+use Rattle.std.proofs.lemmas.Option.{none-some}
 use Rattle.std.specs.List.{position_or_len}
 use Rattle.std.specs.Option.{option_and_then, option_map}
 use Rattle.std.specs.Prelude.{Err, None, Ok, Option, Result, Some, find, is_some, nat_lt, position, remove, slice_get, ◌==◌, ◌⊎◌}
@@ -41,9 +43,6 @@ use Rattle.thor_value.specs.declared.names.Oref.{Oref}
 use Rattle.thor_value.specs.declared.values.Fault.TheVariants as fault
 use Rattle.thor_value.specs.declared.values.Value.TheVariants as value
 use Rattle.thor_value.specs.declared.values.Value.{Value}
-
-none_is : {A X : Type 0} (x : X) → ◌≡◌ {A = Option X} None (Some x) → A
-none_is x e = cc
 
 no_receiver : {A : Type 0} (r : Receiver) → ◌≡◌ {A = Option Receiver} None (Some r) → A
 no_receiver r e = cc
@@ -248,12 +247,12 @@ module _ (schema : Schema) (repos : ℕ) (E : Oref → Option Object) (t : Optio
   reach_by m q at tidy i x own true made = inl (or_right (has m.reads x) (is_among m.created x) made)
   reach_by m q at tidy i x own false made =
       let before : OwnsIn schema.classes E q.oref i x = tidy.old q.oref x i made own in
-      let read : has m.reads q.oref ≡ true = was_read before (or_either (has m.reads q.oref) (is_among m.created q.oref) (tidy.this q at)) in
+      let read : has m.reads q.oref ≡ true = was_read before (or_cases (has m.reads q.oref) (is_among m.created q.oref) (tidy.this q at)) in
       inr (λ o is part. (q.oref, i, before, read))
     where
       was_read : OwnsIn schema.classes E q.oref i x → (has m.reads q.oref ≡ true) ⊎ (is_among m.created q.oref ≡ true) → has m.reads q.oref ≡ true
       was_read before (inl k) = k
-      was_read before (inr k) = none_is before.object (sym (tidy.new q.oref k) ∙ before.stands)
+      was_read before (inr k) = absurd (none-some before.object (sym (tidy.new q.oref k) ∙ before.stands))
 
   -- what an owned field of `this` names is owned by `this`
   owned_of : (m : Machine) (c : Option ℕ) (p : Option Receiver) (name : List ℕ) → m.this ≡ p → ObjectsFit schema (seen w m) → ThisFits (seen w m) c p

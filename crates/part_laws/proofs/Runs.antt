@@ -26,14 +26,15 @@ use Rattle.fitting_laws.specs.Strict.{strict_meaning}
 use Rattle.part_laws.proofs.Bodies.{StatementsGo, block_goes, statement_goes}
 use Rattle.part_laws.proofs.Fields.{owned_there}
 use Rattle.part_laws.proofs.Made.{age, is_among}
-use Rattle.part_laws.proofs.Steps.{Any, Goes, PartsGo, TidyAt, not_true, stops}
-use Rattle.part_laws.proofs.Tidy.{Owner, Tidy, Writes, or_either, sees}
+use Rattle.part_laws.proofs.Steps.{Any, Goes, PartsGo, TidyAt, stops}
+use Rattle.part_laws.proofs.Tidy.{Owner, Tidy, Writes, sees}
 use Rattle.part_laws.proofs.Walk.{expression_goes}
 use Rattle.part_laws.specs.Owning.{KeepsParts, OwnsIn}
 use Rattle.std.proofs.Common.{Bool, List, [], ap, arith, cond, false, inl, inr, length, refl, subst, sym, true, ℕ, zero, suc, ◌++◌, ◌≡◌, ◌∙◌, ◌∷◌, Less}
 use Rattle.std.proofs.Math.Path.{fun_ext}
 use Rattle.std.proofs.lemmas.Bool.Decides.{nat_tests}
 use Rattle.std.proofs.lemmas.Option.{same_Some}
+use Rattle.std.proofs.lemmas.Bool.{and_parts, or_parts, not-true, or_cases}
 use Rattle.std.specs.BTreeMap.{is_at}
 use Rattle.std.specs.Cmp.Lexicographic.{pointwise}
 use Rattle.std.specs.List.Sorted.{IsStrictlySortedBy}
@@ -107,16 +108,8 @@ store_sees classes store writes h = fun_ext (λ x. get_overwritten store.objects
 taken_none : (created names : List Oref) (z : Oref) → pointwise same_oref created names ≡ true → list_any (λ (x : Oref). x.repo == 255) names ≡ false → is_among created z ≡ true → (z.repo == 255) ≡ false
 taken_none [] names z h none is = cc
 taken_none (x ∷ xs) [] z h none is = cc
-taken_none (x ∷ xs) (y ∷ ys) z h none is = by (same_oref z x) refl is (and_left (same_oref x y) _ h) (or_none (y.repo == 255) _ none) (taken_none xs ys z)
+taken_none (x ∷ xs) (y ∷ ys) z h none is = by (same_oref z x) refl is (and_parts (same_oref x y) _ h) (or_parts (y.repo == 255) _ none) (taken_none xs ys z)
   where
-    and_left : (a b : Bool) → (a && b) ≡ true → (a ≡ true) × (b ≡ true)
-    and_left true b e = (refl, e)
-    and_left false b e = cc
-
-    or_none : (a b : Bool) → (a || b) ≡ false → (a ≡ false) × (b ≡ false)
-    or_none true b e = cc
-    or_none false b e = (refl, e)
-
     by : (c : Bool) → same_oref z x ≡ c → is_some (cond c (Some x) (find (same_oref z) xs)) ≡ true → (same_oref x y ≡ true) × (pointwise same_oref xs ys ≡ true) → ((y.repo == 255) ≡ false) × (list_any (λ (x : Oref). x.repo == 255) ys ≡ false)
         → (pointwise same_oref xs ys ≡ true → list_any (λ (x : Oref). x.repo == 255) ys ≡ false → is_among xs z ≡ true → (z.repo == 255) ≡ false) → (z.repo == 255) ≡ false
     by true e is g k more = ap (λ (q : Oref). q.repo == 255) (one_name z x true e refl ∙ one_name x y true g.0 refl) ∙ k.0
@@ -188,7 +181,7 @@ begun_sorted names = tt
 pub roots_free : (classes : List Class) (repos : ℕ) (rs : List RootDeclaration) → AllByRecursion (λ (r : RootDeclaration). root_rules classes repos r ≡ []) rs
     → AllByRecursion (λ (r : RootDeclaration). is_part classes (class_or_untold (class_named classes r.class.text)) ≡ false) rs
 roots_free classes repos [] h = tt
-roots_free classes repos (r ∷ rs) h = (not_true _ (held _ _ _ (nothing (is_class classes r.class) _ (nothing _ (root_at_rules repos r.at) h.0).0).1), roots_free classes repos rs h.1)
+roots_free classes repos (r ∷ rs) h = (not-true _ (held _ _ _ (nothing (is_class classes r.class) _ (nothing _ (root_at_rules repos r.at) h.0).0).1), roots_free classes repos rs h.1)
 
 -- ---- runs
 
@@ -215,7 +208,7 @@ module _ (schema : Schema) (repos : ℕ) (store : Plain) (fit : StoreFits schema
   reached x o is at part = let k = tidy.reached x (found_key m.reads.pairs x is) o at part in (k.0, k.1, k.2, key_found m.reads.pairs k.0 k.3)
 
   wrote : (x : Oref) → is_some (get m.writes x) ≡ true → Contains (keys m.reads) x ⊎ (E x ≡ None)
-  wrote x h = elim (or_either (has m.reads x) (is_among m.created x) (tidy.wrote x h)) [
+  wrote x h = elim (or_cases (has m.reads x) (is_among m.created x) (tidy.wrote x h)) [
     | inl k ↦ inl (key_found m.reads.pairs x k)
     | inr k ↦ inr (tidy.new x k)
   ]
@@ -243,14 +236,10 @@ module _ (schema : Schema) (repos : ℕ) (store : Plain) (fit : StoreFits schema
   module _ (names : List Oref) (took : takes m.created names ≡ true) where
     no_stand_ins : (z : Oref) → is_among m.created z ≡ true → z.repo ≡ 255 → ⊥
     no_stand_ins z is at =
-        let p = both (pointwise same_oref m.created names) _ took in
-        let none : (z.repo == 255) ≡ false = taken_none m.created names z p.0 (not_true _ p.1) is in
+        let p = and_parts (pointwise same_oref m.created names) _ took in
+        let none : (z.repo == 255) ≡ false = taken_none m.created names z p.0 (not-true _ p.1) is in
         not_same z.repo none at
       where
-        both : (a b : Bool) → (a && b) ≡ true → (a ≡ true) × (b ≡ true)
-        both true b e = (refl, e)
-        both false b e = cc
-
         not_same : (n : ℕ) → (n == 255) ≡ false → n ≡ 255 → ⊥
         not_same n h e = grind (arith, nat_tests)
 

@@ -28,9 +28,10 @@ use Rattle.class_defs.specs.declared.types.ExprType.{ExprType}
 use Rattle.fitting_laws.proofs.FitCalls.{sight_of}
 use Rattle.fitting_laws.specs.Fits.{MachineFits}
 use Rattle.part_laws.proofs.Made.{is_among}
-use Rattle.part_laws.proofs.Tidy.{CanReach, Grows, IsFresh, Tidy, grows_no, grows_read, grows_then, is_known, not_both, or_left, read_itself, tidy_read}
+use Rattle.part_laws.proofs.Tidy.{CanReach, Grows, IsFresh, Tidy, grows_no, grows_read, grows_then, is_known, read_itself, tidy_read}
 use Rattle.part_laws.specs.Owning.{OwnsIn}
 use Rattle.std.proofs.Common.{Bool, List, [], cond, false, inl, inr, not, refl, subst, true, ℕ, ◌+◌, ◌≡◌}
+use Rattle.std.proofs.lemmas.Bool.{not-true, both_ways}
 use Rattle.std.specs.List.{AllByRecursion}
 use Rattle.std.specs.Prelude.{Err, None, Ok, Option, Result, Some, find, is_some, nat_lt, ◌||◌, ◌⊎◌}
 use Rattle.thor_value.specs.FiniteMap.{has, insert, len}
@@ -40,13 +41,9 @@ use Rattle.thor_value.specs.declared.values.Fault.TheVariants as fault
 use Rattle.thor_value.specs.declared.values.Value.TheVariants as value
 use Rattle.thor_value.specs.declared.values.Value.{Value}
 
-pub not_true : (b : Bool) → not b ≡ true → b ≡ false
-not_true true h = cc
-not_true false h = refl
-
 -- the type of a word for a parameter, a result or a local isn't a part class
 pub free_class : (classes : List Class) (o : Option ℕ) → not (is_part classes (class_or_untold o)) ≡ true → is_part classes (class_or_untold o) ≡ false
-free_class classes o h = not_true (is_part classes (class_or_untold o)) h
+free_class classes o h = not-true (is_part classes (class_or_untold o)) h
 
 pub free_type : (classes : List Class) (t : TypeName) → is_free_type classes t ≡ [] → is_part classes (type_named classes t) ≡ false
 free_type classes (type_name.Int line) h = refl
@@ -115,7 +112,7 @@ module _ (schema : Schema) (repos : ℕ) (E : Oref → Option Object) where
       → Goes (Known x) m (touched b few o owners x m).0 (touched b few o owners x m).1
   touched_goes true few (Some o) owners x m is can t = still (Known x) m o.class t is
   touched_goes true few None owners x m is can t = stops (Known x) m (stop.Need x owners) t
-  touched_goes false true (Some o) owners x m is (inl k) t = not_both (is_known schema.classes E m.reads m.created x) k is
+  touched_goes false true (Some o) owners x m is (inl k) t = absurd (both_ways (is_known schema.classes E m.reads m.created x) is k)
   touched_goes false true (Some o) owners x m is (inr h) t = record {
     tidy = tidy_read schema.classes E m.writes m.created m.reads m.this t x h;
     grows = grows_read schema.classes E m.writes m.created m.reads m.this t x;
@@ -138,9 +135,9 @@ module _ (schema : Schema) (repos : ℕ) (E : Oref → Option Object) where
 
   -- a value that is no part may stand anywhere
   pub placed_free : (place : Position) (k : ExprType) (v : Value) (n : Machine) → is_part schema.classes k ≡ false → Placed place k v n
-  placed_free AsReceiver k v n free = λ x e part. not_both (is_part schema.classes k) part free
+  placed_free AsReceiver k v n free = λ x e part. absurd (both_ways (is_part schema.classes k) free part)
   placed_free BesideNull k v n free = tt
-  placed_free IntoOwnedField k v n free = λ x e part r is. not_both (is_part schema.classes k) part free
+  placed_free IntoOwnedField k v n free = λ x e part r is. absurd (both_ways (is_part schema.classes k) free part)
   placed_free AsValue k v n free = free
 
   -- a receiver that is a part: `this`, or made, or one that `this` owned at first

@@ -12,6 +12,8 @@ use Rattle.fitting_laws.proofs.FitValues.{insert_put, put}
 use Rattle.part_laws.proofs.Made.{age, age-more, among-cases, among-more, among-new, is_among}
 use Rattle.part_laws.specs.Owning.{OwnsIn}
 use Rattle.std.proofs.Common.{Bool, List, [], ap, cond, false, inl, inr, refl, subst, sym, true, ℕ, zero, suc, ◌++◌, ◌<◌, ◌≡◌, ◌∙◌, ◌∷◌}
+use Rattle.std.proofs.lemmas.Bool.{or_cases, both_ways}
+use Rattle.std.proofs.lemmas.Option.{none-some}
 use Rattle.std.specs.Prelude.{None, Option, Some, is_some, slice_get, slice_set, ◌||◌, ◌⊎◌}
 use Rattle.thor_value.proofs.FiniteMap.{get-insert}
 use Rattle.thor_value.proofs.NameOrders.{oref_total}
@@ -28,25 +30,6 @@ abbrev pub Reads : Type 0
 Reads = Set oref_cmp
 
 -- ---- small things
-
-pub not_both : {A : Type 0} (b : Bool) → b ≡ true → b ≡ false → A
-not_both true h k = cc
-not_both false h k = cc
-
-pub or_left : (a b : Bool) → a ≡ true → (a || b) ≡ true
-or_left true b h = refl
-or_left false b h = cc
-
-pub or_right : (a b : Bool) → b ≡ true → (a || b) ≡ true
-or_right true b h = refl
-or_right false b h = h
-
-pub or_either : (a b : Bool) → (a || b) ≡ true → (a ≡ true) ⊎ (b ≡ true)
-or_either true b h = inl refl
-or_either false b h = inr h
-
-not_there : {A X : Type 0} (x : X) → ◌≡◌ {A = Option X} None (Some x) → A
-not_there x e = cc
 
 same_some : {X : Type 0} (x y : X) → ◌≡◌ {A = Option X} (Some x) (Some y) → x ≡ y
 same_some x y e = cc
@@ -166,7 +149,7 @@ module _ (classes : List Class) where
     grows_then c d e r s t g h = record { reads_more = λ x k. h.reads_more x (g.reads_more x k); made_more = λ x k. h.made_more x (g.made_more x k) }
 
     pub known_more : (c d : List Oref) (r s : Reads) → Grows c r d s → (x : Oref) → is_known r c x ≡ true → is_known s d x ≡ true
-    known_more c d r s g x h = elim (or_either (has r x) (is_among c x) h) [
+    known_more c d r s g x h = elim (or_cases (has r x) (is_among c x) h) [
       | inl k ↦ or_left (has s x) (is_among d x) (g.reads_more x k)
       | inr k ↦ or_right (has s x) (is_among d x) (g.made_more x k)
     ]
@@ -248,7 +231,7 @@ module _ (classes : List Class) where
           kept = λ x p is. let g = t.kept x p is in keeps x p g.0 g.1 g.2 (same_oref x a) refl;
           old = λ b z i not own. elim (owns_then b z i own) [
             | inl h ↦ t.old b z i not h
-            | inr h ↦ not_both (is_among created z) h.2.made not
+            | inr h ↦ absurd (both_ways (is_among created z) not h.2.made)
           ];
           once = λ b c z i j is own other. both b c z i j is (owns_then b z i own) (owns_then c z j other);
           near = λ b z i is own. elim (owns_then b z i own) [
@@ -338,7 +321,7 @@ module _ (classes : List Class) where
           where
             by : (c : Bool) → is_among created b ≡ c → c ≡ true
             by true e = refl
-            by false e = let h = owns_before b y i own in not_there h.object (sym none ∙ ap (sees writes) (sym (among-cases created z b false e is refl)) ∙ h.stands)
+            by false e = let h = owns_before b y i own in absurd (none-some h.object (sym none ∙ ap (sees writes) (sym (among-cases created z b false e is refl)) ∙ h.stands))
 
         pub grows_made : Grows created reads longer reads
         grows_made = record { reads_more = λ x h. h; made_more = λ x h. among-more created (z ∷ []) x h }
@@ -376,15 +359,15 @@ module _ (classes : List Class) where
                 ap is_some (get_put writes z x o true (ap (λ y. same_oref y z) is ∙ same_itself z))
 
             keeps : (x : Oref) (p u : Object) → E x ≡ Some p → sees writes x ≡ Some u → u.class ≡ p.class → (b : Bool) → same_oref x z ≡ b → (g : Object) × (sees with x ≡ Some g) × (g.class ≡ p.class)
-            keeps x p u was at class true e = not_there u (sym none ∙ ap (sees writes) (sym (one_name x z true e refl)) ∙ at)
+            keeps x p u was at class true e = absurd (none-some u (sym none ∙ ap (sees writes) (sym (one_name x z true e refl)) ∙ at))
             keeps x p u was at class false e = (u, ap (λ g. first_of g (E x)) (get_put writes z x o false e) ∙ at, class)
 
             still_not : (y : Oref) → is_among longer y ≡ false → (b : Bool) → is_among created y ≡ b → b ≡ false
-            still_not y not true e = not_both (is_among longer y) (among-more created (z ∷ []) y e) not
+            still_not y not true e = absurd (both_ways (is_among longer y) not (among-more created (z ∷ []) y e))
             still_not y not false e = refl
 
             origin : (x : Oref) → is_some (get with x) ≡ true → is_among longer x ≡ false → (b : Bool) → same_oref x z ≡ b → is_some (E x) ≡ true
-            origin x h not true e = not_both (is_among longer x) (subst (λ (y : Oref). is_among longer y ≡ true) (sym (one_name x z true e refl)) (among-new created z)) not
+            origin x h not true e = absurd (both_ways (is_among longer x) not (subst (λ (y : Oref). is_among longer y ≡ true) (sym (one_name x z true e refl)) (among-new created z)))
             origin x h not false e = t.origin x (ap is_some (sym (get_put writes z x o false e)) ∙ h) (still_not x not (is_among created x) refl)
 
             was_written : (x : Oref) → is_some (get with x) ≡ true → (b : Bool) → same_oref x z ≡ b → is_known reads longer x ≡ true

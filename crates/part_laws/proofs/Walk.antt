@@ -43,9 +43,10 @@ use Rattle.fitting_laws.specs.Strict.{Sure}
 use Rattle.part_laws.proofs.Fields.{OwnedByThis, create_goes, field_goes, field_owned}
 use Rattle.part_laws.proofs.Made.{is_among}
 use Rattle.part_laws.specs.Owning.{OwnsIn}
-use Rattle.part_laws.proofs.Steps.{Any, AreFree, BlocksGo, Goes, Held, Known, PartsGo, Placed, TidyAt, free_type, not_true, on, placed_free, still, steps, stops, touch_goes, weaker}
-use Rattle.part_laws.proofs.Tidy.{CanReach, IsFresh, IsReached, can_more, grows_no, is_known, known_more, not_both, tidy_this}
+use Rattle.part_laws.proofs.Steps.{Any, AreFree, BlocksGo, Goes, Held, Known, PartsGo, Placed, TidyAt, free_type, on, placed_free, still, steps, stops, touch_goes, weaker}
+use Rattle.part_laws.proofs.Tidy.{CanReach, IsFresh, IsReached, can_more, grows_no, is_known, known_more, tidy_this}
 use Rattle.std.proofs.Common.{Bool, List, [], ap, append-nil, append_assoc, arith, cond, false, inl, inr, length, map, not, refl, subst, sym, true, ℕ, ◌++◌, ◌+◌, ◌≡◌, ◌∙◌, ◌∷◌}
+use Rattle.std.proofs.lemmas.Bool.{not-true, both_ways}
 use Rattle.std.specs.List.{AllByRecursion}
 use Rattle.std.specs.Option.{option_and_then, option_map, unwrap_or}
 use Rattle.std.specs.Prelude.{Err, None, Ok, Option, Result, Some, find, is_some, nat_lt, slice_get, ◌==◌, ◌||◌, ◌⊎◌}
@@ -258,7 +259,7 @@ module _ (schema : Schema) (repos : ℕ) (sound : (c : ℕ) (d : Class) → slic
     free_reached c x m tidy is not_part o at part =
         let k = tidy.kept x o at in
         let same : o.class ≡ c = one_class o.class c (ap Some (sym k.2) ∙ ap (option_map (λ (p : Object). p.class)) (sym k.1) ∙ is) in
-        not_both (is_part schema.classes (type.Class c)) (subst (λ j. is_part schema.classes (type.Class j) ≡ true) same part) not_part
+        absurd (both_ways (is_part schema.classes (type.Class c)) not_part (subst (λ j. is_part schema.classes (type.Class j) ≡ true) same part))
       where
         one_class : (i j : ℕ) → ◌≡◌ {A = Option ℕ} (Some i) (Some j) → i ≡ j
         one_class i j e = cc
@@ -305,22 +306,22 @@ module _ (schema : Schema) (repos : ℕ) (sound : (c : ℕ) (d : Class) → slic
         by None is x e = cc
         by (Some q) is x e = let same : q.oref ≡ x = cc in subst (λ y. is_known schema.classes E m.reads m.created y ≡ true) same (tidy.this q is)
     this_placed (Some c) BesideNull m tidy ok = tt
-    this_placed (Some c) IntoOwnedField m tidy ok = placed_free schema repos E IntoOwnedField (type.Class c) (this_value m.this) m (not_true (is_part schema.classes (type.Class c)) ok)
-    this_placed (Some c) AsValue m tidy ok = not_true (is_part schema.classes (type.Class c)) ok
+    this_placed (Some c) IntoOwnedField m tidy ok = placed_free schema repos E IntoOwnedField (type.Class c) (this_value m.this) m (not-true (is_part schema.classes (type.Class c)) ok)
+    this_placed (Some c) AsValue m tidy ok = not-true (is_part schema.classes (type.Class c)) ok
 
     field_placed : (place : Position) (name : Name) (m : Machine) → MachineFits w s m → TidyAt schema repos E m → is_some (option_and_then (λ c. field_of schema.classes c name.text) t) ≡ true
         → (may_be_read place || not (is_part schema.classes (field_type (scope_of s) name.text))) ≡ true → Here place (field_type (scope_of s) name.text) (field_value w m name.text) m
     field_placed AsReceiver name m h tidy is ok = λ x e part. field_goes schema repos E t r l m name.text h tidy is x e part
     field_placed BesideNull name m h tidy is ok = tt
-    field_placed IntoOwnedField name m h tidy is ok = placed_free schema repos E IntoOwnedField (field_type (scope_of s) name.text) (field_value w m name.text) m (not_true (is_part schema.classes (field_type (scope_of s) name.text)) ok)
-    field_placed AsValue name m h tidy is ok = not_true (is_part schema.classes (field_type (scope_of s) name.text)) ok
+    field_placed IntoOwnedField name m h tidy is ok = placed_free schema repos E IntoOwnedField (field_type (scope_of s) name.text) (field_value w m name.text) m (not-true (is_part schema.classes (field_type (scope_of s) name.text)) ok)
+    field_placed AsValue name m h tidy is ok = not-true (is_part schema.classes (field_type (scope_of s) name.text)) ok
 
     new_placed : (place : Position) (k : ExprType) (a : Value) (n : Machine) → (may_be_made place || not (is_part schema.classes k)) ≡ true
         → ((x : Oref) → a ≡ value.Ref x → (q : Receiver) → n.this ≡ Some q → IsFresh schema.classes E n.writes n.created q.oref x) → Here place k a n
     new_placed IntoOwnedField k a n ok fresh = λ x e part q is. fresh x e q is
-    new_placed AsReceiver k a n ok fresh = placed_free schema repos E AsReceiver k a n (not_true (is_part schema.classes k) ok)
+    new_placed AsReceiver k a n ok fresh = placed_free schema repos E AsReceiver k a n (not-true (is_part schema.classes k) ok)
     new_placed BesideNull k a n ok fresh = tt
-    new_placed AsValue k a n ok fresh = not_true (is_part schema.classes k) ok
+    new_placed AsValue k a n ok fresh = not-true (is_part schema.classes k) ok
 
     int_placed : (place : Position) (a : Value) (m : Machine) → Here place type.Int a m
     int_placed place a m = placed_free schema repos E place type.Int a m refl
@@ -394,19 +395,19 @@ module _ (schema : Schema) (repos : ℕ) (sound : (c : ℕ) (d : Class) → slic
     node_held (Expr-F.Field name) m ok h tidy part a is z e =
         let p = nothing (must (is_some (option_and_then (λ c. field_of schema.classes c name.text) t)) T2 name.line) _ ok in
         field_held m name h tidy (held _ _ _ p.0) z (ok_is (field_value w m name.text) a is ∙ e) part
-    node_held (Expr-F.Variable name) m ok h tidy part a is z e = not_both (is_part schema.classes (node_kind (Expr-F.Variable name))) part (name_free name.text)
+    node_held (Expr-F.Variable name) m ok h tidy part a is z e = absurd (both_ways (is_part schema.classes (node_kind (Expr-F.Variable name))) (name_free name.text) part)
     node_held (Expr-F.New class at) m ok h tidy part a is z e =
         let p = nothing (is_class schema.classes class ++ must
         (may_be_made AsReceiver || not (is_part schema.classes (class_or_untold (class_named schema.classes class.text)))) T8 class.line)
         (at_rules s at) ok in
         let made = held _ _ _ (nothing (is_class schema.classes class) _ p.0).1 in
-        not_both (is_part schema.classes (node_kind (Expr-F.New class at))) part (not_true (is_part schema.classes (node_kind (Expr-F.New class at))) made)
+        absurd (both_ways (is_part schema.classes (node_kind (Expr-F.New class at))) (not-true (is_part schema.classes (node_kind (Expr-F.New class at))) made) part)
     node_held (Expr-F.Parens inner line) m ok h tidy part a is z e =
-        not_both (is_part schema.classes (judged s inner).kind) part ((parts t r l free inner AsValue ok m h tidy).good a is)
+        absurd (both_ways (is_part schema.classes (judged s inner).kind) ((parts t r l free inner AsValue ok m h tidy).good a is) part)
     node_held (Expr-F.Negate operand line) m ok h tidy part a is z e = cc
     node_held (Expr-F.Binary operator left right line) m ok h tidy part a is z e = cc
     node_held (Expr-F.Call receiver name es) m ok h tidy part a is z e =
-        not_both (is_part schema.classes (node_kind (Expr-F.Call receiver name es))) part (called_free (judged s receiver).kind name.text)
+        absurd (both_ways (is_part schema.classes (node_kind (Expr-F.Call receiver name es))) (called_free (judged s receiver).kind name.text) part)
 
     abbrev stepped : Machine → Machine
     stepped m = record m { steps = m.steps + 1 }

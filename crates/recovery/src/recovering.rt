@@ -56,28 +56,8 @@ pub fn recover<P: Parts>(
     ensures damaged { (images : ℕ → List ℕ) (d place : ℕ) → ReadsAs (P.disks parts.old) images → IsErrOf result (Damaged d place) → IsDamaged images d place }
     ensures failed { (d : ℕ) → IsErrOf result (Failed d) → Rose ((P.disks parts.old).faults d) ((P.disks parts.new).faults d) }
 {
-    let found = find(alloc, parts)?;
-    replay_found(alloc, found, mob_limit)
-}
-
-// What `open_logs` finds.
-fn find<P: Parts>(
-    alloc: Global,
-    parts: &mut P,
-) -> Result<Option<(CommitLog, Text, Records)>, RecoverFault>
-    requires { AllSettled (P.disks parts.old) }
-    ensures any_moment { LeavesAll (P.disks parts.old) (P.disks parts.new) (MayLeaveAll (P.disks parts.old) (P.disks parts.old).time) }
-    ensures settled { AllSettled (P.disks parts.new) }
-    ensures content { SameContent (P.disks parts.old) (P.disks parts.new) }
-    ensures holds { (s : AState) → IfOk result (λ found. IfSome found (λ f. state_in (log_of f) ≡ Some s → Holds (P.disks parts.new) f.0 s)) }
-    ensures found { (images : ℕ → List ℕ) → ReadsAs (P.disks parts.old) images → IfOk result (λ found. stands images ≡ option_and_then (λ f. state_in (log_of f)) found) }
-    ensures log { (images : ℕ → List ℕ) → ReadsAs (P.disks parts.old) images → IfOk result (λ found. IfSome found (λ f. Stands (images f.0.disk) (log_of f))) }
-    ensures fresh { (images : ℕ → List ℕ) → ReadsAs (P.disks parts.old) images → result ≡ Ok None → IsFresh images }
-    ensures damaged { (images : ℕ → List ℕ) (d place : ℕ) → ReadsAs (P.disks parts.old) images → IsErrOf result (Damaged d place) → IsTorn images d place }
-    ensures failed { (d : ℕ) → IsErrOf result (Failed d) → Rose ((P.disks parts.old).faults d) ((P.disks parts.new).faults d) }
-{
     match open_logs(alloc, parts) {
-        Ok(found) => Ok(found),
+        Ok(found) => replay_found(alloc, found, mob_limit),
         Err(fault) => Err(found_fault(fault)),
     }
 }

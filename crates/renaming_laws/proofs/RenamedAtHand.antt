@@ -4,6 +4,7 @@ use Rattle.std.proofs.Common.{◌≡◌, ◌⊎◌, Bool, true, false, cond, Lis
 use Rattle.std.specs.List.{AllByRecursion}
 use Rattle.std.specs.Prelude.{◌||◌, ◌==◌, find, is_some}
 use Rattle.std.proofs.lemmas.Map.Views.{tells_apart}
+use Rattle.std.proofs.lemmas.Bool.{or_from, or_right}
 use Rattle.thor_value.proofs.NameOrders.{oref_exact}
 use Rattle.thor_value.specs.FiniteMap.{get, keys}
 use Rattle.thor_value.specs.Names.{same_oref}
@@ -52,13 +53,6 @@ found_first_of x (y ∷ ys) h = by (same_oref x y) refl h (found_first_of x ys)
     by true e f rest = inl (tells_apart oref_exact x y e)
     by false e f rest = inr (rest f)
 
-either_true : (a b : Bool) → b ≡ true → (a || b) ≡ true
-either_true true b e = refl
-either_true false b e = e
-
-neither_true : (a b : Bool) → a ≡ false → b ≡ false → (a || b) ≡ false
-neither_true a b e f = rw (e, f) refl
-
 more_true : (a b c : Bool) → (b ≡ true → c ≡ true) → (a || b) ≡ true → (a || c) ≡ true
 more_true true b c f e = refl
 more_true false b c f e = f e
@@ -66,7 +60,7 @@ more_true false b c f e = f e
 module _ (schema : Schema) (tx : List Stmt) (store : Plain) (names : List Oref) (at_hand : AtHand names (world_of schema store)) where
   takeable : Takeable (among names) names
   takeable = record {
-    new = all_of (λ x. among names x ≡ true) names (λ x i. either_true (x.repo == 255) _ (found_in names x i));
+    new = all_of (λ x. among names x ≡ true) names (λ x i. or_right (x.repo == 255) _ (found_in names x i));
     placed = at_hand.placed;
     once = at_hand.once;
   }
@@ -90,7 +84,7 @@ module _ (schema : Schema) (tx : List Stmt) (store : Plain) (names : List Oref) 
     taken : AllByRecursion (λ x. among waiting x ≡ false) m.created
     taken =
         all_of (λ x. among waiting x ≡ false) m.created
-        (λ x i. neither_true (x.repo == 255) _ (all_in (λ (z : Oref). (z.repo == 255) ≡ false) m.created x created.placed i)
+        (λ x i. or_from (x.repo == 255) _ (all_in (λ (z : Oref). (z.repo == 255) ≡ false) m.created x created.placed i)
         (not_found x waiting (rest.untaken x i)))
 
     still_free : (x : Oref) → In waiting x → {o : Option Object} → o ≡ get store.objects x → o ≡ None
@@ -102,7 +96,7 @@ module _ (schema : Schema) (tx : List Stmt) (store : Plain) (names : List Oref) 
       once = rest.once;
       free = all_of (λ x. get r.store.objects x ≡ None) waiting (λ x i. still_free x i
           (unwritten_behind schema tx store (among names) at_hand.unused (among waiting) fewer (λ k. refl) m.created r created taken defined x
-          (either_true (x.repo == 255) _ (found_in waiting x i))));
+          (or_right (x.repo == 255) _ (found_in waiting x i))));
       unused = unused_behind schema tx store (among names) at_hand.unused (among waiting) fewer (λ k. refl) m.created r created taken defined;
     }
 
@@ -124,7 +118,7 @@ module _ (schema : Schema) (tx : List Stmt) (store : Plain) (names : List Oref) 
     once = at_hand.once;
     free = all_of (λ x. get r.store.objects x ≡ None) names (λ x i.
         unwritten_behind schema tx store (among names) at_hand.unused (among names) (λ y e. e) (λ k. refl) [] r
-        (no_names_takeable schema tx store (among names) at_hand.unused) tt defined x (either_true (x.repo == 255) _ (found_in names x i))
+        (no_names_takeable schema tx store (among names) at_hand.unused) tt defined x (or_right (x.repo == 255) _ (found_in names x i))
         ∙ all_in (λ y. get store.objects y ≡ None) names x at_hand.free i);
     unused =
         unused_behind schema tx store (among names) at_hand.unused (among names) (λ x e. e) (λ k. refl) [] r

@@ -2,6 +2,7 @@
 use Rattle.std.proofs.Common.{◌≡◌, ◌⊎◌, Bool, true, false, cond, List, [], ◌∷◌, ◌++◌, Option, Some, None, Result, Ok, Err, refl, ap, sym, ◌∙◌, subst, ℕ, suc, inl, inr, length, map, append_assoc}
 use Rattle.std.proofs.lemmas.Map.Views.{All-values-insert_entry, tells_apart}
 use Rattle.std.proofs.lemmas.List.Elements.{All-weaker, AllZip-push, length_all_zip}
+use Rattle.std.proofs.lemmas.Bool.{or_right}
 use Rattle.std.specs.List.{AllByRecursion, AllZip, IsDistinct}
 use Rattle.std.specs.Prelude.{All, ◌||◌, ◌==◌, find, is_some, nat_lt}
 use Rattle.thor_value.proofs.FiniteMap.{get-insert}
@@ -57,10 +58,6 @@ module _ (s : Setting) where
     same : known n y ≡ known m x
     old : known m x ≡ false → x ≡ y
 
-  second_true : (a : Bool) → (a || true) ≡ true
-  second_true true = refl
-  second_true false = refl
-
   tested : (m n : Machine) (x y : Oref) → Twins s m n → Names s.fresh (now s m n) x y → Tested m n x y
   tested m n x y tw i = by i
     where
@@ -73,8 +70,8 @@ module _ (s : Setting) where
       by (inl e) = record { same = rw (sym same_created, tw.reads, sym e.1) refl; old = λ f. e.1 }
       by (inr p) =
           let there : is_some (find (same_oref x) m.created) ≡ true = paired_found m.created n.created x y p in
-          let all : known m x ≡ true = ap (λ b. has m.reads x || b) there ∙ second_true (has m.reads x) in
-          let all2 : known n y ≡ true = ap (λ b. has n.reads y || b) (sym same_created ∙ there) ∙ second_true (has n.reads y) in
+          let all : known m x ≡ true = ap (λ b. has m.reads x || b) there ∙ or_right (has m.reads x) true refl in
+          let all2 : known n y ≡ true = ap (λ b. has n.reads y || b) (sym same_created ∙ there) ∙ or_right (has n.reads y) true refl in
           record { same = all2 ∙ sym all; old = λ f. cc }
 
   abbrev read : Machine → Oref → Machine

@@ -4,6 +4,7 @@ use Rattle.std.proofs.Common.{◌≡◌, Bool, true, false, cond, List, [], ◌�
 use Rattle.std.proofs.lemmas.Bool.Decides.{nat_tests}
 use Rattle.std.proofs.lemmas.Map.Views.{tells_apart}
 use Rattle.std.proofs.lemmas.Option.{same_Some}
+use Rattle.std.proofs.lemmas.Bool.{and_from, and_parts}
 use Rattle.std.specs.Cmp.Lexicographic.{pointwise}
 use Rattle.std.specs.List.{AllZip, AllByRecursion, IsDistinct, list_any}
 use Rattle.std.specs.Prelude.{◌&&◌, ◌==◌, not}
@@ -34,38 +35,27 @@ use Rattle.class_defs.specs.declared.store.Schema.{Schema}
 
 -- ---- names taken and names given
 
-true_both : (a b : Bool) → a ≡ true → b ≡ true → (a && b) ≡ true
-true_both a b e f = rw (e, f) refl
-
-first_true : (a b : Bool) → (a && b) ≡ true → a ≡ true
-first_true true b e = refl
-first_true false b e = e
-
-second_of : (a b : Bool) → (a && b) ≡ true → b ≡ true
-second_of true b e = e
-second_of false b e = cc
-
 pointwise_itself : (xs : List Oref) → pointwise same_oref xs xs ≡ true
 pointwise_itself [] = refl
-pointwise_itself (x ∷ xs) = true_both (same_oref x x) (pointwise same_oref xs xs) (same_itself x) (pointwise_itself xs)
+pointwise_itself (x ∷ xs) = and_from (same_oref x x) (pointwise same_oref xs xs) (same_itself x) (pointwise_itself xs)
 
 none_stands_in : (xs : List Oref) → AllByRecursion (λ (x : Oref). (x.repo == 255) ≡ false) xs → list_any (λ (x : Oref). x.repo == 255) xs ≡ false
 none_stands_in [] h = refl
 none_stands_in (x ∷ xs) h = rw h.0 (none_stands_in xs h.1)
 
 takes_itself : (xs : List Oref) → AllByRecursion (λ (x : Oref). (x.repo == 255) ≡ false) xs → takes xs xs ≡ true
-takes_itself xs h = true_both _ _ (pointwise_itself xs) (ap not (none_stands_in xs h))
+takes_itself xs h = and_from _ _ (pointwise_itself xs) (ap not (none_stands_in xs h))
 
 same_lists : (xs ys : List Oref) → pointwise same_oref xs ys ≡ true → xs ≡ ys
 same_lists [] [] e = refl
 same_lists [] (y ∷ ys) e = cc
 same_lists (x ∷ xs) [] e = cc
 same_lists (x ∷ xs) (y ∷ ys) e =
-    let f : x ≡ y = tells_apart oref_exact x y (first_true (same_oref x y) (pointwise same_oref xs ys) e) in
-    let g : xs ≡ ys = same_lists xs ys (second_of (same_oref x y) (pointwise same_oref xs ys) e) in rw (f, g) refl
+    let f : x ≡ y = tells_apart oref_exact x y ((and_parts (same_oref x y) (pointwise same_oref xs ys) e).0) in
+    let g : xs ≡ ys = same_lists xs ys ((and_parts (same_oref x y) (pointwise same_oref xs ys) e).1) in rw (f, g) refl
 
 taken_all : (created names : List Oref) → takes created names ≡ true → created ≡ names
-taken_all created names e = same_lists created names (first_true (pointwise same_oref created names) _ e)
+taken_all created names e = same_lists created names ((and_parts (pointwise same_oref created names) _ e).0)
 
 no_names : (names : List Oref) → (length names == 0) ≡ true → names ≡ []
 no_names [] h = refl

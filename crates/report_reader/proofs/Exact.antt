@@ -4,6 +4,8 @@ use Rattle.std.specs.Prelude.{◌==◌, ◌||◌, not}
 use Rattle.std.specs.List.{flat_map, AllByRecursion, list_all}
 use Rattle.std.proofs.lemmas.Bool.Decides.{nat_tests}
 use Rattle.std.proofs.lemmas.List.Concat.{flat_map-cons}
+use Rattle.std.proofs.lemmas.Bool.{and_parts}
+use Rattle.std.proofs.lemmas.Option.{cond_some, same_Some}
 use Rattle.report_reader.specs.Reading.{Reading, ◌>>=◌, ◌then◌, strip, made, behind, before, such_that, only, chosen, first_of, gathered, many, all_of}
 
 -- ---- steps that may fail
@@ -15,15 +17,8 @@ bind_some None f y e = absurd cc
 pub some_on : {A B : Type 0} (r : Option A) (f : A → Option B) (x : A) → r ≡ Some x → (r >>= f) ≡ f x
 some_on {A = A} r f x e = ap (λ (q : Option A). q >>= f) e
 
-pub same_some : {A : Type 0} (x y : A) → Some x ≡ Some y → x ≡ y
-same_some x y e = cc
-
 some_none : {A : Type 0} (x : A) → Some x ≡ None → ⊥
 some_none x e = cc
-
-chosen_some : {A : Type 0} (b : Bool) (x y : A) → cond b (Some x) None ≡ Some y → (b ≡ true) × (x ≡ y)
-chosen_some true x y e = (refl, cc)
-chosen_some false x y e = absurd cc
 
 -- ---- exact readings
 
@@ -44,7 +39,7 @@ narrowed May Now Has spelling read ok to = record { found = ok.found; again = λ
 pub apart : {X : Type 0} (May : List ℕ → Type 0) (Has : X → Type 0) (spelling : X → List ℕ) (read : Reading X) → IsExact May Has spelling read
     → (a b : X) (x y : List ℕ) → Has a → Has b → May x → May y → spelling a ++ x ≡ spelling b ++ y → (a ≡ b) × (x ≡ y)
 apart {X = X} May Has spelling read ok a b x y ha hb mx my e =
-    let p : (a, x) ≡ (b, y) = same_some (a, x) (b, y) (sym (ok.again a x ha mx) ∙ ap read e ∙ ok.again b y hb my) in
+    let p : (a, x) ≡ (b, y) = same_Some (a, x) (b, y) (sym (ok.again a x ha mx) ∙ ap read e ∙ ok.again b y hb my) in
     (ap (λ (q : X × List ℕ). q.0) p, ap (λ (q : X × List ℕ). q.1) p)
 
 -- where a spelling stands, something is read
@@ -57,7 +52,7 @@ not_none {X = X} May Has spelling read ok v bytes rest h m e n =
 
 pub strip_found : (text bytes rest : List ℕ) → strip text bytes ≡ Some rest → bytes ≡ text ++ rest
 unfolding strip
-strip_found [] bytes rest e = same_some bytes rest e
+strip_found [] bytes rest e = same_Some bytes rest e
 strip_found (t ∷ text) [] rest e = absurd cc
 strip_found (t ∷ text) (b ∷ bytes) rest e = by (t == b) refl e (strip_found text bytes rest)
   where
@@ -103,7 +98,7 @@ module _ {A B : Type 0} (MayA MayB : List ℕ → Type 0) (HasA : A → Type 0) 
       let q = bind_some (second p.0.1) (λ y. Some ((p.0.0, y.0), y.1)) x p.2 in
       let f = one.found bytes p.0 p.1 in
       let g = two.found p.0.1 q.0 q.1 in
-      subst (Whole bytes) (same_some ((p.0.0, q.0.0), q.0.1) x q.2)
+      subst (Whole bytes) (same_Some ((p.0.0, q.0.0), q.0.1) x q.2)
       ((f.0, g.0), f.1 ∙ ap (λ (r : List ℕ). a p.0.0 ++ r) g.1 ∙ sym (append_assoc (a p.0.0) (b q.0.0) q.0.1))
 
   then_again : (v : A × B) (rest : List ℕ) → HasA v.0 × HasB v.1 → MayB rest → (first then second) ((a v.0 ++ b v.1) ++ rest) ≡ Some (v, rest)
@@ -124,7 +119,7 @@ module _ {X Y : Type 0} (May : List ℕ → Type 0) (HasX : X → Type 0) (HasY 
       let p = bind_some (read bytes) (λ x. Some (make x.0, x.1)) y e in
       let f = ok.found bytes p.0 p.1 in
       let t = to p.0.0 f.0 in
-      subst (λ (y : Y × List ℕ). HasY y.0 × (bytes ≡ b y.0 ++ y.1)) (same_some (make p.0.0, p.0.1) y p.2)
+      subst (λ (y : Y × List ℕ). HasY y.0 × (bytes ≡ b y.0 ++ y.1)) (same_Some (make p.0.0, p.0.1) y p.2)
       (t.0, f.1 ∙ ap (λ (s : List ℕ). s ++ p.0.1) (sym t.1))
 
   made_again : (y : Y) (rest : List ℕ) → HasY y → May rest → made make read (b y ++ rest) ≡ Some (y, rest)
@@ -161,7 +156,7 @@ module _ {X : Type 0} (May : List ℕ → Type 0) (Has : X → Type 0) (a : X �
       let q = bind_some (strip text p.0.1) (λ rest. Some (p.0.0, rest)) x p.2 in
       let f = ok.found bytes p.0 p.1 in
       let s = strip_found text p.0.1 q.0 q.1 in
-      subst (λ (x : X × List ℕ). Has x.0 × (bytes ≡ (a x.0 ++ text) ++ x.1)) (same_some (p.0.0, q.0) x q.2)
+      subst (λ (x : X × List ℕ). Has x.0 × (bytes ≡ (a x.0 ++ text) ++ x.1)) (same_Some (p.0.0, q.0) x q.2)
       (f.0, f.1 ∙ ap (λ (r : List ℕ). a p.0.0 ++ r) s ∙ sym (append_assoc (a p.0.0) text q.0))
 
   before_again : (v : X) (rest : List ℕ) → Has v → Any rest → before text read ((a v ++ text) ++ rest) ≡ Some (v, rest)
@@ -179,7 +174,7 @@ module _ {X : Type 0} (May : List ℕ → Type 0) (Has : X → Type 0) (a : X �
   such_found : (bytes : List ℕ) (x : X × List ℕ) → such_that test read bytes ≡ Some x → (Has x.0 × (test x.0 ≡ true)) × (bytes ≡ a x.0 ++ x.1)
   such_found bytes x e =
       let p = bind_some (read bytes) (λ x. cond (test x.0) (Some x) None) x e in
-      let c = chosen_some (test p.0.0) p.0 x p.2 in
+      let c = cond_some (test p.0.0) p.0 x p.2 in
       let f = ok.found bytes p.0 p.1 in
       subst (λ (x : X × List ℕ). (Has x.0 × (test x.0 ≡ true)) × (bytes ≡ a x.0 ++ x.1)) c.1 ((f.0, c.0), f.1)
 
@@ -228,16 +223,11 @@ module _ {Y : Type 0} (May : List ℕ → Type 0) (Has : Y → Type 0) (spelling
       by None is e others = others e
       by (Some rest) is e others = let f = each.0 rest y e in (f.0, strip_found c.0 bytes rest is ∙ f.1)
 
-  parts_true : (a b : Bool) → a && b ≡ true → (a ≡ true) × (b ≡ true)
-  parts_true true true e = (refl, refl)
-  parts_true true false e = absurd cc
-  parts_true false b e = absurd cc
-
   passed_by : (text : List ℕ) (cs : List (List ℕ × Reading Y)) (y : Y) (rest : List ℕ) → list_all (λ d. differ text d.0) cs ≡ true → StandsAmong y cs → strip text (spelling y ++ rest) ≡ None
   passed_by text [] y rest d s = absurd s
   passed_by text (c ∷ cs) y rest d (inl s) =
-      ap (λ (t : List ℕ). strip text (t ++ rest)) s.1 ∙ ap (strip text) (append_assoc c.0 s.0 rest) ∙ strip_other text c.0 (s.0 ++ rest) (parts_true (differ text c.0) (list_all (λ d. differ text d.0) cs) d).0
-  passed_by text (c ∷ cs) y rest d (inr s) = passed_by text cs y rest (parts_true (differ text c.0) (list_all (λ d. differ text d.0) cs) d).1 s
+      ap (λ (t : List ℕ). strip text (t ++ rest)) s.1 ∙ ap (strip text) (append_assoc c.0 s.0 rest) ∙ strip_other text c.0 (s.0 ++ rest) (and_parts (differ text c.0) (list_all (λ d. differ text d.0) cs) d).0
+  passed_by text (c ∷ cs) y rest d (inr s) = passed_by text cs y rest (and_parts (differ text c.0) (list_all (λ d. differ text d.0) cs) d).1 s
 
   read_there : (cs : List (List ℕ × Reading Y)) (y : Y) (rest : List ℕ) → all_differ cs ≡ true → StandsAmong y cs → May rest → first_of cs (spelling y ++ rest) ≡ Some (y, rest)
   read_there [] y rest d s m = absurd s
@@ -245,7 +235,7 @@ module _ {Y : Type 0} (May : List ℕ → Type 0) (Has : Y → Type 0) (spelling
       let whole : spelling y ++ rest ≡ c.0 ++ (s.0 ++ rest) = ap (λ (t : List ℕ). t ++ rest) s.1 ∙ append_assoc c.0 s.0 rest in
       ap (λ (o : Option (List ℕ)). chosen o c.1 (first_of cs (spelling y ++ rest))) (ap (strip c.0) whole ∙ strip_again c.0 (s.0 ++ rest)) ∙ s.2 rest m
   read_there (c ∷ cs) y rest d (inr s) m =
-      let p = parts_true (list_all (λ d. differ c.0 d.0) cs) (all_differ cs) d in
+      let p = and_parts (list_all (λ d. differ c.0 d.0) cs) (all_differ cs) d in
       ap (λ (o : Option (List ℕ)). chosen o c.1 (first_of cs (spelling y ++ rest))) (passed_by c.0 cs y rest p.0 s) ∙ read_there cs y rest p.1 s m
 
   pub exact_first : (cs : List (List ℕ × Reading Y)) → all_differ cs ≡ true → AllByRecursion Finds cs → ((y : Y) → Has y → StandsAmong y cs) → IsExact May Has spelling (first_of cs)
@@ -258,7 +248,7 @@ module _ {Y : Type 0} (May : List ℕ → Type 0) (Has : Y → Type 0) (spelling
         let p = bind_some (read bytes) (λ x. Some (make x.0, x.1)) y e in
         let f = ok.found bytes p.0 p.1 in
         let t = to p.0.0 f.0 in
-        subst (λ (y : Y × List ℕ). Has y.0 × (text ++ bytes ≡ spelling y.0 ++ y.1)) (same_some (make p.0.0, p.0.1) y p.2)
+        subst (λ (y : Y × List ℕ). Has y.0 × (text ++ bytes ≡ spelling y.0 ++ y.1)) (same_Some (make p.0.0, p.0.1) y p.2)
         (t.0, ap (λ (r : List ℕ). text ++ r) f.1 ∙ sym (append_assoc text (a p.0.0) p.0.1) ∙ ap (λ (s : List ℕ). s ++ p.0.1) (sym t.1))
 
     pub case_stands : (x : X) → HasX x → Stands (make x) (text, made make read)
@@ -268,7 +258,7 @@ module _ {Y : Type 0} (May : List ℕ → Type 0) (Has : Y → Type 0) (spelling
   module _ (text : List ℕ) (y : Y) (to : Has y × (spelling y ≡ text)) where
     pub only_finds : Finds (text, only y)
     only_finds bytes z e =
-        subst (λ (z : Y × List ℕ). Has z.0 × (text ++ bytes ≡ spelling z.0 ++ z.1)) (same_some (y, bytes) z e) (to.0, ap (λ (s : List ℕ). s ++ bytes) (sym to.1))
+        subst (λ (z : Y × List ℕ). Has z.0 × (text ++ bytes ≡ spelling z.0 ++ z.1)) (same_Some (y, bytes) z e) (to.0, ap (λ (s : List ℕ). s ++ bytes) (sym to.1))
 
     pub only_stands : Stands y (text, only y)
     only_stands = ([], to.1 ∙ sym (nothing_behind text), λ rest m. refl)
@@ -344,7 +334,7 @@ module _ {X : Type 0} (May : List ℕ → Type 0) (Has : X → Type 0) (a : X �
 
     pub exact_all : IsExact NoMore (AllByRecursion Has) (flat_map a) (all_of read)
     exact_all = record {
-      found = λ bytes x e. subst (Gathered bytes) (same_some (many read (length bytes) bytes) x e) (many_found (length bytes) bytes);
+      found = λ bytes x e. subst (Gathered bytes) (same_Some (many read (length bytes) bytes) x e) (many_found (length bytes) bytes);
       again = λ vs rest h m. ap (λ (x : List X × List ℕ). Some x) (many_all vs rest h m);
     }
 

@@ -14,6 +14,7 @@ use Rattle.std.proofs.lemmas.List.{take-append-drop}
 use Rattle.std.proofs.Math.Seq.{take-append_seam, drop-append_seam}
 use Rattle.std.proofs.lemmas.Str.{digit_value_digit}
 use Rattle.std.proofs.lemmas.Str.Parse.{digit_from_value, numerals_by_value, tells_digits, IsNumeralModel}
+use Rattle.std.proofs.lemmas.Option.{same_Some}
 use Rattle.script_text.specs.Bytes.{is_digit}
 use Rattle.script_text.specs.Grammar.{Stops}
 use Rattle.script_text.specs.Numbers.{with_digit}
@@ -21,7 +22,7 @@ use Rattle.script_text.specs.Numbers as numbers
 use Rattle.script_text.proofs.Digits.{all_digits_front}
 use Rattle.report_reader.specs.Reading.{◌>>=◌, strip, Sees}
 use Rattle.report_reader.specs.Numbers.{is_canonical, number_at}
-use Rattle.report_reader.proofs.Exact.{IsExact, bind_some, same_some, strip_found, strip_again}
+use Rattle.report_reader.proofs.Exact.{IsExact, bind_some, strip_found, strip_again}
 
 -- ---- a fixed text, as std's slices strip it
 
@@ -84,7 +85,7 @@ nothing_more greatest (d ∷ ds) n e = nothing_more greatest ds n e
 -- what digits are read as is their value, and no more than the greatest
 was_read : (greatest : ℕ) (ds : List ℕ) (a n : ℕ) → AllDigits 10 ds → a ≤ greatest → fold (with_digit greatest) (Some a) ds ≡ Some n
     → (digits_value_after 10 a ds ≡ n) × (n ≤ greatest)
-was_read greatest [] a n all small e = let is : a ≡ n = same_some a n e in (is, omega (arith, is, small))
+was_read greatest [] a n all small e = let is : a ≡ n = same_Some a n e in (is, omega (arith, is, small))
 was_read greatest (d ∷ ds) a n all small e =
     elim (cases_Bool (is_ascii_digit d && nat_le (a * 10 + (d - 48)) greatest)) [
       | inl t ↦
@@ -135,7 +136,7 @@ number_found greatest small bytes x e =
     let lead = lead_from ds t.0 in
     let spelt : decimal (digits_value 10 ds) ≡ ds = decimal-digits_value numerals ds all lead.0 lead.1 (omega (arith, w.0, w.1, small)) in
     let whole : bytes ≡ decimal p.0 ++ rest = sym (take-append-drop (prefix_len is_digit bytes) bytes) ∙ ap (λ (t : List ℕ). t ++ rest) (sym spelt ∙ ap decimal w.0) in
-    subst (λ (x : ℕ × List ℕ). (x.0 ≤ greatest) × (bytes ≡ decimal x.0 ++ x.1)) (same_some (p.0, rest) x p.2) (w.1, whole)
+    subst (λ (x : ℕ × List ℕ). (x.0 ≤ greatest) × (bytes ≡ decimal x.0 ++ x.1)) (same_Some (p.0, rest) x p.2) (w.1, whole)
 
 number_again : (greatest : ℕ) → greatest < 2 ^ 64 → (n : ℕ) (rest : List ℕ) → n ≤ greatest → Stops is_digit rest → number_at greatest (decimal n ++ rest) ≡ Some (n, rest)
 unfolding number_at

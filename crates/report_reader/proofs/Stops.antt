@@ -4,6 +4,7 @@ use Rattle.std.specs.Prelude.{IfOk, IfErr}
 use Rattle.std.specs.List.{flat_map, AllByRecursion}
 use Rattle.std.proofs.lemmas.Bool.{eqb-true, eq-eqb}
 use Rattle.std.proofs.Math.Seq.{take-append_seam}
+use Rattle.std.proofs.lemmas.Option.{same_Some}
 use Rattle.script_text.specs.Reading.{Gives}
 use Rattle.script_text.specs.declared.syntax.Syntax.{Syntax}
 use Rattle.script_text.specs.declared.syntax.SyntaxError.{SyntaxError}
@@ -19,7 +20,7 @@ use Rattle.report_reader.specs.Items.{item_at}
 use Rattle.report_reader.specs.HistoryLines.{line_at, end_at}
 use Rattle.report_reader.specs.Whole.{closed, after_end, after_lines, after_heading, after_items, whole_of, fault_line, told}
 use Rattle.report_reader.specs.Reports.{IsItem, IsLine, IsReport, BeginsReport, StopsOn, IsStopOf, ended_lines, last_line, text_of}
-use Rattle.report_reader.proofs.Exact.{Any, not_none, first_parts, many_found, many_none, long_enough, same_some, strip_found, strip_again}
+use Rattle.report_reader.proofs.Exact.{Any, not_none, first_parts, many_found, many_none, long_enough, strip_found, strip_again}
 use Rattle.report_reader.proofs.ExactItems.{exact_item}
 use Rattle.report_reader.proofs.ExactLines.{line_text, exact_line, IsCount, exact_end}
 use Rattle.report_reader.proofs.Wholes.{items_text, lines_text, heading, last, headed, text_is, item_some, line_some, no_item, no_line, again}
@@ -82,7 +83,7 @@ same_heading : (ended others : List Ended) (t u : List ℕ) → AllByRecursion I
 same_heading ended others t u h g e = by (first_parts IsItem item_line item_at exact_item others ended (heading ++ t) (heading ++ u) g h (no_item t) e)
   where
     by : (zs : List Ended) × AllByRecursion IsItem zs × (others ≡ ended ++ zs) × (heading ++ u ≡ flat_map item_line zs ++ (heading ++ t)) → t ≡ u
-    by ([], a, is, f) = same_some t u (sym (strip_again heading t) ∙ ap (strip heading) (sym f) ∙ strip_again heading u)
+    by ([], a, is, f) = same_Some t u (sym (strip_again heading t) ∙ ap (strip heading) (sym f) ∙ strip_again heading u)
     by ((z ∷ zs), a, is, f) = absurd (not_none Any IsItem item_line item_at exact_item z (heading ++ u) (flat_map item_line zs ++ (heading ++ t)) a.0 tt (f ∙ append_assoc (item_line z) (flat_map item_line zs) (heading ++ t)) (no_item u))
 
 lines_stuck : (ended : List Ended) (lines : List Line) (rest : List ℕ) → AllByRecursion IsItem ended → AllByRecursion IsLine lines → line_at rest ≡ None → end_at (length lines) rest ≡ None

@@ -4,6 +4,7 @@ use Rattle.std.proofs.lemmas.Bool.Decides.{nat_tests}
 use Rattle.std.proofs.lemmas.Fmt.{decimal_is_IsNumeral, decimal_injective}
 use Rattle.std.proofs.lemmas.Str.Parse.{digit_from_value}
 use Rattle.std.proofs.lemmas.List.Elements.{All-head, All-tail}
+use Rattle.std.proofs.lemmas.Bool.{and_parts}
 use Rattle.std.specs.Fmt.{decimal, signed_decimal}
 use Rattle.std.specs.Str.Parse.{AllDigits}
 use lib.Signed.{mag}
@@ -86,15 +87,10 @@ abbrev all_above : ℕ → List ℕ → Bool
 all_above k [] = true
 all_above k (b ∷ bs) = nat_lt k b && all_above k bs
 
-both_true : (a b : Bool) → a && b ≡ true → (a ≡ true) × (b ≡ true)
-both_true true true e = (refl, refl)
-both_true true false e = cc
-both_true false b e = cc
-
 pub tested_above : (k : ℕ) (bs : List ℕ) → all_above k bs ≡ true → Above k bs
 tested_above k [] e = tt
 tested_above k (b ∷ bs) e =
-    let both = both_true (nat_lt k b) (all_above k bs) e in
+    let both = and_parts (nat_lt k b) (all_above k bs) e in
     let first : nat_lt k b ≡ true = both.0 in
     (grind (arith, nat_tests), tested_above k bs both.1)
 

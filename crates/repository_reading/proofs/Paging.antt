@@ -13,19 +13,14 @@ use Rattle.std.proofs.Math.Seq.{take-suc}
 use Rattle.std.proofs.lemmas.Grind.{flat_map-append}
 use Rattle.std.proofs.lemmas.List.Sums.{fold-append}
 use Rattle.std.proofs.lemmas.List.{append-nil, take_all}
+use Rattle.std.proofs.lemmas.Slice.Zip.{all_zipped_more}
+use Rattle.std.proofs.lemmas.Result.{on_ok_weaker}
 use Rattle.std.specs.List.{AllZip, flat_map}
 use Rattle.std.specs.Ordering.{is_eq}
 use Rattle.std.specs.declared.cmp.Ordering.{Ordering}
 use Rattle.thor_value.specs.FiniteMap.{insert, overwrite}
 use Rattle.thor_value.specs.declared.names.Oref.{Oref}
 use Rattle.thor_value.specs.declared.values.Obj.{Obj}
-
--- one more of each list
-pub zip_more : {X Y : Type 0} (R : X → Y → Type 0) (xs : List X) (ys : List Y) (x : X) (y : Y) → AllZip R xs ys → R x y → AllZip R (xs ++ x ∷ []) (ys ++ y ∷ [])
-zip_more R [] [] x y each is = (is, tt)
-zip_more R [] (b ∷ ys) x y each is = absurd each
-zip_more R (a ∷ xs) [] x y each is = absurd each
-zip_more R (a ∷ xs) (b ∷ ys) x y each is = (each.0, zip_more R xs ys x y each.1 is)
 
 -- the first ones and one more
 pub take_more : {X : Type 0} (xs : List X) (k : ℕ) (x : X) → slice_get xs k ≡ Some x → take (suc k) xs ≡ take k xs ++ x ∷ []
@@ -45,10 +40,6 @@ get_or-same [] i d within = absurd (omega (arith, within))
 get_or-same (x ∷ xs) zero d within = refl
 get_or-same (x ∷ xs) (suc i) d within = get_or-same xs i d (omega (arith, within))
 
-pub on_ok : {A E : Type 0} (r : Result A E) (P Q : Type 0) → (P → Q) → OnOk r P → OnOk r Q
-on_ok (Ok a) P Q f h = f h
-on_ok (Err e) P Q f h = tt
-
 abbrev put_one : Objects → Oref × Obj → Objects
 put_one objects w = insert objects w.0 w.1
 
@@ -62,7 +53,7 @@ over_both old ws vs = sym (fold-append put_one old ws vs)
 -- ---- one page
 
 pub puts_one : {A E : Type 0} (r : Result A E) (repo : ℕ) (page : Contents) (rank slot number : ℕ) (bytes : List ℕ) (o : Obj) (old new : Objects) → Some (slot, bytes) ≡ slice_get page.objects.pairs rank → number ≡ page.number → (bytes ≡ obj_bytes o) × ObjFits o → OnOk r (new ≡ insert old (name_of repo number slot) o) → OnOk r (PutsOne repo page rank old new)
-puts_one r repo page rank slot number bytes o old new stands same spells = on_ok r (new ≡ insert old (name_of repo number slot) o) (PutsOne repo page rank old new) (λ put. record {
+puts_one r repo page rank slot number bytes o old new stands same spells = on_ok_weaker r (λ put. record {
   slot = (slot, bytes);
   stands = sym stands;
   object = (name_of repo number slot, o);
@@ -76,7 +67,7 @@ no_slots repo page slots old = record { objects = []; each = tt; put = refl }
 pub more_slots : (repo : ℕ) (page : Contents) (rank : ℕ) (old mid new : Objects) → PutsSlots repo page.number (take rank page.objects.pairs) old mid → PutsOne repo page rank mid new → PutsSlots repo page.number (take (suc rank) page.objects.pairs) old new
 more_slots repo page rank old mid new puts one = record {
   objects = puts.objects ++ one.object ∷ [];
-  each = subst (λ (qs : List (ℕ × List ℕ)). AllZip (IsPaged repo page.number) qs (puts.objects ++ one.object ∷ [])) (sym (take_more page.objects.pairs rank one.slot one.stands)) (zip_more (IsPaged repo page.number) (take rank page.objects.pairs) puts.objects one.slot one.object puts.each one.is);
+  each = subst (λ (qs : List (ℕ × List ℕ)). AllZip (IsPaged repo page.number) qs (puts.objects ++ one.object ∷ [])) (sym (take_more page.objects.pairs rank one.slot one.stands)) (all_zipped_more (IsPaged repo page.number) (take rank page.objects.pairs) puts.objects one.slot one.object puts.each one.is);
   put = one.put ∙ (ap (λ (m : Objects). insert m one.object.0 one.object.1) puts.put ∙ over_more old puts.objects one.object);
 }
 
@@ -92,7 +83,7 @@ shows_one disk number side sides page one shows =
     subst (λ (o : Ordering). Shows disk (cond (is_eq o) (Some side) None) number page) (is_equal number number refl) here
 
 pub puts_side : {A E : Type 0} (r : Result A E) (repo : ℕ) (disk : List ℕ) (number side : ℕ) (page : Contents) (old new : Objects) → Spells (side_bytes disk number side) number page → OnOk r (PutsSlots repo page.number page.objects.pairs old new) → OnOk r (PutsSide repo disk (number, side) old new)
-puts_side r repo disk number side page old new spells = on_ok r (PutsSlots repo page.number page.objects.pairs old new) (PutsSide repo disk (number, side) old new) (λ puts. record {
+puts_side r repo disk number side page old new spells = on_ok_weaker r (λ puts. record {
   objects = puts.objects;
   is = record { page = page; spelled = spells; each = puts.each };
   put = puts.put;
@@ -106,7 +97,7 @@ more_sides repo disk before installed old mid new puts side = record {
   objects = puts.objects ++ side.objects;
   paged = record {
     pages = puts.paged.pages ++ side.objects ∷ [];
-    each = zip_more (IsOnSide repo disk) before puts.paged.pages installed side.objects puts.paged.each side.is;
+    each = all_zipped_more (IsOnSide repo disk) before puts.paged.pages installed side.objects puts.paged.each side.is;
     all = ap (λ ws. ws ++ side.objects) puts.paged.all ∙ (ap (λ ws. flat_map (λ page. page) puts.paged.pages ++ ws) (sym (append-nil side.objects)) ∙ sym (flat_map-append (λ page. page) puts.paged.pages (side.objects ∷ [])));
   };
   put = side.put ∙ (ap (λ (m : Objects). overwrite m side.objects) puts.put ∙ over_both old puts.objects side.objects);

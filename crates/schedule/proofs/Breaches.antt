@@ -3,6 +3,7 @@ use Rattle.std.proofs.Common.{◌≡◌, ◌≤◌, ◌⊎◌, ℕ, Bool, true, 
 use Rattle.std.specs.Prelude.{IfSome, cond, fold, min}
 use Rattle.std.specs.List.{AllByRecursion}
 use Rattle.std.proofs.lemmas.Bool.{true≢false, cases_lt}
+use Rattle.std.proofs.lemmas.Option.{same_Some}
 use Rattle.schedule.specs.declared.events.Event.{Event}
 use Rattle.schedule.specs.Breaks.{keeps, AllKeep, BreaksAt, IsLeastBreach, with_line, with_event, least_breach}
 
@@ -31,9 +32,6 @@ module _ (clients repos : ℕ) where
   some_none : (line : ℕ) → Some line ≡ None → ⊥
   some_none line e = cc
 
-  some_same : (a b : ℕ) → Some a ≡ Some b → a ≡ b
-  some_same a b e = cc
-
   -- an event that breaks it gives its line
   breaking : (event : Event) (events : List Event) (before after : Option ℕ) → keeps clients repos event.kind ≡ false
       → IsLeast (with_line before event.line) events after → IsLeast before (event ∷ events) after
@@ -42,7 +40,7 @@ module _ (clients repos : ℕ) where
   breaking event events None (Some line) broken is =
       record {
         from = elim is.from as (λ x. (None ≡ Some line) ⊎ BreaksAt clients repos (event ∷ events) line) [
-          | inl same ↦ inr (inl (broken, some_same event.line line same))
+          | inl same ↦ inr (inl (broken, same_Some event.line line same))
           | inr further ↦ inr (inr further)
         ];
         least = (λ so. is.below, is.least);
@@ -51,7 +49,7 @@ module _ (clients repos : ℕ) where
   breaking event events (Some other) (Some line) broken is =
       record {
         from = elim is.from as (λ x. (Some other ≡ Some line) ⊎ BreaksAt clients repos (event ∷ events) line) [
-          | inl same ↦ of_two other event.line line (some_same (min other event.line) line same) broken
+          | inl same ↦ of_two other event.line line (same_Some (min other event.line) line same) broken
           | inr further ↦ inr (inr further)
         ];
         least = (λ so. omega (arith, is.below), is.least);

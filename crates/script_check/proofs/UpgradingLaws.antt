@@ -3,17 +3,18 @@ use Rattle.std.proofs.Common.{◌≡◌, ◌≤◌, ◌<◌, ◌+◌, ℕ, suc, 
 use Rattle.std.specs.List.{flat_map}
 use Rattle.std.proofs.lemmas.List.{append-nil, drop_all, flat_map_more, length-append, take_more}
 use Rattle.std.proofs.Math.Seq.{drop-cons}
+use Rattle.class_defs.proofs.KeptRules.{neither}
 use Rattle.class_defs.specs.Applied.{applied, next_number}
 use Rattle.class_defs.specs.Objects.{first_of}
 use Rattle.class_defs.specs.UpgradeOrder.{own_fault}
 use Rattle.class_defs.specs.declared.checked.Checked.{Checked}
-use Rattle.class_defs.specs.declared.own_rules.OwnFault.{OwnFault}
+use Rattle.class_defs.specs.declared.rules.RuleFault.{RuleFault}
 use Rattle.class_defs.specs.declared.statements.Stmt.{Stmt}
 use Rattle.class_defs.specs.declared.store.Schema.{Schema}
 use Rattle.class_defs.specs.declared.upgrades.Upgrade.{Upgrade}
 use Rattle.ownership_check.proofs.Behind.{as_many, next_behind}
-use Rattle.ownership_check.specs.declared.error.OwnError.{OwnError}
-use Rattle.ownership_check.specs.declared.error.OwnError.TheVariants as errors
+use Rattle.method_check.specs.declared.error.CheckError.{CheckError}
+use Rattle.method_check.specs.declared.error.CheckError.TheVariants as errors
 use Rattle.serial_model.specs.declared.entries.What.{What}
 use Rattle.serial_model.specs.declared.entries.What.TheVariants.{Tx, Upgrade as UpgradeItem}
 use Rattle.script_check.specs.Upgrading.{HasRoom, Leads, schema_behind, upgrade_in, upgrades_fault}
@@ -70,11 +71,7 @@ behind_all : (s : Schema) (us vs : List Upgrade) → schema_behind s (us ++ vs) 
 behind_all s [] vs = refl
 behind_all s (u ∷ us) vs = behind_all (applied s u) us vs
 
-pub none_first : (f : Option OwnFault) (rest : Option OwnFault) → first_of f rest ≡ None → (f ≡ None) × (rest ≡ None)
-none_first None rest h = (refl, h)
-none_first (Some f) rest h = absurd (let bad : Some f ≡ None = h in cc)
-
-some_first : (f : Option OwnFault) (rest more : Option OwnFault) (fault : OwnFault) → (rest ≡ Some fault → more ≡ Some fault) → first_of f rest ≡ Some fault → first_of f more ≡ Some fault
+some_first : (f : Option RuleFault) (rest more : Option RuleFault) (fault : RuleFault) → (rest ≡ Some fault → more ≡ Some fault) → first_of f rest ≡ Some fault → first_of f more ≡ Some fault
 some_first None rest more fault go h = go h
 some_first (Some f) rest more fault go h = h
 
@@ -82,29 +79,29 @@ module _ (repos : ℕ) (blocks : List (List Stmt)) where
   fault_behind : (s : Schema) (us vs : List Upgrade) → upgrades_fault s repos us blocks ≡ None → upgrades_fault s repos (us ++ vs) blocks ≡ upgrades_fault (schema_behind s us) repos vs blocks
   fault_behind s [] vs none = refl
   fault_behind s (u ∷ us) vs none =
-      let n = none_first (own_fault s repos u blocks) (upgrades_fault (applied s u) repos us blocks) none in
-      ap (λ (f : Option OwnFault). first_of f (upgrades_fault (applied s u) repos (us ++ vs) blocks)) n.0
+      let n = neither (own_fault s repos u blocks) (upgrades_fault (applied s u) repos us blocks) none in
+      ap (λ (f : Option RuleFault). first_of f (upgrades_fault (applied s u) repos (us ++ vs) blocks)) n.0
       ∙ fault_behind (applied s u) us vs n.1
 
-  fault_before : (s : Schema) (us vs : List Upgrade) (fault : OwnFault) → upgrades_fault s repos us blocks ≡ Some fault → upgrades_fault s repos (us ++ vs) blocks ≡ Some fault
+  fault_before : (s : Schema) (us vs : List Upgrade) (fault : RuleFault) → upgrades_fault s repos us blocks ≡ Some fault → upgrades_fault s repos (us ++ vs) blocks ≡ Some fault
   fault_before s [] vs fault h = absurd (let bad : None ≡ Some fault = h in cc)
   fault_before s (u ∷ us) vs fault h =
       some_first (own_fault s repos u blocks) _ _ fault (fault_before (applied s u) us vs fault) h
 
-  joined : (s : Schema) (us vs : List Upgrade) (r : Result Checked OwnError) → upgrades_fault s repos us blocks ≡ None → Leads (schema_behind s us) repos vs blocks r → Leads s repos (us ++ vs) blocks r
+  joined : (s : Schema) (us vs : List Upgrade) (r : Result Checked CheckError) → upgrades_fault s repos us blocks ≡ None → Leads (schema_behind s us) repos vs blocks r → Leads s repos (us ++ vs) blocks r
   joined s us vs (Ok d) none then = (fault_behind s us vs none ∙ then.0, then.1 ∙ sym (behind_all s us vs), then.2)
   joined s us vs (Err (errors.Broken fault)) none then = fault_behind s us vs none ∙ then
   joined s us vs (Err errors.NoMemory) none then = tt
 
   -- upgrades lead on from where others led
-  leads_on : (s : Schema) (us vs : List Upgrade) (c : Checked) (r : Result Checked OwnError) → Leads s repos us blocks (Ok c) → Leads c.schema c.repos vs blocks r → Leads s repos (us ++ vs) blocks r
+  leads_on : (s : Schema) (us vs : List Upgrade) (c : Checked) (r : Result Checked CheckError) → Leads s repos us blocks (Ok c) → Leads c.schema c.repos vs blocks r → Leads s repos (us ++ vs) blocks r
   leads_on s us vs c r first then =
       let P : Schema → Type 0 = λ q. Leads q c.repos vs blocks r in
       let Q : ℕ → Type 0 = λ n. Leads (schema_behind s us) n vs blocks r in
       joined s us vs r first.0 (subst Q first.2 (subst P first.1 then))
 
   -- a fault of the first ones is one of all
-  fault_leads : (s : Schema) (us vs : List Upgrade) (e : OwnError) → Leads s repos us blocks (Err e) → Leads s repos (us ++ vs) blocks (Err e)
+  fault_leads : (s : Schema) (us vs : List Upgrade) (e : CheckError) → Leads s repos us blocks (Err e) → Leads s repos (us ++ vs) blocks (Err e)
   fault_leads s us vs (errors.Broken fault) h = fault_before s us vs fault h
   fault_leads s us vs errors.NoMemory h = tt
 
@@ -113,7 +110,7 @@ module _ (repos : ℕ) (blocks : List (List Stmt)) where
 -- The upgrades of the items from a place on lead on from here to where those of all lead.
 pub record Standing {X : Type 0} (f : X → List Upgrade) (blocks : List (List Stmt)) (s : Schema) (repos : ℕ) (all : List X) (place : ℕ) (c : Checked) : Type 0 where
   pub room : HasRoom c.schema (flat_map f (drop place all))
-  pub leads : (r : Result Checked OwnError) → Leads c.schema c.repos (flat_map f (drop place all)) blocks r → Leads s repos (flat_map f all) blocks r
+  pub leads : (r : Result Checked CheckError) → Leads c.schema c.repos (flat_map f (drop place all)) blocks r → Leads s repos (flat_map f all) blocks r
 
 pub started : {X : Type 0} (f : X → List Upgrade) (blocks : List (List Stmt)) (all : List X) (c : Checked) → HasRoom c.schema (flat_map f all) → Standing f blocks c.schema c.repos all 0 c
 started f blocks all c room = record { room = room; leads = λ r h. h }
@@ -129,7 +126,7 @@ module _ {X : Type 0} (f : X → List Upgrade) (blocks : List (List Stmt)) (s : 
     split_room : HasRoom c.schema (f x ++ flat_map f (drop (i + 1) all))
     split_room = subst (HasRoom c.schema) (from_place f all i x within is) so_far.room
 
-    split_leads : (r : Result Checked OwnError) → Leads c.schema c.repos (f x ++ flat_map f (drop (i + 1) all)) blocks r → Leads s repos (flat_map f all) blocks r
+    split_leads : (r : Result Checked CheckError) → Leads c.schema c.repos (f x ++ flat_map f (drop (i + 1) all)) blocks r → Leads s repos (flat_map f all) blocks r
     split_leads r h =
         let P : List Upgrade → Type 0 = λ us. Leads c.schema c.repos us blocks r in
         so_far.leads r (subst P (sym (from_place f all i x within is)) h)
@@ -137,7 +134,7 @@ module _ {X : Type 0} (f : X → List Upgrade) (blocks : List (List Stmt)) (s : 
     pub room_for : HasRoom c.schema (f x)
     room_for = room_before c.schema (f x) _ split_room
 
-    pub fails : (e : OwnError) → Leads c.schema c.repos (f x) blocks (Err e) → Leads s repos (flat_map f all) blocks (Err e)
+    pub fails : (e : CheckError) → Leads c.schema c.repos (f x) blocks (Err e) → Leads s repos (flat_map f all) blocks (Err e)
     fails e h = split_leads (Err e) (fault_leads c.repos blocks c.schema (f x) _ e h)
 
     pub goes_on : (d : Checked) → Leads c.schema c.repos (f x) blocks (Ok d) → Standing f blocks s repos all (i + 1) d

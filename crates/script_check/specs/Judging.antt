@@ -1,12 +1,12 @@
 -- Which rule a script breaks (this project's): T1 to T8 in its classes, roots and transactions, T9 in its schedule. Of these
--- the refusal that is told has the least line of all, and on that line the least rule. Where it breaks none of them, the
+-- the fault that is told has the least line of all, and on that line the least rule. Where it breaks none of them, the
 -- rules on upgrades come next.
-use Rattle.std.specs.Prelude.{◌≡◌, ℕ, nat_lt, if◌then◌else◌, List, [], ◌++◌, length, Option, Some, None, option_map}
+use Rattle.std.specs.Prelude.{◌≡◌, ℕ, List, [], ◌++◌, length, Option, Some, None, option_map}
 use Rattle.std.specs.List.{flat_map}
 use Rattle.class_defs.specs.Objects.{first_of}
-use Rattle.class_defs.specs.Rules.{least}
-use Rattle.class_defs.specs.declared.own_rules.OwnFault.{OwnFault}
-use Rattle.class_defs.specs.declared.rules.TypeFault.{TypeFault}
+use Rattle.class_defs.specs.Rules.{least, lesser}
+use Rattle.class_defs.specs.declared.rules.Rule.TheVariants.{T9}
+use Rattle.class_defs.specs.declared.rules.RuleFault.{RuleFault}
 use Rattle.class_defs.specs.declared.store.Schema.{Schema}
 use Rattle.class_defs.specs.SchemaRules.{item_rules, schema_rules}
 use Rattle.schedule.specs.Breaks.{AllKeep, IsLeastBreach}
@@ -23,27 +23,25 @@ abbrev pub IsToldEvent : ℕ → ℕ → List Event → Option ℕ → Type 0
 IsToldEvent clients repos events None = AllKeep clients repos events
 IsToldEvent clients repos events (Some line) = IsLeastBreach clients repos events line
 
--- the one with the lesser line, and on one line the broken rule T1 to T8
-abbrev pub told : Option TypeFault → Option ℕ → Option Refusal
-told None None = None
-told (Some fault) None = Some (refusal.Rule fault)
-told None (Some line) = Some (refusal.Event line)
-told (Some fault) (Some line) = Some (if nat_lt line fault.line then refusal.Event line else refusal.Rule fault)
+-- of a fault that is told of the rules T1 to T8 and the line of an event that breaks T9, the fault that is told
+abbrev pub told : Option RuleFault → Option ℕ → Option RuleFault
+told found None = found
+told found (Some line) = lesser found (record { line = line; rule = T9 })
 
 -- the rules T1 to T8 that an item breaks; an upgrade is looked at behind them
-abbrev pub what_rules : Schema → ℕ → What → List TypeFault
+abbrev pub what_rules : Schema → ℕ → What → List RuleFault
 what_rules schema repos (Tx block) = item_rules schema repos block
 what_rules schema repos (UpgradeItem upgrade) = []
 
-abbrev pub items_rules : Schema → ℕ → List What → List TypeFault
+abbrev pub items_rules : Schema → ℕ → List What → List RuleFault
 items_rules schema repos items = flat_map (what_rules schema repos) items
 
 -- a schema, and under it the items of all clients
-abbrev pub script_rules : Schema → ℕ → List (List What) → List TypeFault
+abbrev pub script_rules : Schema → ℕ → List (List What) → List RuleFault
 script_rules schema repos clients = schema_rules schema repos ++ flat_map (items_rules schema repos) clients
 
 -- the fault of a script's upgrades that is told
-abbrev pub own_told : Schema → ℕ → Script → Option OwnFault
+abbrev pub own_told : Schema → ℕ → Script → Option RuleFault
 own_told schema repos script = upgrades_fault schema repos (upgrades_of script.clients) (blocks_of script.clients)
 
 -- the script breaks no rule
@@ -56,7 +54,7 @@ pub record KeepsRules (schema : Schema) (repos : ℕ) (script : Script) : Type 0
 pub record BreaksRule (schema : Schema) (repos : ℕ) (script : Script) (r : Refusal) : Type 0 where
   pub event : Option ℕ
   pub first : IsToldEvent (length script.clients) repos script.events event
-  pub is : first_of (told (least (script_rules schema repos script.clients)) event) (option_map refusal.Own (own_told schema repos script)) ≡ Some r
+  pub is : option_map refusal.Rule (first_of (told (least (script_rules schema repos script.clients)) event) (own_told schema repos script)) ≡ Some r
 
 abbrev pub Judges : Schema → ℕ → Script → Option Refusal → Type 0
 Judges schema repos script None = KeepsRules schema repos script

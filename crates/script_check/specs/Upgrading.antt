@@ -6,14 +6,14 @@ use Rattle.class_defs.specs.Applied.{applied, next_number}
 use Rattle.class_defs.specs.Objects.{first_of}
 use Rattle.class_defs.specs.UpgradeOrder.{own_fault}
 use Rattle.class_defs.specs.declared.checked.Checked.{Checked}
-use Rattle.class_defs.specs.declared.own_rules.OwnFault.{OwnFault}
+use Rattle.class_defs.specs.declared.rules.RuleFault.{RuleFault}
 use Rattle.class_defs.specs.declared.statements.Stmt.{Stmt}
 use Rattle.class_defs.specs.declared.store.Schema.{Schema}
 use Rattle.class_defs.specs.declared.store.Schemas.{Schemas}
 use Rattle.class_defs.specs.declared.store.UpgradedSchema.{UpgradedSchema}
 use Rattle.class_defs.specs.declared.upgrades.Upgrade.{Upgrade}
-use Rattle.ownership_check.specs.Told.{Tells}
-use Rattle.ownership_check.specs.declared.error.OwnError.{OwnError}
+use Rattle.method_check.specs.Told.{Tells}
+use Rattle.method_check.specs.declared.error.CheckError.{CheckError}
 use Rattle.serial_model.specs.declared.entries.What.{What}
 use Rattle.serial_model.specs.declared.entries.What.TheVariants.{Tx, Upgrade as UpgradeItem}
 
@@ -37,7 +37,7 @@ blocks_of clients = flat_map (flat_map block_in) clients
 
 -- The first fault of upgrades that come one after the other: that of the first one which breaks a rule on the schema
 -- behind those before it.
-abbrev pub upgrades_fault : Schema → ℕ → List Upgrade → List (List Stmt) → Option OwnFault
+abbrev pub upgrades_fault : Schema → ℕ → List Upgrade → List (List Stmt) → Option RuleFault
 upgrades_fault schema repos [] blocks = None
 upgrades_fault schema repos (u ∷ upgrades) blocks =
     first_of (own_fault schema repos u blocks) (upgrades_fault (applied schema u) repos upgrades blocks)
@@ -54,7 +54,7 @@ abbrev pub HasRoom : Schema → List Upgrade → Type 0
 HasRoom schema upgrades = (length schema.classes ≤ 65536) × (next_number schema.upgraded + length upgrades ≤ 2 ^ 32)
 
 -- upgrades lead from a schema to the one behind them, or this fault of theirs is told
-abbrev pub Leads : Schema → ℕ → List Upgrade → List (List Stmt) → Result Checked OwnError → Type 0
+abbrev pub Leads : Schema → ℕ → List Upgrade → List (List Stmt) → Result Checked CheckError → Type 0
 Leads schema repos upgrades blocks (Ok behind) =
     (upgrades_fault schema repos upgrades blocks ≡ None) × (behind.schema ≡ schema_behind schema upgrades) × (behind.repos ≡ repos)
 Leads schema repos upgrades blocks (Err error) = Tells error (upgrades_fault schema repos upgrades blocks)

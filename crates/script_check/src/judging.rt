@@ -6,8 +6,8 @@ ghost use Rattle.script_check.specs.Judging.{IsToldEvent, Judges, items_rules, s
 ghost use Rattle.script_check.specs.Upgrading.{upgrades_of};
 
 use crate::upgrading::upgrades_fault;
-use class_defs::{Schema, TypeFault};
-use method_check::{note_item, note_schema};
+use class_defs::{Rule, RuleFault, Schema};
+use method_check::{lesser, note_item, note_schema};
 use schedule::{Events, check_events};
 use script_parse::{ClientItems, Items, Refusal, Script};
 use serial_model::What;
@@ -20,7 +20,7 @@ fn note_what(
     schema: &Schema,
     what: &What,
     repos: u8,
-    found: &mut Option<TypeFault>,
+    found: &mut Option<RuleFault>,
 ) -> Result<(), NoMemory>
     requires { length schema.now.classes ≤ 65536 }
     ensures { OnOk result (found.new ≡ least_with found.old (what_rules schema.now repos what.now)) }
@@ -37,7 +37,7 @@ fn note_items(
     schema: &Schema,
     items: &[What],
     repos: u8,
-    found: &mut Option<TypeFault>,
+    found: &mut Option<RuleFault>,
 ) -> Result<(), NoMemory>
     requires { length schema.now.classes ≤ 65536 }
     ensures { OnOk result (found.new ≡ least_with found.old (items_rules schema.now repos items.now)) }
@@ -54,7 +54,7 @@ fn note_clients(
     schema: &Schema,
     clients: &[Items],
     repos: u8,
-    found: &mut Option<TypeFault>,
+    found: &mut Option<RuleFault>,
 ) -> Result<(), NoMemory>
     requires { length schema.now.classes ≤ 65536 }
     ensures { OnOk result (found.new ≡ least_with found.old (flat_map (items_rules schema.now repos) clients.now)) }
@@ -72,7 +72,7 @@ fn rule_fault(
     schema: &Schema,
     clients: &ClientItems,
     repos: u8,
-) -> Result<Option<TypeFault>, NoMemory>
+) -> Result<Option<RuleFault>, NoMemory>
     requires { length schema.now.classes ≤ 65536 }
     ensures { IfOk result (λ fault. fault ≡ least (script_rules schema.now repos clients.now)) }
 {
@@ -92,19 +92,19 @@ fn event_fault(events: &Events, clients: u8, repos: u8) -> Option<u32>
     }
 }
 
-/// Of a broken rule and an event, the refusal that is told: that with the lesser line, and on one line the rule.
-fn told(rule: Option<TypeFault>, event: Option<u32>) -> Option<Refusal>
-    ensures { result ≡ told rule event }
+/// Of a fault that is told of the rules T1 to T8 and the line of an event that breaks T9, the fault that is told.
+fn told(found: Option<RuleFault>, event: Option<u32>) -> Option<RuleFault>
+    ensures { result ≡ told found event }
 {
-    match (rule, event) {
-        (None, None) => None,
-        (Some(fault), None) => Some(Refusal::Rule(fault)),
-        (None, Some(line)) => Some(Refusal::Event { line }),
-        (Some(fault), Some(line)) => Some(if line < fault.line {
-            Refusal::Event { line }
-        } else {
-            Refusal::Rule(fault)
-        }),
+    match event {
+        None => found,
+        Some(line) => lesser(
+            found,
+            RuleFault {
+                line,
+                rule: Rule::T9,
+            },
+        ),
     }
 }
 
@@ -124,11 +124,11 @@ pub fn judge(
 {
     let rule = rule_fault(alloc, schema, &script.clients, repos)?;
     let event = event_fault(&script.events, script.clients.len() as u8, repos);
-    if let Some(refusal) = told(rule, event) {
-        return Ok(Some(refusal));
+    if let Some(fault) = told(rule, event) {
+        return Ok(Some(Refusal::Rule(fault)));
     }
     match upgrades_fault(alloc, schema, repos, script.clients.as_slice())? {
-        Some(fault) => Ok(Some(Refusal::Own(fault))),
+        Some(fault) => Ok(Some(Refusal::Rule(fault))),
         None => Ok(None),
     }
 }

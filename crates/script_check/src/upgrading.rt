@@ -4,8 +4,9 @@ ghost use Rattle.class_defs.specs.SchemaRules.{schema_rules};
 ghost use Rattle.script_check.specs.Upgrading as spec;
 ghost use Rattle.script_check.specs.Upgrading.{HasRoom, Leads, block_in, upgrade_in, upgrades_of};
 
-use class_defs::{Blocks, Checked, OwnFault, Schema};
-use ownership_check::{OwnError, own_check};
+use class_defs::{Blocks, Checked, RuleFault, Schema};
+use method_check::CheckError;
+use ownership_check::own_check;
 use script_parse::Items;
 use serial_model::What;
 use std::alloc::Global;
@@ -81,7 +82,7 @@ fn behind_item(
     schema: Checked,
     item: &What,
     blocks: &Blocks,
-) -> Result<Checked, OwnError>
+) -> Result<Checked, CheckError>
     requires { HasRoom schema.schema (upgrade_in item.now) }
     ensures { Leads schema.schema schema.repos (upgrade_in item.now) blocks.now result }
 {
@@ -97,7 +98,7 @@ fn behind_items(
     schema: Checked,
     items: &[What],
     blocks: &Blocks,
-) -> Result<Checked, OwnError>
+) -> Result<Checked, CheckError>
     requires { HasRoom schema.schema (flat_map upgrade_in items.now) }
     ensures { Leads schema.schema schema.repos (flat_map upgrade_in items.now) blocks.now result }
 {
@@ -114,7 +115,7 @@ fn behind_clients(
     schema: Checked,
     clients: &[Items],
     blocks: &Blocks,
-) -> Result<Checked, OwnError>
+) -> Result<Checked, CheckError>
     requires { HasRoom schema.schema (upgrades_of clients.now) }
     ensures { Leads schema.schema schema.repos (upgrades_of clients.now) blocks.now result }
 {
@@ -131,7 +132,7 @@ pub fn upgrades_fault(
     schema: &Schema,
     repos: u8,
     clients: &[Items],
-) -> Result<Option<OwnFault>, NoMemory>
+) -> Result<Option<RuleFault>, NoMemory>
     requires sound { schema_rules schema.now repos ≡ [] }
     requires room { HasRoom schema.now (upgrades_of clients.now) }
     ensures { IfOk result (λ fault. fault ≡ spec.upgrades_fault schema.now repos (upgrades_of clients.now) (spec.blocks_of clients.now)) }
@@ -143,7 +144,7 @@ pub fn upgrades_fault(
     let checked = Checked::new(schema.copy()?, repos);
     match behind_clients(alloc, checked, clients, &blocks) {
         Ok(_) => Ok(None),
-        Err(OwnError::Broken(fault)) => Ok(Some(fault)),
-        Err(OwnError::NoMemory) => Err(NoMemory),
+        Err(CheckError::Broken(fault)) => Ok(Some(fault)),
+        Err(CheckError::NoMemory) => Err(NoMemory),
     }
 }

@@ -1,5 +1,6 @@
 -- Tokens are a part of a script, or they can't go on at one place.
 use Rattle.std.proofs.Common.{◌≡◌, ◌⊎◌, ◌≤◌, ℕ, Bool, true, false, List, [], ◌∷◌, ◌++◌, length, drop, Result, Ok, Err, refl, sym, ap, ◌∙◌, subst, inl, inr, append_assoc, arith}
+use Rattle.std.proofs.lemmas.Bool.{true≢false}
 use Rattle.std.specs.Prelude.{codes}
 use Rattle.class_defs.specs.declared.declarations.Declarations.{Declarations}
 use Rattle.class_defs.specs.declared.statements.Stmt.{Stmt}
@@ -85,13 +86,10 @@ decided_events tokens = by (events_or_fault tokens)
 
 -- ---- items
 
-true_false : true ≡ false → ⊥
-true_false e = cc
-
 -- behind `tx` an item is a block
 tx_spells : (token : Token) (tokens : List Token) (what : What) → is (codes "tx") token ≡ true → IsItem (token ∷ tokens) what → (block : List Stmt) × SpellsBlock tokens block
 tx_spells token tokens (Tx block) tx is = (block, is.1)
-tx_spells token tokens (UpgradeItem upgrade) tx is = absurd (true_false (sym tx ∙ upgrade_no_tx (token ∷ tokens) upgrade is))
+tx_spells token tokens (UpgradeItem upgrade) tx is = absurd (true≢false (sym tx ∙ upgrade_no_tx (token ∷ tokens) upgrade is))
 
 tx_begins : (token : Token) (front : List Token) → is (codes "tx") token ≡ true → Begins IsItem (token ∷ front) → Begins SpellsBlock front
 tx_begins token front tx b = let s = tx_spells token (front ++ b.0) b.1 tx b.2 in (b.0, s.0, s.1)
@@ -114,7 +112,7 @@ tx_fault token next tokens line tx (inr c) = inr (record {
 
 -- any other one is an upgrade
 other_spells : (token : Token) (tokens : List Token) (what : What) → is (codes "tx") token ≡ false → IsItem (token ∷ tokens) what → (upgrade : Upgrade) × SpellsUpgrade (token ∷ tokens) upgrade
-other_spells token tokens (Tx block) tx is = absurd (true_false (sym is.0 ∙ tx))
+other_spells token tokens (Tx block) tx is = absurd (true≢false (sym is.0 ∙ tx))
 other_spells token tokens (UpgradeItem upgrade) tx is = (upgrade, is)
 
 other_begins : (before : List Token) (token : Token) → begins_with_tx (before ++ token ∷ []) ≡ false → Begins IsItem (before ++ token ∷ []) → Begins SpellsUpgrade (before ++ token ∷ [])
@@ -127,7 +125,7 @@ same_start (first ∷ before) token xs ys = refl
 
 no_item : (tokens : List Token) (what : What) → begins_with_tx tokens ≡ false → ((upgrade : Upgrade) → SpellsUpgrade tokens upgrade → ⊥) → IsItem tokens what → ⊥
 no_item [] (Tx block) tx none is = is
-no_item (token ∷ tokens) (Tx block) tx none is = true_false (sym is.0 ∙ tx)
+no_item (token ∷ tokens) (Tx block) tx none is = true≢false (sym is.0 ∙ tx)
 no_item tokens (UpgradeItem upgrade) tx none is = none upgrade is
 
 other_fault : (tokens : List Token) (line : ℕ) → begins_with_tx tokens ≡ false → IsFaultAt SpellsUpgrade tokens line → IsFaultAt IsItem tokens line
@@ -170,7 +168,7 @@ other_or_refused tokens tx (inl k) = inl (UpgradeItem k.0, k.1)
 other_or_refused tokens tx (inr k) = inr (refusal.Syntax k.0, subst (λ (b : Bool). IsRefusedAs b tokens (drop 1 tokens) (refusal.Syntax k.0)) (sym tx) (k.0, (refl, k.1)))
 
 item_by : (b : Bool) (tokens : List Token) → begins_with_tx tokens ≡ b → ItemOrRefused tokens
-item_by true [] tx = absurd (true_false (sym tx))
+item_by true [] tx = absurd (true≢false (sym tx))
 item_by true (token ∷ tokens) tx = tx_or_refused token tokens tx (decided_block tokens)
 item_by false tokens tx = other_or_refused tokens tx (decided_upgrade tokens)
 

@@ -3,6 +3,7 @@ use Rattle.std.proofs.Common.{◌≡◌, ◌⊎◌, ◌≤◌, ℕ, zero, suc, �
 use Rattle.std.specs.Prelude.{codes, fold, nat_eq}
 use Rattle.std.specs.Str.{bytes_eq}
 use Rattle.std.proofs.lemmas.Slice.Eq.{bytes_eq-Decides}
+use Rattle.std.proofs.lemmas.Bool.{false≢true}
 use Rattle.class_defs.specs.Spelling.{setup_words}
 use Rattle.class_defs.specs.Words.{Fixed}
 use Rattle.method_parse.specs.Matching.{IsWord, is_fixed_kind}
@@ -101,9 +102,6 @@ start_next marks.Close t = inr (fault_found nothing t.line nothing_found)
 start_next marks.End t = inr (fault_found nothing t.line nothing_found)
 start_next marks.Other t = inr (fault_found nothing t.line nothing_found)
 
-false_true : false ≡ true → ⊥
-false_true e = cc
-
 -- ---- the setup
 
 module _ (part : List Token) (d : ℕ) (t : Token) (ts : List Token) (proper : AreProper (ts ++ t ∷ [])) (begins : Begins SpellsSetup part) where
@@ -125,7 +123,7 @@ module _ (part : List Token) (d : ℕ) (t : Token) (ts : List Token) (proper : A
       let front : List Token = part ++ t ∷ [] in
       let spells : SpellsSetup (front ++ more) b.1 = (made_proper_words front b.0 (setup_words b.1) b.2.0, b.2.1) in
       let ended : ends 0 true (front ++ more) ≡ true = setup_ends (front ++ more) b.1 spells (both_proper front more (part_proper c h) (now_proper b.0)) in
-      false_true (sym (fails (λ k e. ends k e more)) ∙ sym (h.so (t ∷ more)) ∙ sym (ap (ends 0 true) (append_assoc part (t ∷ []) more)) ∙ ended)
+      false≢true (sym (fails (λ k e. ends k e more)) ∙ sym (h.so (t ∷ more)) ∙ sym (ap (ends 0 true) (append_assoc part (t ∷ []) more)) ∙ ended)
 
   setup_grows : (k : ℕ) (b : Bool) → Next (Setup (part ++ t ∷ []) k b) t.line
   setup_grows k b = by (begins_or_not SpellsSetup part t (decided_setup (part ++ t ∷ [])))
@@ -269,7 +267,7 @@ module _ (cur : Current) (part : List Token) (d : ℕ) (t : Token) (ts : List To
   item_stops : ((last : Bool) (b : ℕ → Bool) → closes_by (mark_of t) d last b ≡ false) → Next (stop (Item cur (part ++ t ∷ []) d) t) t.line
   item_stops fails =
       inr (fault_stays (stop (Item cur (part ++ t ∷ []) d) t) t.line (λ a. a)
-      (item_stays (λ b. false_true (sym (fails (are_none (map made_proper b.0)) (λ k. closes k (map made_proper b.0))) ∙ item_on b))))
+      (item_stays (λ b. false≢true (sym (fails (are_none (map made_proper b.0)) (λ k. closes k (map made_proper b.0))) ∙ item_on b))))
 
 none_made_proper : (more : List Token) → are_none (map made_proper more) ≡ true → more ≡ []
 none_made_proper [] e = refl

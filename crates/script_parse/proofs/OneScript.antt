@@ -1,5 +1,6 @@
 -- A text is one script, or it is refused in one way.
 use Rattle.std.proofs.Common.{◌≡◌, ◌⊎◌, ℕ, Bool, true, false, Option, Some, None, List, [], ◌∷◌, Result, Ok, Err, refl, sym, ap, ◌∙◌, subst, inl, inr, drop}
+use Rattle.std.proofs.lemmas.Bool.{true≢false}
 use Rattle.std.specs.Prelude.{◌&&◌, codes}
 use Rattle.std.specs.Str.{bytes_eq}
 use Rattle.class_defs.specs.declared.declarations.Declarations.{Declarations}
@@ -73,9 +74,6 @@ and_false : (b : Bool) → (b && false) ≡ false
 and_false true = refl
 and_false false = refl
 
-true_false : true ≡ false → ⊥
-true_false e = cc
-
 -- an upgrade doesn't begin with `tx`
 pub upgrade_no_tx : (tokens : List Token) (upgrade : Upgrade) → SpellsUpgrade tokens upgrade → begins_with_tx tokens ≡ false
 upgrade_no_tx [] upgrade spells = refl
@@ -84,7 +82,7 @@ upgrade_no_tx (token ∷ tokens) upgrade spells =
 
 tx_or_upgrade : (tokens : List Token) (block : List Stmt) (upgrade : Upgrade) → IsItem tokens (Tx block) → SpellsUpgrade tokens upgrade → ⊥
 tx_or_upgrade [] block upgrade p q = p
-tx_or_upgrade (token ∷ tokens) block upgrade p q = true_false (sym p.0 ∙ upgrade_no_tx (token ∷ tokens) upgrade q)
+tx_or_upgrade (token ∷ tokens) block upgrade p q = true≢false (sym p.0 ∙ upgrade_no_tx (token ∷ tokens) upgrade q)
 
 one_item : (tokens : List Token) (a b : What) → IsItem tokens a → IsItem tokens b → a ≡ b
 one_item [] (Tx a) b p q = absurd p

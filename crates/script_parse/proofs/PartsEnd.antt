@@ -1,5 +1,7 @@
 -- Tokens that spell a part of a script end where the script's part ends.
 use Rattle.std.proofs.Common.{◌≡◌, ℕ, ℤ, zero, suc, ◌+◌, pos, Bool, true, false, cond, Option, Some, None, List, [], ◌∷◌, ◌++◌, map, refl, sym, ap, ◌∙◌, subst, arith}
+use Rattle.std.proofs.lemmas.Option.{same_Some}
+use Rattle.std.proofs.lemmas.Bool.{false≢true}
 use Rattle.std.specs.Prelude.{◌&&◌, codes, option_map, nat_eq}
 use Rattle.std.specs.List.{AllByRecursion, list_any}
 use Rattle.std.specs.Str.{bytes_eq}
@@ -43,12 +45,9 @@ keyword_text text is =
     each_among (λ t. keyword_mark t ≡ text_mark t) keywords text
     (refl, (refl, (refl, (refl, (refl, (refl, (refl, (refl, (refl, (refl, (refl, (refl, (refl, (refl, (refl, (refl, (refl, (refl, (refl, (refl, (refl, (refl, tt)))))))))))))))))))))) is
 
-false_true : false ≡ true → ⊥
-false_true e = cc
-
 proper_kind : (kind : TokenKind) (text : List ℕ) → IsToken kind text → is_fixed_kind kind ≡ true → mark_by kind text ≡ text_mark text
-proper_kind kinds.Name text spelled fixed = absurd (false_true fixed)
-proper_kind kinds.Number text spelled fixed = absurd (false_true fixed)
+proper_kind kinds.Name text spelled fixed = absurd (false≢true fixed)
+proper_kind kinds.Number text spelled fixed = absurd (false≢true fixed)
 proper_kind kinds.Keyword text spelled fixed = keyword_text text spelled.2
 proper_kind kinds.Symbol text spelled fixed = symbol_text text spelled
 
@@ -89,8 +88,8 @@ made_proper_mark : (text : List ℕ) → mark_by (kind_by (symbol_mark text)) te
 made_proper_mark text = by_tests (bytes_eq text (codes "{")) (bytes_eq text (codes "}")) (bytes_eq text (codes ";")) (keyword_mark text) (symbol_mark text) refl text refl refl
 
 made_proper_by : (kind : TokenKind) (text : List ℕ) → is_fixed_kind (kind_for kind text) ≡ true → mark_by (kind_for kind text) text ≡ text_mark text
-made_proper_by kinds.Name text fixed = absurd (false_true fixed)
-made_proper_by kinds.Number text fixed = absurd (false_true fixed)
+made_proper_by kinds.Name text fixed = absurd (false≢true fixed)
+made_proper_by kinds.Number text fixed = absurd (false≢true fixed)
 made_proper_by kinds.Keyword text fixed = made_proper_mark text
 made_proper_by kinds.Symbol text fixed = made_proper_mark text
 
@@ -111,16 +110,16 @@ fixed_by marks.Schedule = refl
 fixed_by marks.Other = refl
 
 still_fixed : (kind : TokenKind) (text : List ℕ) → is_fixed_kind kind ≡ true → is_fixed_kind (kind_for kind text) ≡ true
-still_fixed kinds.Name text fixed = absurd (false_true fixed)
-still_fixed kinds.Number text fixed = absurd (false_true fixed)
+still_fixed kinds.Name text fixed = absurd (false≢true fixed)
+still_fixed kinds.Number text fixed = absurd (false≢true fixed)
 still_fixed kinds.Keyword text fixed = fixed_by (symbol_mark text)
 still_fixed kinds.Symbol text fixed = fixed_by (symbol_mark text)
 
 still_name : (kind : TokenKind) (text : List ℕ) → is_name_kind kind ≡ true → is_name_kind (kind_for kind text) ≡ true
 still_name kinds.Name text is = refl
-still_name kinds.Number text is = absurd (false_true is)
-still_name kinds.Keyword text is = absurd (false_true is)
-still_name kinds.Symbol text is = absurd (false_true is)
+still_name kinds.Number text is = absurd (false≢true is)
+still_name kinds.Keyword text is = absurd (false≢true is)
+still_name kinds.Symbol text is = absurd (false≢true is)
 
 still_number : (kind : TokenKind) (text : List ℕ) (o : Option ℤ) (v : ℤ) → o ≡ Some v → option_map pos (number_by kind text) ≡ o → option_map pos (number_by (kind_for kind text) text) ≡ Some v
 still_number kinds.Number text o v e is = is ∙ e
@@ -158,9 +157,9 @@ rest_proper (t ∷ ts) more p = rest_proper ts more p.1
 
 name_mark : (kind : TokenKind) (text : List ℕ) → is_name_kind kind ≡ true → mark_by kind text ≡ marks.Other
 name_mark kinds.Name text is = refl
-name_mark kinds.Number text is = absurd (false_true is)
-name_mark kinds.Keyword text is = absurd (false_true is)
-name_mark kinds.Symbol text is = absurd (false_true is)
+name_mark kinds.Number text is = absurd (false≢true is)
+name_mark kinds.Keyword text is = absurd (false≢true is)
+name_mark kinds.Symbol text is = absurd (false≢true is)
 
 number_mark : (kind : TokenKind) (text : List ℕ) (v : ℤ) → option_map pos (number_by kind text) ≡ Some v → mark_by kind text ≡ marks.Other
 number_mark kinds.Name text v is = refl
@@ -174,9 +173,6 @@ mark_is token (Fixed text) proper is = proper is.0 ∙ ap text_mark is.1
 mark_is token (FixedAt text line) proper is = proper is.0 ∙ ap text_mark is.1
 mark_is token (Named text line) proper is = name_mark token.kind token.text is.0
 mark_is token (Numbered value line) proper is = number_mark token.kind token.text value is.0
-
-some_same : (a b : ℕ) → Some a ≡ Some b → a ≡ b
-some_same a b e = cc
 
 none_some : (k : ℕ) → None ≡ Some k → ⊥
 none_some k e = cc
@@ -192,11 +188,11 @@ plus_one : (d : ℕ) → d + 1 ≡ suc d
 plus_one d = omega arith
 
 closes_turned : (m : Mark) (d k : ℕ) (last : Bool) (behind : ℕ → Bool) → turn m d ≡ Some k → closes_by m d last behind ≡ behind k
-closes_turned marks.Open d k last behind e = ap behind (plus_one d ∙ some_same (suc d) k e)
+closes_turned marks.Open d k last behind e = ap behind (plus_one d ∙ same_Some (suc d) k e)
 closes_turned marks.Close zero k last behind e = absurd (none_some k e)
-closes_turned marks.Close (suc d) k last behind e = ap behind (some_same d k e)
-closes_turned marks.End d k last behind e = ap behind (some_same d k e)
-closes_turned marks.Other d k last behind e = ap behind (some_same d k e)
+closes_turned marks.Close (suc d) k last behind e = ap behind (same_Some d k e)
+closes_turned marks.End d k last behind e = ap behind (same_Some d k e)
+closes_turned marks.Other d k last behind e = ap behind (same_Some d k e)
 closes_turned marks.Setup d k last behind e = absurd (none_some k e)
 closes_turned marks.Client d k last behind e = absurd (none_some k e)
 closes_turned marks.Tx d k last behind e = absurd (none_some k e)
@@ -204,11 +200,11 @@ closes_turned marks.Upgrade d k last behind e = absurd (none_some k e)
 closes_turned marks.Schedule d k last behind e = absurd (none_some k e)
 
 pub ends_turned : (m : Mark) (d k : ℕ) (behind : ℕ → Bool → Bool) → turn m d ≡ Some k → ends_by m (suc d) behind ≡ behind (suc k) false
-ends_turned marks.Open d k behind e = ap (λ n. behind n false) (plus_one (suc d)) ∙ ap (λ n. behind (suc n) false) (some_same (suc d) k e)
+ends_turned marks.Open d k behind e = ap (λ n. behind n false) (plus_one (suc d)) ∙ ap (λ n. behind (suc n) false) (same_Some (suc d) k e)
 ends_turned marks.Close zero k behind e = absurd (none_some k e)
-ends_turned marks.Close (suc d) k behind e = ap (behind (suc d)) (not_zero d) ∙ ap (λ n. behind (suc n) false) (some_same d k e)
-ends_turned marks.End d k behind e = ap (behind (suc d)) (not_zero d) ∙ ap (λ n. behind (suc n) false) (some_same d k e)
-ends_turned marks.Other d k behind e = ap (λ n. behind (suc n) false) (some_same d k e)
+ends_turned marks.Close (suc d) k behind e = ap (behind (suc d)) (not_zero d) ∙ ap (λ n. behind (suc n) false) (same_Some d k e)
+ends_turned marks.End d k behind e = ap (behind (suc d)) (not_zero d) ∙ ap (λ n. behind (suc n) false) (same_Some d k e)
+ends_turned marks.Other d k behind e = ap (λ n. behind (suc n) false) (same_Some d k e)
 ends_turned marks.Setup d k behind e = absurd (none_some k e)
 ends_turned marks.Client d k behind e = absurd (none_some k e)
 ends_turned marks.Tx d k behind e = absurd (none_some k e)
@@ -217,7 +213,7 @@ ends_turned marks.Schedule d k behind e = absurd (none_some k e)
 
 -- behind words that leave so many braces open
 closes_walk : (tokens rest : List Token) (words : List Word) (d e : ℕ) → AreWords tokens words → AreProper tokens → walk words d ≡ Some e → closes d (tokens ++ rest) ≡ closes e rest
-closes_walk [] rest [] d e are proper is = ap (λ n. closes n rest) (some_same d e is)
+closes_walk [] rest [] d e are proper is = ap (λ n. closes n rest) (same_Some d e is)
 closes_walk [] rest (w ∷ ws) d e are proper is = absurd are
 closes_walk (t ∷ ts) rest [] d e are proper is = absurd are
 closes_walk (t ∷ ts) rest (w ∷ ws) d e are proper is =
@@ -228,7 +224,7 @@ closes_walk (t ∷ ts) rest (w ∷ ws) d e are proper is =
 
 pub ends_walk : (tokens rest : List Token) (words : List Word) (d e : ℕ) → AreWords tokens words → AreProper tokens → walk words d ≡ Some e
     → ends (suc d) false (tokens ++ rest) ≡ ends (suc e) false rest
-ends_walk [] rest [] d e are proper is = ap (λ n. ends (suc n) false rest) (some_same d e is)
+ends_walk [] rest [] d e are proper is = ap (λ n. ends (suc n) false rest) (same_Some d e is)
 ends_walk [] rest (w ∷ ws) d e are proper is = absurd are
 ends_walk (t ∷ ts) rest [] d e are proper is = absurd are
 ends_walk (t ∷ ts) rest (w ∷ ws) d e are proper is =

@@ -1,5 +1,6 @@
 -- A setup may end behind each of its classes and roots, and nowhere else.
 use Rattle.std.proofs.Common.{◌≡◌, ◌⊎◌, ◌≤◌, ℕ, suc, Bool, true, false, Option, Some, None, List, [], ◌∷◌, ◌++◌, length, map, refl, sym, ap, ◌∙◌, subst, inl, inr, append_assoc, append-nil, arith}
+use Rattle.std.proofs.lemmas.Bool.{false≢true}
 use Rattle.std.specs.Prelude.{codes}
 use Rattle.std.specs.List.{AllByRecursion}
 use Rattle.class_defs.specs.Grammar.{IsClass}
@@ -202,15 +203,12 @@ module _ {X : Type 0} (words : X → List Word) (unit : (x : X) → IsUnit (word
     ended : ends 0 true rest ≡ true
     proper : AreProper (rest ++ more)
 
-  false_true : false ≡ true → ⊥
-  false_true e = cc
-
   none_of : (xs : List X) (p : List Token) → p ≡ [] → SomeOf xs p
   none_of xs p e = record { these = []; few = omega arith; fit = λ all. tt; are = subst (λ (l : List Token). AreWords l []) (sym e) tt }
 
   cut_none : (x : X) (xs : List X) (p : List Token) → p ≡ [] ⊎ (ends 0 true p ≡ false) → ends 0 true p ≡ true → SomeOf (x ∷ xs) p
   cut_none x xs p (inl e) ended = none_of (x ∷ xs) p e
-  cut_none x xs p (inr e) ended = absurd (false_true (sym e ∙ ended))
+  cut_none x xs p (inr e) ended = absurd (false≢true (sym e ∙ ended))
 
   more_some : (x : X) (xs : List X) (a m p : List Token) (tail : List Word) (more : List Token) → p ≡ a ++ m → AreWords a (words x) → SomeOf xs m ⊎ AllOf xs tail m more → SomeOf (x ∷ xs) p ⊎ AllOf (x ∷ xs) tail p more
   more_some x xs a m p tail more e are (inl s) = inl (record {

@@ -1,8 +1,8 @@
 ghost use Rattle.std.specs.Prelude.{◌≡◌, ◌++◌, IfOk, OnOk};
 ghost use Rattle.std.specs.String.{string_bytes};
-ghost use Rattle.script_parse.specs.Refusals.{broken_word, line_of, own_word, refusal_text, rule_word, word_of};
+ghost use Rattle.script_parse.specs.Refusals.{line_of, refusal_text, word_of};
 
-use class_defs::{BrokenRule, OwnFault, OwnRule, Rule, TypeFault};
+use class_defs::{RuleFault, rule_word};
 use std::alloc::Global;
 use std::fmt::Write;
 use thor_value::{NoMemory, Text};
@@ -14,12 +14,8 @@ pub enum Refusal {
     Syntax { line: u32 },
     /// A fresh store needs a setup, and the script has none; or it has one, and the store isn't fresh.
     Setup,
-    /// It breaks a rule of the language.
-    Rule(TypeFault),
-    /// On this line is an event of the schedule that is none, or names what isn't there.
-    Event { line: u32 },
-    /// An upgrade breaks a rule on upgrades, or a rule of the language in its own fields and methods.
-    Own(OwnFault),
+    /// It breaks a rule: of the language, on events, or on upgrades.
+    Rule(RuleFault),
 }
 
 /// The line that is told.
@@ -30,46 +26,6 @@ fn line_of(refusal: Refusal) -> u32
         Refusal::Syntax { line } => line,
         Refusal::Setup => 1,
         Refusal::Rule(fault) => fault.line,
-        Refusal::Event { line } => line,
-        Refusal::Own(fault) => fault.line,
-    }
-}
-
-fn rule_word(rule: Rule) -> &'static str
-    ensures { result.now ≡ rule_word rule }
-{
-    match rule {
-        Rule::T1 => "T1",
-        Rule::T2 => "T2",
-        Rule::T3 => "T3",
-        Rule::T4 => "T4",
-        Rule::T5 => "T5",
-        Rule::T6 => "T6",
-        Rule::T7 => "T7",
-        Rule::T8 => "T8",
-    }
-}
-
-fn own_word(rule: OwnRule) -> &'static str
-    ensures { result.now ≡ own_word rule }
-{
-    match rule {
-        OwnRule::O1 => "O1",
-        OwnRule::O2 => "O2",
-        OwnRule::O3 => "O3",
-        OwnRule::O4 => "O4",
-        OwnRule::O5 => "O5",
-        OwnRule::O6 => "O6",
-        OwnRule::O7 => "O7",
-    }
-}
-
-fn broken_word(rule: BrokenRule) -> &'static str
-    ensures { result.now ≡ broken_word rule }
-{
-    match rule {
-        BrokenRule::Own(rule) => own_word(rule),
-        BrokenRule::Typing(rule) => rule_word(rule),
     }
 }
 
@@ -81,8 +37,6 @@ fn word_of(refusal: Refusal) -> &'static str
         Refusal::Syntax { line: _ } => "Syntax",
         Refusal::Setup => "Setup",
         Refusal::Rule(fault) => rule_word(fault.rule),
-        Refusal::Event { line: _ } => "T9",
-        Refusal::Own(fault) => broken_word(fault.rule),
     }
 }
 

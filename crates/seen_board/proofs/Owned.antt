@@ -1,5 +1,6 @@
 -- Families of lists, of which some are owned.
 use Rattle.std.proofs.Common.{◌≡◌, ◌≢◌, ◌⊎◌, ℕ, suc, Bool, true, false, ◌||◌, ◌==◌, cond, leb, List, [], ◌∷◌, ◌++◌, length, refl, ap, sym, ◌∙◌, subst, ⊎_elim, arith, eq-eqb, true≢false, inl, inr}
+use Rattle.std.proofs.lemmas.Bool.{false≢true, or_left, or_right}
 use mathlib.Core.Logic.{dite}
 use mathlib.Core.List.{IsPrefix}
 use native.Mathlib.Decide.{ℕ_discrete}
@@ -8,10 +9,7 @@ use Rattle.seen_board.specs.Knowledge.{Within, at, empty, longer_by, owns, toget
 use Rattle.seen_board.specs.Rows.{among, from, longer}
 use Rattle.seen_board.specs.Rule.{Holds, Whole}
 use Rattle.seen_board.proofs.Prefixes.{prefix_self, prefix_trans, prefix_nil, prefix_same, prefix_more, longer_in, longer_first, longer_second, longer_whole, longer_whole_second}
-use Rattle.seen_board.proofs.Rows.{put_here, put_else, at_longers, at_place, at_here, at_else, at_each, among-append, among-from, one_among, in_front, in_back, or_false}
-
-pub off : false ≡ true → ⊥
-off e = true≢false (sym e)
+use Rattle.seen_board.proofs.Rows.{put_here, put_else, at_longers, at_place, at_here, at_else, at_each, among-append, among-from, one_among, or_false}
 
 module _ {A : Type 0} where
   -- the lists with one more at the end of one of them
@@ -72,13 +70,13 @@ module _ {A : Type 0} where
   held_over all by other u k = record { begins = k.begins; whole = λ r o. (ap (λ b. cond b by (all.owner r)) (sym o), (k.whole r o).1) }
 
   pub held_unowned : (all : Whole A) (j i : ℕ) (h : Family A) → Holds all j h → Holds all i (unowned h)
-  held_unowned all j i h f = record { begins = f.begins; whole = λ r o. absurd (off o) }
+  held_unowned all j i h f = record { begins = f.begins; whole = λ r o. absurd (false≢true o) }
 
   pub none_held : (all : Whole A) (j : ℕ) → Holds all j (empty [])
-  none_held all j = record { begins = λ r. prefix_nil (all.list r); whole = λ r o. absurd (off o) }
+  none_held all j = record { begins = λ r. prefix_nil (all.list r); whole = λ r o. absurd (false≢true o) }
 
   pub not_owned : (h : Family A) (r : ℕ) → h ≡ empty [] → owns h r ≡ true → ⊥
-  not_owned h r e o = off (sym (ap (λ g. owns g r) e) ∙ o)
+  not_owned h r e o = false≢true (sym (ap (λ g. owns g r) e) ∙ o)
 
   longer_either : (xs ys : List A) → (longer xs ys ≡ xs) ⊎ (longer xs ys ≡ ys)
   longer_either xs ys = choice (leb (length xs) (length ys)) xs ys
@@ -95,12 +93,12 @@ module _ {A : Type 0} where
   within_together all j g h f k = (
     record {
       begins = λ r. subst (IsPrefix (at g r)) (sym (at_longers g.lists h.lists r)) (longer_first _ _ _ (f.begins r) (k.begins r));
-      owned = λ r o. among-append r g.owned h.owned ∙ in_back (owns g r) (owns h r) o;
+      owned = λ r o. among-append r g.owned h.owned ∙ or_left (owns g r) (owns h r) o;
       whole = λ r o. (f.whole r o).1 ∙ sym (at_longers g.lists h.lists r ∙ longer_whole _ _ _ (f.whole r o).1 (k.begins r));
     },
     record {
       begins = λ r. subst (IsPrefix (at h r)) (sym (at_longers g.lists h.lists r)) (longer_second _ _ _ (f.begins r) (k.begins r));
-      owned = λ r o. among-append r g.owned h.owned ∙ in_front (owns g r) (owns h r) o;
+      owned = λ r o. among-append r g.owned h.owned ∙ or_right (owns g r) (owns h r) o;
       whole = λ r o. (k.whole r o).1 ∙ sym (at_longers g.lists h.lists r ∙ longer_whole_second _ _ _ (f.begins r) (k.whole r o).1);
     },
   )
@@ -119,7 +117,7 @@ module _ {A : Type 0} where
   pub hand_left : (all : Whole A) (by new n a : ℕ) → Holds all by (empty (from (suc n) a)) → Holds (handed all a new) by (empty (from n (suc a)))
   hand_left all by new n a f = record {
     begins = f.begins;
-    whole = λ q o. let w = f.whole q (in_front (a == q) (among q (from n (suc a))) o) in (w.0 ∙ sym (at_else all.owner a q new (λ e. off (sym (among-from n (suc a) q (omega (arith, e))) ∙ o))), w.1);
+    whole = λ q o. let w = f.whole q (or_right (a == q) (among q (from n (suc a))) o) in (w.0 ∙ sym (at_else all.owner a q new (λ e. false≢true (sym (among-from n (suc a) q (omega (arith, e))) ∙ o))), w.1);
   }
 
   pub hand_right : (all : Whole A) (by new n a : ℕ) → Holds all by (empty (from (suc n) a)) → Holds (handed all a new) new (empty (a ∷ []))

@@ -77,14 +77,6 @@ pub among-from : (n a r : ℕ) → r < a → among r (from n a) ≡ false
 among-from zero a r lt = refl
 among-from (suc n) a r lt = let no : a ≢ r = λ e. omega (arith, e, lt) in ap (λ b. b || among r (from n (suc a))) (ne_eqb a r no) ∙ among-from n (suc a) r (omega arith)
 
-pub in_front : (a b : Bool) → b ≡ true → (a || b) ≡ true
-in_front true b e = refl
-in_front false b e = e
-
-pub in_back : (a b : Bool) → a ≡ true → (a || b) ≡ true
-in_back true b e = refl
-in_back false b e = absurd (true≢false (sym e))
-
 pub or_false : (a : Bool) → (a || false) ≡ true → a ≡ true
 or_false true e = refl
 or_false false e = e

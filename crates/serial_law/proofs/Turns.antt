@@ -21,6 +21,7 @@ use Rattle.serial_model.specs.History.{are_fresh, run_on}
 use Rattle.serial_model.specs.declared.entries.What.{What}
 use Rattle.std.proofs.Common.{Bool, List, [], ap, false, length, not, refl, subst, sym, true, ◌++◌, ◌≡◌, ◌∙◌, ◌∷◌}
 use Rattle.std.proofs.lemmas.Map.Keys.{IsDistinct-head, IsDistinct-tail}
+use Rattle.std.proofs.lemmas.Bool.{or_left, or_right}
 use Rattle.std.specs.List.{AllByRecursion, IsDistinct, list_any}
 use Rattle.std.specs.Option.{IsSomeAnd, option_map, option_or}
 use Rattle.std.specs.Prelude.{None, Option, Some, is_some, ◌&&◌, ◌||◌}
@@ -59,19 +60,11 @@ both_new (Some v) b is h = cc
 itself : (x : Oref) → same_oref x x ≡ true
 itself x = same_itself x
 
-or_true : (a b : Bool) → a ≡ true → (a || b) ≡ true
-or_true true b h = refl
-or_true false b h = cc
-
-or_more : (a b : Bool) → b ≡ true → (a || b) ≡ true
-or_more true b h = refl
-or_more false b h = h
-
 pub fresh_all : (store : Plain) (xs : List Oref) → ((x : Oref) → list_any (same_oref x) xs ≡ true → get store.objects x ≡ None) → IsDistinct same_oref xs → are_fresh store xs ≡ true
 fresh_all store [] none h = refl
 fresh_all store (x ∷ xs) none h =
-    ap (λ (b : Bool). b && are_fresh store xs) (both_new (get store.objects x) (list_any (same_oref x) xs) (none x (or_true (same_oref x x) (list_any (same_oref x) xs) (itself x))) (none_among x xs (IsDistinct-head same_oref x xs h)))
-    ∙ fresh_all store xs (λ y i. none y (or_more (same_oref y x) (list_any (same_oref y) xs) i)) (IsDistinct-tail same_oref x xs h)
+    ap (λ (b : Bool). b && are_fresh store xs) (both_new (get store.objects x) (list_any (same_oref x) xs) (none x (or_left (same_oref x x) (list_any (same_oref x) xs) (itself x))) (none_among x xs (IsDistinct-head same_oref x xs h)))
+    ∙ fresh_all store xs (λ y i. none y (or_right (same_oref y x) (list_any (same_oref y) xs) i)) (IsDistinct-tail same_oref x xs h)
 
 -- ---- one turn
 

@@ -2,7 +2,8 @@
 use Rattle.std.proofs.Common.{◌≡◌, ◌≤◌, ℕ, zero, suc, ◌+◌, Bool, true, false, ◌&&◌, nat_le, IsTrue, List, [], ◌∷◌, length, Option, Some, None, option_map, unwrap_or, slice_get, refl, ap, sym, subst, ◌∙◌, arith}
 use Rattle.std.proofs.lemmas.Bool.Decides.{nat_tests}
 use Rattle.std.proofs.lemmas.List.{length-map}
-use Rattle.std.proofs.lemmas.Option.{slice_get_past}
+use Rattle.std.proofs.lemmas.Option.{slice_get_past, same_Some}
+use Rattle.std.proofs.lemmas.Bool.{and_parts}
 use Rattle.std.specs.List.{list_all}
 use Rattle.std.specs.Prelude.{nat_lt}
 use Rattle.class_defs.proofs.NumbersBehind.{highest_below, number_below as number_at_most}
@@ -21,15 +22,11 @@ le_true a b h = grind (arith, nat_tests)
 true_le : (a b : ℕ) → nat_le a b ≡ true → a ≤ b
 true_le a b h = grind (arith, nat_tests)
 
-both : (a b : Bool) → (a && b) ≡ true → (a ≡ true) × (b ≡ true)
-both true b h = (refl, h)
-both false b h = cc
-
 -- a number of a class isn't above the greatest
 number_below : (n : ℕ) (ks : List ℕ) → list_all (λ k. nat_le k n) ks ≡ true → (c : ℕ) → unwrap_or (slice_get ks c) 0 ≤ n
 number_below n [] h c = omega arith
-number_below n (k ∷ ks) h zero = true_le k n (both (nat_le k n) _ h).0
-number_below n (k ∷ ks) h (suc c) = number_below n ks (both (nat_le k n) _ h).1 c
+number_below n (k ∷ ks) h zero = true_le k n (and_parts (nat_le k n) _ h).0
+number_below n (k ∷ ks) h (suc c) = number_below n ks (and_parts (nat_le k n) _ h).1 c
 
 numbers_below : (n : ℕ) (ks : List ℕ) → ((c : ℕ) → unwrap_or (slice_get ks c) 0 ≤ n) → list_all (λ k. nat_le k n) ks ≡ true
 numbers_below n [] h = refl
@@ -42,7 +39,7 @@ record IsMade (schema : Schema) (n : ℕ) : Type 0 where
 
 told_made : (schema : Schema) (n : ℕ) → is_made schema n ≡ true → IsMade schema n
 told_made schema n h =
-    let b : (nat_le (length schema.classes) 65536 ≡ true) × (list_all (λ k. nat_le k n) schema.upgraded ≡ true) = both (nat_le (length schema.classes) 65536) _ h in
+    let b : (nat_le (length schema.classes) 65536 ≡ true) × (list_all (λ k. nat_le k n) schema.upgraded ≡ true) = and_parts (nat_le (length schema.classes) 65536) _ h in
     record { few = true_le (length schema.classes) 65536 b.0; past = number_below n schema.upgraded b.1 }
 
 made_told : (schema : Schema) (n : ℕ) → IsMade schema n → is_made schema n ≡ true
@@ -56,16 +53,13 @@ none_made n = record { few = omega arith; past = λ c. omega arith }
 
 -- ---- those behind upgrades
 
-some_is : {X : Type 0} {x y : X} → Some x ≡ Some y → x ≡ y
-some_is {x = x} {y = y} e = cc
-
 made_at : (m : ℕ) (us : List UpgradedSchema) → made_from m us ≡ true → (n : ℕ) (u : UpgradedSchema) → slice_get us n ≡ Some u → IsMade u.schema (m + n)
 made_at m [] h n u e = cc
 made_at m (x ∷ us) h zero u e =
     let P : UpgradedSchema → Type 0 = λ y. IsMade y.schema (m + zero) in
-    subst P (some_is e) (raised x.schema m (m + zero) (omega arith) (told_made x.schema m (both (is_made x.schema m) _ h).0))
+    subst P (same_Some _ _ e) (raised x.schema m (m + zero) (omega arith) (told_made x.schema m (and_parts (is_made x.schema m) _ h).0))
 made_at m (x ∷ us) h (suc n) u e =
-    raised u.schema (m + 1 + n) (m + suc n) (omega arith) (made_at (m + 1) us (both (is_made x.schema m) _ h).1 n u e)
+    raised u.schema (m + 1 + n) (m + suc n) (omega arith) (made_at (m + 1) us (and_parts (is_made x.schema m) _ h).1 n u e)
 
 all_made : (m : ℕ) (us : List UpgradedSchema) → ((n : ℕ) (u : UpgradedSchema) → slice_get us n ≡ Some u → IsMade u.schema (m + n)) → made_from m us ≡ true
 all_made m [] h = refl
@@ -94,7 +88,7 @@ module _ (s : Schemas) where
 
   made_from_test : are_made s ≡ true → AreMade s
   made_from_test h =
-      let b : (is_made s.first 0 ≡ true) × (made_from 1 s.upgraded ≡ true) = both (is_made s.first 0) _ h in
+      let b : (is_made s.first 0 ≡ true) × (made_from 1 s.upgraded ≡ true) = and_parts (is_made s.first 0) _ h in
       record { few = λ n. (from_test b.0 b.1 n).few; past = λ n. (from_test b.0 b.1 n).past }
 
   -- the answer of a test of all

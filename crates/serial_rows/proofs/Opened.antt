@@ -22,6 +22,7 @@ use Rattle.serial_model.specs.declared.entries.What.TheVariants.{Tx, Upgrade as 
 use Rattle.serial_rows.specs.Rows.{a, a_box, a_part, adding, an_owner, asking, base_of, first, items, o, opening, p, roots, run, schemas, second, upgrade}
 use Rattle.std.proofs.Common.{Bool, List, [], ap, arith, cond, false, length, refl, subst, suc, sym, true, zero, ℕ, ◌<◌, ◌≡◌, ◌≤◌, ◌∙◌, ◌∷◌}
 use Rattle.std.proofs.lemmas.Map.Views.{tells_apart}
+use Rattle.std.proofs.lemmas.Option.{same_Some}
 use Rattle.std.specs.BTreeMap.{is_at}
 use Rattle.std.specs.List.Sorted.{IsStrictlySortedBy}
 use Rattle.std.specs.List.{AllByRecursion}
@@ -44,9 +45,6 @@ use Rattle.worked_rows.proofs.UpgradeForms.{upgrade_forms}
 abbrev pub N : Stored
 N = stored_map roots opening
 
-some : {X : Type 0} {x y : X} → Some x ≡ Some y → x ≡ y
-some h = cc
-
 -- what holds of each of the three objects
 pub of-each : (P : Oref → Obj → Type 0) → P o an_owner → P p (a_part 0 7) → P a (a_box 5) → (x : Oref) (v : Obj) → get opening.objects x ≡ Some v → P x v
 of-each P q1 q2 q3 x v h = in-all opening.objects.pairs (q1, (q2, (q3, tt))) h
@@ -56,7 +54,7 @@ of-each P q1 q2 q3 x v h = in-all opening.objects.pairs (q1, (q2, (q3, tt))) h
     in-all (e ∷ es) all k = by (same_oref x e.0) refl k (in-all es all.1)
       where
         by : (b : Bool) → same_oref x e.0 ≡ b → cond b (Some e.1) (lookup (is_at (oref_cmp x)) es) ≡ Some v → (lookup (is_at (oref_cmp x)) es ≡ Some v → P x v) → P x v
-        by true is g rest = subst (λ y. P y v) (sym (tells_apart oref_exact x e.0 is)) (subst (P e.0) (some g) all.0)
+        by true is g rest = subst (λ y. P y v) (sym (tells_apart oref_exact x e.0 is)) (subst (P e.0) (same_Some _ _ g) all.0)
         by false is g rest = rest g
 
 -- ---- the one reference
@@ -119,14 +117,14 @@ well-owned = record {
 }
   where
     root_fits : (i : ℕ) (r : Root) → slice_get roots i ≡ Some r → (¬ IsPart schemas r.class) × IsSomeAnd (get opening.objects r.oref) (λ v. v.class ≡ r.class)
-    root_fits zero r h = subst (λ (k : Root). (¬ IsPart schemas k.class) × IsSomeAnd (get opening.objects k.oref) (λ v. v.class ≡ k.class)) (some h) ((λ e. cc), refl)
-    root_fits (suc zero) r h = subst (λ (k : Root). (¬ IsPart schemas k.class) × IsSomeAnd (get opening.objects k.oref) (λ v. v.class ≡ k.class)) (some h) ((λ e. cc), refl)
+    root_fits zero r h = subst (λ (k : Root). (¬ IsPart schemas k.class) × IsSomeAnd (get opening.objects k.oref) (λ v. v.class ≡ k.class)) (same_Some _ _ h) ((λ e. cc), refl)
+    root_fits (suc zero) r h = subst (λ (k : Root). (¬ IsPart schemas k.class) × IsSomeAnd (get opening.objects k.oref) (λ v. v.class ≡ k.class)) (same_Some _ _ h) ((λ e. cc), refl)
     root_fits (suc (suc i)) r h = cc
 
 -- ---- kinds
 
 fits : (t u : ExprType) (v w : Value) → fitted t v ≡ v → Some t ≡ Some u → Some v ≡ Some w → fitted u w ≡ w
-fits t u v w h e f = subst (λ k. fitted k w ≡ w) (some e) (subst (λ x. fitted t x ≡ x) (some f) h)
+fits t u v w h e f = subst (λ k. fitted k w ≡ w) (same_Some _ _ e) (subst (λ x. fitted t x ≡ x) (same_Some _ _ f) h)
 
 one-field : (c : ℕ) (t : ExprType) (v : Value) → is_some (slice_get (classes_of schemas 0) c) ≡ true → type_at (classes_of schemas 0) c 0 ≡ Some t → 1 ≡ length (Rattle.class_defs.specs.Types.fields_of (classes_of schemas 0) c) → fitted t v ≡ v
     → IsOfItsClass (classes_of schemas 0) (record { class = c; fields = v ∷ [] })
@@ -215,8 +213,8 @@ of-items P k l who tx h = by (nat_eq who.index 1) (nat_eq who.index 2) h
 
 -- a schema is one of two
 of-schemas : (P : Schema → Type 0) → P first → P second → (k : ℕ) (c : Schema) → schema_at schemas k ≡ Some c → P c
-of-schemas P x y zero c h = subst P (some h) x
-of-schemas P x y (suc zero) c h = subst P (some h) y
+of-schemas P x y zero c h = subst P (same_Some _ _ h) x
+of-schemas P x y (suc zero) c h = subst P (same_Some _ _ h) y
 of-schemas P x y (suc (suc n)) c h = cc
 
 pub are-checked : AreChecked schemas items roots 2

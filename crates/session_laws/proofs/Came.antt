@@ -15,7 +15,7 @@ use Rattle.local_history.specs.Requests.{has_written, is_upgrade, is_upgrade_kin
 use Rattle.message_outbox.specs.Outbox as outbox
 use Rattle.message_outbox.specs.declared.message.Message.TheVariants as their
 use Rattle.message_outbox.specs.declared.message.Message.{Message}
-use Rattle.session_laws.proofs.Invalidated.{last_other-end, live_place, place_where, turned, written_place}
+use Rattle.session_laws.proofs.Invalidated.{last_other-end, live_place, place_where, written_place}
 use Rattle.session_laws.proofs.Marked.{IsAway, acknowledged_agrees, acknowledged_away, agree_behind, away_agrees, drop_more, is_away}
 use Rattle.session_laws.proofs.Seen.{kept_acknowledged, kept_marked, place_touched}
 use Rattle.session_laws.proofs.Traced.{behind_entry, came, moves, none_lives}
@@ -29,6 +29,8 @@ use Rattle.session_outbox.specs.Session as notices
 use Rattle.session_outbox.specs.Trace.{E, Item, entries}
 use Rattle.std.proofs.Common.{Bool, List, [], ap, arith, cond, drop, false, inl, inr, length, map, nat_eq, refl, subst, sym, true, ◌+◌, ◌++◌, ◌∙◌, ◌∷◌, ◌≡◌, ◌≤◌, ℕ}
 use Rattle.std.proofs.lemmas.List.{append-nil, length-append, map-append}
+use Rattle.std.proofs.lemmas.Bool.{both_ways}
+use Rattle.std.proofs.lemmas.Cmp.{nat_eq_equiv}
 use Rattle.std.specs.List.{AllByRecursion, filter, fold}
 use Rattle.std.specs.Map.{keys_of}
 use Rattle.std.specs.Option.{IfSome, is_some, option_to_list}
@@ -120,7 +122,7 @@ away_writes K L s w names k h a = record {
   pages = λ p. ap (λ (C : Sets). has_page C s p) h.sets ∙ a.pages p;
   invalid = λ x.
       ap (λ (C : Sets). place_in C s x) h.sets
-      ∙ place_touched K.sets w names k s x (λ e. absurd (clash (has_page K.sets s x.page) e (a.pages x.page)))
+      ∙ place_touched K.sets w names k s x (λ e. absurd (both_ways (has_page K.sets s x.page) (a.pages x.page) e))
       ∙ ap (λ (t : Bool). cond ((not (nat_eq s w) && t) && is_among names x) (Some k) (place_in K.sets s x)) (a.pages x.page)
       ∙ by (nat_eq s w) (is_among names x) (place_in K.sets s x)
       ∙ a.invalid x;
@@ -129,9 +131,6 @@ away_writes K L s w names k h a = record {
       ∙ a.waits;
 }
   where
-    clash : (t : Bool) → t ≡ true → t ≡ false → ⊥
-    clash t e f = cc
-
     by : (own named : Bool) (o : Option ℕ) → cond ((not own && false) && named) (Some k) o ≡ o
     by true named o = refl
     by false named o = refl
@@ -208,7 +207,7 @@ writes_agree b H e K L s v q st c plain rise h =
       invalid = λ x.
           ap (λ (C : Sets). place_in C s x) h.sets
           ∙ place_touched K.sets q.session (keys_of q.writes) (length H) s x (st.opened x.page)
-          ∙ ap (λ (t : Bool). cond ((not t && has_page K.sets s x.page) && is_among (keys_of q.writes) x) (Some (length H)) (place_in K.sets s x)) (turned s q.session)
+          ∙ ap (λ (t : Bool). cond ((not t && has_page K.sets s x.page) && is_among (keys_of q.writes) x) (Some (length H)) (place_in K.sets s x)) (nat_eq_equiv.symm s q.session)
           ∙ ap (λ (t : Bool). cond ((not (nat_eq q.session s) && t) && is_among (keys_of q.writes) x) (Some (length H)) (place_in K.sets s x)) (paged x.page)
           ∙ ap (λ (t : Bool). cond ((not (nat_eq q.session s) && has v.pages x.page) && t) (Some (length H)) (place_in K.sets s x)) (among_written q x rise)
           ∙ ap (cond ((not (nat_eq q.session s) && has v.pages x.page) && has_written q x) (Some (length H))) (a.invalid x ∙ live_place v (get v.pages x.page) (last_other s (writers b H x)) st.live)

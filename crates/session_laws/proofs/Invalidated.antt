@@ -9,8 +9,9 @@ use Rattle.local_history.specs.Requests.{has_written}
 use Rattle.session_outbox.specs.Session.{Session, cache, invalid_in, last_other, not_below, session_lives}
 use Rattle.std.proofs.Common.{Bool, List, [], ap, arith, cond, false, length, nat_eq, nat_le, refl, sym, true, ◌+◌, ◌++◌, ◌<◌, ◌∙◌, ◌∷◌, ◌≡◌, ◌≤◌, ℕ}
 use Rattle.std.proofs.lemmas.Bool.Decides.{nat_tests}
-use Rattle.std.proofs.lemmas.Bool.{eqb-true}
+use Rattle.std.proofs.lemmas.Bool.{eqb-true, or_right}
 use Rattle.std.proofs.lemmas.List.Sums.{fold-append}
+use Rattle.std.proofs.lemmas.Cmp.{nat_eq_equiv}
 use Rattle.std.specs.Cmp.{nat_cmp_total}
 use Rattle.std.specs.List.{AllByRecursion, filter, fold}
 use Rattle.std.specs.Option.{IfSome, is_some, option_and_then}
@@ -22,12 +23,6 @@ use Rattle.thor_value.specs.declared.names.Oref.{Oref}
 
 -- ---- tests
 
-pub turned : (a b : ℕ) → nat_eq a b ≡ nat_eq b a
-turned a b = grind (arith, nat_tests)
-
-pub same_itself : (a : ℕ) → nat_eq a a ≡ true
-same_itself a = grind (arith, nat_tests)
-
 at_most : (n m : ℕ) → n ≤ m → nat_le n m ≡ true
 at_most n m h = grind (arith, nat_tests)
 
@@ -36,10 +31,6 @@ above n m h = grind (arith, nat_tests)
 
 both_at_most : (a c k : ℕ) → nat_le (max a c) k ≡ (nat_le a k && nat_le c k)
 both_at_most a c k = grind (arith, nat_tests)
-
-or_true : (t : Bool) → (t || true) ≡ true
-or_true true = refl
-or_true false = refl
 
 or_false : (t : Bool) → (t || false) ≡ t
 or_false true = refl
@@ -51,7 +42,7 @@ pub get_cache : (pages : Map nat_cmp ℕ) (page k p : ℕ) → get (cache pages 
 get_cache pages page k p = by (has pages page) (nat_eq page p) refl
   where
     put : (t : Bool) → nat_eq page p ≡ t → get (insert pages page k) p ≡ cond t (Some k) (get pages p)
-    put t e = get-insert nat_cmp_total pages page k p ∙ ap (λ (u : Bool). cond u (Some k) (get pages p)) (same_test p page ∙ turned p page ∙ e)
+    put t e = get-insert nat_cmp_total pages page k p ∙ ap (λ (u : Bool). cond u (Some k) (get pages p)) (same_test p page ∙ nat_eq_equiv.symm p page ∙ e)
 
     by : (t u : Bool) → nat_eq page p ≡ u → get (cond t pages (insert pages page k)) p ≡ cond (u && not t) (Some k) (get pages p)
     by true true e = refl
@@ -66,9 +57,9 @@ has_cache pages page k p = ap (λ (o : Option ℕ). is_some o) (get_cache pages 
     by true e true f =
         let a : page ≡ p = eqb-true page p f in
         let h : has pages p ≡ true = ap (λ (q : ℕ). has pages q) (sym a) ∙ e in
-        h ∙ sym (or_true (has pages p))
+        h ∙ sym (or_right (has pages p) true refl)
     by true e false f = sym (or_false (has pages p))
-    by false e true f = sym (or_true (has pages p))
+    by false e true f = sym (or_right (has pages p) true refl)
     by false e false f = sym (or_false (has pages p))
 
 -- ---- the place in the invalid set of a live session

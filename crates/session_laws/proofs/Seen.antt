@@ -8,10 +8,10 @@ use Rattle.link_table.specs.Pairs.{is_linked, unlink_left}
 use Rattle.message_outbox.specs.Outbox as outbox
 use Rattle.message_outbox.specs.Outbox.{Waiting, pushed_to, taken_from}
 use Rattle.message_outbox.specs.declared.message.Message.{Message}
-use Rattle.session_laws.proofs.Invalidated.{turned}
 use Rattle.std.proofs.Common.{Bool, List, [], ap, cond, false, nat_eq, refl, subst, sym, true, ◌++◌, ◌∙◌, ◌∷◌, ◌≡◌, ℕ, drop}
 use Rattle.std.proofs.lemmas.Bool.{eqb-true}
 use Rattle.std.proofs.lemmas.Map.{keys-set_value}
+use Rattle.std.proofs.lemmas.Cmp.{nat_eq_equiv}
 use Rattle.std.specs.BTreeMap.{is_at}
 use Rattle.std.specs.List.Sorted.{IsStrictlySortedBy}
 use Rattle.std.specs.Cmp.{nat_cmp_total}
@@ -26,7 +26,7 @@ use Rattle.validation_queue.specs.Names.{is_among}
 -- ---- maps from numbers
 
 pub get_put : {X : Type 0} (m : Map nat_cmp X) (n s : ℕ) (v : X) → get (insert m n v) s ≡ cond (nat_eq n s) (Some v) (get m s)
-get_put m n s v = get-insert nat_cmp_total m n v s ∙ ap (λ (t : Bool). cond t (Some v) (get m s)) (same_test s n ∙ turned s n)
+get_put m n s v = get-insert nat_cmp_total m n v s ∙ ap (λ (t : Bool). cond t (Some v) (get m s)) (same_test s n ∙ nat_eq_equiv.symm s n)
 
 pub get_without : {X : Type 0} (m : Map nat_cmp X) (n s : ℕ) → IsSorted m → get (remove m n) s ≡ cond (nat_eq n s) None (get m s)
 get_without m n s h = get-remove nat_cmp_total m n s h ∙ ap (λ (t : Bool). cond t None (get m s)) (same_test n s)

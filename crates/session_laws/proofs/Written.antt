@@ -6,11 +6,11 @@ use Rattle.live_sessions.specs.Telling.{message_of, names_for, news_for}
 use Rattle.local_history.proofs.Decided.{written_keys}
 use Rattle.local_history.specs.History.{State, epoch_of}
 use Rattle.local_history.specs.Requests.{has_written, is_upgrade, written}
-use Rattle.session_laws.proofs.Invalidated.{turned}
 use Rattle.session_laws.specs.Agreeing.{notice_of}
 use Rattle.session_outbox.specs.Session.{Notice, Upgrade, invalid_of, push, told}
 use Rattle.std.proofs.Common.{Bool, List, [], ap, append_assoc, cond, false, map, nat_eq, refl, subst, sym, true, ◌+◌, ◌++◌, ◌∙◌, ◌∷◌, ◌≡◌, ℕ}
 use Rattle.std.proofs.lemmas.List.{append-nil}
+use Rattle.std.proofs.lemmas.Cmp.{nat_eq_equiv}
 use Rattle.std.specs.BTreeMap.{insert_entry}
 use Rattle.std.specs.Cmp.{IsTotalOrder}
 use Rattle.std.specs.List.Sorted.{IsStrictlySortedBy}
@@ -103,7 +103,7 @@ news_are C S s k pages q plain len rise same =
     let names : List Oref = filter (λ x. has pages x.page) (keys (written q)) in
     let e : names_for C s (keys_of q.writes) ≡ names =
     filter_same (λ x. has_page C s x.page) (λ x. has pages x.page) (keys_of q.writes) (λ x. same x.page) ∙ ap (filter (λ x. has pages x.page)) (sym (written_are q rise)) in
-    ap (λ (t : Bool). map notice_of (cond t [] (message_of (names_for C s (keys_of q.writes)) k))) (turned s q.session)
+    ap (λ (t : Bool). map notice_of (cond t [] (message_of (names_for C s (keys_of q.writes)) k))) (nat_eq_equiv.symm s q.session)
     ∙ ap (λ (ns : List Oref). map notice_of (cond (nat_eq q.session s) [] (message_of ns k))) e
     ∙ by names (nat_eq q.session s)
     ∙ sym (ap (λ (t : Bool). option_to_list (cond t (Some (Upgrade (epoch_of S + 1) S.length)) (cond (nat_eq q.session s) None (invalid_of names S.length)))) plain)

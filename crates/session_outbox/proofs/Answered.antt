@@ -17,7 +17,7 @@ use Rattle.session_outbox.specs.Calls.{Settled, Undecided, is_kept, is_last_alon
 use Rattle.session_outbox.specs.Sessions.{AnswersAgree}
 use Rattle.session_outbox.specs.Trace.{Item, entries}
 use Rattle.std.proofs.Common.{Bool, List, [], ap, arith, cond, eq-eqb, false, get_or, inl, inr, length, refl, subst, suc, sym, true, zero, ℕ, ◌++◌, ◌<◌, ◌≡◌, ◌∙◌, ◌∷◌}
-use Rattle.std.proofs.lemmas.Bool.{eqb-true}
+use Rattle.std.proofs.lemmas.Bool.{eqb-true, and_from, and_parts, or_cases, or_left, or_parts, or_right}
 use Rattle.std.proofs.lemmas.Cmp.{tied_itself}
 use Rattle.std.proofs.lemmas.List.Elements.{All-head, All-tail, All-weaker}
 use Rattle.std.proofs.lemmas.Map.Views.{All-values-insert_entry, tells_apart}
@@ -53,18 +53,10 @@ found P t (u ∷ us) a h = by (same_ts t u) refl h (found P t us (All-tail P u u
 each-itself : (us : List Ts) → All (λ u. IsTrue (list_any (same_ts u) us)) us
 each-itself us = λ i d l. at us i d l
   where
-    or-right : (x y : Bool) → y ≡ true → (x || y) ≡ true
-    or-right true y e = refl
-    or-right false y e = e
-
-    or-left : (x y : Bool) → x ≡ true → (x || y) ≡ true
-    or-left true y e = refl
-    or-left false y e = cc
-
     at : (vs : List Ts) (i : ℕ) (d : Ts) → i < length vs → list_any (same_ts (get_or vs i d)) vs ≡ true
     at [] i d l = absurd (omega arith)
-    at (v ∷ vs) zero d l = or-left (same_ts v v) (list_any (same_ts v) vs) (ap is_eq (tied_itself ts_total v))
-    at (v ∷ vs) (suc i) d l = or-right (same_ts (get_or vs i d) v) (list_any (same_ts (get_or vs i d)) vs) (at vs i d (omega arith))
+    at (v ∷ vs) zero d l = or_left (same_ts v v) (list_any (same_ts v) vs) (ap is_eq (tied_itself ts_total v))
+    at (v ∷ vs) (suc i) d l = or_right (same_ts (get_or vs i d) v) (list_any (same_ts (get_or vs i d)) vs) (at vs i d (omega arith))
 
 module _ (b : Base) where
   HasCommittedHere : List Entry → Ts → Type 0
@@ -136,14 +128,6 @@ module _ (b : Base) where
 
   -- ---- the answer
 
-  both-true : (x y : Bool) → (x && y) ≡ true → (x ≡ true) × (y ≡ true)
-  both-true true y e = (refl, e)
-  both-true false y e = cc
-
-  and-true : (x y : Bool) → x ≡ true → y ≡ true → (x && y) ≡ true
-  and-true true y p q = q
-  and-true false y p q = cc
-
   answer : (x y : Bool) (c : Bool) → cond x Undecided (Settled y) ≡ Settled c → y ≡ c
   answer true y c e = cc
   answer false y c e = cc
@@ -152,24 +136,16 @@ module _ (b : Base) where
   waits true y e = refl
   waits false y e = cc
 
-  or-cases : (x y : Bool) → (x || y) ≡ true → (x ≡ true) ⊎ (y ≡ true)
-  or-cases true y h = inl refl
-  or-cases false y h = inr h
-
-  or-false : (x y : Bool) → (x || y) ≡ false → x ≡ false
-  or-false true y h = cc
-  or-false false y h = refl
-
   pub agree : (T : List Item) (t : Ts) → sound b (entries T) → AnswersAgree b T t
   unfolding IsAloneHere HasCommittedHere
   agree T t sd = record {
     undecided = (
-      (λ e. let k = both-true (is_undecided (known_by b (entries T) t)) (nat_eq t.repo b.repo) (waits _ _ e) in (k.0, eqb-true t.repo b.repo k.1)),
-      (λ h. ap (λ x. cond x Undecided (Settled (is_kept b T t || is_last_alone b T t))) (and-true (is_undecided (known_by b (entries T) t)) (nat_eq t.repo b.repo) h.0 (eq-eqb t.repo b.repo h.1))),
+      (λ e. let k = and_parts (is_undecided (known_by b (entries T) t)) (nat_eq t.repo b.repo) (waits _ _ e) in (k.0, eqb-true t.repo b.repo k.1)),
+      (λ h. ap (λ x. cond x Undecided (Settled (is_kept b T t || is_last_alone b T t))) (and_from (is_undecided (known_by b (entries T) t)) (nat_eq t.repo b.repo) h.0 (eq-eqb t.repo b.repo h.1))),
     );
-    committed = λ e. elim (or-cases (is_kept b T t) (is_last_alone b T t) (answer _ _ true e)) [
-      | inl kept ↦ inl (kept-committed (entries T) sd t (both-true (has (state b (entries T)).kept t) _ kept).0)
+    committed = λ e. elim (or_cases (is_kept b T t) (is_last_alone b T t) (answer _ _ true e)) [
+      | inl kept ↦ inl (kept-committed (entries T) sd t (and_parts (has (state b (entries T)).kept t) _ kept).0)
       | inr alone ↦ found (IsAloneHere (entries T)) t (values (state b (entries T)).alone) (all-alone (entries T) sd) alone
     ];
-    aborted = λ e. or-false (is_kept b T t) (is_last_alone b T t) (answer _ _ false e);
+    aborted = λ e. (or_parts (is_kept b T t) (is_last_alone b T t) (answer _ _ false e)).0;
   }

@@ -14,7 +14,7 @@ use Rattle.session_outbox.specs.Sessions.{SessionsAreNumbered}
 use Rattle.session_outbox.specs.Trace.{E, Item, M, entries}
 use Rattle.session_outbox.specs.declared.mark.Mark.TheVariants as the
 use Rattle.std.proofs.Common.{Bool, List, [], ap, append_assoc, arith, cond, false, inl, inr, length, max, refl, subst, suc, sym, true, zero, ℕ, ◌+◌, ◌++◌, ◌<◌, ◌≡◌, ◌≤◌, ◌∙◌, ◌∷◌}
-use Rattle.std.proofs.lemmas.Bool.{eqb-true}
+use Rattle.std.proofs.lemmas.Bool.{eqb-true, and_parts}
 use Rattle.std.proofs.lemmas.List.Sums.{fold-append}
 use Rattle.std.proofs.lemmas.List.{append-nil, length-append}
 use Rattle.std.specs.List.{fold, list_any, slice_get}
@@ -84,11 +84,7 @@ base-page b T = rises granted_at b.next_page T
 
 -- a granted page is below the next one
 grant-at : (s page : ℕ) (i : Item) → grants s page i ≡ true → granted_at i ≡ page + 1
-grant-at s page (M (the.Granted n k)) h = ap (λ m. m + 1) (eqb-true k page (second (nat_eq n s) (nat_eq k page) h))
-  where
-    second : (x y : Bool) → (x && y) ≡ true → y ≡ true
-    second true y e = e
-    second false y e = cc
+grant-at s page (M (the.Granted n k)) h = ap (λ m. m + 1) (eqb-true k page ((and_parts (nat_eq n s) (nat_eq k page) h).1))
 grant-at s page (E e) h = cc
 grant-at s page (M (the.Entry k)) h = cc
 grant-at s page (M (the.Connected n c)) h = cc

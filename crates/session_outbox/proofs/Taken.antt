@@ -29,7 +29,7 @@ use Rattle.std.specs.Option.{IfSome, IsSomeAnd, is_some}
 use Rattle.std.specs.Ordering.{eq_by_cmp, is_eq, nat_cmp}
 use Rattle.std.specs.Prelude.{None, Option, Some, max, nat_eq, nat_lt, ◌⊎◌}
 use Rattle.std.specs.Cmp.{nat_cmp_total}
-use Rattle.std.proofs.lemmas.Cmp.{tied_itself}
+use Rattle.std.proofs.lemmas.Cmp.{tied_itself, nat_eq_equiv}
 use Rattle.std.specs.declared.cmp.Ordering.TheVariants.{Equal}
 use Rattle.std.specs.declared.cmp.Ordering.{Ordering}
 use Rattle.thor_value.proofs.FiniteMap.{get-insert}
@@ -40,9 +40,6 @@ use Rattle.thor_value.specs.declared.values.Obj.{Obj}
 if-some : {X : Type 0} (o : Option X) (P : X → Type 0) (x : X) → o ≡ Some x → IfSome o P → P x
 if-some None P x e h = cc
 if-some (Some y) P x e h = let f : y ≡ x = cc in subst P f h
-
-same-number : (n : ℕ) → nat_eq n n ≡ true
-same-number n = grind (arith, nat_tests)
 
 head-of-all : {X : Type 0} (P : X → Type 0) (x : X) (xs : List X) → All P (x ∷ xs) → P x
 head-of-all P x xs h = h 0 x (omega arith)
@@ -71,7 +68,7 @@ module _ (b : Base) where
       upto-of = ap (λ (n : ℕ). fold (λ k n. bound n) v.began (take n v.sent)) (sym (suc-eq-add-one v.taken)) ∙ bound-at v.began v.sent v.taken m h.message
 
       counted : cond (nat_eq s s) (v.taken + 1) v.taken ≡ v.taken + 1
-      counted = ap (λ (t : Bool). cond t (v.taken + 1) v.taken) (same-number s)
+      counted = ap (λ (t : Bool). cond t (v.taken + 1) v.taken) (nat_eq_equiv.refl s)
 
       all : (l : Stage) (n : ℕ) → n ≡ v.taken + 1 → Took v (record v { stage = l; taken = n }) m
       all l n e = record { upto = ap (λ (k : ℕ). fold (λ j n. bound n) v.began (take k v.sent)) e ∙ upto-of; pages = refl; sent = refl; began = refl; taken = e; acked = refl }

@@ -9,10 +9,7 @@ use Rattle.log_bytes.specs.declared.state.State.{State}
 use Rattle.state_log.specs.Recovered.{chosen, stands, state_in}
 use Rattle.disk_trait.specs.AllDisks.{AllSettled}
 use Rattle.state_log.specs.Holds.{Under, Holding, Holds, beside}
-use Rattle.log_frame.specs.declared.fault.LogFault.TheVariants as frame
-use Rattle.state_log.specs.Opening.{Found, IsOn, IsTorn, choice, log_fault, log_of}
-use Rattle.state_log.specs.declared.fault.FindFault.TheVariants as found
-use Rattle.state_log.specs.declared.fault.FindFault.{FindFault}
+use Rattle.state_log.specs.Opening.{Found, IsOn, IsTorn, choice, log_of}
 use Rattle.state_log.proofs.Holding.{chosen_of}
 
 -- a log that counts on this disk
@@ -107,12 +104,3 @@ pub torn_none : (images : ℕ → List ℕ) (d place : ℕ) → IsTorn images d 
 torn_none images zero place torn = stands_damaged images place (inl torn.1)
 torn_none images (suc zero) place torn = stands_damaged images place (inr torn.1)
 torn_none images (suc (suc d)) place torn = absurd (omega (arith, torn.0))
-
--- a fault without its disk
-pub log_damaged : (fault : FindFault) (place : ℕ) → log_fault fault ≡ frame.Damaged place → (d : ℕ) × (fault ≡ found.Damaged d place)
-log_damaged (found.Failed disk) place is = cc
-log_damaged (found.Damaged disk at) place is = (disk, ap (λ (p : ℕ). found.Damaged disk p) (same_place at place is))
-  where
-    same_place : (a b : ℕ) → frame.Damaged a ≡ frame.Damaged b → a ≡ b
-    same_place a b e = cc
-log_damaged found.NoMemory place is = cc

@@ -11,7 +11,7 @@ use Rattle.std.proofs.lemmas.Bool.{eqb-true}
 use Rattle.std.proofs.lemmas.Bool.Decides.{nat_tests}
 use Rattle.std.proofs.lemmas.Map.Lookups.{exact_unsigned}
 use Rattle.thor_value.proofs.FiniteMap.{get-insert}
-use Rattle.std.proofs.lemmas.Cmp.{nat_cmp_total, tied_itself}
+use Rattle.std.proofs.lemmas.Cmp.{nat_cmp_total, tied_itself, nat_eq_equiv}
 use Rattle.thor_value.proofs.NameOrders.{oref_exact, oref_total}
 use Rattle.thor_value.specs.Names.{oref_cmp, same_oref}
 use Rattle.thor_value.specs.declared.names.Oref.{Oref}
@@ -141,9 +141,6 @@ buffer_is_last_write (b ∷ bs) s x = buffer_is_last_write bs (after s b) x ∙ 
 
 -- ---- installs
 
-same_number : (n : ℕ) → nat_eq n n ≡ true
-same_number n = grind (arith, nat_tests)
-
 same_keys : (a b : ℕ) → a ≡ b → eq_by_cmp nat_cmp a b ≡ true
 same_keys a b e = ap (λ (k : ℕ). is_eq (nat_cmp a k)) (sym e) ∙ ap is_eq (tied_itself nat_cmp_total a)
 
@@ -154,7 +151,7 @@ other_keys a b e = by (eq_by_cmp nat_cmp a b) refl
     by false h = refl
     by true h =
         let same : a ≡ b = exact_unsigned a b (equal (nat_cmp a b) h) in
-        let yes : nat_eq a b ≡ true = ap (λ (k : ℕ). nat_eq a k) (sym same) ∙ same_number a in
+        let yes : nat_eq a b ≡ true = ap (λ (k : ℕ). nat_eq a k) (sym same) ∙ nat_eq_equiv.refl a in
         let clash : false ≡ true = sym e ∙ yes in
         cc
 

@@ -38,9 +38,3 @@ abbrev pub fault_on : ℕ → LogFault → FindFault
 fault_on disk frame.Failed = found.Failed disk
 fault_on disk (frame.Damaged place) = found.Damaged disk place
 fault_on disk frame.NoMemory = found.NoMemory
-
--- and without it
-abbrev pub log_fault : FindFault → LogFault
-log_fault (found.Failed disk) = frame.Failed
-log_fault (found.Damaged disk place) = frame.Damaged place
-log_fault found.NoMemory = frame.NoMemory

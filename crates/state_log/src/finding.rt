@@ -5,10 +5,9 @@ ghost use Rattle.std.specs.Prelude.{List, None, IfOk, IsErrOf, Ok, Some, Err, �
 ghost use Rattle.disk_trait.specs.AllDisks.{AllSettled, LeavesAll, MayLeaveAll, ReadsAs, SameContent};
 ghost use Rattle.disk_trait.specs.Disks.{Disks, Leaves, MayLeave, NoNewImage, OnDisk, Rose, WhereTold};
 ghost use Rattle.log_frame.specs.Log.{IsFound, Stands, read_log};
-ghost use Rattle.log_frame.specs.declared.fault.LogFault.TheVariants.{Damaged as ALogDamaged};
 ghost use Rattle.log_bytes.specs.declared.state.State.{State as AState};
 ghost use Rattle.state_log.specs.Holds.{Holds};
-ghost use Rattle.state_log.specs.Opening.{IsFresh, IsTorn, choice, fault_on, log_fault, log_of};
+ghost use Rattle.state_log.specs.Opening.{IsFresh, IsTorn, choice, fault_on, log_of};
 ghost use Rattle.state_log.specs.Recovered.{stands, state_in};
 ghost use Rattle.state_log.specs.declared.fault.FindFault.TheVariants.{Damaged, Failed};
 
@@ -19,8 +18,8 @@ use log_frame::{Log, LogFault, Records};
 use std::alloc::Global;
 use thor_value::Text;
 
-/// What of two log disks counts: the greater sequence, the first where they are equal.
-fn choose(
+/// Of two logs the one with the greater sequence, the first where they are equal.
+fn greater(
     first: Option<(Log, Text, Records)>,
     second: Option<(Log, Text, Records)>,
 ) -> Option<(Log, Text, Records)>
@@ -39,6 +38,18 @@ fn choose(
     }
 }
 
+/// What of two log disks counts, as a log of entries.
+fn choose(
+    alloc: Global,
+    first: Option<(Log, Text, Records)>,
+    second: Option<(Log, Text, Records)>,
+) -> Option<(CommitLog, Text, Records)>
+    ensures { result ≡ choice first second }
+{
+    let (log, head, records) = greater(first, second)?;
+    Some((CommitLog::new(alloc, log), head, records))
+}
+
 /// A fault of a log, with the disk on which the log stands.
 fn fault_on(disk: u8, fault: LogFault) -> FindFault
     ensures { result ≡ fault_on disk fault }
@@ -47,17 +58,6 @@ fn fault_on(disk: u8, fault: LogFault) -> FindFault
         LogFault::Failed => FindFault::Failed { disk },
         LogFault::Damaged { place } => FindFault::Damaged { disk, place },
         LogFault::NoMemory => FindFault::NoMemory,
-    }
-}
-
-/// A fault of a log, whichever disk it stands on.
-fn log_fault(fault: FindFault) -> LogFault
-    ensures { result ≡ log_fault fault }
-{
-    match fault {
-        FindFault::Failed { disk: _ } => LogFault::Failed,
-        FindFault::Damaged { disk: _, place } => LogFault::Damaged { place },
-        FindFault::NoMemory => LogFault::NoMemory,
     }
 }
 
@@ -83,59 +83,8 @@ fn open_on<P: Parts>(
     }
 }
 
-/// What of the two log disks counts, as it is read.
-fn open_both<P: Parts>(
-    alloc: Global,
-    parts: &mut P,
-) -> Result<Option<(Log, Text, Records)>, FindFault>
-    requires { AllSettled (P.disks parts.old) }
-    ensures any_moment { LeavesAll (P.disks parts.old) (P.disks parts.new) (MayLeaveAll (P.disks parts.old) (P.disks parts.old).time) }
-    ensures settled { AllSettled (P.disks parts.new) }
-    ensures content { SameContent (P.disks parts.old) (P.disks parts.new) }
-    ensures holds { (s : AState) → IfOk result (λ found. IfSome found (λ f. state_in (log_of f) ≡ Some s → Holds (P.disks parts.new) f.0 s)) }
-    ensures found { (images : ℕ → List ℕ) → ReadsAs (P.disks parts.old) images → IfOk result (λ found. stands images ≡ option_and_then (λ f. state_in (log_of f)) found) }
-    ensures log { (images : ℕ → List ℕ) → ReadsAs (P.disks parts.old) images → IfOk result (λ found. IfSome found (λ f. Stands (images f.0.disk) (log_of f))) }
-    ensures fresh { (images : ℕ → List ℕ) → ReadsAs (P.disks parts.old) images → result ≡ Ok None → IsFresh images }
-    ensures damaged { (images : ℕ → List ℕ) (d place : ℕ) → ReadsAs (P.disks parts.old) images → IsErrOf result (Damaged d place) → IsTorn images d place }
-    ensures failed { (d : ℕ) → IsErrOf result (Failed d) → Rose ((P.disks parts.old).faults d) ((P.disks parts.new).faults d) }
-{
-    let first = open_on(alloc, parts, 0)?;
-    let second = open_on(alloc, parts, 1)?;
-    Ok(choose(first, second))
-}
-
-/// The log of what counts, as one of entries.
-fn as_commit_log(
-    alloc: Global,
-    found: Option<(Log, Text, Records)>,
-) -> Option<(CommitLog, Text, Records)>
-    ensures { result ≡ found }
-{
-    let (log, head, records) = found?;
-    Some((CommitLog::new(alloc, log), head, records))
-}
-
 /// Opens both logs, disk 0 first, and answers the one that counts, with its head and the bodies of its
-/// records. `None` where neither log disk has an open header. The disks stay as they were.
-pub fn find_log<P: Parts>(
-    alloc: Global,
-    parts: &mut P,
-) -> Result<Option<(CommitLog, Text, Records)>, LogFault>
-    requires { AllSettled (P.disks parts.old) }
-    ensures any_moment { LeavesAll (P.disks parts.old) (P.disks parts.new) (MayLeaveAll (P.disks parts.old) (P.disks parts.old).time) }
-    ensures settled { AllSettled (P.disks parts.new) }
-    ensures content { SameContent (P.disks parts.old) (P.disks parts.new) }
-    ensures holds { (s : AState) → IfOk result (λ found. IfSome found (λ f. state_in (log_of f) ≡ Some s → Holds (P.disks parts.new) f.0 s)) }
-    ensures found { (images : ℕ → List ℕ) → ReadsAs (P.disks parts.old) images → IfOk result (λ found. stands images ≡ option_and_then (λ f. state_in (log_of f)) found) }
-    ensures damaged { (images : ℕ → List ℕ) (place : ℕ) → ReadsAs (P.disks parts.old) images → IsErrOf result (ALogDamaged place) → stands images ≡ None }
-{
-    match open_both(alloc, parts) {
-        Ok(found) => Ok(as_commit_log(alloc, found)),
-        Err(fault) => Err(log_fault(fault)),
-    }
-}
-
-/// Opens both logs as `find_log` does. Its fault tells the disk.
+/// records. `None` where neither log disk has an open header. The disks stay as they were. A fault tells its disk.
 pub fn open_logs<P: Parts>(
     alloc: Global,
     parts: &mut P,
@@ -151,6 +100,7 @@ pub fn open_logs<P: Parts>(
     ensures damaged { (images : ℕ → List ℕ) (d place : ℕ) → ReadsAs (P.disks parts.old) images → IsErrOf result (Damaged d place) → IsTorn images d place }
     ensures failed { (d : ℕ) → IsErrOf result (Failed d) → Rose ((P.disks parts.old).faults d) ((P.disks parts.new).faults d) }
 {
-    let found = open_both(alloc, parts)?;
-    Ok(as_commit_log(alloc, found))
+    let first = open_on(alloc, parts, 0)?;
+    let second = open_on(alloc, parts, 1)?;
+    Ok(choose(alloc, first, second))
 }

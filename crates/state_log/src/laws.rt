@@ -3,7 +3,7 @@
 
 ghost use Rattle.std.specs.List.{fold};
 ghost use Rattle.std.specs.Option.{option_or};
-ghost use Rattle.std.specs.Prelude.{List, Option, Some, ◌<◌, ◌≡◌, ℕ};
+ghost use Rattle.std.specs.Prelude.{List, None, Option, Some, ◌<◌, ◌≡◌, ℕ};
 ghost use Rattle.thor_value.specs.declared.names.Oref.{Oref};
 ghost use Rattle.commit_log.specs.declared.entry.Entry.{Entry};
 ghost use Rattle.log_bytes.specs.Checkpoint.{state_format};
@@ -13,7 +13,8 @@ ghost use Rattle.log_bytes.specs.declared.body.Body.{Body};
 ghost use Rattle.log_bytes.specs.declared.body.Body.TheVariants.{Entry as AnEntry, Installed};
 ghost use Rattle.log_bytes.specs.declared.state.State.{State};
 ghost use Rattle.log_frame.specs.Log.{Opened, new_log, with_body};
-ghost use Rattle.state_log.specs.Recovered.{after, sequence_end, state_in};
+ghost use Rattle.state_log.specs.Opening.{IsTorn};
+ghost use Rattle.state_log.specs.Recovered.{after, sequence_end, stands, state_in};
 ghost use Rattle.state_log.specs.Values.{Pages, last_write, object_in, on_page, value, writes_of, written_last};
 
 /// Behind one record more a log stands for the state with that record put behind it. A log that begins with
@@ -37,4 +38,9 @@ pub fn entries_say_their_writes()
 /// Where a side has what is said of its page, that it comes into use changes nothing of what is said.
 pub fn installs_say_the_same()
     ensures { (pages : Pages) (s : State) (page side : ℕ) → ((y : Oref) → y.page ≡ page → pages y.page side y ≡ value pages s y) → (x : Oref) → value pages (after s (Installed page side)) x ≡ value pages s x }
+{}
+
+/// Where a log disk is damaged the disks stand for no state.
+pub fn damaged_logs_stand_for_nothing()
+    ensures { (images : ℕ → List ℕ) (d place : ℕ) → IsTorn images d place → stands images ≡ None }
 {}

@@ -9,8 +9,9 @@ mod open_log;
 
 pub use examples::{commits_are_buffered, prepared_transactions_are_decided, upgrades_are_fences};
 pub use fault::FindFault;
-pub use finding::{find_log, open_logs};
+pub use finding::open_logs;
 pub use laws::{
-    entries_say_their_writes, installs_say_the_same, logs_grow, values_are_last_writes,
+    damaged_logs_stand_for_nothing, entries_say_their_writes, installs_say_the_same, logs_grow,
+    values_are_last_writes,
 };
 pub use open_log::CommitLog;

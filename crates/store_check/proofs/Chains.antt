@@ -3,32 +3,19 @@ use Rattle.std.proofs.Common.{◌≡◌, ◌⊎◌, ◌≤◌, ◌||◌, ℕ, ze
 use Rattle.std.proofs.lemmas.Cmp.{eq_by_cmp_equiv}
 use Rattle.std.proofs.lemmas.Map.Steps.{length-le_from_keys}
 use Rattle.std.proofs.lemmas.Map.Views.{tells_apart}
+use Rattle.std.proofs.lemmas.Bool.{both_ways, or_cases, or_parts}
 use Rattle.std.specs.List.{AllByRecursion, IsDistinct, list_any}
 use Rattle.std.specs.Map.{lookup}
 use Rattle.thor_value.proofs.NameOrders.{oref_exact, oref_total}
 use Rattle.thor_value.specs.Names.{same_oref}
 use Rattle.thor_value.specs.declared.names.Oref.{Oref}
 
-some : {X : Type 0} {x y : X} → Some x ≡ Some y → x ≡ y
-some h = cc
-
-not_both : {b : Bool} → b ≡ true → b ≡ false → ⊥
-not_both h g = let e : true ≡ false = sym h ∙ g in cc
-
 some_not_none : {X : Type 0} {x : X} → Some x ≡ None → ⊥
 some_not_none h = cc
 
-either : (a b : Bool) → (a || b) ≡ true → (a ≡ true) ⊎ (b ≡ true)
-either true b h = inl refl
-either false b h = inr h
-
-neither : (a b : Bool) → (a || b) ≡ false → (a ≡ false) × (b ≡ false)
-neither true b h = absurd (not_both refl h)
-neither false b h = (refl, h)
-
 none_later : (p : Oref → Bool) (xs : List Oref) → list_any p xs ≡ false → AllByRecursion (λ y. p y ≡ false) xs
 none_later p [] h = tt
-none_later p (x ∷ xs) h = let t = neither (p x) (list_any p xs) h in (t.0, none_later p xs t.1)
+none_later p (x ∷ xs) h = let t = or_parts (p x) (list_any p xs) h in (t.0, none_later p xs t.1)
 
 abbrev pub onto : Option Oref → (Oref → Option Oref) → Option Oref
 onto None f = None
@@ -66,7 +53,7 @@ module _ (o : Oref → Option Oref) where
       by_step ih (Some b) g = ap suc (ih b g)
 
   met : (n : ℕ) (b : Oref) → go n b ≡ None → (j : ℕ) (a : Oref) → list_any (same_oref a) (chain j b) ≡ true → go n a ≡ None
-  met n b h zero a e = absurd (not_both e refl)
+  met n b h zero a e = absurd (both_ways _ refl e)
   met zero b h (suc j) a e = absurd (some_not_none h)
   met (suc n) b h (suc j) a e = by_step (λ c g t. met n c g j a t) (o b) h e
     where
@@ -77,11 +64,11 @@ module _ (o : Oref → Option Oref) where
 
       by_step : ((c : Oref) → go n c ≡ None → list_any (same_oref a) (chain j c) ≡ true → go n a ≡ None)
           → (w : Option Oref) → onto w (λ c. go n c) ≡ None → list_any (same_oref a) (linked w (λ c. chain j c)) ≡ true → go (suc n) a ≡ None
-      by_step ih None g t = absurd (not_both t refl)
-      by_step ih (Some c) g t = by_name ih c g (either (same_oref a c) (list_any (same_oref a) (chain j c)) t)
+      by_step ih None g t = absurd (both_ways _ refl t)
+      by_step ih (Some c) g t = by_name ih c g (or_cases (same_oref a c) (list_any (same_oref a) (chain j c)) t)
 
   not_again : (n : ℕ) (a : Oref) → go n a ≡ None → (k : ℕ) → list_any (same_oref a) (chain k a) ≡ true → ⊥
-  not_again n a h zero e = not_both e refl
+  not_again n a h zero e = both_ways _ refl e
   not_again zero a h (suc k) e = some_not_none h
   not_again (suc n) a h (suc k) e = not_again n a (by_step (o a) h e) (suc k) e
     where
@@ -90,8 +77,8 @@ module _ (o : Oref → Option Oref) where
       by_name b g (inr later) = met n b g k a later
 
       by_step : (w : Option Oref) → onto w (λ b. go n b) ≡ None → list_any (same_oref a) (linked w (λ b. chain k b)) ≡ true → go n a ≡ None
-      by_step None g t = absurd (not_both t refl)
-      by_step (Some b) g t = by_name b g (either (same_oref a b) (list_any (same_oref a) (chain k b)) t)
+      by_step None g t = absurd (both_ways _ refl t)
+      by_step (Some b) g t = by_name b g (or_cases (same_oref a b) (list_any (same_oref a) (chain k b)) t)
 
   distinct : (n k : ℕ) (x : Oref) → go n x ≡ None → IsDistinct same_oref (chain k x)
   unfolding IsDistinct
@@ -109,7 +96,7 @@ module _ (o : Oref → Option Oref) where
 
   module _ {X : Type 0} (es : List (Oref × X)) (known : (x a : Oref) → o x ≡ Some a → is_some (lookup (same_oref a) es) ≡ true) where
     each_known : (k : ℕ) (x q : Oref) → list_any (same_oref q) (chain k x) ≡ true → is_some (lookup (same_oref q) es) ≡ true
-    each_known zero x q h = absurd (not_both h refl)
+    each_known zero x q h = absurd (both_ways _ refl h)
     each_known (suc k) x q h = by_step (λ a t. each_known k a q t) (o x) refl h
       where
         by_name : ((a : Oref) → list_any (same_oref q) (chain k a) ≡ true → is_some (lookup (same_oref q) es) ≡ true)
@@ -119,8 +106,8 @@ module _ (o : Oref → Option Oref) where
 
         by_step : ((a : Oref) → list_any (same_oref q) (chain k a) ≡ true → is_some (lookup (same_oref q) es) ≡ true)
             → (w : Option Oref) → o x ≡ w → list_any (same_oref q) (linked w (λ a. chain k a)) ≡ true → is_some (lookup (same_oref q) es) ≡ true
-        by_step ih None is t = absurd (not_both t refl)
-        by_step ih (Some a) is t = by_name ih a is (either (same_oref q a) (list_any (same_oref q) (chain k a)) t)
+        by_step ih None is t = absurd (both_ways _ refl t)
+        by_step ih (Some a) is t = by_name ih a is (or_cases (same_oref q a) (list_any (same_oref q) (chain k a)) t)
 
     -- from where steps end, no more than there are names lead anywhere
     pub at_most_all : (n k : ℕ) (x a : Oref) → go n x ≡ None → go k x ≡ Some a → k ≤ length es

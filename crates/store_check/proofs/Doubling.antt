@@ -8,27 +8,25 @@ use Rattle.store_check.specs.Ways.{Ways, goes_on, longer, one_step, some_goes_on
 use Rattle.std.proofs.Common.{◌≡◌, ◌<◌, ◌+◌, ◌*◌, ◌||◌, ℕ, Bool, true, false, cond, List, [], ◌∷◌, length, Option, Some, None, inl, inr, is_some, refl, sym, ap, subst, arith, ◌∙◌}
 use Rattle.std.proofs.lemmas.Map.Entries.{length-keys_of}
 use Rattle.std.proofs.lemmas.Map.Views.{tells_apart}
+use Rattle.std.proofs.lemmas.Bool.{both_ways}
 use Rattle.std.specs.List.{fold, list_any}
 use Rattle.thor_value.proofs.NameOrders.{oref_exact}
 use Rattle.thor_value.specs.FiniteMap.{get, keys, len}
 use Rattle.thor_value.specs.Names.{same_oref}
 use Rattle.thor_value.specs.declared.names.Oref.{Oref}
 
-not_both : {b : Bool} → b ≡ true → b ≡ false → ⊥
-not_both h g = let e : true ≡ false = sym h ∙ g in cc
-
 nothing : {X : Type 0} (w : Option X) → is_some w ≡ false → w ≡ None
 nothing None h = refl
-nothing (Some x) h = absurd (not_both refl h)
+nothing (Some x) h = absurd (both_ways _ h refl)
 
 neither : (a b : Bool) → cond a true b ≡ false → (a ≡ false) × (b ≡ false)
-neither true b h = absurd (not_both refl h)
+neither true b h = absurd (both_ways _ h refl)
 neither false b h = (refl, h)
 
 none_goes : (ws : Ways) (names : List Oref) (b : Bool) → fold (λ before x. goes_on ws before x) b names ≡ false
     → (b ≡ false) × ((x : Oref) → list_any (same_oref x) names ≡ true → (way_or_none (get ws x)).next ≡ None)
 unfolding goes_on
-none_goes ws [] b h = (h, λ x e. absurd (not_both e refl))
+none_goes ws [] b h = (h, λ x e. absurd (both_ways _ refl e))
 none_goes ws (y ∷ names) b h =
     let rest = none_goes ws names (goes_on ws b y) h in
     let here = neither (is_some (way_or_none (get ws y)).next) b rest.0 in

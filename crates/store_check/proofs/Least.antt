@@ -3,6 +3,8 @@ use Rattle.store_check.specs.Tests.{least_with}
 use Rattle.std.proofs.Common.{◌≡◌, ◌⊎◌, ◌||◌, ℕ, zero, suc, Bool, true, false, cond, List, [], ◌∷◌, Option, Some, None, inl, inr, refl, sym, ap, subst, slice_get, ◌∙◌}
 use Rattle.std.proofs.lemmas.Cmp.{tied_itself}
 use Rattle.std.proofs.lemmas.Map.Views.{tells_apart}
+use Rattle.std.proofs.lemmas.Bool.{both_ways}
+use Rattle.std.proofs.lemmas.Option.{same_Some}
 use Rattle.std.specs.List.{fold, list_any}
 use Rattle.std.specs.Ordering.{is_lt}
 use Rattle.std.specs.declared.cmp.Ordering.{Ordering}
@@ -10,12 +12,6 @@ use Rattle.std.specs.declared.cmp.Ordering.TheVariants.{Equal, Greater, Less}
 use Rattle.thor_value.proofs.NameOrders.{oref_exact, oref_total}
 use Rattle.thor_value.specs.Names.{oref_cmp, same_oref}
 use Rattle.thor_value.specs.declared.names.Oref.{Oref}
-
-some : {X : Type 0} {x y : X} → Some x ≡ Some y → x ≡ y
-some h = cc
-
-not_both : {b : Bool} → b ≡ true → b ≡ false → ⊥
-not_both h g = let e : true ≡ false = sym h ∙ g in cc
 
 not_before_itself : (x : Oref) → oref_cmp x x ≡ Less → ⊥
 not_before_itself x h = let e : Less ≡ Equal = sym h ∙ tied_itself oref_total x in cc
@@ -42,7 +38,7 @@ least_step Bad true z u h = as_least Bad (Or Bad true z) (λ y p. inl p) back u 
   where
     back : (y : Oref) → Or Bad true z y → Bad y
     back y (inl p) = p
-    back y (inr e) = absurd (not_both refl e.0)
+    back y (inr e) = absurd (both_ways _ e.0 refl)
 least_step Bad false z None h = (inr (refl, refl), none)
   where
     none : (y : Oref) → oref_cmp y z ≡ Less → ¬ Or Bad false z y
@@ -63,7 +59,7 @@ least_step Bad false z (Some x) h = by_order (is_lt (oref_cmp z x)) refl
         none y low (inr f) =
             let less : oref_cmp z x ≡ Less = subst (λ w. oref_cmp w x ≡ Less) f.1 low in
             let t : is_lt (oref_cmp z x) ≡ true = ap is_lt less in
-            not_both t e
+            both_ways _ e t
 
 -- x is one of these
 abbrev pub Among : {X : Type 0} → List X → X → Type 0
@@ -71,7 +67,7 @@ Among [] x = ⊥
 Among (y ∷ ys) x = (x ≡ y) ⊎ Among ys x
 
 pub among_names : (xs : List Oref) (x : Oref) → list_any (same_oref x) xs ≡ true → Among xs x
-among_names [] x h = not_both h refl
+among_names [] x h = both_ways _ refl h
 among_names (y ∷ ys) x h = by_test (same_oref x y) refl (λ t. among_names ys x t) h
   where
     by_test : (b : Bool) → same_oref x y ≡ b → (list_any (same_oref x) ys ≡ true → Among ys x) → (b || list_any (same_oref x) ys) ≡ true → Among (y ∷ ys) x
@@ -83,7 +79,7 @@ among_at [] i x h = absurd (empty_not h)
   where
     empty_not : None ≡ Some x → ⊥
     empty_not e = cc
-among_at (y ∷ ys) zero x h = inl (sym (some h))
+among_at (y ∷ ys) zero x h = inl (sym (same_Some _ _ h))
 among_at (y ∷ ys) (suc i) x h = inr (among_at ys i x h)
 
 module _ {X : Type 0} (test : X → Bool) (name : X → Oref) where

@@ -5,12 +5,9 @@ use Rattle.class_defs.specs.declared.store.UpgradedSchema.{UpgradedSchema}
 use Rattle.store_check.specs.Numbers.{HasNumbers}
 use Rattle.store_check.specs.Tests.{numbered}
 use Rattle.std.proofs.Common.{◌≡◌, ◌≤◌, ◌<◌, ◌^◌, ℕ, zero, suc, Bool, true, false, cond, List, [], ◌∷◌, length, nat_lt, option_map, refl, sym, slice_get, arith, ◌∙◌}
-use Rattle.std.proofs.lemmas.Bool.{ltb-false}
+use Rattle.std.proofs.lemmas.Bool.{ltb-false, both_ways}
 use Rattle.std.specs.List.{fold}
 use Rattle.std.specs.Prelude.{unwrap_or}
-
-not_both : {b : Bool} → b ≡ true → b ≡ false → ⊥
-not_both h g = let e : true ≡ false = sym h ∙ g in cc
 
 abbrev step : Bool → UpgradedSchema → Bool
 step b u = cond (nat_lt 65536 (length u.schema.classes)) false b
@@ -40,7 +37,7 @@ few (u ∷ us) h k = by_test (λ g j. few us g j) (nat_lt 65536 (length u.schema
 
     by_test : Rest us → (t : Bool) → nat_lt 65536 (length u.schema.classes) ≡ t → fold step (cond t false true) us ≡ true → (k : ℕ)
         → length (unwrap_or (option_map (λ v. v.schema) (slice_get (u ∷ us) k)) no_schema).classes ≤ 65536
-    by_test rest true e g k = absurd (not_both g (stays us))
+    by_test rest true e g k = absurd (both_ways _ (stays us) g)
     by_test rest false e g k = by_place rest (ltb-false 65536 (length u.schema.classes) e) g k
 
 each : (s : Schemas) → length s.first.classes ≤ 65536 → numbered s.upgraded ≡ true → (k : ℕ) → length (classes_of s k) ≤ 65536

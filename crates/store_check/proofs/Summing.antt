@@ -10,11 +10,11 @@ use Rattle.store_check.specs.Naming.{Namings, is_kept, is_owned_field, is_part_t
 use Rattle.store_check.specs.declared.naming.Naming.{Naming}
 use Rattle.store_check.specs.declared.naming.Naming.TheVariants.{Once, Several}
 use Rattle.std.proofs.Common.{◌≡◌, ◌⊎◌, ◌<◌, ◌&&◌, ◌||◌, ◌==◌, ℕ, zero, suc, Bool, true, false, cond, List, [], ◌∷◌, length, Option, Some, None, inl, inr, is_some, refl, sym, ap, subst, slice_get, nat_lt, arith, ◌∙◌}
-use Rattle.std.proofs.lemmas.Bool.{eqb-true, ltb-false, ltb-true}
+use Rattle.std.proofs.lemmas.Bool.{eqb-true, ltb-false, ltb-true, and_from, and_parts, both_ways, or_cases}
 use Rattle.std.proofs.lemmas.Cmp.{tied_itself}
 use Rattle.std.proofs.lemmas.Map.Made.{is_some-lookup}
 use Rattle.std.proofs.lemmas.Map.Views.{tells_apart}
-use Rattle.std.proofs.lemmas.Option.{slice_get_within}
+use Rattle.std.proofs.lemmas.Option.{slice_get_within, same_Some}
 use Rattle.std.specs.List.{fold, list_any}
 use Rattle.std.specs.Ordering.{is_eq}
 use Rattle.thor_value.proofs.FiniteMap.{get-insert}
@@ -26,23 +26,6 @@ use Rattle.thor_value.specs.declared.values.Obj.{Obj}
 use Rattle.thor_value.specs.declared.values.Value.{Value}
 use Rattle.thor_value.specs.declared.values.Value.TheVariants as value
 
-some : {X : Type 0} {x y : X} → Some x ≡ Some y → x ≡ y
-some h = cc
-
-both : (a b : Bool) → (a && b) ≡ true → (a ≡ true) × (b ≡ true)
-both true b h = (refl, h)
-both false b h = absurd (apart h)
-  where
-    apart : false ≡ true → ⊥
-    apart e = cc
-
-joint : (a b : Bool) → a ≡ true → b ≡ true → (a && b) ≡ true
-joint true b h g = g
-joint false b h g = h
-
-is_true_not_false : {b : Bool} → b ≡ true → b ≡ false → ⊥
-is_true_not_false h g = let e : true ≡ false = sym h ∙ g in cc
-
 pub same_itself : (x : Oref) → same_oref x x ≡ true
 same_itself x = ap is_eq (tied_itself oref_total x)
 
@@ -52,14 +35,14 @@ same_number i = search arith
 -- ---- an owned field
 
 part_found : (s : Schemas) (t : Option ExprType) → is_part_type s t ≡ true → (d : ℕ) × (t ≡ Some (type.Class d)) × IsPart s d
-part_found s None h = absurd (is_true_not_false h refl)
+part_found s None h = absurd (both_ways _ refl h)
 part_found s (Some (type.Class d)) h = (d, refl, h)
-part_found s (Some type.Int) h = absurd (is_true_not_false h refl)
-part_found s (Some type.Null) h = absurd (is_true_not_false h refl)
-part_found s (Some type.Untold) h = absurd (is_true_not_false h refl)
+part_found s (Some type.Int) h = absurd (both_ways _ refl h)
+part_found s (Some type.Null) h = absurd (both_ways _ refl h)
+part_found s (Some type.Untold) h = absurd (both_ways _ refl h)
 
 same_object : {w : Option Obj} {o p : Obj} → w ≡ Some o → w ≡ Some p → o ≡ p
-same_object h g = some (sym h ∙ g)
+same_object h g = same_Some _ _ (sym h ∙ g)
 
 module _ (s : Schemas) (m : Objects) (x : Oref) where
   owned_owns : (a : Oref) (i : ℕ) (h : IsNamedBy m x a i) → is_owned_field s h.object i ≡ true → Owns s m a i x
@@ -142,7 +125,7 @@ module _ (s : Schemas) (m : Objects) (x : Oref) where
           j = j;
           first = named;
           second = h.named;
-          apart = λ e. is_true_not_false (subst (λ k. (i == k) ≡ true) e.1 (same_number i)) eu;
+          apart = λ e. both_ways _ eu (subst (λ k. (i == k) ≡ true) e.1 (same_number i));
         }
         by_test false et u eu = record {
           a = a;
@@ -151,7 +134,7 @@ module _ (s : Schemas) (m : Objects) (x : Oref) where
           j = j;
           first = named;
           second = h.named;
-          apart = λ e. is_true_not_false (subst (λ c. same_oref a c ≡ true) e.0 (same_itself a)) et;
+          apart = λ e. both_ways _ et (subst (λ c. same_oref a c ≡ true) e.0 (same_itself a));
         }
     joins named (Some Several) h = h
 
@@ -168,7 +151,7 @@ module _ (s : Schemas) (m : Objects) (x : Oref) where
             let named : IsNamedBy m x a i = record { object = o; stored = is; names = subst (λ y. slice_get o.fields i ≡ Some (value.Ref y)) (sym is_x) e } in
             subst (λ y. Sums (More P a i) (Some (joined a i (is_owned_field s o i && (a.repo == y.repo)) (get n y)))) is_x (joins named (get n x) h)
         by_name z e false apart =
-            other (Some (value.Ref z)) e (λ g. is_true_not_false (subst (λ y. same_oref x y ≡ true) (sym (named_same g)) (same_itself x)) apart)
+            other (Some (value.Ref z)) e (λ g. both_ways _ apart (subst (λ y. same_oref x y ≡ true) (sym (named_same g)) (same_itself x)))
           where
             named_same : Some (value.Ref z) ≡ Some (value.Ref x) → z ≡ x
             named_same g = cc
@@ -228,7 +211,7 @@ module _ (s : Schemas) (m : Objects) (x : Oref) where
       within : (b : Oref) (j : ℕ) → Also P a b j → IsNamedBy m x b j → Upto P a (length o.fields) b j
       within b j (inl p) named = inl p
       within b j (inr e) named =
-          let same : named.object ≡ o = some (sym named.stored ∙ subst (λ c. get m c ≡ Some o) (sym e) is) in
+          let same : named.object ≡ o = same_Some _ _ (sym named.stored ∙ subst (λ c. get m c ≡ Some o) (sym e) is) in
           inr (e, slice_get_within o.fields j (value.Ref x) (subst (λ p. slice_get p.fields j ≡ Some (value.Ref x)) same named.names))
 
   noted_here : (P : Oref → ℕ → Type 0) (a : Oref) (n : Namings) → Sums P (get n x) → Sums (Also P a) (get (noted_name s m n a) x)
@@ -238,17 +221,13 @@ module _ (s : Schemas) (m : Objects) (x : Oref) where
   abbrev Among : (Oref → ℕ → Type 0) → List Oref → Oref → ℕ → Type 0
   Among P names b j = P b j ⊎ (list_any (same_oref b) names ≡ true)
 
-  either : (a b : Bool) → (a || b) ≡ true → (a ≡ true) ⊎ (b ≡ true)
-  either true b h = inl refl
-  either false b h = inr h
-
   noted_list : (P : Oref → ℕ → Type 0) (names : List Oref) (n : Namings) → Sums P (get n x)
       → Sums (Among P names) (get (fold (λ k a. noted_name s m k a) n names) x)
   noted_list P [] n h = weaken P (Among P []) none (get n x) h
     where
       none : (b : Oref) (j : ℕ) → Among P [] b j → IsNamedBy m x b j → P b j
       none b j (inl p) named = p
-      none b j (inr e) named = absurd (is_true_not_false e refl)
+      none b j (inr e) named = absurd (both_ways _ refl e)
   noted_list P (a ∷ names) n h =
       weaken (Among (Also P a) names) (Among P (a ∷ names)) split (get (fold (λ k b. noted_name s m k b) n (a ∷ names)) x)
       (noted_list (Also P a) names (noted_name s m n a) (noted_here P a n h))
@@ -259,7 +238,7 @@ module _ (s : Schemas) (m : Objects) (x : Oref) where
 
       split : (b : Oref) (j : ℕ) → Among P (a ∷ names) b j → IsNamedBy m x b j → Among (Also P a) names b j
       split b j (inl p) named = inl (inl p)
-      split b j (inr e) named = by_test b j (either (same_oref b a) (list_any (same_oref b) names) e)
+      split b j (inr e) named = by_test b j (or_cases (same_oref b a) (list_any (same_oref b) names) e)
 
   abbrev All : Oref → ℕ → Type 0
   All a i = Unit {0}
@@ -290,8 +269,8 @@ module _ (s : Schemas) (m : Objects) (x : Oref) where
       no : None ≡ Some a → ⊥
       no g = cc
   sole_is (Some (Once b j true)) h a e =
-      let t = both (is_owned_field s h.named.object j) (b.repo == x.repo) (sym (h.owned h.named.object h.named.stored)) in
-      subst (IsOwnerOf s m x) (some e) (record {
+      let t = and_parts (is_owned_field s h.named.object j) (b.repo == x.repo) (sym (h.owned h.named.object h.named.stored)) in
+      subst (IsOwnerOf s m x) (same_Some _ _ e) (record {
         field = j;
         owns = owned_owns b j h.named t.0;
         near = eqb-true b.repo x.repo t.1;
@@ -315,7 +294,7 @@ module _ (s : Schemas) (m : Objects) (x : Oref) where
       let there : get m b ≡ Some own.owns.reference.object = subst (λ c. get m c ≡ Some own.owns.reference.object) same.0 own.owns.reference.stored in
       let field : is_owned_field s own.owns.reference.object j ≡ true = subst (λ k. is_owned_field s own.owns.reference.object k ≡ true) same.1 (owns_owned a own.field own.owns.reference.object own.owns.reference.stored own.owns) in
       let near : (b.repo == x.repo) ≡ true = subst (λ r. (r == x.repo) ≡ true) (ap (λ c. c.repo) same.0) (subst (λ r. (a.repo == r) ≡ true) own.near (same_number a.repo)) in
-      let known : owned ≡ true = h.owned own.owns.reference.object there ∙ joint _ _ field near in
+      let known : owned ≡ true = h.owned own.owns.reference.object there ∙ and_from _ _ field near in
       ap (λ t. cond t (Some b) None) known ∙ ap Some (sym same.0)
 
   pub is_owner : (a : Oref) → IsOwnerOf s m x a → sole (get (namings s m) x) ≡ Some a
@@ -334,7 +313,7 @@ module _ (s : Schemas) (m : Objects) (x : Oref) where
     near = λ a i n. absurd (h a i tt n);
     once = λ a b i j n k. absurd (h a i tt n);
   }
-  kept_so (Some Several) h e = absurd (is_true_not_false e refl)
+  kept_so (Some Several) h e = absurd (both_ways _ refl e)
   kept_so (Some (Once b j owned)) h e = record {
     owned = λ a i n. let same = h.only a i tt n in owned_owns a i n (subst (λ k. is_owned_field s n.object k ≡ true) (sym same.1) (there a i n same.0).0);
     near = λ a i n. let same = h.only a i tt n in ap (λ c. c.repo) same.0 ∙ eqb-true b.repo x.repo (there a i n same.0).1;
@@ -342,7 +321,7 @@ module _ (s : Schemas) (m : Objects) (x : Oref) where
   }
     where
       there : (a : Oref) (i : ℕ) (n : IsNamedBy m x a i) → a ≡ b → (is_owned_field s n.object j ≡ true) × ((b.repo == x.repo) ≡ true)
-      there a i n same = both (is_owned_field s n.object j) (b.repo == x.repo) (sym (h.owned n.object (subst (λ c. get m c ≡ Some n.object) same n.stored)) ∙ e)
+      there a i n same = and_parts (is_owned_field s n.object j) (b.repo == x.repo) (sym (h.owned n.object (subst (λ c. get m c ≡ Some n.object) same n.stored)) ∙ e)
 
   pub kept : is_kept (get (namings s m) x) ≡ true → IsKept
   kept e = kept_so (get (namings s m) x) summed e
@@ -353,7 +332,7 @@ module _ (s : Schemas) (m : Objects) (x : Oref) where
   so_kept (Some (Once b j owned)) h k =
       let own = k.owned b j h.named in
       let near : (b.repo == x.repo) ≡ true = subst (λ r. (b.repo == r) ≡ true) (k.near b j h.named) (same_number b.repo) in
-      h.owned h.named.object h.named.stored ∙ joint _ _ (owns_owned b j h.named.object h.named.stored own) near
+      h.owned h.named.object h.named.stored ∙ and_from _ _ (owns_owned b j h.named.object h.named.stored own) near
 
   pub is_kept_so : IsKept → is_kept (get (namings s m) x) ≡ true
   is_kept_so k = so_kept (get (namings s m) x) summed k

@@ -21,8 +21,8 @@ use Rattle.store_check.specs.Tests.{counted_as, field_fits, fields_fit, is_class
 use Rattle.store_check.specs.Ways.{Ways, is_way_for, way, way_or_none}
 use Rattle.store_check.specs.declared.ways.Way.{Way}
 use Rattle.std.proofs.Common.{◌≡◌, ◌≤◌, ◌<◌, ◌&&◌, ◌⊎◌, ℕ, zero, suc, Bool, true, false, cond, not, List, [], ◌∷◌, length, nat_lt, Option, Some, None, inl, inr, is_some, option_map, refl, sym, ap, subst, slice_get, arith, ◌∙◌}
-use Rattle.std.proofs.lemmas.Bool.{eq-eqb, eqb-true, le-leb, leb-true, ltb-false, ltb-true}
-use Rattle.std.proofs.lemmas.Option.{slice_get_past, slice_get_within}
+use Rattle.std.proofs.lemmas.Bool.{eq-eqb, eqb-true, le-leb, leb-true, ltb-false, ltb-true, both_ways}
+use Rattle.std.proofs.lemmas.Option.{slice_get_past, slice_get_within, same_Some}
 use Rattle.std.specs.Option.{IsSomeAnd}
 use Rattle.std.specs.Prelude.{nat_le, unwrap_or}
 use Rattle.thor_value.specs.FiniteMap.{get, len}
@@ -31,18 +31,12 @@ use Rattle.thor_value.specs.declared.values.Obj.{Obj}
 use Rattle.thor_value.specs.declared.values.Value.{Value}
 use Rattle.thor_value.specs.declared.values.Value.TheVariants as value
 
-some : {X : Type 0} {x y : X} → Some x ≡ Some y → x ≡ y
-some h = cc
-
 some_not_none : {X : Type 0} {x : X} → Some x ≡ None → ⊥
 some_not_none h = cc
 
-not_both : {b : Bool} → b ≡ true → b ≡ false → ⊥
-not_both h g = let e : true ≡ false = sym h ∙ g in cc
-
 both_if : (a b : Bool) → cond a b false ≡ true → (a ≡ true) × (b ≡ true)
 both_if true b h = (refl, h)
-both_if false b h = absurd (not_both h refl)
+both_if false b h = absurd (both_ways _ refl h)
 
 joint_if : (a b : Bool) → a ≡ true → b ≡ true → cond a b false ≡ true
 joint_if true b h g = g
@@ -51,7 +45,7 @@ joint_if false b h g = h
 -- ---- values
 
 class_is : (w : Option Obj) (c : ℕ) → is_class w c ≡ true → IsSomeAnd w (λ o. o.class ≡ c)
-class_is None c h = absurd (not_both h refl)
+class_is None c h = absurd (both_ways _ refl h)
 class_is (Some o) c h = eqb-true o.class c h
 
 is_class_so : (w : Option Obj) (c : ℕ) → IsSomeAnd w (λ o. o.class ≡ c) → is_class w c ≡ true
@@ -63,24 +57,24 @@ RefersWell m t z = (d : ℕ) × (t ≡ Some (type.Class d)) × IsSomeAnd (get m 
 
 value_kind : (m : Objects) (t : ExprType) (v : Value) → value_fits m t v ≡ true → fitted t v ≡ v
 value_kind m type.Int (value.Int n) h = refl
-value_kind m type.Int (value.Ref z) h = absurd (not_both h refl)
-value_kind m type.Int value.Null h = absurd (not_both h refl)
-value_kind m type.Null (value.Int n) h = absurd (not_both h refl)
-value_kind m type.Null (value.Ref z) h = absurd (not_both h refl)
+value_kind m type.Int (value.Ref z) h = absurd (both_ways _ refl h)
+value_kind m type.Int value.Null h = absurd (both_ways _ refl h)
+value_kind m type.Null (value.Int n) h = absurd (both_ways _ refl h)
+value_kind m type.Null (value.Ref z) h = absurd (both_ways _ refl h)
 value_kind m type.Null value.Null h = refl
-value_kind m (type.Class c) (value.Int n) h = absurd (not_both h refl)
+value_kind m (type.Class c) (value.Int n) h = absurd (both_ways _ refl h)
 value_kind m (type.Class c) (value.Ref z) h = refl
 value_kind m (type.Class c) value.Null h = refl
-value_kind m type.Untold (value.Int n) h = absurd (not_both h refl)
-value_kind m type.Untold (value.Ref z) h = absurd (not_both h refl)
+value_kind m type.Untold (value.Int n) h = absurd (both_ways _ refl h)
+value_kind m type.Untold (value.Ref z) h = absurd (both_ways _ refl h)
 value_kind m type.Untold value.Null h = refl
 
 value_refers : (m : Objects) (t : Option ExprType) (z : Oref) → typed_fits m t (Some (value.Ref z)) ≡ true → RefersWell m t z
-value_refers m None z h = absurd (not_both h refl)
-value_refers m (Some type.Int) z h = absurd (not_both h refl)
-value_refers m (Some type.Null) z h = absurd (not_both h refl)
+value_refers m None z h = absurd (both_ways _ refl h)
+value_refers m (Some type.Int) z h = absurd (both_ways _ refl h)
+value_refers m (Some type.Null) z h = absurd (both_ways _ refl h)
 value_refers m (Some (type.Class c)) z h = (c, refl, class_is (get m z) c h)
-value_refers m (Some type.Untold) z h = absurd (not_both h refl)
+value_refers m (Some type.Untold) z h = absurd (both_ways _ refl h)
 
 class_same : {c d : ℕ} → Some (type.Class c) ≡ Some (type.Class d) → c ≡ d
 class_same h = cc
@@ -128,18 +122,18 @@ abbrev classes_at : Schemas → Obj → List Class
 classes_at s o = classes_of s o.ver
 
 counted : (w : Option Class) (o : Obj) → counted_as w o ≡ true → (is_some w ≡ true) × (length o.fields ≡ length (unwrap_or (option_map (λ d. d.fields) w) []))
-counted None o h = absurd (not_both h refl)
+counted None o h = absurd (both_ways _ refl h)
 counted (Some c) o h = (refl, sym (eqb-true (length c.fields) (length o.fields) h))
 
 count_passes : (w : Option Class) (o : Obj) → is_some w ≡ true → length o.fields ≡ length (unwrap_or (option_map (λ d. d.fields) w) []) → counted_as w o ≡ true
-count_passes None o h g = absurd (not_both h refl)
+count_passes None o h g = absurd (both_ways _ refl h)
 count_passes (Some c) o h g = eq-eqb (length c.fields) (length o.fields) (sym g)
 
 typed_kind : (m : Objects) (t : Option ExprType) (w : Option Value) → typed_fits m t w ≡ true → (u : ExprType) (v : Value) → t ≡ Some u → w ≡ Some v → fitted u v ≡ v
 typed_kind m None w h u v e g = absurd (some_not_none (sym e))
 typed_kind m (Some t) None h u v e g = absurd (some_not_none (sym g))
 typed_kind m (Some t) (Some x) h u v e g =
-    subst (λ a. fitted a v ≡ v) (some e) (subst (λ b. fitted t b ≡ b) (some g) (value_kind m t x h))
+    subst (λ a. fitted a v ≡ v) (same_Some _ _ e) (subst (λ b. fitted t b ≡ b) (same_Some _ _ g) (value_kind m t x h))
 
 -- a list has something at each place within it
 item_at : {X : Type 0} (xs : List X) (i : ℕ) → i < length xs → (x : X) × (slice_get xs i ≡ Some x)
@@ -201,22 +195,22 @@ in_time s k c h = by_place (nat_lt (length s.upgraded) k) refl
     by_place : (b : Bool) → nat_lt (length s.upgraded) k ≡ b → k ≤ length s.upgraded
     by_place true e =
         let none : is_some (slice_get (classes_of s k) c) ≡ false = ap (λ cs. is_some (slice_get cs c)) (no_classes s k (ltb-true (length s.upgraded) k e)) in
-        absurd (not_both h none)
+        absurd (both_ways _ none h)
     by_place false e = ltb-false (length s.upgraded) k e
 
 -- ---- parts
 
 both_and : (a b : Bool) → (not a && b) ≡ true → (a ≡ false) × (b ≡ true)
-both_and true b h = absurd (not_both h refl)
+both_and true b h = absurd (both_ways _ refl h)
 both_and false b h = (refl, h)
 
 joint_and : (a b : Bool) → a ≡ false → b ≡ true → (not a && b) ≡ true
-joint_and true b h g = absurd (not_both refl h)
+joint_and true b h g = absurd (both_ways _ h refl)
 joint_and false b h g = g
 
 nothing : {X : Type 0} (w : Option X) → is_some w ≡ false → w ≡ None
 nothing None h = refl
-nothing (Some x) h = absurd (not_both refl h)
+nothing (Some x) h = absurd (both_ways _ h refl)
 
 module _ (s : Schemas) (m : Objects) (ws : Ways) (whole : AreWhole s m (namings s m) ws) where
   abbrev steps : ℕ
@@ -284,8 +278,8 @@ pub root_passes : (s : Schemas) (m : Objects) (roots : List Root) (r : Root) →
 root_passes s m roots r h = by_kind (is_part (classes_of s 0) (type.Class r.class)) refl h
   where
     by_kind : (b : Bool) → is_part (classes_of s 0) (type.Class r.class) ≡ b → cond b false (is_of_class m r.class r.oref) ≡ true → IsFitRoot s (stored_under s m roots) r
-    by_kind true part g = absurd (not_both g refl)
-    by_kind false free g = record { free = λ part. not_both part free; object = class_is (get m r.oref) r.class g }
+    by_kind true part g = absurd (both_ways _ refl g)
+    by_kind false free g = record { free = λ part. both_ways _ free part; object = class_is (get m r.oref) r.class g }
 
 pub pass_root : (s : Schemas) (m : Objects) (roots : List Root) (r : Root) → IsFitRoot s (stored_under s m roots) r → root_fits s m r ≡ true
 pass_root s m roots r f = by_kind (is_part (classes_of s 0) (type.Class r.class)) refl

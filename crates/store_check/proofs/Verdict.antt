@@ -14,13 +14,11 @@ use Rattle.store_check.specs.declared.fitting.Fitting.{Fitting}
 use Rattle.store_check.specs.declared.fitting.Fitting.TheVariants.{Fits, Unfit}
 use Rattle.std.proofs.Common.{◌≡◌, ◌⊎◌, ℕ, suc, Bool, true, false, List, [], ◌∷◌, Option, Some, None, inl, inr, is_some, refl, sym, ap, subst, slice_get, ◌∙◌}
 use Rattle.std.proofs.lemmas.Map.Made.{is_some-lookup}
+use Rattle.std.proofs.lemmas.Bool.{both_ways}
 use Rattle.thor_value.specs.FiniteMap.{get, keys}
 use Rattle.thor_value.specs.Names.{same_oref}
 use Rattle.thor_value.specs.declared.names.Oref.{Oref}
 use Rattle.thor_value.specs.declared.values.Obj.{Obj}
-
-not_both : {b : Bool} → b ≡ true → b ≡ false → ⊥
-not_both h g = let e : true ≡ false = sym h ∙ g in cc
 
 -- what the least name that was found tells
 abbrev pub verdict : Option Oref → Fitting
@@ -41,8 +39,8 @@ module _ (s : Schemas) (m : Objects) (roots : List Root) (ws : Ways) (whole : Ar
   bad_object y f fits = by_object (get m y) refl (subst (λ z. test z ≡ false) (sym f.is) f.fails)
     where
       by_object : (w : Option Obj) → get m y ≡ w → object_fits s m (get (namings s m) y) (get ws y) w ≡ false → ⊥
-      by_object None is e = not_both refl e
-      by_object (Some o) is e = not_both (pass_object s m ws whole roots y o (key_of y o is) (fits.object o is)) e
+      by_object None is e = both_ways _ e refl
+      by_object (Some o) is e = both_ways _ e (pass_object s m ws whole roots y o (key_of y o is) (fits.object o is))
 
   root_at : (xs : List Root) (r : Root) → Among xs r → (i : ℕ) × (slice_get xs i ≡ Some r)
   root_at [] r h = absurd h
@@ -52,7 +50,7 @@ module _ (s : Schemas) (m : Objects) (roots : List Root) (ws : Ways) (whole : Ar
   bad_root : (y : Oref) (f : Fails (root_fits s m) (λ r. r.oref) roots y) → ¬ IsFitName s (stored_under s m roots) y
   bad_root y f fits =
       let i = root_at roots f.item f.among in
-      not_both (pass_root s m roots f.item (fits.roots i.0 f.item i.1 (sym f.is))) f.fails
+      both_ways _ f.fails (pass_root s m roots f.item (fits.roots i.0 f.item i.1 (sym f.is)))
 
   bad : (y : Oref) → Bad y → ¬ IsFitName s (stored_under s m roots) y
   bad y (inl (inl never)) = absurd never

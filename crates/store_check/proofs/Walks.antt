@@ -11,9 +11,10 @@ use Rattle.store_check.specs.Reached.{AreWays, IsKey}
 use Rattle.store_check.specs.Ways.{Ways, behind, level_of, longer, one_step, onward, stepped, way, way_or_none, ways_for}
 use Rattle.store_check.specs.declared.ways.Way.{Way}
 use Rattle.std.proofs.Common.{◌≡◌, ◌⊎◌, ◌≤◌, ◌<◌, ◌+◌, ◌-◌, ◌||◌, ℕ, zero, suc, Bool, true, false, cond, not, List, [], ◌∷◌, length, min, Option, Some, None, inl, inr, is_some, nat_lt, refl, sym, ap, subst, arith, ◌∙◌}
-use Rattle.std.proofs.lemmas.Bool.{ltb-false, ltb-true}
+use Rattle.std.proofs.lemmas.Bool.{ltb-false, ltb-true, both_ways, or_cases}
 use Rattle.std.proofs.lemmas.Map.Made.{is_some-lookup}
 use Rattle.std.proofs.lemmas.Map.Views.{tells_apart}
+use Rattle.std.proofs.lemmas.Option.{same_Some}
 use Rattle.std.specs.List.{fold, list_any}
 use Rattle.thor_value.proofs.FiniteMap.{get-insert}
 use Rattle.thor_value.proofs.NameOrders.{oref_exact, oref_total}
@@ -22,18 +23,8 @@ use Rattle.thor_value.specs.Names.{oref_cmp, same_oref}
 use Rattle.thor_value.specs.declared.names.Oref.{Oref}
 use Rattle.thor_value.specs.declared.values.Obj.{Obj}
 
-some : {X : Type 0} {x y : X} → Some x ≡ Some y → x ≡ y
-some h = cc
-
 some_not_none : {X : Type 0} {x : X} → Some x ≡ None → ⊥
 some_not_none h = cc
-
-not_both : {b : Bool} → b ≡ true → b ≡ false → ⊥
-not_both h g = let e : true ≡ false = sym h ∙ g in cc
-
-either : (a b : Bool) → (a || b) ≡ true → (a ≡ true) ⊎ (b ≡ true)
-either true b h = inl refl
-either false b h = inr h
 
 -- ---- levels
 
@@ -68,12 +59,12 @@ module _ {X : Type 0} (f : Oref → X) where
 
   put_at : (m : Map oref_cmp X) (y x : Oref) (b : Bool) → same_oref x y ≡ b → (b ≡ true) ⊎ (get m x ≡ Some (f x)) → get (put m y) x ≡ Some (f x)
   put_at m y x true same h = get-insert oref_total m y (f y) x ∙ ap (λ b. cond b (Some (f y)) (get m x)) same ∙ ap (λ z. Some (f z)) (sym (tells_apart oref_exact x y same))
-  put_at m y x false same (inl h) = absurd (not_both h refl)
+  put_at m y x false same (inl h) = absurd (both_ways _ refl h)
   put_at m y x false same (inr h) = get-insert oref_total m y (f y) x ∙ ap (λ b. cond b (Some (f y)) (get m x)) same ∙ h
 
   put_all : (names : List Oref) (m : Map oref_cmp X) (x : Oref) → (list_any (same_oref x) names ≡ true) ⊎ (get m x ≡ Some (f x))
       → get (fold put m names) x ≡ Some (f x)
-  put_all [] m x (inl h) = absurd (not_both h refl)
+  put_all [] m x (inl h) = absurd (both_ways _ refl h)
   put_all [] m x (inr h) = h
   put_all (y ∷ names) m x h = put_all names (put m y) x (by_place h)
     where
@@ -82,7 +73,7 @@ module _ {X : Type 0} (f : Oref → X) where
       by_either (inr later) = inl later
 
       by_place : (list_any (same_oref x) (y ∷ names) ≡ true) ⊎ (get m x ≡ Some (f x)) → (list_any (same_oref x) names ≡ true) ⊎ (get (put m y) x ≡ Some (f x))
-      by_place (inl k) = by_either (either (same_oref x y) (list_any (same_oref x) names) k)
+      by_place (inl k) = by_either (or_cases (same_oref x y) (list_any (same_oref x) names) k)
       by_place (inr g) = inr (put_at m y x (same_oref x y) refl (inr g))
 
 -- ---- the ways
@@ -114,7 +105,7 @@ module _ (s : Schemas) (m : Objects) where
       by_step ih (Some a) = ih a
 
   go_leads : (k : ℕ) (x a : Oref) → go owner k x ≡ Some a → LeadsTo s m k x a
-  go_leads zero x a h = some h
+  go_leads zero x a h = same_Some _ _ h
   go_leads (suc k) x a h = by_step (λ b g. go_leads k b a g) (owner x) refl h
     where
       by_step : ((b : Oref) → go owner k b ≡ Some a → LeadsTo s m k b a) → (w : Option Oref) → owner x ≡ w → onto w (λ b. go owner k b) ≡ Some a → LeadsTo s m (suc k) x a
@@ -245,7 +236,7 @@ module _ (s : Schemas) (m : Objects) where
   first_are_ways x known = put_all (one_step s m n) (keys m) empty x (inl known) ∙ ap Some (step_is x)
 
   go_key : (k : ℕ) (x a : Oref) → IsKey m x → go owner k x ≡ Some a → IsKey m a
-  go_key zero x a known h = subst (IsKey m) (some h) known
+  go_key zero x a known h = subst (IsKey m) (same_Some _ _ h) known
   go_key (suc k) x a known h = by_step (λ b g t. go_key k b a g t) (owner x) refl h
     where
       by_step : ((b : Oref) → IsKey m b → go owner k b ≡ Some a → IsKey m a) → (w : Option Oref) → owner x ≡ w → onto w (λ b. go owner k b) ≡ Some a → IsKey m a

@@ -9,13 +9,11 @@ use Rattle.class_defs.specs.declared.store.Schemas.{Schemas}
 use Rattle.class_defs.specs.declared.types.ExprType.TheVariants as type
 use Rattle.store_check.specs.Fits.{IsNamedBy, IsOwnerOf, LeadsTo, IsFitName, IsFitObject, IsFitPart}
 use Rattle.std.proofs.Common.{◌≡◌, ◌≤◌, ℕ, zero, suc, Bool, true, false, Option, Some, None, refl, sym, subst, ◌∙◌}
+use Rattle.std.proofs.lemmas.Option.{same_Some}
 use Rattle.std.specs.Option.{IsSomeAnd}
 use Rattle.thor_value.specs.FiniteMap.{get}
 use Rattle.thor_value.specs.declared.names.Oref.{Oref}
 use Rattle.thor_value.specs.declared.values.Obj.{Obj}
-
-some : {X : Type 0} {x y : X} → Some x ≡ Some y → x ≡ y
-some h = cc
 
 same_class : {c d : ℕ} → Some (type.Class c) ≡ Some (type.Class d) → c ≡ d
 same_class h = cc
@@ -23,7 +21,7 @@ same_class h = cc
 -- what holds of what an option has
 pub at_some : {X : Type 0} (P : X → Type 0) (w : Option X) (p : X) → IsSomeAnd w P → w ≡ Some p → P p
 at_some P None p h e = absurd h
-at_some P (Some q) p h e = subst P (some e) h
+at_some P (Some q) p h e = subst P (same_Some _ _ e) h
 
 -- who owns an object names it
 pub owns_named : (s : Schemas) (m : Objects) (a x : Oref) (i : ℕ) → Owns s m a i x → IsNamedBy m x a i

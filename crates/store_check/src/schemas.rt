@@ -9,7 +9,7 @@ use class_defs::{
 };
 use method_check::{CheckError, check};
 use method_parse::parse_setup;
-use ownership_check::{OwnError, has_next_number, own_check};
+use ownership_check::{has_next_number, own_check};
 use script_text::{SyntaxError, Tokens, scan};
 use std::alloc::Global;
 use thor_value::{NoMemory, Text, TryCopy};
@@ -156,8 +156,8 @@ fn behind_text(
             schemas.upgraded.push(UpgradedSchema { upgrade, schema })?;
             Ok(Some(owned.checked))
         }
-        Err(OwnError::Broken(_)) => Ok(None),
-        Err(OwnError::NoMemory) => Err(NoMemory),
+        Err(CheckError::Broken(_)) => Ok(None),
+        Err(CheckError::NoMemory) => Err(NoMemory),
     }
 }
 

@@ -9,7 +9,7 @@ use Rattle.disk_trait.specs.Disks.{Disks}
 use Rattle.held_state.specs.Said.{said}
 use Rattle.log_bytes.specs.declared.state.State.{State}
 use Rattle.recovery.specs.declared.recovered.Recovered.{Recovered}
-use Rattle.repository_reading.proofs.Paging.{over_both, zip_more}
+use Rattle.repository_reading.proofs.Paging.{over_both}
 use Rattle.repository_reading.proofs.Reading.{reads_on, recovered_reads}
 use Rattle.repository_reading.specs.Paged.{PutsStored}
 use Rattle.repository_reading.specs.Recovered.{IsRecovered}
@@ -18,6 +18,7 @@ use Rattle.state_log.specs.Recovered.{stands}
 use Rattle.std.proofs.Common.{Err, IfOk, List, Ok, OnOk, Result, Some, [], ap, arith, get_or, length, refl, subst, suc, sym, take, zero, ℕ, ◌++◌, ◌+◌, ◌<◌, ◌∙◌, ◌≡◌, ◌∷◌, ◌≤◌}
 use Rattle.std.proofs.lemmas.Grind.{flat_map-append}
 use Rattle.std.proofs.lemmas.List.{append-nil, map-append}
+use Rattle.std.proofs.lemmas.Slice.Zip.{all_zipped_more}
 use Rattle.std.specs.List.{AllByRecursion, AllZip, flat_map, fold}
 use Rattle.std.specs.Prelude.{IsOk}
 use Rattle.repository_reading.specs.declared.repository.Read.{Read}
@@ -116,7 +117,7 @@ puts_start disks (i ∷ images) m each = absurd each
 pub puts_more : (before : List (ℕ → List ℕ)) (last : ℕ → List ℕ) (old mid new : Objects) → PutsAll before old mid → PutsStored last mid new → PutsAll (before ++ last ∷ []) old new
 puts_more before last old mid new puts one = record {
   pages = puts.pages ++ one.objects ∷ [];
-  each = zip_more IsPagedBy before puts.pages last one.objects puts.each (record { paged = one.paged });
+  each = all_zipped_more IsPagedBy before puts.pages last one.objects puts.each (record { paged = one.paged });
   put = one.put
       ∙ (ap (λ (m : Objects). overwrite m one.objects) puts.put
       ∙ (over_both old (flat_map (λ ws. ws) puts.pages) one.objects
@@ -131,7 +132,7 @@ puts_next before (Err f) done last old mid new puts one = tt
 
 -- the states of what was read, one more
 pub stand_more : (images : List (ℕ → List ℕ)) (states : List State) (image : ℕ → List ℕ) (s : State) → StandFor images states → stands image ≡ Some s → StandFor (images ++ image ∷ []) (states ++ s ∷ [])
-stand_more images states image s stand is = zip_more (λ i s. stands i ≡ Some s) images states image s stand is
+stand_more images states image s stand is = all_zipped_more (λ i s. stands i ≡ Some s) images states image s stand is
 
 pub stand_next : (images : List (ℕ → List ℕ)) (i : ℕ) (reads now : List Read) (image : ℕ → List ℕ) (r : Read) → take (suc i) images ≡ take i images ++ image ∷ [] → now ≡ reads ++ r ∷ [] → StandFor (take i images) (read_states reads) → stands image ≡ Some (state_of r) → StandFor (take (i + 1) images) (read_states now)
 stand_next images i reads now image r more pushed stand is =

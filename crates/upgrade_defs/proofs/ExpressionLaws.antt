@@ -3,7 +3,7 @@
 use Rattle.std.proofs.Common.{◌≡◌, ℕ, zero, suc, ◌+◌, ◌≤◌, ◌<◌, max, Bool, true, List, [], ◌∷◌, ◌++◌, map, pos, refl, sym, ap, subst, arith}
 use Rattle.std.specs.Prelude.{codes, ◌&&◌, nat_le, nat_lt}
 use Rattle.std.specs.Option.{is_some}
-use Rattle.std.proofs.lemmas.Bool.{ltb-true, le-leb}
+use Rattle.std.proofs.lemmas.Bool.{ltb-true, le-leb, and_from, and_parts}
 use Rattle.class_defs.specs.Shape.{Shape, left_level, level_of, right_level}
 use Rattle.class_defs.specs.Words.{Word, Fixed, FixedAt, Numbered, in_turn, name_word, symbol_of}
 use Rattle.class_defs.specs.declared.expressions.Name.{Name}
@@ -15,9 +15,9 @@ use Rattle.method_parse.specs.Matching.{AreWords, is}
 use Rattle.method_parse.specs.declared.deep.Level.{Level}
 use Rattle.method_parse.specs.declared.deep.Level.TheVariants as levels
 use Rattle.method_parse.proofs.ExpressionLaws.{HasOperators, left_tight, lawful_operator, sums, terms}
-use Rattle.method_parse.proofs.Fits.{FitsIn, and-both, tightness}
+use Rattle.method_parse.proofs.Fits.{FitsIn, tightness}
 use Rattle.method_parse.proofs.Lawful.{Says, Lawful, behind, lawful_bind, lawful_if, lawful_last, lawful_repeat, lawful_repeat_all}
-use Rattle.method_parse.proofs.Matched.{both_true, join, lawful_name, lawful_number, lawful_word, plain}
+use Rattle.method_parse.proofs.Matched.{join, lawful_name, lawful_number, lawful_word, plain}
 use Rattle.method_parse.proofs.SetupLaws.{Any, IsOne, turn-push}
 use Rattle.upgrade_defs.specs.Expressions.{Parts, all_names, at_level, dotted, expression_in, in_parens, integer, is_dot, is_join, is_minus, is_open, joined, joins, leaf, more_names, negated, parens, path, primary, sum, term, unary, value}
 use Rattle.upgrade_defs.specs.Grammar.{IsTf, has_names, tf_shape}
@@ -128,7 +128,7 @@ module _ (room below : ℕ) (deeper : room ≡ below + 1) (parts : Parts)
           within = omega (arith, s2.fits.within);
           nested = omega (arith, s2.fits.nested);
           tight = omega arith;
-          proper = and-both (tf_shape d.value).proper (nat_le 1 (tf_shape d.value).level) s2.fits.proper
+          proper = and_from (tf_shape d.value).proper (nat_le 1 (tf_shape d.value).level) s2.fits.proper
               (le-leb 1 (tf_shape d.value).level s2.fits.tight);
         });
       })))
@@ -136,7 +136,7 @@ module _ (room below : ℕ) (deeper : room ≡ below + 1) (parts : Parts)
   -- there is room below where a part may stand
   room_below : (text : List ℕ) (t : Token) → (is text t && nat_lt 1 room) ≡ true → 0 < below
   room_below text t p =
-      let deep : 1 < room = ltb-true 1 room (both_true (is text t) (nat_lt 1 room) p).1 in
+      let deep : 1 < room = ltb-true 1 room (and_parts (is text t) (nat_lt 1 room) p).1 in
       omega arith
 
   lawful_primary : Lawful (Here 3) (primary room (parts levels.Sum))
@@ -162,7 +162,7 @@ module _ (room below : ℕ) (deeper : room ≡ below + 1) (parts : Parts)
           within = omega (arith, s2.fits.within);
           nested = omega (arith, s2.fits.nested);
           tight = omega arith;
-          proper = and-both (tf_shape d.value).proper (nat_le 3 (tf_shape d.value).level) s2.fits.proper
+          proper = and_from (tf_shape d.value).proper (nat_le 3 (tf_shape d.value).level) s2.fits.proper
               (le-leb 3 (tf_shape d.value).level s2.fits.tight);
         });
       })))
@@ -188,21 +188,21 @@ module _ (room below : ℕ) (deeper : room ≡ below + 1) (parts : Parts)
               within = omega (arith, s2.fits.within);
               nested = omega (arith, left.fits.nested, s2.fits.nested);
               tight = omega (arith, s1.of.at);
-              proper = and-both (nat_le 1 (level_of o.0))
+              proper = and_from (nat_le 1 (level_of o.0))
                   (((tf_shape l.value).proper && nat_le (left_level o.0) (tf_shape l.value).level) &&
                   ((tf_shape r.value).proper && nat_le (right_level o.0) (tf_shape r.value).level))
                   (le-leb 1 (level_of o.0) (omega (arith, s1.of.at)))
-                  (and-both ((tf_shape l.value).proper && nat_le (left_level o.0) (tf_shape l.value).level)
+                  (and_from ((tf_shape l.value).proper && nat_le (left_level o.0) (tf_shape l.value).level)
                   ((tf_shape r.value).proper && nat_le (right_level o.0) (tf_shape r.value).level)
-                  (and-both (tf_shape l.value).proper (nat_le (left_level o.0) (tf_shape l.value).level) left.fits.proper
+                  (and_from (tf_shape l.value).proper (nat_le (left_level o.0) (tf_shape l.value).level) left.fits.proper
                   (le-leb (left_level o.0) (tf_shape l.value).level (omega (arith, s1.of.left, left.fits.tight))))
-                  (and-both (tf_shape r.value).proper (nat_le (right_level o.0) (tf_shape r.value).level) s2.fits.proper
+                  (and_from (tf_shape r.value).proper (nat_le (right_level o.0) (tf_shape r.value).level) s2.fits.proper
                   (le-leb (right_level o.0) (tf_shape r.value).level (omega (arith, s1.of.at, has.next, s2.fits.tight)))));
             });
       }))
 
   join_deep : (level : Level) (x : Deep) (t : Token) → is_join level room x t ≡ true → x.depth < room
-  join_deep level x t p = ltb-true x.depth room (both_true (is_some (operator_in level t)) (nat_lt x.depth room) p).1
+  join_deep level x t p = ltb-true x.depth room (and_parts (is_some (operator_in level t)) (nat_lt x.depth room) p).1
 
   lawful_terms : (l : Deep) (front : List Token) → Here 2 l front → Lawful (behind front (Here 2)) (joins levels.Term room parts l)
   unfolding joins

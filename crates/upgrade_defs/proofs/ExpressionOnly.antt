@@ -2,7 +2,7 @@
 use Rattle.std.proofs.Common.{◌≡◌, ℕ, ℤ, zero, suc, ◌+◌, ◌-◌, ◌≤◌, ◌<◌, max, Bool, true, false, leb, List, [], ◌∷◌, ◌++◌, map, Option, Some, None, Result, Ok, pos, refl, sym, ap, subst, ◌∙◌, append_assoc, arith}
 use Rattle.std.specs.Prelude.{codes, ◌&&◌, nat_lt, nat_le, option_map}
 use Rattle.std.specs.Option.{is_some}
-use Rattle.std.proofs.lemmas.Bool.{leb-true, leb-false, lt-ltb}
+use Rattle.std.proofs.lemmas.Bool.{leb-true, leb-false, lt-ltb, and_from, and_parts}
 use Rattle.class_defs.specs.Shape.{Shape, left_level, level_of, right_level}
 use Rattle.class_defs.specs.Words.{Word, Fixed, FixedAt, Numbered, in_turn, symbol_of}
 use Rattle.class_defs.specs.declared.expressions.Name.{Name}
@@ -20,9 +20,8 @@ use Rattle.method_parse.specs.Reader.{Reader, ◌>>=◌, onward, give, name, nex
 use Rattle.method_parse.specs.declared.deep.Level.{Level}
 use Rattle.method_parse.specs.declared.deep.Level.TheVariants as levels
 use Rattle.method_parse.proofs.Eats.{Stops, first, line_then, name_then, nothing, number_then, part_then, split, stop_close, stops_before, word_then}
-use Rattle.method_parse.proofs.Fits.{and-both, tightness}
+use Rattle.method_parse.proofs.Fits.{tightness}
 use Rattle.method_parse.proofs.ListOnly.{bind_assoc, head_fails, head_passes, turn}
-use Rattle.method_parse.proofs.Matched.{both_true}
 use Rattle.method_parse.proofs.OperatorOnly.{left_above, left_some, loosen, number_plain, operator_found, operator_stops, operator_takes, weak}
 use Rattle.method_parse.proofs.Repeats.{no_turn}
 use Rattle.method_parse.proofs.SetupOnly.{Any, all_any}
@@ -153,7 +152,7 @@ module _ (room below : ℕ) (deeper : room ≡ below + 1) (parts : Parts)
 
   test_passes : (text : List ℕ) → 0 < below → (ts : List Token) → next (is text) ts ≡ true → next (λ t. is text t && nat_lt 1 room) ts ≡ true
   test_passes text more [] h = absurd cc
-  test_passes text more (t ∷ ts) h = and-both (is text t) (nat_lt 1 room) h (lt-ltb 1 room (omega arith))
+  test_passes text more (t ∷ ts) h = and_from (is text t) (nat_lt 1 room) h (lt-ltb 1 room (omega arith))
 
   -- ---- expressions without operators
 
@@ -188,7 +187,7 @@ module _ (room below : ℕ) (deeper : room ≡ below + 1) (parts : Parts)
       (eq.words-Parens x l) h in
       let w = weak ts (codes "(") l (tf_words x ++ Fixed (codes ")") ∷ []) k in
       let f = subst (λ (s : Shape). Suits room 3 s) (eq.shape-Parens x l) fit in
-      let two = both_true (tf_shape x).proper (nat_le 1 (tf_shape x).level) f.proper in
+      let two = and_parts (tf_shape x).proper (nat_le 1 (tf_shape x).level) f.proper in
       let more : 0 < below = omega (arith, f.within, positive x) in
       let inside : Suits below 1 (tf_shape x) = record {
         within = omega (arith, f.within);
@@ -214,7 +213,7 @@ module _ (room below : ℕ) (deeper : room ≡ below + 1) (parts : Parts)
       let k : AreWords ts (FixedAt (codes "-") l ∷ tf_words x) = subst (λ (w : List Word). AreWords ts w) (eq.words-Negate x l) h in
       let w = weak ts (codes "-") l (tf_words x) k in
       let f = subst (λ (s : Shape). Suits room 3 s) (eq.shape-Negate x l) fit in
-      let two = both_true (tf_shape x).proper (nat_le 3 (tf_shape x).level) f.proper in
+      let two = and_parts (tf_shape x).proper (nat_le 3 (tf_shape x).level) f.proper in
       let more : 0 < below = omega (arith, f.within, positive x) in
       let inside : Suits below 3 (tf_shape x) = record {
         within = omega (arith, f.within);
@@ -275,13 +274,13 @@ module _ (room below : ℕ) (deeper : room ≡ below + 1) (parts : Parts)
   binary_fit : (level : ℕ) (o : Operator) (l r : Tf) (line : ℕ) → Fit level (tf.Binary o l r line) → BinaryFit o l r
   binary_fit level o l r line fit =
       let f = subst (λ (s : Shape). Suits room level s) (eq.shape-Binary o l r line) fit in
-      let all = both_true (nat_le 1 (level_of o))
+      let all = and_parts (nat_le 1 (level_of o))
       (((tf_shape l).proper && nat_le (left_level o) (tf_shape l).level) &&
       ((tf_shape r).proper && nat_le (right_level o) (tf_shape r).level)) f.proper in
-      let two = both_true ((tf_shape l).proper && nat_le (left_level o) (tf_shape l).level)
+      let two = and_parts ((tf_shape l).proper && nat_le (left_level o) (tf_shape l).level)
       ((tf_shape r).proper && nat_le (right_level o) (tf_shape r).level) all.1 in
-      let a = both_true (tf_shape l).proper (nat_le (left_level o) (tf_shape l).level) two.0 in
-      let b = both_true (tf_shape r).proper (nat_le (right_level o) (tf_shape r).level) two.1 in
+      let a = and_parts (tf_shape l).proper (nat_le (left_level o) (tf_shape l).level) two.0 in
+      let b = and_parts (tf_shape r).proper (nat_le (right_level o) (tf_shape r).level) two.1 in
       record {
         left = record { within = omega (arith, f.within); tight = leb-true (left_level o) (tf_shape l).level a.1; proper = a.0 };
         right = record { within = omega (arith, f.within); tight = leb-true (right_level o) (tf_shape r).level b.1; proper = b.0 };
@@ -298,7 +297,7 @@ module _ (room below : ℕ) (deeper : room ≡ below + 1) (parts : Parts)
         → AreWords us (FixedAt (symbol_of o) line ∷ ws) → next (is_join level room d) (us ++ rest) ≡ true
     join_passes o d line of less [] rest ws h = absurd h
     join_passes o d line of less (t ∷ us) rest ws h =
-        and-both (is_some (operator_in level t)) (nat_lt d.depth room) (ap is_some (operator_found level o t.kind t.text h.0.0 h.0.1 of))
+        and_from (is_some (operator_in level t)) (nat_lt d.depth room) (ap is_some (operator_found level o t.kind t.text h.0.0 h.0.1 of))
         (lt-ltb d.depth room less)
 
     join_step : (o : Operator) (l r : Tf) (line : ℕ) (k : ℕ) (us rest : List Token) → tightness level ≡ level_of o → BinaryFit o l r
@@ -450,12 +449,12 @@ raised x s same le is = record {
 left_fits : (o : Operator) (l r : Tf) (line : ℕ) → Suits 32 1 (tf_shape (tf.Binary o l r line)) → Suits 32 1 (tf_shape l)
 left_fits o l r line fit =
     let f = subst (λ (s : Shape). Suits 32 1 s) (eq.shape-Binary o l r line) fit in
-    let all = both_true (nat_le 1 (level_of o))
+    let all = and_parts (nat_le 1 (level_of o))
     (((tf_shape l).proper && nat_le (left_level o) (tf_shape l).level) &&
     ((tf_shape r).proper && nat_le (right_level o) (tf_shape r).level)) f.proper in
-    let two = both_true ((tf_shape l).proper && nat_le (left_level o) (tf_shape l).level)
+    let two = and_parts ((tf_shape l).proper && nat_le (left_level o) (tf_shape l).level)
     ((tf_shape r).proper && nat_le (right_level o) (tf_shape r).level) all.1 in
-    let a = both_true (tf_shape l).proper (nat_le (left_level o) (tf_shape l).level) two.0 in
+    let a = and_parts (tf_shape l).proper (nat_le (left_level o) (tf_shape l).level) two.0 in
     record { within = omega (arith, f.within); tight = omega (arith, left_some o, leb-true (left_level o) (tf_shape l).level a.1); proper = a.0 }
 
 -- a sum doesn't begin with `null`
@@ -513,7 +512,7 @@ binary_level o l r line is =
     (((tf_shape l).proper && nat_le (left_level o) (tf_shape l).level) &&
     ((tf_shape r).proper && nat_le (right_level o) (tf_shape r).level))) ≡ true
     = sym (ap (λ (s : Shape). s.proper) (eq.shape-Binary o l r line)) ∙ is.proper in
-    leb-true 1 (level_of o) (both_true (nat_le 1 (level_of o))
+    leb-true 1 (level_of o) (and_parts (nat_le 1 (level_of o))
     (((tf_shape l).proper && nat_le (left_level o) (tf_shape l).level) &&
     ((tf_shape r).proper && nat_le (right_level o) (tf_shape r).level)) proper).0
 

@@ -1,6 +1,6 @@
 -- The level of an object is where the first upgrade stands that changes it.
 use Rattle.std.proofs.Common.{◌≡◌, ◌≤◌, ◌<◌, ◌+◌, arith, Bool, true, false, cond, not, ℕ, zero, suc, nat_lt, List, Option, Some, None, is_some, refl, sym, ◌∙◌, subst}
-use Rattle.std.proofs.lemmas.Bool.{le-ltb, ltb-true, ltb-false}
+use Rattle.std.proofs.lemmas.Bool.{le-ltb, ltb-true, ltb-false, not_from_false}
 use Rattle.std.specs.Option.{option_copied}
 use Rattle.std.specs.Prelude.{◌&&◌, ◌||◌}
 use denote.Bor.{Bor}
@@ -61,10 +61,6 @@ unfolding greatest
 greatest_above test zero k h le = le
 greatest_above test (suc n) k h le = up_to test n k (test (suc n)) refl h le (λ below. greatest_above test n k h below)
 
-is_true : (b : Bool) → b ≡ false → not b ≡ true
-is_true true h = cc
-is_true false h = refl
-
 does_lag : (s : Schemas) (c ver k : ℕ) (fields : List Value) → ver ≤ k → is_some (next_of s k c) ≡ true → lags s (written c ver fields) (suc k) ≡ true
 unfolding lags
 does_lag s c ver k fields le h = last (lags s (written c ver fields) k) (nat_lt k ver) (is_some (next_of s k c)) (le-ltb k ver le) h
@@ -79,7 +75,7 @@ pub level_found : (s : Schemas) (e c ver k : ℕ) → NoneLag s c ver k → ver 
     → (fields : List Value) → k ≡ level s e (written c ver fields)
 level_found s e c ver k none le within h fields =
     let o = written c ver fields in
-    let low = greatest_above (λ j. not (lags s o j)) e k (is_true (lags s o k) (none fields)) within in
+    let low = greatest_above (λ j. not (lags s o j)) e k (not_from_false (lags s o k) (none fields)) within in
     by_place o low (nat_lt k (level s e o)) refl
   where
     apart : true ≡ false → ⊥

@@ -2,31 +2,29 @@
 use Rattle.std.proofs.Common.{◌≡◌, ◌<◌, arith, Bool, true, false, cond, not, List, [], ◌∷◌, ◌++◌, map, ℕ, zero, suc, nat_lt, Option, Some, None, is_some, option_map, slice_get, refl, ap, sym, ◌∙◌, subst}
 use Rattle.std.proofs.lemmas.List.Folds.{list_any-append}
 use Rattle.std.proofs.lemmas.Option.{slice_get-map, slice_get_within}
-use Rattle.std.proofs.lemmas.Bool.{lt-ltb}
+use Rattle.std.proofs.lemmas.Bool.{lt-ltb, not-true, or_parts}
 use Rattle.std.proofs.lemmas.Slice.Eq.{bytes_eq-Decides}
 use Rattle.std.specs.List.{AllByRecursion, flat_map, list_any, position_or_len}
 use Rattle.std.specs.Option.{option_and_then}
 use Rattle.std.specs.Prelude.{◌+◌, ◌||◌, find, length}
 use Rattle.std.specs.Str.{bytes_eq}
 use Rattle.upgrade_laws.proofs.AppliedClasses.{fields_kept, fields_new, keeps_name, same_kind, same_known, same_names, same_type, step}
-use Rattle.class_defs.proofs.KeptRules.{each_nothing, held, nothing, type_told}
+use Rattle.class_defs.proofs.KeptRules.{each_nothing, held, neither, none_told, nothing, type_told}
 use Rattle.upgrade_laws.proofs.KeptFields.{field_handed, field_hands_over, field_owned, taken_once}
 use Rattle.class_defs.specs.Accepted.{AllAccepted, IsAccepted}
 use Rattle.class_defs.specs.Applied.{applied, class_behind, classes_behind, new_field, said_of}
 use Rattle.class_defs.specs.Epochs.{classes_of, next_of, schema_of}
 use Rattle.class_defs.specs.Types.{IsDeclared, class_named, fields_of, type_named}
 use Rattle.class_defs.specs.KeptOwnership.{AllKeepClasses, KeepsClasses, KeepsOwnership}
-use Rattle.class_defs.specs.Objects.{first_of}
 use Rattle.class_defs.specs.Ownership.{IsPart}
-use Rattle.class_defs.specs.Rules.{is_part, is_type, least, least_with, stand_once, told_before}
+use Rattle.class_defs.specs.Rules.{is_part, is_type, least, stand_once}
 use Rattle.class_defs.specs.SchemaRules.{class_names, class_rules, classes_from, member_names, root_names, schema_rules}
-use Rattle.class_defs.specs.UpgradeOrder.{as_own, breaks_outside, inside_class, inside_rules, least_own, least_own_with, outside_rules, over_classes, own_before, own_fault}
+use Rattle.class_defs.specs.UpgradeOrder.{breaks_outside, inside_class, inside_rules, outside_rules, over_classes, own_fault}
 use Rattle.class_defs.specs.UpgradeRules.{class_upgrade_rules, field_rules, fields_rules, handed_once, named_once, upgrade_rules}
 use Rattle.class_defs.specs.Upgrades.{upgrade_of}
 use Rattle.class_defs.specs.declared.classes.Class.{Class}
 use Rattle.class_defs.specs.declared.expressions.Name.{Name}
-use Rattle.class_defs.specs.declared.own_rules.OwnFault.{OwnFault}
-use Rattle.class_defs.specs.declared.rules.TypeFault.{TypeFault}
+use Rattle.class_defs.specs.declared.rules.RuleFault.{RuleFault}
 use Rattle.class_defs.specs.declared.statements.Stmt.{Stmt}
 use Rattle.class_defs.specs.declared.store.Schema.{Schema}
 use Rattle.class_defs.specs.declared.store.Schemas.{Schemas}
@@ -38,43 +36,9 @@ use Rattle.class_defs.specs.declared.upgrades.Upgrade.{Upgrade}
 
 -- ---- what is told
 
-some_told : (f : OwnFault) (fs : List OwnFault) → least_own_with (Some f) fs ≡ None → ⊥
-some_told f [] h = cc
-some_told f (g ∷ fs) h = by_first (own_before g f) (some_told g fs) (some_told f fs) h
-  where
-    by_first : (b : Bool) → (least_own_with (Some g) fs ≡ None → ⊥) → (least_own_with (Some f) fs ≡ None → ⊥)
-        → least_own_with (cond b (Some g) (Some f)) fs ≡ None → ⊥
-    by_first true first second h = first h
-    by_first false first second h = second h
-
-own_nothing : (fs : List OwnFault) → least_own fs ≡ None → fs ≡ []
-own_nothing [] h = refl
-own_nothing (f ∷ fs) h = absurd (some_told f fs h)
-
-some_type : (f : TypeFault) (fs : List TypeFault) → least_with (Some f) fs ≡ None → ⊥
-some_type f [] h = cc
-some_type f (g ∷ fs) h = by_first (told_before g f) (some_type g fs) (some_type f fs) h
-  where
-    by_first : (b : Bool) → (least_with (Some g) fs ≡ None → ⊥) → (least_with (Some f) fs ≡ None → ⊥)
-        → least_with (cond b (Some g) (Some f)) fs ≡ None → ⊥
-    by_first true first second h = first h
-    by_first false first second h = second h
-
-type_nothing : (fs : List TypeFault) → least fs ≡ None → fs ≡ []
-type_nothing [] h = refl
-type_nothing (f ∷ fs) h = absurd (some_type f fs h)
-
-mapped_nothing : (o : Option TypeFault) → option_map as_own o ≡ None → o ≡ None
-mapped_nothing None h = refl
-mapped_nothing (Some f) h = cc
-
-none_outside : (line : ℕ) (fs : List TypeFault) → breaks_outside line fs ≡ None → fs ≡ []
+none_outside : (line : ℕ) (fs : List RuleFault) → breaks_outside line fs ≡ None → fs ≡ []
 none_outside line [] h = refl
 none_outside line (f ∷ fs) h = cc
-
-neither : {X : Type 0} (a b : Option X) → first_of a b ≡ None → (a ≡ None) × (b ≡ None)
-neither None b h = (refl, h)
-neither (Some a) b h = cc
 
 -- what holds of an upgrade that breaks no rule
 pub record Sound (schema : Schema) (repos : ℕ) (u : Upgrade) (items : List (List Stmt)) : Type 0 where
@@ -86,11 +50,11 @@ pub sound : (schema : Schema) (repos : ℕ) (u : Upgrade) (items : List (List St
     → Sound schema repos u items
 unfolding own_fault
 sound schema repos u items h =
-    let p = neither (least_own (upgrade_rules schema.classes u)) _ h in
-    let q = neither (option_map as_own (least (inside_rules u (applied schema u) repos))) _ p.1 in
+    let p = neither (least (upgrade_rules schema.classes u)) _ h in
+    let q = neither (least (inside_rules u (applied schema u) repos)) _ p.1 in
     record {
-      own = own_nothing _ p.0;
-      inside = type_nothing _ (mapped_nothing _ q.0);
+      own = none_told _ p.0;
+      inside = none_told _ q.0;
       outside = none_outside u.line _ q.1;
     }
 
@@ -116,18 +80,6 @@ found P test (y ∷ ys) x all h = by_test (test y) refl (found P test ys x all.1
 
 -- ---- a class by its name
 
-first_false : (a b : Bool) → (a || b) ≡ false → a ≡ false
-first_false true b h = h
-first_false false b h = refl
-
-second_false : (a b : Bool) → (a || b) ≡ false → b ≡ false
-second_false true b h = cc
-second_false false b h = h
-
-not_true : (b : Bool) → not b ≡ true → b ≡ false
-not_true true h = cc
-not_true false h = refl
-
 -- the name of a class behind others isn't one of theirs
 apart : (earlier : List Name) (ds : List Class) (c : ℕ) (d : Class) → stand_once earlier (map (λ x. x.name) ds) ≡ [] → slice_get ds c ≡ Some d
     → list_any (λ m. bytes_eq m.text d.name.text) earlier ≡ false
@@ -135,11 +87,11 @@ apart earlier [] c d h is = cc
 apart earlier (x ∷ ds) zero d h is =
     let same : x ≡ d = cc in
     subst (λ (y : Class). list_any (λ m. bytes_eq m.text y.name.text) earlier ≡ false) same
-    (not_true _ (held _ _ _ (nothing _ (stand_once (earlier ++ x.name ∷ []) (map (λ x. x.name) ds)) h).0))
+    (not-true _ (held _ _ _ (nothing _ (stand_once (earlier ++ x.name ∷ []) (map (λ x. x.name) ds)) h).0))
 apart earlier (x ∷ ds) (suc c) d h is =
-    first_false (list_any (λ m. bytes_eq m.text d.name.text) earlier) _
+    (or_parts (list_any (λ m. bytes_eq m.text d.name.text) earlier) _
     (sym (list_any-append (λ m. bytes_eq m.text d.name.text) earlier (x.name ∷ []))
-    ∙ apart (earlier ++ x.name ∷ []) ds c d (nothing _ (stand_once (earlier ++ x.name ∷ []) (map (λ x. x.name) ds)) h).1 is)
+    ∙ apart (earlier ++ x.name ∷ []) ds c d (nothing _ (stand_once (earlier ++ x.name ∷ []) (map (λ x. x.name) ds)) h).1 is)).0
 
 place_of : (earlier : List Name) (ds : List Class) (c : ℕ) (d : Class) → stand_once earlier (map (λ x. x.name) ds) ≡ [] → slice_get ds c ≡ Some d
     → position_or_len (λ x. bytes_eq x.name.text d.name.text) ds ≡ c
@@ -151,9 +103,9 @@ place_of earlier (x ∷ ds) zero d h is =
 place_of earlier (x ∷ ds) (suc c) d h is =
     let rest = (nothing _ (stand_once (earlier ++ x.name ∷ []) (map (λ x. x.name) ds)) h).1 in
     let away : (bytes_eq x.name.text d.name.text || false) ≡ false =
-    second_false (list_any (λ m. bytes_eq m.text d.name.text) earlier) _
-    (sym (list_any-append (λ m. bytes_eq m.text d.name.text) earlier (x.name ∷ [])) ∙ apart (earlier ++ x.name ∷ []) ds c d rest is) in
-    let other : bytes_eq x.name.text d.name.text ≡ false = first_false _ false away in
+    (or_parts (list_any (λ m. bytes_eq m.text d.name.text) earlier) _
+    (sym (list_any-append (λ m. bytes_eq m.text d.name.text) earlier (x.name ∷ [])) ∙ apart (earlier ++ x.name ∷ []) ds c d rest is)).1 in
+    let other : bytes_eq x.name.text d.name.text ≡ false = (or_parts _ false away).0 in
     ap (λ b. cond (not b) (1 + position_or_len (λ (y : Class). bytes_eq y.name.text d.name.text) ds) 0) other
     ∙ ap (λ i. 1 + i) (place_of (earlier ++ x.name ∷ []) ds c d rest is) ∙ one_more c
   where
@@ -196,7 +148,7 @@ said_sound classes u c d k h once is said =
 -- ---- the classes behind it
 
 -- what rules say of classes they say of each
-pub over_at : (rules : ℕ → Class → List TypeFault) (n : ℕ) (ds : List Class) (c : ℕ) (d : Class) → over_classes rules n ds ≡ []
+pub over_at : (rules : ℕ → Class → List RuleFault) (n : ℕ) (ds : List Class) (c : ℕ) (d : Class) → over_classes rules n ds ≡ []
     → slice_get ds c ≡ Some d
     → rules (n + c) d ≡ []
 over_at rules n [] c d h is = cc

@@ -2,40 +2,24 @@
 use Rattle.std.proofs.Common.{◌≡◌, Bool, true, false, cond, not, List, [], ◌∷◌, ◌++◌, ℕ, zero, suc, Option, Some, None, slice_get, refl, ap, sym, ◌∙◌, subst}
 use Rattle.std.proofs.lemmas.Bool.Decides.{Decides-eqb}
 use Rattle.std.proofs.lemmas.List.Folds.{list_any-append}
+use Rattle.std.proofs.lemmas.Bool.{and_from, and_parts, not-true, or_parts}
 use Rattle.std.specs.List.{list_any}
 use Rattle.std.specs.Option.{option_and_then}
 use Rattle.std.specs.Prelude.{◌&&◌, ◌||◌, ◌==◌, nat_le, length}
-use Rattle.class_defs.proofs.KeptRules.{nothing}
+use Rattle.class_defs.proofs.KeptRules.{held, nothing}
 use Rattle.class_defs.specs.Types.{IsDeclared, field_named, type_named}
 use Rattle.class_defs.specs.KeptOwnership.{IsHanded, handed, handed_path, handed_step, is_owned_path, owned_step, part_class, reads_owned}
 use Rattle.class_defs.specs.Ownership.{type_at}
 use Rattle.class_defs.specs.Rules.{is_part}
-use Rattle.class_defs.specs.UpgradeRules.{as_list, field_at_path, field_behind, field_read, field_rules, gives_int, gives_reference, goes_through_parts, handed_as, handed_once, hands_over, int_step, is_field_of, is_int, is_new, is_of_class, max_names, may_go_on, must_own, part_step, path_type, reads_parts, value_rules}
+use Rattle.class_defs.specs.UpgradeRules.{as_list, field_at_path, field_behind, field_read, field_rules, gives_int, gives_reference, goes_through_parts, handed_as, handed_once, hands_over, int_step, is_field_of, is_int, is_new, is_of_class, max_names, may_go_on, part_step, path_type, reads_parts, value_rules}
 use Rattle.class_defs.specs.declared.classes.Class.{Class}
 use Rattle.class_defs.specs.declared.expressions.Name.{Name}
-use Rattle.class_defs.specs.declared.own_rules.OwnRule.{OwnRule}
 use Rattle.class_defs.specs.declared.types.ExprType.{ExprType}
 use Rattle.class_defs.specs.declared.types.ExprType.TheVariants as type
 use Rattle.class_defs.specs.declared.upgrades.FieldUpgrade.{FieldUpgrade}
 use Rattle.class_defs.specs.declared.upgrades.Tf.{Tf, map-Tf, out-Tf}
 use Rattle.class_defs.specs.declared.upgrades.Tf.TheFolds.{fold_out-Tf, fold-roll-Tf, ind-Tf}
 use Rattle.class_defs.specs.declared.upgrades.Tf.TheOpen.{Tf-F}
-
-pub own_held : (b : Bool) (rule : OwnRule) (line : ℕ) → must_own b rule line ≡ [] → b ≡ true
-own_held true rule line h = refl
-own_held false rule line h = cc
-
-left_true : (a b : Bool) → (a && b) ≡ true → a ≡ true
-left_true true b h = refl
-left_true false b h = cc
-
-right_true : (a b : Bool) → (a && b) ≡ true → b ≡ true
-right_true true b h = h
-right_true false b h = cc
-
-both_true : (a b : Bool) → a ≡ true → b ≡ true → (a && b) ≡ true
-both_true true b h g = g
-both_true false b h g = h
 
 module _ (classes : List Class) where
   -- ---- paths
@@ -51,9 +35,9 @@ module _ (classes : List Class) where
       → (may_go_on classes t && goes_through_parts classes t (next ∷ names)) ≡ true
       → is_owned_path classes (part_class classes t) (next ∷ names) ≡ true
   goes_on (Some (type.Class d)) next names rest i g =
-      let part = left_true (is_part classes (type.Class d)) _ g in
+      let part = (and_parts (is_part classes (type.Class d)) _ g).0 in
       subst (λ b. is_owned_path classes (cond b (Some d) None) (next ∷ names) ≡ true) (sym part)
-      (rest d i (right_true (is_part classes (type.Class d)) _ g))
+      (rest d i ((and_parts (is_part classes (type.Class d)) _ g).1))
   goes_on (Some type.Int) next names rest i g = sym (ends_nowhere names) ∙ i
   goes_on (Some type.Null) next names rest i g = sym (ends_nowhere names) ∙ i
   goes_on (Some type.Untold) next names rest i g = sym (ends_nowhere names) ∙ i
@@ -82,11 +66,11 @@ module _ (classes : List Class) where
         → owned_step classes c (map-Tf Tf Bool (reads_owned classes c) (trees y)) ≡ true
     by_layer (Tf-F.Null line) h g = refl
     by_layer (Tf-F.Int n line) h g = refl
-    by_layer (Tf-F.Path names line) h g = int_path_owned names c (right_true (nat_le (length names) max_names) _ g) h
+    by_layer (Tf-F.Path names line) h g = int_path_owned names c ((and_parts (nat_le (length names) max_names) _ g).1) h
     by_layer (Tf-F.Parens inner line) h g = inner.1 h g
     by_layer (Tf-F.Negate operand line) h g = operand.1 h g
     by_layer (Tf-F.Binary operator left right line) h g =
-        both_true _ _ (left.1 (left_true _ _ h) (left_true _ _ g)) (right.1 (right_true _ _ h) (right_true _ _ g))
+        and_from _ _ (left.1 ((and_parts _ _ h).0) ((and_parts _ _ g).0)) (right.1 ((and_parts _ _ h).1) ((and_parts _ _ g).1))
 
     int_reads_owned : (t : Tf) → IsRead t
     unfolding reads_parts gives_int reads_owned
@@ -169,15 +153,15 @@ module _ (classes : List Class) where
         → gives_reference classes c d (out-Tf e) ≡ true
     reference_given (type.Class b) e d is h =
         let same : b ≡ d = cc in
-        subst (λ n. gives_reference classes c n (out-Tf e) ≡ true) same (own_held _ _ _ h)
+        subst (λ n. gives_reference classes c n (out-Tf e) ≡ true) same (held _ _ _ h)
     reference_given type.Int e d is h = cc
     reference_given type.Null e d is h = cc
     reference_given type.Untold e d is h = cc
 
     owned_by_type : (t : ExprType) (e : Tf) → IsDeclared t → value_rules classes c t e ≡ [] → reads_parts classes c e ≡ true
         → reads_owned classes c e ≡ true
-    owned_by_type type.Int e declared h g = int_reads_owned e g (own_held _ _ _ h)
-    owned_by_type (type.Class d) e declared h g = owned_out e ∙ layer_owned d (out-Tf e) (own_held _ _ _ h)
+    owned_by_type type.Int e declared h g = int_reads_owned e g (held _ _ _ h)
+    owned_by_type (type.Class d) e declared h g = owned_out e ∙ layer_owned d (out-Tf e) (held _ _ _ h)
     owned_by_type type.Null e declared h g = absurd declared
     owned_by_type type.Untold e declared h g = absurd declared
 
@@ -186,7 +170,7 @@ module _ (classes : List Class) where
         → reads_owned classes c f.value ≡ true
     field_owned f declared h =
         let p = nothing (value_rules classes c (type_named classes f.type_name) f.value) _ h in
-        owned_by_type (type_named classes f.type_name) f.value declared p.0 (own_held _ _ _ p.1)
+        owned_by_type (type_named classes f.type_name) f.value declared p.0 (held _ _ _ p.1)
 
     given_by : (f : FieldUpgrade) (d : ℕ) → type_named classes f.type_name ≡ type.Class d → field_rules classes c f ≡ []
         → gives_reference classes c d (out-Tf f.value) ≡ true
@@ -203,28 +187,16 @@ module _ (classes : List Class) where
         → field_rules classes c f ≡ [] → handed classes c f.value ≡ Some (Some j) → hands_over classes c f ≡ Some j
     field_hands_over f d j is part h g =
         ap (λ t. handed_as classes c t (out-Tf f.value)) is
-        ∙ ap (λ b. cond b (field_read classes c (out-Tf f.value)) None) (both_true _ _ part (given_by f d is h))
+        ∙ ap (λ b. cond b (field_read classes c (out-Tf f.value)) None) (and_from _ _ part (given_by f d is h))
         ∙ layer_read j (out-Tf f.value) (sym (handed_out f.value) ∙ g)
 
     -- ---- all new fields
-
-    first_false : (a b : Bool) → (a || b) ≡ false → a ≡ false
-    first_false true b h = h
-    first_false false b h = refl
-
-    second_false : (a b : Bool) → (a || b) ≡ false → b ≡ false
-    second_false true b h = cc
-    second_false false b h = h
-
-    not_true : (b : Bool) → not b ≡ true → b ≡ false
-    not_true true h = cc
-    not_true false h = refl
 
     new_one : (earlier : List ℕ) (o : Option ℕ) (j : ℕ) → o ≡ Some j → is_new earlier o ≡ true → list_any (λ i. i == j) earlier ≡ false
     new_one earlier None j is h = cc
     new_one earlier (Some i) j is h =
         let same : i ≡ j = cc in
-        subst (λ n. list_any (λ i. i == n) earlier ≡ false) same (not_true _ h)
+        subst (λ n. list_any (λ i. i == n) earlier ≡ false) same (not-true _ h)
 
     -- what a field takes over wasn't taken over before
     never_before : (earlier : List ℕ) (fs : List FieldUpgrade) (i : ℕ) (f : FieldUpgrade) (j : ℕ) → handed_once classes c earlier fs ≡ []
@@ -233,20 +205,20 @@ module _ (classes : List Class) where
     never_before earlier (e ∷ fs) zero f j h is g =
         let same : f ≡ e = cc in
         new_one earlier (hands_over classes c e) j (ap (hands_over classes c) (sym same) ∙ g)
-        (own_held _ _ _ (nothing _ (handed_once classes c (earlier ++ as_list (hands_over classes c e)) fs) h).0)
+        (held _ _ _ (nothing _ (handed_once classes c (earlier ++ as_list (hands_over classes c e)) fs) h).0)
     never_before earlier (e ∷ fs) (suc i) f j h is g =
         let rest = (nothing _ (handed_once classes c (earlier ++ as_list (hands_over classes c e)) fs) h).1 in
-        first_false (list_any (λ i. i == j) earlier) _
+        (or_parts (list_any (λ i. i == j) earlier) _
         (sym (list_any-append (λ i. i == j) earlier (as_list (hands_over classes c e)))
-        ∙ never_before (earlier ++ as_list (hands_over classes c e)) fs i f j rest is g)
+        ∙ never_before (earlier ++ as_list (hands_over classes c e)) fs i f j rest is g)).0
 
     stands_there : (earlier : List ℕ) (o : Option ℕ) (j : ℕ) → o ≡ Some j → list_any (λ i. i == j) (earlier ++ as_list o) ≡ false → ⊥
     stands_there earlier None j is h = cc
     stands_there earlier (Some i) j is h =
         let same : i ≡ j = cc in
         let there : (i == j) ≡ true = (Decides-eqb i j).1 same in
-        let away : ((i == j) || false) ≡ false = second_false (list_any (λ i. i == j) earlier) _ (sym (list_any-append (λ i. i == j) earlier (i ∷ [])) ∙ h) in
-        let gone : (i == j) ≡ false = first_false (i == j) false away in
+        let away : ((i == j) || false) ≡ false = (or_parts (list_any (λ i. i == j) earlier) _ (sym (list_any-append (λ i. i == j) earlier (i ∷ [])) ∙ h)).1 in
+        let gone : (i == j) ≡ false = (or_parts (i == j) false away).0 in
         cc
 
     -- two fields that take over the same are one

@@ -1,25 +1,25 @@
 -- That a schema's numbers are those of the last upgrades that name its classes.
 use Rattle.std.proofs.Common.{◌≡◌, ◌≤◌, ◌<◌, arith, Bool, true, false, cond, List, [], ◌∷◌, map, max, ℕ, zero, suc, Option, Some, None, is_some, slice_get, refl, ap, sym, ◌∙◌, subst}
-use Rattle.std.proofs.lemmas.Bool.{ltb-true}
+use Rattle.std.proofs.lemmas.Bool.{ltb-true, and_parts}
 use Rattle.std.proofs.lemmas.Slice.Eq.{bytes_eq-Decides}
 use Rattle.std.specs.List.{list_any, position_or_len}
 use Rattle.std.specs.Option.{option_and_then}
 use Rattle.std.specs.Prelude.{◌&&◌, ◌+◌, find, length, not}
 use Rattle.std.specs.Str.{bytes_eq}
 use Rattle.upgrade_laws.proofs.AppliedClasses.{same_known}
-use Rattle.class_defs.proofs.KeptRules.{nothing}
+use Rattle.class_defs.proofs.KeptRules.{held, nothing}
 use Rattle.class_defs.proofs.NumbersBehind.{highest_below, number_below}
 use Rattle.upgrade_laws.proofs.KeptByRules.{behind, next_is, sound}
-use Rattle.upgrade_laws.proofs.KeptFields.{own_held}
 use Rattle.class_defs.specs.Accepted.{AllAccepted, AllNameAClass, IsAccepted}
 use Rattle.class_defs.specs.Applied.{applied, highest, next_number, number_of, numbers_behind, said_of}
 use Rattle.class_defs.specs.Epochs.{classes_of, schema_of}
 use Rattle.class_defs.specs.Levels.{last_naming}
 use Rattle.class_defs.specs.Types.{class_named}
-use Rattle.class_defs.specs.UpgradeRules.{must_own, named_once, upgrade_rules}
+use Rattle.class_defs.specs.Rules.{must}
+use Rattle.class_defs.specs.UpgradeRules.{named_once, upgrade_rules}
 use Rattle.class_defs.specs.declared.classes.Class.{Class}
 use Rattle.class_defs.specs.declared.expressions.Name.{Name}
-use Rattle.class_defs.specs.declared.own_rules.OwnRule.TheVariants.{O1}
+use Rattle.class_defs.specs.declared.rules.Rule.TheVariants.{O1}
 use Rattle.class_defs.specs.declared.statements.Stmt.{Stmt}
 use Rattle.class_defs.specs.declared.store.Schema.{Schema}
 use Rattle.class_defs.specs.declared.store.Schemas.{Schemas}
@@ -40,10 +40,6 @@ module _ (u : Upgrade) (n : ℕ) where
   number_behind (d ∷ ds) (k ∷ ks) (suc c) = number_behind ds ks c
 
 -- ---- an upgrade names a class
-
-first_true : (a b : Bool) → (a && b) ≡ true → a ≡ true
-first_true true b h = refl
-first_true false b h = cc
 
 -- a class that an upgrade names, by its place
 record Names (classes : List Class) (u : Upgrade) : Type 0 where
@@ -95,8 +91,8 @@ names_one classes u (k ∷ ks) is some h =
     subst (λ (xs : List ClassUpgrade). named_once classes [] (map (λ k. k.name) xs) ≡ []) is
     (nothing (named_once classes [] (map (λ k. k.name) u.classes)) _ h).0 in
     let first = nothing
-    (must_own (is_some (class_named classes k.name.text) && not (list_any (λ (m : Name). bytes_eq m.text k.name.text) [])) O1 k.name.line) _ rules in
-    let there = first_true (is_some (class_named classes k.name.text)) _ (own_held _ _ _ first.0) in
+    (must (is_some (class_named classes k.name.text) && not (list_any (λ (m : Name). bytes_eq m.text k.name.text) [])) O1 k.name.line) _ rules in
+    let there = (and_parts (is_some (class_named classes k.name.text)) _ (held _ _ _ first.0)).0 in
     let s = stands_at k.name.text classes (ltb-true (place k.name.text classes) (length classes) (there_at _ _ there)) in
     record {
       place = s.at;

@@ -1,5 +1,6 @@
 -- Where a request and a member meet is told by two walks, over what the one read and the other wrote.
 use Rattle.std.proofs.Common.{◌≡◌, Bool, List, [], ◌∷◌, ap, find, refl, sym, ◌∙◌, subst, cond, true, false}
+use Rattle.std.proofs.lemmas.Bool.{or_right}
 use Rattle.std.specs.List.Sorted.{IsStrictlySortedBy}
 use Rattle.std.specs.List.{AllByRecursion}
 use Rattle.std.specs.Ordering.{is_eq, is_lt, ordering_reverse}
@@ -83,10 +84,6 @@ within_rest x xs ws a h z m = by (same_oref z x) refl (h z m)
         let none : is_among ws z ≡ false = ap (is_among ws) same ∙ not_among x ws a in
         let g : true ≡ false = sym m ∙ none in cc
     by false e f = f
-
-or_right : (a b : Bool) → b ≡ true → (a || b) ≡ true
-or_right true b h = refl
-or_right false b h = h
 
 -- the first of both is the same
 first_same : (r : Oref → Bool) (x y : Oref) (xs ys : List Oref) → x ≡ y → AllByRecursion (λ z. oref_cmp x z ≡ Less) xs → AllByRecursion (λ z. oref_cmp y z ≡ Less) ys → ((z : Oref) → is_among (y ∷ ys) z ≡ true → is_among (x ∷ xs) z ≡ true)

@@ -1,6 +1,7 @@
 -- What the test of a request's names tells.
 use Rattle.std.proofs.Common.{◌≡◌, Bool, List, [], ◌∷◌, false, refl, subst, sym, true}
 use Rattle.std.proofs.lemmas.Cmp.{tied_itself}
+use Rattle.std.proofs.lemmas.Bool.{and_from, and_parts, or_right}
 use Rattle.std.specs.List.{AllByRecursion}
 use Rattle.std.specs.List.Sorted.{IsStrictlySortedBy}
 use Rattle.std.specs.Ordering.{is_eq, is_lt}
@@ -17,16 +18,6 @@ less Less h = refl
 less Equal h = cc
 less Greater h = cc
 
-halves : (a b : Bool) → (a && b) ≡ true → (a ≡ true) × (b ≡ true)
-halves true true h = (refl, refl)
-halves true false h = cc
-halves false b h = cc
-
-whole : (a b : Bool) → a ≡ true → b ≡ true → (a && b) ≡ true
-whole true true p q = refl
-whole true false p q = cc
-whole false b p q = cc
-
 pub below_all : (x y : Oref) (xs : List Oref) → oref_cmp x y ≡ Less → AllByRecursion (λ z. oref_cmp y z ≡ Less) xs → AllByRecursion (λ z. oref_cmp x z ≡ Less) xs
 below_all x y [] l h = tt
 below_all x y (z ∷ zs) l h = (oref_total.trans x y z l h.0, below_all x y zs l h.1)
@@ -35,7 +26,7 @@ rise_from : (x : Oref) (xs : List Oref) → rises_after (Some x) xs ≡ true →
 unfolding IsStrictlySortedBy
 rise_from x [] h = (tt, tt)
 rise_from x (y ∷ ys) h =
-    let p = halves (is_lt (oref_cmp x y)) (rises_after (Some y) ys) h in
+    let p = and_parts (is_lt (oref_cmp x y)) (rises_after (Some y) ys) h in
     let l : oref_cmp x y ≡ Less = less (oref_cmp x y) p.0 in
     let q = rise_from y ys p.1 in
     ((l, below_all x y ys l q.0), (q.0, q.1))
@@ -48,7 +39,7 @@ rises_from_test (x ∷ xs) h = let q = rise_from x xs h in (q.0, q.1)
 test_from : (x : Oref) (xs : List Oref) → AllByRecursion (λ y. oref_cmp x y ≡ Less) xs → Rises xs → rises_after (Some x) xs ≡ true
 unfolding IsStrictlySortedBy
 test_from x [] a h = refl
-test_from x (y ∷ ys) a h = whole (is_lt (oref_cmp x y)) (rises_after (Some y) ys) (subst (λ (o : Ordering). is_lt o ≡ true) (sym a.0) refl) (test_from y ys h.0 h.1)
+test_from x (y ∷ ys) a h = and_from (is_lt (oref_cmp x y)) (rises_after (Some y) ys) (subst (λ (o : Ordering). is_lt o ≡ true) (sym a.0) refl) (test_from y ys h.0 h.1)
 
 pub test_from_rises : (xs : List Oref) → Rises xs → rises_after None xs ≡ true
 unfolding IsStrictlySortedBy
@@ -64,7 +55,7 @@ same Greater h = cc
 within_from : (names xs : List Oref) → all_among names xs ≡ true → (x : Oref) → is_among xs x ≡ true → is_among names x ≡ true
 within_from names [] h x m = cc
 within_from names (y ∷ ys) h x m =
-    let p = halves (is_among names y) (all_among names ys) h in
+    let p = and_parts (is_among names y) (all_among names ys) h in
     by (same_oref x y) refl m p.0 (λ n. within_from names ys p.1 x n)
   where
     by : (b : Bool) → same_oref x y ≡ b → (b || is_among ys x) ≡ true → is_among names y ≡ true → (is_among ys x ≡ true → is_among names x ≡ true) → is_among names x ≡ true
@@ -74,13 +65,9 @@ within_from names (y ∷ ys) h x m =
 pub itself : (y : Oref) (b : Bool) → (same_oref y y || b) ≡ true
 itself y b = let e : oref_cmp y y ≡ Equal = tied_itself oref_total y in rw e refl
 
-or_right : (a b : Bool) → b ≡ true → (a || b) ≡ true
-or_right true b h = refl
-or_right false b h = h
-
 all_from : (names xs : List Oref) → ((x : Oref) → is_among xs x ≡ true → is_among names x ≡ true) → all_among names xs ≡ true
 all_from names [] h = refl
-all_from names (y ∷ ys) h = whole (is_among names y) (all_among names ys) (h y (itself y (is_among ys y))) (all_from names ys (λ x m. h x (or_right (same_oref x y) (is_among ys x) m)))
+all_from names (y ∷ ys) h = and_from (is_among names y) (all_among names ys) (h y (itself y (is_among ys y))) (all_from names ys (λ x m. h x (or_right (same_oref x y) (is_among ys x) m)))
 
 pub in_order_from : (read written : List Oref) → rises_after None read ≡ true → rises_after None written ≡ true → all_among read written ≡ true → IsInOrder read written
 in_order_from read written r w h = record { reads_rise = rises_from_test read r; writes_rise = rises_from_test written w; within = within_from read written h }

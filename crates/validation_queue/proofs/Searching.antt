@@ -5,6 +5,7 @@ use Rattle.std.proofs.lemmas.Cmp.{alike_right, tied_back}
 use Rattle.std.proofs.lemmas.List.Folds.{list_any_at, list_any_none}
 use Rattle.std.proofs.lemmas.List.{get_or-map, length-map, map-id}
 use Rattle.std.proofs.lemmas.Map.Keys.{Less-from_sorted}
+use Rattle.std.proofs.lemmas.Bool.{cases_lt}
 use Rattle.std.specs.Cmp.{IsTotalOrder}
 use Rattle.std.specs.List.Sorted.{IsBinarySearchResult, IsNonDecreasingBy, IsPartitionPoint, IsSearchInRange, IsStrictlySortedBy}
 use Rattle.std.specs.List.{list_any}
@@ -65,10 +66,7 @@ module _ {A K : Type 0} (R : K → K → Ordering) (o : IsTotalOrder R) (key : A
       at : (k : ℕ) (d : K) → k < length (y ∷ ys) → eq_by_cmp R x (get_or (map key (y ∷ ys)) k d) ≡ false
       at k d g =
           let is : get_or (map key (y ∷ ys)) k d ≡ key (get_or (y ∷ ys) k y) = get_or-map key (y ∷ ys) k y d g in
-          rw is (⊎_elim (λ below. apart _ Less (h.0 k y (omega arith) below) (λ e. cc)) (λ above. apart _ Greater (h.1 k y above g) (λ e. cc)) (sides k i))
-        where
-          sides : (k i : ℕ) → (k < i) ⊎ (i ≤ k)
-          sides k i = search (rules, arith)
+          rw is (⊎_elim (λ below. apart _ Less (h.0 k y (omega arith) below) (λ e. cc)) (λ above. apart _ Greater (h.1 k y above g) (λ e. cc)) (cases_lt k i))
 
   -- what a binary search answers tells whether x is one of the keys
   pub searched_keys : (xs : List A) (r : Result ℕ ℕ) → IsStrictlySortedBy R (map key xs) → IsSearchInRange r (length xs) → IsBinarySearchResult (λ y. R (key y) x) xs r → is_ok r ≡ list_any (eq_by_cmp R x) (map key xs)

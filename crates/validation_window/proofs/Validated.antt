@@ -4,7 +4,7 @@ use Rattle.commit_log.specs.declared.request.Request.{Request}
 use Rattle.validation_window.proofs.Covered.{held}
 use Rattle.local_history.proofs.Stamps.{at_most_before, at_most_itself, at_most_then, first_at_most, second_at_most}
 use Rattle.local_history.proofs.Decided.{written_keys}
-use Rattle.local_history.proofs.Meeting.{in_order, not_both_ways, or_cases, or_first, or_second}
+use Rattle.local_history.proofs.Meeting.{in_order, not_both_ways, or_cases, or_second}
 use Rattle.validation_window.specs.Covers.{MemberFits}
 use Rattle.local_history.specs.History.{Aborted, Base, Committed, Fate, IsCommitted, Lives, Open, Known, State, epoch_of, known_by, state}
 use Rattle.local_history.specs.Requests.{bars, has_read, has_written, is_upgrade, overwrites, reads_of, written}
@@ -13,7 +13,7 @@ use Rattle.validation_window.specs.Refusals.{bar, behind, blocks, comes_earlier,
 use Rattle.validation_window.specs.Window.{Member, Window, window}
 use Rattle.validation_window.specs.declared.refusal.Refusal.{Refusal}
 use Rattle.std.proofs.Common.{List, [], ap, cond, inl, inr, refl, subst, sym, ◌++◌, ◌≡◌, ◌∙◌, ◌∷◌}
-use Rattle.std.proofs.lemmas.Bool.{eqb-true}
+use Rattle.std.proofs.lemmas.Bool.{eqb-true, or_from, or_parts, or_left}
 use Rattle.std.proofs.lemmas.Cmp.{tied_itself}
 use Rattle.std.proofs.lemmas.Map.Made.{is_some-lookup}
 use Rattle.std.proofs.lemmas.Map.Views.{tells_apart}
@@ -59,14 +59,6 @@ unmapped f (Some x) e = cc
 and_second : (x y : Bool) → (x && y) ≡ false → x ≡ true → y ≡ false
 and_second true y e h = e
 and_second false y e h = cc
-
-or_none : (x y : Bool) → (x || y) ≡ false → (x ≡ false) × (y ≡ false)
-or_none true y e = cc
-or_none false y e = (refl, e)
-
-none_or : (x y : Bool) → x ≡ false → y ≡ false → (x || y) ≡ false
-none_or true y d e = cc
-none_or false y d e = e
 
 never : {A : Type 0} (x : Bool) → x ≡ false → x ≡ true → A
 never true e h = cc
@@ -116,7 +108,7 @@ had x m (y ∷ ys) h = had x (insert m y tt) ys (elim h [
 any_left : (test : Oref → Bool) (xs ys : List Oref) → list_any test xs ≡ true → list_any test (xs ++ ys) ≡ true
 any_left test [] ys e = cc
 any_left test (x ∷ xs) ys e = elim (or_cases (test x) (list_any test xs) e) [
-  | inl h ↦ or_first (test x) (list_any test (xs ++ ys)) h
+  | inl h ↦ or_left (test x) (list_any test (xs ++ ys)) h
   | inr h ↦ or_second (test x) (list_any test (xs ++ ys)) (any_left test xs ys h)
 ]
 
@@ -135,8 +127,8 @@ no_name q test none x h = passes test (keys (names_of q)) x none (named q x (eli
 
 none_any : (test : Oref → Bool) (ys : List Oref) → ((x : Oref) → list_any (same_oref x) ys ≡ true → test x ≡ false) → list_any test ys ≡ false
 none_any test [] h = refl
-none_any test (y ∷ ys) h = none_or (test y) (list_any test ys)
-    (h y (or_first (same_oref y y) (list_any (same_oref y) ys) (ap is_eq (tied_itself oref_total y))))
+none_any test (y ∷ ys) h = or_from (test y) (list_any test ys)
+    (h y (or_left (same_oref y y) (list_any (same_oref y) ys) (ap is_eq (tied_itself oref_total y))))
     (none_any test ys (λ x e. h x (or_second (same_oref x y) (list_any (same_oref x) ys) e)))
 
 not_read : (q s : Request) → ((x : Oref) → has_read q x ≡ true → reads_from q s x ≡ false) → reads_of q s ≡ false
@@ -251,8 +243,8 @@ module _ (b : Base) (H : List Entry) (sd : sound b H) (q : Request) (stale full 
   not_later t m is e =
       let none = unmapped _ _ (unless (is_before q.tx t) _ (none_at (comes_later q) (window b H).members.pairs t m parts.4 is) (is_before_true q.tx t e)) in
       let at = no_name q (λ x. reads_from q m.request x || writes_over q m.request x) none in (
-        not_read q m.request (λ x r. (or_none (reads_from q m.request x) (writes_over q m.request x) (at x (inl r))).0),
-        not_overwritten q m.request (λ x w. (or_none (reads_from q m.request x) (writes_over q m.request x) (at x (inr w))).1),
+        not_read q m.request (λ x r. (or_parts (reads_from q m.request x) (writes_over q m.request x) (at x (inl r))).0),
+        not_overwritten q m.request (λ x w. (or_parts (reads_from q m.request x) (writes_over q m.request x) (at x (inr w))).1),
       )
 
   -- no undecided member below q wrote what it read
@@ -289,13 +281,13 @@ module _ (b : Base) (H : List Entry) (sd : sound b H) (q : Request) (stale full 
       elim (in_order t q.tx) [
         | inl e ↦
             let reads = not_earlier t m x.1 x.3 e in
-            let none : bars q o.request ≡ false = subst (λ r. bars q r ≡ false) same (none_or (is_upgrade q || is_upgrade m.request) (reads_of q m.request) kinds reads) in
+            let none : bars q o.request ≡ false = subst (λ r. bars q r ≡ false) same (or_from (is_upgrade q || is_upgrade m.request) (reads_of q m.request) kinds reads) in
             ((λ h. never (bars q o.request) none h), (λ h. e))
         | inr k ↦ elim k [
           | inl s ↦ not_here t o is s
           | inr e ↦
               let both = not_later t m x.1 e in
-              let none : bars q o.request ≡ false = subst (λ r. bars q r ≡ false) same (none_or (is_upgrade q || is_upgrade m.request) (reads_of q m.request) kinds both.0) in
+              let none : bars q o.request ≡ false = subst (λ r. bars q r ≡ false) same (or_from (is_upgrade q || is_upgrade m.request) (reads_of q m.request) kinds both.0) in
               let over : overwrites q o.request ≡ false = subst (λ r. overwrites q r ≡ false) same both.1 in
               ((λ h. never (bars q o.request) none h), (λ h. never (overwrites q o.request) over h))
         ]

@@ -5,7 +5,7 @@ use Rattle.commit_log.specs.declared.request.Request.{Request}
 use Rattle.local_history.proofs.Decided.{sorted_state}
 use Rattle.local_history.specs.History.{Known, or_lost, state}
 use Rattle.std.proofs.Common.{Bool, List, [], ap, arith, eq-eqb, false, inl, inr, refl, subst, sym, true, ℕ, ◌++◌, ◌<◌, ◌≡◌, ◌∙◌, ◌∷◌}
-use Rattle.std.proofs.lemmas.Bool.{eqb-true}
+use Rattle.std.proofs.lemmas.Bool.{eqb-true, and_from, and_parts}
 use Rattle.std.proofs.lemmas.Cmp.{eq_by_cmp_equiv, tied_itself}
 use Rattle.std.proofs.lemmas.Map.Keys.{IsDistinct-from_sorted}
 use Rattle.std.proofs.lemmas.Map.Views.{lookup-from_Contains, tells_apart}
@@ -92,14 +92,6 @@ no-request q e = cc
 
 -- ---- the commits
 
-and-parts : (x y : Bool) → (x && y) ≡ true → (x ≡ true) × (y ≡ true)
-and-parts true y h = (refl, h)
-and-parts false y h = cc
-
-and-both : (x y : Bool) → x ≡ true → y ≡ true → (x && y) ≡ true
-and-both true y h k = k
-and-both false y h k = h
-
 module _ (S : Several) where
   of-among : (r : ℕ) (ps : List (Ts × Known)) (e : Commit) → In e (committed_among S r ps) → (p : Known) × In (e.0, p) ps × (e.0.repo ≡ r) × (committed S e.0 ≡ true) × (e.1 ≡ whole S e.0 p.request)
   of-among r [] e i = absurd i
@@ -111,7 +103,7 @@ module _ (S : Several) where
       by : (k : Bool) → (nat_eq p.0.repo r && committed S p.0) ≡ k → (In e (committed_among S r ps) → (v : Known) × In (e.0, v) ps × (e.0.repo ≡ r) × (committed S e.0 ≡ true) × (e.1 ≡ whole S e.0 v.request))
           → In e (cond k ((p.0, whole S p.0 p.1.request) ∷ committed_among S r ps) (committed_among S r ps)) → (v : Known) × In (e.0, v) (p ∷ ps) × (e.0.repo ≡ r) × (committed S e.0 ≡ true) × (e.1 ≡ whole S e.0 v.request)
       by true k more (inl is) =
-          let b = and-parts (nat_eq p.0.repo r) (committed S p.0) k in
+          let b = and_parts (nat_eq p.0.repo r) (committed S p.0) k in
           let t : p.0 ≡ e.0 = ap (λ (f : Commit). f.0) is in
           (p.1, inl (ap (λ (u : Ts). (u, p.1)) t), ap (λ (u : Ts). u.repo) (sym t) ∙ eqb-true p.0.repo r b.0, ap (committed S) (sym t) ∙ b.1, ap (λ (f : Commit). f.1) (sym is) ∙ ap (λ (u : Ts). whole S u p.1.request) t)
       by true k more (inr j) = later (more j)
@@ -125,7 +117,7 @@ module _ (S : Several) where
       by true k more (inl is) = inl (ap (λ (x : Ts × Known). (x.0, whole S x.0 x.1.request)) is)
       by true k more (inr j) = inr (more j)
       by false k more (inl is) =
-          let e : (nat_eq q.0.repo r && committed S q.0) ≡ true = ap (λ (x : Ts × Known). nat_eq x.0.repo r && committed S x.0) is ∙ and-both (nat_eq t.repo r) (committed S t) (eq-eqb t.repo r same) c in cc
+          let e : (nat_eq q.0.repo r && committed S q.0) ≡ true = ap (λ (x : Ts × Known). nat_eq x.0.repo r && committed S x.0) is ∙ and_from (nat_eq t.repo r) (committed S t) (eq-eqb t.repo r same) c in cc
       by false k more (inr j) = more j
 
   module _ (sd : AreSound S) where

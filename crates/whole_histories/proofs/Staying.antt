@@ -11,6 +11,7 @@ use Rattle.local_history.specs.Participants.{takes_part}
 use Rattle.local_history.specs.Requests.{has_read}
 use Rattle.std.proofs.Common.{Bool, List, [], ap, arith, eq-eqb, false, length, refl, subst, sym, take, true, ℕ, ◌++◌, ◌<◌, ◌≡◌, ◌≤◌, ◌∙◌, ◌∷◌}
 use Rattle.std.proofs.lemmas.List.{take-append-le}
+use Rattle.std.proofs.lemmas.Bool.{or_right}
 use Rattle.std.specs.List.{flat_map, list_any}
 use Rattle.std.specs.Prelude.{Option, Some, cond, nat_eq, ◌||◌}
 use Rattle.thor_value.specs.FiniteMap.{get}
@@ -25,11 +26,7 @@ flat-same : {X : Type 0} (f g : ℕ → List X) (ns : List ℕ) → ((n : ℕ) �
 flat-same f g [] h = refl
 flat-same f g (n ∷ ns) h =
     ap (λ xs. xs ++ flat_map f ns) (h n (ap (λ (k : Bool). k || list_any (nat_eq n) ns) (eq-eqb n n refl)))
-    ∙ ap (λ xs. g n ++ xs) (flat-same f g ns (λ m i. h m (further (nat_eq m n) (list_any (nat_eq m) ns) i)))
-  where
-    further : (x y : Bool) → y ≡ true → (x || y) ≡ true
-    further true y k = refl
-    further false y k = k
+    ∙ ap (λ xs. g n ++ xs) (flat-same f g ns (λ m i. h m (or_right (nat_eq m n) (list_any (nat_eq m) ns) i)))
 
 module _ (S : Several) (r : ℕ) (e : Entry) (sd : AreSound S) (go : Continues S r e) (t : Ts) (w : Known) (prepared : IsPrepared S t w) where
   request-on : (X : Type 0) (f : Request → X) (d : X) (by : Option Known → X) → ((o : Known) → by (Some o) ≡ f o.request) → (n : ℕ) → takes_part t.repo w.request n ≡ true → by (part (grown S r e) n t) ≡ by (part S n t)

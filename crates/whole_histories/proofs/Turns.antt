@@ -8,6 +8,7 @@ use Rattle.local_history.specs.History.{Aborted, Committed, CommittedBelow, Fate
 use Rattle.local_history.specs.Laws.{LastWrote, NoneWrote, ReadsObject, WritesObject}
 use Rattle.local_history.specs.Requests.{has_read, has_written, written}
 use Rattle.std.proofs.Common.{Bool, List, ap, arith, false, inl, inr, refl, subst, sym, true, ℕ, ◌++◌, ◌<◌, ◌≡◌, ◌≢◌, ◌≤◌, ◌∙◌, ◌∷◌}
+use Rattle.std.proofs.lemmas.Bool.{cases_lt}
 use Rattle.std.specs.Prelude.{None, Option, Some, is_some, ◌⊎◌, ◌↔◌}
 use Rattle.thor_value.specs.FiniteMap.{get}
 use Rattle.thor_value.specs.Names.{Before}
@@ -33,9 +34,6 @@ below_committed n Open h = h
 below_committed n (Committed at) h = tt
 below_committed n Aborted h = h
 
-low-or-high : (m n : ℕ) → (m < n) ⊎ (n ≤ m)
-low-or-high m n = grind arith
-
 -- who wrote x at a repository stands there
 pub wrote-there : (p : Option Known) (x : Oref) → is_some (put_at (writes_in p) x) ≡ true → (o : Known) × (p ≡ Some o) × (has_written o.request x ≡ true)
 wrote-there None x h = cc
@@ -43,7 +41,7 @@ wrote-there (Some o) x h = (o, refl, h)
 
 -- where something stands there is a repository
 pub in-range : (S : Several) → AreSound S → (n : ℕ) (t : Ts) (o : Known) → part S n t ≡ Some o → n < S.repos
-in-range S sd n t o is = elim (low-or-high n S.repos) [
+in-range S sd n t o is = elim (cases_lt n S.repos) [
   | inl l ↦ l
   | inr h ↦ some-none o (subst (λ (H : List Entry). known_by (S.base n) H t ≡ Some o) (sd.outside n h) is)
 ]

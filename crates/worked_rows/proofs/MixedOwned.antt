@@ -1,6 +1,7 @@
 -- That the small store is well owned as it was found, and no longer where its innermost part is brought first.
 use Rattle.std.proofs.Common.{◌≡◌, ◌≤◌, ◌+◌, arith, Bool, true, false, cond, List, [], ◌∷◌, ℕ, zero, suc, Some, is_some, slice_get, inl, inr, refl, ap, sym, ◌∙◌, subst}
 use Rattle.std.proofs.lemmas.Map.Views.{tells_apart}
+use Rattle.std.proofs.lemmas.Option.{same_Some}
 use Rattle.std.specs.BTreeMap.{is_at}
 use Rattle.std.specs.Map.{lookup}
 use Rattle.std.specs.Option.{IsSomeAnd}
@@ -24,9 +25,6 @@ use Rattle.class_defs.specs.declared.store.Root.{Root}
 use Rattle.class_defs.specs.declared.types.ExprType.{ExprType}
 use Rattle.class_defs.specs.declared.types.ExprType.TheVariants as type
 
-some : {X : Type 0} {x y : X} → Some x ≡ Some y → x ≡ y
-some h = cc
-
 -- what holds of each pair of a list holds of the pair that a look-up finds
 found : (P : Oref → Obj → Type 0) (x : Oref) (o : Obj) (es : List (Oref × Obj)) → ((i : ℕ) (e : Oref × Obj) → slice_get es i ≡ Some e → P e.0 e.1)
     → lookup (is_at (oref_cmp x)) es ≡ Some o → P x o
@@ -35,7 +33,7 @@ found P x o (e ∷ es) all h = by_key (same_oref x e.0) refl h (λ rest. found P
   where
     by_key : (b : Bool) → same_oref x e.0 ≡ b → cond b (Some e.1) (lookup (is_at (oref_cmp x)) es) ≡ Some o
         → (lookup (is_at (oref_cmp x)) es ≡ Some o → P x o) → P x o
-    by_key true is g rest = subst (λ w. P w o) (sym (tells_apart oref_exact x e.0 is)) (subst (P e.0) (some g) (all zero e refl))
+    by_key true is g rest = subst (λ w. P w o) (sym (tells_apart oref_exact x e.0 is)) (subst (P e.0) (same_Some _ _ g) (all zero e refl))
     by_key false is g rest = rest g
 
 -- ---- the references that there are
@@ -69,7 +67,7 @@ of_lone x (suc (suc i)) w h = cc
 
 -- a pair among those of the map
 pair : (P : Oref → Obj → Type 0) {e f : Oref × Obj} → Some e ≡ Some f → P e.0 e.1 → P f.0 f.1
-pair P h p = subst (λ g. P g.0 g.1) (some h) p
+pair P h p = subst (λ g. P g.0 g.1) (same_Some _ _ h) p
 
 known_at : (i : ℕ) (e : Oref × Obj) → slice_get mixed.objects.pairs i ≡ Some e → AreKnown e.0 e.1
 known_at zero e h = pair AreKnown h of_a

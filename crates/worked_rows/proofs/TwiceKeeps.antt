@@ -1,5 +1,6 @@
 -- That the upgrades of the small store keep ownership.
 use Rattle.std.proofs.Common.{◌≡◌, ◌<◌, arith, [], ◌∷◌, ℕ, zero, suc, Some, None, is_some, slice_get, map, refl, ap, sym, ◌∙◌, subst, true}
+use Rattle.std.proofs.lemmas.Option.{same_Some}
 use Rattle.worked_rows.proofs.TfForms.{tf_forms}
 use Rattle.class_defs.specs.Epochs.{classes_of, next_of}
 use Rattle.class_defs.specs.KeptOwnership.{AllKeepClasses, IsHanded, KeepsOwnership, handed, reads_owned}
@@ -12,9 +13,6 @@ use Rattle.class_defs.specs.declared.types.ExprType.{ExprType}
 use Rattle.class_defs.specs.declared.types.ExprType.TheVariants as type
 use Rattle.class_defs.specs.declared.upgrades.ClassUpgrade.{ClassUpgrade}
 use Rattle.class_defs.specs.declared.upgrades.FieldUpgrade.{FieldUpgrade}
-
-some : {X : Type 0} {x y : X} → Some x ≡ Some y → x ≡ y
-some h = cc
 
 -- ---- classes
 
@@ -65,7 +63,7 @@ others_at (suc (suc k)) h c e = absurd (omega (arith, h))
 
 module _ (k c : ℕ) (u : ClassUpgrade) (f0 : FieldUpgrade) (one : u.fields ≡ f0 ∷ []) (int : type_named (classes_of twice (suc k)) f0.type_name ≡ type.Int) where
   only_place : (i : ℕ) (f : FieldUpgrade) → slice_get (f0 ∷ []) i ≡ Some f → (i ≡ zero) × (f0 ≡ f)
-  only_place zero f h = (refl, some h)
+  only_place zero f h = (refl, same_Some _ _ h)
   only_place (suc i) f h = cc
 
   place : (i : ℕ) (f : FieldUpgrade) → slice_get u.fields i ≡ Some f → (i ≡ zero) × (f0 ≡ f)
@@ -92,23 +90,23 @@ module _ (k c : ℕ) (u : ClassUpgrade) (f0 : FieldUpgrade) (one : u.fields ≡ 
 a_paths : (u : ClassUpgrade) → next_of twice 0 0 ≡ Some u → (i : ℕ) (f : FieldUpgrade) → slice_get u.fields i ≡ Some f
     → reads_owned (classes_of twice 0) 0 f.value ≡ true
 a_paths u e zero f h =
-    subst (λ g. reads_owned (classes_of twice 0) 0 g.value ≡ true) (some (subst (λ w. slice_get w.fields 0 ≡ Some f) (sym (some e)) h)) (simp tf_forms refl)
+    subst (λ g. reads_owned (classes_of twice 0) 0 g.value ≡ true) (same_Some _ _ (subst (λ w. slice_get w.fields 0 ≡ Some f) (sym (same_Some _ _ e)) h)) (simp tf_forms refl)
 a_paths u e (suc zero) f h =
-    subst (λ g. reads_owned (classes_of twice 0) 0 g.value ≡ true) (some (subst (λ w. slice_get w.fields 1 ≡ Some f) (sym (some e)) h)) (simp tf_forms refl)
-a_paths u e (suc (suc i)) f h = none (subst (λ w. slice_get w.fields (suc (suc i)) ≡ Some f) (sym (some e)) h)
+    subst (λ g. reads_owned (classes_of twice 0) 0 g.value ≡ true) (same_Some _ _ (subst (λ w. slice_get w.fields 1 ≡ Some f) (sym (same_Some _ _ e)) h)) (simp tf_forms refl)
+a_paths u e (suc (suc i)) f h = none (subst (λ w. slice_get w.fields (suc (suc i)) ≡ Some f) (sym (same_Some _ _ e)) h)
   where
     none : None ≡ Some f → reads_owned (classes_of twice 0) 0 f.value ≡ true
     none h = cc
 
 module _ (u : ClassUpgrade) (e : next_of twice 0 0 ≡ Some u) where
   first_is_number : (d : ℕ) (f : FieldUpgrade) → slice_get u.fields 0 ≡ Some f → type_named (classes_of twice 1) f.type_name ≡ type.Class d → ⊥
-  first_is_number d f h t = cc_type (subst (λ g. type_named (classes_of twice 1) g.type_name ≡ type.Class d) (sym (some (subst (λ w. slice_get w.fields 0 ≡ Some f) (sym (some e)) h))) t)
+  first_is_number d f h t = cc_type (subst (λ g. type_named (classes_of twice 1) g.type_name ≡ type.Class d) (sym (same_Some _ _ (subst (λ w. slice_get w.fields 0 ≡ Some f) (sym (same_Some _ _ e)) h))) t)
     where
       cc_type : type.Int ≡ type.Class d → ⊥
       cc_type h = cc
 
   no_third : (i : ℕ) (f : FieldUpgrade) → slice_get u.fields (suc (suc i)) ≡ Some f → ⊥
-  no_third i f h = none (subst (λ w. slice_get w.fields (suc (suc i)) ≡ Some f) (sym (some e)) h)
+  no_third i f h = none (subst (λ w. slice_get w.fields (suc (suc i)) ≡ Some f) (sym (same_Some _ _ e)) h)
     where
       none : None ≡ Some f → ⊥
       none h = cc
@@ -116,7 +114,7 @@ module _ (u : ClassUpgrade) (e : next_of twice 0 0 ≡ Some u) where
   hands_over : (d : ℕ) (f : FieldUpgrade) → slice_get u.fields 1 ≡ Some f → type_named (classes_of twice 1) f.type_name ≡ type.Class d
       → IsHanded (classes_of twice 0) 0 d (handed (classes_of twice 0) 0 f.value)
   hands_over d f h t =
-      let g = some (subst (λ w. slice_get w.fields 1 ≡ Some f) (sym (some e)) h) in
+      let g = same_Some _ _ (subst (λ w. slice_get w.fields 1 ≡ Some f) (sym (same_Some _ _ e)) h) in
       subst (λ g. IsHanded (classes_of twice 0) 0 d (handed (classes_of twice 0) 0 g.value)) g
       (simp tf_forms (ap Some (subst (λ g. type_named (classes_of twice 1) g.type_name ≡ type.Class d) (sym g) t)))
 
@@ -134,7 +132,7 @@ module _ (u : ClassUpgrade) (e : next_of twice 0 0 ≡ Some u) where
 
   a_keeps : KeepsOwnership twice (classes_of twice 0) (classes_of twice 1) 0 u
   a_keeps = record {
-    fields = ap (λ (w : ClassUpgrade). map (λ f. f.type_name) w.fields) (some e);
+    fields = ap (λ (w : ClassUpgrade). map (λ f. f.type_name) w.fields) (same_Some _ _ e);
     paths = a_paths u e;
     references = a_references;
     once = λ i j d c h f g p q t k r l m n. second i d f p t ∙ sym (second j c g q r);
@@ -146,9 +144,9 @@ first_names : (c : ℕ) (u : ClassUpgrade) → next_of twice 0 c ≡ Some u → 
 first_names zero u e = a_keeps u e
 first_names (suc zero) u e = cc
 first_names (suc (suc zero)) u e =
-    one_number 0 2 u _ (sym (ap (λ (w : ClassUpgrade). w.fields) (some e))) refl (simp tf_forms refl) refl
+    one_number 0 2 u _ (sym (ap (λ (w : ClassUpgrade). w.fields) (same_Some _ _ e))) refl (simp tf_forms refl) refl
 first_names (suc (suc (suc zero))) u e =
-    one_number 0 3 u _ (sym (ap (λ (w : ClassUpgrade). w.fields) (some e))) refl (simp tf_forms refl) refl
+    one_number 0 3 u _ (sym (ap (λ (w : ClassUpgrade). w.fields) (same_Some _ _ e))) refl (simp tf_forms refl) refl
 first_names (suc (suc (suc (suc zero)))) u e = cc
 first_names (suc (suc (suc (suc (suc c))))) u e = cc
 
@@ -157,7 +155,7 @@ second_names zero u e = cc
 second_names (suc zero) u e = cc
 second_names (suc (suc zero)) u e = cc
 second_names (suc (suc (suc zero))) u e =
-    one_number 1 3 u _ (sym (ap (λ (w : ClassUpgrade). w.fields) (some e))) refl (simp tf_forms refl) refl
+    one_number 1 3 u _ (sym (ap (λ (w : ClassUpgrade). w.fields) (same_Some _ _ e))) refl (simp tf_forms refl) refl
 second_names (suc (suc (suc (suc zero)))) u e = cc
 second_names (suc (suc (suc (suc (suc c))))) u e = cc
 

@@ -8,9 +8,7 @@ use Rattle.class_defs.specs.declared.classes.ClassKind.TheVariants.{Free, Part}
 use Rattle.class_defs.specs.declared.classes.Method.{Method}
 use Rattle.class_defs.specs.declared.expressions.Expr.TheVariants as expr
 use Rattle.class_defs.specs.declared.expressions.TypeName.{TypeName}
-use Rattle.class_defs.specs.declared.own_rules.BrokenRule.TheVariants.{Own, Typing}
-use Rattle.class_defs.specs.declared.own_rules.OwnFault.{OwnFault}
-use Rattle.class_defs.specs.declared.own_rules.OwnRule.{OwnRule}
+use Rattle.class_defs.specs.declared.rules.RuleFault.{RuleFault}
 use Rattle.class_defs.specs.declared.rules.Rule.{Rule}
 use Rattle.class_defs.specs.declared.statements.Stmt.{Stmt}
 use Rattle.class_defs.specs.declared.statements.Stmt.TheVariants as stmt
@@ -99,23 +97,16 @@ abbrev pub upgrade : List ClassUpgrade → Upgrade
 upgrade classes = record { line = 9; classes = classes }
 
 -- what is told of an upgrade, in a script with the one item
-abbrev pub told : List ClassUpgrade → Option OwnFault
+abbrev pub told : List ClassUpgrade → Option RuleFault
 told classes = own_fault found 1 (upgrade classes) (item ∷ [])
 
 -- of an upgrade of Box to these fields, whose method `get` stays
-abbrev pub told_of_box : List FieldUpgrade → Option OwnFault
+abbrev pub told_of_box : List FieldUpgrade → Option RuleFault
 told_of_box fields = told (says (codes "Box") 10 fields (gives (codes "get") (codes "n") ∷ []) ∷ [])
 
 -- the same with `int n = old.n;` before these fields
-abbrev pub told_of : List FieldUpgrade → Option OwnFault
+abbrev pub told_of : List FieldUpgrade → Option RuleFault
 told_of fields = told_of_box (becomes int (codes "n") 11 (old 11 (codes "n" ∷ [])) ∷ fields)
-
--- a broken rule O, and a broken rule T
-abbrev pub own : ℕ → OwnRule → Option OwnFault
-own line rule = Some (record { line = line; rule = Own rule })
-
-abbrev pub typing : ℕ → Rule → Option OwnFault
-typing line rule = Some (record { line = line; rule = Typing rule })
 
 -- the schema behind an upgrade of these classes
 abbrev pub behind : List ClassUpgrade → Schema

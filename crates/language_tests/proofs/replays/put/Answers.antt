@@ -1,12 +1,9 @@
 use Rattle.std.proofs.Common.{Err, Ok, OnOk, Result, subst, sym}
+use Rattle.std.proofs.lemmas.Result.{on_ok_weaker}
 use Rattle.thor_value.proofs.FiniteMap.{IsSorted-insert}
 use Rattle.thor_value.proofs.NameOrders.{oref_total}
 use Rattle.thor_value.specs.FiniteMap.{IsSorted}
 use Rattle.language_tests.proofs.replays.put.Goals as goal
 
-on_ok : {A E : Type 0} (r : Result A E) (P Q : Type 0) → (P → Q) → OnOk r P → OnOk r Q
-on_ok (Ok a) P Q f p = f p
-on_ok (Err e) P Q f p = tt
-
 pub returns : goal.returns
-returns c = λ sorted. on_ok c.insert.result _ _ (λ put. subst IsSorted (sym put) (IsSorted-insert oref_total c.args.objects.now c.args.oref c.args.object sorted)) c.insert.ensures.ok
+returns c = λ sorted. on_ok_weaker c.insert.result (λ put. subst IsSorted (sym put) (IsSorted-insert oref_total c.args.objects.now c.args.oref c.args.object sorted)) c.insert.ensures.ok

@@ -1,4 +1,5 @@
 use Rattle.std.proofs.Common.{◌≡◌, ◌<◌, arith, Bool, true, false, ℕ, zero, suc, nat_lt, not, is_some, Option, Some, None, option_map, refl, ap, sym, ◌∙◌}
+use Rattle.std.proofs.lemmas.Bool.{or_from}
 use Rattle.std.specs.Prelude.{◌&&◌, ◌||◌}
 use Rattle.thor_value.specs.FiniteMap.{Map, get}
 use Rattle.thor_value.specs.Names.{oref_cmp}
@@ -19,15 +20,11 @@ unchanged : (a b : Bool) → b ≡ false → (not a && b) ≡ false
 unchanged true b h = refl
 unchanged false b h = h
 
-neither : (a b : Bool) → a ≡ false → b ≡ false → (a || b) ≡ false
-neither true b h g = h
-neither false b h g = g
-
 not_lagging : (s : Schemas) (o : Obj) (e : ℕ) → ((k : ℕ) → k < e → next_of s k o.class ≡ None) → lags s o e ≡ false
 unfolding lags
 not_lagging s o zero h = refl
 not_lagging s o (suc e) h =
-    neither (lags s o e) (changes s e o) (not_lagging s o e (λ k below. h k (omega (arith, below))))
+    or_from (lags s o e) (changes s e o) (not_lagging s o e (λ k below. h k (omega (arith, below))))
     (unchanged (nat_lt e o.ver) (is_some (next_of s e o.class)) (ap is_some (h e (omega arith))))
 
 each_stays : (s : Schemas) (L : Stored) (x : Oref) (o : Option Obj) → get L.objects x ≡ o

@@ -1,5 +1,6 @@
 use Rattle.std.proofs.Common.{◌++◌, ◌∷◌, ◌∙◌, ◌≤◌, ◌+◌, arith, [], List, Some, map, ap, subst, sym, drop}
 use Rattle.std.proofs.lemmas.List.{append-nil, drop_all}
+use Rattle.std.proofs.lemmas.Result.{IfOk-weaker, on_ok_weaker}
 use Rattle.std.specs.List.{flat_map}
 use Rattle.std.specs.Option.{option_copied}
 use Rattle.thor_value.specs.FiniteMap.{Map, get}
@@ -10,7 +11,7 @@ use Rattle.class_defs.specs.declared.store.Object.{Object}
 use Rattle.class_defs.specs.declared.classes.Class.{Class}
 use Rattle.lazy_transform.proofs.Alike.{transformed_alike}
 use Rattle.lazy_transform.proofs.Early.{reads_early, reads_on, value_early, value_on}
-use Rattle.lazy_transform.proofs.Gathering.{Follows, drop_is, follows_end, follows_on, gathers_more, gathers_none, gathers_one, if_ok, on_ok, paths_more}
+use Rattle.lazy_transform.proofs.Gathering.{Follows, drop_is, follows_end, follows_on, gathers_more, gathers_none, gathers_one, paths_more}
 use Rattle.lazy_transform.specs.Reads.{field_behind, passed, path_reads, reads}
 use Rattle.lazy_transform.specs.Walked.{Covers, Gathers, as_of, classes_in}
 use Rattle.lazy_transform.proofs.raising.+raising.Goals as goal
@@ -49,7 +50,7 @@ gather-loop-names-preserved t c =
 
 pub look-returns-in-Some : goal.look-returns-in-Some
 look-returns-in-Some t c =
-    on_ok c.look_at.result _ _ (λ g.
+    on_ok_weaker c.look_at.result (λ g.
     subst (λ xs. Gathers c.args.past.now c.args.before xs c.args.parts.now c.look_at.new.parts c.args.looked.now c.look_at.new.looked) (sym c.in-Some.ensures) g)
     c.look_at.ensures
 
@@ -57,7 +58,7 @@ pub look_at-returns-in_ok-object-in-Some : goal.look_at-returns-in_ok-object-in-
 look_at-returns-in_ok-object-in-Some t c =
     let p = c.args.past.now in
     let k = c.args.before in
-    on_ok c.insert.result _ _ (λ put.
+    on_ok_weaker c.insert.result (λ put.
     subst (λ (m : Map oref_cmp Object). Gathers p k (c.args.part ∷ []) c.args.parts.now m c.args.looked.now c.raise.new.looked) (sym put)
     (gathers_one p k c.args.part c.in-Some.obj.now c.in_ok-object-in-Some.object c.args.parts.now c.args.looked.now c.raise.new.looked
     (sym c.get.ensures ∙ ap option_copied c.in-Some.is)
@@ -82,7 +83,7 @@ next-returns-in_ok-parts-in-Some-clause-value t c =
     let reading = path_reads (classes_in p k) (as_of p k) c.args.object in
     let covers = subst (λ ps. Covers (flat_map reading ps) (get parts) (as_of p k))
     (ap (map (λ b. b.now)) c.as_slice.ensures.value ∙ c.in_ok-paths-in-Some.ensures) c.in_ok-parts-in-Some.ensures.parts in
-    if_ok c.transformed.result _ _ (λ after is.
+    IfOk-weaker c.transformed.result _ _ (λ after is.
     is
     ∙ ap (λ (cs : List Class). upgrades.transformed cs c.classes_at-new.result.now (get parts) c.args.object (Some said)) c.classes_at-old.ensures
     ∙ ap (λ (cs : List Class). upgrades.transformed (classes_in p k) cs (get parts) c.args.object (Some said)) c.classes_at-new.ensures
@@ -118,7 +119,7 @@ walk-returns-in-Some t c =
     let p = c.args.past.now in
     let k = c.args.before in
     let o = c.args.object.now in
-    on_ok c.follow.result _ _ (λ g.
+    on_ok_weaker c.follow.result (λ g.
     subst (λ xs. Gathers p k xs c.args.parts.now c.follow.new.parts c.args.looked.now c.follow.new.looked)
     (ap (λ v. passed (classes_in p k) (as_of p k) v c.in-Some.rest.now)
     (c.field_behind-value.ensures ∙ ap (λ (cs : List Class). field_behind cs (Some o) c.in-Some.name.now) c.classes_at-old.ensures)

@@ -4,14 +4,14 @@ use Rattle.std.proofs.lemmas.Grind.{common_steps}
 use Rattle.class_defs.specs.Rules.{least_with}
 use Rattle.class_defs.specs.StatementRules.{in_turn, ruled}
 use Rattle.class_defs.specs.declared.rules.NamedType.{NamedType}
-use Rattle.class_defs.specs.declared.rules.TypeFault.{TypeFault}
+use Rattle.class_defs.specs.declared.rules.RuleFault.{RuleFault}
 use Rattle.class_defs.specs.declared.statements.Stmt.{Stmt}
 use Rattle.method_check.proofs.Pieces.{least_append}
 use Rattle.method_check.specs.Bodies.{sight}
 use Rattle.method_check.specs.declared.body.Body.{Body}
 use Rattle.method_check.proofs.blocks.+blocks.Goals as goal
 
-one_more : (b : Body) (locals : List NamedType) (all : List Stmt) (i : ℕ) (e : Stmt) (found whole : Option TypeFault) → i < length all → e ≡ get_or all i e → least_with found (in_turn (map ruled (drop i all)) (sight b locals)) ≡ whole → least_with (least_with found ((ruled e).broken (sight b locals))) (in_turn (map ruled (drop (i + 1) all)) (sight b (locals ++ (ruled e).declares b.schema.now.classes))) ≡ whole
+one_more : (b : Body) (locals : List NamedType) (all : List Stmt) (i : ℕ) (e : Stmt) (found whole : Option RuleFault) → i < length all → e ≡ get_or all i e → least_with found (in_turn (map ruled (drop i all)) (sight b locals)) ≡ whole → least_with (least_with found ((ruled e).broken (sight b locals))) (in_turn (map ruled (drop (i + 1) all)) (sight b (locals ++ (ruled e).declares b.schema.now.classes))) ≡ whole
 one_more b locals all i e found whole within is h =
     sym (least_append found ((ruled e).broken (sight b locals)) (in_turn (map ruled (drop (i + 1) all)) (sight b (locals ++ (ruled e).declares b.schema.now.classes))))
     ∙ ap (λ q. least_with found (in_turn (map ruled (q ∷ drop (i + 1) all)) (sight b locals))) is

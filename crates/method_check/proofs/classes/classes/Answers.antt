@@ -4,12 +4,12 @@ use Rattle.std.proofs.lemmas.Grind.{common_steps}
 use Rattle.class_defs.specs.Rules.{least_with}
 use Rattle.class_defs.specs.SchemaRules.{class_rules, classes_from}
 use Rattle.class_defs.specs.declared.classes.Class.{Class}
-use Rattle.class_defs.specs.declared.rules.TypeFault.{TypeFault}
+use Rattle.class_defs.specs.declared.rules.RuleFault.{RuleFault}
 use Rattle.class_defs.specs.declared.store.Schema.{Schema}
 use Rattle.method_check.proofs.Pieces.{least_append}
 use Rattle.method_check.proofs.classes.classes.Goals as goal
 
-one_more : (schema : Schema) (repos : ℕ) (all : List Class) (i : ℕ) (d : Class) (found whole : Option TypeFault) → i < length all → d ≡ get_or all i d → least_with found (classes_from schema repos i (drop i all)) ≡ whole → least_with (least_with found (class_rules schema repos i d)) (classes_from schema repos (i + 1) (drop (i + 1) all)) ≡ whole
+one_more : (schema : Schema) (repos : ℕ) (all : List Class) (i : ℕ) (d : Class) (found whole : Option RuleFault) → i < length all → d ≡ get_or all i d → least_with found (classes_from schema repos i (drop i all)) ≡ whole → least_with (least_with found (class_rules schema repos i d)) (classes_from schema repos (i + 1) (drop (i + 1) all)) ≡ whole
 one_more schema repos all i d found whole within is h =
     sym (least_append found (class_rules schema repos i d) (classes_from schema repos (i + 1) (drop (i + 1) all)))
     ∙ ap (λ q. least_with found (classes_from schema repos i (q ∷ drop (i + 1) all))) is

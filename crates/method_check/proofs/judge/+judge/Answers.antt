@@ -5,12 +5,12 @@ use Rattle.class_defs.specs.ExpressionRules.{judged, argument_rules, arguments_r
 use Rattle.class_defs.specs.Rules.{Sight, least_with}
 use Rattle.class_defs.specs.declared.classes.Parameter.{Parameter}
 use Rattle.class_defs.specs.declared.expressions.Expr.{Expr}
-use Rattle.class_defs.specs.declared.rules.TypeFault.{TypeFault}
+use Rattle.class_defs.specs.declared.rules.RuleFault.{RuleFault}
 use Rattle.method_check.proofs.Pieces.{least_append}
 use Rattle.method_check.specs.Bodies.{sight}
 use Rattle.method_check.proofs.judge.+judge.Goals as goal
 
-one_more : (s : Sight) (ps : List Parameter) (all : List Expr) (i : ℕ) (e : Expr) (found whole : Option TypeFault) → i < length all → e ≡ get_or all i e → least_with found (arguments_rules s.schema.classes ps (map (judged s) (drop i all))) ≡ whole → least_with (least_with found (argument_rules s.schema.classes (slice_get ps 0) (judged s e))) (arguments_rules s.schema.classes (drop 1 ps) (map (judged s) (drop (i + 1) all))) ≡ whole
+one_more : (s : Sight) (ps : List Parameter) (all : List Expr) (i : ℕ) (e : Expr) (found whole : Option RuleFault) → i < length all → e ≡ get_or all i e → least_with found (arguments_rules s.schema.classes ps (map (judged s) (drop i all))) ≡ whole → least_with (least_with found (argument_rules s.schema.classes (slice_get ps 0) (judged s e))) (arguments_rules s.schema.classes (drop 1 ps) (map (judged s) (drop (i + 1) all))) ≡ whole
 one_more s ps all i e found whole within is h =
     sym (least_append found (argument_rules s.schema.classes (slice_get ps 0) (judged s e)) (arguments_rules s.schema.classes (drop 1 ps) (map (judged s) (drop (i + 1) all))))
     ∙ ap (λ q. least_with found (arguments_rules s.schema.classes ps (map (judged s) (q ∷ drop (i + 1) all)))) is

@@ -8,13 +8,13 @@ use Rattle.std.proofs.lemmas.List.{at_drop_more, take_more}
 use Rattle.class_defs.specs.Rules.{least_with, must, stand_once}
 use Rattle.class_defs.specs.declared.expressions.Name.{Name}
 use Rattle.class_defs.specs.declared.rules.Rule.TheVariants.{T1}
-use Rattle.class_defs.specs.declared.rules.TypeFault.{TypeFault}
+use Rattle.class_defs.specs.declared.rules.RuleFault.{RuleFault}
 use Rattle.method_check.proofs.Pieces.{least_append}
 use Rattle.method_check.proofs.names.stand_once.Goals as goal
 
-one_more : (all : List Name) (i : ℕ) (n : Name) (found whole : Option TypeFault) → i < length all → n ≡ get_or all i n → least_with found (stand_once (take i all) (drop i all)) ≡ whole → least_with (least_with found (must (not (list_any (λ m. bytes_eq m.text n.text) (take i all))) T1 n.line)) (stand_once (take (i + 1) all) (drop (i + 1) all)) ≡ whole
+one_more : (all : List Name) (i : ℕ) (n : Name) (found whole : Option RuleFault) → i < length all → n ≡ get_or all i n → least_with found (stand_once (take i all) (drop i all)) ≡ whole → least_with (least_with found (must (not (list_any (λ m. bytes_eq m.text n.text) (take i all))) T1 n.line)) (stand_once (take (i + 1) all) (drop (i + 1) all)) ≡ whole
 one_more all i n found whole within is h =
-    let own : List TypeFault = must (not (list_any (λ (m : Name). bytes_eq m.text n.text) (take i all))) T1 n.line in
+    let own : List RuleFault = must (not (list_any (λ (m : Name). bytes_eq m.text n.text) (take i all))) T1 n.line in
     ap (λ t. least_with (least_with found own) (stand_once t (drop (i + 1) all))) (take_more all i n within ∙ ap (λ q. take i all ++ q ∷ []) (sym is))
     ∙ sym (least_append found own (stand_once (take i all ++ n ∷ []) (drop (i + 1) all)))
     ∙ ap (λ q. least_with found (stand_once (take i all) (q ∷ drop (i + 1) all))) is

@@ -1,11 +1,12 @@
 use Rattle.std.proofs.Common.{◌≡◌, ◌<◌, ◌∙◌, sym, subst, ap, Some, ℕ, List}
+use Rattle.std.proofs.lemmas.Result.{IfOk-weaker}
 use Rattle.disk_trait.specs.Disks.{Leaves}
 use Rattle.disk_trait.proofs.Runs.{leaves_then}
 use Rattle.page_format.specs.Sides.{side_in_use}
 use Rattle.page_store.specs.Sides.{KeepsSides, next_side}
 use Rattle.page_store.specs.Store.{with_place}
 use Rattle.mob_flusher.specs.Images.{IsFlushed}
-use Rattle.mob_flusher.proofs.Maps.{still_keeps, if_ok_both, if_ok_more, held_placed, next_below}
+use Rattle.mob_flusher.proofs.Maps.{still_keeps, if_ok_both, held_placed, next_below}
 use Rattle.mob_flusher.proofs.store.install_image.Goals as goal
 
 pub returns-in_err-hold-clause-any_moment : goal.returns-in_err-hold-clause-any_moment
@@ -44,4 +45,4 @@ returns-clause-flushed g c =
 pub returns-clause-side : goal.returns-clause-side
 returns-clause-side g c =
     let in_use = side_in_use c.hold.new.self.sides c.in_ok-image-in-Some.image.number in
-    if_ok_more c.install.result (λ (side : ℕ). side ≡ next_side in_use) (λ (side : ℕ). side < 2) (λ side is. subst (λ (n : ℕ). n < 2) (sym is) (next_below in_use)) c.install.ensures.side
+    IfOk-weaker c.install.result (λ (side : ℕ). side ≡ next_side in_use) (λ (side : ℕ). side < 2) (λ side is. subst (λ (n : ℕ). n < 2) (sym is) (next_below in_use)) c.install.ensures.side

@@ -1,7 +1,7 @@
 use Rattle.std.proofs.Common.{◌∙◌, ap}
 use Rattle.class_defs.specs.Rules.{least_with}
 use Rattle.class_defs.specs.SchemaRules.{item_rules}
-use Rattle.ownership_check.proofs.Pieces.{each_more}
+use Rattle.method_check.proofs.Pieces.{each_more}
 use Rattle.ownership_check.proofs.outside.items_outside.Goals as goal
 
 pub loop-item-preserved : goal.loop-item-preserved

@@ -1,26 +1,43 @@
-use Rattle.std.proofs.Common.{◌≡◌, IsErrOf, Ok, Option, ap, inl, rules, ◌∙◌}
-use Rattle.recovery.proofs.FoundLaws.{found_none, if_ok, inner_damaged, recovered_holds, recovered_keeps, recovered_pages, recovered_stands}
-use Rattle.recovery.specs.declared.fault.RecoverFault.TheVariants.{Damaged}
-use Rattle.state_log.specs.Opening.{Found}
+use Rattle.std.proofs.Common.{◌≡◌, Err, Result, ap, inl, refl, sym, ℕ, ◌∙◌}
+use Rattle.recovery.proofs.FoundLaws.{if_ok, inner_damaged, recovered_holds, recovered_keeps, recovered_pages, recovered_stands}
+use Rattle.recovery.specs.Faults.{found_fault}
+use Rattle.recovery.specs.declared.fault.RecoverFault.TheVariants as recovered
+use Rattle.state_log.specs.declared.fault.FindFault.TheVariants as found
+use Rattle.state_log.specs.declared.fault.FindFault.{FindFault}
 use Rattle.recovery.proofs.recovering.recover.Goals as goal
 
-pub returns-in_err-found-clause-damaged : goal.returns-in_err-found-clause-damaged
-returns-in_err-found-clause-damaged g c = λ images d place reads is.
-    let wrong : IsErrOf c.find.result (Damaged d place) = search rules in
-    inl (c.find.ensures.damaged images d place reads wrong)
+same_err : {T E : Type 0} (r : Result T E) (a b : E) → r ≡ Err a → r ≡ Err b → a ≡ b
+same_err r a b is e = cc
 
-pub returns-clause-keeps : goal.returns-clause-keeps
-returns-clause-keeps g c = if_ok _ _ c.replay_found.result (λ r is. recovered_keeps c.in_ok-found.found r is) c.replay_found.ensures.recovered
+same_disk : (a b d place : ℕ) → recovered.Damaged a b ≡ recovered.Damaged d place → a ≡ d
+same_disk a b d place is = cc
 
-pub returns-clause-holds : goal.returns-clause-holds
-returns-clause-holds g c = if_ok _ _ c.replay_found.result (λ r is. recovered_holds (g.P.Parts.disks c.find.new.parts) c.in_ok-found.found r is c.in_ok-found.ensures.holds) c.replay_found.ensures.recovered
+same_place : (a b d place : ℕ) → recovered.Damaged a b ≡ recovered.Damaged d place → b ≡ place
+same_place a b d place is = cc
 
-pub returns-clause-found : goal.returns-clause-found
-returns-clause-found g c = λ images reads. if_ok _ _ c.replay_found.result (λ r is. recovered_stands images c.in_ok-found.found r is (c.in_ok-found.ensures.found images reads)) c.replay_found.ensures.recovered
+found_damaged : (fault : FindFault) (d place : ℕ) → found_fault fault ≡ recovered.Damaged d place → fault ≡ found.Damaged d place
+found_damaged (found.Failed disk) d place is = cc
+found_damaged (found.Damaged a b) d place is = ap (λ (x : ℕ). found.Damaged x b) (same_disk a b d place is) ∙ ap (λ (y : ℕ). found.Damaged d y) (same_place a b d place is)
+found_damaged found.NoMemory d place is = cc
 
-pub returns-clause-damaged : goal.returns-clause-damaged
-returns-clause-damaged g c = λ images d place reads is.
-    inner_damaged images c.in_ok-found.found d place (c.replay_found.ensures.damaged d place is) (c.replay_found.ensures.damaged_some d place is) (c.in_ok-found.ensures.log images reads)
+pub returns-in-Err-clause-damaged : goal.returns-in-Err-clause-damaged
+returns-in-Err-clause-damaged g c = λ images d place reads damaged.
+    let e : c.found_fault.result ≡ recovered.Damaged d place = same_err _ c.found_fault.result (recovered.Damaged d place) refl damaged in
+    let at = found_damaged c.in-Err.fault d place (sym c.found_fault.ensures ∙ e) in
+    inl (c.open_logs.ensures.damaged images d place reads (c.in-Err.is ∙ ap (λ (f : FindFault). Err f) at))
 
-pub returns-clause-pages : goal.returns-clause-pages
-returns-clause-pages g c = if_ok _ _ c.replay_found.result (λ r is. recovered_pages c.in_ok-found.found r is) c.replay_found.ensures.recovered
+pub returns-in-Ok-clause-keeps : goal.returns-in-Ok-clause-keeps
+returns-in-Ok-clause-keeps g c = if_ok _ _ c.replay_found.result (λ r is. recovered_keeps c.in-Ok.found r is) c.replay_found.ensures.recovered
+
+pub returns-in-Ok-clause-holds : goal.returns-in-Ok-clause-holds
+returns-in-Ok-clause-holds g c = if_ok _ _ c.replay_found.result (λ r is. recovered_holds (g.P.Parts.disks c.open_logs.new.parts) c.in-Ok.found r is c.in-Ok.ensures.holds) c.replay_found.ensures.recovered
+
+pub returns-in-Ok-clause-found : goal.returns-in-Ok-clause-found
+returns-in-Ok-clause-found g c = λ images reads. if_ok _ _ c.replay_found.result (λ r is. recovered_stands images c.in-Ok.found r is (c.in-Ok.ensures.found images reads)) c.replay_found.ensures.recovered
+
+pub returns-in-Ok-clause-damaged : goal.returns-in-Ok-clause-damaged
+returns-in-Ok-clause-damaged g c = λ images d place reads is.
+    inner_damaged images c.in-Ok.found d place (c.replay_found.ensures.damaged d place is) (c.replay_found.ensures.damaged_some d place is) (c.in-Ok.ensures.log images reads)
+
+pub returns-in-Ok-clause-pages : goal.returns-in-Ok-clause-pages
+returns-in-Ok-clause-pages g c = if_ok _ _ c.replay_found.result (λ r is. recovered_pages c.in-Ok.found r is) c.replay_found.ensures.recovered

@@ -1,20 +1,29 @@
-use Rattle.std.proofs.Common.{◌≡◌, IfSome, IsErrOf, Option, Some, rules, subst, sym}
-use Rattle.log_frame.specs.Log.{Stands}
-use Rattle.state_log.specs.Holds.{Holds}
-use Rattle.state_log.specs.Opening.{Found, log_of}
-use Rattle.state_log.specs.Recovered.{state_in}
-use Rattle.state_log.specs.declared.fault.FindFault.TheVariants.{Damaged}
+use Rattle.std.proofs.Common.{◌∙◌, arith, sym, inl, inr, rules, IsErrOf}
+use Rattle.disk_trait.proofs.Several.{settled_still, content_stays}
+use Rattle.state_log.proofs.Opened.{found_holds, found_as, stands_damaged}
+use Rattle.log_frame.specs.declared.fault.LogFault.TheVariants.{Damaged}
 use Rattle.state_log.proofs.finding.open_logs.Goals as goal
 
-pub returns-in_err-found-clause-damaged : goal.returns-in_err-found-clause-damaged
-returns-in_err-found-clause-damaged g c = λ images d place reads damaged.
-    let wrong : IsErrOf c.open_both.result (Damaged d place) = search rules in
-    c.open_both.ensures.damaged images d place reads wrong
+pub returns-in_err-second-clause-settled : goal.returns-in_err-second-clause-settled
+returns-in_err-second-clause-settled g c =
+    settled_still _ _ 1 (omega arith) c.open_on-2.ensures.alone c.open_on-2.ensures.content c.open_on-2.ensures.crash
+    (settled_still _ _ 0 (omega arith) c.open_on.ensures.alone c.open_on.ensures.content c.open_on.ensures.crash c.requires)
+
+pub returns-in_err-second-clause-content : goal.returns-in_err-second-clause-content
+returns-in_err-second-clause-content g c = λ d. content_stays _ _ 1 c.open_on-2.ensures.alone c.open_on-2.ensures.content d ∙ content_stays _ _ 0 c.open_on.ensures.alone c.open_on.ensures.content d
 
 pub returns-clause-holds : goal.returns-clause-holds
 returns-clause-holds g c = λ s.
-    subst (λ (r : Option Found). IfSome r (λ f. state_in (log_of f) ≡ Some s → Holds (g.P.Parts.disks c.open_both.new.parts) f.0 s)) (sym c.as_commit_log.ensures) (c.in_ok-found.ensures.holds s)
+    let first = g.P.Parts.disks c.open_on.new.parts in
+    let settled = settled_still _ _ 1 (omega arith) c.open_on-2.ensures.alone c.open_on-2.ensures.content c.open_on-2.ensures.crash
+    (settled_still _ _ 0 (omega arith) c.open_on.ensures.alone c.open_on.ensures.content c.open_on.ensures.crash c.requires) in
+    found_holds (g.P.Parts.disks c.open_on-2.new.parts) c.in_ok-first.first c.in_ok-second.second s settled c.in_ok-first.ensures.disk c.in_ok-second.ensures.disk
+    (λ bytes told. c.in_ok-first.ensures.found bytes (sym (content_stays _ _ 1 c.open_on-2.ensures.alone c.open_on-2.ensures.content 0 ∙ c.open_on.ensures.content) ∙ told))
+    (λ bytes told. c.in_ok-second.ensures.found bytes (sym c.open_on-2.ensures.content ∙ told))
+    c.choose.result c.choose.ensures
 
-pub returns-clause-log : goal.returns-clause-log
-returns-clause-log g c = λ images reads.
-    subst (λ (r : Option Found). IfSome r (λ f. Stands (images f.0.disk) (log_of f))) (sym c.as_commit_log.ensures) (c.in_ok-found.ensures.log images reads)
+pub returns-clause-found : goal.returns-clause-found
+returns-clause-found g c = λ images reads.
+    found_as images c.in_ok-first.first c.in_ok-second.second (c.in_ok-first.ensures.found (images 0) (reads 0 (omega arith)))
+    (c.in_ok-second.ensures.found (images 1) (content_stays _ _ 0 c.open_on.ensures.alone c.open_on.ensures.content 1 ∙ reads 1 (omega arith)))
+    c.choose.result c.choose.ensures
