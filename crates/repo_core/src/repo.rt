@@ -68,36 +68,3 @@ impl<P: Parts> Repo<P> {
         (stable.into_parts(), trace.into_trace())
     }
 }
-
-impl<P: Parts> Drop for Repo<P> {
-    fn drop(self) {
-        let Repo {
-            alloc: _,
-            stable,
-            memory,
-            trace,
-            opened_in: _,
-        } = self;
-        drop(stable);
-        drop(memory);
-        drop(trace);
-    }
-}
-
-impl<P: Parts> Repo<P> {
-    /// Ends it. Its parts come back with its trace.
-    pub fn close(self) -> (P, Trace)
-        ensures history { result.1.history ≡ self.trace.history }
-        ensures marks { result.1.marks ≡ self.trace.marks }
-    {
-        let Repo {
-            alloc: _,
-            stable,
-            memory,
-            trace,
-            opened_in: _,
-        } = self;
-        drop(memory);
-        (stable.into_parts(), trace.into_trace())
-    }
-}
