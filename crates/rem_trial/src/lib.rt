@@ -1,6 +1,0 @@
-//! A trial.
-#![tactic(auto)]
-
-mod laws;
-
-pub use laws::remembers;
