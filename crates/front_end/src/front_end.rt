@@ -86,8 +86,30 @@ impl FrontEnd {
             }
             None => self.follow(port, opened)?,
         };
-        self.progress.take_down(news)?;
+        self.take_down(news)?;
         Ok(Step::Moved)
+    }
+
+    /// Takes down what a step has come to.
+    fn take_down(&mut self, news: News) -> Result<(), NoMemory>
+        ensures { Goes self.old self.new }
+    {
+        match news {
+            News::TryEnded { cause } => self.end_try(cause),
+            news => self.progress.take_down(news),
+        }
+    }
+
+    /// A try has ended without a commit. Where no item is left, what held a next try back is given up, since
+    /// none begins.
+    fn end_try(&mut self, cause: Cause) -> Result<(), NoMemory>
+        ensures { Goes self.old self.new }
+    {
+        if self.progress.has_ended() {
+            self.client.stop_waiting();
+            return Ok(());
+        }
+        self.progress.take_down(News::TryEnded { cause })
     }
 
     /// Follows the rule that is next. Where its call would be counted and none is left, the try ends.
@@ -136,7 +158,7 @@ impl FrontEnd {
         match self.client.held.at(repo) {
             Some(at) => {
                 let news = self.client.receive_delivered(port, opened, at)?;
-                self.progress.take_down(news)
+                self.take_down(news)
             }
             None => Ok(()),
         }
