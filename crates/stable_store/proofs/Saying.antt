@@ -146,18 +146,21 @@ images_installing old new log held page side repo stood flushed goes any = recor
 pub remembers_spelled : (h : Held) → Keeps h → Remembers (spelled h) (said h)
 remembers_spelled h keeps = record { rest = refl; next = keeps.next; kept = λ t is. is; installed = refl; objects = λ x. refl }
 
-pub images_checkpointed : (old new : Disks) (log : Place) (held : Held) → LogSays old log (said held) → Keeps held → GoesOn old new → ((s : State) → Holds old log s → TellsAll old → LeavesAll old new (SaysEither s (spelled held))) → ImagesSay new held None
-images_checkpointed old new log held stood keeps goes any = record {
+remembers_spelt : (h : Held) (t : State) → t ≡ spelled h → Keeps h → Remembers t (said h)
+remembers_spelt h t is keeps = subst (λ (s : State). Remembers s (said h)) (sym is) (remembers_spelled h keeps)
+
+pub images_checkpointed : (old new : Disks) (log : Place) (held : Held) (t : State) → t ≡ spelled held → LogSays old log (said held) → Keeps held → GoesOn old new → ((s : State) → Holds old log s → TellsAll old → LeavesAll old new (SaysEither s t)) → ImagesSay new held None
+images_checkpointed old new log held t is stood keeps goes any = record {
   each = λ tells images left.
       let told = tells_before old new goes tells in
-      elim (all_now old new (SaysEither stood.state (spelled held)) (any stood.state stood.holds told) images left) [
+      elim (all_now old new (SaysEither stood.state t) (any stood.state stood.holds told) images left) [
         | inl before ↦ record { state = stood.state; stands = before; says = inl (stood.says told) }
-        | inr more ↦ record { state = spelled held; stands = more; says = inl (remembers_spelled held keeps) }
+        | inr more ↦ record { state = t; stands = more; says = inl (remembers_spelt held t is keeps) }
       ];
 }
 
-pub log_anew : (disks : Disks) (log : Place) (held : Held) → Keeps held → Holds disks log (spelled held) → LogSays disks log (said held)
-log_anew disks log held keeps holds = record { state = spelled held; holds = holds; says = λ tells. remembers_spelled held keeps }
+pub log_anew : (disks : Disks) (log : Place) (held : Held) (t : State) → t ≡ spelled held → Keeps held → Holds disks log t → LogSays disks log (said held)
+log_anew disks log held t is keeps holds = record { state = t; holds = holds; says = λ tells. remembers_spelt held t is keeps }
 
 -- ---- by whether it is up
 
@@ -268,3 +271,29 @@ says_images disks held (Torn e) whole says = cc
 -- whether it is up or down, images say what it holds
 pub images_of : {P : Type 0} (disks : P → Disks) (store : Stable P) → is_torn store ≡ false → IsSaid disks store → ImagesSay (disks_of disks store) (held_of store) (pending store)
 images_of disks store whole is = says_images (disks_of disks store) store.held store.phase whole is.says
+
+-- the log was taken out, and is let go of
+pub said_out : {P : Type 0} (disks : P → Disks) (old mid : Stable P) (log : Place) → old.phase ≡ Up log → mid ≡ down_with old None → IsSaid disks old → IsSaid disks mid
+said_out disks old mid log is same said_old =
+    subst (IsSaid disks) (sym same) (record { says = images_of_log (disks_of disks old) log old.held old.held (log_of_up (disks_of disks old) old.held old.phase log said_old.says is) refl })
+
+keeps_out : {P : Type 0} (old mid : Stable P) → mid ≡ down_with old None → Keeps old.held → Keeps mid.held
+keeps_out {P = P} old mid same keeps = subst (λ (s : Stable P). Keeps s.held) (sym same) keeps
+
+-- a checkpoint failed
+pub said_begun : {P : Type 0} (disks : P → Disks) (old mid : Stable P) (parts : Fused P) (log : Place) (t : State) → old.phase ≡ Up log → mid ≡ down_with old None → IsSaid disks old → Keeps old.held → t ≡ spelled mid.held
+    → GoesOn (disks_of disks mid) (fused_disks disks parts) → ((s : State) → Holds (disks_of disks mid) log s → TellsAll (disks_of disks mid) → LeavesAll (disks_of disks mid) (fused_disks disks parts) (SaysEither s t)) → IsSaid disks (record mid { parts = parts })
+said_begun disks old mid parts log t is same said_old keeps spelt goes any =
+    said_in_phase disks (record mid { parts = parts }) None (ap phase_of same)
+    (images_checkpointed (disks_of disks mid) (fused_disks disks parts) log mid.held t spelt (taken_says disks old mid log is same said_old) (keeps_out old mid same keeps) goes any)
+
+-- or began a log
+pub said_anew : {P : Type 0} (disks : P → Disks) (old mid new : Stable P) (parts : Fused P) (log : Place) (t : State) → mid ≡ down_with old None → Keeps old.held → t ≡ spelled mid.held → new ≡ record mid { parts = parts; phase = Up log } → Holds (fused_disks disks parts) log t → IsSaid disks new
+said_anew disks old mid new parts log t same keeps spelt put holds =
+    said_up disks (record mid { parts = parts }) new log put (log_anew (fused_disks disks parts) log mid.held t spelt (keeps_out old mid same keeps) holds)
+
+-- a page couldn't be read
+pub said_unread : {P : Type 0} (disks : P → Disks) (old mid : Stable P) (parts : Fused P) (held : Held) (log : Place) → old.phase ≡ Up log → mid ≡ down_with old None → IsSaid disks old → OnDisk (disks_of disks mid) (fused_disks disks parts) 2 → said held ≡ said mid.held → IsSaid disks (record mid { parts = parts; held = held })
+said_unread disks old mid parts held log is same said_old alone kept =
+    said_in_phase disks (record mid { parts = parts; held = held }) None (ap phase_of same)
+    (images_beside (disks_of disks mid) (fused_disks disks parts) log mid.held held (taken_says disks old mid log is same said_old) alone kept)

@@ -108,6 +108,7 @@ impl<P: Parts> Stable<P> {
     }
 
     /// Crashes the disks and reads what they stand for.
+    #[tactic(auto, using(crate::proofs::Returning::more_run, crate::proofs::Returning::more_then))]
     fn recover(&mut self, alloc: Global, pick: u64) -> Result<Recovered, Refusal>
         ensures phase { self.new.phase ≡ self.old.phase }
         ensures held { held_of self.new ≡ held_of self.old }
@@ -135,6 +136,7 @@ impl<P: Parts> Stable<P> {
     }
 
     /// What was recovered, where the disk of pages reaches the installed sides.
+    #[tactic(auto, using(crate::proofs::Returning::more_read))]
     fn reached(&mut self, recovered: Recovered) -> Result<Recovered, Refusal>
         requires holds { (s : State) × Holds (disks_of P.disks self.old) recovered.log s }
         requires stands { Holds (disks_of P.disks self.old) recovered.log (said recovered.state) }

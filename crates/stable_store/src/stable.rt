@@ -118,6 +118,7 @@ impl<P: Parts> Stable<P> {
     }
 
     /// Takes the repository down, where it is up. No entry is being written then.
+    #[tactic(auto, using(crate::proofs::Saying::said_lowered))]
     pub fn take_down(&mut self)
         requires kept { IsKept P.disks self.old }
         ensures new { self.new ≡ down self.old }
@@ -138,6 +139,7 @@ impl<P: Parts> Stable<P> {
     }
 
     /// Takes the repository down, with an entry that the log has and that couldn't be entered.
+    #[tactic(auto, using(crate::proofs::Saying::said_torn))]
     pub fn fail_with(&mut self, entry: Entry)
         ensures new { self.new ≡ torn self.old entry }
         ensures kept { IsKept P.disks self.new }
@@ -147,6 +149,7 @@ impl<P: Parts> Stable<P> {
     }
 
     /// Takes the repository down, where it is up, with an entry that the log has and that wasn't entered.
+    #[tactic(auto, using(crate::proofs::Saying::said_pending))]
     pub fn pend(&mut self, entry: Entry)
         requires fits { BodyFits (AnEntry entry) }
         requires up { is_up self.old ≡ true }
@@ -161,6 +164,7 @@ impl<P: Parts> Stable<P> {
     }
 
     /// Arms the stop; 0 takes the repository down at once.
+    #[tactic(auto, using(crate::proofs::Saying::said_armed, crate::proofs::Saying::said_lowered))]
     pub fn stop_after(&mut self, calls: u32)
         requires kept { IsKept P.disks self.old }
         ensures kept { IsKept P.disks self.new }
@@ -178,6 +182,7 @@ impl<P: Parts> Stable<P> {
     }
 
     /// Takes back a stop that hasn't fallen.
+    #[tactic(auto, using(crate::proofs::Saying::said_armed))]
     pub fn disarm(&mut self)
         requires kept { IsKept P.disks self.old }
         ensures kept { IsKept P.disks self.new }
@@ -223,6 +228,7 @@ impl<P: Parts> Stable<P> {
     }
 
     /// Writes an entry into the log, and hands it back. After a fault it is pending.
+    #[tactic(auto, using(crate::proofs::Saying::said_same))]
     pub fn append(&mut self, entry: Entry) -> Result<Entry, Refusal>
         requires fits { BodyFits (AnEntry entry) }
         requires kept { IsKept P.disks self.old }
@@ -256,6 +262,7 @@ impl<P: Parts> Stable<P> {
 
     /// Enters an entry that the log has into what is held. Where there is no memory for it the repository is
     /// down, and what is held is no state of its log any more; the entry comes back with `Ok`.
+    #[tactic(auto, using(crate::proofs::Saying::said_torn))]
     pub fn enter(&mut self, entry: Entry) -> Result<Entry, NoMemory>
         requires fits { BodyFits (AnEntry entry) }
         requires takes { IsTrue (can_enter (held_of self.old) entry) }
@@ -302,6 +309,7 @@ impl<P: Parts> Stable<P> {
     }
 
     /// A page with all its objects.
+    #[tactic(auto, using(crate::proofs::Saying::said_same))]
     pub fn page_image(&mut self, page: u32) -> Result<Page, Refusal>
         requires kept { IsKept P.disks self.old }
         ensures kept { IsKept P.disks self.new }
@@ -329,6 +337,7 @@ impl<P: Parts> Stable<P> {
     }
 
     /// Writes the page of the oldest buffered object with all its buffered objects, and has it in use.
+    #[tactic(auto, using(crate::proofs::Saying::said_same))]
     pub fn flush_page(&mut self) -> Result<Flushed, Refusal>
         requires kept { IsKept P.disks self.old }
         ensures kept { IsKept P.disks self.new }
@@ -373,6 +382,7 @@ impl<P: Parts> Stable<P> {
     }
 
     /// Has in use what was flushed, once the log has its record.
+    #[tactic(auto, using(crate::proofs::Saying::images_of_log))]
     fn put_flushed(&mut self, log: &mut CommitLog, flushed: Flushed) -> Result<Flushed, Refusal>
         requires opened { IsOpen (disks_of P.disks self.old) log.old (held_of self.old) }
         requires last { IsLastFlush (held_of self.old) flushed }
@@ -400,6 +410,7 @@ impl<P: Parts> Stable<P> {
 
     /// Begins a log on the other log disk with all that is held. Want of memory, too, where no sequence or no
     /// count is left, which no run comes to.
+    #[tactic(auto, using(crate::proofs::Saying::said_same, crate::proofs::Saying::said_out))]
     pub fn checkpoint(&mut self) -> Result<(), Refusal>
         requires kept { IsKept P.disks self.old }
         ensures kept { IsKept P.disks self.new }

@@ -2,7 +2,7 @@ use Rattle.disk_trait.specs.Fused.{fused_disks}
 use Rattle.held_state.specs.Said.{said}
 use Rattle.stable_store.proofs.Opened.{opened_read}
 use Rattle.stable_store.proofs.Openings.{stands_where}
-use Rattle.stable_store.proofs.Saying.{images_beside, log_beside, log_same, said_up, taken_says}
+use Rattle.stable_store.proofs.Saying.{log_beside, log_same, said_unread, said_up, taken_says}
 use Rattle.stable_store.proofs.Staying.{kept_up, taken_open}
 use Rattle.stable_store.specs.Kept.{disks_of}
 use Rattle.stable_store.proofs.stable.Stable.page_image.Goals as goal
@@ -29,6 +29,4 @@ returns-in-Ok-clause-says g c = λ is.
 pub returns-in-Err-clause-says : goal.returns-in-Err-clause-says
 returns-in-Err-clause-says g c = λ is.
     let taken = c.in-Some.ensures.some in
-    let mid = c.take_log.new.self in
-    let says = taken_says g.P.Parts.disks c.args.self.now mid c.in-Some.log taken.0 taken.1 is in
-    record { says = images_beside (disks_of g.P.Parts.disks mid) (fused_disks g.P.Parts.disks c.page_image.new.parts) c.in-Some.log mid.held c.page_image.new.self says c.page_image.ensures.alone c.page_image.ensures.said }
+    said_unread g.P.Parts.disks c.args.self.now c.take_log.new.self c.page_image.new.parts c.page_image.new.self c.in-Some.log taken.0 taken.1 is c.page_image.ensures.alone c.page_image.ensures.said
