@@ -1,4 +1,5 @@
 pub mod Alike
+pub mod Asking
 pub mod Begun
 pub mod Entered
 pub mod Falls

@@ -23,7 +23,7 @@ const CLOCK_END: u64 = 1 << 62;
 impl<P: Parts> Repo<P> {
     /// Draws a timestamp: its time is above the floor and above all that were drawn before, and isn't below
     /// the clock's. Refusals: `Gone`; `ClockEnd`, behind which the clock was asked once.
-    #[tactic(auto, using(crate::proofs::Refused::leaves_down, crate::proofs::Refused::leaves_on))]
+    #[tactic(auto, using(crate::proofs::Refused::leaves_down, crate::proofs::Refused::leaves_on, crate::proofs::Asking::asked_refused, crate::proofs::Asking::unasked_refused))]
     pub fn draw(&mut self, session: u32, floor: u64) -> Result<Ts, Refusal>
         ensures stands { Stands self.old.is_up result self.new.is_up }
         ensures live { OnOk result (is_live self.old.memory.sessions session ≡ true) }
