@@ -255,7 +255,7 @@ pub said_pending : {P : Type 0} (disks : P → Disks) (old new : Stable P) (e : 
 said_pending disks old new e same ahead = said_resting disks old new (Some e) same (says_pending (disks_of disks old) old.held old.phase e ahead.ahead)
 
 -- one that is down
-pub phase_of : {P : Type 0} → Stable P → Phase
+abbrev pub phase_of : {P : Type 0} → Stable P → Phase
 phase_of store = store.phase
 
 pub said_in_phase : {P : Type 0} (disks : P → Disks) (store : Stable P) (pending : Option Entry) → store.phase ≡ Down pending → ImagesSay (disks_of disks store) store.held pending → IsSaid disks store
