@@ -13,11 +13,11 @@ use Rattle.log_bytes.specs.declared.state.State.{State}
 use Rattle.log_frame.specs.Log.{Place}
 use Rattle.mob_flusher.specs.Map.{Kept}
 use Rattle.stable_store.proofs.Remembering.{comes_back, comes_behind, comes_installed}
-use Rattle.stable_store.proofs.Saying.{log_says, said_in_phase, tells_before}
+use Rattle.stable_store.proofs.Saying.{log_same, log_says, said_in_phase, tells_before}
 use Rattle.stable_store.specs.Agreeing.{numbers_of}
 use Rattle.stable_store.specs.Kept.{disks_of, lowered}
 use Rattle.stable_store.specs.Remembering.{Remembers}
-use Rattle.stable_store.specs.Saying.{FindsOneOf, ImagesSay, IsOneOf, IsSaid, LeavesNoMore, SaysIn}
+use Rattle.stable_store.specs.Saying.{FindsOneOf, ImagesSay, IsAhead, IsAheadIn, IsOneOf, IsSaid, LeavesNoMore, LogSays, SaysIn}
 use Rattle.stable_store.specs.declared.agreement.Numbers.{Numbers}
 use Rattle.stable_store.specs.declared.stable.Phase.TheVariants.{Down, Torn, Up}
 use Rattle.stable_store.specs.declared.stable.Phase.{Phase}
@@ -150,3 +150,21 @@ if_ok_on (Err e) A B f h = tt
 pub on_err_two : {T E : Type 0} (r : Result T E) (A B F : Type 0) → OnErr r A → OnErr r B → (A → B → F) → OnErr r F
 on_err_two (Ok x) A B F a b f = tt
 on_err_two (Err e) A B F a b f = f a b
+
+-- it comes up with what was held
+pub returned_held : {P : Type 0} (disks : P → Disks) (old new : Stable P) (found : Held) (log : Place) (pending : Option Entry) → new.parts ≡ old.parts → new.phase ≡ Up log → new.held ≡ record old.held { objects = new.held.objects } → new.held.objects ≡ found.objects → numbers_of found ≡ numbers_of old.held
+    → Holds (disks_of disks old) log (said found) → (TellsAll (disks_of disks old) → IsOneOf old.held pending (said found)) → IsSaid disks new
+returned_held {P = P} disks old new found log pending parts phase held objects numbers holds one =
+    let h : Held = record old.held { objects = new.held.objects } in
+    let says : LogSays (disks_of disks old) log (said h) = record { state = said found; holds = holds; says = λ tells. back_as_held found old.held new.held.objects pending objects numbers (one tells) } in
+    let there : LogSays (disks_of disks new) log (said h) = subst (λ (p : Fused P). LogSays (fused_disks disks p) log (said h)) (sym parts) says in
+    record { says = subst (SaysIn (disks_of disks new) new.held) (sym phase) (log_same (disks_of disks new) log (said h) (said new.held) there (ap said held)) }
+
+-- or with the pending entry ahead
+pub returned_pending : {P : Type 0} (disks : P → Disks) (old new : Stable P) (found : Held) (log : Place) (pending : Option Entry) (e : Entry) → pending ≡ Some e → new.parts ≡ old.parts → new.phase ≡ Up log → new.held ≡ record old.held { objects = new.held.objects } → new.held.objects ≡ found.objects → numbers_of found ≡ numbers_of (entered old.held e)
+    → Holds (disks_of disks old) log (said found) → (TellsAll (disks_of disks old) → IsOneOf old.held pending (said found)) → IsAhead disks new e
+returned_pending {P = P} disks old new found log pending e was parts phase held objects numbers holds one =
+    let h : Held = record old.held { objects = new.held.objects } in
+    let says : LogSays (disks_of disks old) log (after (said h) (AnEntry e)) = record { state = said found; holds = holds; says = λ tells. back_with_pending found old.held new.held.objects e objects numbers (subst (λ (p : Option Entry). IsOneOf old.held p (said found)) was (one tells)) } in
+    let there : LogSays (disks_of disks new) log (after (said h) (AnEntry e)) = subst (λ (p : Fused P). LogSays (fused_disks disks p) log (after (said h) (AnEntry e))) (sym parts) says in
+    record { ahead = subst (IsAheadIn (disks_of disks new) new.held e) (sym phase) (log_same (disks_of disks new) log (after (said h) (AnEntry e)) (after (said new.held) (AnEntry e)) there (ap (λ (g : Held). after (said g) (AnEntry e)) held)) }

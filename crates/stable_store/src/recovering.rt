@@ -8,7 +8,7 @@ ghost use Rattle.stable_store.specs.Agreeing.{IsTaken};
 ghost use Rattle.log_bytes.specs.declared.state.State.{State};
 ghost use Rattle.stable_store.specs.Kept.{IsKept, IsOpen, IsResting, disks_of, held_of, is_fault, is_torn, is_up, lowered, pending};
 ghost use Rattle.stable_store.specs.Saying.{FindsOneOf, IsOneOf, IsSaid, LeavesNoMore, SaysTaken};
-ghost use Rattle.stable_store.specs.declared.stable.Phase.TheVariants.{Down as IsDown};
+ghost use Rattle.stable_store.specs.declared.stable.Phase.TheVariants.{Down as IsDown, Up as IsUp};
 ghost use Rattle.stable_store.specs.Taking.{AgreesWhere, CanTake, TakesFrom};
 ghost use Rattle.state_log.specs.Holds.{Holds};
 
@@ -218,6 +218,7 @@ impl<P: Parts> Stable<P> {
         ensures up { is_up self.new ≡ true }
         ensures held { held_of self.new ≡ record (held_of self.old) { objects = (held_of self.new).objects } }
         ensures objects { (held_of self.new).objects ≡ state.objects }
+        ensures phase { self.new.phase ≡ IsUp log }
         ensures parts { self.new.parts ≡ self.old.parts }
     {
         self.held.take_objects(state);

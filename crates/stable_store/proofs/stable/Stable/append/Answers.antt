@@ -31,5 +31,5 @@ returns-in-Err-clause-says g c = λ is.
     let mid = c.take_log.new.self in
     let says = taken_says g.P.Parts.disks c.args.self.now mid c.in-Some.log taken.0 taken.1 is in
     let now = fused_disks g.P.Parts.disks c.append.new.parts in
-    said_resting g.P.Parts.disks (record mid { parts = c.append.new.parts }) c.set_phase.new.self (Some c.args.entry) c.set_phase.ensures
+    said_resting g.P.Parts.disks (record mid { parts = c.append.new.parts }) c.set_phase-in-Err.new.self (Some c.args.entry) c.set_phase-in-Err.ensures
     (images_written (disks_of g.P.Parts.disks mid) now c.in-Some.log mid.held c.args.entry says c.append.ensures.goes c.append.ensures.any_moment)

@@ -2,11 +2,11 @@ use Rattle.disk_trait.specs.Fused.{fused_disks}
 use Rattle.held_state.specs.Said.{said}
 use Rattle.log_bytes.specs.declared.body.Body.TheVariants.{Installed}
 use Rattle.stable_store.proofs.Opened.{opened_more, opened_moved}
-use Rattle.stable_store.proofs.Saying.{images_installing, log_more, log_same}
+use Rattle.stable_store.proofs.Saying.{images_installing, images_of_log, log_more, log_same}
 use Rattle.stable_store.specs.Flushes.{IsLastFlush}
 use Rattle.stable_store.specs.Kept.{disks_of}
 use Rattle.state_log.specs.Recovered.{after}
-use Rattle.std.proofs.Common.{subst}
+use Rattle.std.proofs.Common.{refl, subst}
 use Rattle.stable_store.proofs.stable.Stable.put_flushed.Goals as goal
 
 pub returns-clause-opened : goal.returns-clause-opened
@@ -29,3 +29,6 @@ returns-in-Err-clause-images g c = λ says.
     let old = disks_of g.P.Parts.disks c.args.self.now in
     let last = subst (IsLastFlush c.args.self.now.held) c.in-Installed.is c.requires.last in
     images_installing old now c.args.log.now c.args.self.now.held c.in-Installed.page c.in-Installed.side last.0 says last.1 c.installed.ensures.goes c.installed.ensures.any_moment
+
+pub returns-then-side-ge-SIDES-clause-images : goal.returns-then-side-ge-SIDES-clause-images
+returns-then-side-ge-SIDES-clause-images g c = λ says. images_of_log (disks_of g.P.Parts.disks c.args.self.now) c.args.log.now c.args.self.now.held c.args.self.now.held says refl
