@@ -168,3 +168,7 @@ returned_pending {P = P} disks old new found log pending e was parts phase held 
     let says : LogSays (disks_of disks old) log (after (said h) (AnEntry e)) = record { state = said found; holds = holds; says = λ tells. back_with_pending found old.held new.held.objects e objects numbers (subst (λ (p : Option Entry). IsOneOf old.held p (said found)) was (one tells)) } in
     let there : LogSays (disks_of disks new) log (after (said h) (AnEntry e)) = subst (λ (p : Fused P). LogSays (fused_disks disks p) log (after (said h) (AnEntry e))) (sym parts) says in
     record { ahead = subst (IsAheadIn (disks_of disks new) new.held e) (sym phase) (log_same (disks_of disks new) log (after (said h) (AnEntry e)) (after (said new.held) (AnEntry e)) there (ap (λ (g : Held). after (said g) (AnEntry e)) held)) }
+
+pub on_err_any : {T E : Type 0} (r : Result T E) (A : Type 0) → A → OnErr r A
+on_err_any (Ok x) A a = tt
+on_err_any (Err e) A a = a
