@@ -1,14 +1,16 @@
 -- Links behind calls on a port that shows what its calls do.
 use Rattle.client_cache.specs.Copies.{Contents, kept}
+use Rattle.client_laws.proofs.Asking.{same_number}
 use Rattle.client_laws.proofs.Growing.{agrees_before, grown}
-use Rattle.client_laws.proofs.Linked.{outlives}
+use Rattle.client_laws.proofs.Linked.{become, outlives, tells_took}
 use Rattle.client_laws.proofs.Working as works
 use Rattle.client_laws.specs.Fitting.{Agrees, Copies, FitsAt, HoldsNone, Kept, NoneToFinish, SameCopies}
-use Rattle.client_laws.specs.Links.{LinkFits, kept_by}
+use Rattle.client_laws.specs.Links.{Becomes, BringsContent, FitsOrNone}
 use Rattle.client_laws.specs.Seen.{IsSeenRight, LinkAt, LinkIn}
 use Rattle.client_state.specs.Calling.{Connects, CopiesBehind, CopiesLost, CopiesRefused, CopiesStay, Draws, Fetches, Grants, is_session_of, links_asked, links_drawn, links_joined, links_refused}
-use Rattle.client_state.specs.Learning.{is_session, without_session}
+use Rattle.client_state.specs.Learning.{without_session}
 use Rattle.client_state.specs.Links.{at_repo, changed_at, is_reply, waiting}
+use Rattle.client_state.specs.Taking.{took}
 use Rattle.client_state.specs.declared.calls.Drew.{Drew}
 use Rattle.client_state.specs.declared.link.Link.TheVariants.{Apart, Joined}
 use Rattle.client_state.specs.declared.link.Link.{Link}
@@ -20,9 +22,10 @@ use Rattle.local_history.specs.History.{Base}
 use Rattle.local_history.specs.Sound.{sound}
 use Rattle.message_outbox.specs.declared.answers.At.{At}
 use Rattle.message_outbox.specs.declared.answers.Welcome.{Welcome}
-use Rattle.port.specs.Growing.{Called, Grew}
+use Rattle.message_outbox.specs.declared.message.Message.{Message}
+use Rattle.port.specs.Growing.{Called}
 use Rattle.port.specs.Views.{Calm, Came, Halted, MayCome, Opened, Unsettled, View}
-use Rattle.port.specs.Works.{Answered, ConnectWork, Does, DrawWork, FetchWork, GrantWork, IsDown, RefusedMarked, RefusedUnmarked}
+use Rattle.port.specs.Works.{Answered, ConnectWork, Does, DrawWork, FetchWork, GrantWork, IsDown, ReceiveWork, RefusedMarked, RefusedUnmarked}
 use Rattle.refusal_reasons.specs.declared.reason.Reason.TheVariants as reasons
 use Rattle.refusal_reasons.specs.declared.reason.Reason.{Reason}
 use Rattle.session_outbox.proofs.Exactness.{exact-beginning}
@@ -31,15 +34,17 @@ use Rattle.session_outbox.proofs.Traces.{entries-append}
 use Rattle.session_outbox.specs.Calls.{next_page}
 use Rattle.session_outbox.specs.Current.{NoneAborted}
 use Rattle.session_outbox.specs.Exact.{exact}
+use Rattle.session_outbox.specs.Notices.{notice_of}
+use Rattle.session_outbox.specs.Session.{place_of}
 use Rattle.session_outbox.specs.Trace.{Item, M, entries}
 use Rattle.session_outbox.specs.declared.mark.Mark.TheVariants as the
-use Rattle.std.proofs.Common.{Bool, List, [], ap, cond, false, refl, subst, sym, true, ◌++◌, ◌∙◌, ◌∷◌, ◌≡◌, ◌≢◌, ℕ}
+use Rattle.std.proofs.Common.{Bool, List, [], ap, cond, false, refl, subst, sym, true, ◌+◌, ◌++◌, ◌<◌, ◌^◌, ◌∙◌, ◌∷◌, ◌≡◌, ◌≢◌, ℕ}
 use Rattle.std.proofs.lemmas.List.{append-nil}
 use Rattle.std.specs.List.{slice_get}
 use Rattle.std.specs.Prelude.{Err, None, Ok, Option, Result, Some, nat_eq, slice_set, suc, zero, ◌&&◌}
 use Rattle.thor_value.specs.declared.memory.NoMemory.{NoMemory}
-use Rattle.thor_value.specs.declared.names.Oref.{Oref}
 use Rattle.thor_value.specs.declared.names.Ts.{Ts}
+use Rattle.thor_value.specs.declared.values.Obj.{Obj}
 use Rattle.validation_window.specs.declared.refusal.Refusal.TheVariants as refused
 use Rattle.validation_window.specs.declared.refusal.Refusal.{Refusal}
 
@@ -53,10 +58,6 @@ set_here (x ∷ xs) (suc r) old new e = set_here xs r old new e
 -- a link that changes
 changes_here : (xs : List Link) (r : ℕ) (f : Link → Link) (old : Link) → slice_get xs r ≡ Some old → slice_get (at_repo xs r f) r ≡ Some (f old)
 changes_here xs r f old e = ap (λ (o : Option Link). slice_get (changed_at xs r f o) r) e ∙ set_here xs r old (f old) e
-
-same_number : (n : ℕ) → nat_eq n n ≡ true
-same_number zero = refl
-same_number (suc n) = same_number n
 
 -- ---- what is seen
 
@@ -85,7 +86,7 @@ others_fit old new r n at met committed link copies called other seen h =
 
 -- ---- the trace at the call is a front of the one behind it
 
-Front : List Item → List Item → Type 0
+abbrev Front : List Item → List Item → Type 0
 Front at after = (more : List Item) × (after ≡ at ++ more)
 
 none_more : (at after : List Item) → after ≡ at → Front at after
@@ -164,7 +165,7 @@ module _ (old new : View) (r : ℕ) (committed : Ts → Bool) (at : List Item) (
   sd = sound_now old new r committed called.same seen
 
   split : (f : Front at after) → entries after ≡ entries at ++ entries f.0
-  split f = ap entries f.1 ∙ entries-append at
+  split f = ap entries f.1 ∙ entries-append at f.0
 
   -- what is kept fits the trace at the call
   met_fits : Front at after → (kept' : Kept) → FitsAt c b (old.unsettled r) (old.seen r) committed kept' → FitsAt c b met at committed kept'
@@ -191,7 +192,7 @@ module _ (old new : View) (r : ℕ) (committed : Ts → Bool) (at : List Item) (
     gone_link = changes_here before r (without_session s) (Joined s upto waits) there ∙ ap (λ (t : Bool). Some (cond t Apart (Joined s upto waits))) (same_number s)
 
     -- what holds of the link behind the call
-    Then : Option Link → Type 0
+    abbrev Then : Option Link → Type 0
     Then link = LinkAt (record new { opened = old.opened }) r committed link (kept left)
 
     lost_fits : CopiesLost s r before copies left → Then (slice_get (at_repo before r (without_session s)) r)
@@ -325,28 +326,105 @@ module _ (old new : View) (at : At) (upto : ℕ) (before after : List Link) (cop
       (λ calm work. draw_done old new repo committed d.at d.met d.called seen at.session upto waits before copies left there here f.floor f.result calm work f.kept_so)))
 
 -- a client that is apart
+module _ (old new : View) (repo : ℕ) (before : List Link) (copies : Copies) (committed : Ts → Bool) (there : slice_get before repo ≡ Some Apart) (none : LinkIn old repo committed Apart copies) where
+  abbrev Joins : Result Welcome Refusal → Type 0
+  Joins result = LinkAt (record new { opened = old.opened }) repo committed (slice_get (links_joined result repo before) repo) copies
+
+  still_apart : (k : Refusal) → Joins (Err k)
+  still_apart k = subst (λ (o : Option Link). LinkAt (record new { opened = old.opened }) repo committed o copies) (sym there) none
+
+  joins : (met : Unsettled) (at : List Item) (result : Result Welcome Refusal) → Answered repo result met at (new.seen repo) (new.unsettled repo) (ConnectWork old.opened.client result (old.opened.base repo) at (new.seen repo) (new.unsettled repo)) → Joins result
+  joins Calm at (Ok w) a = subst (λ (o : Option Link). LinkAt (record new { opened = old.opened }) repo committed o copies) (sym (changes_here before repo (λ l. Joined w.session w.place Idle) Apart there)) (works.connected old.opened.client (old.opened.base repo) committed at (new.seen repo) (new.unsettled repo) w copies none a)
+  joins (MayCome e) at (Ok w) a = absurd a.0
+  joins Came at (Ok w) a = absurd a.0
+  joins Halted at (Ok w) a = absurd a.0
+  joins Calm at (Err k) a = still_apart k
+  joins (MayCome e) at (Err k) a = still_apart k
+  joins Came at (Err k) a = still_apart k
+  joins Halted at (Err k) a = still_apart k
+
 pub connected : (old new : View) (repo : ℕ) (before after : List Link) (copies : Copies) (committed : Ts → Bool) → Connects true old new repo old.opened.client before after → IsSeenRight new repo committed → slice_get before repo ≡ Some Apart
     → LinkIn old repo committed Apart copies → LinkAt new repo committed (slice_get after repo) copies
 connected old new repo before after copies committed f seen there none =
     let d : Does old new repo f.result (ConnectWork old.opened.client f.result) = f.call refl in
     fits_now old new repo committed d.called.same seen (slice_get after repo) copies
-    (subst (λ (ls : List Link). LinkAt (record new { opened = old.opened }) repo committed (slice_get ls repo) copies) (sym f.links) (by d.met d.at f.result d.answer))
-  where
-    abbrev b : Base
-    b = old.opened.base repo
+    (subst (λ (ls : List Link). LinkAt (record new { opened = old.opened }) repo committed (slice_get ls repo) copies) (sym f.links) (joins old new repo before copies committed there none d.met d.at f.result d.answer))
 
-    Then : Result Welcome Refusal → Type 0
-    Then result = LinkAt (record new { opened = old.opened }) repo committed (slice_get (links_joined result repo before) repo) copies
+-- ---- a client that takes a message
 
-    apart : (k : Refusal) → Then (Err k)
-    apart k = subst (λ (o : Option Link). LinkAt (record new { opened = old.opened }) repo committed o copies) (sym there) none
+module _ (old new : View) (r s upto : ℕ) (waits : Waits) (committed : Ts → Bool) (copies : Copies) (seen : IsSeenRight new r committed) (h : LinkIn old r committed (Joined s upto waits) copies) where
+  abbrev base : Base
+  base = old.opened.base r
 
-    by : (met : Unsettled) (at : List Item) (result : Result Welcome Refusal) → Answered repo result met at (new.seen repo) (new.unsettled repo) (ConnectWork old.opened.client result b at (new.seen repo) (new.unsettled repo)) → Then result
-    by Calm at (Ok w) a = subst (λ (o : Option Link). LinkAt (record new { opened = old.opened }) repo committed o copies) (sym (changes_here before repo (λ l. Joined w.session w.place Idle) Apart there)) (works.connected old.opened.client b committed at (new.seen repo) (new.unsettled repo) w copies none a)
-    by (MayCome e) at (Ok w) a = absurd a.0
-    by Came at (Ok w) a = absurd a.0
-    by Halted at (Ok w) a = absurd a.0
-    by Calm at (Err k) a = apart k
-    by (MayCome e) at (Err k) a = apart k
-    by Came at (Err k) a = apart k
-    by Halted at (Err k) a = apart k
+  abbrev keeping : Kept
+  keeping = record { session = s; upto = upto; awaits = is_reply waits; copies = copies }
+
+  abbrev Behind : Link → Copies → Type 0
+  Behind link left = LinkAt (record new { opened = old.opened }) r committed (Some link) left
+
+  module _ (at : List Item) (met : Unsettled) (called : Called old new r at met) (front : Front at (new.seen r)) where
+    here : FitsAt old.opened.client base met at committed keeping
+    here = met_fits old new r committed at met called seen front keeping h
+
+    there_sound : sound base (entries (new.seen r))
+    there_sound = sound_now old new r committed called.same seen
+
+    there_none : NoneAborted base (entries (new.seen r)) committed
+    there_none = (agrees_now old new r committed called.same seen s).kept
+
+    -- what was met stays
+    stays : (m : Unsettled) → met ≡ m → new.seen r ≡ at → new.unsettled r ≡ m → Behind (Joined s upto waits) copies
+    stays m e a k = subst (λ (T : List Item). FitsAt old.opened.client base (new.unsettled r) T committed keeping) (sym a) (subst (λ (x : Unsettled). FitsAt old.opened.client base x at committed keeping) (e ∙ sym k) here)
+
+    calm_here' : met ≡ Calm → FitsAt old.opened.client base Calm at committed keeping
+    calm_here' e = subst (λ (x : Unsettled). FitsAt old.opened.client base x at committed keeping) e here
+
+    none_done : (m : Unsettled) → met ≡ m → Answered {X = Option Message} r (Ok None) m at (new.seen r) (new.unsettled r) (ReceiveWork s (Ok None) base at (new.seen r) (new.unsettled r)) → Behind (Joined s upto waits) copies
+    none_done Calm e w = works.none_came old.opened.client base committed at (new.seen r) (new.unsettled r) keeping there_sound there_none (calm_here' e) w
+    none_done (MayCome d) e w = absurd w.0
+    none_done Came e w = absurd w.0
+    none_done Halted e w = absurd w.0
+
+    refused_done : (z : Refusal) (m : Unsettled) → met ≡ m → Answered {X = Option Message} r (Err z) m at (new.seen r) (new.unsettled r) (ReceiveWork s (Err z) base at (new.seen r) (new.unsettled r)) → Behind (Joined s upto waits) copies
+    refused_done z Calm e w = works.unmarked_fits old.opened.client base committed at (new.seen r) (new.unsettled r) keeping there_sound there_none (calm_here' e) z w
+    refused_done z (MayCome d) e w = stays (MayCome d) e w.1 w.2
+    refused_done z Came e w = stays Came e w.1 w.2
+    refused_done z Halted e w = stays Halted e w.1 w.2
+
+    module _ (m : Message) (objects : ℕ → Option Obj) (left : Copies) (top : place_of (notice_of m) + 1 < 2 ^ 64) (content : BringsContent base (entries (new.seen r)) objects m) (be : Becomes base.repo objects m copies left) where
+      message_done : (x : Unsettled) → met ≡ x → Answered {X = Option Message} r (Ok (Some m)) x at (new.seen r) (new.unsettled r) (ReceiveWork s (Ok (Some m)) base at (new.seen r) (new.unsettled r)) → Behind (took m (Joined s upto waits)) left
+      message_done Calm e w =
+          let same : entries (new.seen r) ≡ entries at = ap entries w.2.0 ∙ after-mark base at (the.Took s (place_of (notice_of m))) in
+          let content' : BringsContent base (entries at) objects m = subst (λ (H : List Entry). BringsContent base H objects m) same content in
+          subst (FitsOrNone old.opened.client base (new.unsettled r) (new.seen r) committed left) (sym (tells_took m s upto waits left top))
+          (works.received old.opened.client base committed at (new.seen r) (new.unsettled r) keeping there_sound there_none (calm_here' e) m left (λ _. become base (entries at) objects m copies left content' be) w)
+      message_done (MayCome d) e w = absurd w.0
+      message_done Came e w = absurd w.0
+      message_done Halted e w = absurd w.0
+
+-- the trace at the call is a front of the one behind it
+receive_front : (b : Base) (at after : List Item) (u : Unsettled) (s : ℕ) (result : Result (Option Message) Refusal) → ReceiveWork s result b at after u → Front at after
+receive_front b at after u s (Ok None) w = none_more at after w.2.0
+receive_front b at after u s (Ok (Some m)) w = one_more at after (M (the.Took s (place_of (notice_of m)))) w.2.0
+receive_front b at after u s (Err z) w = unmarked_front b at after u s z w
+
+front_of : (old new : View) (at : At) (result : Result (Option Message) Refusal) (d : Does old new at.repo result (ReceiveWork at.session result)) → Front d.at (new.seen at.repo)
+front_of old new at result d =
+    answered_front at.repo result d.met d.at (new.seen at.repo) (new.unsettled at.repo) (ReceiveWork at.session result (old.opened.base at.repo) d.at (new.seen at.repo) (new.unsettled at.repo))
+    (receive_front (old.opened.base at.repo) d.at (new.seen at.repo) (new.unsettled at.repo) at.session result) d.answer
+
+module _ (old new : View) (at : At) (upto : ℕ) (waits : Waits) (committed : Ts → Bool) (copies : Copies) where
+  pub received_none : Does {X = Option Message} old new at.repo (Ok None) (ReceiveWork at.session (Ok None)) → IsSeenRight new at.repo committed → LinkIn old at.repo committed (Joined at.session upto waits) copies → LinkIn new at.repo committed (Joined at.session upto waits) copies
+  received_none d seen h = fits_now old new at.repo committed d.called.same seen (Some (Joined at.session upto waits)) copies (none_done old new at.repo at.session upto waits committed copies seen h d.at d.met d.called (front_of old new at (Ok None) d) d.met refl d.answer)
+
+  pub received_refused : (z : Refusal) → Does {X = Option Message} old new at.repo (Err z) (ReceiveWork at.session (Err z)) → IsSeenRight new at.repo committed → LinkIn old at.repo committed (Joined at.session upto waits) copies → LinkIn new at.repo committed (Joined at.session upto waits) copies
+  received_refused z d seen h = fits_now old new at.repo committed d.called.same seen (Some (Joined at.session upto waits)) copies (refused_done old new at.repo at.session upto waits committed copies seen h d.at d.met d.called (front_of old new at (Err z) d) z d.met refl d.answer)
+
+  pub received_message : (m : Message) (objects : ℕ → Option Obj) (left : Copies) → Does {X = Option Message} old new at.repo (Ok (Some m)) (ReceiveWork at.session (Ok (Some m))) → IsSeenRight new at.repo committed → place_of (notice_of m) + 1 < 2 ^ 64
+      → BringsContent (new.opened.base at.repo) (entries (new.seen at.repo)) objects m → Becomes at.repo objects m copies left → LinkIn old at.repo committed (Joined at.session upto waits) copies → LinkIn new at.repo committed (took m (Joined at.session upto waits)) left
+  received_message m objects left d seen top content be h =
+      let same = d.called.same in
+      let content' : BringsContent (old.opened.base at.repo) (entries (new.seen at.repo)) objects m = subst (λ (o : Opened). BringsContent (o.base at.repo) (entries (new.seen at.repo)) objects m) same content in
+      let be' : Becomes (old.opened.base at.repo).repo objects m copies left = subst (λ (n : ℕ). Becomes n objects m copies left) (sym (numbered_now old new at.repo committed same seen)) be in
+      fits_now old new at.repo committed same seen (Some (took m (Joined at.session upto waits))) left
+      (message_done old new at.repo at.session upto waits committed copies seen h d.at d.met d.called (front_of old new at (Ok (Some m)) d) m objects left top content' be' d.met refl d.answer)

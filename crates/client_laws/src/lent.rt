@@ -4,21 +4,29 @@
 
 ghost use Rattle.client_cache.specs.Copies.{Contents, kept};
 ghost use Rattle.client_laws.specs.Fitting.{Copies, NoneToFinish};
+ghost use Rattle.client_laws.specs.Links.{Becomes, BringsContent};
 ghost use Rattle.client_laws.specs.Seen.{IsSeenRight, LinkAt, LinkIn};
 ghost use Rattle.client_state.specs.Calling.{Connects, Draws, Fetches, Grants};
 ghost use Rattle.client_state.specs.Links.{is_reply};
+ghost use Rattle.client_state.specs.Taking.{took};
 ghost use Rattle.client_state.specs.declared.calls.Drew.{Drew};
 ghost use Rattle.client_state.specs.declared.link.Link.{Link};
 ghost use Rattle.client_state.specs.declared.link.Link.TheVariants.{Apart, Joined};
 ghost use Rattle.client_state.specs.declared.link.Waits.{Waits};
 ghost use Rattle.message_outbox.specs.declared.answers.At.{At};
+ghost use Rattle.message_outbox.specs.declared.message.Message.{Message};
 ghost use Rattle.port.specs.Growing.{Called};
 ghost use Rattle.port.specs.Views.{Unsettled, View};
+ghost use Rattle.port.specs.Works.{Does, ReceiveWork};
+ghost use Rattle.session_outbox.specs.Notices.{notice_of};
+ghost use Rattle.session_outbox.specs.Session.{place_of};
 ghost use Rattle.session_outbox.specs.Trace.{Item, entries};
 ghost use Rattle.std.specs.List.{slice_get};
-ghost use Rattle.std.specs.Prelude.{Bool, List, Result, Some, false, true, ℕ, ◌≡◌, ◌≢◌};
+ghost use Rattle.std.specs.Prelude.{Bool, Err, List, None, Ok, Option, Result, Some, false, true, ℕ, ◌+◌, ◌<◌, ◌^◌, ◌≡◌, ◌≢◌};
 ghost use Rattle.thor_value.specs.declared.memory.NoMemory.{NoMemory};
 ghost use Rattle.thor_value.specs.declared.names.Ts.{Ts};
+ghost use Rattle.thor_value.specs.declared.values.Obj.{Obj};
+ghost use Rattle.validation_window.specs.declared.refusal.Refusal.{Refusal};
 
 /// A link with a repository that isn't called fits what others make of it.
 pub fn other_links_fit()
@@ -49,4 +57,19 @@ pub fn asking_links_fit()
         Draws true old new at answer before after copies left → IsSeenRight new at.repo committed →
         slice_get before at.repo ≡ Some (Joined at.session upto waits) →
         LinkIn old at.repo committed (Joined at.session upto waits) (kept copies) → LinkAt new at.repo committed (slice_get after at.repo) (kept left) }
+{}
+
+/// One that takes a message fits with the link behind it, and with the copies that it makes of it, where a page brings what
+/// stood there. Where none waits, or the call is refused, link and copies fit as they are.
+pub fn taking_links_fit()
+    ensures message { (old new : View) (at : At) (upto : ℕ) (waits : Waits) (committed : Ts → Bool) (copies left : Copies) (m : Message) (objects : ℕ → Option Obj) →
+        Does {X = Option Message} old new at.repo (Ok (Some m)) (ReceiveWork at.session (Ok (Some m))) → IsSeenRight new at.repo committed → place_of (notice_of m) + 1 < 2 ^ 64 →
+        BringsContent (new.opened.base at.repo) (entries (new.seen at.repo)) objects m → Becomes at.repo objects m copies left →
+        LinkIn old at.repo committed (Joined at.session upto waits) copies → LinkIn new at.repo committed (took m (Joined at.session upto waits)) left }
+    ensures none { (old new : View) (at : At) (upto : ℕ) (waits : Waits) (committed : Ts → Bool) (copies : Copies) →
+        Does {X = Option Message} old new at.repo (Ok None) (ReceiveWork at.session (Ok None)) → IsSeenRight new at.repo committed →
+        LinkIn old at.repo committed (Joined at.session upto waits) copies → LinkIn new at.repo committed (Joined at.session upto waits) copies }
+    ensures refused { (old new : View) (at : At) (upto : ℕ) (waits : Waits) (committed : Ts → Bool) (copies : Copies) (r : Refusal) →
+        Does {X = Option Message} old new at.repo (Err r) (ReceiveWork at.session (Err r)) → IsSeenRight new at.repo committed →
+        LinkIn old at.repo committed (Joined at.session upto waits) copies → LinkIn new at.repo committed (Joined at.session upto waits) copies }
 {}

@@ -65,7 +65,12 @@ impl<P: Parts> Repo<P> {
             return Err(Refusal::NoMemory);
         }
         let entry = self.stable.append(entry)?;
-        let told = tell(self.stable.held(), &mut self.memory, self.trace.place(), &entry);
+        let told = tell(
+            self.stable.held(),
+            &mut self.memory,
+            self.trace.place(),
+            &entry,
+        );
         record(&mut self.stable, &mut self.trace, entry, told)
     }
 }
@@ -115,12 +120,7 @@ pub(crate) fn record<P: Parts>(
 
 /// Tells the queue and the sessions of an entry at a place, before it is entered. After `NoMemory` they begin anew with
 /// the next life.
-fn tell(
-    held: &HeldState,
-    memory: &mut Memory,
-    place: u64,
-    entry: &Entry,
-) -> Result<(), NoMemory>
+fn tell(held: &HeldState, memory: &mut Memory, place: u64, entry: &Entry) -> Result<(), NoMemory>
     requires comes { ComesIn memory.old entry.now }
     requires keeps { Keeps held.now }
     ensures ended { (n : ℕ) → entry.now ≡ ALife n → OnOk result (memory.new.sessions ≡ ended memory.old.sessions) }
