@@ -180,6 +180,7 @@ fn open_all<P: Parts>(alloc: Global, seats: Vec<Seat<P>>) -> (Vec<Seat<P>>, Resu
 }
 
 /// Opens the repository at a place.
+#[tactic(auto, using(crate::proofs::Recovered::recovered_says))]
 fn open_next<P: Parts>(
     alloc: Global,
     seat: Seat<P>,

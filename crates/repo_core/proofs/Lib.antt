@@ -1,5 +1,7 @@
 pub mod Alike
+pub mod Asking
 pub mod Begun
+pub mod Entered
 pub mod Falls
 pub mod Judged
 pub mod Letting

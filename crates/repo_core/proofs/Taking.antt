@@ -126,7 +126,7 @@ pub on_ok4 : {X E : Type 0} (r : Result X E) (A B C D F : Type 0) → OnOk r A �
 on_ok4 (Ok x) A B C D F a b c d f = f a b c d
 on_ok4 (Err e) A B C D F a b c d f = tt
 
-taken_from : (p : Option Entry) (t : Taken) (e : Entry) → t ≡ taken.Pending e → TakesFrom p t → p ≡ Some e
+pub taken_from : (p : Option Entry) (t : Taken) (e : Entry) → t ≡ taken.Pending e → TakesFrom p t → p ≡ Some e
 taken_from p t e is from = subst (TakesFrom p) is from
 
 pub takes_after : (x y z : Shown) (p : Phase) (t : Taken) (e : Entry) → x.is_torn ≡ is_torn_in p → x.is_up ≡ is_up_in p → x.pending ≡ pending_in p → is_torn_in p ≡ false → TakesFrom (pending_in p) t → t ≡ taken.Pending e

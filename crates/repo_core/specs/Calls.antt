@@ -10,10 +10,11 @@ use Rattle.log_bytes.specs.Grammar.{BodyFits}
 use Rattle.log_bytes.specs.declared.body.Body.TheVariants.{Entry as AnEntry}
 use Rattle.mob_buffer.specs.Buffer.{bytes_of}
 use Rattle.repo_core.specs.Behind.{epoch_of}
+use Rattle.repo_core.specs.Shown.{Shown}
 use Rattle.session_outbox.specs.Calls.{drawn_time}
 use Rattle.std.specs.Map.{keys_of}
 use Rattle.std.specs.Option.{option_or}
-use Rattle.std.specs.Prelude.{[], Bool, IsTrue, None, Option, Some, cond, false, nat_lt, true, ℕ, ◌^◌, ◌↔◌, ◌≡◌, ◌≤◌, ◌⊎◌}
+use Rattle.std.specs.Prelude.{[], Bool, IsTrue, None, Option, Some, cond, false, max, nat_lt, true, ℕ, ◌^◌, ◌↔◌, ◌≡◌, ◌≤◌, ◌⊎◌}
 use Rattle.thor_value.specs.FiniteMap.{has}
 use Rattle.validation_queue.specs.Clashes.{clash}
 use Rattle.validation_queue.specs.Names.{IsInOrder}
@@ -81,3 +82,9 @@ abbrev pub GrantIsRefused : Held → Memory → ℕ → Refusal → Type 0
 GrantIsRefused h M s r =
     ((r ≡ refused.Reason (reasons.Gone s)) × (is_live M.sessions s ≡ false))
     ⊎ ((r ≡ refused.Reason (reasons.Full 65536)) × (is_live M.sessions s ≡ true) × (65536 ≤ h.next_grant))
+
+-- the clock was asked once, by a draw above the floor, and what it gave ends the times that can be drawn
+pub record WasAsked (old new : Shown) (floor : ℕ) : Type 0 where
+  pub now : ℕ
+  pub clock : new.clock ≡ max old.clock now
+  pub late : 2 ^ 62 ≤ drawn_time now old.memory.drawn floor

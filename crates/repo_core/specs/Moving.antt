@@ -1,7 +1,18 @@
--- Room in the buffer of modified objects.
+-- Room in the buffer of modified objects, and a store that falls.
+use Rattle.commit_log.specs.declared.entry.Entry.{Entry}
+use Rattle.held_state.specs.declared.held.Held.{Held}
+use Rattle.mob_buffer.specs.Buffer.{bytes_of, with_all}
 use Rattle.repo_core.specs.Behind.{MovesObjects}
 use Rattle.repo_core.specs.Shown.{Shown}
-use Rattle.std.specs.Prelude.{◌≡◌}
+use Rattle.stable_store.specs.Kept.{held_of, is_torn, pending}
+use Rattle.stable_store.specs.declared.stable.Stable.{Stable}
+use Rattle.std.specs.Prelude.{List, Some, false, ◌≡◌, ◌≤◌}
+use Rattle.thor_value.specs.declared.names.Oref.{Oref}
+use Rattle.thor_value.specs.declared.values.Obj.{Obj}
+
+-- the buffer keeps its limit with these writes
+abbrev pub HasRoom : Held → List (Oref × Obj) → Type 0
+HasRoom h writes = bytes_of (with_all h.objects.mob.objects writes) ≤ h.objects.mob.limit
 
 -- objects moved to their pages, and all else stays
 pub record MakesRoom (old new : Shown) : Type 0 where
@@ -10,3 +21,8 @@ pub record MakesRoom (old new : Shown) : Type 0 where
   pub trace : new.trace ≡ old.trace
   pub limit : new.held.objects.mob.limit ≡ old.held.objects.mob.limit
   pub opened : new.opened_in ≡ old.opened_in
+
+-- a store that was being given an entry is down: it holds what it held with the entry pending, or it is torn
+pub record Falls {P : Type 0} (old new : Stable P) (e : Entry) : Type 0 where
+  pub held : is_torn new ≡ false → held_of new ≡ held_of old
+  pub pending : is_torn new ≡ false → pending new ≡ Some e

@@ -1,4 +1,5 @@
 -- What a restart makes of a repository.
+use Rattle.class_defs.specs.declared.store.Setup.{Setup}
 use Rattle.commit_log.specs.declared.entry.Entry.TheVariants.{Life}
 use Rattle.commit_log.specs.declared.entry.Entry.{Entry}
 use Rattle.held_state.specs.Entering.{entered}
@@ -11,6 +12,7 @@ use Rattle.repository_laws.specs.Coming.{BeginsLife}
 use Rattle.repository_laws.specs.Running.{held_with, recorded_with, requested_with}
 use Rattle.std.specs.Option.{IfSome}
 use Rattle.std.specs.Prelude.{None, Option, Some, false, ℕ, ◌+◌, ◌≡◌, ◌≤◌, ◌⊎◌}
+use Rattle.store_format.specs.Fresh.{IsFresh}
 use Rattle.thor_value.specs.FiniteMap.{IsSorted, empty, get, has}
 use Rattle.thor_value.specs.declared.names.Ts.{Ts}
 use Rattle.trace_record.specs.Recorded.{with_entry}
@@ -95,3 +97,10 @@ pub record Begins (h : Held) (x : Shown) : Type 0 where
   pub held : x.held ≡ entered h (Life (h.life + 1))
   pub memory : BeginsLife h (memory_at h.threshold) x.memory
   pub sessions : x.memory.sessions ≡ ended no_sessions
+
+-- The repository x of a new store, with its buffer of so many bytes, is behind its first Life: what is held before it is that
+-- of a new store, with these roots.
+pub record IsNew (repo repos : ℕ) (setup : Setup) (mob : ℕ) (x : Shown) : Type 0 where
+  pub fresh : Held
+  pub is : IsFresh repo repos setup mob fresh
+  pub begins : Begins fresh x

@@ -1,7 +1,7 @@
 -- What contracts see of a repository.
 use Rattle.commit_log.specs.declared.entry.Entry.{Entry}
 use Rattle.held_state.specs.declared.held.Held.{Held}
-use Rattle.std.specs.Prelude.{Bool, Option, ℕ}
+use Rattle.std.specs.Prelude.{Bool, List, Option, ℕ}
 use Rattle.trace_record.specs.Recorded.{Recorded}
 use Rattle.volatile_state.specs.Volatile.{Memory}
 
@@ -19,3 +19,7 @@ pub record Shown : Type 0 where
   pub pending : Option Entry
   -- whether what is held is no state of its log, so that it doesn't come up again
   pub is_torn : Bool
+  -- the bytes of its disk of pages, where they are told
+  pub pages : Option (List ℕ)
+  -- the greatest number that its clock gave, 0 before the first
+  pub clock : ℕ

@@ -3,6 +3,8 @@
 ghost use Rattle.std.specs.Prelude.{◌≡◌, IfErr, IfOk, None, OnOk, Some, length, true};
 ghost use Rattle.repo_core.specs.Behind.{HasMoved, Stands, alone_entry, epoch_of, with_refusal, is_marked};
 ghost use Rattle.repo_core.specs.Calls.{MayRequest, judged};
+ghost use Rattle.repo_core.specs.Moving.{HasRoom};
+ghost use Rattle.held_state.specs.Entering.{entered as entered_in};
 ghost use Rattle.repository_laws.specs.Coming.{Moves};
 ghost use Rattle.trace_record.specs.Recorded.{with_entry};
 ghost use Rattle.volatile_state.specs.Volatile.{verdict};
@@ -26,6 +28,8 @@ impl<P: Parts> Repo<P> {
         ensures why { IfErr result (λ r. is_marked r ≡ true → (self.old.is_up ≡ true) × (judged self.old.held self.old.memory session request ≡ Some r)) }
         ensures place { IfOk result (λ place. place ≡ length self.old.trace.history) }
         ensures held { OnOk result (HasMoved self.old.held (alone_entry request.kind request) self.new.held) }
+        ensures room { HasRoom self.old.held request.writes → OnOk result (self.new.held ≡ entered_in self.old.held (alone_entry request.kind request)) }
+        ensures pages { HasRoom self.old.held request.writes → OnOk result (self.new.pages ≡ self.old.pages) }
         ensures limit { OnOk result (self.new.held.objects.mob.limit ≡ self.old.held.objects.mob.limit) }
         ensures memory { OnOk result (Moves self.old.held self.old.memory (alone_entry request.kind request) self.new.memory) }
         ensures tells { OnOk result (Tells self.old.held self.old.memory.sessions (length self.old.trace.history) (alone_entry request.kind request) self.new.memory.sessions) }

@@ -1,12 +1,14 @@
 //! A client draws a timestamp.
 
-ghost use Rattle.std.specs.Prelude.{◌≡◌, ◌<◌, ◌^◌, IfErr, IfOk, None, OnOk, false, true};
+ghost use Rattle.std.specs.Prelude.{◌≡◌, ◌<◌, ◌^◌, IfErr, IfOk, IsErrOf, None, OnOk, false, true};
 ghost use Rattle.live_sessions.specs.Sessions.{is_live};
 ghost use Rattle.repo_core.specs.Behind.{Stands, is_marked, with_refusal};
 ghost use Rattle.session_outbox.specs.declared.mark.Mark.TheVariants.{Drew as Draws};
 ghost use Rattle.trace_record.specs.Recorded.{with_mark};
 ghost use Rattle.repo_core.specs.Refusing.{Leaves, StaysAsWas};
-ghost use Rattle.repo_core.specs.Calls.{DrawIsRefused};
+ghost use Rattle.repo_core.specs.Calls.{DrawIsRefused, WasAsked};
+ghost use Rattle.refusal_reasons.specs.declared.reason.Reason.TheVariants.{ClockEnd as IsClockEnd, Gone as IsGone};
+ghost use Rattle.validation_window.specs.declared.refusal.Refusal.TheVariants.{Reason as IsReason};
 
 use crate::repo::Repo;
 use disk_trait::Parts;
@@ -21,7 +23,7 @@ const CLOCK_END: u64 = 1 << 62;
 impl<P: Parts> Repo<P> {
     /// Draws a timestamp: its time is above the floor and above all that were drawn before, and isn't below
     /// the clock's. Refusals: `Gone`; `ClockEnd`, behind which the clock was asked once.
-    #[tactic(auto, using(crate::proofs::Refused::leaves_down, crate::proofs::Refused::leaves_on))]
+    #[tactic(auto, using(crate::proofs::Refused::leaves_down, crate::proofs::Refused::leaves_on, crate::proofs::Asking::asked_refused, crate::proofs::Asking::unasked_refused))]
     pub fn draw(&mut self, session: u32, floor: u64) -> Result<Ts, Refusal>
         ensures stands { Stands self.old.is_up result self.new.is_up }
         ensures live { OnOk result (is_live self.old.memory.sessions session ≡ true) }
@@ -36,6 +38,8 @@ impl<P: Parts> Repo<P> {
         ensures why { IfErr result (λ r. is_marked r ≡ true → (self.old.is_up ≡ true) × DrawIsRefused self.old.memory session floor r) }
         ensures refused { IfErr result (λ r. self.new.trace ≡ with_refusal self.old.trace session None r) }
         ensures left { IfErr result (Leaves self.old self.new None) }
+        ensures asked { IsErrOf result (IsReason IsClockEnd) → WasAsked self.old self.new floor }
+        ensures unasked { IsErrOf result (IsReason (IsGone session)) → self.new.clock ≡ self.old.clock }
         ensures opened { self.new.opened_in ≡ self.old.opened_in }
     {
         self.check_up()?;
@@ -57,6 +61,8 @@ impl<P: Parts> Repo<P> {
         ensures marked { IfErr result (λ r. is_marked r ≡ true) }
         ensures why { IfErr result (DrawIsRefused self.old.memory session floor) }
         ensures rests { StaysAsWas self.old self.new }
+        ensures asked { IsErrOf result (IsReason IsClockEnd) → WasAsked self.old self.new floor }
+        ensures unasked { IsErrOf result (IsReason (IsGone session)) → self.new.clock ≡ self.old.clock }
         ensures opened { self.new.opened_in ≡ self.old.opened_in }
     {
         self.check_live(session)?;

@@ -3,19 +3,31 @@
 ghost use Rattle.std.specs.Prelude.{◌≡◌, cond, false, nat_eq, true};
 ghost use Rattle.std.specs.Option.{IfSome};
 ghost use Rattle.cached_sets.specs.Sets as sets;
+ghost use Rattle.disk_trait.specs.Fused.{fused_disks};
 ghost use Rattle.live_sessions.specs.Sessions.{is_live};
 ghost use Rattle.mob_buffer.specs.Buffer.{bytes_of};
 ghost use Rattle.repo_core.specs.Behind.{epoch_of, has_prepared};
+ghost use Rattle.stable_store.specs.Saying.{ImagesSay};
 ghost use Rattle.thor_value.specs.FiniteMap.{has};
 ghost use Rattle.volatile_state.specs.Volatile.{knows};
 
 use crate::repo::Repo;
 use commit_log::Entry;
-use disk_trait::Parts;
+use disk_trait::{Fused, Parts};
+use held_state::HeldState;
 use session_outbox::Mark;
 use thor_value::{Oref, Ts};
 
 impl<P: Parts> Repo<P> {
+    /// Its parts. Whether it is up or down, each image that a crash of their disks may leave says what it holds, or that with
+    /// the entry that was being written; of one that is torn nothing is said.
+    #[tactic(auto, using(stable_store::proofs::Saying::images_of))]
+    pub fn parts(&self) -> &Fused<P>
+        ensures { self.now.is_torn ≡ false → ImagesSay (fused_disks P.disks result.now) self.now.held self.now.pending }
+    {
+        self.stable.parts()
+    }
+
     /// Its number.
     pub fn number(&self) -> u8
         ensures { result ≡ self.now.held.repo }
@@ -55,10 +67,7 @@ impl<P: Parts> Repo<P> {
     pub fn epoch(&self) -> u32
         ensures { result ≡ epoch_of self.now.held }
     {
-        match u32::try_from(self.stable.held().epoch()) {
-            Ok(epoch) => epoch,
-            Err(_) => u32::MAX,
-        }
+        epoch_of(self.stable.held())
     }
 
     /// The next object of a session's invalid set behind one, names rising, with the place of its last write
@@ -114,5 +123,15 @@ impl<P: Parts> Repo<P> {
             after = Some(request.tx);
         }
         None
+    }
+}
+
+/// How many upgrades are installed. A count that would pass the greatest `u32` stays there.
+pub(crate) fn epoch_of(held: &HeldState) -> u32
+    ensures { result ≡ epoch_of held.now }
+{
+    match u32::try_from(held.epoch()) {
+        Ok(epoch) => epoch,
+        Err(_) => u32::MAX,
     }
 }

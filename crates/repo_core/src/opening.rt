@@ -4,12 +4,14 @@ ghost use Rattle.std.specs.Prelude.{◌≡◌, ◌+◌, IfOk, List, true, ℕ};
 ghost use Rattle.commit_log.specs.declared.entry.Entry.TheVariants.{Life as ALife};
 ghost use Rattle.disk_trait.specs.AllDisks.{AllSettled};
 ghost use Rattle.held_state.specs.Keeps.{Keeps};
+ghost use Rattle.held_state.specs.Said.{said};
 ghost use Rattle.log_bytes.specs.declared.state.State.{State as AState};
 ghost use Rattle.stable_store.specs.Kept.{IsKept, held_of, is_up};
+ghost use Rattle.stable_store.specs.Saying.{IsSaid};
 ghost use Rattle.stable_store.specs.Taking.{AgreesWhere};
 ghost use Rattle.state_log.specs.Holds.{Holds};
 ghost use Rattle.trace_record.specs.Recorded.{nothing, with_entry};
-ghost use Rattle.repo_core.specs.Restarting.{Begins};
+ghost use Rattle.repo_core.specs.Restarting.{Begins, IsNew};
 
 use crate::repo::Repo;
 use class_defs::Setup;
@@ -27,6 +29,7 @@ impl<P: Parts> Repo<P> {
     /// prepared and this repository coordinates is aborted by it.
     pub fn open(alloc: Global, parts: P, recovered: Recovered) -> Result<Repo<P>, OpenFault<P>>
         requires holds { (s : AState) × Holds (P.disks parts) recovered.log s }
+        requires said { Holds (P.disks parts) recovered.log (said recovered.state) }
         requires keeps { Keeps recovered.state }
         requires pages { AgreesWhere recovered.state.objects.pages }
         ensures up { IfOk result (λ repo. repo.is_up ≡ true) }
@@ -50,6 +53,7 @@ impl<P: Parts> Repo<P> {
         requires { AllSettled (P.disks parts) }
         ensures up { IfOk result (λ repo. repo.is_up ≡ true) }
         ensures trace { IfOk result (λ repo. repo.trace ≡ with_entry nothing (ALife 1)) }
+        ensures begins { IfOk result (λ x. IsNew repo repos setup.now mob x) }
     {
         let stable = format(alloc, parts, repo, repos, setup, mob)?;
         begin(alloc, stable)
@@ -61,6 +65,7 @@ impl<P: Parts> Repo<P> {
 fn begin<P: Parts>(alloc: Global, stable: Stable<P>) -> Result<Repo<P>, OpenFault<P>>
     requires kept { IsKept P.disks stable }
     requires up { is_up stable ≡ true }
+    requires says { IsSaid P.disks stable }
     ensures up { IfOk result (λ repo. repo.is_up ≡ true) }
     ensures trace { IfOk result (λ repo. repo.trace ≡ with_entry nothing (ALife ((held_of stable).life + 1))) }
     ensures begins { IfOk result (λ repo. Begins (held_of stable) repo) }

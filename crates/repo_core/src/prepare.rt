@@ -2,9 +2,10 @@
 
 ghost use Rattle.std.specs.Prelude.{◌≡◌, IfErr, IfOk, None, OnOk, Some, false, length, true};
 ghost use Rattle.commit_log.specs.declared.entry.Entry.TheVariants.{Prepared as Prepares};
-ghost use Rattle.held_state.specs.Entering.{prepared_in};
+ghost use Rattle.held_state.specs.Entering.{entered as entered_in, prepared_in};
 ghost use Rattle.repo_core.specs.Behind.{HasMoved, Stands, epoch_of, with_refusal, is_marked};
 ghost use Rattle.repo_core.specs.Calls.{MayRequest, judged};
+ghost use Rattle.repo_core.specs.Moving.{HasRoom};
 ghost use Rattle.trace_record.specs.Recorded.{with_entry};
 ghost use Rattle.volatile_state.specs.Volatile.{entered, verdict};
 ghost use Rattle.repo_core.specs.Refusing.{Leaves, made_of};
@@ -26,6 +27,8 @@ impl<P: Parts> Repo<P> {
         ensures why { IfErr result (λ r. is_marked r ≡ true → (self.old.is_up ≡ true) × (judged self.old.held self.old.memory session request ≡ Some r)) }
         ensures place { IfOk result (λ place. place ≡ length self.old.trace.history) }
         ensures held { OnOk result (HasMoved self.old.held (Prepares request) self.new.held) }
+        ensures room { HasRoom self.old.held request.writes → OnOk result (self.new.held ≡ entered_in self.old.held (Prepares request)) }
+        ensures pages { HasRoom self.old.held request.writes → OnOk result (self.new.pages ≡ self.old.pages) }
         ensures limit { OnOk result (self.new.held.objects.mob.limit ≡ self.old.held.objects.mob.limit) }
         ensures memory { OnOk result (self.new.memory ≡ entered self.old.memory request false) }
         ensures trace { OnOk result (self.new.trace ≡ with_entry self.old.trace (Prepares request)) }

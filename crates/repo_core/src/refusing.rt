@@ -38,6 +38,7 @@ impl<P: Parts> Repo<P> {
         ensures trace { self.new.trace ≡ with_refusal self.old.trace session request result }
         ensures same { is_marked result ≡ true → result ≡ refusal }
         ensures left { (e : Option AnEntry) → Leaves self.old self.new e result }
+        ensures clock { self.new.clock ≡ self.old.clock }
         ensures opened { self.new.opened_in ≡ self.old.opened_in }
     {
         let mark = Mark::Refused {

@@ -10,7 +10,7 @@ use trace_record::{Recorder, Trace};
 use volatile_state::Memory;
 
 /// A repository: what of it outlives a crash, what a restart begins anew, and its trace since it was opened.
-/// While it is up it is consistent with its disks.
+/// While it is up it is consistent with its disks, and whether it is up or down, they say what it holds (`parts`).
 ///
 /// Each event is one call. After `Stopped`, `Damaged` and `NoMemory` the repository is down, and only
 /// `restart` brings it up; after every other refusal nothing has changed but the trace, and after `ClockEnd`
@@ -26,13 +26,14 @@ pub struct Repo<P: Parts> {
 
 impl<P: Parts> Model for Repo<P> {
     ghost use Rattle.repo_core.specs.Shown.{Shown};
-    ghost use Rattle.stable_store.specs.Kept.{IsKept, held_of, is_torn, is_up, pending};
+    ghost use Rattle.stable_store.specs.Kept.{IsKept, disks_of, held_of, is_torn, is_up, pending};
+    ghost use Rattle.stable_store.specs.Saying.{IsSaid};
 
     ghost Value = { Shown };
 
-    ghost view = { λ r. record { held = held_of r.stable; is_up = is_up r.stable; memory = r.memory; trace = r.trace; opened_in = r.opened_in; pending = pending r.stable; is_torn = is_torn r.stable } };
+    ghost view = { λ r. record { held = held_of r.stable; is_up = is_up r.stable; memory = r.memory; trace = r.trace; opened_in = r.opened_in; pending = pending r.stable; is_torn = is_torn r.stable; pages = (disks_of P.disks r.stable).content 2; clock = (disks_of P.disks r.stable).clock } };
 
-    ghost invariant = { λ r. IsKept P.disks r.stable };
+    ghost invariant = { λ r. IsKept P.disks r.stable × IsSaid P.disks r.stable };
 }
 
 impl<P: Parts> Drop for Repo<P> {

@@ -7,19 +7,25 @@ ghost use Rattle.log_bytes.specs.Grammar.{BodyFits};
 ghost use Rattle.log_bytes.specs.declared.body.Body.TheVariants.{Entry as AnEntry};
 ghost use Rattle.repo_core.specs.Behind.{IsRecovered, IsRestarted, Stands, is_marked};
 ghost use Rattle.stable_store.specs.Kept.{IsKept, held_of, is_fault, is_up};
+ghost use Rattle.stable_store.specs.Saying.{IsAhead, IsSaid};
 ghost use Rattle.trace_record.specs.Recorded.{with_entry};
 ghost use Rattle.repo_core.specs.Restarting.{ComesUp, DropsEarlier, LetsGo, StaysDown, Takes, TakesNone, life_behind};
+ghost use Rattle.repo_core.specs.Moving.{Falls};
 ghost use Rattle.repo_core.specs.Refusing.{GoesDown};
 ghost use Rattle.repository_laws.specs.Running.{came_with};
 ghost use Rattle.repository_laws.specs.Coming.{BeginsLife};
 ghost use Rattle.held_state.specs.Entering.{entered};
+ghost use Rattle.volatile_state.specs.Volatile.{Outlasts};
 
 use crate::repo::Repo;
+use crate::writing::{note, record};
 use commit_log::Entry;
 use disk_trait::Parts;
 use stable_store::{Stable, Taken};
 use thor_value::Ts;
+use trace_record::Recorder;
 use validation_window::Refusal;
+use volatile_state::Memory;
 
 impl<P: Parts> Repo<P> {
     /// Takes the repository down where it is up, crashes its disks, recovers from them, and writes a Life.
@@ -57,34 +63,10 @@ impl<P: Parts> Repo<P> {
     {
         match self.stable.restart(self.alloc, pick)? {
             Taken::Held => Ok(()),
-            Taken::Pending(entry) => self.take_pending(entry),
+            Taken::Pending(entry) => {
+                take_pending(&mut self.stable, &mut self.memory, &mut self.trace, entry)
+            }
         }
-    }
-
-    /// Takes the pending entry, which the disks have. Want of memory, too, where it is none that can come next,
-    /// which no run comes to.
-    #[tactic(auto, using(crate::proofs::Refused::falls_with, crate::proofs::Refused::falls_behind, crate::proofs::Refused::moved_none, crate::proofs::Refused::lasts_same))]
-    fn take_pending(&mut self, entry: Entry) -> Result<(), Refusal>
-        requires fits { BodyFits (AnEntry entry) }
-        requires up { self.old.is_up ≡ true }
-        ensures stands { Stands true result self.new.is_up }
-        ensures fault { IfErr result (λ r. is_fault r ≡ true) }
-        ensures sessions { self.new.memory.sessions ≡ self.old.memory.sessions }
-        ensures limit { OnOk result (self.new.held.objects.mob.limit ≡ self.old.held.objects.mob.limit) }
-        ensures trace { OnOk result (self.new.trace ≡ with_entry self.old.trace entry) }
-        ensures refused { OnErr result (self.new.trace ≡ self.old.trace) }
-        ensures held { OnOk result (self.new.held ≡ entered self.old.held entry) }
-        ensures requested { OnOk result (self.new.memory.requested ≡ came_with self.old.memory.requested entry) }
-        ensures left { OnErr result (GoesDown self.old self.new (Some entry)) }
-        ensures opened { self.new.opened_in ≡ self.old.opened_in }
-    {
-        if !self.stable.held().takes(&entry) {
-            self.stable.take_down();
-            return Err(Refusal::NoMemory);
-        }
-        let noted = self.note(&entry);
-        self.record(entry, noted)?;
-        Ok(())
     }
 
     /// Begins the next life.
@@ -115,6 +97,7 @@ impl<P: Parts> Repo<P> {
 
     /// Lets go of the kept decisions of earlier openings: what they left is settled.
     pub(crate) fn drop_decisions(&mut self)
+        requires { self.old.is_up ≡ true }
         ensures up { self.new.is_up ≡ self.old.is_up }
         ensures life { self.new.held.life ≡ self.old.held.life }
         ensures memory { self.new.memory ≡ self.old.memory }
@@ -128,10 +111,48 @@ impl<P: Parts> Repo<P> {
     }
 }
 
+/// Takes the pending entry, which the disks have. Want of memory, too, where it is none that can come next,
+/// which no run comes to.
+#[tactic(auto, using(crate::proofs::Entered::falls_told, volatile_state::proofs::Lasting::lasts_itself))]
+fn take_pending<P: Parts>(
+    stable: &mut Stable<P>,
+    memory: &mut Memory,
+    trace: &mut Recorder,
+    entry: Entry,
+) -> Result<(), Refusal>
+    requires fits { BodyFits (AnEntry entry) }
+    requires up { is_up stable.old ≡ true }
+    requires kept { IsKept P.disks stable.old }
+    requires ahead { IsAhead P.disks stable.old entry }
+    ensures kept { IsKept P.disks stable.new }
+    ensures says { IsSaid P.disks stable.new }
+    ensures stands { Stands true result (is_up stable.new) }
+    ensures fault { IfErr result (λ r. is_fault r ≡ true) }
+    ensures sessions { memory.new.sessions ≡ memory.old.sessions }
+    ensures lasts { Outlasts memory.old memory.new }
+    ensures limit { OnOk result ((held_of stable.new).objects.mob.limit ≡ (held_of stable.old).objects.mob.limit) }
+    ensures trace { OnOk result (trace.new ≡ with_entry trace.old entry) }
+    ensures refused { OnErr result (trace.new ≡ trace.old) }
+    ensures held { OnOk result (held_of stable.new ≡ entered (held_of stable.old) entry) }
+    ensures requested { OnOk result (memory.new.requested ≡ came_with memory.old.requested entry) }
+    ensures left { OnErr result (Falls stable.old stable.new entry) }
+{
+    if !stable.held().takes(&entry) {
+        stable.pend(entry);
+        return Err(Refusal::NoMemory);
+    }
+    let noted = note(memory, &entry);
+    record(stable, trace, entry, noted)?;
+    Ok(())
+}
+
 /// Forgets the kept decisions of transactions of earlier lives than this one.
 fn forget_before<P: Parts>(stable: &mut Stable<P>, life: u32)
     requires kept { IsKept P.disks stable.old }
+    requires up { is_up stable.old ≡ true }
+    requires says { IsSaid P.disks stable.old }
     ensures kept { IsKept P.disks stable.new }
+    ensures says { IsSaid P.disks stable.new }
     ensures up { is_up stable.new ≡ is_up stable.old }
     ensures life { (held_of stable.new).life ≡ (held_of stable.old).life }
     ensures phase { stable.new.phase ≡ stable.old.phase }
@@ -152,7 +173,10 @@ fn forget_before<P: Parts>(stable: &mut Stable<P>, life: u32)
 #[tactic(auto, using(crate::proofs::Letting::goes_itself))]
 fn forget_earlier<P: Parts>(stable: &mut Stable<P>, tx: Ts, life: u32)
     requires kept { IsKept P.disks stable.old }
+    requires up { is_up stable.old ≡ true }
+    requires says { IsSaid P.disks stable.old }
     ensures kept { IsKept P.disks stable.new }
+    ensures says { IsSaid P.disks stable.new }
     ensures phase { stable.new.phase ≡ stable.old.phase }
     ensures held { held_of stable.new ≡ record (held_of stable.old) { table = (held_of stable.new).table } }
     ensures go { LetsGo life (held_of stable.old).table (held_of stable.new).table }
@@ -166,8 +190,11 @@ fn forget_earlier<P: Parts>(stable: &mut Stable<P>, tx: Ts, life: u32)
 #[tactic(auto, using(crate::proofs::Letting::one_goes_in, crate::proofs::Letting::table_alone))]
 fn forget_one<P: Parts>(stable: &mut Stable<P>, tx: Ts, life: u32)
     requires kept { IsKept P.disks stable.old }
+    requires up { is_up stable.old ≡ true }
+    requires says { IsSaid P.disks stable.old }
     requires earlier { tx.life < life }
     ensures kept { IsKept P.disks stable.new }
+    ensures says { IsSaid P.disks stable.new }
     ensures phase { stable.new.phase ≡ stable.old.phase }
     ensures held { held_of stable.new ≡ record (held_of stable.old) { table = (held_of stable.new).table } }
     ensures go { LetsGo life (held_of stable.old).table (held_of stable.new).table }

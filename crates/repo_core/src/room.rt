@@ -5,8 +5,9 @@ ghost use Rattle.std.specs.Prelude.{◌≡◌, IfErr, false, true, OnErr, Option
 ghost use Rattle.held_state.specs.Keeps.{Keeps};
 ghost use Rattle.mob_buffer.specs.Buffer.{CanStand, bytes_of};
 ghost use Rattle.repo_core.specs.Behind.{MovesObjects, Stands, is_marked};
-ghost use Rattle.repo_core.specs.Moving.{MakesRoom};
+ghost use Rattle.repo_core.specs.Moving.{HasRoom, MakesRoom};
 ghost use Rattle.stable_store.specs.Kept.{IsKept, RestsWith, held_of, is_fault, is_up};
+ghost use Rattle.stable_store.specs.Saying.{IsSaid};
 ghost use Rattle.commit_log.specs.declared.entry.Entry.{Entry as AnEntry};
 ghost use Rattle.repo_core.specs.Refusing.{Leaves};
 ghost use Rattle.refusal_reasons.specs.declared.reason.Reason.TheVariants.{Full as IsFull};
@@ -46,6 +47,7 @@ impl<P: Parts> Repo<P> {
         ensures stands { Stands true result self.new.is_up }
         ensures fault { IfErr result (λ r. (is_fault r ≡ true) × (is_marked r ≡ false)) }
         ensures made { MakesRoom self.old self.new }
+        ensures stays { HasRoom self.old.held writes.now → self.new ≡ self.old }
         ensures left { IfErr result (λ r. (e : Option AnEntry) → Leaves self.old self.new e r) }
         ensures opened { self.new.opened_in ≡ self.old.opened_in }
     {
@@ -72,9 +74,32 @@ impl<P: Parts> Repo<P> {
 
 fn make_room<P: Parts>(stable: &mut Stable<P>, writes: &Writes) -> Result<(), Refusal>
     requires kept { IsKept P.disks stable.old }
+    requires says { IsSaid P.disks stable.old }
     requires up { is_up stable.old ≡ true }
     requires fits { AllByRecursion CanStand writes.now }
     ensures kept { IsKept P.disks stable.new }
+    ensures says { IsSaid P.disks stable.new }
+    ensures stands { Stands true result (is_up stable.new) }
+    ensures fault { IfErr result (λ r. (is_fault r ≡ true) × (is_marked r ≡ false)) }
+    ensures held { MovesObjects (held_of stable.old) (held_of stable.new) }
+    ensures limit { (held_of stable.new).objects.mob.limit ≡ (held_of stable.old).objects.mob.limit }
+    ensures stays { HasRoom (held_of stable.old) writes.now → stable.new ≡ stable.old }
+    ensures rests { OnErr result (RestsWith None stable.new) }
+{
+    if fits(stable.held(), writes) {
+        return Ok(());
+    }
+    flush_for(stable, writes)
+}
+
+/// Flushes pages until the buffer keeps its limit with these writes, or it is empty.
+fn flush_for<P: Parts>(stable: &mut Stable<P>, writes: &Writes) -> Result<(), Refusal>
+    requires kept { IsKept P.disks stable.old }
+    requires says { IsSaid P.disks stable.old }
+    requires up { is_up stable.old ≡ true }
+    requires fits { AllByRecursion CanStand writes.now }
+    ensures kept { IsKept P.disks stable.new }
+    ensures says { IsSaid P.disks stable.new }
     ensures stands { Stands true result (is_up stable.new) }
     ensures fault { IfErr result (λ r. (is_fault r ≡ true) × (is_marked r ≡ false)) }
     ensures held { MovesObjects (held_of stable.old) (held_of stable.new) }
@@ -82,10 +107,10 @@ fn make_room<P: Parts>(stable: &mut Stable<P>, writes: &Writes) -> Result<(), Re
     ensures rests { OnErr result (RestsWith None stable.new) }
 {
     for _ in 0..u32::MAX {
-        if fits(stable.held(), writes) {
+        if let Flushed::Nothing = stable.flush_page()? {
             return Ok(());
         }
-        if let Flushed::Nothing = stable.flush_page()? {
+        if fits(stable.held(), writes) {
             return Ok(());
         }
     }
@@ -94,8 +119,10 @@ fn make_room<P: Parts>(stable: &mut Stable<P>, writes: &Writes) -> Result<(), Re
 
 fn make_room_for<P: Parts>(stable: &mut Stable<P>, tx: Ts) -> Result<(), Refusal>
     requires kept { IsKept P.disks stable.old }
+    requires says { IsSaid P.disks stable.old }
     requires up { is_up stable.old ≡ true }
     ensures kept { IsKept P.disks stable.new }
+    ensures says { IsSaid P.disks stable.new }
     ensures stands { Stands true result (is_up stable.new) }
     ensures fault { IfErr result (λ r. (is_fault r ≡ true) × (is_marked r ≡ false)) }
     ensures held { MovesObjects (held_of stable.old) (held_of stable.new) }
@@ -116,6 +143,7 @@ fn make_room_for<P: Parts>(stable: &mut Stable<P>, tx: Ts) -> Result<(), Refusal
 /// Whether the buffer keeps its limit with these writes.
 fn fits(held: &HeldState, writes: &Writes) -> bool
     requires { AllByRecursion CanStand writes.now }
+    ensures { HasRoom held.now writes.now → result ≡ true }
 {
     let mob = held.objects().mob();
     mob.bytes_with(writes) <= u64::from(mob.limit())

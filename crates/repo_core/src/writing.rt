@@ -4,13 +4,15 @@ ghost use Rattle.std.specs.Prelude.{◌≡◌, IfErr, IfOk, IsTrue, Ok, OnErr, O
 ghost use Rattle.commit_log.specs.declared.request.Request.{Request as ARequest};
 ghost use Rattle.commit_log.specs.declared.entry.Entry.TheVariants.{Life as ALife, Prepared as Prepares};
 ghost use Rattle.held_state.specs.Entering.{can_enter, entered};
-ghost use Rattle.held_state.specs.Keeps.{TableFits};
+ghost use Rattle.held_state.specs.Keeps.{Keeps, TableFits};
 ghost use Rattle.live_sessions.specs.Sessions.{ended, acknowledged};
 ghost use Rattle.log_bytes.specs.Grammar.{BodyFits};
 ghost use Rattle.log_bytes.specs.declared.body.Body.TheVariants.{Entry as AnEntry};
 ghost use Rattle.repo_core.specs.Behind.{Stands, is_marked};
 ghost use Rattle.repo_core.specs.Calls.{CanWrite, Comes, ComesIn, IsTold};
-ghost use Rattle.stable_store.specs.Kept.{is_fault};
+ghost use Rattle.repo_core.specs.Moving.{Falls};
+ghost use Rattle.stable_store.specs.Kept.{IsKept, disks_of, held_of, is_fault, is_up};
+ghost use Rattle.stable_store.specs.Saying.{IsAhead, IsSaid};
 ghost use Rattle.repository_laws.specs.Coming.{Becomes, BeginsLife, Moves, Reopens, alone_queue, decided_queue};
 ghost use Rattle.thor_value.specs.FiniteMap.{add, has};
 ghost use Rattle.thor_value.specs.declared.names.Ts.{Ts as ATs};
@@ -23,10 +25,14 @@ ghost use Rattle.repo_core.specs.Telling.{Tells, next_epoch};
 ghost use Rattle.volatile_state.specs.Telling.{CommitTold, TellsDecided};
 ghost use Rattle.repository_laws.specs.Running.{came_with};
 
+use crate::looks::epoch_of;
 use crate::repo::Repo;
 use commit_log::{Entry, Request};
 use disk_trait::Parts;
+use held_state::HeldState;
+use stable_store::Stable;
 use thor_value::{NoMemory, Ts};
+use trace_record::Recorder;
 use two_phase::Table;
 use validation_window::Refusal;
 use volatile_state::Memory;
@@ -35,7 +41,7 @@ impl<P: Parts> Repo<P> {
     /// Writes an entry. The answer is its place.
     ///
     /// After a refusal the repository is down, and the entry is pending if the log may have it.
-    #[tactic(auto, using(crate::proofs::Refused::falls_with, crate::proofs::Refused::falls_pending, crate::proofs::Refused::falls_behind, crate::proofs::Refused::moved_none, crate::proofs::Refused::lasts_same))]
+    #[tactic(auto, using(crate::proofs::Falls::keeps_up, crate::proofs::Refused::falls_with, crate::proofs::Refused::falls_pending, crate::proofs::Refused::falls_behind, crate::proofs::Refused::moved_none, crate::proofs::Refused::lasts_same))]
     pub(crate) fn write(&mut self, entry: Entry) -> Result<u64, Refusal>
         requires can { CanWrite self.old.held self.old.memory entry }
         requires up { self.old.is_up ≡ true }
@@ -51,6 +57,7 @@ impl<P: Parts> Repo<P> {
         ensures trace { OnOk result (self.new.trace ≡ with_entry self.old.trace entry) }
         ensures refused { OnErr result (self.new.trace ≡ self.old.trace) }
         ensures left { OnErr result (GoesDown self.old self.new (Some entry)) }
+        ensures pages { self.new.pages ≡ self.old.pages }
         ensures opened { self.new.opened_in ≡ self.old.opened_in }
     {
         if self.trace.reserve().is_err() {
@@ -58,163 +65,149 @@ impl<P: Parts> Repo<P> {
             return Err(Refusal::NoMemory);
         }
         let entry = self.stable.append(entry)?;
-        let told = self.tell(&entry);
-        self.record(entry, told)
+        let told = tell(
+            self.stable.held(),
+            &mut self.memory,
+            self.trace.place(),
+            &entry,
+        );
+        record(&mut self.stable, &mut self.trace, entry, told)
     }
+}
 
-    /// Takes an entry that the log has into what is held of the log's state, and into the trace, once the rest
-    /// of what is in memory has it. After `NoMemory` the repository is down, and the entry is pending.
-    #[tactic(auto, using(crate::proofs::Refused::falls_with, crate::proofs::Refused::falls_pending, crate::proofs::Refused::falls_torn, held_state::proofs::Limits::entered_limit, crate::proofs::Refused::moved_none, crate::proofs::Refused::lasts_same))]
-    pub(crate) fn record(
-        &mut self,
-        entry: Entry,
-        told: Result<(), NoMemory>,
-    ) -> Result<u64, Refusal>
-        requires fits { BodyFits (AnEntry entry) }
-        requires takes { IsTrue (can_enter self.old.held entry) }
-        requires up { self.old.is_up ≡ true }
-        ensures stands { Stands true result self.new.is_up }
-        ensures fault { IfErr result (λ r. (is_fault r ≡ true) × (is_marked r ≡ false)) }
-        ensures told { OnOk result (told ≡ Ok tt) }
-        ensures place { IfOk result (λ place. place ≡ length self.old.trace.history) }
-        ensures held { OnOk result (self.new.held ≡ entered self.old.held entry) }
-        ensures limit { OnOk result (self.new.held.objects.mob.limit ≡ self.old.held.objects.mob.limit) }
-        ensures memory { self.new.memory ≡ self.old.memory }
-        ensures trace { OnOk result (self.new.trace ≡ with_entry self.old.trace entry) }
-        ensures refused { OnErr result (self.new.trace ≡ self.old.trace) }
-        ensures left { OnErr result (GoesDown self.old self.new (Some entry)) }
-        ensures opened { self.new.opened_in ≡ self.old.opened_in }
-    {
-        if told.is_err() {
-            self.stable.pend(entry);
-            return Err(Refusal::NoMemory);
-        }
-        let Ok(entry) = self.stable.enter(entry) else {
-            return Err(Refusal::NoMemory);
-        };
-        match self.trace.put_entry(entry) {
-            Ok(place) => Ok(place),
-            Err(entry) => {
-                self.stable.fail_with(entry);
-                Err(Refusal::NoMemory)
-            }
-        }
+/// Takes an entry that the log has into what is held of the log's state, and into the trace, once the rest
+/// of what is in memory has it. After `NoMemory` the repository is down: the entry is pending where it wasn't told.
+#[tactic(auto, using(crate::proofs::Entered::falls_told, crate::proofs::Entered::falls_torn, held_state::proofs::Limits::entered_limit))]
+pub(crate) fn record<P: Parts>(
+    stable: &mut Stable<P>,
+    trace: &mut Recorder,
+    entry: Entry,
+    told: Result<(), NoMemory>,
+) -> Result<u64, Refusal>
+    requires fits { BodyFits (AnEntry entry) }
+    requires takes { IsTrue (can_enter (held_of stable.old) entry) }
+    requires up { is_up stable.old ≡ true }
+    requires kept { IsKept P.disks stable.old }
+    requires ahead { IsAhead P.disks stable.old entry }
+    ensures kept { IsKept P.disks stable.new }
+    ensures says { IsSaid P.disks stable.new }
+    ensures stands { Stands true result (is_up stable.new) }
+    ensures fault { IfErr result (λ r. (is_fault r ≡ true) × (is_marked r ≡ false)) }
+    ensures told { OnOk result (told ≡ Ok tt) }
+    ensures place { IfOk result (λ place. place ≡ length trace.old.history) }
+    ensures held { OnOk result (held_of stable.new ≡ entered (held_of stable.old) entry) }
+    ensures limit { OnOk result ((held_of stable.new).objects.mob.limit ≡ (held_of stable.old).objects.mob.limit) }
+    ensures trace { OnOk result (trace.new ≡ with_entry trace.old entry) }
+    ensures refused { OnErr result (trace.new ≡ trace.old) }
+    ensures left { OnErr result (Falls stable.old stable.new entry) }
+    ensures pages { (disks_of P.disks stable.new).content 2 ≡ (disks_of P.disks stable.old).content 2 }
+{
+    if told.is_err() {
+        stable.pend(entry);
+        return Err(Refusal::NoMemory);
     }
-
-    /// Tells the queue and the sessions of an entry, before it is entered. After `NoMemory` they begin anew with
-    /// the next life.
-    fn tell(&mut self, entry: &Entry) -> Result<(), NoMemory>
-        requires comes { ComesIn self.old.memory entry.now }
-        requires up { self.old.is_up ≡ true }
-        ensures up { self.new.is_up ≡ self.old.is_up }
-        ensures held { self.new.held ≡ self.old.held }
-        ensures trace { self.new.trace ≡ self.old.trace }
-        ensures ended { (n : ℕ) → entry.now ≡ ALife n → OnOk result (self.new.memory.sessions ≡ ended self.old.memory.sessions) }
-        ensures prepared { (q : ARequest) → entry.now ≡ Prepares q → OnOk result (self.new.memory ≡ entered_memory self.old.memory q false) }
-        ensures moves { IsTold self.old.memory entry.now → OnOk result (Moves self.old.held self.old.memory entry.now self.new.memory) }
-        ensures tells { OnOk result (Tells self.old.held self.old.memory.sessions (length self.old.trace.history) entry.now self.new.memory.sessions) }
-        ensures lasts { Outlasts self.old.memory self.new.memory }
-        ensures opened { self.new.opened_in ≡ self.old.opened_in }
-    {
-        let place = self.next_place();
-        let number = self.next_number();
-        match entry {
-            Entry::Life { .. } => self.begin_life(),
-            Entry::Prepared { request } => self.memory.enter(request, false),
-            Entry::One { request } => self.tell_alone(request, number, place),
-            Entry::Upgraded { request } => self.tell_alone(request, number, place),
-            Entry::Decided { tx, commit } => self.tell_decision(*tx, *commit, number, place),
-            Entry::Finished { tx, commit } => self.tell_decision(*tx, *commit, number, place),
+    let Ok(entry) = stable.enter(entry) else {
+        return Err(Refusal::NoMemory);
+    };
+    match trace.put_entry(entry) {
+        Ok(place) => Ok(place),
+        Err(entry) => {
+            stable.fail_with(entry);
+            Err(Refusal::NoMemory)
         }
     }
+}
 
-    /// The place of the next entry.
-    fn next_place(&self) -> u64
-        ensures { result ≡ length self.now.trace.history }
-    {
-        self.trace.place()
+/// Tells the queue and the sessions of an entry at a place, before it is entered. After `NoMemory` they begin anew with
+/// the next life.
+fn tell(held: &HeldState, memory: &mut Memory, place: u64, entry: &Entry) -> Result<(), NoMemory>
+    requires comes { ComesIn memory.old entry.now }
+    requires keeps { Keeps held.now }
+    ensures ended { (n : ℕ) → entry.now ≡ ALife n → OnOk result (memory.new.sessions ≡ ended memory.old.sessions) }
+    ensures prepared { (q : ARequest) → entry.now ≡ Prepares q → OnOk result (memory.new ≡ entered_memory memory.old q false) }
+    ensures moves { IsTold memory.old entry.now → OnOk result (Moves held.now memory.old entry.now memory.new) }
+    ensures tells { OnOk result (Tells held.now memory.old.sessions place entry.now memory.new.sessions) }
+    ensures lasts { Outlasts memory.old memory.new }
+{
+    let number = next_number(held);
+    match entry {
+        Entry::Life { .. } => begin_life(held, memory),
+        Entry::Prepared { request } => memory.enter(request, false),
+        Entry::One { request } => tell_alone(memory, request, number, place),
+        Entry::Upgraded { request } => tell_alone(memory, request, number, place),
+        Entry::Decided { tx, commit } => tell_decision(held, memory, *tx, *commit, number, place),
+        Entry::Finished { tx, commit } => tell_decision(held, memory, *tx, *commit, number, place),
     }
+}
 
-    /// The number of the next upgrade.
-    fn next_number(&self) -> u32
-        ensures { result ≡ next_epoch self.now.held }
-    {
-        self.epoch().saturating_add(1)
+/// The number of the next upgrade. A count that would pass the greatest `u32` stays there.
+fn next_number(held: &HeldState) -> u32
+    ensures { result ≡ next_epoch held.now }
+{
+    epoch_of(held).saturating_add(1)
+}
+
+/// Tells of a request that commits here alone.
+fn tell_alone(
+    memory: &mut Memory,
+    request: &Request,
+    number: u32,
+    place: u64,
+) -> Result<(), NoMemory>
+    requires { Comes memory.old request.now }
+    ensures moves { OnOk result (Becomes memory.new (alone_queue memory.old.queue request.now) (add memory.old.requested request.now.tx) memory.old.drawn) }
+    ensures news { OnOk result (CommitTold (acknowledged memory.old.sessions request.now.session request.now.upto) memory.new.sessions request.now number place) }
+    ensures lasts { Outlasts memory.old memory.new }
+{
+    memory.enter(request, true)?;
+    memory.tell(request, number, place)
+}
+
+/// Tells of the decision on a transaction that is open here.
+fn tell_decision(
+    held: &HeldState,
+    memory: &mut Memory,
+    tx: Ts,
+    commit: bool,
+    number: u32,
+    place: u64,
+) -> Result<(), NoMemory>
+    ensures moves { has memory.old.queue.members tx ≡ true → OnOk result (Becomes memory.new (decided_queue memory.old.queue tx commit (open_at held.now.table tx)) memory.old.requested memory.old.drawn) }
+    ensures news { OnOk result (TellsDecided memory.old.sessions memory.new.sessions number place commit (open_at held.now.table tx)) }
+    ensures lasts { Outlasts memory.old memory.new }
+{
+    memory.decide(tx, commit);
+    match held.table().open_request(tx) {
+        Some(request) if commit => memory.tell(request, number, place),
+        _ => Ok(()),
     }
+}
 
-    /// Tells of a request that commits here alone.
-    fn tell_alone(&mut self, request: &Request, number: u32, place: u64) -> Result<(), NoMemory>
-        requires { Comes self.old.memory request.now }
-        ensures up { self.new.is_up ≡ self.old.is_up }
-        ensures held { self.new.held ≡ self.old.held }
-        ensures trace { self.new.trace ≡ self.old.trace }
-        ensures moves { OnOk result (Becomes self.new.memory (alone_queue self.old.memory.queue request.now) (add self.old.memory.requested request.now.tx) self.old.memory.drawn) }
-        ensures news { OnOk result (CommitTold (acknowledged self.old.memory.sessions request.now.session request.now.upto) self.new.memory.sessions request.now number place) }
-        ensures lasts { Outlasts self.old.memory self.new.memory }
-        ensures opened { self.new.opened_in ≡ self.old.opened_in }
-    {
-        self.memory.enter(request, true)?;
-        self.memory.tell(request, number, place)
-    }
+/// Begins a life: the sessions end, and of the transactions that came since the opening those stand in the
+/// queue that stay undecided. The life aborts those that this repository coordinates.
+#[tactic(auto, using(volatile_state::proofs::Lasting::stayed, volatile_state::proofs::Lasting::lasts_itself))]
+fn begin_life(held: &HeldState, memory: &mut Memory) -> Result<(), NoMemory>
+    requires { Keeps held.now }
+    ensures begins { OnOk result (BeginsLife held.now memory.old memory.new) }
+    ensures ended { OnOk result (memory.new.sessions ≡ ended memory.old.sessions) }
+    ensures lasts { Outlasts memory.old memory.new }
+{
+    memory.begin(held.threshold())?;
+    load_open(memory, held.table(), held.repo())
+}
 
-    /// Tells of the decision on a transaction that is open here.
-    fn tell_decision(
-        &mut self,
-        tx: Ts,
-        commit: bool,
-        number: u32,
-        place: u64,
-    ) -> Result<(), NoMemory>
-        ensures up { self.new.is_up ≡ self.old.is_up }
-        ensures held { self.new.held ≡ self.old.held }
-        ensures trace { self.new.trace ≡ self.old.trace }
-        ensures moves { has self.old.memory.queue.members tx ≡ true → OnOk result (Becomes self.new.memory (decided_queue self.old.memory.queue tx commit (open_at self.old.held.table tx)) self.old.memory.requested self.old.memory.drawn) }
-        ensures news { OnOk result (TellsDecided self.old.memory.sessions self.new.memory.sessions number place commit (open_at self.old.held.table tx)) }
-        ensures lasts { Outlasts self.old.memory self.new.memory }
-        ensures opened { self.new.opened_in ≡ self.old.opened_in }
-    {
-        self.memory.decide(tx, commit);
-        match self.stable.held().table().open_request(tx) {
-            Some(request) if commit => self.memory.tell(request, number, place),
-            _ => Ok(()),
+/// Notes the transaction of a pending entry, which the disks have, before the next life.
+#[tactic(auto, using(volatile_state::proofs::Lasting::lasts_itself))]
+pub(crate) fn note(memory: &mut Memory, entry: &Entry) -> Result<(), NoMemory>
+    ensures sessions { memory.new.sessions ≡ memory.old.sessions }
+    ensures requested { OnOk result (memory.new.requested ≡ came_with memory.old.requested entry.now) }
+    ensures lasts { Outlasts memory.old memory.new }
+{
+    match entry {
+        Entry::One { request } | Entry::Prepared { request } | Entry::Upgraded { request } => {
+            memory.note(request.tx)
         }
-    }
-
-    /// Begins a life: the sessions end, and of the transactions that came since the opening those stand in the
-    /// queue that stay undecided. The life aborts those that this repository coordinates.
-    #[tactic(auto, using(volatile_state::proofs::Lasting::stayed, volatile_state::proofs::Lasting::lasts_itself))]
-    fn begin_life(&mut self) -> Result<(), NoMemory>
-        requires { self.old.is_up ≡ true }
-        ensures begins { OnOk result (BeginsLife self.old.held self.old.memory self.new.memory) }
-        ensures ended { OnOk result (self.new.memory.sessions ≡ ended self.old.memory.sessions) }
-        ensures lasts { Outlasts self.old.memory self.new.memory }
-        ensures up { self.new.is_up ≡ self.old.is_up }
-        ensures held { self.new.held ≡ self.old.held }
-        ensures trace { self.new.trace ≡ self.old.trace }
-        ensures opened { self.new.opened_in ≡ self.old.opened_in }
-    {
-        let repo = self.stable.repo();
-        self.memory.begin(self.stable.held().threshold())?;
-        load_open(&mut self.memory, self.stable.held().table(), repo)
-    }
-
-    /// Notes the transaction of a pending entry, which the disks have, before the next life.
-    #[tactic(auto, using(volatile_state::proofs::Lasting::lasts_itself))]
-    pub(crate) fn note(&mut self, entry: &Entry) -> Result<(), NoMemory>
-        ensures sessions { self.new.memory.sessions ≡ self.old.memory.sessions }
-        ensures requested { OnOk result (self.new.memory.requested ≡ came_with self.old.memory.requested entry.now) }
-        ensures lasts { Outlasts self.old.memory self.new.memory }
-        ensures opened { self.new.opened_in ≡ self.old.opened_in }
-        ensures up { self.new.is_up ≡ self.old.is_up }
-        ensures held { self.new.held ≡ self.old.held }
-        ensures trace { self.new.trace ≡ self.old.trace }
-    {
-        match entry {
-            Entry::One { request } | Entry::Prepared { request } | Entry::Upgraded { request } => {
-                self.memory.note(request.tx)
-            }
-            Entry::Life { .. } | Entry::Decided { .. } | Entry::Finished { .. } => Ok(()),
-        }
+        Entry::Life { .. } | Entry::Decided { .. } | Entry::Finished { .. } => Ok(()),
     }
 }
 

@@ -4,4 +4,5 @@ pub mod Marked
 pub mod Phases
 pub mod Requests
 pub mod Restarts
+pub mod Saying
 pub mod Stepping

@@ -1,10 +1,13 @@
 -- A repository of the program as the laws of repositories see it.
 use Rattle.commit_log.specs.declared.entry.Entry.{Entry}
+use Rattle.disk_trait.specs.Disks.{Disks}
 use Rattle.local_history.specs.History.{Base}
 use Rattle.repo_core.specs.Shown.{Shown}
+use Rattle.repository_laws.specs.Agreeing.{HeldAgrees}
 use Rattle.repository_laws.specs.Running.{Repository}
 use Rattle.repository_runs.specs.Restarting.{Event, Runs}
 use Rattle.repository_runs.specs.Standing.{Down, IsRight, Phase, Torn, Up}
+use Rattle.stable_store.specs.Saying.{ImagesSay}
 use Rattle.std.specs.Prelude.{Bool, List, Option, false, true, ◌+◌, ◌≡◌}
 
 -- what is held, what is in memory, and the trace
@@ -39,3 +42,9 @@ pub record IsRun (b : Base) (x y : Shown) : Type 0 where
   pub run : Runs b (seen x) (phase x) events (seen y) (phase y)
   pub opened : y.opened_in ≡ x.opened_in
   pub limit : IsWhole (phase y) → IsWhole (phase x) × (y.held.objects.mob.limit ≡ x.held.objects.mob.limit)
+
+-- What is held says what the history says, and each image of the disks says what is held, objects among it, or that with the
+-- entry that was being written.
+pub record SaysHistory (b : Base) (disks : Disks) (x : Shown) : Type 0 where
+  pub held : HeldAgrees b x.trace x.held x.memory.requested
+  pub images : ImagesSay disks x.held x.pending

@@ -1,17 +1,19 @@
 //! The calls.
 
 ghost use Rattle.std.specs.Prelude.{◌≡◌, ◌≢◌, ◌≤◌, IfOk, false, length, true};
+ghost use Rattle.disk_trait.specs.Fused.{fused_disks};
 ghost use Rattle.held_state.specs.Keeps.{Keeps};
+ghost use Rattle.held_state.specs.Said.{said};
 ghost use Rattle.local_history.specs.History.{Base};
 ghost use Rattle.log_bytes.specs.declared.state.State.{State as AState};
 ghost use Rattle.repo_core.specs.Calls.{MayRequest};
-ghost use Rattle.repository_events.specs.Seen.{IsRun, StandsRight};
+ghost use Rattle.repository_events.specs.Seen.{IsRun, SaysHistory, StandsRight};
 ghost use Rattle.repository_events.specs.Vouching.{IsBase, IsCounted, IsSent, WasKept};
 ghost use Rattle.stable_store.specs.Taking.{AgreesWhere};
 ghost use Rattle.state_log.specs.Holds.{Holds};
 
 use commit_log::Request;
-use disk_trait::Parts;
+use disk_trait::{Fused, Parts};
 use message_outbox::{Asked, Message, Verdict, Welcome};
 use mob_flusher::Flushed;
 use recovery::Recovered;
@@ -28,6 +30,7 @@ pub fn open<P: Parts>(
     recovered: Recovered,
 ) -> Result<Repo<P>, OpenFault<P>>
     requires holds { (s : AState) × Holds (P.disks parts) recovered.log s }
+    requires said { Holds (P.disks parts) recovered.log (said recovered.state) }
     requires keeps { Keeps recovered.state }
     requires pages { AgreesWhere recovered.state.objects.pages }
     ensures { (b : Base) → IsBase b recovered.state → IfOk result (StandsRight b) }
@@ -161,4 +164,13 @@ pub fn restart<P: Parts>(repo: &mut Repo<P>, pick: u64) -> Result<(), Refusal>
     ensures { (b : Base) → StandsRight b repo.old → IsRun b repo.old repo.new }
 {
     repo.restart(pick)
+}
+
+/// Its parts. In between any two calls, up or down, each image that a crash of their disks may leave says what the history
+/// says, or that with the entry that was being written.
+#[tactic(auto, using(crate::proofs::Saying::says_history))]
+pub fn parts<P: Parts>(repo: &Repo<P>) -> &Fused<P>
+    ensures { (b : Base) → StandsRight b repo.now → repo.now.is_torn ≡ false → SaysHistory b (fused_disks P.disks result.now) repo.now }
+{
+    repo.parts()
 }

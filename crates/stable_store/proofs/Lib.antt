@@ -1,5 +1,9 @@
+pub mod Forgetting
 pub mod Lowered
 pub mod Opened
 pub mod Openings
 pub mod Reaching
+pub mod Remembering
+pub mod Returning
+pub mod Saying
 pub mod Staying

@@ -2,6 +2,7 @@
 use Rattle.commit_log.specs.declared.entry.Entry.{Entry}
 use Rattle.disk_trait.specs.Disks.{Disks, WhereTold}
 use Rattle.disk_trait.specs.Fused.{fused_disks}
+use Rattle.disk_trait.specs.declared.fused.Fused.{Fused}
 use Rattle.held_state.specs.Keeps.{Keeps}
 use Rattle.held_state.specs.declared.held.Held.{Held}
 use Rattle.log_bytes.specs.Grammar.{BodyFits}
@@ -42,6 +43,10 @@ disks_of disks store = fused_disks disks store.parts
 -- While it is up it is consistent with its disks.
 pub record IsKept {P : Type 0} (disks : P → Disks) (store : Stable P) : Type 0 where
   pub stands : IsOpenIn (disks_of disks store) store.held store.phase
+
+-- its parts
+abbrev pub parts_in : {P : Type 0} → Stable P → Fused P
+parts_in store = store.parts
 
 -- what is held in memory
 abbrev pub held_of : {P : Type 0} → Stable P → Held

@@ -2,4 +2,6 @@ pub mod Agreeing
 pub mod Flushes
 pub mod Kept
 pub mod Reach
+pub mod Remembering
+pub mod Saying
 pub mod Taking

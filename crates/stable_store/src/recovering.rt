@@ -1,12 +1,14 @@
 //! How a repository that is down comes up.
 
 ghost use Rattle.std.specs.Prelude.{◌≡◌, IfErr, IfOk, OnErr, OnOk, false, true};
+ghost use Rattle.disk_trait.specs.AllDisks.{TellsAll};
 ghost use Rattle.held_state.specs.Keeps.{Keeps};
 ghost use Rattle.held_state.specs.Said.{said};
 ghost use Rattle.stable_store.specs.Agreeing.{IsTaken};
 ghost use Rattle.log_bytes.specs.declared.state.State.{State};
 ghost use Rattle.stable_store.specs.Kept.{IsKept, IsOpen, IsResting, disks_of, held_of, is_fault, is_torn, is_up, lowered, pending};
-ghost use Rattle.stable_store.specs.declared.stable.Phase.TheVariants.{Down as IsDown};
+ghost use Rattle.stable_store.specs.Saying.{FindsOneOf, IsOneOf, IsSaid, LeavesNoMore, SaysTaken};
+ghost use Rattle.stable_store.specs.declared.stable.Phase.TheVariants.{Down as IsDown, Up as IsUp};
 ghost use Rattle.stable_store.specs.Taking.{AgreesWhere, CanTake, TakesFrom};
 ghost use Rattle.state_log.specs.Holds.{Holds};
 
@@ -15,7 +17,7 @@ use crate::fault::{OpenCause, OpenFault, of_outage, of_recovery};
 use crate::reach::reaches;
 use crate::stable::{Phase, Stable};
 use commit_log::Entry;
-use disk_trait::{Outage, Parts, restart_all};
+use disk_trait::{Outage, Parts, content_is_left, restart_all};
 use held_state::HeldState;
 use recovery::{Recovered, recover};
 use state_log::CommitLog;
@@ -42,6 +44,7 @@ impl<P: Parts> Stable<P> {
         ensures kept { IfOk result (IsKept P.disks) }
         ensures up { IfOk result (λ stable. is_up stable ≡ true) }
         ensures held { IfOk result (λ stable. held_of stable ≡ recovered.state) }
+        ensures says { Holds (P.disks parts) recovered.log (said recovered.state) → IfOk result (IsSaid P.disks) }
     {
         let Recovered { state, log, .. } = recovered;
         match reaches(&mut parts, state.objects().pages().sides()) {
@@ -83,6 +86,8 @@ impl<P: Parts> Stable<P> {
         ensures rests { OnErr result (held_of self.new ≡ held_of self.old) }
         ensures stays { OnErr result (self.new.phase ≡ lowered self.old.phase) }
         ensures whole { OnOk result (is_torn self.old ≡ false) }
+        ensures says { IsSaid P.disks self.old → IfOk result (SaysTaken P.disks self.new) }
+        ensures stays_said { IsSaid P.disks self.old → OnErr result (IsSaid P.disks self.new) }
     {
         self.parts.disarm();
         self.take_down();
@@ -103,6 +108,7 @@ impl<P: Parts> Stable<P> {
     }
 
     /// Crashes the disks and reads what they stand for.
+    #[tactic(auto, using(crate::proofs::Returning::more_run, crate::proofs::Returning::more_then))]
     fn recover(&mut self, alloc: Global, pick: u64) -> Result<Recovered, Refusal>
         ensures phase { self.new.phase ≡ self.old.phase }
         ensures held { held_of self.new ≡ held_of self.old }
@@ -110,6 +116,8 @@ impl<P: Parts> Stable<P> {
         ensures fault { IfErr result (λ r. is_fault r ≡ true) }
         ensures opened { IfOk result (λ r. IsOpen (disks_of P.disks self.new) r.log r.state) }
         ensures stands { IfOk result (λ r. Holds (disks_of P.disks self.new) r.log (said r.state)) }
+        ensures crash { LeavesNoMore (disks_of P.disks self.old) (disks_of P.disks self.new) }
+        ensures found { IfOk result (λ r. FindsOneOf (disks_of P.disks self.old) (disks_of P.disks self.new) (held_of self.old) (said r.state)) }
     {
         let repo = self.repo();
         let mob_limit = self.held.objects().mob().limit();
@@ -117,13 +125,18 @@ impl<P: Parts> Stable<P> {
             return Err(of_outage(repo, outage));
         }
         match recover(alloc, &mut self.parts, mob_limit) {
-            Ok(Some(recovered)) => self.reached(recovered),
+            Ok(Some(recovered)) => {
+                let reached = self.reached(recovered);
+                content_is_left(&self.parts);
+                reached
+            }
             Ok(None) => Err(Refusal::Damaged { repo, place: 0 }),
             Err(fault) => Err(of_recovery(repo, fault)),
         }
     }
 
     /// What was recovered, where the disk of pages reaches the installed sides.
+    #[tactic(auto, using(crate::proofs::Returning::more_read))]
     fn reached(&mut self, recovered: Recovered) -> Result<Recovered, Refusal>
         requires holds { (s : State) × Holds (disks_of P.disks self.old) recovered.log s }
         requires stands { Holds (disks_of P.disks self.old) recovered.log (said recovered.state) }
@@ -135,6 +148,8 @@ impl<P: Parts> Stable<P> {
         ensures fault { IfErr result (λ r. is_fault r ≡ true) }
         ensures opened { IfOk result (λ r. IsOpen (disks_of P.disks self.new) r.log r.state) }
         ensures stands { IfOk result (λ r. Holds (disks_of P.disks self.new) r.log (said r.state)) }
+        ensures crash { LeavesNoMore (disks_of P.disks self.old) (disks_of P.disks self.new) }
+        ensures same { IfOk result (λ r. r.state ≡ recovered.state) }
     {
         let repo = self.repo();
         match reaches(&mut self.parts, recovered.state.objects().pages().sides()) {
@@ -167,6 +182,8 @@ impl<P: Parts> Stable<P> {
         ensures agrees { IfOk result (λ taken. IsTaken (disks_of P.disks self.new) (held_of self.old) taken (held_of self.new).objects) }
         ensures rests { OnErr result (held_of self.new ≡ held_of self.old) }
         ensures stays { OnErr result (self.new.phase ≡ IsDown pending) }
+        ensures says { (TellsAll (disks_of P.disks self.old) → IsOneOf (held_of self.old) pending (said recovered.state)) → IfOk result (SaysTaken P.disks self.new) }
+        ensures parts { self.new.parts ≡ self.old.parts }
     {
         let Recovered { state, log, .. } = recovered;
         let agrees = compare(&self.held, &pending, &state);
@@ -201,6 +218,7 @@ impl<P: Parts> Stable<P> {
         ensures up { is_up self.new ≡ true }
         ensures held { held_of self.new ≡ record (held_of self.old) { objects = (held_of self.new).objects } }
         ensures objects { (held_of self.new).objects ≡ state.objects }
+        ensures phase { self.new.phase ≡ IsUp log }
         ensures parts { self.new.parts ≡ self.old.parts }
     {
         self.held.take_objects(state);

@@ -5,10 +5,12 @@ ghost use Rattle.std.specs.Prelude.{◌≡◌, ◌≤◌, IfErr, IfOk, IsTrue, N
 ghost use Rattle.disk_trait.specs.Disks.{Disks, SameDisks};
 ghost use Rattle.held_state.specs.Entering.{can_enter, entered};
 ghost use Rattle.held_state.specs.Keeps.{Keeps};
+ghost use Rattle.held_state.specs.Said.{said};
 ghost use Rattle.log_bytes.specs.Grammar.{BodyFits};
 ghost use Rattle.log_bytes.specs.declared.body.Body.TheVariants.{Entry as AnEntry};
-ghost use Rattle.stable_store.specs.Kept.{GoesOnUp, IsKept, IsOpen, RestsWith, StandsAfter, disks_of, down, down_with, held_of, is_fault, is_up, lowered, torn};
+ghost use Rattle.stable_store.specs.Kept.{GoesOnUp, IsKept, IsOpen, RestsWith, StandsAfter, disks_of, down, down_with, held_of, is_fault, is_up, lowered, parts_in, torn};
 ghost use Rattle.stable_store.specs.Flushes.{IsLastFlush};
+ghost use Rattle.stable_store.specs.Saying.{ImagesSay, IsAhead, IsSaid, LogSays};
 ghost use Rattle.stable_store.specs.declared.stable.Phase.TheVariants.{Torn as IsTorn, Up as IsUp};
 ghost use Rattle.thor_value.specs.FiniteMap.{get};
 ghost use Rattle.two_phase.specs.Contents.{keeps, without};
@@ -67,6 +69,7 @@ impl<P: Parts> Stable<P> {
         ensures kept { IsKept P.disks result }
         ensures up { is_up result ≡ true }
         ensures held { held_of result ≡ held }
+        ensures says { LogSays (P.disks parts) log (said held) → IsSaid P.disks result }
     {
         Stable {
             parts: Fused::new(parts),
@@ -99,6 +102,13 @@ impl<P: Parts> Stable<P> {
         self.held.repo()
     }
 
+    /// The parts, with the schedule's stop.
+    pub fn parts(&self) -> &Fused<P>
+        ensures { result.now ≡ parts_in self.now }
+    {
+        &self.parts
+    }
+
     /// The parts.
     pub fn into_parts(self) -> P {
         let Stable { parts, phase, held } = self;
@@ -108,11 +118,13 @@ impl<P: Parts> Stable<P> {
     }
 
     /// Takes the repository down, where it is up. No entry is being written then.
+    #[tactic(auto, using(crate::proofs::Saying::said_lowered))]
     pub fn take_down(&mut self)
         requires kept { IsKept P.disks self.old }
         ensures new { self.new ≡ down self.old }
         ensures rests { is_up self.old ≡ true → RestsWith None self.new }
         ensures kept { IsKept P.disks self.new }
+        ensures says { IsSaid P.disks self.old → IsSaid P.disks self.new }
     {
         if let Phase::Up { .. } = &self.phase {
             self.set_phase(Phase::Down { pending: None });
@@ -127,20 +139,24 @@ impl<P: Parts> Stable<P> {
     }
 
     /// Takes the repository down, with an entry that the log has and that couldn't be entered.
+    #[tactic(auto, using(crate::proofs::Saying::said_torn))]
     pub fn fail_with(&mut self, entry: Entry)
         ensures new { self.new ≡ torn self.old entry }
         ensures kept { IsKept P.disks self.new }
+        ensures says { IsSaid P.disks self.new }
     {
         self.set_phase(Phase::Torn { entry });
     }
 
     /// Takes the repository down, where it is up, with an entry that the log has and that wasn't entered.
+    #[tactic(auto, using(crate::proofs::Saying::said_pending))]
     pub fn pend(&mut self, entry: Entry)
         requires fits { BodyFits (AnEntry entry) }
         requires up { is_up self.old ≡ true }
         requires kept { IsKept P.disks self.old }
         ensures new { self.new ≡ down_with self.old (Some entry) }
         ensures kept { IsKept P.disks self.new }
+        ensures says { IsAhead P.disks self.old entry → IsSaid P.disks self.new }
     {
         self.set_phase(Phase::Down {
             pending: Some(entry),
@@ -148,12 +164,14 @@ impl<P: Parts> Stable<P> {
     }
 
     /// Arms the stop; 0 takes the repository down at once.
+    #[tactic(auto, using(crate::proofs::Saying::said_armed, crate::proofs::Saying::said_lowered))]
     pub fn stop_after(&mut self, calls: u32)
         requires kept { IsKept P.disks self.old }
         ensures kept { IsKept P.disks self.new }
         ensures held { held_of self.new ≡ held_of self.old }
         ensures up { is_up self.new ≡ cond (nat_eq calls 0) false (is_up self.old) }
         ensures phase { self.new.phase ≡ cond (nat_eq calls 0) (lowered self.old.phase) self.old.phase }
+        ensures says { IsSaid P.disks self.old → IsSaid P.disks self.new }
     {
         if calls == 0 {
             self.parts.disarm();
@@ -164,11 +182,13 @@ impl<P: Parts> Stable<P> {
     }
 
     /// Takes back a stop that hasn't fallen.
+    #[tactic(auto, using(crate::proofs::Saying::said_armed))]
     pub fn disarm(&mut self)
         requires kept { IsKept P.disks self.old }
         ensures kept { IsKept P.disks self.new }
         ensures held { held_of self.new ≡ held_of self.old }
         ensures phase { self.new.phase ≡ self.old.phase }
+        ensures says { IsSaid P.disks self.old → IsSaid P.disks self.new }
     {
         self.parts.disarm();
     }
@@ -181,6 +201,7 @@ impl<P: Parts> Stable<P> {
         ensures clock { (disks_of P.disks self.new).clock ≡ max (disks_of P.disks self.old).clock result }
         ensures held { held_of self.new ≡ held_of self.old }
         ensures phase { self.new.phase ≡ self.old.phase }
+        ensures says { IsSaid P.disks self.old → IsSaid P.disks self.new }
     {
         self.parts.now()
     }
@@ -207,6 +228,7 @@ impl<P: Parts> Stable<P> {
     }
 
     /// Writes an entry into the log, and hands it back. After a fault it is pending.
+    #[tactic(auto, using(crate::proofs::Saying::said_same))]
     pub fn append(&mut self, entry: Entry) -> Result<Entry, Refusal>
         requires fits { BodyFits (AnEntry entry) }
         requires kept { IsKept P.disks self.old }
@@ -215,6 +237,9 @@ impl<P: Parts> Stable<P> {
         ensures err { IfErr result (StandsAfter self.old self.new (Some entry)) }
         ensures rests { is_up self.old ≡ true → OnErr result (RestsWith (Some entry) self.new) }
         ensures held { held_of self.new ≡ held_of self.old }
+        ensures ahead { IsSaid P.disks self.old → OnOk result (IsAhead P.disks self.new entry) }
+        ensures says { IsSaid P.disks self.old → OnErr result (IsSaid P.disks self.new) }
+        ensures pages { (disks_of P.disks self.new).content 2 ≡ (disks_of P.disks self.old).content 2 }
     {
         let Some(mut log) = self.take_log() else {
             drop(entry);
@@ -237,6 +262,7 @@ impl<P: Parts> Stable<P> {
 
     /// Enters an entry that the log has into what is held. Where there is no memory for it the repository is
     /// down, and what is held is no state of its log any more; the entry comes back with `Ok`.
+    #[tactic(auto, using(crate::proofs::Saying::said_torn))]
     pub fn enter(&mut self, entry: Entry) -> Result<Entry, NoMemory>
         requires fits { BodyFits (AnEntry entry) }
         requires takes { IsTrue (can_enter (held_of self.old) entry) }
@@ -247,6 +273,8 @@ impl<P: Parts> Stable<P> {
         ensures ok { OnOk result (held_of self.new ≡ entered (held_of self.old) entry) }
         ensures phase { OnOk result (self.new.phase ≡ self.old.phase) }
         ensures err { OnErr result (self.new.phase ≡ IsTorn entry) }
+        ensures says { IsAhead P.disks self.old entry → IsSaid P.disks self.new }
+        ensures parts { self.new.parts ≡ self.old.parts }
     {
         match self.held.enter(&entry) {
             Ok(()) => Ok(entry),
@@ -263,6 +291,7 @@ impl<P: Parts> Stable<P> {
         ensures kept { IsKept P.disks self.new }
         ensures held { held_of self.new ≡ record (held_of self.old) { table = cond (keeps (get (held_of self.old).table.transactions tx)) (without (held_of self.old).table tx) (held_of self.old).table } }
         ensures phase { self.new.phase ≡ self.old.phase }
+        ensures says { is_up self.old ≡ true → IsSaid P.disks self.old → IsSaid P.disks self.new }
     {
         self.held.forget(tx);
     }
@@ -274,11 +303,13 @@ impl<P: Parts> Stable<P> {
         ensures kept { IsKept P.disks self.new }
         ensures held { held_of self.new ≡ record (held_of self.old) { next_grant = max (held_of self.old).next_grant page } }
         ensures phase { self.new.phase ≡ self.old.phase }
+        ensures says { is_up self.old ≡ true → IsSaid P.disks self.old → IsSaid P.disks self.new }
     {
         self.held.grant_from(page);
     }
 
     /// A page with all its objects.
+    #[tactic(auto, using(crate::proofs::Saying::said_same))]
     pub fn page_image(&mut self, page: u32) -> Result<Page, Refusal>
         requires kept { IsKept P.disks self.old }
         ensures kept { IsKept P.disks self.new }
@@ -288,6 +319,7 @@ impl<P: Parts> Stable<P> {
         ensures rests { is_up self.old ≡ true → OnErr result (RestsWith None self.new) }
         ensures held { held_of self.new ≡ record (held_of self.old) { objects = (held_of self.new).objects } }
         ensures limit { (held_of self.new).objects.mob.limit ≡ (held_of self.old).objects.mob.limit }
+        ensures says { IsSaid P.disks self.old → IsSaid P.disks self.new }
     {
         let Some(log) = self.take_log() else {
             return Err(Refusal::Down { repo: self.repo() });
@@ -305,6 +337,7 @@ impl<P: Parts> Stable<P> {
     }
 
     /// Writes the page of the oldest buffered object with all its buffered objects, and has it in use.
+    #[tactic(auto, using(crate::proofs::Saying::said_same))]
     pub fn flush_page(&mut self) -> Result<Flushed, Refusal>
         requires kept { IsKept P.disks self.old }
         ensures kept { IsKept P.disks self.new }
@@ -313,6 +346,7 @@ impl<P: Parts> Stable<P> {
         ensures rests { is_up self.old ≡ true → OnErr result (RestsWith None self.new) }
         ensures held { held_of self.new ≡ record (held_of self.old) { objects = (held_of self.new).objects } }
         ensures limit { (held_of self.new).objects.mob.limit ≡ (held_of self.old).objects.mob.limit }
+        ensures says { IsSaid P.disks self.old → IsSaid P.disks self.new }
     {
         let Some(mut log) = self.take_log() else {
             return Err(Refusal::Down { repo: self.repo() });
@@ -338,6 +372,8 @@ impl<P: Parts> Stable<P> {
         ensures limit { (held_of self.new).objects.mob.limit ≡ (held_of self.old).objects.mob.limit }
         ensures phase { self.new.phase ≡ self.old.phase }
         ensures fault { IfErr result (λ r. is_fault r ≡ true) }
+        ensures log { LogSays (disks_of P.disks self.old) log.old (said (held_of self.old)) → OnOk result (LogSays (disks_of P.disks self.new) log.new (said (held_of self.new))) }
+        ensures images { LogSays (disks_of P.disks self.old) log.old (said (held_of self.old)) → OnErr result (ImagesSay (disks_of P.disks self.new) (held_of self.new) None) }
     {
         match self.held.flush_one(&mut self.parts) {
             Ok(flushed) => self.put_flushed(log, flushed),
@@ -346,6 +382,7 @@ impl<P: Parts> Stable<P> {
     }
 
     /// Has in use what was flushed, once the log has its record.
+    #[tactic(auto, using(crate::proofs::Saying::images_of_log))]
     fn put_flushed(&mut self, log: &mut CommitLog, flushed: Flushed) -> Result<Flushed, Refusal>
         requires opened { IsOpen (disks_of P.disks self.old) log.old (held_of self.old) }
         requires last { IsLastFlush (held_of self.old) flushed }
@@ -355,6 +392,8 @@ impl<P: Parts> Stable<P> {
         ensures limit { (held_of self.new).objects.mob.limit ≡ (held_of self.old).objects.mob.limit }
         ensures phase { self.new.phase ≡ self.old.phase }
         ensures fault { IfErr result (λ r. is_fault r ≡ true) }
+        ensures log { LogSays (disks_of P.disks self.old) log.old (said (held_of self.old)) → OnOk result (LogSays (disks_of P.disks self.new) log.new (said (held_of self.new))) }
+        ensures images { LogSays (disks_of P.disks self.old) log.old (said (held_of self.old)) → OnErr result (ImagesSay (disks_of P.disks self.new) (held_of self.new) None) }
     {
         let Flushed::Installed { page, side } = flushed else {
             return Ok(flushed);
@@ -371,6 +410,7 @@ impl<P: Parts> Stable<P> {
 
     /// Begins a log on the other log disk with all that is held. Want of memory, too, where no sequence or no
     /// count is left, which no run comes to.
+    #[tactic(auto, using(crate::proofs::Saying::said_same, crate::proofs::Saying::said_out))]
     pub fn checkpoint(&mut self) -> Result<(), Refusal>
         requires kept { IsKept P.disks self.old }
         ensures kept { IsKept P.disks self.new }
@@ -378,6 +418,7 @@ impl<P: Parts> Stable<P> {
         ensures err { IfErr result (StandsAfter self.old self.new None) }
         ensures rests { is_up self.old ≡ true → OnErr result (RestsWith None self.new) }
         ensures held { held_of self.new ≡ held_of self.old }
+        ensures says { IsSaid P.disks self.old → IsSaid P.disks self.new }
     {
         let Some(mut log) = self.take_log() else {
             return Err(Refusal::Down { repo: self.repo() });

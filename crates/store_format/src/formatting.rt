@@ -9,6 +9,7 @@ ghost use Rattle.held_state.specs.Said.{said};
 ghost use Rattle.log_bytes.specs.Checkpoint.{RootFits};
 ghost use Rattle.log_frame.specs.Log.{read_log};
 ghost use Rattle.stable_store.specs.Kept.{IsKept, held_of, is_up};
+ghost use Rattle.stable_store.specs.Saying.{IsSaid};
 ghost use Rattle.stable_store.specs.Taking.{AgreesWhere};
 ghost use Rattle.state_log.specs.Holds.{Holds};
 ghost use Rattle.store_format.specs.Fresh.{IsFresh};
@@ -43,6 +44,7 @@ pub fn format<P: Parts>(
     ensures kept { IfOk result (IsKept P.disks) }
     ensures up { IfOk result (λ stable. is_up stable ≡ true) }
     ensures fresh { IfOk result (λ stable. IsFresh repo repos setup.now mob (held_of stable)) }
+    ensures says { IfOk result (IsSaid P.disks) }
 {
     match put_store(alloc, &mut parts, repo, repos, setup, mob) {
         Ok(recovered) => Stable::open(parts, recovered),

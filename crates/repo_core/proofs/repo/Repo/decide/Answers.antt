@@ -11,6 +11,6 @@ use Rattle.repo_core.proofs.repo.Repo.decide.Goals as goal
 pub write-requires-clause-can : goal.write-requires-clause-can
 write-requires-clause-can g c =
     let up : is_up c.self.inside.stable ≡ true = ap (λ (s : Shown). s.is_up) c.self.view_is ∙ c.in_ok-check_up.ensures.up in
-    let keeps : Keeps c.args.self.now.held = subst Keeps (ap (λ (s : Shown). s.held) c.self.view_is) (keeps_up g.P.Parts.disks c.self.inside.stable c.self.invariant up) in
+    let keeps : Keeps c.args.self.now.held = subst Keeps (ap (λ (s : Shown). s.held) c.self.view_is) (keeps_up g.P.Parts.disks c.self.inside.stable c.self.invariant.0 up) in
     let prepared : has_prepared c.args.self.now.held c.args.session c.args.tx ≡ true = sym c.has_prepared.ensures ∙ c.if-not-has_prepared.false in
     can_decide c.make_room_for.new.self.held c.make_room_for.new.self.memory c.args.tx c.args.commit (prepared_stamp c.args.self.now.held c.args.session c.args.tx keeps prepared)

@@ -1,23 +1,42 @@
-use Rattle.std.proofs.Common.{Ok, OnOk, ◌≡◌, ap, false, ◌∙◌}
 use Rattle.commit_log.specs.declared.entry.Entry.TheVariants.{Life, Prepared}
+use Rattle.commit_log.specs.declared.entry.Entry.{Entry}
 use Rattle.live_sessions.specs.Sessions.{ended}
+use Rattle.repo_core.proofs.Entered.{goes_down, on_err1}
 use Rattle.repo_core.proofs.Moves.{told_then}
+use Rattle.repo_core.specs.Refusing.{GoesDown}
 use Rattle.repo_core.specs.Shown.{Shown}
-use Rattle.volatile_state.specs.Volatile.{entered}
+use Rattle.stable_store.specs.Kept.{disks_of, held_of, is_torn, is_up, pending}
+use Rattle.std.proofs.Common.{Ok, OnOk, Some, ap, false, subst, refl, sym, true, ◌∙◌, ◌≡◌}
+use Rattle.std.specs.Prelude.{OnErr}
+use Rattle.volatile_state.specs.Volatile.{Memory, entered}
 use Rattle.repo_core.proofs.repo.Repo.write.Goals as goal
 
 pub returns-clause-ended : goal.returns-clause-ended
 returns-clause-ended g c = λ n is.
     let same : c.in_ok-entry.entry ≡ Life n = c.in_ok-entry.ensures.ok.0 ∙ is in
     let began : c.self.inside.memory ≡ c.args.self.now.memory = ap (λ (s : Shown). s.memory) c.self.view_is in
-    let told : OnOk c.tell-told.result (c.tell-told.new.self.memory.sessions ≡ ended c.self.inside.memory.sessions) = c.tell-told.ensures.ended n same in
-    let then : OnOk c.record.result (c.tell-told.new.self.memory.sessions ≡ ended c.self.inside.memory.sessions) = told_then c.record.result c.tell-told.result (c.tell-told.new.self.memory.sessions ≡ ended c.self.inside.memory.sessions) c.record.ensures.told told in
-    rw (c.record.ensures.memory, ← began) then
+    let told : OnOk c.tell-told.result (c.tell-told.new.memory.sessions ≡ ended c.self.inside.memory.sessions) = c.tell-told.ensures.ended n same in
+    subst (λ (m : Memory). OnOk c.record.result (c.tell-told.new.memory.sessions ≡ ended m.sessions)) began
+    (told_then c.record.result c.tell-told.result (c.tell-told.new.memory.sessions ≡ ended c.self.inside.memory.sessions) c.record.ensures.told told)
 
 pub returns-clause-memory : goal.returns-clause-memory
 returns-clause-memory g c = λ q is.
     let same : c.in_ok-entry.entry ≡ Prepared q = c.in_ok-entry.ensures.ok.0 ∙ is in
     let began : c.self.inside.memory ≡ c.args.self.now.memory = ap (λ (s : Shown). s.memory) c.self.view_is in
-    let told : OnOk c.tell-told.result (c.tell-told.new.self.memory ≡ entered c.self.inside.memory q false) = c.tell-told.ensures.prepared q same in
-    let then : OnOk c.record.result (c.tell-told.new.self.memory ≡ entered c.self.inside.memory q false) = told_then c.record.result c.tell-told.result (c.tell-told.new.self.memory ≡ entered c.self.inside.memory q false) c.record.ensures.told told in
-    rw (c.record.ensures.memory, ← began) then
+    let told : OnOk c.tell-told.result (c.tell-told.new.memory ≡ entered c.self.inside.memory q false) = c.tell-told.ensures.prepared q same in
+    subst (λ (m : Memory). OnOk c.record.result (c.tell-told.new.memory ≡ entered m q false)) began
+    (told_then c.record.result c.tell-told.result (c.tell-told.new.memory ≡ entered c.self.inside.memory q false) c.record.ensures.told told)
+
+pub returns-clause-left : goal.returns-clause-left
+returns-clause-left g c =
+    let i = c.self.inside in
+    let s = c.append.new.self in
+    let n = c.record.new.stable in
+    let e = c.in_ok-entry.entry in
+    let same : e ≡ c.args.entry = c.in_ok-entry.ensures.ok.0 in
+    let x : Shown = record { held = held_of i.stable; is_up = is_up i.stable; memory = i.memory; trace = i.trace; opened_in = i.opened_in; pending = pending i.stable; is_torn = is_torn i.stable; pages = (disks_of g.P.Parts.disks i.stable).content 2; clock = (disks_of g.P.Parts.disks i.stable).clock } in
+    let y : Shown = record { held = held_of n; is_up = is_up n; memory = c.tell-told.new.memory; trace = c.record.new.trace; opened_in = i.opened_in; pending = pending n; is_torn = is_torn n; pages = (disks_of g.P.Parts.disks n).content 2; clock = (disks_of g.P.Parts.disks n).clock } in
+    let up : is_up i.stable ≡ true = ap (λ (s : Shown). s.is_up) c.self.view_is ∙ c.requires.up in
+    subst (λ (s : Shown). OnErr c.record.result (GoesDown s y (Some c.args.entry))) c.self.view_is
+    (on_err1 c.record.result _ _ c.record.ensures.left
+    (λ falls. subst (λ (d : Entry). GoesDown x y (Some d)) same (goes_down s n x y e up (sym c.append.ensures.held) refl refl refl falls c.tell-told.ensures.lasts)))

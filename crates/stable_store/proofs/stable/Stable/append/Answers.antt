@@ -1,8 +1,11 @@
 use Rattle.disk_trait.specs.Fused.{fused_disks}
+use Rattle.held_state.specs.Said.{said}
 use Rattle.log_bytes.specs.declared.body.Body.TheVariants.{Entry as AnEntry}
 use Rattle.stable_store.proofs.Opened.{opened_more}
+use Rattle.stable_store.proofs.Saying.{ahead_up, images_written, log_more, said_resting, taken_says}
 use Rattle.stable_store.proofs.Staying.{kept_up, taken_open}
 use Rattle.stable_store.specs.Kept.{disks_of}
+use Rattle.std.specs.Prelude.{Some}
 use Rattle.stable_store.proofs.stable.Stable.append.Goals as goal
 
 pub returns-in-Ok-clause-kept : goal.returns-in-Ok-clause-kept
@@ -12,3 +15,21 @@ returns-in-Ok-clause-kept g c =
     let now = fused_disks g.P.Parts.disks c.append.new.parts in
     kept_up g.P.Parts.disks (record c.take_log.new.self { parts = c.append.new.parts }) c.set_phase.new.self c.append.new.self c.set_phase.ensures
     (opened_more (disks_of g.P.Parts.disks c.take_log.new.self) now c.in-Some.log c.append.new.self c.take_log.new.self.held (AnEntry c.args.entry) stood c.in-Ok.ensures.appended c.in-Ok.ensures.pages)
+
+pub returns-in-Ok-clause-ahead : goal.returns-in-Ok-clause-ahead
+returns-in-Ok-clause-ahead g c = λ is.
+    let taken = c.in-Some.ensures.some in
+    let mid = c.take_log.new.self in
+    let says = taken_says g.P.Parts.disks c.args.self.now mid c.in-Some.log taken.0 taken.1 is in
+    let now = fused_disks g.P.Parts.disks c.append.new.parts in
+    ahead_up g.P.Parts.disks (record mid { parts = c.append.new.parts }) c.set_phase.new.self c.append.new.self c.args.entry c.set_phase.ensures
+    (log_more (disks_of g.P.Parts.disks mid) now c.in-Some.log c.append.new.self (said mid.held) (AnEntry c.args.entry) says c.append.ensures.goes c.in-Ok.ensures.appended)
+
+pub returns-in-Err-clause-says : goal.returns-in-Err-clause-says
+returns-in-Err-clause-says g c = λ is.
+    let taken = c.in-Some.ensures.some in
+    let mid = c.take_log.new.self in
+    let says = taken_says g.P.Parts.disks c.args.self.now mid c.in-Some.log taken.0 taken.1 is in
+    let now = fused_disks g.P.Parts.disks c.append.new.parts in
+    said_resting g.P.Parts.disks (record mid { parts = c.append.new.parts }) c.set_phase-in-Err.new.self (Some c.args.entry) c.set_phase-in-Err.ensures
+    (images_written (disks_of g.P.Parts.disks mid) now c.in-Some.log mid.held c.args.entry says c.append.ensures.goes c.append.ensures.any_moment)

@@ -1,8 +1,30 @@
 use Rattle.disk_trait.specs.Fused.{fused_disks}
-use Rattle.stable_store.proofs.Opened.{opened_beside}
+use Rattle.held_state.specs.Said.{said}
+use Rattle.stable_store.proofs.Opened.{holds_beside, opened_beside}
+use Rattle.stable_store.proofs.Saying.{images_beside, log_beside, log_same}
 use Rattle.stable_store.specs.Kept.{disks_of}
 use Rattle.stable_store.proofs.stable.Stable.flush_into.Goals as goal
 
 pub put_flushed-requires-clause-opened : goal.put_flushed-requires-clause-opened
 put_flushed-requires-clause-opened g c =
     opened_beside (disks_of g.P.Parts.disks c.args.self.now) (fused_disks g.P.Parts.disks c.flush_one.new.parts) c.args.log.now c.args.self.now.held c.flush_one.new.self c.requires.opened c.flush_one.ensures.alone c.in-Ok.ensures.settled c.in-Ok.ensures.agrees c.flush_one.ensures.keeps
+
+pub returns-in-Ok-clause-log : goal.returns-in-Ok-clause-log
+returns-in-Ok-clause-log g c = λ says.
+    let old = disks_of g.P.Parts.disks c.args.self.now in
+    let mid = fused_disks g.P.Parts.disks c.flush_one.new.parts in
+    let held = c.args.self.now.held in
+    let log = c.args.log.now in
+    c.put_flushed.ensures.log (log_same mid log (said held) (said c.flush_one.new.self) (log_beside old mid log (said held) says c.flush_one.ensures.alone (λ s holds. holds_beside old mid log s holds c.flush_one.ensures.alone c.in-Ok.ensures.settled)) c.flush_one.ensures.said)
+
+pub returns-in-Ok-clause-images : goal.returns-in-Ok-clause-images
+returns-in-Ok-clause-images g c = λ says.
+    let old = disks_of g.P.Parts.disks c.args.self.now in
+    let mid = fused_disks g.P.Parts.disks c.flush_one.new.parts in
+    let held = c.args.self.now.held in
+    let log = c.args.log.now in
+    c.put_flushed.ensures.images (log_same mid log (said held) (said c.flush_one.new.self) (log_beside old mid log (said held) says c.flush_one.ensures.alone (λ s holds. holds_beside old mid log s holds c.flush_one.ensures.alone c.in-Ok.ensures.settled)) c.flush_one.ensures.said)
+
+pub returns-in-Err-clause-images : goal.returns-in-Err-clause-images
+returns-in-Err-clause-images g c = λ says.
+    images_beside (disks_of g.P.Parts.disks c.args.self.now) (fused_disks g.P.Parts.disks c.flush_one.new.parts) c.args.log.now c.args.self.now.held c.flush_one.new.self says c.flush_one.ensures.alone c.flush_one.ensures.said

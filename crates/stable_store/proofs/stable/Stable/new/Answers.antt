@@ -1,5 +1,10 @@
+use Rattle.held_state.specs.Said.{said}
+use Rattle.stable_store.proofs.Saying.{log_fused}
 use Rattle.stable_store.proofs.Staying.{opened_fused}
 use Rattle.stable_store.proofs.stable.Stable.new.Goals as goal
 
 pub returns-clause-kept : goal.returns-clause-kept
 returns-clause-kept g c = record { stands = opened_fused g.P.Parts.disks c.args.parts c.new.result c.args.log c.args.held c.new.ensures.parts c.requires }
+
+pub returns-clause-says : goal.returns-clause-says
+returns-clause-says g c = λ says. record { says = log_fused g.P.Parts.disks c.args.parts c.new.result c.args.log (said c.args.held) c.new.ensures.parts says }

@@ -1,5 +1,8 @@
 use Rattle.disk_trait.specs.Fused.{fused_disks}
+use Rattle.held_state.specs.Said.{said}
 use Rattle.stable_store.proofs.Opened.{opened_read}
+use Rattle.stable_store.proofs.Openings.{stands_where}
+use Rattle.stable_store.proofs.Saying.{log_beside, log_same, said_unread, said_up, taken_says}
 use Rattle.stable_store.proofs.Staying.{kept_up, taken_open}
 use Rattle.stable_store.specs.Kept.{disks_of}
 use Rattle.stable_store.proofs.stable.Stable.page_image.Goals as goal
@@ -11,3 +14,19 @@ returns-in-Ok-clause-kept g c =
     let now = fused_disks g.P.Parts.disks c.page_image.new.parts in
     kept_up g.P.Parts.disks (record c.take_log.new.self { parts = c.page_image.new.parts; held = c.page_image.new.self }) c.set_phase.new.self c.in-Some.log c.set_phase.ensures
     (opened_read (disks_of g.P.Parts.disks c.take_log.new.self) now c.in-Some.log c.take_log.new.self.held c.page_image.new.self stood c.page_image.ensures.alone c.page_image.ensures.content c.page_image.ensures.crash c.page_image.ensures.agrees c.page_image.ensures.keeps)
+
+pub returns-in-Ok-clause-says : goal.returns-in-Ok-clause-says
+returns-in-Ok-clause-says g c = λ is.
+    let taken = c.in-Some.ensures.some in
+    let mid = c.take_log.new.self in
+    let old = disks_of g.P.Parts.disks mid in
+    let now = fused_disks g.P.Parts.disks c.page_image.new.parts in
+    let says = taken_says g.P.Parts.disks c.args.self.now mid c.in-Some.log taken.0 taken.1 is in
+    said_up g.P.Parts.disks (record mid { parts = c.page_image.new.parts; held = c.page_image.new.self }) c.set_phase.new.self c.in-Some.log c.set_phase.ensures
+    (log_same now c.in-Some.log (said mid.held) (said c.page_image.new.self)
+    (log_beside old now c.in-Some.log (said mid.held) says c.page_image.ensures.alone (λ s holds. stands_where old now c.in-Some.log s holds c.page_image.ensures.alone c.page_image.ensures.content c.page_image.ensures.crash)) c.page_image.ensures.said)
+
+pub returns-in-Err-clause-says : goal.returns-in-Err-clause-says
+returns-in-Err-clause-says g c = λ is.
+    let taken = c.in-Some.ensures.some in
+    said_unread g.P.Parts.disks c.args.self.now c.take_log.new.self c.page_image.new.parts c.page_image.new.self c.in-Some.log taken.0 taken.1 is c.page_image.ensures.alone c.page_image.ensures.said

@@ -1,0 +1,174 @@
+-- What a restart finds is what is held, or that with the pending entry.
+use Rattle.commit_log.specs.declared.entry.Entry.{Entry}
+use Rattle.disk_trait.specs.AllDisks.{LeavesAll, MayLeaveAll, ReadsAs, TellsAll}
+use Rattle.disk_trait.proofs.Several.{all_now}
+use Rattle.disk_trait.specs.Disks.{Disks, NoNewImage, OnDisk}
+use Rattle.disk_trait.specs.Fused.{fused_disks}
+use Rattle.disk_trait.specs.declared.fused.Fused.{Fused}
+use Rattle.held_state.specs.Entering.{entered}
+use Rattle.held_state.specs.Said.{said}
+use Rattle.held_state.specs.declared.held.Held.{Held}
+use Rattle.log_bytes.specs.declared.body.Body.TheVariants.{Entry as AnEntry, Installed}
+use Rattle.log_bytes.specs.declared.state.State.{State}
+use Rattle.log_frame.specs.Log.{Place}
+use Rattle.mob_flusher.specs.Map.{Kept}
+use Rattle.stable_store.proofs.Remembering.{comes_back, comes_behind, comes_installed}
+use Rattle.stable_store.proofs.Saying.{log_same, log_says, said_in_phase, tells_before}
+use Rattle.stable_store.specs.Agreeing.{numbers_of}
+use Rattle.stable_store.specs.Kept.{disks_of, lowered}
+use Rattle.stable_store.specs.Remembering.{Remembers}
+use Rattle.stable_store.specs.Saying.{FindsOneOf, ImagesSay, IsAhead, IsAheadIn, IsOneOf, IsSaid, LeavesNoMore, LogSays, SaysIn}
+use Rattle.stable_store.specs.declared.agreement.Numbers.{Numbers}
+use Rattle.stable_store.specs.declared.stable.Phase.TheVariants.{Down, Torn, Up}
+use Rattle.stable_store.specs.declared.stable.Phase.{Phase}
+use Rattle.stable_store.specs.declared.stable.Stable.{Stable}
+use Rattle.state_log.specs.Holds.{Holds}
+use Rattle.state_log.specs.Recovered.{after, stands}
+use Rattle.std.proofs.Common.{Err, List, None, Ok, Option, Result, Some, ap, arith, inl, inr, refl, suc, zero, subst, sym, ◌+◌, ◌<◌, ◌∙◌, ◌≡◌, ◌≢◌, ◌≤◌, ℕ}
+use Rattle.std.proofs.lemmas.Bool.{cases_eq}
+use Rattle.std.specs.Prelude.{IfOk, OnErr}
+use Rattle.disk_trait.proofs.Several.{goes_one}
+
+-- ---- what a crash leaves
+
+pub none_more : (disks : Disks) → LeavesNoMore disks disks
+none_more disks = record { images = λ images left. left; tells = λ tells. tells }
+
+pub more_then : (old mid new : Disks) → LeavesNoMore old mid → LeavesNoMore mid new → LeavesNoMore old new
+more_then old mid new first then = record {
+  images = λ images left. first.images images (then.images images left);
+  tells = λ tells. first.tells (then.tells tells);
+}
+
+pub more_run : (old new : Disks) → LeavesAll old new (MayLeaveAll old old.time) → LeavesNoMore old new
+more_run old new leaves = record {
+  images = λ images left. all_now old new (MayLeaveAll old old.time) leaves images left;
+  tells = λ tells. tells_before old new leaves.goes tells;
+}
+
+-- the disk of pages was read
+pub more_read : (old new : Disks) → OnDisk old new 2 → NoNewImage old new 2 → LeavesNoMore old new
+more_read old new alone crash = record {
+  images = λ images left d within. elim (cases_eq d 2) [
+    | inl same ↦ subst (λ n. old.images old.time n (images n)) (sym same) (crash (images 2) (subst (λ n. new.images new.time n (images n)) same (left d within)))
+    | inr other ↦ alone.others_images new.time d (images d) other alone.later (omega arith) (left d within)
+  ];
+  tells = λ tells. tells_before old new (goes_one old new 2 alone) tells;
+}
+
+pub images_more : (old new : Disks) (h : Held) (pending : Option Entry) → LeavesNoMore old new → ImagesSay old h pending → ImagesSay new h pending
+images_more old new h pending more says = record { each = λ tells images left. says.each (more.tells tells) images (more.images images left) }
+
+-- ---- what is found
+
+one_state : (s t : State) (o : Option State) → o ≡ Some s → o ≡ Some t → s ≡ t
+one_state s t o a b = cc
+
+-- the bytes of each disk, where all tell
+reads_of : (disks : Disks) → TellsAll disks → (bytes : ℕ → List ℕ) × ReadsAs disks bytes
+reads_of disks tells = (bytes, reads)
+  where
+    bytes : ℕ → List ℕ
+    bytes zero = (tells 0 (omega arith)).0
+    bytes (suc zero) = (tells 1 (omega arith)).0
+    bytes (suc (suc n)) = (tells 2 (omega arith)).0
+
+    reads : (d : ℕ) → d < 3 → disks.content d ≡ Some (bytes d)
+    reads zero within = (tells 0 (omega arith)).1
+    reads (suc zero) within = (tells 1 (omega arith)).1
+    reads (suc (suc zero)) within = (tells 2 (omega arith)).1
+    reads (suc (suc (suc n))) within = let none : ⊥ = omega (arith, within) in absurd none
+
+pub finds_one : (old new : Disks) (log : Place) (h : Held) (s : State) → LeavesNoMore old new → Holds new log s → ((bytes : ℕ → List ℕ) → ReadsAs new bytes → MayLeaveAll new new.time bytes) → FindsOneOf old new h s
+finds_one old new log h s more holds left = λ pending says tells.
+    let read = reads_of new tells in
+    let there = left read.0 read.1 in
+    let one = says.each (more.tells tells) read.0 (more.images read.0 there) in
+    let here : stands read.0 ≡ Some s = log_says new log s holds tells read.0 (λ d within. there d (omega (arith, within))) in
+    subst (IsOneOf h pending) (one_state one.state s (stands read.0) one.stands here) one.says
+
+-- ---- which of the two it is
+
+count_of : (a b : Numbers) → a ≡ b → a.count ≡ b.count
+count_of a b is = ap (λ (n : Numbers). n.count) is
+
+same_count : (s a : State) → Remembers s a → s.count ≡ a.count
+same_count s a r = ap (λ (z : State). z.count) r.rest
+
+never_one_more : (n m : ℕ) → n ≡ m → n ≡ m + 1 → ⊥
+never_one_more n m a b = omega (arith, a, b)
+
+-- where the numbers are those of what is held
+pub back_as_held : (found h : Held) (objects : Kept) (pending : Option Entry) → objects ≡ found.objects → numbers_of found ≡ numbers_of h → IsOneOf h pending (said found) → Remembers (said found) (said (record h { objects = objects }))
+back_as_held found h objects pending taken same is = subst (λ (k : Kept). Remembers (said found) (said (record h { objects = k }))) (sym taken) (by pending is)
+  where
+    by : (p : Option Entry) → IsOneOf h p (said found) → Remembers (said found) (said (record h { objects = found.objects }))
+    by None (inl r) = comes_back (said found) (said h) r
+    by None (inr installing) = comes_installed (said found) (said h) installing.page installing.side installing.says
+    by (Some e) (inl r) = comes_back (said found) (said h) r
+    by (Some e) (inr r) = absurd (never_one_more found.count h.count (count_of (numbers_of found) (numbers_of h) same) (same_count (said found) (after (said h) (AnEntry e)) r))
+
+-- where they are those behind the entry
+pub back_with_pending : (found h : Held) (objects : Kept) (e : Entry) → objects ≡ found.objects → numbers_of found ≡ numbers_of (entered h e) → IsOneOf h (Some e) (said found) → Remembers (said found) (after (said (record h { objects = objects })) (AnEntry e))
+back_with_pending found h objects e taken same is = subst (λ (k : Kept). Remembers (said found) (after (said (record h { objects = k })) (AnEntry e))) (sym taken) (by is)
+  where
+    by : IsOneOf h (Some e) (said found) → Remembers (said found) (after (said (record h { objects = found.objects })) (AnEntry e))
+    by (inl r) = absurd (never_one_more found.count h.count (same_count (said found) (said h) r) (count_of (numbers_of found) (numbers_of (entered h e)) same))
+    by (inr r) = comes_behind (said found) (said h) e r
+
+-- ---- while it is down
+
+says_more : (old new : Disks) (h : Held) (p : Phase) → LeavesNoMore old new → SaysIn old h (lowered p) → SaysIn new h (lowered p)
+says_more old new h (Up log) more says = images_more old new h None more says
+says_more old new h (Down pending) more says = images_more old new h pending more says
+says_more old new h (Torn e) more says = tt
+
+-- nothing was recovered
+pub fails_said : {P : Type 0} (disks : P → Disks) (old new : Stable P) (p : Phase) → IsSaid disks old → old.phase ≡ lowered p → LeavesNoMore (disks_of disks old) (disks_of disks new) → new.phase ≡ old.phase → new.held ≡ old.held → IsSaid disks new
+fails_said disks old new p is down more phase held = record {
+  says = subst (λ (h : Held). SaysIn (disks_of disks new) h new.phase) (sym held) (subst (SaysIn (disks_of disks new) old.held) (sym (phase ∙ down))
+      (says_more (disks_of disks old) (disks_of disks new) old.held p more (subst (SaysIn (disks_of disks old) old.held) down is.says)));
+}
+
+-- what was recovered is one of what the disks may have said
+pub restart_finds : {P : Type 0} (disks : P → Disks) (old new : Stable P) (pending : Option Entry) (s : State) → IsSaid disks old → old.phase ≡ Down pending → new.held ≡ old.held → FindsOneOf (disks_of disks old) (disks_of disks new) old.held s → TellsAll (disks_of disks new) → IsOneOf new.held pending s
+restart_finds disks old new pending s is down held found tells =
+    subst (λ (h : Held). IsOneOf h pending s) (sym held) (found pending (subst (SaysIn (disks_of disks old) old.held) down is.says) tells)
+
+-- it stays down, with what was pending
+pub restart_stays : {P : Type 0} (disks : P → Disks) (old mid new : Stable P) (pending : Option Entry) → IsSaid disks old → old.phase ≡ Down pending → LeavesNoMore (disks_of disks old) (disks_of disks mid) → mid.held ≡ old.held → new.parts ≡ mid.parts → new.held ≡ mid.held → new.phase ≡ Down pending → IsSaid disks new
+restart_stays {P = P} disks old mid new pending is down more held parts same phase =
+    let images : ImagesSay (disks_of disks mid) old.held pending = images_more (disks_of disks old) (disks_of disks mid) old.held pending more (subst (SaysIn (disks_of disks old) old.held) down is.says) in
+    let there : ImagesSay (disks_of disks mid) new.held pending = subst (λ (h : Held). ImagesSay (disks_of disks mid) h pending) (sym (same ∙ held)) images in
+    said_in_phase disks new pending phase (subst (λ (p : Fused P). ImagesSay (fused_disks disks p) new.held pending) (sym parts) there)
+
+-- what holds of an answer
+pub if_ok_on : {T E : Type 0} (r : Result T E) (A B : T → Type 0) → ((x : T) → A x → B x) → IfOk r A → IfOk r B
+if_ok_on (Ok x) A B f h = f x h
+if_ok_on (Err e) A B f h = tt
+
+pub on_err_two : {T E : Type 0} (r : Result T E) (A B F : Type 0) → OnErr r A → OnErr r B → (A → B → F) → OnErr r F
+on_err_two (Ok x) A B F a b f = tt
+on_err_two (Err e) A B F a b f = f a b
+
+-- it comes up with what was held
+pub returned_held : {P : Type 0} (disks : P → Disks) (old new : Stable P) (found : Held) (log : Place) (pending : Option Entry) → new.parts ≡ old.parts → new.phase ≡ Up log → new.held ≡ record old.held { objects = new.held.objects } → new.held.objects ≡ found.objects → numbers_of found ≡ numbers_of old.held
+    → Holds (disks_of disks old) log (said found) → (TellsAll (disks_of disks old) → IsOneOf old.held pending (said found)) → IsSaid disks new
+returned_held {P = P} disks old new found log pending parts phase held objects numbers holds one =
+    let h : Held = record old.held { objects = new.held.objects } in
+    let says : LogSays (disks_of disks old) log (said h) = record { state = said found; holds = holds; says = λ tells. back_as_held found old.held new.held.objects pending objects numbers (one tells) } in
+    let there : LogSays (disks_of disks new) log (said h) = subst (λ (p : Fused P). LogSays (fused_disks disks p) log (said h)) (sym parts) says in
+    record { says = subst (SaysIn (disks_of disks new) new.held) (sym phase) (log_same (disks_of disks new) log (said h) (said new.held) there (ap said held)) }
+
+-- or with the pending entry ahead
+pub returned_pending : {P : Type 0} (disks : P → Disks) (old new : Stable P) (found : Held) (log : Place) (pending : Option Entry) (e : Entry) → pending ≡ Some e → new.parts ≡ old.parts → new.phase ≡ Up log → new.held ≡ record old.held { objects = new.held.objects } → new.held.objects ≡ found.objects → numbers_of found ≡ numbers_of (entered old.held e)
+    → Holds (disks_of disks old) log (said found) → (TellsAll (disks_of disks old) → IsOneOf old.held pending (said found)) → IsAhead disks new e
+returned_pending {P = P} disks old new found log pending e was parts phase held objects numbers holds one =
+    let h : Held = record old.held { objects = new.held.objects } in
+    let says : LogSays (disks_of disks old) log (after (said h) (AnEntry e)) = record { state = said found; holds = holds; says = λ tells. back_with_pending found old.held new.held.objects e objects numbers (subst (λ (p : Option Entry). IsOneOf old.held p (said found)) was (one tells)) } in
+    let there : LogSays (disks_of disks new) log (after (said h) (AnEntry e)) = subst (λ (p : Fused P). LogSays (fused_disks disks p) log (after (said h) (AnEntry e))) (sym parts) says in
+    record { ahead = subst (IsAheadIn (disks_of disks new) new.held e) (sym phase) (log_same (disks_of disks new) log (after (said h) (AnEntry e)) (after (said new.held) (AnEntry e)) there (ap (λ (g : Held). after (said g) (AnEntry e)) held)) }
+
+pub on_err_any : {T E : Type 0} (r : Result T E) (A : Type 0) → A → OnErr r A
+on_err_any (Ok x) A a = tt
+on_err_any (Err e) A a = a

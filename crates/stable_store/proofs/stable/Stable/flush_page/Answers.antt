@@ -1,0 +1,18 @@
+use Rattle.stable_store.proofs.Saying.{phase_of, said_in_phase, said_up, taken_says}
+use Rattle.std.proofs.Common.{ap, ◌∙◌}
+use Rattle.std.specs.Prelude.{None}
+use Rattle.stable_store.proofs.stable.Stable.flush_page.Goals as goal
+
+pub returns-in-Ok-clause-says : goal.returns-in-Ok-clause-says
+returns-in-Ok-clause-says g c = λ is.
+    let taken = c.in-Some.ensures.some in
+    let mid = c.take_log.new.self in
+    let says = taken_says g.P.Parts.disks c.args.self.now mid c.in-Some.log taken.0 taken.1 is in
+    said_up g.P.Parts.disks c.flush_into.new.self c.set_phase.new.self c.flush_into.new.log c.set_phase.ensures (c.in-Ok.ensures.log says)
+
+pub returns-in-Err-clause-says : goal.returns-in-Err-clause-says
+returns-in-Err-clause-says g c = λ is.
+    let taken = c.in-Some.ensures.some in
+    let mid = c.take_log.new.self in
+    let says = taken_says g.P.Parts.disks c.args.self.now mid c.in-Some.log taken.0 taken.1 is in
+    said_in_phase g.P.Parts.disks c.flush_into.new.self None (c.flush_into.ensures.phase ∙ ap phase_of taken.1) (c.in-Err.ensures.images says)

@@ -1,0 +1,11 @@
+use Rattle.stable_store.proofs.Forgetting.{says_forgotten}
+use Rattle.stable_store.proofs.Saying.{says_moved}
+use Rattle.stable_store.proofs.Staying.{keeps_up}
+use Rattle.stable_store.specs.Kept.{disks_of}
+use Rattle.stable_store.proofs.stable.Stable.forget.Goals as goal
+
+pub returns-clause-says : goal.returns-clause-says
+returns-clause-says g c = λ up is.
+    let s = c.args.self.now in
+    let keeps = keeps_up (disks_of g.P.Parts.disks s) s.held s.phase up c.requires.kept.stands in
+    record { says = says_moved (disks_of g.P.Parts.disks s) s.held c.forget.new.self s.phase up is.says (says_forgotten s.held c.forget.new.self c.args.tx c.forget.ensures.held keeps) }

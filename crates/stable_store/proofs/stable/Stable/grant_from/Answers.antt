@@ -1,0 +1,12 @@
+use Rattle.held_state.specs.Said.{said}
+use Rattle.held_state.specs.declared.held.Held.{Held}
+use Rattle.stable_store.proofs.Saying.{says_moved}
+use Rattle.stable_store.specs.Kept.{disks_of}
+use Rattle.stable_store.specs.Remembering.{Remembers}
+use Rattle.std.proofs.Common.{subst, sym}
+use Rattle.stable_store.proofs.stable.Stable.grant_from.Goals as goal
+
+pub returns-clause-says : goal.returns-clause-says
+returns-clause-says g c = λ up is.
+    let h = c.args.self.now in
+    record { says = says_moved (disks_of g.P.Parts.disks h) h.held c.grant_from.new.self h.phase up is.says (λ s r. subst (λ (k : Held). Remembers s (said k)) (sym c.grant_from.ensures.held) r) }

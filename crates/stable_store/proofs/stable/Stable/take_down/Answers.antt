@@ -1,0 +1,5 @@
+use Rattle.stable_store.proofs.Saying.{said_out}
+use Rattle.stable_store.proofs.stable.Stable.take_down.Goals as goal
+
+pub returns-in-Up-clause-says : goal.returns-in-Up-clause-says
+returns-in-Up-clause-says g c = λ is. said_out g.P.Parts.disks c.args.self.now c.set_phase.new.self c.in-Up.log c.in-Up.is c.set_phase.ensures is

@@ -1,0 +1,18 @@
+use Rattle.commit_log.specs.declared.entry.Entry.{Entry}
+use Rattle.held_state.specs.Entering.{entered}
+use Rattle.stable_store.proofs.Returning.{returned_held, returned_pending}
+use Rattle.stable_store.specs.Agreeing.{numbers_of}
+use Rattle.std.proofs.Common.{Option, subst, ◌≡◌}
+use Rattle.std.specs.Option.{IfSome}
+use Rattle.stable_store.proofs.stable.Stable.take_over.Goals as goal
+
+pub returns-in-AsHeld-default-clause-says : goal.returns-in-AsHeld-default-clause-says
+returns-in-AsHeld-default-clause-says g c = λ one.
+    returned_held g.P.Parts.disks c.args.self.now c.come_up.new.self c.args.recovered.state c.args.recovered.log c.args.pending c.come_up.ensures.parts c.come_up.ensures.phase c.come_up.ensures.held c.come_up.ensures.objects
+    (c.compare-agrees.ensures.held c.in-AsHeld-default.is-0) c.requires.stands one
+
+pub returns-in-WithPending-Some-clause-says : goal.returns-in-WithPending-Some-clause-says
+returns-in-WithPending-Some-clause-says g c = λ one.
+    let up = c.come_up-in-WithPending-Some in
+    let numbers = subst (λ (p : Option Entry). IfSome p (λ e. numbers_of c.args.recovered.state ≡ numbers_of (entered c.args.self.now.held e))) c.in-WithPending-Some.is-1 (c.compare-agrees.ensures.pending c.in-WithPending-Some.is-0) in
+    returned_pending g.P.Parts.disks c.args.self.now up.new.self c.args.recovered.state c.args.recovered.log c.args.pending c.in-WithPending-Some.entry c.in-WithPending-Some.is-1 up.ensures.parts up.ensures.phase up.ensures.held up.ensures.objects numbers c.requires.stands one
