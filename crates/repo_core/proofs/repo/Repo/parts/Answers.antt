@@ -1,6 +1,5 @@
 use Rattle.disk_trait.specs.Disks.{Disks}
 use Rattle.disk_trait.specs.Fused.{fused_disks}
-use Rattle.disk_trait.specs.declared.fused.Fused.{Fused}
 use Rattle.repo_core.specs.Shown.{Shown}
 use Rattle.stable_store.proofs.Saying.{images_of}
 use Rattle.stable_store.specs.Kept.{pending}
@@ -13,4 +12,4 @@ returns g c = λ whole.
     let i = c.self.inside in
     let says = images_of g.P.Parts.disks i.stable (ap (λ (s : Shown). s.is_torn) c.self.view_is ∙ whole) c.self.invariant.1 in
     subst (λ (s : Shown). ImagesSay (fused_disks g.P.Parts.disks c.parts.result.now) s.held s.pending) c.self.view_is
-    (subst (λ (f : Fused g.P). ImagesSay (fused_disks g.P.Parts.disks f) i.stable.held (pending i.stable)) (sym c.parts.ensures) says)
+    (subst (λ f. ImagesSay (fused_disks g.P.Parts.disks f) i.stable.held (pending i.stable)) (sym c.parts.ensures) says)
