@@ -322,78 +322,55 @@ fn collect(
     kind: ExprType,
     target: Value,
     method: &Shared<Text>,
-    done: Values,
-    rest: SharedExprs,
+    none: Values,
+    arguments: SharedExprs,
 ) -> Result<Value, Unwound>
     requires tied { Tied progress.old.written cache.old }
     requires known { AreOf program.now.schema.now.classes bodies.old.called }
-    ensures does { Directs result (state progress.new cache.new) (spec.collect (on program.now.schema.now cache.old) inner (directly (on program.now.schema.now cache.old) inner) kind target method.now done rest (state progress.old cache.old)) }
+    ensures does { Directs result (state progress.new cache.new) (spec.collect (on program.now.schema.now cache.old) inner (directly (on program.now.schema.now cache.old) inner) kind target method.now none arguments (state progress.old cache.old)) }
     ensures tied { Lasts result (Tied progress.new.written cache.new) }
     ensures kept { Lasts result (Keeps cache.old cache.new) }
     ensures known { AreOf program.now.schema.now.classes bodies.new.called }
 {
-    match rest.split_first()? {
-        None => ready(
-            program, epoch, cache, progress, bodies, inner, kind, target, method, done,
-        ),
-        Some((expr, rest)) => argument(
-            program, epoch, cache, progress, bodies, inner, kind, target, method, done, &expr, rest,
-        ),
-    }
-}
-
-/// The next argument, and those behind it.
-#[cycle(direct)]
-#[tactic(auto, using(crate::proofs::Directly::left_waiting, crate::proofs::Directly::same_world))]
-fn argument(
-    program: &Program<'_>,
-    epoch: u32,
-    cache: &mut Cache,
-    progress: &mut Progress,
-    bodies: &mut Bodies,
-    inner: u32,
-    kind: ExprType,
-    target: Value,
-    method: &Shared<Text>,
-    done: Values,
-    expr: &SharedExpr,
-    rest: SharedExprs,
-) -> Result<Value, Unwound>
-    requires tied { Tied progress.old.written cache.old }
-    requires known { AreOf program.now.schema.now.classes bodies.old.called }
-    ensures does { Directs result (state progress.new cache.new) (spec.collect (on program.now.schema.now cache.old) inner (directly (on program.now.schema.now cache.old) inner) kind target method.now done (expr.now ∷ rest) (state progress.old cache.old)) }
-    ensures tied { Lasts result (Tied progress.new.written cache.new) }
-    ensures kept { Lasts result (Keeps cache.old cache.new) }
-    ensures known { AreOf program.now.schema.now.classes bodies.new.called }
-{
-    match value_of(
-        program,
-        epoch,
-        cache,
-        progress,
-        bodies,
-        inner,
-        expr.shared(),
-    ) {
-        Ok(value) => {
-            let mut done = done;
-            done.push(value)?;
-            collect(
-                program, epoch, cache, progress, bodies, inner, kind, target, method, done, rest,
-            )
-        }
-        Err(unwound) => {
-            let frame = Frame::Arguments {
-                nested: inner,
-                kind,
-                target,
-                method: method.share()?,
-                done,
-                rest,
-            };
-            Err(behind(unwound, frame))
+    let mut done = none;
+    let mut left = arguments;
+    for _ in 0..u64::MAX {
+        match left.split_first()? {
+            None => {
+                return ready(
+                    program, epoch, cache, progress, bodies, inner, kind, target, method, done,
+                );
+            }
+            Some((expr, rest)) => {
+                match value_of(
+                    program,
+                    epoch,
+                    cache,
+                    progress,
+                    bodies,
+                    inner,
+                    expr.shared(),
+                ) {
+                    Ok(value) => {
+                        done.push(value)?;
+                        left = rest;
+                    }
+                    Err(unwound) => {
+                        let frame = Frame::Arguments {
+                            nested: inner,
+                            kind,
+                            target,
+                            method: method.share()?,
+                            done,
+                            rest,
+                        };
+                        return Err(behind(unwound, frame));
+                    }
+                }
+            }
         }
     }
+    Err(Unwound::NoMemory)
 }
 
 /// The parts of a call are there.
