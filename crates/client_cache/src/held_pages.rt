@@ -1,7 +1,7 @@
 ghost use Rattle.std.specs.Map.{keys_of, lookup, remove_entry};
 ghost use Rattle.std.specs.List.{list_all};
 ghost use Rattle.std.specs.Option.{option_copied, option_map_or};
-ghost use Rattle.std.specs.Prelude.{◌≡◌, ◌<◌, ℕ, MatchOption, take, [], ◌∷◌, false, true, cond, Some, None, IfOk, OnOk, OnErr};
+ghost use Rattle.std.specs.Prelude.{◌≡◌, ◌<◌, ℕ, MatchOption, take, [], ◌∷◌, false, true, cond, Some, None, IfOk, IfSome, IsTrue, OnOk, OnErr};
 ghost use Rattle.thor_value.specs.declared.names.Oref.{Oref};
 ghost use Rattle.client_cache.specs.declared.page_name.PageName.{PageName};
 ghost use Rattle.client_cache.specs.Copies.{elsewhere, forward, holds, told};
@@ -48,11 +48,42 @@ impl HeldPages {
         *self.pages.allocator()
     }
 
+    // The slots of a page, where it is the most recently used one.
+    fn first(&self, page: PageName) -> Option<&Slots>
+        ensures found { IfSome (option_copied result) (λ slots. lookup (same_page page) self.now ≡ Some slots) }
+        ensures order { IfSome (option_copied result) (λ slots. keys_of self.now ≡ forward page (keys_of self.now)) }
+    {
+        match self.pages.peek_mru() {
+            Some((name, slots)) => {
+                if name.page == page.page && name.repo == page.repo {
+                    Some(slots)
+                } else {
+                    None
+                }
+            }
+            None => None,
+        }
+    }
+
+    // Whether a page is the most recently used one. Most uses are of that one, and it needs no search.
+    fn is_first(&self, page: PageName) -> bool
+        ensures held { IsTrue result → holds self.now page ≡ true }
+        ensures order { IsTrue result → keys_of self.now ≡ forward page (keys_of self.now) }
+    {
+        match self.first(page) {
+            Some(_) => true,
+            None => false,
+        }
+    }
+
     /// The slots of a page, where it is held.
     pub fn get(&self, page: PageName) -> Option<&Slots>
         ensures { option_copied result ≡ lookup (same_page page) self.now }
     {
-        self.pages.peek(&page)
+        match self.first(page) {
+            Some(slots) => Some(slots),
+            None => self.pages.peek(&page),
+        }
     }
 
     /// Makes a page the most recently used one, where it is held, and tells whether it is.
@@ -61,6 +92,9 @@ impl HeldPages {
         ensures order { keys_of self.new ≡ cond (holds self.old page) (forward page (keys_of self.old)) (keys_of self.old) }
         ensures held { result ≡ holds self.old page }
     {
+        if self.is_first(page) {
+            return true;
+        }
         self.pages.promote(&page)
     }
 
@@ -148,7 +182,7 @@ impl HeldPages {
     pub fn holds(&self, page: PageName) -> bool
         ensures { result ≡ holds self.now page }
     {
-        self.pages.contains(&page)
+        self.is_first(page) || self.pages.contains(&page)
     }
 
     // The same for a page that is held, and stays where it is among them.
