@@ -1,12 +1,15 @@
 -- Looking a page up among the pages held.
-use Rattle.std.proofs.Common.{◌≡◌, ℕ, Bool, true, false, cond, ◌&&◌, nat_eq, List, [], ◌∷◌, Option, Some, None, refl, sym, ap, subst}
+use Rattle.std.proofs.Common.{◌≡◌, ℕ, Bool, true, false, cond, ◌&&◌, nat_eq, List, [], ◌∷◌, Option, Some, None, refl, sym, ap, subst, ◌∙◌}
 use Rattle.std.specs.Cmp.{IsEquivalence, nat_eq_equiv}
-use Rattle.std.specs.Option.{option_map_or}
-use Rattle.std.specs.Map.{lookup, lookup_entry, remove_entry}
+use Rattle.std.specs.Option.{option_map_or, unwrap_or}
+use Rattle.std.specs.Prelude.{slice_get}
+use Rattle.std.specs.Set.{remove_key}
+use Rattle.std.specs.Map.{keys_of, lookup, lookup_entry, remove_entry}
 use Rattle.std.proofs.lemmas.Bool.{eqb-true, eq-eqb, and_parts}
 use Rattle.lru.specs.LruCache.{promoted}
 use Rattle.lru.proofs.Pairs.{lookup-lookup_entry}
 use Rattle.lru.proofs.CallerLemmas.{Contains-lookup_entry}
+use Rattle.client_cache.specs.Copies.{forward}
 use Rattle.client_cache.specs.Pages.{same_page}
 use Rattle.client_cache.specs.declared.page_name.PageName.{PageName}
 
@@ -19,6 +22,9 @@ joined a b c d e f = rw (e, f) refl
 pub one-page : (p q : PageName) → same_page p q ≡ true → p ≡ q
 one-page p q e = let h = and_parts (nat_eq p.repo q.repo) (nat_eq p.page q.page) e in
     joined p.repo q.repo p.page q.page (eqb-true p.repo q.repo h.0) (eqb-true p.page q.page h.1)
+
+page_is : (p q : PageName) → q.page ≡ p.page → q.repo ≡ p.repo → p ≡ q
+page_is p q a b = joined p.repo q.repo p.page q.page (sym b) (sym a)
 
 pub itself : (p : PageName) → same_page p p ≡ true
 itself p = rw (eq-eqb p.repo p.repo refl, eq-eqb p.page p.page refl) refl
@@ -57,3 +63,22 @@ module _ {V : Type 0} where
   -- the order of use changes no look-up
   pub found-promoted : (p q : PageName) (es : List (PageName × V)) → lookup (same_page q) (promoted (same_page p) es) ≡ lookup (same_page q) es
   found-promoted p q es = to_front p q es (lookup_entry (same_page p) es) refl
+
+  -- ---- the page that was used last
+
+  head_is : (q : PageName) (v : V) (e : PageName × V) (es : List (PageName × V)) → Some (q, v) ≡ slice_get (e ∷ es) 0 → (q, v) ≡ e
+  head_is q v e es h = ap (λ (o : Option (PageName × V)). unwrap_or o (q, v)) h
+
+  pub first_found : (p q : PageName) (v : V) (es : List (PageName × V)) → Some (q, v) ≡ slice_get es 0 → q.page ≡ p.page → q.repo ≡ p.repo → lookup (same_page p) es ≡ Some v
+  first_found p q v [] h a b = cc
+  first_found p q v (e ∷ es) h a b =
+      let t : same_page p q ≡ true = subst (λ (r : PageName). same_page p r ≡ true) (page_is p q a b) (itself p) in
+      subst (λ (f : PageName × V). lookup (same_page p) (f ∷ es) ≡ Some v) (head_is q v e es h) (ap (λ (c : Bool). cond c (Some v) (lookup (same_page p) es)) t)
+
+  pub first_forward : (p q : PageName) (v : V) (es : List (PageName × V)) → Some (q, v) ≡ slice_get es 0 → q.page ≡ p.page → q.repo ≡ p.repo → keys_of es ≡ forward p (keys_of es)
+  first_forward p q v [] h a b = cc
+  first_forward p q v (e ∷ es) h a b =
+      let i : p ≡ q = page_is p q a b in
+      let t : same_page p q ≡ true = subst (λ (r : PageName). same_page p r ≡ true) i (itself p) in
+      subst (λ (f : PageName × V). keys_of (f ∷ es) ≡ forward p (keys_of (f ∷ es))) (head_is q v e es h)
+      (ap (λ (r : PageName). r ∷ keys_of es) (sym i) ∙ ap (λ (c : Bool). p ∷ cond c (keys_of es) (q ∷ remove_key (same_page p) (keys_of es))) (sym t))
