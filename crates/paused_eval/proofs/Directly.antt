@@ -54,7 +54,8 @@ use Rattle.paused_eval.proofs.Hands.{same_hands}
 use Rattle.paused_eval.proofs.Standing.{named, named_is, stops}
 use Rattle.paused_eval.specs.Begins.{first_part, waiting_frame}
 use Rattle.paused_eval.specs.Copies.{Keeps}
-use Rattle.paused_eval.specs.Direct.{Direct, Directly, Directs, IsLeft, Outcome, Resumes, Waits, on, again, behind, block, call, binary, called, collect, combine, directly, done, effect, enter, enter_as, faulted, in_order, later, met, node, part, ready, returned, run_body, statement, statement_at, stepped, tests, turn, turn_by, unless, value_at, waiting}
+use Rattle.paused_eval.specs.Direct.{Direct, Directly, Directs, IsLeft, Lasts, Outcome, Resumes, Waits, on, again, behind, block, call, binary, called, collect, combine, directly, done, effect, enter, enter_as, faulted, in_order, later, met, node, part, ready, returned, run_body, statement, statement_at, stepped, tests, turn, turn_by, unless, value_at, waiting}
+use Rattle.paused_eval.specs.Does.{Holds}
 use Rattle.paused_eval.specs.Standing.{Runs, Went, outcome_of}
 use Rattle.paused_eval.specs.declared.unwound.Unwound.{Unwound}
 use Rattle.paused_eval.specs.declared.unwound.Unwound.TheVariants.{Faulted, Later, NoMemory}
@@ -62,11 +63,15 @@ use Rattle.paused_eval.specs.declared.unwound.Unwound.TheVariants.{Faulted, Late
 abbrev left : Doing → List Frame → Left
 left d fs = record { doing = d; stack = fs }
 
+-- a stop is no answer
+apart : {A E : Type 0} (P : Type 0) (e : E) (a : A) (m n : Machine) → ◌≡◌ {A = Result A E × Machine} (Err e, m) (Ok a, n) → P
+apart {A} {E} P e a m n h = let i : ◌≡◌ {A = Result A E} (Err e) (Ok a) = ap (λ (p : Result A E × Machine). p.0) h in cc
+
 -- ---- where an object isn't found, nothing has changed
 
 found_stays : (o : Option Object) (x : Oref) (owners : List Oref) (m n : Machine) (t : Stop) → class_found o x owners m ≡ (Err t, n) → n ≡ m
 found_stays None x owners m n t e = sym (ap (λ (p : Result ℕ Stop × Machine). p.1) e)
-found_stays (Some o) x owners m n t e = cc
+found_stays (Some o) x owners m n t e = apart (n ≡ m) t o.class n m (sym e)
 
 newly_stays : (o : Option Object) (x : Oref) (owners : List Oref) (m n : Machine) (t : Stop) (k : ℕ → Action ℕ) → ((c : ℕ) (p : Machine) → (k c p).0 ≡ Ok c)
     → (class_found o x owners >>= k) m ≡ (Err t, n) → n ≡ m
@@ -105,6 +110,39 @@ left_there p halt.NoMemory NoMemory d k n h i = tt
 
 pub same_world : (s : Schema) (c d : Contents) → Keeps c d → on s d ≡ on s c
 same_world s c d h = ap (over s) (same_hands s c d h)
+
+-- what held where it was left holds behind it
+pub lasts_left : (A B : Type 0) (u v : Unwound) (f : Frame) (P : Type 0) → Lasts {A = A} (Err u) P → Waits f u v → Lasts {A = B} (Err v) P
+lasts_left A B (Later d gs) (Later e hs) f P h i = h
+lasts_left A B (Later d gs) (Faulted e) f P h i = h
+lasts_left A B (Faulted t) (Later e hs) f P h i = h
+lasts_left A B (Faulted t) (Faulted e) f P h i = h
+lasts_left A B NoMemory (Later e hs) f P h i = cc
+lasts_left A B NoMemory (Faulted e) f P h i = cc
+lasts_left A B u NoMemory f P h i = tt
+
+pub lasts_there : (A B : Type 0) (h : Halt) (v : Unwound) (d : Doing) (P : Type 0) → Holds {A = A} (Err h) P → IsLeft d h v → Lasts {A = B} (Err v) P
+lasts_there A B (Stopped t) (Later e hs) d P l i = l
+lasts_there A B (Stopped t) (Faulted e) d P l i = l
+lasts_there A B (Stopped t) NoMemory d P l i = tt
+lasts_there A B halt.NoMemory (Later e hs) d P l i = absurd i
+lasts_there A B halt.NoMemory (Faulted e) d P l i = absurd i
+lasts_there A B halt.NoMemory NoMemory d P l i = tt
+
+lasts_too : {A : Type 0} (r : Result A Unwound) (P Q : Type 0) → (P → Q) → Lasts r P → Lasts r Q
+lasts_too (Ok a) P Q h l = h l
+lasts_too (Err (Later d fs)) P Q h l = h l
+lasts_too (Err (Faulted e)) P Q h l = h l
+lasts_too (Err NoMemory) P Q h l = tt
+
+pub kept_after : {A : Type 0} (c d e : Contents) (r : Result A Unwound) → Keeps c d → Lasts r (Keeps d e) → Lasts r (Keeps c e)
+kept_after c d e r h l = lasts_too r (Keeps d e) (Keeps c e) (λ k x. k x ∙ h x) l
+
+-- behind a part that is done
+pub then_does : {A B : Type 0} (s : Schema) (c d : Contents) (p : Outcome A) (a : A) (m n : Machine) (r : Result B Unwound) (f : Frame) (k : World → A → Direct B) → Keeps c d
+    → p ≡ (Ok a, m) → Directs r n (k (on s d) a m) → Directs r n (behind p.0 p.1 f (k (on s c)))
+then_does {A} s c d p a m n r f k h e i =
+    subst (λ (q : Outcome A). Directs r n (behind q.0 q.1 f (k (on s c)))) (sym e) (subst (λ (w : World). Directs r n (k w a m)) (same_world s c d h) i)
 
 pub value-none : (w : World) (n : ℕ) (e : Expr) (m : Machine) → n ≡ 0 → (directly w n).value_of e m ≡ (Err (Later (doing.Evaluate n e) []), m)
 unfolding directly
@@ -168,21 +206,21 @@ pub ruleset at_turn = (tests-none, tests-over, tests-more)
 -- what a part came to, and what is behind it
 done_ok : {A B : Type 0} (r : Result A Unwound) (o : Machine) (f : Frame) (k : A → Direct B) (a : A) (p : Machine) → behind r o f done ≡ (Ok a, p) → behind r o f k ≡ k a p
 done_ok {A} (Ok b) o f k a p h = ap (λ (q : Outcome A). behind q.0 q.1 f k) h
-done_ok (Err u) o f k a p h = cc
+done_ok {A} {B} (Err u) o f k a p h = apart (◌≡◌ {A = Outcome B} (Err (waiting f u), o) (k a p)) (waiting f u) a o p h
 
 abbrev relabelled : {A B : Type 0} → Result A Unwound → Result B Unwound
 relabelled (Ok a) = Err NoMemory
 relabelled (Err u) = Err u
 
 done_err : {A B : Type 0} (r : Result A Unwound) (o : Machine) (f : Frame) (k : A → Direct B) (u : Unwound) (p : Machine) → behind r o f done ≡ (Err u, p) → behind r o f k ≡ (Err u, p)
-done_err (Ok b) o f k u p h = cc
+done_err {A} {B} (Ok b) o f k u p h = apart (k b o ≡ (Err u, p)) u b p o (sym h)
 done_err {A} (Err x) o f k u p h = ap (λ (q : Outcome A). (relabelled q.0, q.1)) h
 
 module _ (w : World) (n : ℕ) (d : Directly) (c : Expr) (b : List Stmt) where
   again_tests : (below : Bool) (t : ℕ) (v : Value) (m o : Machine) → testing w n d t c b m below ≡ (Ok v, o)
       → cond below (part (d.value_of c) (frame.Test n t c b) (λ x. turn_by w n d (again w n d t c b) t c b x) (stepped m)) (Err (Later (doing.Give Next) (frame.Again n (suc t) c b ∷ [])), m) ≡ turn w n d t c b v o
   again_tests true t v m o h = done_ok (d.value_of c (stepped m)).0 (d.value_of c (stepped m)).1 (frame.Test n t c b) (λ x. turn_by w n d (again w n d t c b) t c b x) v o h
-  again_tests false t v m o h = cc
+  again_tests false t v m o h = apart (◌≡◌ {A = Outcome Flow} (Err (Later (doing.Give Next) (frame.Again n (suc t) c b ∷ [])), m) (turn w n d t c b v o)) (Later (doing.Give Next) (frame.Again n (suc t) c b ∷ [])) v m o h
 
   again_left : (below : Bool) (t : ℕ) (u : Unwound) (m o : Machine) → testing w n d t c b m below ≡ (Err u, o)
       → cond below (part (d.value_of c) (frame.Test n t c b) (λ x. turn_by w n d (again w n d t c b) t c b x) (stepped m)) (Err (Later (doing.Give Next) (frame.Again n (suc t) c b ∷ [])), m) ≡ (Err u, o)
@@ -191,8 +229,8 @@ module _ (w : World) (n : ℕ) (d : Directly) (c : Expr) (b : List Stmt) where
 
   tested_again : (t : ℕ) (v : Value) (m o : Machine) → tests w n d t c b m ≡ (Ok v, o) → again w n d t c b m ≡ turn w n d (t - 1) c b v o
   unfolding again
-  tested_again zero v m o h = cc
-  tested_again (suc t) v m o h = again_tests (nat_lt m.steps STEP_LIMIT) t v m o h
+  tested_again zero v m o h = apart (again w n d 0 c b m ≡ turn w n d (0 - 1) c b v o) (Later (doing.Give Next) (frame.Again n zero c b ∷ [])) v m o h
+  tested_again (suc t) v m o h = let i : t ≡ suc t - 1 = omega arith in again_tests (nat_lt m.steps STEP_LIMIT) t v m o h ∙ ap (λ (k : ℕ). turn w n d k c b v o) i
 
   left_again : (t : ℕ) (u : Unwound) (m o : Machine) → tests w n d t c b m ≡ (Err u, o) → again w n d t c b m ≡ (Err u, o)
   unfolding again
@@ -250,7 +288,7 @@ module _ (w : World) (Q : Left → Machine → Type 0) (Z : Fault → Machine �
   After flow (Err (Faulted e)) o fs = Z e o
   After flow (Err NoMemory) o fs = Unit {0}
 
-  abbrev same : Flow → Flow
+  abbrev pub same : Flow → Flow
   same g = g
 
   parted : {A B : Type 0} (fa : A → Flow) (fb : B → Flow) (r : Result A Unwound) (o : Machine) (f : Frame) (k : A → Direct B) (fs : List Frame) → After fa r o (f ∷ fs)
@@ -260,10 +298,10 @@ module _ (w : World) (Q : Left → Machine → Type 0) (Z : Fault → Machine �
   parted fa fb (Err (Faulted e)) o f k fs q h = q
   parted fa fb (Err NoMemory) o f k fs q h = tt
 
-  abbrev Values : ℕ → Directly → Type 0
+  abbrev pub Values : ℕ → Directly → Type 0
   Values n d = (e : Expr) (fs : List Frame) (m : Machine) → Q (left (doing.Evaluate n e) fs) m → After Returned (d.value_of e m).0 (d.value_of e m).1 fs
 
-  abbrev Statements : ℕ → Directly → Type 0
+  abbrev pub Statements : ℕ → Directly → Type 0
   Statements n d = (s : Stmt) (fs : List Frame) (m : Machine) → Q (left (doing.Execute n s) fs) m → After same (d.execute s m).0 (d.execute s m).1 fs
 
   abbrev stepping : Machine → Bool → Result (Unit {0}) Stop × Machine
@@ -275,15 +313,16 @@ module _ (w : World) (Q : Left → Machine → Type 0) (Z : Fault → Machine �
   stepped_comes a m below c = subst (λ (p : Result Left Stop × Machine). Comes p) (ap (λ (b : Bool). after (stepping m b).0 (stepping m b).1 (λ u. a)) below) c
 
   module _ (n : ℕ) (inner : Directly) (values : Values n inner) (statements : Statements n inner) where
+    rest_comes : (ss : List Stmt) (fs : List Frame) → ((o : Machine) → Q (left (doing.Give Next) (frame.Rest n ss ∷ fs)) o → After same (in_order w n inner ss o).0 (in_order w n inner ss o).1 fs)
+        → (g : Flow) (o : Machine) → Q (left (doing.Give g) (frame.Rest n ss ∷ fs)) o → After same (unless g (in_order w n inner ss) o).0 (unless g (in_order w n inner ss) o).1 fs
+    rest_comes ss fs next Next o h = next o h
+    rest_comes ss fs next (Returned v) o h = (moves (doing.Give (Returned v)) (frame.Rest n ss ∷ fs) o tt tt h).0 _ _ refl
+
     in_order_comes : (ss : List Stmt) (fs : List Frame) (m : Machine) → Q (left (doing.Give Next) (frame.Rest n ss ∷ fs)) m → After same (in_order w n inner ss m).0 (in_order w n inner ss m).1 fs
     in_order_comes [] fs m q = (moves (doing.Give Next) (frame.Rest n [] ∷ fs) m tt tt q).0 _ _ refl
     in_order_comes (s ∷ ss) fs m q =
         parted same same (inner.execute s m).0 (inner.execute s m).1 (frame.Rest n ss) (λ g. unless g (in_order w n inner ss)) fs
-        (statements s (frame.Rest n ss ∷ fs) m ((moves (doing.Give Next) (frame.Rest n (s ∷ ss) ∷ fs) m tt tt q).0 _ _ refl)) next
-      where
-        next : (g : Flow) (o : Machine) → Q (left (doing.Give g) (frame.Rest n ss ∷ fs)) o → After same (unless g (in_order w n inner ss) o).0 (unless g (in_order w n inner ss) o).1 fs
-        next Next o h = in_order_comes ss fs o h
-        next (Returned v) o h = (moves (doing.Give (Returned v)) (frame.Rest n ss ∷ fs) o tt tt h).0 _ _ refl
+        (statements s (frame.Rest n ss ∷ fs) m ((moves (doing.Give Next) (frame.Rest n (s ∷ ss) ∷ fs) m tt tt q).0 _ _ refl)) (rest_comes ss fs (in_order_comes ss fs))
 
     block_comes : (ss : List Stmt) (fs : List Frame) (m : Machine) → Q (left (doing.Give Next) (frame.Rest n ss ∷ frame.BlockEnd (length m.locals) ∷ fs)) m
         → After same (block w n inner ss m).0 (block w n inner ss m).1 fs
@@ -443,9 +482,9 @@ module _ (w : World) (Q : Left → Machine → Type 0) (Z : Fault → Machine �
     unfolding statement_at
     statement_comes s fs m q = statement_by (nat_lt m.steps STEP_LIMIT) s fs m refl q
 
-  record Both (n : ℕ) : Type 0 where
-    values : Values n (directly w n)
-    statements : Statements n (directly w n)
+  pub record Both (n : ℕ) : Type 0 where
+    pub values : Values n (directly w n)
+    pub statements : Statements n (directly w n)
 
   pub both : (n : ℕ) → Both n
   unfolding directly
@@ -462,8 +501,8 @@ module _ (s : Schema) (f : Oref → Option Object) (tx : List Stmt) (names : Lis
   failed e m = outcome_of s f tx names ≡ (Err (stop.Fault e), named ns m)
 
   runs_follow : Follows (over s f) here
-  runs_follow d fs l m n undone no q is =
-      let named_too : move (over s f) d fs (named ns m) ≡ (Ok l, named ns n) = named_is ns (over s f) d fs m n (Ok l) no is in
+  runs_follow d fs l m n undone quiet q is =
+      let named_too : move (over s f) d fs (named ns m) ≡ (Ok l, named ns n) = named_is ns (over s f) d fs m n (Ok l) quiet is in
       let falls : due (named ns n) l < due (named ns m) (left d fs) = falls_by (over s f) (left d fs) l (named ns m) (named ns n) undone named_too in
       record {
         reaches = reaching.goes_on s f (whole tx) (left d fs) l (begun names None) (named ns m) (named ns n) q.reaches named_too;
@@ -471,7 +510,7 @@ module _ (s : Schema) (f : Oref → Option Object) (tx : List Stmt) (names : Lis
       }
 
   runs_fail : Fails (over s f) here failed
-  runs_fail d fs m n e no q is = stops s f tx names count d fs (named ns m) (named ns n) (stop.Fault e) q (named_is ns (over s f) d fs m n (Err (stop.Fault e)) no is)
+  runs_fail d fs m n e quiet q is = stops s f tx names count d fs (named ns m) (named ns n) (stop.Fault e) q (named_is ns (over s f) d fs m n (Err (stop.Fault e)) quiet is)
 
   abbrev Then : Result Flow Unwound → Machine → List Frame → Type 0
   Then r o fs = After (over s f) here failed runs_follow runs_fail (λ (g : Flow). g) r o fs
