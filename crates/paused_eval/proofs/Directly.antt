@@ -54,8 +54,7 @@ use Rattle.paused_eval.proofs.Hands.{same_hands}
 use Rattle.paused_eval.proofs.Standing.{named, named_is, stops}
 use Rattle.paused_eval.specs.Begins.{first_part, waiting_frame}
 use Rattle.paused_eval.specs.Copies.{Keeps}
-use Rattle.paused_eval.specs.Direct.{Direct, Directly, Directs, IsLeft, Lasts, Outcome, Resumes, Waits, on, again, behind, block, call, binary, called, collect, combine, directly, done, effect, enter, enter_as, faulted, in_order, later, met, node, part, ready, returned, run_body, statement, statement_at, stepped, tests, turn, turn_by, unless, value_at, waiting}
-use Rattle.paused_eval.specs.Does.{Holds}
+use Rattle.paused_eval.specs.Direct.{Direct, Directly, Directs, IsLeft, Outcome, Resumes, Waits, on, again, behind, block, call, binary, called, collect, combine, directly, done, effect, enter, enter_as, faulted, in_order, later, met, node, part, ready, returned, run_body, statement, statement_at, stepped, tests, turn, turn_by, unless, value_at, waiting}
 use Rattle.paused_eval.specs.Standing.{Runs, Went, outcome_of}
 use Rattle.paused_eval.specs.declared.unwound.Unwound.{Unwound}
 use Rattle.paused_eval.specs.declared.unwound.Unwound.TheVariants.{Faulted, Later, NoMemory}
@@ -110,39 +109,6 @@ left_there p halt.NoMemory NoMemory d k n h i = tt
 
 pub same_world : (s : Schema) (c d : Contents) → Keeps c d → on s d ≡ on s c
 same_world s c d h = ap (over s) (same_hands s c d h)
-
--- what held where it was left holds behind it
-pub lasts_left : (A B : Type 0) (u v : Unwound) (f : Frame) (P : Type 0) → Lasts {A = A} (Err u) P → Waits f u v → Lasts {A = B} (Err v) P
-lasts_left A B (Later d gs) (Later e hs) f P h i = h
-lasts_left A B (Later d gs) (Faulted e) f P h i = h
-lasts_left A B (Faulted t) (Later e hs) f P h i = h
-lasts_left A B (Faulted t) (Faulted e) f P h i = h
-lasts_left A B NoMemory (Later e hs) f P h i = cc
-lasts_left A B NoMemory (Faulted e) f P h i = cc
-lasts_left A B u NoMemory f P h i = tt
-
-pub lasts_there : (A B : Type 0) (h : Halt) (v : Unwound) (d : Doing) (P : Type 0) → Holds {A = A} (Err h) P → IsLeft d h v → Lasts {A = B} (Err v) P
-lasts_there A B (Stopped t) (Later e hs) d P l i = l
-lasts_there A B (Stopped t) (Faulted e) d P l i = l
-lasts_there A B (Stopped t) NoMemory d P l i = tt
-lasts_there A B halt.NoMemory (Later e hs) d P l i = absurd i
-lasts_there A B halt.NoMemory (Faulted e) d P l i = absurd i
-lasts_there A B halt.NoMemory NoMemory d P l i = tt
-
-lasts_too : {A : Type 0} (r : Result A Unwound) (P Q : Type 0) → (P → Q) → Lasts r P → Lasts r Q
-lasts_too (Ok a) P Q h l = h l
-lasts_too (Err (Later d fs)) P Q h l = h l
-lasts_too (Err (Faulted e)) P Q h l = h l
-lasts_too (Err NoMemory) P Q h l = tt
-
-pub kept_after : {A : Type 0} (c d e : Contents) (r : Result A Unwound) → Keeps c d → Lasts r (Keeps d e) → Lasts r (Keeps c e)
-kept_after c d e r h l = lasts_too r (Keeps d e) (Keeps c e) (λ k x. k x ∙ h x) l
-
--- behind a part that is done
-pub then_does : {A B : Type 0} (s : Schema) (c d : Contents) (p : Outcome A) (a : A) (m n : Machine) (r : Result B Unwound) (f : Frame) (k : World → A → Direct B) → Keeps c d
-    → p ≡ (Ok a, m) → Directs r n (k (on s d) a m) → Directs r n (behind p.0 p.1 f (k (on s c)))
-then_does {A} s c d p a m n r f k h e i =
-    subst (λ (q : Outcome A). Directs r n (behind q.0 q.1 f (k (on s c)))) (sym e) (subst (λ (w : World). Directs r n (k w a m)) (same_world s c d h) i)
 
 pub value-none : (w : World) (n : ℕ) (e : Expr) (m : Machine) → n ≡ 0 → (directly w n).value_of e m ≡ (Err (Later (doing.Evaluate n e) []), m)
 unfolding directly

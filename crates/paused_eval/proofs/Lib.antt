@@ -9,4 +9,5 @@ pub mod Lifting
 pub mod Nested
 pub mod Nodes
 pub mod Standing
+pub mod Unwinding
 pub mod Writes

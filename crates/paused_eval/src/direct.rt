@@ -965,9 +965,12 @@ fn turns(
             Flow::Next => {}
             Flow::Returned(value) => return Ok(Flow::Returned(value)),
         }
-        value = test_again(
+        match test_again(
             program, epoch, cache, progress, bodies, inner, turns, condition, body,
-        )?;
+        ) {
+            Ok(next) => value = next,
+            Err(unwound) => return Err(unwound),
+        }
     }
     Err(Unwound::NoMemory)
 }

@@ -24,7 +24,3 @@ pub fn what_stands_goes_on_later()
     ensures names { (s : Schema) → (f : Oref → Option Object) → (tx : List Stmt) → (given : List Oref) → (l : Left) → (m : Machine) → (written : Set oref_cmp) → (c : Contents) → (n : Names) → (repo : ℕ) → (page : ℕ)
         → Stands s f tx given l (state_with m written c n) → Stands s f tx (given ++ newly_granted n repo page) l (state_with m written c (grant n repo page)) }
 {}
-
-/// Probe.
-#[tactic(auto, using(crate::proofs::Directly::both))]
-fn probe() ensures { (x : ℕ) → x ≡ x } {}
