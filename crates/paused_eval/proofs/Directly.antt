@@ -1,5 +1,5 @@
 -- What an evaluation by plain recursion comes to, small steps come to.
-use Rattle.std.proofs.Common.{◌≡◌, ℕ, ◌+◌, ◌-◌, ◌<◌, ◌≤◌, zero, suc, Bool, true, false, cond, List, [], ◌∷◌, ◌++◌, length, Option, Some, None, Result, Ok, Err, refl, ap, sym, ◌∙◌, subst, arith, append_assoc}
+use Rattle.std.proofs.Common.{◌≡◌, ℕ, ◌-◌, ◌<◌, ◌≤◌, zero, suc, Bool, true, false, cond, List, [], ◌∷◌, ◌++◌, length, Option, Some, None, Result, Ok, Err, refl, ap, sym, ◌∙◌, subst, arith, append_assoc}
 use Rattle.std.proofs.lemmas.Bool.Decides.{nat_tests}
 use Rattle.std.specs.Prelude.{nat_lt, if◌then◌else◌, ◌==◌, ◌||◌, find, is_some}
 use Rattle.thor_value.specs.FiniteMap.{has, len}
@@ -10,7 +10,6 @@ use Rattle.thor_value.specs.declared.values.Fault.TheVariants as fault
 use Rattle.thor_value.specs.declared.values.Value.{Value}
 use Rattle.thor_value.specs.declared.values.Value.TheVariants as value
 use Rattle.class_defs.specs.Calls.{owners_at}
-use Rattle.class_defs.specs.Expressions.{combined}
 use Rattle.class_defs.specs.Objects.{class_found, scope_at, seen, touch}
 use Rattle.class_defs.specs.Run.{begun}
 use Rattle.class_defs.specs.Statements.{holds}
@@ -54,7 +53,7 @@ use Rattle.paused_eval.proofs.Hands.{same_hands}
 use Rattle.paused_eval.proofs.Standing.{named, named_is, stops}
 use Rattle.paused_eval.specs.Begins.{first_part, waiting_frame}
 use Rattle.paused_eval.specs.Copies.{Keeps}
-use Rattle.paused_eval.specs.Direct.{Direct, Directly, Directs, IsLeft, Outcome, Resumes, Waits, on, again, behind, block, call, binary, called, collect, combine, directly, done, effect, enter, enter_as, faulted, in_order, later, met, node, part, ready, returned, run_body, statement, statement_at, stepped, tests, turn, turn_by, unless, value_at, waiting}
+use Rattle.paused_eval.specs.Direct.{Direct, Directly, Directs, IsLeft, Outcome, Resumes, Waits, on, again, behind, block, call, collect, directly, done, effect, enter, enter_as, faulted, in_order, met, node, part, ready, returned, statement, statement_at, stepped, tests, turn, turn_by, unless, value_at, waiting}
 use Rattle.paused_eval.specs.Standing.{Runs, Went, outcome_of}
 use Rattle.paused_eval.specs.declared.unwound.Unwound.{Unwound}
 use Rattle.paused_eval.specs.declared.unwound.Unwound.TheVariants.{Faulted, Later, NoMemory}

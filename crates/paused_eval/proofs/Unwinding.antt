@@ -15,8 +15,10 @@ use Rattle.class_defs.specs.declared.statements.Stmt.TheOpen.{Stmt-F}
 use Rattle.class_defs.specs.declared.store.Schema.{Schema}
 use Rattle.class_defs.specs.declared.types.ExprType.{ExprType}
 use Rattle.client_cache.specs.Copies.{Contents}
+use Rattle.paused_defs.specs.Plain.{plain}
 use Rattle.paused_defs.specs.declared.frames.Frame.{Frame}
 use Rattle.paused_defs.specs.declared.frames.Frame.TheVariants as frame
+use Rattle.paused_defs.specs.declared.nodes.ExprNode.{ExprNode}
 use Rattle.paused_eval.proofs.Directly.{body, left_waiting, next_turn, same_world, test_left}
 use Rattle.paused_eval.specs.Begins.{first_part, waiting_frame}
 use Rattle.paused_eval.specs.Copies.{Keeps, state}
@@ -27,13 +29,19 @@ use Rattle.paused_eval.specs.declared.unwound.Unwound.TheVariants.{Faulted, Late
 
 -- ---- what is read of the state isn't in the objects written
 
-pub type_there : (s : Schema) (p : Progress) (c : Contents) (e : Expr) → type_of (scope_at s p.machine) e ≡ type_of (scope_at s (state p c)) e
+type_there : (s : Schema) (p : Progress) (c : Contents) (e : Expr) → type_of (scope_at s p.machine) e ≡ type_of (scope_at s (state p c)) e
 unfolding scope_at
 type_there s p c e = refl
 
-pub named_there : (s : Schema) (p : Progress) (c : Contents) (name : List ℕ) → named_value s p.machine name ≡ named_value s (state p c) name
+pub kind_there : (s : Schema) (p : Progress) (c : Contents) (t : ExprType) (e f : ExprNode) → t ≡ type_of (scope_at s p.machine) (plain f) → f ≡ e → t ≡ type_of (scope_at s (state p c)) (plain e)
+kind_there s p c t e f is same = is ∙ ap (λ (x : ExprNode). type_of (scope_at s p.machine) (plain x)) same ∙ type_there s p c (plain e)
+
+named_there : (s : Schema) (p : Progress) (c : Contents) (name : List ℕ) → named_value s p.machine name ≡ named_value s (state p c) name
 unfolding named_value
 named_there s p c name = refl
+
+pub value_there : (s : Schema) (p : Progress) (c : Contents) (v : Value) (x y : List ℕ) → v ≡ named_value s p.machine y → y ≡ x → v ≡ named_value s (state p c) x
+value_there s p c v x y is same = is ∙ ap (named_value s p.machine) same ∙ named_there s p c x
 
 pub node_variable : (w : World) (n : ℕ) (i : Directly) (x : Expr-F Expr) (name : List ℕ) (line : ℕ) (m : Machine) (v : Value) → x ≡ Expr-F.Variable (record { text = name; line = line })
     → v ≡ named_value w.schema m name → node w n i x m ≡ (Ok v, m)
@@ -99,6 +107,9 @@ statement_does s c d n x e v m o p r h first is i =
     (sym (ap (λ (k : Expr). (directly (on s c) n).value_of k m) first) ∙ is) i
 
 -- ---- turns
+
+pub one_less : (t k : ℕ) → t - k - 1 ≡ t - (k + 1)
+one_less t k = omega arith
 
 module _ (s : Schema) (c d e : Contents) (n t : ℕ) (condition : Expr) (b : List Stmt) (v : Value) (m o p : Machine) (q : Outcome Flow) (g : Flow)
     (kept : Keeps c d) (later : Keeps d e) (on_turn : holds v ≡ true) (from : q ≡ turn (on s c) n (directly (on s c) n) t condition b v m)
