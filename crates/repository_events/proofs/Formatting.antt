@@ -26,9 +26,9 @@ use Rattle.two_phase.specs.declared.transaction.Transaction.{Transaction}
 
 -- a table in which nothing is open and no decision is kept has no transaction
 no_transaction : (es : List (Ts × Transaction)) → values_of (those request_of es) ≡ [] → keys_of (those decision_of es) ≡ [] → es ≡ []
-no_transaction [] open decided = refl
-no_transaction ((t, kept.Open q) ∷ es) open decided = absurd (cc)
-no_transaction ((t, kept.Kept) ∷ es) open decided = absurd (cc)
+no_transaction [] prepared decided = refl
+no_transaction ((t, kept.Open q) ∷ es) prepared decided = absurd (cc)
+no_transaction ((t, kept.Kept) ∷ es) prepared decided = absurd (cc)
 
 abbrev none : Map ts_cmp Transaction
 none = empty
