@@ -1,3 +1,3 @@
-pub mod Recovered
+mod Recovered
 pub mod Restarts
 mod Steps
