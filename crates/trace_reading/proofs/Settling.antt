@@ -3,8 +3,10 @@ use Rattle.commit_log.specs.declared.entry.Entry.TheVariants.{Decided, Finished,
 use Rattle.commit_log.specs.declared.entry.Entry.{Entry}
 use Rattle.commit_log.specs.declared.request.Request.{Request}
 use Rattle.local_history.specs.History.{Aborted, Base, Committed, Fate, Known, Open, State, change, commit_by, commit_of, is_lost, is_open, is_undecided, known_in, lapse, or_lost, put, settle, settle_by}
-use Rattle.session_outbox.specs.Session.{Session, told_of, Notice, meet, move, moved}
-use Rattle.session_outbox.specs.Trace.{E}
+use Rattle.session_outbox.specs.Session.{Notice, Session, begun, meet, move, moved, told_of}
+use Rattle.session_outbox.specs.Trace.{E, M}
+use Rattle.session_outbox.specs.declared.mark.Mark.TheVariants as the
+use Rattle.session_outbox.specs.declared.mark.Mark.{Mark}
 use Rattle.std.proofs.Common.{ap, refl, sym, ◌≡◌, ◌∙◌}
 use Rattle.std.specs.Option.{option_and_then, option_map}
 use Rattle.std.specs.Ordering.{nat_cmp}
@@ -12,7 +14,8 @@ use Rattle.std.specs.Prelude.{Bool, List, None, Option, Some, [], cond, false, i
 use Rattle.thor_value.specs.FiniteMap.{Map, get}
 use Rattle.thor_value.specs.declared.names.Ts.{Ts}
 use Rattle.trace_reading.specs.Opening.{base_of}
-use Rattle.trace_reading.specs.Settling.{changed, closed, commit_at, committed_by, found_by, met_with, open_of, passed, put_with, request_of, settled, slid_with, told_with}
+use Rattle.trace_reading.specs.Reading.{Reading, step, step_marked, step_with}
+use Rattle.trace_reading.specs.Settling.{changed, closed, commit_at, committed_by, found_by, met_mark, met_with, noted_with, open_of, passed, put_with, request_of, settled, slid_with, told_with}
 use Rattle.trace_reading.specs.Standings.{open_standing, stands_behind}
 use Rattle.trace_reading.specs.declared.opening.Opening.{Opening}
 use Rattle.validation_window.specs.Window.{Window, close, close_by, slide}
@@ -113,3 +116,34 @@ moves o s S v e = rw (commit_is (base_of o) S e, told_at s S v.pages S.length (c
 pub meet_is : (o : Opening) (s : ℕ) (S : State) (v : Option Session) (e : Entry) → meet (base_of o) s S v (E e) ≡ option_map (met_with s S e (found_by (base_of o) S e)) v
 meet_is o s S None e = refl
 meet_is o s S (Some v) e = rw (moves o s S v e) refl
+
+-- ---- marks
+
+notes : (o : Opening) (s : ℕ) (S : State) (v : Option Session) (m : Mark) → option_map (move (base_of o) s S (M m)) v ≡ option_map (noted_with s S.length m) v
+notes o s S None m = refl
+notes o s S (Some v) (the.Entry p) = refl
+notes o s S (Some v) (the.Connected n c) = refl
+notes o s S (Some v) (the.Fetched n page upto) = refl
+notes o s S (Some v) (the.Granted n page) = refl
+notes o s S (Some v) (the.Took n p) = refl
+notes o s S (Some v) (the.Drew n t) = refl
+notes o s S (Some v) (the.Forgot t) = refl
+notes o s S (Some v) (the.Refused n q r) = refl
+
+meets : (o : Opening) (s : ℕ) (S : State) (v : Option Session) (m : Mark) → meet (base_of o) s S v (M m) ≡ met_mark s S.length v m
+meets o s S v (the.Entry p) = notes o s S v (the.Entry p)
+meets o s S v (the.Connected n c) = ap (λ (w : Option Session). cond (nat_eq n s) (Some (begun c S.length)) w) (notes o s S v (the.Connected n c))
+meets o s S v (the.Fetched n page upto) = notes o s S v (the.Fetched n page upto)
+meets o s S v (the.Granted n page) = notes o s S v (the.Granted n page)
+meets o s S v (the.Took n p) = notes o s S v (the.Took n p)
+meets o s S v (the.Drew n t) = notes o s S v (the.Drew n t)
+meets o s S v (the.Forgot t) = notes o s S v (the.Forgot t)
+meets o s S v (the.Refused n q r) = notes o s S v (the.Refused n q r)
+
+-- ---- one step of the reading
+
+pub entry_is : (o : Opening) (s : ℕ) (R : Reading) (e : Entry) → step (base_of o) s R (E e) ≡ step_with (base_of o) s R e (found_by (base_of o) R.state e)
+entry_is o s R e = rw (put_is (base_of o) R.state e, slid_is (base_of o) R.state R.window e, commit_is (base_of o) R.state e, meet_is o s R.state R.session e) refl
+
+pub mark_is : (o : Opening) (s : ℕ) (R : Reading) (m : Mark) → step (base_of o) s R (M m) ≡ step_marked s R m
+mark_is o s R m = rw (meets o s R.state R.session m) refl

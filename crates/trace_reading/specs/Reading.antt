@@ -6,11 +6,12 @@ use Rattle.local_history.specs.History.{Base, State, commit_of, commits, put, st
 use Rattle.session_outbox.specs.Calls.{connected_at, drawn_after, granted_at, last_drawn, last_session, next_page}
 use Rattle.session_outbox.specs.Session.{Session, meet, session}
 use Rattle.session_outbox.specs.Trace.{E, Item, M, entries}
+use Rattle.session_outbox.specs.declared.mark.Mark.{Mark}
 use Rattle.std.specs.List.{fold}
 use Rattle.std.specs.Option.{option_map}
 use Rattle.std.specs.Prelude.{List, None, Option, [], length, max, ℕ, ◌++◌, ◌≡◌}
 use Rattle.thor_value.specs.FiniteMap.{empty}
-use Rattle.trace_reading.specs.Settling.{commit_at, committed_by, met_with, put_with, slid_with}
+use Rattle.trace_reading.specs.Settling.{commit_at, committed_by, met_mark, met_with, put_with, slid_with}
 use Rattle.validation_window.specs.Window.{Window, slide, window}
 
 pub record Reading : Type 0 where
@@ -68,6 +69,18 @@ step_with b s R e x = record {
   last_session = R.last_session;
   next_page = R.next_page;
   drawn = drawn_after R.state R.drawn (E e);
+}
+
+-- behind a mark
+abbrev pub step_marked : ℕ → Reading → Mark → Reading
+step_marked s R m = record {
+  state = R.state;
+  window = R.window;
+  commits = R.commits;
+  session = met_mark s R.state.length R.session m;
+  last_session = max R.last_session (connected_at (M m));
+  next_page = max R.next_page (granted_at (M m));
+  drawn = drawn_after R.state R.drawn (M m);
 }
 
 -- behind all items

@@ -4,10 +4,13 @@ use Rattle.commit_log.specs.declared.entry.Entry.TheVariants.{Decided, Finished,
 use Rattle.commit_log.specs.declared.entry.Entry.{Entry}
 use Rattle.commit_log.specs.declared.request.Request.{Request}
 use Rattle.local_history.specs.History.{Aborted, Base, Known, Open, State, commit, is_open, is_undecided, known_in, put}
-use Rattle.session_outbox.specs.Session.{Ended, Live, Notice, Session, acked_by, lives_on, push, request_in, rested, session_lives, told}
-use Rattle.session_outbox.specs.Trace.{E}
+use Rattle.session_outbox.specs.Session.{Ended, Grant, Live, Notice, Page, Session, acked_after, acked_by, begun, cache, lives_on, push, request_in, rested, session_lives, taken_after, told}
+use Rattle.session_outbox.specs.Trace.{E, M}
+use Rattle.session_outbox.specs.declared.mark.Mark.TheVariants as the
+use Rattle.session_outbox.specs.declared.mark.Mark.{Mark}
+use Rattle.std.specs.Option.{option_map}
 use Rattle.std.specs.Ordering.{nat_cmp}
-use Rattle.std.specs.Prelude.{Bool, List, None, Option, Some, [], cond, false, is_some, not, true, ℕ, ◌&&◌, ◌+◌, ◌∷◌}
+use Rattle.std.specs.Prelude.{Bool, List, None, Option, Some, [], cond, false, is_some, nat_eq, not, true, ℕ, ◌&&◌, ◌+◌, ◌∷◌}
 use Rattle.thor_value.specs.FiniteMap.{Map, add, insert, keep}
 use Rattle.thor_value.specs.Names.{same_ts}
 use Rattle.thor_value.specs.declared.names.Ts.{Ts}
@@ -101,3 +104,34 @@ passed s S v e x = record {
 
 abbrev pub met_with : ℕ → State → Entry → Option (ℕ × Request) → Session → Session
 met_with s S e x v = cond (session_lives v) (passed s S v e x) (rested v (E e))
+
+-- ---- marks, at the place k
+
+abbrev pub cached_with : ℕ → ℕ → Map nat_cmp ℕ → Mark → Map nat_cmp ℕ
+cached_with s k pages (the.Fetched n page upto) = cond (nat_eq n s) (cache pages page k) pages
+cached_with s k pages (the.Granted n page) = cond (nat_eq n s) (cache pages page k) pages
+cached_with s k pages m = pages
+
+abbrev pub sent_with : ℕ → ℕ → Mark → Option Notice
+sent_with s k (the.Fetched n page upto) = cond (nat_eq n s) (Some (Page page k)) None
+sent_with s k (the.Granted n page) = cond (nat_eq n s) (Some (Grant page k)) None
+sent_with s k m = None
+
+-- the live session s behind a mark
+abbrev pub marked : ℕ → ℕ → Session → Mark → Session
+marked s k v m = record {
+  client = v.client;
+  stage = cond (lives_on v.client (M m)) Live Ended;
+  began = v.began;
+  pages = cached_with s k v.pages m;
+  acked = acked_after s v.acked (M m);
+  sent = push v.sent (sent_with s k m);
+  taken = taken_after s v.taken (M m);
+}
+
+abbrev pub noted_with : ℕ → ℕ → Mark → Session → Session
+noted_with s k m v = cond (session_lives v) (marked s k v m) (rested v (M m))
+
+abbrev pub met_mark : ℕ → ℕ → Option Session → Mark → Option Session
+met_mark s k v (the.Connected n c) = cond (nat_eq n s) (Some (begun c k)) (option_map (noted_with s k (the.Connected n c)) v)
+met_mark s k v m = option_map (noted_with s k m) v

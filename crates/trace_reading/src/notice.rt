@@ -8,7 +8,7 @@ use thor_value::Orefs;
 
 /// What a message says.
 #[derive(Drop)]
-pub(crate) enum Says {
+pub enum Says {
     /// A page, and the place at which it was read.
     Page { page: u32, place: u64 },
     /// A new page, and the place at which it was granted.
@@ -21,7 +21,7 @@ pub(crate) enum Says {
 
 /// A message, without its bytes.
 #[derive(Drop)]
-pub(crate) struct Notice {
+pub struct Notice {
     says: Says,
 }
 
@@ -41,7 +41,7 @@ impl Notice {
         Notice { says }
     }
 
-    pub(crate) fn says(&self) -> &Says
+    pub fn says(&self) -> &Says
         ensures { notice_of result.now ≡ self.now }
     {
         &self.says

@@ -1,16 +1,13 @@
 //! What is read of a trace, item by item.
 
-ghost use Rattle.local_history.specs.History.{State as AState};
 ghost use Rattle.session_outbox.specs.Calls.{connected_at, drawn_after, granted_at};
-ghost use Rattle.session_outbox.specs.Session.{meet};
 ghost use Rattle.session_outbox.specs.Trace.{E, M};
 ghost use Rattle.std.specs.Option.{option_copied, option_map};
 ghost use Rattle.std.specs.Prelude.{IfOk, OnOk, Some, max, ◌++◌, ◌≡◌};
 ghost use Rattle.trace_reading.specs.Items.{read, trace_of};
 ghost use Rattle.trace_reading.specs.Opening.{base_of};
-ghost use Rattle.trace_reading.specs.Reading.{begin, reading, step, step_with};
-ghost use Rattle.trace_reading.specs.declared.opening.Opening.{Opening as AnOpening};
-ghost use Rattle.trace_reading.specs.Settling.{commit_at, met_with};
+ghost use Rattle.trace_reading.specs.Reading.{begin, reading, step, step_marked, step_with};
+ghost use Rattle.trace_reading.specs.Settling.{commit_at, met_mark, met_with};
 
 use crate::item::Item;
 use crate::opening::Opening;
@@ -48,7 +45,12 @@ impl Model for Reading {
 
 impl Reading {
     /// What a trace comes to, beside its session of this number.
-    pub fn of(alloc: Global, opening: &Opening, number: u32, items: &[Item]) -> Result<Reading, NoMemory>
+    pub fn of(
+        alloc: Global,
+        opening: &Opening,
+        number: u32,
+        items: &[Item],
+    ) -> Result<Reading, NoMemory>
         ensures { IfOk result (λ r. r ≡ reading (base_of opening.now) number (trace_of items.now)) }
     {
         let mut read = Reading::begin(alloc, opening)?;
@@ -78,7 +80,14 @@ impl Reading {
     }
 
     /// One more item comes.
-    fn pass(&mut self, alloc: Global, opening: &Opening, number: u32, item: &Item) -> Result<(), NoMemory>
+    #[tactic(auto, using(crate::proofs::Settling::mark_is))]
+    fn pass(
+        &mut self,
+        alloc: Global,
+        opening: &Opening,
+        number: u32,
+        item: &Item,
+    ) -> Result<(), NoMemory>
         ensures { OnOk result (self.new ≡ step (base_of opening.now) number self.old (read item.now)) }
     {
         match item {
@@ -87,15 +96,28 @@ impl Reading {
         }
     }
 
-    #[tactic(auto, using(crate::proofs::Settling::meet_is, crate::proofs::Settling::put_is, crate::proofs::Settling::slid_is, crate::proofs::Settling::commit_is))]
-    fn pass_entry(&mut self, alloc: Global, opening: &Opening, number: u32, entry: &Entry) -> Result<(), NoMemory>
+    #[tactic(auto, using(crate::proofs::Settling::entry_is))]
+    fn pass_entry(
+        &mut self,
+        alloc: Global,
+        opening: &Opening,
+        number: u32,
+        entry: &Entry,
+    ) -> Result<(), NoMemory>
         ensures { OnOk result (self.new ≡ step (base_of opening.now) number self.old (E entry.now)) }
     {
         let found = self.state.found_by(opening, entry)?;
         self.pass_found(alloc, opening, number, entry, &found)
     }
 
-    fn pass_found(&mut self, alloc: Global, opening: &Opening, number: u32, entry: &Entry, found: &Found) -> Result<(), NoMemory>
+    fn pass_found(
+        &mut self,
+        alloc: Global,
+        opening: &Opening,
+        number: u32,
+        entry: &Entry,
+        found: &Found,
+    ) -> Result<(), NoMemory>
         ensures { OnOk result (self.new ≡ step_with (base_of opening.now) number self.old entry.now found.now) }
     {
         let place = self.state.count();
@@ -107,7 +129,7 @@ impl Reading {
     }
 
     fn pass_mark(&mut self, alloc: Global, number: u32, mark: &Mark) -> Result<(), NoMemory>
-        ensures { OnOk result ((o : AnOpening) → self.new ≡ step (base_of o) number self.old (M mark.now)) }
+        ensures { OnOk result (self.new ≡ step_marked number self.old mark.now) }
     {
         let place = self.state.count();
         meet_mark(&mut self.session, alloc, number, place, mark)?;
@@ -159,9 +181,13 @@ fn meet_mark(
     place: u64,
     mark: &Mark,
 ) -> Result<(), NoMemory>
-    ensures { OnOk result ((o : AnOpening) (S : AState) → S.length ≡ place → session.new ≡ meet (base_of o) number S session.old (M mark.now)) }
+    ensures { OnOk result (session.new ≡ met_mark number place session.old mark.now) }
 {
-    if let Mark::Connected { session: begun, client } = mark {
+    if let Mark::Connected {
+        session: begun,
+        client,
+    } = mark
+    {
         if *begun == number {
             let made = Session::begin(alloc, *client, place)?;
             set_session(session, made);
@@ -181,8 +207,12 @@ fn set_session(session: &mut Option<Session>, made: Session)
 }
 
 /// Puts a commit behind others, where there is one.
-fn add_commit(commits: &mut Vec<Commit>, place: u64, committed: Option<&Request>) -> Result<(), NoMemory>
-    ensures { OnOk result (commits.new.items ≡ commits.old.items ++ commit_at place (option_copied committed)) }
+fn add_commit(
+    commits: &mut Vec<Commit>,
+    place: u64,
+    committed: Option<&Request>,
+) -> Result<(), NoMemory>
+    ensures { OnOk result (commits.new.items ≡ commits.old.items ++ commit_at place (option_copied committed.entry)) }
 {
     if let Some(request) = committed {
         commits.push((place, request.copy()?))?;

@@ -1,9 +1,9 @@
 //! A session, item by item.
 
-ghost use Rattle.local_history.specs.History.{Base, State as AState, is_life};
+ghost use Rattle.local_history.specs.History.{is_life};
 ghost use Rattle.local_history.specs.Requests.{written};
 ghost use Rattle.session_outbox.specs.Session as session;
-ghost use Rattle.session_outbox.specs.Session.{acked_by, begun, cache, invalid_of, lives_on, move, moved, push, request_in, rested, session_lives, told};
+ghost use Rattle.session_outbox.specs.Session.{acked_by, begun, cache, invalid_of, lives_on, push, request_in, rested, session_lives, told};
 ghost use Rattle.session_outbox.specs.Trace.{E, M};
 ghost use Rattle.std.specs.List.{filter};
 ghost use Rattle.std.specs.Map.{keys_of};
@@ -11,10 +11,8 @@ ghost use Rattle.std.specs.Option.{option_copied};
 ghost use Rattle.std.specs.Prelude.{IfOk, OnOk, [], cond, max, slice_get, ◌+◌, ◌++◌, ◌∷◌, ◌≡◌};
 ghost use Rattle.thor_value.specs.FiniteMap.{get, has, keys};
 ghost use Rattle.trace_reading.specs.Notices.{notice_of, stage_of};
-ghost use Rattle.trace_reading.specs.Opening.{base_of};
-ghost use Rattle.trace_reading.specs.Settling.{committed_by, passed, request_of, told_with};
+ghost use Rattle.trace_reading.specs.Settling.{committed_by, marked, noted_with, passed, request_of, told_with};
 ghost use Rattle.trace_reading.specs.Tables.{pages_in};
-ghost use Rattle.trace_reading.specs.declared.opening.Opening.{Opening};
 
 use crate::names::{Objects, is_upgrade, written};
 use crate::notice::{Notice, Says};
@@ -188,7 +186,7 @@ impl Session {
 
     /// The live session of this number behind a mark, at a place.
     fn live_behind_mark(&mut self, number: u32, place: u64, mark: &Mark) -> Result<(), NoMemory>
-        ensures { OnOk result ((b : Base) (S : AState) → S.length ≡ place → self.new ≡ moved b number S self.old (M mark.now)) }
+        ensures { OnOk result (self.new ≡ marked number place self.old mark.now) }
     {
         let lives = mark_lives_on(self.client, mark);
         self.set_stage(lives);
@@ -225,7 +223,7 @@ impl Session {
 
     /// The session of this number behind a mark, at a place.
     pub(crate) fn meet_mark(&mut self, number: u32, place: u64, mark: &Mark) -> Result<(), NoMemory>
-        ensures { OnOk result ((o : Opening) (S : AState) → S.length ≡ place → self.new ≡ move (base_of o) number S (M mark.now) self.old) }
+        ensures { OnOk result (self.new ≡ noted_with number place mark.now self.old) }
     {
         if self.is_live() {
             return self.live_behind_mark(number, place, mark);
@@ -251,7 +249,13 @@ impl Session {
     }
 
     /// The session of this number is told of a commit.
-    fn tell(&mut self, alloc: Global, number: u32, state: &State, request: &Request) -> Result<(), NoMemory>
+    fn tell(
+        &mut self,
+        alloc: Global,
+        number: u32,
+        state: &State,
+        request: &Request,
+    ) -> Result<(), NoMemory>
         ensures { OnOk result (self.new ≡ record self.old { sent = push self.old.sent (told number state.now self.old.pages request.now) }) }
     {
         let place = state.count();
@@ -295,8 +299,14 @@ impl Session {
         names_on(alloc, &self.pages, &objects)
     }
 
-    fn tell_where(&mut self, alloc: Global, number: u32, state: &State, committed: Option<&Request>) -> Result<(), NoMemory>
-        ensures { OnOk result (self.new ≡ record self.old { sent = push self.old.sent (told_with number state.now self.old.pages (option_copied committed)) }) }
+    fn tell_where(
+        &mut self,
+        alloc: Global,
+        number: u32,
+        state: &State,
+        committed: Option<&Request>,
+    ) -> Result<(), NoMemory>
+        ensures { OnOk result (self.new ≡ record self.old { sent = push self.old.sent (told_with number state.now self.old.pages (option_copied committed.entry)) }) }
     {
         match committed {
             Some(request) => self.tell(alloc, number, state, request),
@@ -305,7 +315,14 @@ impl Session {
     }
 
     /// The live session of this number behind an entry, where this is the state before it, and what the entry decides.
-    fn live_behind_entry(&mut self, alloc: Global, number: u32, state: &State, entry: &Entry, found: &Found) -> Result<(), NoMemory>
+    fn live_behind_entry(
+        &mut self,
+        alloc: Global,
+        number: u32,
+        state: &State,
+        entry: &Entry,
+        found: &Found,
+    ) -> Result<(), NoMemory>
         ensures { OnOk result (self.new ≡ passed number state.now self.old entry.now found.now) }
     {
         self.set_stage(!is_life(entry));
@@ -314,7 +331,14 @@ impl Session {
     }
 
     /// The session of this number behind an entry, where this is the state before it, and what the entry decides.
-    pub(crate) fn meet_entry(&mut self, alloc: Global, number: u32, state: &State, entry: &Entry, found: &Found) -> Result<(), NoMemory>
+    pub(crate) fn meet_entry(
+        &mut self,
+        alloc: Global,
+        number: u32,
+        state: &State,
+        entry: &Entry,
+        found: &Found,
+    ) -> Result<(), NoMemory>
         ensures { OnOk result (self.new ≡ cond (session_lives self.old) (passed number state.now self.old entry.now found.now) (rested self.old (E entry.now))) }
     {
         if self.is_live() {

@@ -23,11 +23,11 @@ use std::marker::Model;
 use thor_value::{NoMemory, Texts, TryCopy, Ts};
 
 /// The place and the request of an undecided transaction.
-pub(crate) type Found = Option<(u64, Request)>;
+pub type Found = Option<(u64, Request)>;
 
 /// What a history comes to.
 #[derive(Drop)]
-pub(crate) struct State {
+pub struct State {
     life: u32,
     last_life: u64,
     count: u64,
@@ -335,7 +335,8 @@ impl State {
     fn settle_left(&mut self)
         ensures { (test : Ts → Bool) → self.new ≡ record self.old { left = keep self.old.left test } }
     {
-        let _ = self.count;
+        let count = self.count;
+        self.count = count;
     }
 }
 

@@ -54,7 +54,7 @@ impl Member {
 
 /// What is remembered.
 #[derive(Drop)]
-pub(crate) struct Window {
+pub struct Window {
     threshold: Ts,
     members: BTreeMap<Ts, Member>,
 }

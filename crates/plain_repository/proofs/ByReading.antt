@@ -1,0 +1,71 @@
+-- A plain repository's steps by what was read of its trace are its own.
+use Rattle.commit_log.specs.declared.entry.Entry.TheVariants.{Prepared}
+use Rattle.commit_log.specs.declared.entry.Entry.{Entry}
+use Rattle.commit_log.specs.declared.request.Request.{Request}
+use Rattle.local_history.specs.History.{Base, Known, is_open}
+use Rattle.message_outbox.specs.declared.message.Message.{Message}
+use Rattle.plain_repository.specs.ByReading.{ask_by, decide_by, draw_by, fetch_by, finish_by, gone, grant_by, prepared_of, receive_by, requested_by}
+use Rattle.port.specs.Works.{alone_entry, is_prepared_by}
+use Rattle.port_views.specs.Plain as plain
+use Rattle.session_outbox.specs.Session.{Notice, Session, session}
+use Rattle.session_outbox.specs.Trace.{Item, entries}
+use Rattle.session_outbox.specs.Verdict.{verdict}
+use Rattle.std.proofs.Common.{ap, refl, sym, ◌≡◌, ◌∙◌}
+use Rattle.session_outbox.specs.Notices.{lives}
+use Rattle.std.specs.Option.{option_and_then}
+use Rattle.std.specs.Prelude.{Bool, Err, List, None, Option, Some, cond, false, length, nat_eq, true, ℕ, ◌&&◌}
+use Rattle.thor_value.specs.declared.names.Ts.{Ts}
+use Rattle.trace_reading.proofs.Parts.{judges, tells}
+use Rattle.trace_reading.specs.Against.{against, first_sent}
+use Rattle.trace_reading.specs.Reading.{Reading, Tells, reading}
+use Rattle.trace_reading.specs.Settling.{open_of}
+use Rattle.validation_window.specs.declared.refusal.Refusal.{Refusal}
+
+module _ (b : Base) (s : ℕ) (T : List Item) (R : Reading) (h : Tells b s T R) where
+  pub fetches : (page upto : ℕ) → plain.fetch b T s page upto ≡ fetch_by R T s page upto
+  fetches page upto = rw h.session_is refl
+
+  pub grants : plain.grant b T s ≡ grant_by R T s
+  grants = rw (h.session_is, h.page_is) refl
+
+  pub draws : (floor : ℕ) → plain.draw b T s 0 floor ≡ draw_by b R T s floor
+  draws floor = rw (h.session_is, h.drawn_is, h.state_is) refl
+
+  received_is : (spell : Notice → Message) (o : Option Session) → plain.received_by spell T s o ≡ cond (lives o) (plain.received spell T s (option_and_then first_sent o)) (Err (gone s), T)
+  received_is spell None = refl
+  received_is spell (Some v) = refl
+
+  pub receives : (spell : Notice → Message) → plain.receive spell b T s ≡ receive_by spell R T s
+  receives spell = rw h.session_is (received_is spell (session b T s))
+
+  pub requests : (q : Request) (e : Entry) → plain.requested T s q e (verdict b T s q) ≡ requested_by R.state.length T s q e (against b R s q)
+  requests q e = rw (judges b s T R q h, h.count_is) (answers (against b R s q))
+    where
+      answers : (r : Option Refusal) → plain.requested T s q e r ≡ requested_by (length (entries T)) T s q e r
+      answers None = refl
+      answers (Some r) = refl
+
+  pub decides : (t : Ts) (c : Bool) → plain.decide b T s t c ≡ decide_by b R T s t c
+  decides t c = rw (h.session_is, h.state_is) refl
+
+  pub finishes : (t : Ts) (c : Bool) → plain.finish b T t c ≡ finish_by b R T t c
+  finishes t c = rw (h.state_is, sym h.count_is) refl
+
+  pub asks : (t : Ts) → plain.ask b T t ≡ ask_by b R T t
+  asks t = rw h.state_is refl
+
+prepared_so : (p : ℕ) (q : Request) (s : ℕ) (k : Bool) → (nat_eq q.session s && k) ≡ prepared_of s (cond k (Some (p, q)) None)
+prepared_so p q s true = and_true (nat_eq q.session s)
+  where
+    and_true : (x : Bool) → (x && true) ≡ x
+    and_true true = refl
+    and_true false = refl
+prepared_so p q s false = and_false (nat_eq q.session s)
+  where
+    and_false : (x : Bool) → (x && false) ≡ false
+    and_false true = refl
+    and_false false = refl
+
+pub prepared_is : (s : ℕ) (o : Option Known) → is_prepared_by s o ≡ prepared_of s (open_of o)
+prepared_is s None = refl
+prepared_is s (Some o) = prepared_so o.place o.request s (is_open o.fate)
