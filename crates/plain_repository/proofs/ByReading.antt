@@ -4,21 +4,24 @@ use Rattle.commit_log.specs.declared.entry.Entry.{Entry}
 use Rattle.commit_log.specs.declared.request.Request.{Request}
 use Rattle.local_history.specs.History.{Base, Known, is_open}
 use Rattle.message_outbox.specs.declared.message.Message.{Message}
+use Rattle.plain_repository.specs.Reading.{IsStep, added}
 use Rattle.plain_repository.specs.ByReading.{ask_by, decide_by, draw_by, fetch_by, finish_by, gone, grant_by, prepared_of, receive_by, requested_by}
 use Rattle.port.specs.Works.{alone_entry, is_prepared_by}
 use Rattle.port_views.specs.Plain as plain
 use Rattle.session_outbox.specs.Session.{Notice, Session, session}
 use Rattle.session_outbox.specs.Trace.{Item, entries}
 use Rattle.session_outbox.specs.Verdict.{verdict}
-use Rattle.std.proofs.Common.{ap, refl, sym, ◌≡◌, ◌∙◌}
+use Rattle.std.proofs.Common.{ap, append-nil, refl, subst, sym, ◌≡◌, ◌∙◌}
 use Rattle.session_outbox.specs.Notices.{lives}
 use Rattle.std.specs.Option.{option_and_then}
-use Rattle.std.specs.Prelude.{Bool, Err, List, None, Option, Some, cond, false, length, nat_eq, true, ℕ, ◌&&◌}
+use Rattle.std.specs.Prelude.{Bool, Err, List, None, Option, Result, Some, [], cond, false, length, nat_eq, true, ℕ, ◌&&◌, ◌++◌}
 use Rattle.thor_value.specs.declared.names.Ts.{Ts}
 use Rattle.trace_reading.proofs.Parts.{judges, tells}
 use Rattle.trace_reading.specs.Against.{against, first_sent}
+use Rattle.trace_reading.specs.Items.{trace_of}
 use Rattle.trace_reading.specs.Reading.{Reading, Tells, reading}
 use Rattle.trace_reading.specs.Settling.{open_of}
+use Rattle.trace_reading.specs.declared.item.Item as item
 use Rattle.validation_window.specs.declared.refusal.Refusal.{Refusal}
 
 module _ (b : Base) (s : ℕ) (T : List Item) (R : Reading) (h : Tells b s T R) where
@@ -69,3 +72,20 @@ prepared_so p q s false = and_false (nat_eq q.session s)
 pub prepared_is : (s : ℕ) (o : Option Known) → is_prepared_by s o ≡ prepared_of s (open_of o)
 prepared_is s None = refl
 prepared_is s (Some o) = prepared_so o.place o.request s (is_open o.fate)
+
+-- ---- steps of the code
+
+pub with_added : {X : Type 0} (is : List item.Item) (step : Result X Refusal × Option item.Item) (a : Result X Refusal) (es : List Item) → step.0 ≡ a → added step.1 ≡ es → IsStep is step (a, trace_of is ++ es)
+with_added is step a es e f = record { answer = e; trace = ap (λ (x : List Item). trace_of is ++ x) f }
+
+pub with_none : {X : Type 0} (is : List item.Item) (step : Result X Refusal × Option item.Item) (a : Result X Refusal) → step.0 ≡ a → added step.1 ≡ [] → IsStep is step (a, trace_of is)
+with_none is step a e f = record { answer = e; trace = ap (λ (x : List Item). trace_of is ++ x) f ∙ append-nil (trace_of is) }
+
+pub chosen : {X : Type 0} (is : List item.Item) (step : Result X Refusal × Option item.Item) (k : Bool) (p q : plain.Stepped X) → true ≡ k → IsStep is step p → IsStep is step (cond k p q)
+chosen is step k p q e h = rw (← e) h
+
+pub not_chosen : {X : Type 0} (is : List item.Item) (step : Result X Refusal × Option item.Item) (k : Bool) (p q : plain.Stepped X) → false ≡ k → IsStep is step q → IsStep is step (cond k p q)
+not_chosen is step k p q e h = rw (← e) h
+
+pub is_step : {X : Type 0} (is : List item.Item) (step : Result X Refusal × Option item.Item) (p q : plain.Stepped X) → p ≡ q → IsStep is step q → IsStep is step p
+is_step {X} is step p q e h = subst (λ (x : plain.Stepped X). IsStep is step x) (sym e) h

@@ -42,11 +42,12 @@ gone s = refused.Reason (reasons.Gone s)
 abbrev pub fetch_by : Reading → List Item → ℕ → ℕ → ℕ → Stepped (Unit {0})
 fetch_by R T s page upto = cond (lives R.session) (Ok tt, T ++ M (the.Fetched s page upto) ∷ []) (Err (gone s), T)
 
+-- where the session is live
+abbrev pub grant_live : Reading → List Item → ℕ → Stepped (Unit {0})
+grant_live R T s = cond (nat_lt R.next_page most_pages) (Ok tt, T ++ M (the.Granted s R.next_page) ∷ []) (refuse T s None (refused.Reason (reasons.Full most_pages)))
+
 abbrev pub grant_by : Reading → List Item → ℕ → Stepped (Unit {0})
-grant_by R T s =
-    cond (lives R.session)
-    (cond (nat_lt R.next_page most_pages) (Ok tt, T ++ M (the.Granted s R.next_page) ∷ []) (refuse T s None (refused.Reason (reasons.Full most_pages))))
-    (refuse T s None (gone s))
+grant_by R T s = cond (lives R.session) (grant_live R T s) (refuse T s None (gone s))
 
 abbrev pub receive_by : (Notice → Message) → Reading → List Item → ℕ → Stepped (Option Message)
 receive_by spell R T s = cond (lives R.session) (received spell T s (option_and_then first_sent R.session)) (Err (gone s), T)
@@ -55,11 +56,12 @@ receive_by spell R T s = cond (lives R.session) (received spell T s (option_and_
 abbrev pub stamp_by : Base → Reading → ℕ → Ts
 stamp_by b R floor = record { time = drawn_time 0 R.drawn floor; repo = b.repo; life = R.state.life }
 
+-- this timestamp is drawn, where its time is one that there is
+abbrev pub draw_live : List Item → ℕ → Ts → Stepped Ts
+draw_live T s t = cond (nat_lt t.time (2 ^ 62)) (Ok t, T ++ M (the.Drew s t) ∷ []) (refuse T s None (refused.Reason reasons.ClockEnd))
+
 abbrev pub draw_by : Base → Reading → List Item → ℕ → ℕ → Stepped Ts
-draw_by b R T s floor =
-    cond (lives R.session)
-    (cond (nat_lt (stamp_by b R floor).time (2 ^ 62)) (Ok (stamp_by b R floor), T ++ M (the.Drew s (stamp_by b R floor)) ∷ []) (refuse T s None (refused.Reason reasons.ClockEnd)))
-    (refuse T s None (gone s))
+draw_by b R T s floor = cond (lives R.session) (draw_live T s (stamp_by b R floor)) (refuse T s None (gone s))
 
 abbrev pub requested_by : ℕ → List Item → ℕ → Request → Entry → Option Refusal → Stepped ℕ
 requested_by n T s q e None = (Ok n, T ++ E e ∷ [])
@@ -73,11 +75,12 @@ abbrev pub prepared_of : ℕ → Option (ℕ × Request) → Bool
 prepared_of s None = false
 prepared_of s (Some x) = nat_eq x.1.session s
 
+-- where the session is live, and the transaction is its own and prepared, or not
+abbrev pub decide_live : Reading → List Item → Ts → Bool → Bool → Stepped Verdict
+decide_live R T t c own = cond own (Ok (record { tx = t; commit = c }), T ++ E (Decided t c) ∷ []) (Ok (record { tx = t; commit = commits_by_reading R T t }), T)
+
 abbrev pub decide_by : Base → Reading → List Item → ℕ → Ts → Bool → Stepped Verdict
-decide_by b R T s t c =
-    cond (lives R.session)
-    (cond (is_prepared_by s (known_in b R.state t)) (Ok (record { tx = t; commit = c }), T ++ E (Decided t c) ∷ []) (Ok (record { tx = t; commit = commits_by_reading R T t }), T))
-    (Err (gone s), T)
+decide_by b R T s t c = cond (lives R.session) (decide_live R T t c (is_prepared_by s (known_in b R.state t))) (Err (gone s), T)
 
 abbrev pub finish_by : Base → Reading → List Item → Ts → Bool → Stepped (Option ℕ)
 finish_by b R T t c = cond (is_undecided (known_in b R.state t)) (Ok (Some R.state.length), T ++ E (Finished t c) ∷ []) (Ok None, T)

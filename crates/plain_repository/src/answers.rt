@@ -3,7 +3,7 @@
 ghost use Rattle.commit_log.specs.declared.entry.Entry.TheVariants.{Prepared};
 ghost use Rattle.local_history.specs.History.{known_in, state};
 ghost use Rattle.message_outbox.specs.Messages.{place_of};
-ghost use Rattle.plain_repository.specs.ByReading.{ask_by, commits_by_reading, decide_by, draw_by, fetch_by, finish_by, gone, grant_by, requested_by};
+ghost use Rattle.plain_repository.specs.ByReading.{ask_by, commits_by_reading, decide_by, decide_live, draw_by, draw_live, fetch_by, finish_by, gone, grant_by, grant_live, receive_by, requested_by, stamp_by};
 ghost use Rattle.plain_repository.specs.Reading.{IsOkStep, IsStep, added};
 ghost use Rattle.port.specs.Works.{alone_entry, is_prepared_by};
 ghost use Rattle.port_views.specs.Plain as plain;
@@ -11,9 +11,9 @@ ghost use Rattle.port_views.specs.Plain.{message_of};
 ghost use Rattle.session_outbox.specs.Calls.{drawn_time};
 ghost use Rattle.session_outbox.specs.Trace.{E, M, entries};
 ghost use Rattle.session_outbox.specs.declared.mark.Mark.TheVariants as the;
-ghost use Rattle.std.specs.Option.{unwrap_or};
+ghost use Rattle.std.specs.Option.{option_and_then, unwrap_or};
 ghost use Rattle.std.specs.Prelude.{IfOk, List, Ok, Some, [], ◌+◌, ◌∷◌, ◌≡◌};
-ghost use Rattle.trace_reading.specs.Against.{text_of_number};
+ghost use Rattle.trace_reading.specs.Against.{first_sent, text_of_number};
 ghost use Rattle.trace_reading.specs.Items.{trace_of};
 ghost use Rattle.trace_reading.specs.Opening.{base_of};
 ghost use Rattle.trace_reading.specs.Paging.{page_at, text_at};
@@ -105,17 +105,17 @@ pub(crate) fn connect(
 fn fetch_by(reading: &Reading, session: u32, page: u32, upto: u64) -> Step<()>
     ensures { (is : List item.Item) → IsStep is result (fetch_by reading.now (trace_of is) session page upto) }
 {
-    if !reading.is_live() {
-        return unmarked(Err(gone(session)));
+    if reading.is_live() {
+        return marked(
+            Ok(()),
+            Mark::Fetched {
+                session,
+                page,
+                upto,
+            },
+        );
     }
-    marked(
-        Ok(()),
-        Mark::Fetched {
-            session,
-            page,
-            upto,
-        },
-    )
+    unmarked(Err(gone(session)))
 }
 
 /// To one that asks for a page.
@@ -133,12 +133,9 @@ pub(crate) fn fetch(
     Ok(fetch_by(&reading, session, page, upto))
 }
 
-fn grant_by(reading: &Reading, session: u32) -> Step<()>
-    ensures { (is : List item.Item) → IsStep is result (grant_by reading.now (trace_of is) session) }
+fn grant_live(reading: &Reading, session: u32) -> Step<()>
+    ensures { (is : List item.Item) → IsStep is result (grant_live reading.now (trace_of is) session) }
 {
-    if !reading.is_live() {
-        return refuse(session, None, gone(session));
-    }
     let page = reading.next_page();
     if page < u64::from(PAGES) {
         return marked(
@@ -154,6 +151,15 @@ fn grant_by(reading: &Reading, session: u32) -> Step<()>
         None,
         Refusal::Reason(Reason::Full { limit: PAGES }),
     )
+}
+
+fn grant_by(reading: &Reading, session: u32) -> Step<()>
+    ensures { (is : List item.Item) → IsStep is result (grant_by reading.now (trace_of is) session) }
+{
+    if reading.is_live() {
+        return grant_live(reading, session);
+    }
+    refuse(session, None, gone(session))
 }
 
 /// To one that asks for a page of names.
@@ -221,6 +227,42 @@ fn taken(session: u32, message: Message) -> Step<Option<Message>>
     marked(Ok(Some(message)), Mark::Took { session, place })
 }
 
+/// A message is taken, where one waits.
+fn receive_live(
+    alloc: Global,
+    opening: &Opening,
+    items: &[Item],
+    reading: &Reading,
+    session: u32,
+) -> Result<Step<Option<Message>>, NoMemory>
+    requires { reading.now.state ≡ state (base_of opening.now) (entries (trace_of items.now)) }
+    ensures { IfOk result (λ step. IsStep items.now step (plain.received (message_of (page_at (base_of opening.now) (trace_of items.now)) (text_at (base_of opening.now) (trace_of items.now))) (trace_of items.now) session (option_and_then first_sent reading.now.session))) }
+{
+    match reading.first_waiting()? {
+        Some(notice) => {
+            let message = spell(alloc, opening, items, reading, notice)?;
+            Ok(taken(session, message))
+        }
+        None => Ok(unmarked(Ok(None))),
+    }
+}
+
+fn receive_by(
+    alloc: Global,
+    opening: &Opening,
+    items: &[Item],
+    reading: &Reading,
+    session: u32,
+) -> Result<Step<Option<Message>>, NoMemory>
+    requires { reading.now.state ≡ state (base_of opening.now) (entries (trace_of items.now)) }
+    ensures { IfOk result (λ step. IsStep items.now step (receive_by (message_of (page_at (base_of opening.now) (trace_of items.now)) (text_at (base_of opening.now) (trace_of items.now))) reading.now (trace_of items.now) session)) }
+{
+    if reading.is_live() {
+        return receive_live(alloc, opening, items, reading, session);
+    }
+    Ok(unmarked(Err(gone(session))))
+}
+
 /// To one that takes a message.
 pub(crate) fn receive(
     alloc: Global,
@@ -231,16 +273,7 @@ pub(crate) fn receive(
     ensures { IfOk result (λ step. IsStep items.now step (plain.receive (message_of (page_at (base_of opening.now) (trace_of items.now)) (text_at (base_of opening.now) (trace_of items.now))) (base_of opening.now) (trace_of items.now) session)) }
 {
     let reading = Reading::of(alloc, opening, session, items)?;
-    if !reading.is_live() {
-        return Ok(unmarked(Err(gone(session))));
-    }
-    match reading.first_waiting()? {
-        Some(notice) => {
-            let message = spell(alloc, opening, items, &reading, notice)?;
-            Ok(taken(session, message))
-        }
-        None => Ok(unmarked(Ok(None))),
-    }
+    receive_by(alloc, opening, items, &reading, session)
 }
 
 // ---- timestamps
@@ -256,6 +289,26 @@ fn time_behind(last: u64, floor: u64) -> Result<u64, NoMemory>
     Ok(greatest + 1)
 }
 
+fn draw_live(session: u32, ts: Ts) -> Step<Ts>
+    ensures { (is : List item.Item) → IsStep is result (draw_live (trace_of is) session ts) }
+{
+    if ts.time < TIMES {
+        return marked(Ok(ts), Mark::Drew { session, ts });
+    }
+    refuse(session, None, Refusal::Reason(Reason::ClockEnd))
+}
+
+/// The timestamp that is drawn next.
+fn stamp(opening: &Opening, reading: &Reading, floor: u64) -> Result<Ts, NoMemory>
+    ensures { IfOk result (λ ts. ts ≡ stamp_by (base_of opening.now) reading.now floor) }
+{
+    Ok(Ts {
+        time: time_behind(reading.drawn(), floor)?,
+        repo: opening.repo,
+        life: reading.life(),
+    })
+}
+
 fn draw_by(
     opening: &Opening,
     reading: &Reading,
@@ -264,18 +317,11 @@ fn draw_by(
 ) -> Result<Step<Ts>, NoMemory>
     ensures { IfOk result (λ step. (is : List item.Item) → IsStep is step (draw_by (base_of opening.now) reading.now (trace_of is) session floor)) }
 {
-    if !reading.is_live() {
-        return Ok(refuse(session, None, gone(session)));
+    if reading.is_live() {
+        let ts = stamp(opening, reading, floor)?;
+        return Ok(draw_live(session, ts));
     }
-    let ts = Ts {
-        time: time_behind(reading.drawn(), floor)?,
-        repo: opening.repo,
-        life: reading.life(),
-    };
-    if ts.time < TIMES {
-        return Ok(marked(Ok(ts), Mark::Drew { session, ts }));
-    }
-    Ok(refuse(session, None, Refusal::Reason(Reason::ClockEnd)))
+    Ok(refuse(session, None, gone(session)))
 }
 
 /// To one that draws a timestamp.
@@ -379,6 +425,16 @@ fn commits_by(reading: &Reading, items: &[Item], tx: Ts) -> bool
     reading.has_kept(tx) && !is_forgotten(items, tx) || reading.is_alone(tx)
 }
 
+fn decide_live(reading: &Reading, items: &[Item], tx: Ts, commit: bool, own: bool) -> Step<Verdict>
+    ensures { IsStep items.now result (decide_live reading.now (trace_of items.now) tx commit own) }
+{
+    if own {
+        return entered(Ok(Verdict::new(tx, commit)), Entry::Decided { tx, commit });
+    }
+    let commits = commits_by(reading, items, tx);
+    unmarked(Ok(Verdict::new(tx, commits)))
+}
+
 fn decide_by(
     reading: &Reading,
     opening: &Opening,
@@ -389,14 +445,11 @@ fn decide_by(
 ) -> Result<Step<Verdict>, NoMemory>
     ensures { IfOk result (λ step. IsStep items.now step (decide_by (base_of opening.now) reading.now (trace_of items.now) session tx commit)) }
 {
-    if !reading.is_live() {
-        return Ok(unmarked(Err(gone(session))));
+    if reading.is_live() {
+        let own = is_prepared_by(reading, opening, session, tx)?;
+        return Ok(decide_live(reading, items, tx, commit, own));
     }
-    if is_prepared_by(reading, opening, session, tx)? {
-        return Ok(entered(Ok(Verdict::new(tx, commit)), Entry::Decided { tx, commit }));
-    }
-    let commits = commits_by(reading, items, tx);
-    Ok(unmarked(Ok(Verdict::new(tx, commits))))
+    Ok(unmarked(Err(gone(session))))
 }
 
 /// To one that decides a transaction.

@@ -5,7 +5,7 @@ use Rattle.local_history.specs.History.{Base, State, commit_of, commits_from, pu
 use Rattle.session_outbox.specs.Calls.{connected_at, drawn_from, granted_at}
 use Rattle.session_outbox.specs.Session.{session_from}
 use Rattle.session_outbox.specs.Trace.{E, Item, M, entries}
-use Rattle.std.proofs.Common.{append-nil, append_assoc, ap, arith, refl, sym, ◌≡◌, ◌∙◌}
+use Rattle.std.proofs.Common.{append-nil, append_assoc, ap, arith, refl, subst, sym, ◌≡◌, ◌∙◌}
 use Rattle.std.proofs.Math.Nat.{max-zero}
 use Rattle.std.specs.List.{fold}
 use Rattle.std.specs.Prelude.{List, [], length, max, ℕ, ◌+◌, ◌++◌, ◌∷◌}
@@ -65,6 +65,9 @@ module _ (b : Base) (s : ℕ) where
     drawn_is = drawns (begin b) T;
     count_is = ap (λ (S : State). S.length) (states (begin b) T) ∙ counts (start b) (entries T);
   }
+
+pub tells_of : (b : Base) (s : ℕ) (T : List Item) (R : Reading) → R ≡ reading b s T → Tells b s T R
+tells_of b s T R e = subst (λ (x : Reading). Tells b s T x) (sym e) (tells b s T)
 
 -- what stands against a request is the verdict
 pub judges : (b : Base) (s : ℕ) (T : List Item) (R : Reading) (q : Request) → Tells b s T R → verdict b T s q ≡ against b R s q

@@ -4,7 +4,7 @@ ghost use Rattle.local_history.specs.Requests.{has_read, has_written, is_upgrade
 ghost use Rattle.std.specs.List.{list_any};
 ghost use Rattle.std.specs.Map.{keys_of};
 ghost use Rattle.std.specs.Prelude.{IfOk, OnOk, ◌++◌, ◌≡◌};
-ghost use Rattle.thor_value.specs.FiniteMap.{overwrite};
+ghost use Rattle.thor_value.specs.FiniteMap.{add, overwrite};
 ghost use Rattle.thor_value.specs.Names.{same_oref};
 ghost use Rattle.trace_reading.specs.Tables.{names_in, objects_in};
 ghost use Rattle.validation_queue.specs.Clashes.{is_before};
@@ -52,13 +52,20 @@ pub(crate) fn add_keys(names: &mut Vec<Oref>, objects: &Objects) -> Result<(), N
     Ok(())
 }
 
+fn add_name(set: &mut Names, name: Oref) -> Result<(), NoMemory>
+    ensures { OnOk result (names_in set.new ≡ add (names_in set.old) name) }
+{
+    set.insert(name, ())?;
+    Ok(())
+}
+
 /// Some names in their order.
 pub(crate) fn set_of(alloc: Global, names: &[Oref]) -> Result<Names, NoMemory>
     ensures { IfOk result (λ set. names_in set ≡ set_of names.now) }
 {
     let mut set = BTreeMap::new(alloc);
     for name in names {
-        set.insert(*name, ())?;
+        add_name(&mut set, *name)?;
     }
     Ok(set)
 }

@@ -6,7 +6,7 @@ ghost use Rattle.std.specs.Option.{option_copied, option_map};
 ghost use Rattle.std.specs.Prelude.{IfOk, OnOk, Some, max, ◌++◌, ◌≡◌};
 ghost use Rattle.trace_reading.specs.Items.{read, trace_of};
 ghost use Rattle.trace_reading.specs.Opening.{base_of};
-ghost use Rattle.trace_reading.specs.Reading.{begin, reading, step, step_marked, step_with};
+ghost use Rattle.trace_reading.specs.Reading.{Tells, begin, reading, step, step_marked, step_with};
 ghost use Rattle.trace_reading.specs.Settling.{commit_at, met_mark, met_with};
 
 use crate::item::Item;
@@ -45,7 +45,20 @@ impl Model for Reading {
 
 impl Reading {
     /// What a trace comes to, beside its session of this number.
+    #[tactic(auto, using(crate::proofs::Parts::tells_of))]
     pub fn of(
+        alloc: Global,
+        opening: &Opening,
+        number: u32,
+        items: &[Item],
+    ) -> Result<Reading, NoMemory>
+        ensures { IfOk result (Tells (base_of opening.now) number (trace_of items.now)) }
+    {
+        Reading::fold(alloc, opening, number, items)
+    }
+
+    /// Goes over all items.
+    fn fold(
         alloc: Global,
         opening: &Opening,
         number: u32,

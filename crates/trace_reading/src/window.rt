@@ -38,6 +38,15 @@ impl Model for Member {
 }
 
 impl Member {
+    fn of(request: &Request, decided: bool) -> Result<Member, NoMemory>
+        ensures { IfOk result (λ member. member ≡ record { decided = decided; request = request.now }) }
+    {
+        Ok(Member {
+            decided,
+            request: request.copy()?,
+        })
+    }
+
     /// Whether it has committed.
     pub(crate) fn is_decided(&self) -> bool
         ensures { result ≡ self.now.decided }
@@ -137,16 +146,19 @@ impl Window {
         self.drop_one(leaving);
     }
 
+    fn put_member(&mut self, tx: Ts, member: Member) -> Result<(), NoMemory>
+        ensures { OnOk result (self.new ≡ record self.old { members = insert self.old.members tx member }) }
+    {
+        self.members.insert(tx, member)?;
+        Ok(())
+    }
+
     /// Puts a transaction in.
     fn put(&mut self, tx: Ts, request: &Request, decided: bool) -> Result<(), NoMemory>
         ensures { OnOk result (self.new ≡ record self.old { members = insert self.old.members tx (record { decided = decided; request = request.now }) }) }
     {
-        let member = Member {
-            decided,
-            request: request.copy()?,
-        };
-        self.members.insert(tx, member)?;
-        Ok(())
+        let member = Member::of(request, decided)?;
+        self.put_member(tx, member)
     }
 
     /// A request comes in.

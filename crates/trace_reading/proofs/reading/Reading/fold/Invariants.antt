@@ -3,7 +3,7 @@ use Rattle.std.specs.List.{fold}
 use Rattle.trace_reading.specs.Items.{trace_of}
 use Rattle.trace_reading.specs.Opening.{base_of}
 use Rattle.trace_reading.specs.Reading.{reading, step}
-use Rattle.trace_reading.proofs.reading.Reading.of.Given as goal
+use Rattle.trace_reading.proofs.reading.Reading.fold.Given as goal
 
 -- what is left leads to the whole
 abbrev pub invariant-loop-item : goal.invariant-loop-item
