@@ -42,12 +42,12 @@ module _ (b : Base) (s : ℕ) where
 
   lasts : (R : Reading) (T : List Item) → (fold (step b s) R T).last_session ≡ fold (λ n i. max n (connected_at i)) R.last_session T
   lasts R [] = refl
-  lasts R (E e ∷ is) = lasts (step b s R (E e)) is ∙ ap (λ (n : ℕ). fold (λ n i. max n (connected_at i)) n is) (max-zero R.last_session)
+  lasts R (E e ∷ is) = lasts (step b s R (E e)) is ∙ ap (λ (n : ℕ). fold (λ n i. max n (connected_at i)) n is) (sym (max-zero R.last_session))
   lasts R (M m ∷ is) = lasts (step b s R (M m)) is
 
   pages : (R : Reading) (T : List Item) → (fold (step b s) R T).next_page ≡ fold (λ n i. max n (granted_at i)) R.next_page T
   pages R [] = refl
-  pages R (E e ∷ is) = pages (step b s R (E e)) is ∙ ap (λ (n : ℕ). fold (λ n i. max n (granted_at i)) n is) (max-zero R.next_page)
+  pages R (E e ∷ is) = pages (step b s R (E e)) is ∙ ap (λ (n : ℕ). fold (λ n i. max n (granted_at i)) n is) (sym (max-zero R.next_page))
   pages R (M m ∷ is) = pages (step b s R (M m)) is
 
   counts : (S : State) (H : List Entry) → (fold (put b) S H).length ≡ S.length + length H
