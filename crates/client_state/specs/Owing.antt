@@ -7,20 +7,29 @@ use Rattle.client_state.specs.declared.phase.Phase.{Phase}
 use Rattle.client_state.specs.declared.phase.Phase.TheVariants.{Asking, Beginning, Between, Drawn, Evaluated, Evaluating, Preparing, Transforming}
 use Rattle.client_state.specs.declared.transaction.Sent.{Sent}
 use Rattle.std.specs.List.{sum_by}
-use Rattle.std.specs.Prelude.{Bool, List, None, Option, Some, false, length, true, ℕ, ◌+◌, ◌-◌}
+use Rattle.std.specs.Prelude.{List, None, Option, Some, length, min, ℕ, ◌*◌, ◌+◌, ◌-◌, ◌^◌}
+
+-- No list in memory has as many elements. What is counted of lists ends there, so that it has a bound for all lists.
+abbrev pub most_listed : ℕ
+most_listed = 2 ^ 64
+
+-- how many elements a list in memory has
+unfoldable pub count_of : List ℕ → ℕ
+count_of xs = min (length xs) most_listed
 
 -- how many calls a duty may still take: one for each participant that is to be told, and one to forget
 abbrev pub calls_of : Duty → ℕ
-calls_of (Finish verdict to forgets) = length to + 1
+calls_of (Finish verdict to forgets) = count_of to + 1
 calls_of (Forget t) = 1
 
-abbrev pub calls_of_all : List Duty → ℕ
-calls_of_all ds = sum_by calls_of ds
+-- how many calls those of a list in memory may still take
+unfoldable pub calls_of_all : List Duty → ℕ
+calls_of_all ds = min (sum_by calls_of ds) (most_listed * (most_listed + 1))
 
 -- a transaction that is to be aborted takes the decision, and then what it gives to hand on
 abbrev pub calls_of_abort : Option Abort → ℕ
 calls_of_abort None = 0
-calls_of_abort (Some a) = length a.prepared + 2
+calls_of_abort (Some a) = count_of a.prepared + 2
 
 -- the calls that a client's duties take
 abbrev pub owed : Duties → ℕ
@@ -35,8 +44,8 @@ calls_in tries (Evaluating run awaited) = 0
 calls_in tries (Transforming run transform) = 0
 calls_in tries (Evaluated transaction) = 0
 calls_in tries (Drawn t transaction) = 0
-calls_in tries (Preparing t transaction coordinator prepared) = length prepared + 2
-calls_in tries (Asking sent answers) = (tries - answers) + (length sent.participants + 2)
+calls_in tries (Preparing t transaction coordinator prepared) = count_of prepared + 2
+calls_in tries (Asking sent answers) = (tries - answers) + (count_of sent.participants + 2)
 
 -- what was sent, and how many answers had no verdict, where its verdict is asked for
 abbrev pub asking_in : Phase → Option (Sent × ℕ)

@@ -1,6 +1,6 @@
 //! What a client has to do about transactions before its next try.
 
-ghost use Rattle.client_state.specs.Owing.{calls_of, calls_of_all};
+ghost use Rattle.client_state.specs.Owing.{calls_of, calls_of_all, count_of};
 ghost use Rattle.std.specs.Prelude.{IsTrue, MatchOption, None, OnOk, Some, [], length, not, ◌≡◌, ◌<◌, ◌≤◌, ◌+◌};
 
 use message_outbox::{At, Verdict};
@@ -83,7 +83,7 @@ impl Duties {
         ensures first { MatchOption result (self.old.verdicts ≡ []) (λ duty. calls_of_all self.old.verdicts ≡ calls_of duty + calls_of_all self.new.verdicts) }
         ensures rest { self.new ≡ record self.old { verdicts = self.new.verdicts } }
     {
-        if self.verdicts.is_empty() {
+        if self.verdicts.len() == 0 {
             return None;
         }
         Some(self.verdicts.remove(0))
@@ -97,7 +97,7 @@ impl Duties {
         others: Repos,
         forgets: bool,
     ) -> Result<(), NoMemory>
-        ensures owed { OnOk result (calls_of_all self.new.verdicts ≤ calls_of_all self.old.verdicts + (length others + 1)) }
+        ensures owed { OnOk result (calls_of_all self.new.verdicts ≤ calls_of_all self.old.verdicts + (count_of others + 1)) }
         ensures rest { self.new ≡ record self.old { verdicts = self.new.verdicts } }
     {
         if !others.is_empty() {
@@ -116,7 +116,7 @@ impl Duties {
     /// A duty comes before all others.
     #[tactic(auto, using(crate::proofs::Owing::put_first))]
     fn put_first(&mut self, duty: Duty) -> Result<(), NoMemory>
-        ensures owed { OnOk result (calls_of_all self.new.verdicts ≡ calls_of_all self.old.verdicts + calls_of duty) }
+        ensures owed { OnOk result (calls_of_all self.new.verdicts ≤ calls_of_all self.old.verdicts + calls_of duty) }
         ensures rest { self.new ≡ record self.old { verdicts = self.new.verdicts } }
     {
         self.verdicts.insert(0, duty)
@@ -125,16 +125,25 @@ impl Duties {
     /// A verdict is to be handed to participants. A commit that all of them have finished is to be
     /// forgotten.
     pub fn hand_on(&mut self, verdict: Verdict, to: Repos) -> Result<(), NoMemory>
-        ensures owed { OnOk result (calls_of_all self.new.verdicts ≤ calls_of_all self.old.verdicts + (length to + 1)) }
+        ensures owed { OnOk result (calls_of_all self.new.verdicts ≤ calls_of_all self.old.verdicts + (count_of to + 1)) }
         ensures rest { self.new ≡ record self.old { verdicts = self.new.verdicts } }
     {
         if to.is_empty() {
             return Ok(());
         }
-        self.verdicts.push(Duty::Finish {
+        self.put_last(Duty::Finish {
             verdict,
             to,
             forgets: verdict.commit(),
         })
+    }
+
+    /// A duty comes behind all others.
+    #[tactic(auto, using(crate::proofs::Owing::put_last))]
+    fn put_last(&mut self, duty: Duty) -> Result<(), NoMemory>
+        ensures owed { OnOk result (calls_of_all self.new.verdicts ≤ calls_of_all self.old.verdicts + calls_of duty) }
+        ensures rest { self.new ≡ record self.old { verdicts = self.new.verdicts } }
+    {
+        self.verdicts.push(duty)
     }
 }

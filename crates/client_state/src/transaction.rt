@@ -1,5 +1,6 @@
 //! A transaction that a try has made, and what is sent of it.
 
+ghost use Rattle.client_state.specs.Owing.{count_of};
 ghost use Rattle.std.specs.Prelude.{IfOk, length, ◌≤◌};
 
 use crate::link::Link;
@@ -168,8 +169,9 @@ impl Sent {
     }
 
     /// The participants other than the coordinator, rising.
+    #[tactic(auto, using(crate::proofs::Owing::counts_less))]
     pub fn others(&self) -> Result<Repos, NoMemory>
-        ensures { IfOk result (λ others. length others ≤ length self.now.participants) }
+        ensures { IfOk result (λ others. count_of others ≤ count_of self.now.participants) }
     {
         others_of(&self.participants, self.coordinator())
     }

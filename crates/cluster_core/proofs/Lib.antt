@@ -1,1 +1,2 @@
 pub mod Restarts
+mod Steps

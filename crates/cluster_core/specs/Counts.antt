@@ -1,6 +1,8 @@
--- The repositories of an open store, and so its parts: how many there are.
+-- The repositories of an open store, and so its parts: how many there are. How many steps are left for its clients.
 use Rattle.cluster_core.specs.declared.emptied.Emptied.{Emptied}
 use Rattle.cluster_core.specs.declared.cluster.Cluster.{Cluster}
+use Rattle.front_end.specs.Moving.{steps_left}
+use Rattle.std.specs.List.{sum_by}
 use Rattle.std.specs.Prelude.{vec_capacity, vec_len, ℕ}
 
 abbrev pub parts_of : {P : Type 0} → {g : _} → Cluster P g → ℕ
@@ -9,3 +11,7 @@ parts_of cluster = vec_len cluster.seats
 -- of an open store whose repositories were taken out: for how many parts it has room
 abbrev pub room_of : {P : Type 0} → {g : _} → Emptied P g → ℕ
 room_of emptied = vec_capacity emptied.spare
+
+-- how many steps its clients take at most before each has ended
+abbrev pub steps_of : {P : Type 0} → {g : _} → Cluster P g → ℕ
+steps_of cluster = sum_by steps_left cluster.clients.items

@@ -2,16 +2,12 @@
 
 ghost use Rattle.std.specs.Prelude.{vec_capacity, vec_len, ◌≡◌, ◌≤◌};
 
-use crate::lent::{Turn, lend};
 use crate::seat::{Seat, give_back};
 use disk_trait::Parts;
-use front_end::{FrontEnd, Opened, Step};
+use front_end::{FrontEnd, Opened};
 use repository_reading::Unopened;
 use std::alloc::Global;
-use std::marker::Brand;
-use std::mem;
 use store_reading::ClusterFault;
-use thor_value::NoMemory;
 
 /// Repositories and their clients, which take turns.
 #[derive(Drop)]
@@ -46,21 +42,6 @@ impl<P: Parts> Cluster<P> {
         ClusterFault {
             parts: give_back(seats, spare),
             why,
-        }
-    }
-
-    /// Has the client at a place take a turn; one that isn't there has nothing to do.
-    pub(crate) fn turn(&mut self, place: usize, turn: Turn) -> Result<Step, NoMemory>
-        ensures { vec_len self.new.seats ≡ vec_len self.old.seats }
-    {
-        match self.clients.get_mut(place) {
-            Some(client) => {
-                let seats = mem::replace(&mut self.seats, Vec::new(self.alloc));
-                let (seats, answer) = lend::<P, Brand>(seats, client, &self.opened, turn);
-                drop(mem::replace(&mut self.seats, seats));
-                answer
-            }
-            None => Ok(Step::Ended),
         }
     }
 }

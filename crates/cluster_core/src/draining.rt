@@ -1,7 +1,7 @@
 //! What comes behind the last event.
 
-ghost use Rattle.cluster_core.specs.Counts.{parts_of};
-ghost use Rattle.std.specs.Prelude.{◌≡◌};
+ghost use Rattle.cluster_core.specs.Counts.{parts_of, steps_of};
+ghost use Rattle.std.specs.Prelude.{◌≡◌, ◌<◌, Ok, true};
 
 use crate::cluster::Cluster;
 use crate::events::unless_memory;
@@ -25,21 +25,18 @@ impl<P: Parts> Cluster<P> {
         Ok(())
     }
 
-    /// The clients take steps in turn until no item is left.
+    /// The clients take steps in turn until no item is left. What is left for them falls with each round.
     fn rounds(&mut self) -> Result<(), NoMemory>
         ensures { parts_of self.new ≡ parts_of self.old }
     {
-        for _ in 0..u64::MAX {
-            if !self.round()? {
-                break;
-            }
-        }
+        while self.round()? {}
         Ok(())
     }
 
-    /// Each client takes one step. It answers whether one of them had items left.
+    /// Each client takes one step. It answers whether one of them had items left: then fewer steps are left.
     fn round(&mut self) -> Result<bool, NoMemory>
-        ensures { parts_of self.new ≡ parts_of self.old }
+        ensures parts { parts_of self.new ≡ parts_of self.old }
+        ensures falls { result ≡ Ok true → steps_of self.new < steps_of self.old }
     {
         let mut moved = false;
         for place in 0..self.clients.len() {

@@ -1,6 +1,9 @@
 //! Repositories, as they are lent to clients.
 
-ghost use Rattle.std.specs.Prelude.{vec_len, ◌≡◌, ℕ};
+ghost use Rattle.cluster_core.specs.declared.lent.Turn.TheVariants as turns;
+ghost use Rattle.front_end.specs.Moving.{steps_left};
+ghost use Rattle.front_end.specs.declared.front_end.Step.TheVariants as step;
+ghost use Rattle.std.specs.Prelude.{vec_len, ◌≡◌, ◌<◌, ℕ, Ok};
 
 use crate::lent_calls;
 use crate::seat::Seat;
@@ -113,7 +116,9 @@ pub(crate) fn lend<P: Parts, N: Count>(
     turn: Turn,
 ) -> (Vec<Seat<P>>, Result<Step, NoMemory>)
     requires { vec_len seats ≡ N.count }
-    ensures { vec_len result.0 ≡ N.count }
+    ensures seats { vec_len result.0 ≡ N.count }
+    ensures moved { turn ≡ turns.Step → result.1 ≡ Ok step.Moved → steps_left client.new < steps_left client.old }
+    ensures ended { result.1 ≡ Ok step.Ended → client.new ≡ client.old }
 {
     let mut repos: Repos<P, N> = Repos {
         seats,
@@ -129,7 +134,10 @@ fn take_turn<Q: Port>(
     port: &mut Q,
     opened: &Opened,
     turn: Turn,
-) -> Result<Step, NoMemory> {
+) -> Result<Step, NoMemory>
+    ensures moved { turn ≡ turns.Step → result ≡ Ok step.Moved → steps_left client.new < steps_left client.old }
+    ensures ended { result ≡ Ok step.Ended → client.new ≡ client.old }
+{
     match turn {
         Turn::Step => client.step(port, opened),
         Turn::Deliver { repo } => {

@@ -15,6 +15,7 @@ mod opening;
 mod plan;
 mod seat;
 mod settling;
+mod turning;
 
 pub use cluster::Cluster;
 pub use emptied::Emptied;

@@ -3,8 +3,8 @@ use Rattle.client_state.specs.Owing.{calls_in, owed}
 use Rattle.front_end.specs.declared.client.Client.{Client}
 use Rattle.front_end.specs.declared.front_end.FrontEnd.{FrontEnd}
 use Rattle.item_progress.specs.Courses.{Course}
-use Rattle.item_progress.specs.Falling.{Falls, IsLeft, Left, Standing, left_by}
-use Rattle.std.specs.Prelude.{None, length, ℕ, ◌+◌, ◌<◌, ◌≡◌, ◌⊎◌}
+use Rattle.item_progress.specs.Falling.{Falls, IsLeft, Left, Standing, left_by, most_calls}
+use Rattle.std.specs.Prelude.{None, length, ℕ, ◌*◌, ◌+◌, ◌<◌, ◌^◌, ◌≡◌, ◌⊎◌}
 
 -- how many calls a client may still make that aren't counted, where an item has so many tries
 abbrev pub uncounted : ℕ → Client → ℕ
@@ -20,6 +20,23 @@ standing_of f = record { course = f.progress; attempts = f.attempts }
 -- what is left for it to do
 abbrev pub left_of : FrontEnd → Left
 left_of f = left_by (standing_of f) (uncounted f.attempts.each f.client)
+
+-- how many tries an item has
+abbrev pub tries_of : FrontEnd → ℕ
+tries_of f = f.attempts.each
+
+-- What is left as one number, where an item has so many tries, and fewer calls than a bound aren't counted: it falls where
+-- what is left falls.
+abbrev pub as_number : ℕ → ℕ → Left → ℕ
+as_number tries bound l = ((l.items * (tries + 1) + l.tries) * (most_calls + 1) + l.calls) * bound + l.uncounted
+
+-- fewer calls aren't counted, where an item has so many tries
+abbrev pub bound_of : ℕ → ℕ
+bound_of tries = tries + 2 ^ 130
+
+-- the client takes no more steps than that
+abbrev pub steps_left : FrontEnd → ℕ
+steps_left f = as_number (tries_of f) (bound_of (tries_of f)) (left_of f)
 
 -- what is left stays as it is, or it falls
 abbrev pub Keeps : Left → Left → Type 0

@@ -1,8 +1,9 @@
 //! Before the rules: a transaction that its coordinator has prepared and whose try has ended is aborted
 //! there.
 
+ghost use Rattle.client_state.specs.Owing.{count_of};
 ghost use Rattle.front_end.specs.Moving.{uncounted};
-ghost use Rattle.std.specs.Prelude.{OnOk, length, ℕ, ◌+◌, ◌≤◌};
+ghost use Rattle.std.specs.Prelude.{OnOk, ℕ, ◌+◌, ◌≤◌};
 
 use crate::client::Client;
 use client_state::Abort;
@@ -15,7 +16,7 @@ impl Client {
     /// Has the coordinator abort. Where it answers, the participants are to be told; where it refuses,
     /// nothing is handed on.
     pub fn abort<Q: Port>(&mut self, port: &mut Q, abort: Abort) -> Result<(), NoMemory>
-        ensures { OnOk result ((tries : ℕ) → uncounted tries self.new ≤ uncounted tries self.old + (length abort.prepared + 1)) }
+        ensures { OnOk result ((tries : ℕ) → uncounted tries self.new ≤ uncounted tries self.old + (count_of abort.prepared + 1)) }
     {
         let Abort {
             coordinator,

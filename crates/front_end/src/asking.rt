@@ -1,9 +1,9 @@
 //! The fourth rule: the client asks for its own transaction, which was sent to be decided.
 
-ghost use Rattle.client_state.specs.Owing.{asking_in, calls_in};
+ghost use Rattle.client_state.specs.Owing.{asking_in, calls_in, count_of};
 ghost use Rattle.client_state.specs.declared.phase.Phase.TheVariants as phase;
 ghost use Rattle.front_end.specs.Moving.{uncounted};
-ghost use Rattle.std.specs.Prelude.{IsSome, OnOk, length, ℕ, ◌+◌, ◌<◌, ◌≡◌, ◌≤◌};
+ghost use Rattle.std.specs.Prelude.{IsSome, OnOk, ℕ, ◌+◌, ◌<◌, ◌≡◌, ◌≤◌};
 
 use crate::client::Client;
 use client_state::{Link, Phase, Sent};
@@ -56,7 +56,7 @@ impl Client {
         sent: Sent,
         verdict: Verdict,
     ) -> Result<News, NoMemory>
-        ensures { OnOk result ((tries : ℕ) → uncounted tries self.new ≤ uncounted tries self.old + (length sent.participants + 1)) }
+        ensures { OnOk result ((tries : ℕ) → uncounted tries self.new ≤ uncounted tries self.old + (count_of sent.participants + 1)) }
     {
         let coordinator = sent.coordinator();
         self.duties.hand_on(verdict, sent.others()?)?;

@@ -1,7 +1,7 @@
 //! A client of repositories, which goes on by steps.
 
 ghost use Rattle.client_state.specs.Owing.{asking_in};
-ghost use Rattle.front_end.specs.Moving.{GoesOn, Keeps, MovesOn, course_of, left_of, standing_of, uncounted};
+ghost use Rattle.front_end.specs.Moving.{GoesOn, Keeps, MovesOn, course_of, left_of, standing_of, steps_left, tries_of, uncounted};
 ghost use Rattle.front_end.specs.declared.front_end.Step.TheVariants as step;
 ghost use Rattle.item_progress.specs.Courses.{Goes, IsInOrder};
 ghost use Rattle.item_progress.specs.Ending.{ends_try};
@@ -70,7 +70,8 @@ impl FrontEnd {
     }
 
     /// Takes one step: it makes the call that is next, where an item is left. At most one item ends by
-    /// it: the next one, or one whose outcome was Unknown. What is left for the client to do falls.
+    /// it: the next one, or one whose outcome was Unknown. What is left for the client to do falls, and so
+    /// does a number: there are no more such steps than it says.
     ///
     /// An item has ended where its outcome stands and no verdict on the client's transactions is left to
     /// hand on. After `NoMemory` the repositories stand as after their events, and the client isn't used
@@ -79,6 +80,7 @@ impl FrontEnd {
         ensures goes { Goes (course_of self.old) (course_of self.new) }
         ensures ended { result ≡ Ok step.Ended → (self.new ≡ self.old) × (length (course_of self.old).ended ≡ (course_of self.old).count) }
         ensures falls { result ≡ Ok step.Moved → Falls (left_of self.old) (left_of self.new) }
+        ensures steps { result ≡ Ok step.Moved → steps_left self.new < steps_left self.old }
     {
         if self.has_ended() {
             return Ok(Step::Ended);
@@ -99,6 +101,7 @@ impl FrontEnd {
     #[tactic(auto, using(crate::proofs::Moving::same_standing_falls))]
     fn move_on<Q: Port>(&mut self, port: &mut Q, opened: &Opened) -> Result<(), NoMemory>
         ensures goes { Goes (course_of self.old) (course_of self.new) }
+        ensures each { tries_of self.new ≡ tries_of self.old }
         ensures falls { MovesOn self.old → OnOk result (Falls (left_of self.old) (left_of self.new)) }
     {
         match self.client.duties.abort.take() {
@@ -111,6 +114,7 @@ impl FrontEnd {
     #[tactic(auto, using(crate::proofs::Moving::same_standing_falls))]
     fn follow<Q: Port>(&mut self, port: &mut Q, opened: &Opened) -> Result<(), NoMemory>
         ensures goes { Goes (course_of self.old) (course_of self.new) }
+        ensures each { tries_of self.new ≡ tries_of self.old }
         ensures falls { GoesOn self.old → OnOk result (Falls (left_of self.old) (left_of self.new)) }
     {
         match self.client.next_rule(opened) {
@@ -129,6 +133,7 @@ impl FrontEnd {
         rule: Counted,
     ) -> Result<(), NoMemory>
         ensures goes { Goes (course_of self.old) (course_of self.new) }
+        ensures each { tries_of self.new ≡ tries_of self.old }
         ensures falls { GoesOn self.old → OnOk result (Falls (left_of self.old) (left_of self.new)) }
     {
         if !self.count_call() {
@@ -140,7 +145,7 @@ impl FrontEnd {
     /// Counts a call, where one may still be made.
     #[tactic(auto, using(item_progress::proofs::Falling::calls_fall))]
     fn count_call(&mut self) -> bool
-        ensures each { self.new.attempts.each ≡ self.old.attempts.each }
+        ensures each { tries_of self.new ≡ tries_of self.old }
         ensures counted { IsTrue result → CountsDown (standing_of self.old) (standing_of self.new) }
         ensures course { course_of self.new ≡ course_of self.old }
         ensures none { IsTrue (not result) → self.new ≡ self.old }
@@ -156,7 +161,7 @@ impl FrontEnd {
         rule: Counted,
     ) -> Result<(), NoMemory>
         ensures goes { Goes (course_of self.old) (course_of self.new) }
-        ensures each { self.new.attempts.each ≡ self.old.attempts.each }
+        ensures each { tries_of self.new ≡ tries_of self.old }
         ensures left { OnOk result (NeverRises (standing_of self.old) (standing_of self.new)) }
     {
         let task = self.progress.task(opened, self.attempts.each);
@@ -168,6 +173,7 @@ impl FrontEnd {
     #[tactic(auto, using(item_progress::proofs::Falling::uncounted_falls))]
     fn ask<Q: Port>(&mut self, port: &mut Q, opened: &Opened) -> Result<(), NoMemory>
         ensures goes { Goes (course_of self.old) (course_of self.new) }
+        ensures each { tries_of self.new ≡ tries_of self.old }
         ensures falls { IsSome (asking_in self.old.client.phase) → OnOk result (Falls (left_of self.old) (left_of self.new)) }
     {
         let task = self.progress.task(opened, self.attempts.each);
@@ -180,6 +186,7 @@ impl FrontEnd {
     #[tactic(auto, using(crate::proofs::Moving::same_standing_falls))]
     fn run_out_of_calls<Q: Port>(&mut self, port: &mut Q) -> Result<(), NoMemory>
         ensures goes { Goes (course_of self.old) (course_of self.new) }
+        ensures each { tries_of self.new ≡ tries_of self.old }
         ensures falls { GoesOn self.old → OnOk result (Falls (left_of self.old) (left_of self.new)) }
     {
         if self.progress.has_ended() {
@@ -193,7 +200,7 @@ impl FrontEnd {
     /// try back is given up, since none begins.
     fn take_down(&mut self, news: News) -> Result<(), NoMemory>
         ensures goes { Goes (course_of self.old) (course_of self.new) }
-        ensures each { self.new.attempts.each ≡ self.old.attempts.each }
+        ensures each { tries_of self.new ≡ tries_of self.old }
         ensures left { OnOk result (NeverRises (standing_of self.old) (standing_of self.new)) }
         ensures tried { ends_try news ≡ true → IsLeft (course_of self.old) → OnOk result (CountsDown (standing_of self.old) (standing_of self.new)) }
         ensures uncounted { (tries : ℕ) → uncounted tries self.new.client ≡ uncounted tries self.old.client }

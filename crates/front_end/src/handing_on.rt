@@ -1,8 +1,8 @@
 //! The fifth rule: verdicts are handed on.
 
-ghost use Rattle.client_state.specs.Owing.{calls_of};
+ghost use Rattle.client_state.specs.Owing.{calls_of, count_of};
 ghost use Rattle.front_end.specs.Moving.{uncounted};
-ghost use Rattle.std.specs.Prelude.{OnOk, length, ℕ, ◌+◌, ◌<◌, ◌≡◌};
+ghost use Rattle.std.specs.Prelude.{MatchOption, OnOk, [], length, ℕ, ◌+◌, ◌<◌, ◌≡◌};
 
 use crate::client::Client;
 use client_state::Duty;
@@ -44,15 +44,27 @@ impl Client {
         mut to: Repos,
         forgets: bool,
     ) -> Result<(), NoMemory>
-        ensures { OnOk result ((tries : ℕ) → uncounted tries self.new < uncounted tries self.old + (length to + 1)) }
+        ensures { OnOk result ((tries : ℕ) → uncounted tries self.new < uncounted tries self.old + (count_of to + 1)) }
     {
-        if to.is_empty() {
-            return Ok(());
+        match take_next(&mut to) {
+            Some(repo) => {
+                let told = tell(port, repo, &verdict)?;
+                self.duties.keep_behind(verdict, to, forgets && told)
+            }
+            None => Ok(()),
         }
-        let repo = to.remove(0);
-        let told = tell(port, repo, &verdict)?;
-        self.duties.keep_behind(verdict, to, forgets && told)
     }
+}
+
+/// Takes the participant that is to be told next.
+#[tactic(auto, using(client_state::proofs::Owing::one_fewer))]
+fn take_next(to: &mut Repos) -> Option<u8>
+    ensures { MatchOption result (to.old ≡ []) (λ repo. count_of to.new < count_of to.old) }
+{
+    if to.len() == 0 {
+        return None;
+    }
+    Some(to.remove(0))
 }
 
 /// Tells a participant the verdict. It answers whether it has taken it.
