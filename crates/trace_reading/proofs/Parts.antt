@@ -50,6 +50,9 @@ module _ (b : Base) (s : ℕ) where
   pages R (E e ∷ is) = pages (step b s R (E e)) is ∙ ap (λ (n : ℕ). fold (λ n i. max n (granted_at i)) n is) (sym (max-zero R.next_page))
   pages R (M m ∷ is) = pages (step b s R (M m)) is
 
+  zero_sum : (n : ℕ) → 0 + n ≡ n
+  zero_sum n = omega arith
+
   counts : (S : State) (H : List Entry) → (fold (put b) S H).length ≡ S.length + length H
   counts S [] = omega arith
   counts S (e ∷ es) = let h : (fold (put b) (put b S e) es).length ≡ (S.length + 1) + length es = counts (put b S e) es in omega (arith, h)
@@ -63,7 +66,7 @@ module _ (b : Base) (s : ℕ) where
     last_is = lasts (begin b) T;
     page_is = pages (begin b) T;
     drawn_is = drawns (begin b) T;
-    count_is = ap (λ (S : State). S.length) (states (begin b) T) ∙ counts (start b) (entries T);
+    count_is = ap (λ (S : State). S.length) (states (begin b) T) ∙ counts (start b) (entries T) ∙ zero_sum (length (entries T));
   }
 
 pub tells_of : (b : Base) (s : ℕ) (T : List Item) (R : Reading) → R ≡ reading b s T → Tells b s T R

@@ -129,13 +129,20 @@ impl Window {
         }
     }
 
+    /// The threshold rises to a transaction.
+    fn raise(&mut self, tx: Ts)
+        ensures { self.new ≡ record self.old { threshold = later_of self.old.threshold tx } }
+    {
+        self.threshold = later_of(self.threshold, tx);
+    }
+
     /// The threshold rises to a transaction that leaves.
     fn drop_one(&mut self, leaving: Option<Ts>)
         ensures { self.new ≡ without self.old leaving }
     {
         if let Some(tx) = leaving {
-            self.threshold = later_of(self.threshold, tx);
-            self.members.remove(&tx);
+            self.leave(tx);
+            self.raise(tx);
         }
     }
 
