@@ -45,7 +45,6 @@ impl Model for Reading {
 
 impl Reading {
     /// What a trace comes to, beside its session of this number.
-    #[tactic(auto, using(crate::proofs::Parts::tells_of))]
     pub fn of(
         alloc: Global,
         opening: &Opening,
@@ -54,7 +53,8 @@ impl Reading {
     ) -> Result<Reading, NoMemory>
         ensures { IfOk result (Tells (base_of opening.now) number (trace_of items.now)) }
     {
-        Reading::fold(alloc, opening, number, items)
+        let read = Reading::fold(alloc, opening, number, items)?;
+        Ok(read)
     }
 
     /// Goes over all items.
