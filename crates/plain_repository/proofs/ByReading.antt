@@ -5,16 +5,21 @@ use Rattle.commit_log.specs.declared.request.Request.{Request}
 use Rattle.local_history.specs.History.{Base, Known, is_open}
 use Rattle.message_outbox.specs.declared.message.Message.{Message}
 use Rattle.plain_repository.specs.Reading.{IsStep, added}
-use Rattle.plain_repository.specs.ByReading.{ask_by, decide_by, draw_by, fetch_by, finish_by, gone, grant_by, prepared_of, receive_by, requested_by}
+use Rattle.plain_repository.specs.ByReading.{ask_by, decide_by, draw_by, fetch_by, finish_by, gone, grant_by, prepared_of, receive_by, requested_by, welcome_by}
 use Rattle.port.specs.Works.{alone_entry, is_prepared_by}
 use Rattle.port_views.specs.Plain as plain
-use Rattle.session_outbox.specs.Session.{Notice, Session, session}
-use Rattle.session_outbox.specs.Trace.{Item, entries}
+use Rattle.message_outbox.specs.Messages as messages
+use Rattle.session_outbox.specs.Calls.{drawn_time, last_session}
+use Rattle.session_outbox.specs.Session.{Grant, Invalid, Notice, Page, Session, Upgrade, place_of, session}
+use Rattle.session_outbox.specs.Trace.{Item, M, entries}
 use Rattle.session_outbox.specs.Verdict.{verdict}
-use Rattle.std.proofs.Common.{ap, append-nil, refl, subst, sym, ◌≡◌, ◌∙◌}
+use Rattle.session_outbox.specs.declared.mark.Mark.TheVariants as the
+use Rattle.std.proofs.Common.{ap, append-nil, arith, refl, subst, sym, ◌≡◌, ◌∙◌}
 use Rattle.session_outbox.specs.Notices.{lives}
+use Rattle.std.proofs.Math.Nat.{zero-max}
+use Rattle.std.proofs.lemmas.Bool.Decides.{nat_tests}
 use Rattle.std.specs.Option.{option_and_then}
-use Rattle.std.specs.Prelude.{Bool, Err, List, None, Option, Result, Some, [], cond, false, length, nat_eq, true, ℕ, ◌&&◌, ◌++◌}
+use Rattle.std.specs.Prelude.{Bool, Err, List, None, Ok, Option, Result, Some, [], cond, false, length, max, nat_eq, nat_lt, true, ℕ, ◌&&◌, ◌+◌, ◌++◌, ◌<◌, ◌^◌, ◌∷◌}
 use Rattle.thor_value.specs.declared.names.Ts.{Ts}
 use Rattle.trace_reading.proofs.Parts.{judges, tells}
 use Rattle.trace_reading.specs.Against.{against, first_sent}
@@ -30,6 +35,12 @@ module _ (b : Base) (s : ℕ) (T : List Item) (R : Reading) (h : Tells b s T R) 
 
   pub grants : plain.grant b T s ≡ grant_by R T s
   grants = rw (h.session_is, h.page_is) refl
+
+  pub connects : (c n : ℕ) → n ≡ R.last_session + 1 → n < 2 ^ 32 → plain.connect b T c ≡ (Ok (welcome_by R n), T ++ M (the.Connected n c) ∷ [])
+  connects c n e lt =
+    let f : n ≡ last_session T + 1 = e ∙ ap (λ (k : ℕ). k + 1) h.last_is in
+    let t : nat_lt n (2 ^ 32) ≡ true = grind (arith, nat_tests) in
+    rw (← f, t, h.count_is, h.state_is, h.window_is) refl
 
   pub draws : (floor : ℕ) → plain.draw b T s 0 floor ≡ draw_by b R T s floor
   draws floor = rw (h.session_is, h.drawn_is, h.state_is) refl
@@ -47,6 +58,9 @@ module _ (b : Base) (s : ℕ) (T : List Item) (R : Reading) (h : Tells b s T R) 
       answers : (r : Option Refusal) → plain.requested T s q e r ≡ requested_by (length (entries T)) T s q e r
       answers None = refl
       answers (Some r) = refl
+
+  pub requests_as : (q : Request) (e : Entry) (n : ℕ) (r : Option Refusal) → n ≡ R.state.length → r ≡ against b R s q → plain.requested T s q e (verdict b T s q) ≡ requested_by n T s q e r
+  requests_as q e n r i j = rw (i, j) (requests q e)
 
   pub decides : (t : Ts) (c : Bool) → plain.decide b T s t c ≡ decide_by b R T s t c
   decides t c = rw (h.session_is, h.state_is) refl
@@ -89,3 +103,18 @@ not_chosen is step k p q e h = rw (← e) h
 
 pub is_step : {X : Type 0} (is : List item.Item) (step : Result X Refusal × Option item.Item) (p q : plain.Stepped X) → p ≡ q → IsStep is step q → IsStep is step p
 is_step {X} is step p q e h = subst (λ (x : plain.Stepped X). IsStep is step x) (sym e) h
+
+pub no_clock : (l f : ℕ) → drawn_time 0 l f ≡ max (l + 1) (f + 1)
+no_clock l f = zero-max (max (l + 1) (f + 1))
+
+place_told : (p : ℕ → ℕ → List ℕ) (t : ℕ → List ℕ) (n : Notice) → messages.place_of (plain.message_of p t n) ≡ place_of n
+place_told p t (Page page k) = refl
+place_told p t (Grant page k) = refl
+place_told p t (Invalid names k) = refl
+place_told p t (Upgrade number k) = refl
+
+-- the message of a notice is taken
+pub takes : (is : List item.Item) (step : Result (Option Message) Refusal × Option item.Item) (p : ℕ → ℕ → List ℕ) (t : ℕ → List ℕ) (s : ℕ) (n : Notice) (m : Message)
+    → m ≡ plain.message_of p t n → step.0 ≡ Ok (Some m) → added step.1 ≡ M (the.Took s (messages.place_of m)) ∷ []
+    → IsStep is step (plain.received (plain.message_of p t) (trace_of is) s (Some n))
+takes is step p t s n m e a f = with_added is step _ _ (a ∙ ap (λ (x : Message). Ok (Some x)) e) (f ∙ ap (λ (k : ℕ). M (the.Took s k) ∷ []) (ap messages.place_of e ∙ place_told p t n))

@@ -39,6 +39,10 @@ base_at (Some o) = base_of o
 abbrev pub gone : ℕ → Refusal
 gone s = refused.Reason (reasons.Gone s)
 
+-- what a client is told that connects as the session s
+abbrev pub welcome_by : Reading → ℕ → Welcome
+welcome_by R s = record { session = s; epoch = length R.state.texts; threshold = R.window.threshold; place = R.state.length; upgrades = R.state.texts }
+
 abbrev pub fetch_by : Reading → List Item → ℕ → ℕ → ℕ → Stepped (Unit {0})
 fetch_by R T s page upto = cond (lives R.session) (Ok tt, T ++ M (the.Fetched s page upto) ∷ []) (Err (gone s), T)
 

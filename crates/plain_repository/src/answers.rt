@@ -3,7 +3,7 @@
 ghost use Rattle.commit_log.specs.declared.entry.Entry.TheVariants.{Prepared};
 ghost use Rattle.local_history.specs.History.{known_in, state};
 ghost use Rattle.message_outbox.specs.Messages.{place_of};
-ghost use Rattle.plain_repository.specs.ByReading.{ask_by, commits_by_reading, decide_by, decide_live, draw_by, draw_live, fetch_by, finish_by, gone, grant_by, grant_live, receive_by, requested_by, stamp_by};
+ghost use Rattle.plain_repository.specs.ByReading.{ask_by, commits_by_reading, decide_by, decide_live, draw_by, draw_live, fetch_by, finish_by, gone, grant_by, grant_live, receive_by, requested_by, stamp_by, welcome_by};
 ghost use Rattle.plain_repository.specs.Reading.{IsOkStep, IsStep, added};
 ghost use Rattle.port.specs.Works.{alone_entry, is_prepared_by};
 ghost use Rattle.port_views.specs.Plain as plain;
@@ -81,6 +81,19 @@ fn refuse<X>(session: u32, request: Option<Request>, refusal: Refusal) -> Step<X
 
 // ---- sessions
 
+/// What one is told that connects under a number.
+fn welcome(reading: &Reading, session: u32) -> Result<Welcome, NoMemory>
+    ensures { IfOk result (λ w. w ≡ welcome_by reading.now session) }
+{
+    Ok(Welcome {
+        session,
+        epoch: reading.epoch()?,
+        threshold: reading.threshold(),
+        place: reading.count(),
+        upgrades: reading.texts()?,
+    })
+}
+
 /// To one that connects.
 pub(crate) fn connect(
     alloc: Global,
@@ -92,13 +105,7 @@ pub(crate) fn connect(
 {
     let reading = Reading::of(alloc, opening, 0, items)?;
     let session = reading.next_session()?;
-    let welcome = Welcome {
-        session,
-        epoch: reading.epoch()?,
-        threshold: reading.threshold(),
-        place: reading.count(),
-        upgrades: reading.texts()?,
-    };
+    let welcome = welcome(&reading, session)?;
     Ok(marked(Ok(welcome), Mark::Connected { session, client }))
 }
 
@@ -227,6 +234,22 @@ fn taken(session: u32, message: Message) -> Step<Option<Message>>
     marked(Ok(Some(message)), Mark::Took { session, place })
 }
 
+/// The message that waits first is taken.
+fn receive_first(
+    alloc: Global,
+    opening: &Opening,
+    items: &[Item],
+    reading: &Reading,
+    session: u32,
+    notice: &Notice,
+) -> Result<Step<Option<Message>>, NoMemory>
+    requires { reading.now.state ≡ state (base_of opening.now) (entries (trace_of items.now)) }
+    ensures { IfOk result (λ step. IsStep items.now step (plain.received (message_of (page_at (base_of opening.now) (trace_of items.now)) (text_at (base_of opening.now) (trace_of items.now))) (trace_of items.now) session (Some notice.now))) }
+{
+    let message = spell(alloc, opening, items, reading, notice)?;
+    Ok(taken(session, message))
+}
+
 /// A message is taken, where one waits.
 fn receive_live(
     alloc: Global,
@@ -238,11 +261,9 @@ fn receive_live(
     requires { reading.now.state ≡ state (base_of opening.now) (entries (trace_of items.now)) }
     ensures { IfOk result (λ step. IsStep items.now step (plain.received (message_of (page_at (base_of opening.now) (trace_of items.now)) (text_at (base_of opening.now) (trace_of items.now))) (trace_of items.now) session (option_and_then first_sent reading.now.session))) }
 {
-    match reading.first_waiting()? {
-        Some(notice) => {
-            let message = spell(alloc, opening, items, reading, notice)?;
-            Ok(taken(session, message))
-        }
+    let first = reading.first_waiting()?;
+    match first {
+        Some(notice) => receive_first(alloc, opening, items, reading, session, notice),
         None => Ok(unmarked(Ok(None))),
     }
 }
@@ -279,14 +300,14 @@ pub(crate) fn receive(
 // ---- timestamps
 
 /// The time behind the last one and the floor, where a number tells it.
+#[tactic(auto, using(crate::proofs::ByReading::no_clock))]
 fn time_behind(last: u64, floor: u64) -> Result<u64, NoMemory>
     ensures { IfOk result (λ time. time ≡ drawn_time 0 last floor) }
 {
-    let greatest = last.max(floor);
-    if greatest == u64::MAX {
+    if last == u64::MAX || floor == u64::MAX {
         return Err(NoMemory);
     }
-    Ok(greatest + 1)
+    Ok((last + 1).max(floor + 1))
 }
 
 fn draw_live(session: u32, ts: Ts) -> Step<Ts>
@@ -341,6 +362,7 @@ pub(crate) fn draw(
 // ---- requests
 
 /// A request to prepare is refused, or its entry comes at a place.
+#[tactic(auto, using(crate::proofs::ByReading::with_added, crate::proofs::ByReading::with_none))]
 fn prepared(place: u64, session: u32, request: Request, refusal: Option<Refusal>) -> Step<u64>
     ensures { (is : List item.Item) → IsStep is result (requested_by place (trace_of is) session request (Prepared request) refusal) }
 {
@@ -361,6 +383,7 @@ fn alone_entry(request: Request) -> Entry
 }
 
 /// A request to commit is refused, or its entry comes at a place.
+#[tactic(auto, using(crate::proofs::ByReading::with_added, crate::proofs::ByReading::with_none))]
 fn committed(place: u64, session: u32, request: Request, refusal: Option<Refusal>) -> Step<u64>
     ensures { (is : List item.Item) → IsStep is result (requested_by place (trace_of is) session request (alone_entry request) refusal) }
 {
@@ -425,6 +448,7 @@ fn commits_by(reading: &Reading, items: &[Item], tx: Ts) -> bool
     reading.has_kept(tx) && !is_forgotten(items, tx) || reading.is_alone(tx)
 }
 
+#[tactic(auto, using(crate::proofs::ByReading::with_added, crate::proofs::ByReading::with_none))]
 fn decide_live(reading: &Reading, items: &[Item], tx: Ts, commit: bool, own: bool) -> Step<Verdict>
     ensures { IsStep items.now result (decide_live reading.now (trace_of items.now) tx commit own) }
 {
@@ -467,6 +491,7 @@ pub(crate) fn decide(
     decide_by(&reading, opening, items, session, tx, commit)
 }
 
+#[tactic(auto, using(crate::proofs::ByReading::with_added, crate::proofs::ByReading::with_none))]
 fn finish_by(reading: &Reading, opening: &Opening, tx: Ts, commit: bool) -> Step<Option<u64>>
     ensures { (is : List item.Item) → IsStep is result (finish_by (base_of opening.now) reading.now (trace_of is) tx commit) }
 {
@@ -491,12 +516,14 @@ pub(crate) fn finish(
 }
 
 /// To one that has a decision forgotten.
+#[tactic(auto, using(crate::proofs::ByReading::with_added, crate::proofs::ByReading::with_none))]
 pub(crate) fn forget(tx: Ts) -> Step<()>
     ensures { (is : List item.Item) → IsStep is result (plain.forget (trace_of is) tx) }
 {
     marked(Ok(()), Mark::Forgot { tx })
 }
 
+#[tactic(auto, using(crate::proofs::ByReading::with_added, crate::proofs::ByReading::with_none))]
 fn ask_by(reading: &Reading, opening: &Opening, items: &[Item], tx: Ts) -> Step<Asked>
     ensures { IsStep items.now result (ask_by (base_of opening.now) reading.now (trace_of items.now) tx) }
 {
