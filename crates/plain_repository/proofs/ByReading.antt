@@ -66,7 +66,7 @@ module _ (b : Base) (s : ℕ) (T : List Item) (R : Reading) (h : Tells b s T R) 
   decides t c = rw (h.session_is, h.state_is) refl
 
   pub finishes : (t : Ts) (c : Bool) → plain.finish b T t c ≡ finish_by b R T t c
-  finishes t c = rw (h.state_is, sym h.count_is) refl
+  finishes t c = rw (h.count_is, h.state_is) refl
 
   pub asks : (t : Ts) → plain.ask b T t ≡ ask_by b R T t
   asks t = rw h.state_is refl

@@ -109,6 +109,7 @@ pub(crate) fn connect(
     Ok(marked(Ok(welcome), Mark::Connected { session, client }))
 }
 
+#[tactic(auto, using(crate::proofs::ByReading::with_added, crate::proofs::ByReading::with_none))]
 fn fetch_by(reading: &Reading, session: u32, page: u32, upto: u64) -> Step<()>
     ensures { (is : List item.Item) → IsStep is result (fetch_by reading.now (trace_of is) session page upto) }
 {
@@ -517,9 +518,10 @@ pub(crate) fn finish(
 
 /// To one that has a decision forgotten.
 #[tactic(auto, using(crate::proofs::ByReading::with_added, crate::proofs::ByReading::with_none))]
-pub(crate) fn forget(tx: Ts) -> Step<()>
-    ensures { (is : List item.Item) → IsStep is result (plain.forget (trace_of is) tx) }
+pub(crate) fn forget(items: &[Item], tx: Ts) -> Step<()>
+    ensures { IsStep items.now result (plain.forget (trace_of items.now) tx) }
 {
+    let _ = items;
     marked(Ok(()), Mark::Forgot { tx })
 }
 

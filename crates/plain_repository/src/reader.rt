@@ -123,8 +123,8 @@ impl Reads for Reader {
         answers::finish(self.alloc, self.opening(repo)?, items, tx, commit)
     }
 
-    fn forget(&self, _repo: u8, _items: &[Item], tx: Ts) -> Result<Step<()>, NoMemory> {
-        Ok(answers::forget(tx))
+    fn forget(&self, _repo: u8, items: &[Item], tx: Ts) -> Result<Step<()>, NoMemory> {
+        Ok(answers::forget(items, tx))
     }
 
     fn ask(&self, repo: u8, items: &[Item], tx: Ts) -> Result<Step<Asked>, NoMemory> {

@@ -2,4 +2,4 @@ use Rattle.plain_repository.proofs.ByReading.{with_added}
 use Rattle.plain_repository.proofs.answers.refuse.Goals as goal
 
 pub returns : goal.returns
-returns c = λ is. with_added is c.marked.result _ _ c.marked.ensures.answer c.marked.ensures.trace
+returns g c = λ is. with_added is c.marked.result _ _ c.marked.ensures.answer c.marked.ensures.trace

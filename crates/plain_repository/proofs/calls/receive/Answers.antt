@@ -1,3 +1,4 @@
+use Rattle.plain_repository.specs.Sites.{trace_in}
 use Rattle.plain_repository.proofs.Taking.{if_up}
 use Rattle.plain_repository.proofs.Working.{receives}
 use Rattle.std.proofs.Common.{sym}
