@@ -38,9 +38,9 @@ module _ (b : Base) (s : ℕ) (T : List Item) (R : Reading) (h : Tells b s T R) 
 
   pub connects : (c n : ℕ) → n ≡ R.last_session + 1 → n < 2 ^ 32 → plain.connect b T c ≡ (Ok (welcome_by R n), T ++ M (the.Connected n c) ∷ [])
   connects c n e lt =
-    let f : n ≡ last_session T + 1 = e ∙ ap (λ (k : ℕ). k + 1) h.last_is in
-    let t : nat_lt n (2 ^ 32) ≡ true = grind (arith, nat_tests) in
-    rw (← f, t, h.count_is, h.state_is, h.window_is) refl
+      let f : n ≡ last_session T + 1 = e ∙ ap (λ (k : ℕ). k + 1) h.last_is in
+      let t : nat_lt n (2 ^ 32) ≡ true = grind (arith, nat_tests) in
+      rw (← f, t, h.count_is, h.state_is, h.window_is) refl
 
   pub draws : (floor : ℕ) → plain.draw b T s 0 floor ≡ draw_by b R T s floor
   draws floor = rw (h.session_is, h.drawn_is, h.state_is) refl

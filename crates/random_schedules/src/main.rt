@@ -12,9 +12,10 @@ mod world;
 
 use crate::deeds::{Deed, ROOTS, Values, draw_deed};
 use crate::draws::Draws;
-use crate::judging::{are_atomic, are_serial, commits_of, is_told};
+use crate::judging::{Commit, are_atomic, are_serial, commits_of, is_told};
 use crate::playing::Counts;
-use crate::world::{REPOS, World, begin};
+use crate::world::{World, begin};
+use plain_repository::Site;
 use serial_model::ItemOutcome;
 use std::alloc::Global;
 use std::process::ExitCode;
@@ -46,12 +47,7 @@ fn draw_deeds(alloc: Global, draws: &mut Draws) -> Result<Vec<Vec<Deed>>, NoMemo
 }
 
 /// Counts how a client's items ended. It answers whether all of them are told right.
-fn count_outcomes(
-    world: &World,
-    client: u8,
-    commits: &[judging::Commit],
-    counts: &mut Counts,
-) -> bool {
+fn count_outcomes(world: &World, client: u8, commits: &[Commit], counts: &mut Counts) -> bool {
     let Some(front) = world.clients.get(usize::from(client)) else {
         return false;
     };
@@ -67,6 +63,40 @@ fn count_outcomes(
     right
 }
 
+/// Whether each client's items are told right.
+fn are_told(world: &World, commits: &[Commit], counts: &mut Counts) -> bool {
+    let mut right = true;
+    for client in 0..CLIENTS {
+        right = count_outcomes(world, client, commits, counts) && right;
+    }
+    right
+}
+
+/// Whether no participant was told another verdict than the coordinator's.
+fn are_all_atomic(sites: &[Site], commits: &[Commit]) -> bool {
+    for site in sites {
+        if !are_atomic(commits, site.items.as_slice()) {
+            return false;
+        }
+    }
+    true
+}
+
+/// Whether all is right behind a schedule with these commits.
+fn judge_commits(
+    alloc: Global,
+    world: &World,
+    deeds: &[Vec<Deed>],
+    commits: &[Commit],
+    counts: &mut Counts,
+) -> Result<bool, NoMemory> {
+    let told = are_told(world, commits, counts);
+    let atomic = are_all_atomic(world.port.sites.as_slice(), commits);
+    let mut values: Values = [0; ROOTS];
+    let serial = are_serial(alloc, &mut values, deeds, commits)?;
+    Ok(told && atomic && serial)
+}
+
 /// Whether all is right behind a schedule.
 fn judge(
     alloc: Global,
@@ -75,37 +105,37 @@ fn judge(
     counts: &mut Counts,
 ) -> Result<bool, NoMemory> {
     let commits = commits_of(alloc, world.port.sites.as_slice())?;
-    let mut values: Values = [0; ROOTS];
-    let mut right = are_serial(alloc, &mut values, deeds, commits.as_slice())?;
-    for site in world.port.sites.as_slice() {
-        right = right && are_atomic(commits.as_slice(), site.items.as_slice());
+    judge_commits(alloc, world, deeds, commits.as_slice(), counts)
+}
+
+/// Plays a schedule to its end. It answers whether the clients have come to theirs.
+fn run(world: &mut World, draws: &mut Draws, counts: &mut Counts) -> Result<bool, NoMemory> {
+    for _ in 0..EVENTS {
+        world.happen(draws, counts)?;
     }
-    for client in 0..CLIENTS {
-        right = count_outcomes(world, client, commits.as_slice(), counts) && right;
-    }
-    Ok(right)
+    world.count_pending(counts);
+    world.mend()?;
+    world.finish_all(CLIENTS)
 }
 
 /// Plays a schedule. It answers whether all is right behind it.
+fn play_in(
+    alloc: Global,
+    world: &mut World,
+    draws: &mut Draws,
+    deeds: &[Vec<Deed>],
+    counts: &mut Counts,
+) -> Result<bool, NoMemory> {
+    let ended = run(world, draws, counts)?;
+    let right = judge(alloc, world, deeds, counts)?;
+    Ok(ended && right)
+}
+
 fn play(alloc: Global, seed: u64, counts: &mut Counts) -> Result<bool, NoMemory> {
     let mut draws = Draws::new(seed);
     let deeds = draw_deeds(alloc, &mut draws)?;
     let mut world = begin(alloc, deeds.as_slice())?;
-    for _ in 0..EVENTS {
-        world.happen(&mut draws, counts)?;
-    }
-    for repo in 0..REPOS {
-        if world.is_pending(repo) {
-            counts.stopped = counts.stopped.wrapping_add(1);
-        }
-    }
-    world.mend()?;
-    let mut ended = true;
-    for client in 0..CLIENTS {
-        ended = world.finish(client)? && ended;
-    }
-    let right = judge(alloc, &world, deeds.as_slice(), counts)?;
-    Ok(ended && right)
+    play_in(alloc, &mut world, &mut draws, deeds.as_slice(), counts)
 }
 
 fn play_all(alloc: Global) -> Counts {

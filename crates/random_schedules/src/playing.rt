@@ -127,4 +127,22 @@ impl World {
         }
         Ok(false)
     }
+
+    /// All clients take steps and messages until their items have ended. It answers whether they have.
+    pub(crate) fn finish_all(&mut self, clients: u8) -> Result<bool, NoMemory> {
+        let mut ended = true;
+        for client in 0..clients {
+            ended = self.finish(client)? && ended;
+        }
+        Ok(ended)
+    }
+
+    /// Counts the entries that were being written as their repositories stopped.
+    pub(crate) fn count_pending(&self, counts: &mut Counts) {
+        for repo in 0..REPOS {
+            if self.is_pending(repo) {
+                counts.stopped = counts.stopped.wrapping_add(1);
+            }
+        }
+    }
 }

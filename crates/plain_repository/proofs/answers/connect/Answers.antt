@@ -10,5 +10,5 @@ pub returns : goal.returns
 returns c = record {
   ok = subst IsAnswer (sym c.marked.ensures.answer) tt;
   step_is = is_step _ _ _ _ (connects (base_of c.args.opening.now) 0 (trace_of c.args.items.now) c.in_ok-reading.reading c.in_ok-reading.ensures c.args.client c.in_ok-session.session c.in_ok-session.ensures (omega arith))
-    (with_added _ _ _ _ (c.marked.ensures.answer ∙ ap Ok c.in_ok-welcome.ensures) c.marked.ensures.trace);
+      (with_added _ _ _ _ (c.marked.ensures.answer ∙ ap Ok c.in_ok-welcome.ensures) c.marked.ensures.trace);
 }
