@@ -1,12 +1,11 @@
 -- A plain repository's steps by what was read of its trace are its own.
-use Rattle.commit_log.specs.declared.entry.Entry.TheVariants.{Prepared}
 use Rattle.commit_log.specs.declared.entry.Entry.{Entry}
 use Rattle.commit_log.specs.declared.request.Request.{Request}
 use Rattle.local_history.specs.History.{Base, Known, is_open}
 use Rattle.message_outbox.specs.declared.message.Message.{Message}
 use Rattle.plain_repository.specs.Reading.{IsStep, added}
 use Rattle.plain_repository.specs.ByReading.{ask_by, decide_by, draw_by, fetch_by, finish_by, gone, grant_by, prepared_of, receive_by, requested_by, welcome_by}
-use Rattle.port.specs.Works.{alone_entry, is_prepared_by}
+use Rattle.port.specs.Works.{is_prepared_by}
 use Rattle.port_views.specs.Plain as plain
 use Rattle.message_outbox.specs.Messages as messages
 use Rattle.session_outbox.specs.Calls.{drawn_time, last_session}
@@ -21,10 +20,10 @@ use Rattle.std.proofs.lemmas.Bool.Decides.{nat_tests}
 use Rattle.std.specs.Option.{option_and_then}
 use Rattle.std.specs.Prelude.{Bool, Err, List, None, Ok, Option, Result, Some, [], cond, false, length, max, nat_eq, nat_lt, true, ℕ, ◌&&◌, ◌+◌, ◌++◌, ◌<◌, ◌^◌, ◌∷◌}
 use Rattle.thor_value.specs.declared.names.Ts.{Ts}
-use Rattle.trace_reading.proofs.Parts.{judges, tells}
+use Rattle.trace_reading.proofs.Parts.{judges}
 use Rattle.trace_reading.specs.Against.{against, first_sent}
 use Rattle.trace_reading.specs.Items.{trace_of}
-use Rattle.trace_reading.specs.Reading.{Reading, Tells, reading}
+use Rattle.trace_reading.specs.Reading.{Reading, Tells}
 use Rattle.trace_reading.specs.Settling.{open_of}
 use Rattle.trace_reading.specs.declared.item.Item as item
 use Rattle.validation_window.specs.declared.refusal.Refusal.{Refusal}

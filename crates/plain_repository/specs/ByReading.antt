@@ -1,6 +1,6 @@
 -- A plain repository's steps, by what was read of its trace: each is the plain repository's own where what was read tells what
 -- the definitions say of the trace.
-use Rattle.commit_log.specs.declared.entry.Entry.TheVariants.{Decided, Finished, Prepared}
+use Rattle.commit_log.specs.declared.entry.Entry.TheVariants.{Decided, Finished}
 use Rattle.commit_log.specs.declared.entry.Entry.{Entry}
 use Rattle.commit_log.specs.declared.request.Request.{Request}
 use Rattle.local_history.specs.History.{Base, is_undecided, known_in}
@@ -8,8 +8,8 @@ use Rattle.message_outbox.specs.declared.answers.Asked as answer
 use Rattle.message_outbox.specs.declared.answers.Verdict.{Verdict}
 use Rattle.message_outbox.specs.declared.answers.Welcome.{Welcome}
 use Rattle.message_outbox.specs.declared.message.Message.{Message}
-use Rattle.port.specs.Works.{alone_entry, is_prepared_by}
-use Rattle.port_views.specs.Plain.{Stepped, received, refuse, requested, told}
+use Rattle.port.specs.Works.{is_prepared_by}
+use Rattle.port_views.specs.Plain.{Stepped, received, refuse, told}
 use Rattle.refusal_reasons.specs.declared.reason.Reason.TheVariants as reasons
 use Rattle.session_outbox.specs.Calls.{Settled, Undecided, drawn_time, is_forgotten}
 use Rattle.session_outbox.specs.Exact.{most_pages}
@@ -19,11 +19,11 @@ use Rattle.session_outbox.specs.Trace.{E, Item, M}
 use Rattle.session_outbox.specs.declared.mark.Mark.TheVariants as the
 use Rattle.std.specs.List.{list_any}
 use Rattle.std.specs.Option.{option_and_then}
-use Rattle.std.specs.Prelude.{Bool, Err, List, None, Ok, Option, Some, [], cond, false, length, nat_eq, nat_lt, not, ℕ, ◌&&◌, ◌+◌, ◌++◌, ◌^◌, ◌||◌, ◌∷◌}
+use Rattle.std.specs.Prelude.{Bool, Err, List, None, Ok, Option, Some, [], cond, false, length, nat_eq, nat_lt, not, ℕ, ◌&&◌, ◌++◌, ◌^◌, ◌||◌, ◌∷◌}
 use Rattle.thor_value.specs.FiniteMap.{has, values}
 use Rattle.thor_value.specs.Names.{same_ts}
 use Rattle.thor_value.specs.declared.names.Ts.{Ts}
-use Rattle.trace_reading.specs.Against.{against, first_sent}
+use Rattle.trace_reading.specs.Against.{first_sent}
 use Rattle.trace_reading.specs.Opening.{base_of}
 use Rattle.trace_reading.specs.Reading.{Reading}
 use Rattle.trace_reading.specs.declared.opening.Opening.{Opening}
