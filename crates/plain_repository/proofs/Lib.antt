@@ -1,4 +1,5 @@
 pub mod Beginning
+pub mod ByReading
 pub mod Lending
 pub mod Taking
 pub mod Working

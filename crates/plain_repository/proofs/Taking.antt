@@ -1,8 +1,9 @@
 -- What becomes of a step that was read off a trace.
 use Rattle.commit_log.specs.declared.entry.Entry.{Entry}
-use Rattle.plain_repository.specs.Reading.{IsStep, added, read, trace_of}
+use Rattle.plain_repository.specs.Reading.{IsStep, added}
+use Rattle.trace_reading.specs.Items.{read, trace_of}
 use Rattle.plain_repository.specs.Sites.{IfDown, IsPut, IsTaken, is_down, trace_in, unsettled_of}
-use Rattle.plain_repository.specs.declared.item.Item as item
+use Rattle.trace_reading.specs.declared.item.Item as item
 use Rattle.plain_repository.specs.declared.site.Left.TheVariants as left
 use Rattle.plain_repository.specs.declared.site.Left.{Left}
 use Rattle.plain_repository.specs.declared.site.Site.{Site}

@@ -10,7 +10,7 @@ use Rattle.message_outbox.specs.declared.message.Message.{Message}
 use Rattle.plain_repository.proofs.Taking.{put_works, taken_works}
 use Rattle.plain_repository.specs.Reading.{IsAnswer, IsOkStep, IsStep}
 use Rattle.plain_repository.specs.Sites.{IsPut, IsTaken, trace_in, unsettled_of}
-use Rattle.plain_repository.specs.declared.item.Item as item
+use Rattle.trace_reading.specs.declared.item.Item as item
 use Rattle.plain_repository.specs.declared.site.Site.{Site}
 use Rattle.port.specs.Views.{Calm, MayCome, Unsettled}
 use Rattle.port.specs.Works.{AskWork, CommitWork, ConnectWork, DecideWork, DrawWork, FetchWork, FinishWork, ForgetWork, GrantWork, MayHaveLeft, PrepareWork, ReceiveWork, alone_entry, commits_by, is_prepared_by}

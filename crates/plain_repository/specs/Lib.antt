@@ -1,2 +1,3 @@
+pub mod ByReading
 pub mod Reading
 pub mod Sites

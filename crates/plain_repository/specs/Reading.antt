@@ -1,18 +1,10 @@
 -- What is read off a plain repository's list of items (this project's).
-use Rattle.plain_repository.specs.declared.item.Item.TheVariants as items
-use Rattle.plain_repository.specs.declared.item.Item as item
+use Rattle.trace_reading.specs.Items.{read, trace_of}
+use Rattle.trace_reading.specs.declared.item.Item as item
 use Rattle.port_views.specs.Plain.{Stepped}
-use Rattle.session_outbox.specs.Trace.{E, Item, M}
-use Rattle.std.specs.Prelude.{List, None, Ok, Err, Option, Result, Some, [], map, ◌++◌, ◌∷◌, ◌≡◌}
+use Rattle.session_outbox.specs.Trace.{Item}
+use Rattle.std.specs.Prelude.{List, None, Ok, Err, Option, Result, Some, [], ◌++◌, ◌∷◌, ◌≡◌}
 use Rattle.validation_window.specs.declared.refusal.Refusal.{Refusal}
-
-abbrev pub read : item.Item → Item
-read (items.Entry e) = E e
-read (items.Mark m) = M m
-
--- the trace that the items are
-abbrev pub trace_of : List item.Item → List Item
-trace_of is = map read is
 
 abbrev pub added : Option item.Item → List Item
 added None = []

@@ -1,9 +1,10 @@
 -- A plain repository that may be out of order, what calls make of it, and several of them as a port (this project's).
 use Rattle.commit_log.specs.declared.entry.Entry.{Entry}
 use Rattle.local_history.specs.History.{Base, is_life}
-use Rattle.plain_repository.specs.Reading.{added, trace_of}
-use Rattle.plain_repository.specs.declared.item.Item as item
-use Rattle.plain_repository.specs.declared.item.Item.TheVariants as items
+use Rattle.plain_repository.specs.Reading.{added}
+use Rattle.trace_reading.specs.Items.{trace_of}
+use Rattle.trace_reading.specs.declared.item.Item as item
+use Rattle.trace_reading.specs.declared.item.Item.TheVariants as items
 use Rattle.plain_repository.specs.declared.site.Left.TheVariants as left
 use Rattle.plain_repository.specs.declared.site.Left.{Left}
 use Rattle.plain_repository.specs.declared.site.Site.{Site}

@@ -18,7 +18,7 @@ pub(crate) fn connect<R: Reads>(
     repo: u8,
     of: u8,
 ) -> Result<Welcome, Refusal>
-    ensures { SiteDoes client repo (R.bases repo) site.old site.new result (ConnectWork of result) }
+    ensures { SiteDoes client repo (R.bases reader.now repo) site.old site.new result (ConnectWork of result) }
 {
     if site.is_down() {
         return Err(Refusal::Down { repo: repo });
@@ -36,7 +36,7 @@ pub(crate) fn fetch<R: Reads>(
     page: u32,
     upto: u64,
 ) -> Result<(), Refusal>
-    ensures { SiteDoes client at.repo (R.bases at.repo) site.old site.new result (FetchWork at.session page upto result) }
+    ensures { SiteDoes client at.repo (R.bases reader.now at.repo) site.old site.new result (FetchWork at.session page upto result) }
 {
     if site.is_down() {
         return Err(Refusal::Down { repo: at.repo });
@@ -52,7 +52,7 @@ pub(crate) fn grant<R: Reads>(
     client: u8,
     at: At,
 ) -> Result<(), Refusal>
-    ensures { SiteDoes client at.repo (R.bases at.repo) site.old site.new result (GrantWork at.session result) }
+    ensures { SiteDoes client at.repo (R.bases reader.now at.repo) site.old site.new result (GrantWork at.session result) }
 {
     if site.is_down() {
         return Err(Refusal::Down { repo: at.repo });
@@ -68,7 +68,7 @@ pub(crate) fn receive<R: Reads>(
     client: u8,
     at: At,
 ) -> Result<Option<Message>, Refusal>
-    ensures { SiteDoes client at.repo (R.bases at.repo) site.old site.new result (ReceiveWork at.session result) }
+    ensures { SiteDoes client at.repo (R.bases reader.now at.repo) site.old site.new result (ReceiveWork at.session result) }
 {
     if site.is_down() {
         return Err(Refusal::Down { repo: at.repo });
@@ -85,7 +85,7 @@ pub(crate) fn draw<R: Reads>(
     at: At,
     floor: u64,
 ) -> Result<Ts, Refusal>
-    ensures { SiteDoes client at.repo (R.bases at.repo) site.old site.new result (DrawWork at.session floor result) }
+    ensures { SiteDoes client at.repo (R.bases reader.now at.repo) site.old site.new result (DrawWork at.session floor result) }
 {
     if site.is_down() {
         return Err(Refusal::Down { repo: at.repo });
@@ -102,7 +102,7 @@ pub(crate) fn prepare<R: Reads>(
     at: At,
     request: Request,
 ) -> Result<u64, Refusal>
-    ensures { SiteDoes client at.repo (R.bases at.repo) site.old site.new result (PrepareWork at.session request result) }
+    ensures { SiteDoes client at.repo (R.bases reader.now at.repo) site.old site.new result (PrepareWork at.session request result) }
 {
     if site.is_down() {
         return Err(Refusal::Down { repo: at.repo });
@@ -122,7 +122,7 @@ pub(crate) fn commit_one<R: Reads>(
     at: At,
     request: Request,
 ) -> Result<u64, Refusal>
-    ensures { SiteDoes client at.repo (R.bases at.repo) site.old site.new result (CommitWork at.session request result) }
+    ensures { SiteDoes client at.repo (R.bases reader.now at.repo) site.old site.new result (CommitWork at.session request result) }
 {
     if site.is_down() {
         return Err(Refusal::Down { repo: at.repo });
@@ -143,7 +143,7 @@ pub(crate) fn decide<R: Reads>(
     tx: Ts,
     commit: bool,
 ) -> Result<Verdict, Refusal>
-    ensures { SiteDoes client at.repo (R.bases at.repo) site.old site.new result (DecideWork at.session tx commit result) }
+    ensures { SiteDoes client at.repo (R.bases reader.now at.repo) site.old site.new result (DecideWork at.session tx commit result) }
 {
     if site.is_down() {
         return Err(Refusal::Down { repo: at.repo });
@@ -160,7 +160,7 @@ pub(crate) fn finish<R: Reads>(
     repo: u8,
     verdict: &Verdict,
 ) -> Result<Option<u64>, Refusal>
-    ensures { SiteDoes client repo (R.bases repo) site.old site.new result (FinishWork verdict.now.tx verdict.now.commit result) }
+    ensures { SiteDoes client repo (R.bases reader.now repo) site.old site.new result (FinishWork verdict.now.tx verdict.now.commit result) }
 {
     if site.is_down() {
         return Err(Refusal::Down { repo: repo });
@@ -177,7 +177,7 @@ pub(crate) fn forget<R: Reads>(
     repo: u8,
     tx: Ts,
 ) -> Result<(), Refusal>
-    ensures { SiteDoes client repo (R.bases repo) site.old site.new result (ForgetWork tx result) }
+    ensures { SiteDoes client repo (R.bases reader.now repo) site.old site.new result (ForgetWork tx result) }
 {
     if site.is_down() {
         return Err(Refusal::Down { repo: repo });
@@ -194,7 +194,7 @@ pub(crate) fn ask<R: Reads>(
     repo: u8,
     tx: Ts,
 ) -> Result<Asked, Refusal>
-    ensures { SiteDoes client repo (R.bases repo) site.old site.new result (AskWork tx result) }
+    ensures { SiteDoes client repo (R.bases reader.now repo) site.old site.new result (AskWork tx result) }
 {
     if site.is_down() {
         return Err(Refusal::Down { repo: repo });

@@ -2,14 +2,15 @@
 //! is read off that. They may be stopped in a call, and restarted with the entry that was being written or without it.
 #![tactic(auto)]
 
+mod answers;
 mod calls;
-mod item;
 mod plain_port;
+mod reader;
 mod reading;
 mod restarting;
 mod site;
 
-pub use item::Item;
 pub use plain_port::PlainPort;
+pub use reader::Reader;
 pub use reading::{Reads, Step};
 pub use site::{Left, Site};

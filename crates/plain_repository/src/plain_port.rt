@@ -8,6 +8,7 @@ use thor_value::Ts;
 use validation_window::Refusal;
 
 /// Plain repositories, as one client calls them while nobody else acts.
+#[derive(Drop)]
 pub struct PlainPort<R: Reads> {
     /// What reads their answers.
     pub reader: R,
@@ -23,7 +24,7 @@ impl<R: Reads> Port for PlainPort<R> {
 
     ghost shows = { true };
 
-    ghost view = { λ p. view_of R.bases p.client p.sites.items };
+    ghost view = { λ p. view_of (R.bases p.reader) p.client p.sites.items };
 
     fn connect(&mut self, repo: u8, client: u8) -> Result<Welcome, Refusal> {
         match self.sites.get_mut(usize::from(repo)) {

@@ -6,19 +6,19 @@ ghost use Rattle.plain_repository.specs.declared.site.Left.TheVariants as left;
 ghost use Rattle.port.specs.Growing.{Grew};
 ghost use Rattle.std.specs.Prelude.{ℕ, ◌≡◌};
 
-use crate::item::Item;
 use crate::reading::Reads;
 use crate::site::{Left, Site};
 use commit_log::Entry;
 use std::mem;
 use thor_value::NoMemory;
+use trace_reading::Item;
 
 impl Site {
     /// Restarts it: the entry that was being written comes, where that is wanted, and a life begins. What comes is growth
     /// that each client may meet. After `NoMemory` it is down still, and the entry may have come.
     pub fn restart<R: Reads>(&mut self, reader: &R, repo: u8, takes: bool) -> Result<(), NoMemory>
-        ensures { (c : ℕ) → MayRecover (R.bases repo) c (trace_in self.old) self.old.left →
-            Grew (R.bases repo) c (unsettled_of c self.old.left) (trace_in self.old) (unsettled_of c self.new.left) (trace_in self.new) }
+        ensures { (c : ℕ) → MayRecover (R.bases reader.now repo) c (trace_in self.old) self.old.left →
+            Grew (R.bases reader.now repo) c (unsettled_of c self.old.left) (trace_in self.old) (unsettled_of c self.new.left) (trace_in self.new) }
     {
         self.recover_where(takes)?;
         self.begin_life(reader, repo)

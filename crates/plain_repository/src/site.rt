@@ -1,15 +1,15 @@
 //! One plain repository, and what becomes of a step that was read off its trace.
 
 ghost use Rattle.plain_repository.specs.Sites.{IsPut, IsTaken, is_down};
-ghost use Rattle.plain_repository.specs.declared.item.Item.TheVariants as items;
+ghost use Rattle.trace_reading.specs.declared.item.Item.TheVariants as items;
 ghost use Rattle.plain_repository.specs.declared.site.Left.TheVariants as left;
 ghost use Rattle.std.specs.Prelude.{Err, Ok, Some, false, ℕ, ◌≡◌};
 ghost use Rattle.validation_window.specs.declared.refusal.Refusal.TheVariants as refused;
 
-use crate::item::Item;
 use crate::reading::Step;
 use commit_log::Entry;
 use thor_value::NoMemory;
+use trace_reading::Item;
 use validation_window::Refusal;
 
 /// Whether a repository is up, and what else was left.

@@ -1,8 +1,8 @@
 use Rattle.plain_repository.proofs.Beginning.{came_grew}
 use Rattle.plain_repository.proofs.Taking.{one_more}
-use Rattle.plain_repository.specs.Reading.{trace_of}
+use Rattle.trace_reading.specs.Items.{trace_of}
 use Rattle.plain_repository.specs.Sites.{trace_in, unsettled_of}
-use Rattle.plain_repository.specs.declared.item.Item.TheVariants as items
+use Rattle.trace_reading.specs.declared.item.Item.TheVariants as items
 use Rattle.plain_repository.specs.declared.site.Left.TheVariants as left
 use Rattle.plain_repository.specs.declared.site.Site.{Site}
 use Rattle.port.specs.Growing.{Grew}

@@ -1,0 +1,10 @@
+pub mod Against
+pub mod Fates
+pub mod Items
+pub mod Notices
+pub mod Opening
+pub mod Paging
+pub mod Reading
+pub mod Settling
+pub mod Standings
+pub mod Tables
