@@ -5,7 +5,7 @@ use Rattle.commit_log.specs.declared.entry.Entry.{Entry}
 use Rattle.local_history.proofs.Growth.{length-state}
 use Rattle.local_history.specs.History.{Base, known_by, state, writers}
 use Rattle.local_history.specs.Sound.{sound}
-use Rattle.port_views.specs.Views.{Calm}
+use Rattle.port.specs.Views.{Calm}
 use Rattle.session_outbox.proofs.Sessions.{session-end}
 use Rattle.session_outbox.proofs.Taken.{after-mark}
 use Rattle.session_outbox.proofs.Told.{writers-below}

@@ -13,7 +13,7 @@ use Rattle.local_history.specs.History.{Aborted, Base, Committed, Fate, Known, O
 use Rattle.local_history.specs.Laws.{Asks}
 use Rattle.local_history.specs.Requests.{has_written, written}
 use Rattle.local_history.specs.Sound.{sound}
-use Rattle.port_views.specs.Views.{Calm}
+use Rattle.port.specs.Views.{Calm}
 use Rattle.session_outbox.proofs.Kept.{Later, move-later, step-kept}
 use Rattle.session_outbox.proofs.Own.{own-right}
 use Rattle.session_outbox.proofs.Taken.{keeps-pages}

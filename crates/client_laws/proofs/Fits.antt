@@ -4,7 +4,7 @@ use Rattle.client_laws.specs.Examples.{copy_of_x, keeping, no_copy}
 use Rattle.client_laws.specs.Fitting.{Copies, FitsAt, KeepsUp, StaysRight}
 use Rattle.local_history.specs.Examples.{box, home, setting_x, x}
 use Rattle.local_history.specs.History.{objects_at, writers}
-use Rattle.port_views.specs.Views.{Calm}
+use Rattle.port.specs.Views.{Calm}
 use Rattle.session_outbox.specs.Current.{IsCurrent, OthersSince, RightAt}
 use Rattle.session_outbox.specs.ExactExamples.{fetched, nothing_committed}
 use Rattle.session_outbox.specs.Session.{Invalid, Session, session, session_lives, upto_of}

@@ -9,8 +9,8 @@ use Rattle.local_history.proofs.Places.{stays}
 use Rattle.local_history.specs.History.{Aborted, Base, Committed, Fate, IsCommitted, Known, Open, State, state}
 use Rattle.local_history.specs.Laws.{FateStays, Stays}
 use Rattle.local_history.specs.Sound.{sound}
-use Rattle.port_views.specs.Growing.{Gains, GainsAll, Grew}
-use Rattle.port_views.specs.Views.{Calm, Came, MayCome, Unsettled}
+use Rattle.port.specs.Growing.{Gains, GainsAll, Grew, MayHalt}
+use Rattle.port.specs.Views.{Calm, Came, Halted, MayCome, Unsettled}
 use Rattle.session_outbox.proofs.Exactness.{exact-beginning, exact-owed, move-lives}
 use Rattle.session_outbox.proofs.Outlived.{none-aborted-back}
 use Rattle.session_outbox.proofs.Traces.{entries-append}
@@ -66,6 +66,9 @@ module _ (c : ℕ) (b : Base) (committed : Ts → Bool) (kept : Kept) where
   not_calm : (w : Unsettled) → w ≡ Came → w ≡ Calm → ⊥
   not_calm w e f = let g : Came ≡ Calm = sym e ∙ f in cc
 
+  still_halted : (w : Unsettled) → w ≡ Halted → w ≡ Calm → ⊥
+  still_halted w e f = let g : Halted ≡ Calm = sym e ∙ f in cc
+
   -- an entry behind which nothing is said of the client
   grown_entry : (u w : Unsettled) (T : List Item) (e : Entry) (h : FitsAt c b u T committed kept) → (w ≡ Calm → session_lives (move b kept.session (state b (entries T)) (E e) h.v) ≡ true → ⊥) → FitsAt c b w (T ++ E e ∷ []) committed kept
   grown_entry u w T e h f = record {
@@ -93,10 +96,27 @@ module _ (c : ℕ) (b : Base) (committed : Ts → Bool) (kept : Kept) where
   grown_one Came w T (E (Decided t d)) g k sd a h = absurd g
   grown_one Came w T (E (Finished t d)) g k sd a h = absurd g
   grown_one Came w T (E (Upgraded q)) g k sd a h = absurd g
+  grown_one Halted w T (M m) g k sd a h = absurd g
+  grown_one Halted w T (E (Life n)) g k sd a h = grown_entry Halted w T (Life n) h (λ _ l. dead kept.session (state b (entries T)) n h.v l)
+  grown_one Halted w T (E (One q)) g k sd a h = grown_entry Halted w T (One q) h (λ z l. still_halted w g.1 z)
+  grown_one Halted w T (E (Prepared q)) g k sd a h = grown_entry Halted w T (Prepared q) h (λ z l. still_halted w g.1 z)
+  grown_one Halted w T (E (Decided t d)) g k sd a h = grown_entry Halted w T (Decided t d) h (λ z l. still_halted w g.1 z)
+  grown_one Halted w T (E (Finished t d)) g k sd a h = grown_entry Halted w T (Finished t d) h (λ z l. still_halted w g.1 z)
+  grown_one Halted w T (E (Upgraded q)) g k sd a h = grown_entry Halted w T (Upgraded q) h (λ z l. still_halted w g.1 z)
+
+  -- where nothing comes another's call may have stopped the repository
+  halting : (u w : Unsettled) (T : List Item) → MayHalt u w → FitsAt c b u T committed kept → FitsAt c b w T committed kept
+  halting Calm Calm T m h = h
+  halting Calm (MayCome e) T m h = absurd m
+  halting Calm Came T m h = absurd m
+  halting Calm Halted T m h = record { v = h.v; there = h.there; own = h.own; keeps = λ f g. cc }
+  halting (MayCome e) w T m h = subst (λ (x : Unsettled). FitsAt c b x T committed kept) (sym m) h
+  halting Came w T m h = subst (λ (x : Unsettled). FitsAt c b x T committed kept) (sym m) h
+  halting Halted w T m h = subst (λ (x : Unsettled). FitsAt c b x T committed kept) (sym m) h
 
   grown_all : (u w : Unsettled) (T is : List Item) → GainsAll b c u T is w → exact b (T ++ is) → sound b (entries (T ++ is)) → Agrees b (entries (T ++ is)) kept.session committed
       → FitsAt c b u T committed kept → FitsAt c b w (T ++ is) committed kept
-  grown_all u w T [] g k sd a h = subst (λ (S : List Item). FitsAt c b w S committed kept) (sym (append-nil T)) (subst (λ (x : Unsettled). FitsAt c b x T committed kept) (sym g) h)
+  grown_all u w T [] g k sd a h = subst (λ (S : List Item). FitsAt c b w S committed kept) (sym (append-nil T)) (halting u w T g h)
   grown_all u w T (i ∷ is) g k sd a h =
       let U : List Item = T ++ i ∷ [] in
       let again : U ++ is ≡ T ++ (i ∷ is) = append_assoc T (i ∷ []) is in

@@ -15,9 +15,9 @@ use Rattle.local_history.specs.History.{Base, objects_at}
 use Rattle.local_history.specs.Sound.{sound}
 use Rattle.message_outbox.specs.declared.message.Message.TheVariants.{Grant, Invalid, Page, Upgrade}
 use Rattle.message_outbox.specs.declared.message.Message.{Message}
-use Rattle.port_views.specs.Growing.{Grew}
-use Rattle.port_views.specs.Views as views
-use Rattle.session_laws.specs.Agreeing.{notice_of}
+use Rattle.port.specs.Growing.{Grew}
+use Rattle.port.specs.Views as views
+use Rattle.session_outbox.specs.Notices.{notice_of}
 use Rattle.session_outbox.specs.Exact.{exact}
 use Rattle.session_outbox.specs.Session.{bound, place_of}
 use Rattle.session_outbox.specs.Trace.{Item, entries}

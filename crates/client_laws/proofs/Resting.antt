@@ -4,7 +4,7 @@ use Rattle.commit_log.specs.declared.request.Request.{Request}
 use Rattle.local_history.specs.History.{Base, known_by, state}
 use Rattle.local_history.specs.Requests.{has_read}
 use Rattle.local_history.specs.Sound.{sound}
-use Rattle.port_views.specs.Views.{Calm}
+use Rattle.port.specs.Views.{Calm}
 use Rattle.session_outbox.proofs.Accepting.{found, right_copies}
 use Rattle.session_outbox.proofs.Copies.{current-cases}
 use Rattle.session_outbox.specs.Acceptance.{WasAccepted}

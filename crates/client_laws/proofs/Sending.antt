@@ -7,8 +7,8 @@ use Rattle.local_history.specs.Participants.{IsAlone, IsShared}
 use Rattle.local_history.specs.Requests.{is_upgrade}
 use Rattle.local_history.specs.Sound.{sound}
 use Rattle.port_views.specs.Conditions.{MaySend}
-use Rattle.port_views.specs.Views.{View}
-use Rattle.port_views.specs.Works.{alone_entry}
+use Rattle.port.specs.Views.{View}
+use Rattle.port.specs.Works.{alone_entry}
 use Rattle.session_outbox.proofs.Accepted.{one, prepared, upgraded}
 use Rattle.session_outbox.proofs.Exactness.{exact-end}
 use Rattle.session_outbox.proofs.Traces.{entries-append}

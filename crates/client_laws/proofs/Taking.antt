@@ -4,7 +4,7 @@ use Rattle.client_laws.specs.Fitting.{Copies, CopiesFit, FitsAt, KeepsUp, Kept, 
 use Rattle.commit_log.specs.declared.entry.Entry.{Entry}
 use Rattle.local_history.specs.History.{Base, Known, objects_at, state}
 use Rattle.local_history.specs.Sound.{sound}
-use Rattle.port_views.specs.Views.{Calm}
+use Rattle.port.specs.Views.{Calm}
 use Rattle.session_outbox.proofs.Sessions.{session-end}
 use Rattle.session_outbox.proofs.Taken.{Took, after-mark, page-taken, step-taken, took}
 use Rattle.session_outbox.proofs.Undecided.{current-taken}

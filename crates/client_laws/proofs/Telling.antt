@@ -13,8 +13,8 @@ use Rattle.local_history.proofs.Steps.{by_settling}
 use Rattle.local_history.proofs.Telling.{known-unleft}
 use Rattle.local_history.specs.History.{Aborted, Base, Committed, Fate, IsCommitted, Known, LeftOver, Open, State, commit_by, commit_of, is_open, known_by, known_in, put, settle, state}
 use Rattle.local_history.specs.Sound.{owes, sound}
-use Rattle.port_views.specs.Growing.{GainsAll, Grew}
-use Rattle.port_views.specs.Views.{Calm, Unsettled}
+use Rattle.port.specs.Growing.{GainsAll, Grew}
+use Rattle.port.specs.Views.{Calm, Unsettled}
 use Rattle.session_outbox.proofs.Exactness.{exact-beginning, exact-owed, known}
 use Rattle.session_outbox.proofs.Sessions.{session-end}
 use Rattle.session_outbox.proofs.Taken.{after-mark}

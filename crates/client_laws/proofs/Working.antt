@@ -15,9 +15,9 @@ use Rattle.message_outbox.specs.declared.answers.Asked as answer
 use Rattle.message_outbox.specs.declared.answers.Verdict.{Verdict}
 use Rattle.message_outbox.specs.declared.answers.Welcome.{Welcome}
 use Rattle.message_outbox.specs.declared.message.Message.{Message}
-use Rattle.port_views.specs.Views.{Calm, Came, MayCome, Unsettled}
-use Rattle.port_views.specs.Works.{AskWork, CommitWork, ConnectWork, DecideWork, Decides, DrawWork, FetchWork, FinishWork, ForgetWork, GrantWork, IsAsMet, IsBehind, MayHaveLeft, OutageWith, PrepareWork, ReceiveWork, RefusedMarked, RefusedUnmarked, RequestRefused, is_prepared_by}
-use Rattle.session_laws.specs.Agreeing.{lives, notice_of}
+use Rattle.port.specs.Views.{Calm, Came, Halted, MayCome, Unsettled}
+use Rattle.port.specs.Works.{AskWork, CommitWork, ConnectWork, DecideWork, Decides, DrawWork, FetchWork, FinishWork, ForgetWork, GrantWork, IsAsMet, IsBehind, IsHalted, MayHaveLeft, OutageWith, PrepareWork, ReceiveWork, RefusedMarked, RefusedUnmarked, RequestRefused, is_prepared_by}
+use Rattle.session_outbox.specs.Notices.{lives, notice_of}
 use Rattle.session_outbox.proofs.Taken.{after-mark}
 use Rattle.session_outbox.specs.Calls.{next_page}
 use Rattle.session_outbox.specs.Current.{InStep, NoneAborted}
@@ -37,6 +37,13 @@ module _ (c : ℕ) (b : Base) (committed : Ts → Bool) where
 
   as_met : (at after : List Item) (u : Unsettled) (kept : Kept) → IsAsMet at after u → FitsAt c b Calm at committed kept → FitsAt c b u after committed kept
   as_met at after u kept w h = subst (λ (x : Unsettled). FitsAt c b x after committed kept) (sym w.1) (subst (λ (T : List Item). FitsAt c b Calm T committed kept) (sym w.0) h)
+
+  -- nothing is said of copies while the repository is down
+  halted : (T : List Item) (kept : Kept) → FitsAt c b Calm T committed kept → FitsAt c b Halted T committed kept
+  halted T kept h = record { v = h.v; there = h.there; own = h.own; keeps = λ f g. cc }
+
+  as_halted : (at after : List Item) (u : Unsettled) (kept : Kept) → IsHalted at after u → FitsAt c b Calm at committed kept → FitsAt c b u after committed kept
+  as_halted at after u kept w h = subst (λ (x : Unsettled). FitsAt c b x after committed kept) (sym w.1) (subst (λ (T : List Item). FitsAt c b Halted T committed kept) (sym w.0) (halted at kept h))
 
   then_fits : (at after : List Item) (u : Unsettled) (i : Item) (kept : Kept) → IsBehind at i after u → FitsAt c b Calm (at ++ i ∷ []) committed kept → FitsAt c b u after committed kept
   then_fits at after u i kept w h = subst (λ (x : Unsettled). FitsAt c b x after committed kept) (sym w.1) (subst (λ (T : List Item). FitsAt c b Calm T committed kept) (sym w.0) h)
@@ -61,39 +68,40 @@ module _ (c : ℕ) (b : Base) (committed : Ts → Bool) where
 
     pub unmarked_fits : (r : Refusal) → RefusedUnmarked b at kept.session r after u → FitsAt c b u after committed kept
     unmarked_fits (refused.Reason r) w = as_met at after u kept w.2 h
-    unmarked_fits (refused.Down n) w = as_met at after u kept w.1 h
-    unmarked_fits (refused.Stopped n) w = as_met at after u kept w.1 h
-    unmarked_fits (refused.Damaged n k) w = as_met at after u kept w.1 h
-    unmarked_fits refused.NoMemory w = as_met at after u kept w.1 h
+    unmarked_fits (refused.Down n) w = as_halted at after u kept w.1 h
+    unmarked_fits (refused.Stopped n) w = as_halted at after u kept w.1 h
+    unmarked_fits (refused.Damaged n k) w = as_halted at after u kept w.1 h
+    unmarked_fits refused.NoMemory w = as_halted at after u kept w.1 h
 
     pub marked_fits : (r : Refusal) → RefusedMarked b at kept.session r after u → FitsAt c b u after committed kept
     marked_fits (refused.Reason r) w = refused_mark None (refused.Reason r) w.1
-    marked_fits (refused.Down n) w = as_met at after u kept w h
-    marked_fits (refused.Stopped n) w = as_met at after u kept w h
-    marked_fits (refused.Damaged n k) w = as_met at after u kept w h
-    marked_fits refused.NoMemory w = as_met at after u kept w h
+    marked_fits (refused.Down n) w = as_halted at after u kept w h
+    marked_fits (refused.Stopped n) w = as_halted at after u kept w h
+    marked_fits (refused.Damaged n k) w = as_halted at after u kept w h
+    marked_fits refused.NoMemory w = as_halted at after u kept w h
 
     -- a call that stopped
     stopped : (e : Entry) (valid : Type 0) → (after ≡ at) × MayHaveLeft e valid u → FitsAt c b u after committed kept
     stopped e valid w = subst (λ (T : List Item). FitsAt c b u T committed kept) (sym w.0) (by u w.1)
       where
         by : (x : Unsettled) → MayHaveLeft e valid x → FitsAt c b x at committed kept
-        by Calm l = h
+        by Calm l = absurd l
         by (MayCome d) l = record { v = h.v; there = h.there; own = h.own; keeps = λ f g. cc }
         by Came l = absurd l
+        by Halted l = halted at kept h
 
     pub request_fits : (e : Entry) (q : Request) (r : Refusal) → RequestRefused e b at kept.session q r after u → FitsAt c b u after committed kept
     request_fits e q (refused.Reason r) w = refused_mark (Some q) (refused.Reason r) w.1
-    request_fits e q (refused.Down n) w = as_met at after u kept w h
+    request_fits e q (refused.Down n) w = as_halted at after u kept w h
     request_fits e q (refused.Stopped n) w = stopped e _ w
-    request_fits e q (refused.Damaged n k) w = as_met at after u kept w h
+    request_fits e q (refused.Damaged n k) w = as_halted at after u kept w h
     request_fits e q refused.NoMemory w = stopped e _ w
 
     pub outage_fits : (e : Entry) (valid : Type 0) (r : Refusal) → OutageWith e valid at r after u → FitsAt c b u after committed kept
     outage_fits e valid (refused.Reason r) w = absurd w
-    outage_fits e valid (refused.Down n) w = as_met at after u kept w h
+    outage_fits e valid (refused.Down n) w = as_halted at after u kept w h
     outage_fits e valid (refused.Stopped n) w = stopped e valid w
-    outage_fits e valid (refused.Damaged n k) w = as_met at after u kept w h
+    outage_fits e valid (refused.Damaged n k) w = as_halted at after u kept w h
     outage_fits e valid refused.NoMemory w = stopped e valid w
 
     -- ---- sessions
@@ -201,11 +209,11 @@ module _ (c : ℕ) (b : Base) (committed : Ts → Bool) where
 
     pub forgotten : (t : Ts) (r : Result (Unit {0}) Refusal) → ForgetWork t r b at after u → FitsAt c b u after committed kept
     forgotten t (Ok done) w = then_fits at after u (M (the.Forgot t)) kept w (fits_marked c b at committed kept (the.Forgot t) (sound_at (the.Forgot t) w) (none_at (the.Forgot t) w) h refl refl refl)
-    forgotten t (Err r) w = as_met at after u kept w.1 h
+    forgotten t (Err r) w = as_halted at after u kept w.1 h
 
     pub asked : (t : Ts) (r : Result answer.Asked Refusal) → AskWork t r b at after u → FitsAt c b u after committed kept
     asked t (Ok a) w = as_met at after u kept w.1 h
-    asked t (Err r) w = as_met at after u kept w.1 h
+    asked t (Err r) w = as_halted at after u kept w.1 h
 
   pub connected : (at after : List Item) (u : Unsettled) (w : Welcome) (copies : Copies) → HoldsNone b copies → ConnectWork c (Ok w) b at after u → FitsAt c b u after committed (record { session = w.session; upto = w.place; awaits = false; copies = copies })
   connected at after u w copies none x = then_fits at after u (M (the.Connected w.session c)) (record { session = w.session; upto = w.place; awaits = false; copies = copies }) x.1 (fits_begun c b at committed w.session w.place copies x.0.place none)

@@ -4,7 +4,7 @@ use Rattle.commit_log.specs.declared.entry.Entry.{Entry}
 use Rattle.commit_log.specs.declared.request.Request.{Request}
 use Rattle.local_history.specs.History.{Base, IsCommitted, Known, Open, known_by, objects_at, writers}
 use Rattle.local_history.specs.Requests.{has_written, written}
-use Rattle.port_views.specs.Views.{Calm, Unsettled}
+use Rattle.port.specs.Views.{Calm, Unsettled}
 use Rattle.session_outbox.specs.Current.{InStep, IsCurrent, IsOwnWrite, NoneAborted, OthersSince}
 use Rattle.session_outbox.specs.Session.{Grant, Invalid, Notice, Page, Session, Upgrade, is_news, session, session_lives, upto_of, waiting}
 use Rattle.session_outbox.specs.Trace.{Item, entries}

@@ -8,7 +8,7 @@ use Rattle.local_history.specs.History.{Base, objects_at}
 use Rattle.commit_log.specs.declared.entry.Entry.{Entry}
 use Rattle.message_outbox.specs.declared.message.Message.TheVariants.{Grant, Invalid, Page, Upgrade}
 use Rattle.message_outbox.specs.declared.message.Message.{Message}
-use Rattle.port_views.specs.Views as views
+use Rattle.port.specs.Views as views
 use Rattle.session_outbox.specs.Trace.{Item}
 use Rattle.std.specs.List.{list_any}
 use Rattle.std.specs.Prelude.{Bool, List, None, Option, Some, cond, ℕ, ◌≡◌}

@@ -3,7 +3,7 @@
 ghost use Rattle.client_laws.specs.Examples.{copy_of_x, keeping, no_copy};
 ghost use Rattle.client_laws.specs.Fitting.{FitsAt};
 ghost use Rattle.local_history.specs.Examples.{home};
-ghost use Rattle.port_views.specs.Views.{Calm};
+ghost use Rattle.port.specs.Views.{Calm};
 ghost use Rattle.session_outbox.specs.ExactExamples.{fetched, nothing_committed};
 ghost use Rattle.session_outbox.specs.SessionExamples.{invalid_taken, restarted, written_since};
 

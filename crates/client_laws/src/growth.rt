@@ -3,8 +3,8 @@
 ghost use Rattle.client_laws.specs.Fitting.{Agrees, Copies, FitsAt, Kept, NoneToFinish, SameCopies, WritesOnPages, with_writes};
 ghost use Rattle.local_history.specs.History.{Base, Known, Open, known_by};
 ghost use Rattle.local_history.specs.Sound.{sound};
-ghost use Rattle.port_views.specs.Growing.{Grew};
-ghost use Rattle.port_views.specs.Views.{Calm, Unsettled};
+ghost use Rattle.port.specs.Growing.{Grew};
+ghost use Rattle.port.specs.Views.{Calm, Unsettled};
 ghost use Rattle.session_outbox.specs.Exact.{exact};
 ghost use Rattle.session_outbox.specs.Trace.{Item, entries};
 ghost use Rattle.std.specs.Prelude.{Bool, List, Some, false, true, ℕ, ◌≡◌, ◌⊎◌};

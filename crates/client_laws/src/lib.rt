@@ -7,6 +7,7 @@ mod conditions;
 mod examples;
 mod falling;
 mod growth;
+mod lent;
 mod links;
 mod outcomes;
 
@@ -18,5 +19,6 @@ pub use conditions::{sent_requests_continue, shown_calls_may_come};
 pub use examples::{what_does_not_fit, what_fits};
 pub use falling::{falling_ends, owed_calls};
 pub use growth::{others_act, outcomes_are_told};
+pub use lent::{asking_links_fit, connecting_links_fit, other_links_fit};
 pub use links::{copies_become_what_messages_bring, links_outlive_others, links_tell_what_is_kept};
 pub use outcomes::{atomic_histories_agree, others_decide_nothing};

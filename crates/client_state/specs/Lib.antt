@@ -1,3 +1,4 @@
+pub mod Calling
 pub mod Causes
 pub mod Learning
 pub mod Links

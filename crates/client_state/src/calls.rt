@@ -1,5 +1,11 @@
 //! The calls of a running try on one repository, and what they come to.
 
+ghost use Rattle.client_state.specs.Calling.{Connects, CopiesRefused, Draws, Fetches, Grants, links_refused, upto_in};
+ghost use Rattle.client_state.specs.Links.{at_repo};
+ghost use Rattle.client_state.specs.declared.link.Link.TheVariants.{Joined};
+ghost use Rattle.client_state.specs.declared.link.Waits.TheVariants.{Idle};
+ghost use Rattle.std.specs.Prelude.{slice_get, ◌≡◌};
+
 use crate::causes::cause_of;
 use crate::held::Held;
 use crate::link::{Link, Waits};
@@ -41,14 +47,20 @@ impl Held {
         port: &mut Q,
         opened: &Opened,
         repo: u8,
-    ) -> Result<Came, NoMemory> {
+    ) -> Result<Came, NoMemory>
+        ensures call { Connects Q.shows (Q.view port.old) (Q.view port.new) repo self.old.client self.old.links.items self.new.links.items }
+        ensures copies { self.new.cache ≡ self.old.cache }
+    {
         match port.connect(repo, self.client) {
             Ok(welcome) => Ok(self.welcome(opened, repo, welcome)),
             Err(refusal) => Ok(Came::Refused(cause_of(refusal, repo)?)),
         }
     }
 
-    fn welcome(&mut self, opened: &Opened, repo: u8, welcome: Welcome) -> Came {
+    fn welcome(&mut self, opened: &Opened, repo: u8, welcome: Welcome) -> Came
+        ensures links { self.new.links.items ≡ at_repo self.old.links.items repo (λ l. Joined welcome.session welcome.place Idle) }
+        ensures copies { self.new.cache ≡ self.old.cache }
+    {
         let Welcome {
             session,
             epoch,
@@ -72,7 +84,9 @@ impl Held {
     }
 
     /// Asks for a page.
-    pub fn fetch<Q: Port>(&mut self, port: &mut Q, at: At, page: u32) -> Result<Came, NoMemory> {
+    pub fn fetch<Q: Port>(&mut self, port: &mut Q, at: At, page: u32) -> Result<Came, NoMemory>
+        ensures call { Fetches Q.shows (Q.view port.old) (Q.view port.new) at page (upto_in (slice_get self.old.links.items at.repo)) self.old.links.items self.new.links.items self.old.cache.cache self.new.cache.cache }
+    {
         match port.fetch(at, page, self.upto(at.repo)) {
             Ok(()) => {
                 self.wait(at.repo, Waits::Reply);
@@ -83,7 +97,9 @@ impl Held {
     }
 
     /// Asks for a page of names.
-    pub fn ask_for_names<Q: Port>(&mut self, port: &mut Q, at: At) -> Result<Came, NoMemory> {
+    pub fn ask_for_names<Q: Port>(&mut self, port: &mut Q, at: At) -> Result<Came, NoMemory>
+        ensures call { Grants Q.shows (Q.view port.old) (Q.view port.new) at self.old.links.items self.new.links.items self.old.cache.cache self.new.cache.cache }
+    {
         match port.grant(at) {
             Ok(()) => {
                 self.wait(at.repo, Waits::Reply);
@@ -94,7 +110,9 @@ impl Held {
     }
 
     /// Draws a timestamp.
-    pub fn draw<Q: Port>(&mut self, port: &mut Q, at: At) -> Result<Drew, NoMemory> {
+    pub fn draw<Q: Port>(&mut self, port: &mut Q, at: At) -> Result<Drew, NoMemory>
+        ensures call { Draws Q.shows (Q.view port.old) (Q.view port.new) at result self.old.links.items self.new.links.items self.old.cache.cache self.new.cache.cache }
+    {
         match port.draw(at, self.floor()) {
             Ok(ts) => Ok(Drew::Ts(ts)),
             Err(refusal) => Ok(Drew::Refused(self.refused(at.repo, refusal)?)),
@@ -103,11 +121,40 @@ impl Held {
 
     /// A call was refused that sends nothing of the try: where the session is gone, the evaluation begins
     /// anew.
-    fn refused(&mut self, repo: u8, refusal: Refusal) -> Result<Came, NoMemory> {
-        if let Refusal::Reason(Reason::Gone { session }) = refusal {
-            self.lose(repo, session);
+    fn refused(&mut self, repo: u8, refusal: Refusal) -> Result<Came, NoMemory>
+        ensures links { self.new.links.items ≡ links_refused refusal repo self.old.links.items }
+        ensures copies { CopiesRefused refusal repo self.old.links.items self.old.cache.cache self.new.cache.cache }
+    {
+        if self.lose_gone(repo, refusal) {
             return Ok(Came::Anew);
         }
         Ok(Came::Refused(cause_of(refusal, repo)?))
+    }
+
+    /// A call was refused: a session that is gone is lost. It answers whether it is.
+    fn lose_gone(&mut self, repo: u8, refusal: Refusal) -> bool
+        ensures links { self.new.links.items ≡ links_refused refusal repo self.old.links.items }
+        ensures copies { CopiesRefused refusal repo self.old.links.items self.old.cache.cache self.new.cache.cache }
+    {
+        match refusal {
+            Refusal::Reason(Reason::Gone { session }) => {
+                self.lose(repo, session);
+                true
+            }
+            Refusal::Reason(
+                Reason::Epoch { .. }
+                | Reason::Blocked { .. }
+                | Reason::TooOld { .. }
+                | Reason::Stale { .. }
+                | Reason::Earlier { .. }
+                | Reason::Later { .. }
+                | Reason::Full { .. }
+                | Reason::ClockEnd,
+            )
+            | Refusal::Down { .. }
+            | Refusal::Stopped { .. }
+            | Refusal::Damaged { .. }
+            | Refusal::NoMemory => false,
+        }
     }
 }

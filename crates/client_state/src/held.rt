@@ -1,9 +1,10 @@
 //! What a client holds of the repositories: sessions, copies of objects, names for new ones.
 
+ghost use Rattle.client_state.specs.Calling.{CopiesLost, is_session_of, upto_in};
 ghost use Rattle.client_state.specs.Learning.{without_session};
 ghost use Rattle.client_state.specs.Links.{at_repo, waiting};
 ghost use Rattle.client_cache.specs.Copies.{kept};
-ghost use Rattle.std.specs.Prelude.{◌≡◌, ◌<◌, None, cond, max, nat_eq};
+ghost use Rattle.std.specs.Prelude.{◌≡◌, ◌<◌, None, cond, max, nat_eq, slice_get};
 ghost use Rattle.thor_value.specs.declared.names.Oref.{Oref};
 
 use crate::link::{Link, Waits};
@@ -78,7 +79,9 @@ impl Held {
     }
 
     /// How far messages of a repository were taken, where there is a session; else 0.
-    pub fn upto(&self, repo: u8) -> u64 {
+    pub fn upto(&self, repo: u8) -> u64
+        ensures { result ≡ upto_in (slice_get self.now.links.items repo) }
+    {
         match self.links.get(usize::from(repo)) {
             Some(link) => link.upto(),
             None => 0,
@@ -146,7 +149,10 @@ impl Held {
     }
 
     /// Sets how the client stands with a repository.
-    pub fn set_link(&mut self, repo: u8, link: Link) {
+    pub fn set_link(&mut self, repo: u8, link: Link)
+        ensures links { self.new.links.items ≡ at_repo self.old.links.items repo (λ l. link) }
+        ensures rest { self.new ≡ record self.old { links = self.new.links } }
+    {
         if let Some(place) = self.links.get_mut(usize::from(repo)) {
             drop(mem::replace(place, link));
         }
@@ -183,6 +189,7 @@ impl Held {
     pub fn lose(&mut self, repo: u8, session: u32)
         ensures links { self.new.links.items ≡ at_repo self.old.links.items repo (without_session session) }
         ensures floor { self.new.floor ≡ self.old.floor }
+        ensures copies { CopiesLost session repo self.old.links.items self.old.cache.cache self.new.cache.cache }
     {
         if self.end_session(repo, session) {
             self.drop_held(repo);
@@ -191,6 +198,7 @@ impl Held {
 
     /// A session ends, where it is the one at a repository. It answers whether it is.
     fn end_session(&mut self, repo: u8, session: u32) -> bool
+        ensures answer { result ≡ is_session_of session (slice_get self.old.links.items repo) }
         ensures links { self.new.links.items ≡ at_repo self.old.links.items repo (without_session session) }
         ensures rest { self.new ≡ record self.old { links = self.new.links } }
     {
@@ -224,7 +232,9 @@ impl Held {
 
     /// An upgrade of this number is learnt to be installed, where it is among those of the store and the
     /// script. It answers whether the epoch rises.
-    pub fn learn_epoch(&mut self, opened: &Opened, number: u32) -> bool {
+    pub fn learn_epoch(&mut self, opened: &Opened, number: u32) -> bool
+        ensures rest { self.new ≡ record self.old { learnt = self.new.learnt } }
+    {
         if number <= self.epoch(opened) || number as usize > opened.schemas.upgraded.len() {
             return false;
         }

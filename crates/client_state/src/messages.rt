@@ -2,7 +2,8 @@
 
 ghost use Rattle.client_state.specs.Links.{at_repo};
 ghost use Rattle.client_state.specs.Taking.{Without, behind, links_behind, took};
-ghost use Rattle.std.specs.Prelude.{◌≡◌};
+ghost use Rattle.port.specs.Works.{Does, ReceiveWork};
+ghost use Rattle.std.specs.Prelude.{true, ◌≡◌};
 
 use crate::held::Held;
 use crate::link::Link;
@@ -39,6 +40,7 @@ impl Held {
     /// Takes the oldest message of a session. A message that came is acknowledged behind it; where none
     /// came nothing changes. A reply is outstanding no more once it has come.
     pub fn receive<Q: Port>(&mut self, port: &mut Q, at: At) -> Result<Option<Message>, Refusal>
+        ensures call { Q.shows ≡ true → Does (Q.view port.old) (Q.view port.new) at.repo result (ReceiveWork at.session result) }
         ensures links { self.new.links.items ≡ links_behind result at.repo self.old.links.items }
         ensures rest { self.new ≡ record self.old { links = self.new.links } }
     {

@@ -41,6 +41,14 @@ impl<P: Parts, N: Count> Model for Repos<P, N> {
 }
 
 impl<P: Parts, N: Count> Port for Repos<P, N> {
+    ghost use Rattle.port.specs.Views.{nothing_shown};
+    ghost use Rattle.std.specs.Prelude.{false};
+
+    // It shows nothing yet.
+    ghost shows = { false };
+
+    ghost view = { λ port. nothing_shown };
+
     fn connect(&mut self, repo: u8, client: u8) -> Result<Welcome, Refusal> {
         lent_calls::connect(self.seats.as_mut_slice(), repo, client)
     }

@@ -64,6 +64,14 @@ impl<'a, R: Wait, P: Parts, G: Gate> LockedPort<'a, R, P, G> {
 }
 
 impl<'a, R: Wait, P: Parts, G: Gate> Port for LockedPort<'a, R, P, G> {
+    ghost use Rattle.port.specs.Views.{nothing_shown};
+    ghost use Rattle.std.specs.Prelude.{false};
+
+    // It shows nothing yet.
+    ghost shows = { false };
+
+    ghost view = { λ port. nothing_shown };
+
     fn connect(&mut self, repo: u8, client: u8) -> Result<Welcome, Refusal> {
         let mut seat = self.begin(repo)?;
         let answer = seat.connect(repo, client);

@@ -1,2 +1,1 @@
 pub mod Ordered
-mod Writing

@@ -6,11 +6,12 @@ use Rattle.message_outbox.specs.Outbox as outbox
 use Rattle.message_outbox.specs.declared.answers.Welcome.{Welcome}
 use Rattle.message_outbox.specs.declared.message.Message.{Message}
 use Rattle.port_views.proofs.Meeting.{is_some_and, none_left}
-use Rattle.port_views.specs.Views.{Calm}
-use Rattle.port_views.specs.Works.{ConnectWork, FetchWork, GrantWork, ReceiveWork, RefusedUnmarked, behind_taken}
+use Rattle.port.specs.Views.{Calm}
+use Rattle.port.specs.Works.{ConnectWork, FetchWork, GrantWork, ReceiveWork, RefusedUnmarked, behind_taken}
 use Rattle.session_laws.proofs.Answering.{live_answer, next_message, same_place}
 use Rattle.session_laws.proofs.Marked.{live_session}
-use Rattle.session_laws.specs.Agreeing.{SessionsAgree, lives, notice_of}
+use Rattle.session_laws.specs.Agreeing.{SessionsAgree}
+use Rattle.session_outbox.specs.Notices.{lives, notice_of}
 use Rattle.session_outbox.specs.Calls.{next_page}
 use Rattle.session_outbox.specs.Exact.{IsGoneIn, most_pages}
 use Rattle.session_outbox.specs.Session.{Session, session, session_lives, waiting}

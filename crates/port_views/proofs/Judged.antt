@@ -2,7 +2,7 @@
 use Rattle.commit_log.specs.declared.entry.Entry.{Entry}
 use Rattle.commit_log.specs.declared.request.Request.{Request}
 use Rattle.local_history.specs.History.{Base, State, epoch_of, state}
-use Rattle.port_views.specs.Works.{IsMarked}
+use Rattle.port.specs.Works.{IsMarked}
 use Rattle.session_outbox.specs.Session.{Session, invalid, session, session_lives}
 use Rattle.session_outbox.specs.Trace.{Item, entries}
 use Rattle.session_outbox.specs.Verdict.{stale, stale_from, verdict, verdict_by}

@@ -8,10 +8,10 @@ use Rattle.message_outbox.specs.declared.answers.Welcome.{Welcome}
 use Rattle.message_outbox.specs.declared.message.Message.{Message}
 use Rattle.port_views.proofs.Judged.{verdict_marks}
 use Rattle.port_views.specs.Plain as plain
-use Rattle.port_views.specs.Plain.{Stepped, message_of, next_stamp, received, received_by, refuse, requested, told}
-use Rattle.port_views.specs.Views.{Calm}
-use Rattle.port_views.specs.Works.{AskWork, Answers, CommitWork, ConnectWork, DecideWork, Decides, DrawWork, FetchWork, FinishWork, ForgetWork, GrantWork, IsMarked, PrepareWork, ReceiveWork, RequestRefused, alone_entry, commits_by, is_prepared_by}
-use Rattle.session_laws.specs.Agreeing.{lives, notice_of}
+use Rattle.port_views.specs.Plain.{Stepped, left_by, message_of, next_stamp, received, received_by, refuse, requested, told}
+use Rattle.port.specs.Views.{Calm}
+use Rattle.port.specs.Works.{AskWork, Answers, CommitWork, ConnectWork, DecideWork, Decides, DrawWork, FetchWork, FinishWork, ForgetWork, GrantWork, IsMarked, PrepareWork, ReceiveWork, RequestRefused, alone_entry, commits_by, is_prepared_by}
+use Rattle.session_outbox.specs.Notices.{lives, notice_of}
 use Rattle.session_outbox.specs.Calls.{Asked, Settled, Undecided, asked, drawn_time, last_drawn, next_page, next_session, welcome}
 use Rattle.session_outbox.specs.Exact.{IsDrawn, IsGoneIn, most_pages}
 use Rattle.session_outbox.specs.Session.{Grant, Invalid, Notice, Page, Session, Upgrade, place_of, session, session_lives, waiting}
@@ -46,9 +46,9 @@ live_and (Some v) P h p = (h, p v)
 
 -- what the call promises of an answer and a trace
 abbrev MeetsConnect : Base → List Item → ℕ → Stepped Welcome → Type 0
-MeetsConnect b T c p = ConnectWork c p.0 b T p.1 Calm
+MeetsConnect b T c p = ConnectWork c p.0 b T p.1 (left_by p.0)
 
-pub connects : (b : Base) (T : List Item) (c : ℕ) → ConnectWork c (plain.connect b T c).0 b T (plain.connect b T c).1 Calm
+pub connects : (b : Base) (T : List Item) (c : ℕ) → ConnectWork c (plain.connect b T c).0 b T (plain.connect b T c).1 (left_by (plain.connect b T c).0)
 connects b T c = by (nat_lt (next_session T) (2 ^ 32))
   where
     by : (t : Bool) → MeetsConnect b T c (cond t (Ok (record { session = (welcome b T).session; epoch = (welcome b T).epoch; threshold = (welcome b T).threshold; place = (welcome b T).place; upgrades = (welcome b T).upgrades }), T ++ M (the.Connected (next_session T) c) ∷ []) (Err refused.NoMemory, T))

@@ -5,9 +5,10 @@ use Rattle.call_naming.specs.declared.calls.CallKind.{CallKind}
 use Rattle.commit_log.specs.declared.request.Request.{Request}
 use Rattle.local_history.specs.History.{state}
 use Rattle.local_history.specs.Requests.{has_created, has_written}
-use Rattle.local_history.specs.Sound.{Vouches}
-use Rattle.port_views.specs.Views.{View}
+use Rattle.local_history.specs.Sound.{Vouches, sound}
+use Rattle.port.specs.Views.{View}
 use Rattle.session_outbox.specs.Calls.{was_granted}
+use Rattle.session_outbox.specs.Exact.{exact}
 use Rattle.session_outbox.specs.Gaps.{client_in}
 use Rattle.session_outbox.specs.Trace.{entries}
 use Rattle.std.specs.Prelude.{IsTrue, Some, length, ℕ, ◌<◌, ◌≡◌, ◌≤◌}
@@ -21,6 +22,13 @@ seen_histories port = record { repos = port.opened.repos; base = port.opened.bas
 pub record AreSeenTogether (port : View) : Type 0 where
   pub atomic : IsAtomic (seen_histories port)
   pub alike : Alike (seen_histories port)
+
+-- Each trace that is seen is sound and exact, and together they are so as two-phase commit keeps them. The port of a client
+-- that sends what its condition asks for (`MaySend`, `MayCall`) shows such traces.
+pub record AreRight (port : View) : Type 0 where
+  pub owed : (r : ℕ) → sound (port.opened.base r) (entries (port.seen r))
+  pub kept : (r : ℕ) → exact (port.opened.base r) (port.seen r)
+  pub together : AreSeenTogether port
 
 -- the session s of the repository r is the client's
 abbrev pub IsOwnSession : View → ℕ → ℕ → Type 0

@@ -2,7 +2,7 @@
 use Rattle.commit_log.specs.declared.entry.Entry.TheVariants.{Life}
 use Rattle.commit_log.specs.declared.entry.Entry.{Entry}
 use Rattle.local_history.specs.History.{Base, state}
-use Rattle.port_views.specs.Views.{Calm, MayCome, Unsettled, View}
+use Rattle.port.specs.Views.{Halted, MayCome, Unsettled, View}
 use Rattle.session_outbox.specs.Trace.{E, Item, entries}
 use Rattle.std.specs.Prelude.{Bool, Err, List, Result, [], cond, nat_eq, ℕ, ◌+◌, ◌++◌, ◌∷◌}
 use Rattle.validation_window.specs.declared.refusal.Refusal.TheVariants as refused
@@ -17,11 +17,11 @@ pub record Outage (X : Type 0) : Type 0 where
 -- the repository is out of order, and nothing is done: it is down, its disk is damaged, it stops before it writes, or it
 -- has no memory
 abbrev pub idle : {X : Type 0} → List Item → Refusal → Outage X
-idle T r = record { answer = Err r; trace = T; unsettled = Calm }
+idle T r = record { answer = Err r; trace = T; unsettled = Halted }
 
 -- it stops while it writes the entry, which may still come where it is valid
 abbrev pub stopped : {X : Type 0} → List Item → ℕ → Bool → Entry → Outage X
-stopped T r valid e = record { answer = Err (refused.Stopped r); trace = T; unsettled = cond valid (MayCome e) Calm }
+stopped T r valid e = record { answer = Err (refused.Stopped r); trace = T; unsettled = cond valid (MayCome e) Halted }
 
 -- a restart ends the life, with no entry before it, or with the one that was being written
 abbrev pub next_life : Base → List Item → Item

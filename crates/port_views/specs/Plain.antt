@@ -10,8 +10,9 @@ use Rattle.message_outbox.specs.declared.answers.Verdict.{Verdict}
 use Rattle.message_outbox.specs.declared.answers.Welcome.{Welcome}
 use Rattle.message_outbox.specs.declared.message.Message.TheVariants as messages
 use Rattle.message_outbox.specs.declared.message.Message.{Message}
-use Rattle.port_views.specs.Works.{alone_entry, commits_by, is_prepared_by}
-use Rattle.session_laws.specs.Agreeing.{lives}
+use Rattle.port.specs.Views.{Calm, Halted, Unsettled}
+use Rattle.port.specs.Works.{alone_entry, commits_by, is_prepared_by}
+use Rattle.session_outbox.specs.Notices.{lives}
 use Rattle.session_outbox.specs.Calls.{Asked, Settled, Undecided, asked, drawn_time, last_drawn, next_page, next_session, welcome}
 use Rattle.session_outbox.specs.Exact.{most_pages}
 use Rattle.session_outbox.specs.Session.{Grant, Invalid, Notice, Page, Session, Upgrade, place_of, session}
@@ -28,6 +29,12 @@ use Rattle.validation_window.specs.declared.refusal.Refusal.{Refusal}
 -- an answer, and the trace behind the call
 abbrev pub Stepped : Type 0 → Type 0
 Stepped X = Result X Refusal × List Item
+
+-- what is unsettled behind an answer, where no call stops while it writes
+abbrev pub left_by : {X : Type 0} → Result X Refusal → Unsettled
+left_by (Ok x) = Calm
+left_by (Err (refused.Reason r)) = Calm
+left_by (Err r) = Halted
 
 -- a draw, a grant or a request is refused, with a mark
 abbrev pub refuse : {X : Type 0} → List Item → ℕ → Option Request → Refusal → Stepped X

@@ -7,11 +7,11 @@ ghost use Rattle.message_outbox.specs.Messages.{first};
 ghost use Rattle.message_outbox.specs.Outbox.{waiting};
 ghost use Rattle.message_outbox.specs.declared.answers.Welcome.{Welcome};
 ghost use Rattle.message_outbox.specs.declared.message.Message.{Message};
-ghost use Rattle.port_views.specs.Growing.{Grew};
+ghost use Rattle.port.specs.Growing.{Grew, MayHalt};
 ghost use Rattle.port_views.specs.Plain as plain;
-ghost use Rattle.port_views.specs.Plain.{message_of};
-ghost use Rattle.port_views.specs.Views.{Calm, Unsettled};
-ghost use Rattle.port_views.specs.Works.{AskWork, CommitWork, ConnectWork, DecideWork, DrawWork, FetchWork, FinishWork, ForgetWork, GrantWork, PrepareWork, ReceiveWork, RefusedUnmarked, behind_taken};
+ghost use Rattle.port_views.specs.Plain.{left_by, message_of};
+ghost use Rattle.port.specs.Views.{Calm, Halted, Unsettled};
+ghost use Rattle.port.specs.Works.{AskWork, CommitWork, ConnectWork, DecideWork, DrawWork, FetchWork, FinishWork, ForgetWork, GrantWork, PrepareWork, ReceiveWork, RefusedUnmarked, behind_taken};
 ghost use Rattle.session_laws.specs.Agreeing.{SessionsAgree};
 ghost use Rattle.session_outbox.specs.Calls.{next_page};
 ghost use Rattle.session_outbox.specs.Exact.{most_pages};
@@ -25,19 +25,20 @@ ghost use Rattle.refusal_reasons.specs.declared.reason.Reason.TheVariants as rea
 ghost use Rattle.validation_window.specs.declared.refusal.Refusal.TheVariants as refused;
 
 /// A trace that didn't grow grew by nothing, and what grew twice grew. Where nothing is unsettled, what comes is
-/// others', and nothing is unsettled then.
+/// others', and nothing of the client's is unsettled then; another's call may have stopped the repository.
 pub fn growth_composes()
     ensures none { (b : Base) (c : ℕ) (u : Unsettled) (T : List Item) → Grew b c u T u T }
     ensures both { (b : Base) (c : ℕ) (u v w : Unsettled) (T S R : List Item) → Grew b c u T v S → Grew b c v S w R →
         Grew b c u T w R }
     ensures calm { (b : Base) (c : ℕ) (T : List Item) (w : Unsettled) (S : List Item) (g : Grew b c Calm T w S) →
-        ByOthers b c T g.gap × (w ≡ Calm) }
+        ByOthers b c T g.gap × MayHalt Calm w }
+    ensures halts { (b : Base) (c : ℕ) (T : List Item) → Grew b c Calm T Halted T }
 {}
 
 /// A plain repository, which is its trace and reads each answer off it, keeps the promise of each call.
 pub fn plain_calls_keep_their_promises()
     ensures connect { (b : Base) (T : List Item) (client : ℕ) →
-        ConnectWork client (plain.connect b T client).0 b T (plain.connect b T client).1 Calm }
+        ConnectWork client (plain.connect b T client).0 b T (plain.connect b T client).1 (left_by (plain.connect b T client).0) }
     ensures fetch { (b : Base) (T : List Item) (s page upto : ℕ) →
         FetchWork s page upto (plain.fetch b T s page upto).0 b T (plain.fetch b T s page upto).1 Calm }
     ensures grant { (b : Base) (T : List Item) (s : ℕ) →

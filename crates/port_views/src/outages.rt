@@ -9,11 +9,11 @@ ghost use Rattle.message_outbox.specs.declared.answers.Asked as answer;
 ghost use Rattle.message_outbox.specs.declared.answers.Verdict.{Verdict};
 ghost use Rattle.message_outbox.specs.declared.answers.Welcome.{Welcome};
 ghost use Rattle.message_outbox.specs.declared.message.Message.{Message};
-ghost use Rattle.port_views.specs.Growing.{Called, Grew};
+ghost use Rattle.port.specs.Growing.{Called, Grew};
 ghost use Rattle.port_views.specs.Outages.{Outage, idle, restarted, restarted_with, stopped, with_seen};
 ghost use Rattle.port_views.specs.Plain as plain;
-ghost use Rattle.port_views.specs.Views.{Calm, MayCome, Unsettled, View};
-ghost use Rattle.port_views.specs.Works.{AskWork, CommitWork, ConnectWork, DecideWork, Does, DrawWork, FetchWork, FinishWork, ForgetWork, GrantWork, IsOutage, PrepareWork, ReceiveWork, alone_entry, is_prepared_by};
+ghost use Rattle.port.specs.Views.{Calm, Halted, MayCome, Unsettled, View};
+ghost use Rattle.port.specs.Works.{AskWork, CommitWork, ConnectWork, DecideWork, Does, DrawWork, FetchWork, FinishWork, ForgetWork, GrantWork, IsOutage, PrepareWork, ReceiveWork, alone_entry, is_prepared_by};
 ghost use Rattle.session_outbox.specs.Exact.{EntryIsExact, exact};
 ghost use Rattle.session_outbox.specs.Gaps.{maker};
 ghost use Rattle.session_outbox.specs.Trace.{E, Item, entries};
@@ -25,17 +25,17 @@ ghost use Rattle.validation_window.specs.declared.refusal.Refusal.{Refusal};
 
 /// A plain repository that is out of order and does nothing keeps the promise of each call.
 pub fn idle_calls_keep_their_promises()
-    ensures connect { (b : Base) (T : List Item) (client : ℕ) (r : Refusal) → IsOutage r → ConnectWork client (idle {X = Welcome} T r).answer b T T Calm }
-    ensures fetch { (b : Base) (T : List Item) (s page upto : ℕ) (r : Refusal) → IsOutage r → FetchWork s page upto (idle {X = Unit {0}} T r).answer b T T Calm }
-    ensures grant { (b : Base) (T : List Item) (s : ℕ) (r : Refusal) → IsOutage r → GrantWork s (idle {X = Unit {0}} T r).answer b T T Calm }
-    ensures receive { (b : Base) (T : List Item) (s : ℕ) (r : Refusal) → IsOutage r → ReceiveWork s (idle {X = Option Message} T r).answer b T T Calm }
-    ensures draw { (b : Base) (T : List Item) (s floor : ℕ) (r : Refusal) → IsOutage r → DrawWork s floor (idle {X = Ts} T r).answer b T T Calm }
-    ensures prepare { (b : Base) (T : List Item) (s : ℕ) (q : Request) (r : Refusal) → IsOutage r → PrepareWork s q (idle {X = ℕ} T r).answer b T T Calm }
-    ensures commit_one { (b : Base) (T : List Item) (s : ℕ) (q : Request) (r : Refusal) → IsOutage r → CommitWork s q (idle {X = ℕ} T r).answer b T T Calm }
-    ensures decide { (b : Base) (T : List Item) (s : ℕ) (t : Ts) (c : Bool) (r : Refusal) → IsOutage r → DecideWork s t c (idle {X = Verdict} T r).answer b T T Calm }
-    ensures finish { (b : Base) (T : List Item) (t : Ts) (c : Bool) (r : Refusal) → IsOutage r → FinishWork t c (idle {X = Option ℕ} T r).answer b T T Calm }
-    ensures forget { (b : Base) (T : List Item) (t : Ts) (r : Refusal) → IsOutage r → ForgetWork t (idle {X = Unit {0}} T r).answer b T T Calm }
-    ensures ask { (b : Base) (T : List Item) (t : Ts) (r : Refusal) → IsOutage r → AskWork t (idle {X = answer.Asked} T r).answer b T T Calm }
+    ensures connect { (b : Base) (T : List Item) (client : ℕ) (r : Refusal) → IsOutage r → ConnectWork client (idle {X = Welcome} T r).answer b T T Halted }
+    ensures fetch { (b : Base) (T : List Item) (s page upto : ℕ) (r : Refusal) → IsOutage r → FetchWork s page upto (idle {X = Unit {0}} T r).answer b T T Halted }
+    ensures grant { (b : Base) (T : List Item) (s : ℕ) (r : Refusal) → IsOutage r → GrantWork s (idle {X = Unit {0}} T r).answer b T T Halted }
+    ensures receive { (b : Base) (T : List Item) (s : ℕ) (r : Refusal) → IsOutage r → ReceiveWork s (idle {X = Option Message} T r).answer b T T Halted }
+    ensures draw { (b : Base) (T : List Item) (s floor : ℕ) (r : Refusal) → IsOutage r → DrawWork s floor (idle {X = Ts} T r).answer b T T Halted }
+    ensures prepare { (b : Base) (T : List Item) (s : ℕ) (q : Request) (r : Refusal) → IsOutage r → PrepareWork s q (idle {X = ℕ} T r).answer b T T Halted }
+    ensures commit_one { (b : Base) (T : List Item) (s : ℕ) (q : Request) (r : Refusal) → IsOutage r → CommitWork s q (idle {X = ℕ} T r).answer b T T Halted }
+    ensures decide { (b : Base) (T : List Item) (s : ℕ) (t : Ts) (c : Bool) (r : Refusal) → IsOutage r → DecideWork s t c (idle {X = Verdict} T r).answer b T T Halted }
+    ensures finish { (b : Base) (T : List Item) (t : Ts) (c : Bool) (r : Refusal) → IsOutage r → FinishWork t c (idle {X = Option ℕ} T r).answer b T T Halted }
+    ensures forget { (b : Base) (T : List Item) (t : Ts) (r : Refusal) → IsOutage r → ForgetWork t (idle {X = Unit {0}} T r).answer b T T Halted }
+    ensures ask { (b : Base) (T : List Item) (t : Ts) (r : Refusal) → IsOutage r → AskWork t (idle {X = answer.Asked} T r).answer b T T Halted }
 {}
 
 /// A plain repository that stops while it writes an entry keeps the promise of the call: the entry may come where it is
@@ -52,12 +52,15 @@ pub fn stopped_calls_keep_their_promises()
 {}
 
 /// What a plain repository's restart adds, with the entry that may come or without it, is growth that a client may meet: the
-/// one whose call stopped, and any other. The trace stays sound and exact.
+/// one whose call stopped, one that knows that the repository is down, and any other. The trace stays sound and exact.
 pub fn restarts_are_growth()
     ensures without { (b : Base) (c : ℕ) (T : List Item) (e : Entry) → Grew b c (MayCome e) T Calm (restarted b T) }
     ensures with { (b : Base) (c : ℕ) (T : List Item) (e : Entry) → is_life e ≡ false → Grew b c (MayCome e) T Calm (restarted_with b T e) }
     ensures others { (b : Base) (c : ℕ) (T : List Item) → Grew b c Calm T Calm (restarted b T) }
     ensures others_with { (b : Base) (c : ℕ) (T : List Item) (e : Entry) → maker b T (E e) ≢ Some c → Grew b c Calm T Calm (restarted_with b T e) }
+    ensures halted { (b : Base) (c : ℕ) (T : List Item) → Grew b c Halted T Calm (restarted b T) }
+    ensures halted_with { (b : Base) (c : ℕ) (T : List Item) (e : Entry) → is_life e ≡ false → maker b T (E e) ≢ Some c →
+        Grew b c Halted T Calm (restarted_with b T e) }
     ensures owed { (b : Base) (T : List Item) → sound b (entries T) → sound b (entries (restarted b T)) }
     ensures owed_with { (b : Base) (T : List Item) (e : Entry) → sound b (entries T) → owes b (state b (entries T)) e →
         sound b (entries (restarted_with b T e)) }
@@ -66,17 +69,13 @@ pub fn restarts_are_growth()
 {}
 
 /// A port to plain repositories calls as is said of calls: where nothing is unsettled it meets the trace that is seen, and
-/// what the repository made of it is seen then; where an entry may still come it meets that, and all stays. (Its client
-/// alone acts, or others don't in that call.) So one that commits does what is promised of it.
+/// what the repository made of it is seen then; where an entry may still come, or the repository is down, it meets that, and
+/// all stays. (Its client alone acts, or others don't in that call.) So one that commits does what is promised of it.
 pub fn plain_ports_do()
     ensures called { (old : View) (r : ℕ) (after : List Item) (u : Unsettled) → old.unsettled r ≡ Calm →
-        sound (old.opened.base r) (entries after) → exact (old.opened.base r) after →
         Called old (with_seen old r after u) r (old.seen r) Calm × ((with_seen old r after u).seen r ≡ after) × ((with_seen old r after u).unsettled r ≡ u) }
-    ensures down { (old : View) (r : ℕ) → sound (old.opened.base r) (entries (old.seen r)) → exact (old.opened.base r) (old.seen r) →
-        Called old old r (old.seen r) (old.unsettled r) }
+    ensures down { (old : View) (r : ℕ) → Called old old r (old.seen r) (old.unsettled r) }
     ensures commit_one { (old : View) (r s : ℕ) (q : Request) → old.unsettled r ≡ Calm → q.session ≡ s →
-        sound (old.opened.base r) (entries (plain.commit_one (old.opened.base r) (old.seen r) s q).1) →
-        exact (old.opened.base r) (plain.commit_one (old.opened.base r) (old.seen r) s q).1 →
         Does old (with_seen old r (plain.commit_one (old.opened.base r) (old.seen r) s q).1 Calm) r
         (plain.commit_one (old.opened.base r) (old.seen r) s q).0 (CommitWork s q (plain.commit_one (old.opened.base r) (old.seen r) s q).0) }
 {}

@@ -2,7 +2,8 @@
 use Rattle.live_sessions.specs.Sessions.{Kept}
 use Rattle.local_history.specs.History.{Base}
 use Rattle.repository_laws.specs.Judging.{SessionsAnswer}
-use Rattle.session_laws.specs.Agreeing.{SessionsAgree, client_of, invalid_place, lives}
+use Rattle.session_laws.specs.Agreeing.{SessionsAgree, client_of, invalid_place}
+use Rattle.session_outbox.specs.Notices.{lives}
 use Rattle.session_outbox.specs.Session.{Session, session, session_lives}
 use Rattle.session_outbox.specs.Trace.{Item, entries}
 use Rattle.std.proofs.Common.{Bool, List, ap, cond, refl, ◌≡◌, ◌∙◌}

@@ -9,7 +9,7 @@ use Rattle.repository_laws.proofs.Judging.{accepted-by-trace, verdict-exact}
 use Rattle.repository_laws.proofs.Opens.{undecided-some}
 use Rattle.repository_laws.specs.Agreeing.{Agrees, state_of, trace_of}
 use Rattle.repository_laws.specs.Judging.{IsAccepted, SessionsAnswer}
-use Rattle.session_laws.specs.Agreeing.{lives}
+use Rattle.session_outbox.specs.Notices.{lives}
 use Rattle.commit_log.specs.declared.entry.Entry.TheVariants.{Decided}
 use Rattle.commit_log.specs.declared.entry.Entry.{Entry}
 use Rattle.session_outbox.proofs.Traces.{entries-items}

@@ -13,7 +13,7 @@ use Rattle.local_history.specs.History.{Base, Known, State, epoch_of, known_by, 
 use Rattle.local_history.specs.Requests as requests
 use Rattle.repository_laws.specs.Agreeing.{Agrees, state_of, trace_of}
 use Rattle.repository_laws.specs.Judging.{IsAccepted, SessionsAnswer}
-use Rattle.session_laws.specs.Agreeing.{lives}
+use Rattle.session_outbox.specs.Notices.{lives}
 use Rattle.session_outbox.proofs.Traces.{entries-items}
 use Rattle.session_outbox.specs.Session.{Session, session, session_lives, invalid}
 use Rattle.session_outbox.specs.Trace.{entries}

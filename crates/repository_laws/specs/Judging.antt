@@ -6,7 +6,7 @@ use Rattle.local_history.specs.History.{Base, epoch_of}
 use Rattle.local_history.specs.Sound.{Vouches}
 use Rattle.repository_laws.specs.Agreeing.{state_of}
 use Rattle.held_state.specs.declared.held.Held.{Held}
-use Rattle.session_laws.specs.Agreeing.{lives}
+use Rattle.session_outbox.specs.Notices.{lives}
 use Rattle.session_outbox.specs.Session.{Session, invalid, session, session_lives}
 use Rattle.session_outbox.specs.Trace.{Item, entries}
 use Rattle.std.specs.List.{AllByRecursion}

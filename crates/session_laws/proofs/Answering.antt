@@ -11,7 +11,8 @@ use Rattle.message_outbox.specs.declared.message.Message.TheVariants as their
 use Rattle.message_outbox.specs.declared.message.Message.{Message}
 use Rattle.session_laws.proofs.Marked.{live_session}
 use Rattle.session_laws.proofs.Written.{names_are}
-use Rattle.session_laws.specs.Agreeing.{SessionAgrees, SessionsAgree, lives, notice_of}
+use Rattle.session_laws.specs.Agreeing.{SessionAgrees, SessionsAgree}
+use Rattle.session_outbox.specs.Notices.{lives, notice_of}
 use Rattle.session_outbox.specs.Exact.{IsLiveAnd, MarkIsExact, WaitsAt}
 use Rattle.session_outbox.specs.Calls.{last_session}
 use Rattle.session_outbox.specs.Session.{Notice, Session, invalid, place_of, session, session_lives}

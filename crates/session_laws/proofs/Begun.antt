@@ -13,7 +13,8 @@ use Rattle.message_outbox.specs.declared.message.Message.{Message}
 use Rattle.session_laws.proofs.Marked.{IsAway, IsSame, away_agrees, is_away, same_agrees}
 use Rattle.session_laws.proofs.Seen.{get_put, get_without, page_dropped}
 use Rattle.session_laws.proofs.Traced.{as_live, behind_mark, ended_by_life, last_behind, moves, none_lives}
-use Rattle.session_laws.specs.Agreeing.{AreInOrder, SessionAgrees, SessionsAgree, lives, notice_of}
+use Rattle.session_laws.specs.Agreeing.{AreInOrder, SessionAgrees, SessionsAgree}
+use Rattle.session_outbox.specs.Notices.{lives, notice_of}
 use Rattle.session_outbox.proofs.Sessions.{session-end}
 use Rattle.session_outbox.specs.Calls.{last_session}
 use Rattle.session_outbox.specs.Session as sessions

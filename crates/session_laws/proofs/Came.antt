@@ -20,7 +20,8 @@ use Rattle.session_laws.proofs.Marked.{IsAway, acknowledged_agrees, acknowledged
 use Rattle.session_laws.proofs.Seen.{kept_acknowledged, kept_marked, place_touched}
 use Rattle.session_laws.proofs.Traced.{behind_entry, came, moves, none_lives}
 use Rattle.session_laws.proofs.Written.{among_written, news_are, no_news, push_list}
-use Rattle.session_laws.specs.Agreeing.{AreInOrder, SessionAgrees, SessionsAgree, lives, notice_of}
+use Rattle.session_laws.specs.Agreeing.{AreInOrder, SessionAgrees, SessionsAgree}
+use Rattle.session_outbox.specs.Notices.{lives, notice_of}
 use Rattle.session_laws.specs.Coming.{CommitsTold, HasCome, IsTellable, acknowledged_by}
 use Rattle.session_outbox.proofs.Kept.{writers-end}
 use Rattle.session_outbox.proofs.Taken.{keeps-pages}

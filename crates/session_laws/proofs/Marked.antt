@@ -18,7 +18,8 @@ use Rattle.message_outbox.specs.declared.message.Message.{Message}
 use Rattle.session_laws.proofs.Invalidated.{acknowledged_place, cached_place, dead_place, has_cache, last_is_below, live_place, place_where}
 use Rattle.session_laws.proofs.Seen.{kept_acknowledged, place_cached, pushed_order, set_cached, taken_order}
 use Rattle.session_laws.proofs.Traced.{IsNoBeginning, IsQuiet, behind_mark, fetched, granted, last_behind, met, moves, quiet, took, uncounted}
-use Rattle.session_laws.specs.Agreeing.{AreInOrder, SessionAgrees, SessionsAgree, lives, notice_of}
+use Rattle.session_laws.specs.Agreeing.{AreInOrder, SessionAgrees, SessionsAgree}
+use Rattle.session_outbox.specs.Notices.{lives, notice_of}
 use Rattle.session_outbox.proofs.Sessions.{session-end}
 use Rattle.session_outbox.specs.Calls.{last_session}
 use Rattle.session_outbox.specs.Session.{Grant, Notice, Page, Session, cache, last_other, meet, move, session, session_lives}

@@ -2,7 +2,7 @@
 use Rattle.commit_log.specs.declared.entry.Entry.{Entry}
 use Rattle.commit_log.specs.declared.request.Request.{Request}
 use Rattle.local_history.specs.History.{Base, State, commit_of, is_life}
-use Rattle.session_laws.specs.Agreeing.{lives}
+use Rattle.session_outbox.specs.Notices.{lives}
 use Rattle.session_outbox.proofs.Traces.{entries-append}
 use Rattle.session_outbox.specs.Calls.{connected_at, last_session}
 use Rattle.session_outbox.specs.Session.{Ended, Grant, Live, Page, Retired, Session, Stage, acked_by, cache, is_live, is_silent, lives_on, meet, move, moved, or_retired, push, request_in, rested, retired, session_lives, told_of}

@@ -6,7 +6,7 @@ use Rattle.live_sessions.specs.Telling.{message_of, names_for, news_for}
 use Rattle.local_history.proofs.Decided.{written_keys}
 use Rattle.local_history.specs.History.{State, epoch_of}
 use Rattle.local_history.specs.Requests.{has_written, is_upgrade, written}
-use Rattle.session_laws.specs.Agreeing.{notice_of}
+use Rattle.session_outbox.specs.Notices.{notice_of}
 use Rattle.session_outbox.specs.Session.{Notice, Upgrade, invalid_of, push, told}
 use Rattle.std.proofs.Common.{Bool, List, [], ap, append_assoc, cond, false, map, nat_eq, refl, subst, sym, true, ◌+◌, ◌++◌, ◌∙◌, ◌∷◌, ◌≡◌, ℕ}
 use Rattle.std.proofs.lemmas.List.{append-nil}

@@ -4,29 +4,16 @@ use Rattle.commit_log.specs.declared.entry.Entry.{Entry}
 use Rattle.live_sessions.specs.Sessions.{Kept}
 use Rattle.local_history.specs.History.{Base}
 use Rattle.message_outbox.specs.Outbox as outbox
-use Rattle.message_outbox.specs.declared.message.Message.TheVariants as messages
-use Rattle.message_outbox.specs.declared.message.Message.{Message}
 use Rattle.session_outbox.specs.Calls.{last_session}
-use Rattle.session_outbox.specs.Session.{Grant, Invalid, Notice, Page, Session, Upgrade, invalid, session, session_lives, waiting}
+use Rattle.session_outbox.specs.Notices.{notice_of}
+use Rattle.session_outbox.specs.Session.{Notice, Session, invalid, session, session_lives, waiting}
 use Rattle.session_outbox.specs.Trace.{Item, entries}
 use Rattle.std.specs.Option.{IfSome}
 use Rattle.std.specs.Prelude.{Bool, List, None, Option, Some, [], cond, false, length, map, true, ℕ, ◌&&◌, ◌<◌, ◌↔◌, ◌≡◌, ◌≤◌}
 use Rattle.thor_value.specs.FiniteMap.{IsSorted, get, has}
 use Rattle.thor_value.specs.declared.names.Oref.{Oref}
 
--- a message as a trace has it: without its bytes
-abbrev pub notice_of : Message → Notice
-notice_of (messages.Page page bytes k) = Page page k
-notice_of (messages.Grant page k) = Grant page k
-notice_of (messages.Invalid names k) = Invalid names k
-notice_of (messages.Upgrade number text k) = Upgrade number k
-
 -- ---- what a trace says of a session, as far as a repository keeps it: nothing of one that isn't live
-
--- whether it is live
-abbrev pub lives : Option Session → Bool
-lives None = false
-lives (Some v) = session_lives v
 
 abbrev pub client_of : Option Session → Option ℕ
 client_of None = None

@@ -6,6 +6,7 @@ pub mod Exact
 pub mod ExactExamples
 pub mod Gaps
 pub mod Messages
+pub mod Notices
 pub mod Session
 pub mod SessionExamples
 pub mod Sessions

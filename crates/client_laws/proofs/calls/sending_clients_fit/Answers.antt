@@ -1,5 +1,5 @@
 use Rattle.commit_log.specs.declared.entry.Entry.TheVariants.{Prepared}
-use Rattle.port_views.specs.Works.{alone_entry}
+use Rattle.port.specs.Works.{alone_entry}
 use Rattle.client_laws.proofs.Working.{committed_one, drawn, marked_fits, prepared, request_fits}
 use Rattle.client_laws.proofs.calls.sending_clients_fit.Goals as goal
 

@@ -2,7 +2,7 @@ use Rattle.commit_log.specs.declared.entry.Entry.TheVariants.{Prepared}
 use Rattle.commit_log.specs.declared.entry.Entry.TheVariants as entry
 use Rattle.local_history.specs.History.{is_undecided, known_by}
 use Rattle.port_views.proofs.Stopping.{deciding, marked, request, unmarked, with_entry}
-use Rattle.port_views.specs.Works.{alone_entry}
+use Rattle.port.specs.Works.{alone_entry}
 use Rattle.session_outbox.specs.Trace.{entries}
 use Rattle.std.proofs.Common.{refl, true, ◌≡◌}
 use Rattle.port_views.proofs.outages.idle_calls_keep_their_promises.Goals as goal

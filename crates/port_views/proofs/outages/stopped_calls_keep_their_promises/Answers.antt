@@ -1,7 +1,7 @@
 use Rattle.commit_log.specs.declared.entry.Entry.TheVariants.{Decided, Finished, Prepared}
 use Rattle.local_history.specs.History.{is_undecided, known_by}
 use Rattle.port_views.proofs.Stopping.{accepted, left}
-use Rattle.port_views.specs.Works.{alone_entry, is_prepared_by}
+use Rattle.port.specs.Works.{alone_entry, is_prepared_by}
 use Rattle.session_outbox.specs.Trace.{entries}
 use Rattle.session_outbox.specs.Verdict.{verdict}
 use Rattle.std.proofs.Common.{refl, true, ◌≡◌}

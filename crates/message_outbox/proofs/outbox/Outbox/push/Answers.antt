@@ -1,8 +1,8 @@
-use Rattle.message_outbox.proofs.Writing.{set_same}
 use Rattle.message_outbox.proofs.outbox.Outbox.push.Goals as goal
 use Rattle.message_outbox.specs.Outbox.{Waiting}
 use Rattle.message_outbox.specs.declared.message.Message.{Message}
 use Rattle.std.proofs.Common.{List, ap, sym, ◌∙◌, ◌≡◌, ℕ}
+use Rattle.std.proofs.lemmas.Map.Steps.{set_value_same}
 use Rattle.std.specs.BTreeMap.{is_at}
 use Rattle.std.specs.Map.{set_value}
 use Rattle.std.specs.Option.{option_copied_mut}
@@ -25,7 +25,7 @@ returns-in-Some-clause-err c =
     ap (λ (es : List (ℕ × List Message)). record { pairs = es }) (
     written
     ∙ ap (λ (ms : List Message). set_value (is_at (nat_cmp c.args.session)) W.pairs ms) same
-    ∙ set_same (is_at (nat_cmp c.args.session)) W.pairs c.in-Some.line.now there
+    ∙ set_value_same (is_at (nat_cmp c.args.session)) W.pairs c.in-Some.line.now there
     )
     ∙ c.self.view_is
     )

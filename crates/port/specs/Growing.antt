@@ -1,15 +1,14 @@
 -- How the traces that a client sees grow while it makes no call there.
 use Rattle.commit_log.specs.declared.entry.Entry.TheVariants.{Decided, Finished, Life, One, Prepared, Upgraded}
 use Rattle.local_history.specs.History.{Base}
-use Rattle.local_history.specs.Sound.{sound}
-use Rattle.port_views.specs.Views.{Calm, Came, MayCome, Unsettled, View}
-use Rattle.session_outbox.specs.Exact.{exact}
+use Rattle.port.specs.Views.{Calm, Came, Halted, MayCome, Unsettled, View}
 use Rattle.session_outbox.specs.Gaps.{maker}
-use Rattle.session_outbox.specs.Trace.{E, Item, M, entries}
+use Rattle.session_outbox.specs.Trace.{E, Item, M}
 use Rattle.std.specs.Prelude.{List, Some, [], true, ℕ, ◌++◌, ◌∷◌, ◌≡◌, ◌≢◌}
 
 -- One more item behind T while the client c makes no call there, and what of c's is unsettled before and
--- after. Where an own call stopped nothing comes before a Life, but its one entry may.
+-- after. Where an own call stopped nothing comes before a Life, but its one entry may. Where the repository is down
+-- beside, no entry of c's comes before a Life.
 abbrev pub Gains : Base → ℕ → Unsettled → List Item → Item → Unsettled → Type 0
 Gains b c Calm T i u = (maker b T i ≢ Some c) × (u ≡ Calm)
 Gains b c (MayCome e) T (M m) u = ⊥
@@ -26,10 +25,27 @@ Gains b c Came T (E (Prepared q)) u = ⊥
 Gains b c Came T (E (Decided t k)) u = ⊥
 Gains b c Came T (E (Finished t k)) u = ⊥
 Gains b c Came T (E (Upgraded q)) u = ⊥
+Gains b c Halted T (M m) u = ⊥
+Gains b c Halted T (E (Life n)) u = u ≡ Calm
+Gains b c Halted T (E (One q)) u = (maker b T (E (One q)) ≢ Some c) × (u ≡ Halted)
+Gains b c Halted T (E (Prepared q)) u = (maker b T (E (Prepared q)) ≢ Some c) × (u ≡ Halted)
+Gains b c Halted T (E (Decided t k)) u = (maker b T (E (Decided t k)) ≢ Some c) × (u ≡ Halted)
+Gains b c Halted T (E (Finished t k)) u = (maker b T (E (Finished t k)) ≢ Some c) × (u ≡ Halted)
+Gains b c Halted T (E (Upgraded q)) u = (maker b T (E (Upgraded q)) ≢ Some c) × (u ≡ Halted)
+
+-- What is unsettled where nothing comes: that stays, but another's call may stop the repository.
+abbrev pub MayHalt : Unsettled → Unsettled → Type 0
+MayHalt Calm Calm = Unit {0}
+MayHalt Calm Halted = Unit {0}
+MayHalt Calm (MayCome e) = ⊥
+MayHalt Calm Came = ⊥
+MayHalt (MayCome e) w = w ≡ MayCome e
+MayHalt Came w = w ≡ Came
+MayHalt Halted w = w ≡ Halted
 
 -- the same of several items
 abbrev pub GainsAll : Base → ℕ → Unsettled → List Item → List Item → Unsettled → Type 0
-GainsAll b c u T [] w = w ≡ u
+GainsAll b c u T [] w = MayHalt u w
 GainsAll b c u T (i ∷ is) w = (v : Unsettled) × Gains b c u T i v × GainsAll b c v (T ++ i ∷ []) is w
 
 -- A trace T with what is unsettled, u, became S with w, while the client c made no call there.
@@ -44,9 +60,6 @@ pub record Called (old new : View) (r : ℕ) (at : List Item) (met : Unsettled) 
   pub same : new.opened ≡ old.opened
   pub reached : Grew (old.opened.base r) old.opened.client (old.unsettled r) (old.seen r) met at
   pub others : (n : ℕ) → n ≢ r → Grew (old.opened.base n) old.opened.client (old.unsettled n) (old.seen n) (new.unsettled n) (new.seen n)
-  -- what is seen of r then is sound and exact
-  pub owed : sound (old.opened.base r) (entries (new.seen r))
-  pub kept : exact (old.opened.base r) (new.seen r)
   -- where nobody else acts, it met what was seen, and changed nothing else
   pub alone : old.opened.alone ≡ true → (at ≡ old.seen r) × (met ≡ old.unsettled r)
   pub alone_others : old.opened.alone ≡ true → (n : ℕ) → n ≢ r → (new.seen n ≡ old.seen n) × (new.unsettled n ≡ old.unsettled n)

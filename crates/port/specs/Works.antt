@@ -11,9 +11,9 @@ use Rattle.message_outbox.specs.declared.answers.Asked as answer
 use Rattle.message_outbox.specs.declared.answers.Verdict.{Verdict}
 use Rattle.message_outbox.specs.declared.answers.Welcome.{Welcome}
 use Rattle.message_outbox.specs.declared.message.Message.{Message}
-use Rattle.port_views.specs.Growing.{Called}
-use Rattle.port_views.specs.Views.{Calm, Came, MayCome, Unsettled, View}
-use Rattle.session_laws.specs.Agreeing.{lives, notice_of}
+use Rattle.port.specs.Growing.{Called}
+use Rattle.port.specs.Views.{Calm, Came, Halted, MayCome, Unsettled, View}
+use Rattle.session_outbox.specs.Notices.{lives, notice_of}
 use Rattle.session_outbox.specs.Calls.{Asked, Settled, Undecided, Welcomed, asked, is_kept, is_last_alone, next_page, welcome}
 use Rattle.session_outbox.specs.Exact.{IsDrawn, IsGoneIn, RefusalIsExact, most_pages}
 use Rattle.session_outbox.specs.Session.{place_of, session, waiting}
@@ -42,6 +42,7 @@ abbrev pub Answered : {X : Type 0} → ℕ → Result X Refusal → Unsettled �
 Answered r result Calm at after u work = work
 Answered r result (MayCome e) at after u work = IsDown r result × (after ≡ at) × (u ≡ MayCome e)
 Answered r result Came at after u work = IsDown r result × (after ≡ at) × (u ≡ Came)
+Answered r result Halted at after u work = IsDown r result × (after ≡ at) × (u ≡ Halted)
 
 -- the call met the trace `at` on r, and `work` says what it did there
 pub record Does {X : Type 0} (old new : View) (r : ℕ) (result : Result X Refusal) (work : Base → List Item → List Item → Unsettled → Type 0) : Type 0 where
@@ -53,6 +54,10 @@ pub record Does {X : Type 0} (old new : View) (r : ℕ) (result : Result X Refus
 -- nothing came, and nothing is unsettled
 abbrev pub IsAsMet : List Item → List Item → Unsettled → Type 0
 IsAsMet at after u = (after ≡ at) × (u ≡ Calm)
+
+-- nothing came, and nothing of the client's may come before a Life: the repository is down
+abbrev pub IsHalted : List Item → List Item → Unsettled → Type 0
+IsHalted at after u = (after ≡ at) × (u ≡ Halted)
 
 -- the call's item is behind the trace, and nothing is unsettled
 abbrev pub IsBehind : List Item → Item → List Item → Unsettled → Type 0
@@ -77,36 +82,37 @@ IsMarked refused.NoMemory = ⊥
 -- how a call of a session that isn't marked is refused: the session is gone, or there was an outage
 abbrev pub RefusedUnmarked : Base → List Item → ℕ → Refusal → List Item → Unsettled → Type 0
 RefusedUnmarked b at s (refused.Reason r) after u = (r ≡ reasons.Gone s) × IsGoneIn (session b at s) × IsAsMet at after u
-RefusedUnmarked b at s r after u = IsOutage r × IsAsMet at after u
+RefusedUnmarked b at s r after u = IsOutage r × IsHalted at after u
 
 -- how a draw or a grant is refused, which gets a mark but in an outage
 abbrev pub RefusedMarked : Base → List Item → ℕ → Refusal → List Item → Unsettled → Type 0
-RefusedMarked b at s (refused.Down r) after u = IsAsMet at after u
-RefusedMarked b at s (refused.Stopped r) after u = IsAsMet at after u
-RefusedMarked b at s (refused.Damaged r k) after u = IsAsMet at after u
-RefusedMarked b at s refused.NoMemory after u = IsAsMet at after u
+RefusedMarked b at s (refused.Down r) after u = IsHalted at after u
+RefusedMarked b at s (refused.Stopped r) after u = IsHalted at after u
+RefusedMarked b at s (refused.Damaged r k) after u = IsHalted at after u
+RefusedMarked b at s refused.NoMemory after u = IsHalted at after u
 RefusedMarked b at s r after u = RefusalIsExact b at s None r × IsBehind at (M (the.Refused s None r)) after u
 
--- after a call that stopped its entry may come, where it was valid
+-- Behind a call that stopped its entry may come, where it was valid, or nothing may before a Life.
 abbrev pub MayHaveLeft : Entry → Type 0 → Unsettled → Type 0
-MayHaveLeft e valid Calm = Unit {0}
+MayHaveLeft e valid Calm = ⊥
 MayHaveLeft e valid (MayCome d) = (d ≡ e) × valid
 MayHaveLeft e valid Came = ⊥
+MayHaveLeft e valid Halted = Unit {0}
 
 -- how a call with an entry and no mark is refused where the repository is out of order
 abbrev pub OutageWith : Entry → Type 0 → List Item → Refusal → List Item → Unsettled → Type 0
 OutageWith e valid at (refused.Stopped r) after u = (after ≡ at) × MayHaveLeft e valid u
 OutageWith e valid at refused.NoMemory after u = (after ≡ at) × MayHaveLeft e valid u
-OutageWith e valid at (refused.Down r) after u = IsAsMet at after u
-OutageWith e valid at (refused.Damaged r k) after u = IsAsMet at after u
+OutageWith e valid at (refused.Down r) after u = IsHalted at after u
+OutageWith e valid at (refused.Damaged r k) after u = IsHalted at after u
 OutageWith e valid at r after u = ⊥
 
 -- how a request with the entry e is refused
 abbrev pub RequestRefused : Entry → Base → List Item → ℕ → Request → Refusal → List Item → Unsettled → Type 0
 RequestRefused e b at s q (refused.Stopped r) after u = (after ≡ at) × MayHaveLeft e (verdict b at s q ≡ None) u
 RequestRefused e b at s q refused.NoMemory after u = (after ≡ at) × MayHaveLeft e (verdict b at s q ≡ None) u
-RequestRefused e b at s q (refused.Down r) after u = IsAsMet at after u
-RequestRefused e b at s q (refused.Damaged r k) after u = IsAsMet at after u
+RequestRefused e b at s q (refused.Down r) after u = IsHalted at after u
+RequestRefused e b at s q (refused.Damaged r k) after u = IsHalted at after u
 RequestRefused e b at s q r after u = RefusalIsExact b at s (Some q) r × IsBehind at (M (the.Refused s (Some q) r)) after u
 
 -- ---- sessions
@@ -121,7 +127,7 @@ pub record Tells (w : Welcome) (told : Welcomed) : Type 0 where
 
 abbrev pub ConnectWork : ℕ → Result Welcome Refusal → Base → List Item → List Item → Unsettled → Type 0
 ConnectWork c (Ok w) b at after u = Tells w (welcome b at) × IsBehind at (M (the.Connected w.session c)) after u
-ConnectWork c (Err r) b at after u = IsOutage r × IsAsMet at after u
+ConnectWork c (Err r) b at after u = IsOutage r × IsHalted at after u
 
 abbrev pub FetchWork : ℕ → ℕ → ℕ → Result (Unit {0}) Refusal → Base → List Item → List Item → Unsettled → Type 0
 FetchWork s page upto (Ok done) b at after u = (lives (session b at s) ≡ true) × IsBehind at (M (the.Fetched s page upto)) after u
@@ -186,7 +192,7 @@ FinishWork t c (Err r) b at after u = OutageWith (Finished t c) (is_undecided (k
 
 abbrev pub ForgetWork : Ts → Result (Unit {0}) Refusal → Base → List Item → List Item → Unsettled → Type 0
 ForgetWork t (Ok done) b at after u = IsBehind at (M (the.Forgot t)) after u
-ForgetWork t (Err r) b at after u = IsOutage r × IsAsMet at after u
+ForgetWork t (Err r) b at after u = IsOutage r × IsHalted at after u
 
 -- the answer is what a trace tells
 abbrev pub Answers : Ts → answer.Asked → Asked → Type 0
@@ -195,4 +201,4 @@ Answers t (answers.Settled v) told = (v.tx ≡ t) × (told ≡ Settled v.commit)
 
 abbrev pub AskWork : Ts → Result answer.Asked Refusal → Base → List Item → List Item → Unsettled → Type 0
 AskWork t (Ok a) b at after u = Answers t a (asked b at t) × IsAsMet at after u
-AskWork t (Err r) b at after u = IsOutage r × IsAsMet at after u
+AskWork t (Err r) b at after u = IsOutage r × IsHalted at after u

@@ -2,7 +2,8 @@
 use Rattle.commit_log.specs.declared.entry.Entry.{Entry}
 use Rattle.local_history.specs.History.{Base}
 use Rattle.session_outbox.specs.Trace.{Item}
-use Rattle.std.specs.Prelude.{Bool, List, ℕ}
+use Rattle.std.specs.Prelude.{Bool, List, None, [], false, ℕ}
+use Rattle.thor_value.specs.FiniteMap.{empty}
 
 -- What may still come of a client's own call that stopped.
 pub data Unsettled : Type 0 where
@@ -12,6 +13,8 @@ pub data Unsettled : Type 0 where
   MayCome : Entry → Unsettled
   -- that entry has come, and a Life has still to come
   Came : Unsettled
+  -- nothing of the client's: the repository is down, and nothing but what others had begun comes before a Life
+  Halted : Unsettled
 
 -- What no call changes.
 pub record Opened : Type 0 where
@@ -29,3 +32,29 @@ pub record View : Type 0 where
   pub seen : ℕ → List Item
   -- what may still come at the present end of each trace
   pub unsettled : ℕ → Unsettled
+
+-- what a port tells that shows nothing
+abbrev pub no_base : Base
+no_base = record {
+  repo = 0;
+  repos = 0;
+  life = 0;
+  count = 0;
+  limit = 0;
+  objects = empty;
+  top = record { time = 0; repo = 0; life = 0 };
+  roots = [];
+  texts = [];
+  next_page = 0;
+  alone = empty;
+  left = empty;
+  silence = None;
+  tells = false;
+}
+
+abbrev pub nothing_shown : View
+nothing_shown = record {
+  opened = record { client = 0; alone = false; repos = 0; base = λ r. no_base };
+  seen = λ r. [];
+  unsettled = λ r. Calm;
+}

@@ -1,0 +1,5 @@
+use Rattle.client_laws.proofs.Lending.{others_fit}
+use Rattle.client_laws.proofs.lent.other_links_fit.Goals as goal
+
+pub returns : goal.returns
+returns c = others_fit

@@ -1,0 +1,26 @@
+-- What is known of a repository's trace that a port shows, and that a client's link there fits it.
+use Rattle.client_laws.specs.Fitting.{Agrees, Copies}
+use Rattle.client_laws.specs.Links.{LinkFits}
+use Rattle.client_state.specs.declared.link.Link.{Link}
+use Rattle.local_history.specs.Sound.{sound}
+use Rattle.port.specs.Views.{View}
+use Rattle.session_outbox.specs.Exact.{exact}
+use Rattle.session_outbox.specs.Trace.{entries}
+use Rattle.std.specs.Prelude.{Bool, None, Option, Some, ℕ, ◌≡◌}
+use Rattle.thor_value.specs.declared.names.Ts.{Ts}
+
+-- What is seen of the repository r is right, and agrees with what has committed at coordinators.
+pub record IsSeenRight (port : View) (r : ℕ) (committed : Ts → Bool) : Type 0 where
+  pub numbered : (port.opened.base r).repo ≡ r
+  pub owed : sound (port.opened.base r) (entries (port.seen r))
+  pub kept : exact (port.opened.base r) (port.seen r)
+  pub agrees : (s : ℕ) → Agrees (port.opened.base r) (entries (port.seen r)) s committed
+
+-- The port's client, with this link and these copies, fits what is seen of the repository r.
+abbrev pub LinkIn : View → ℕ → (Ts → Bool) → Link → Copies → Type 0
+LinkIn port r committed link copies = LinkFits port.opened.client (port.opened.base r) (port.unsettled r) (port.seen r) committed link copies
+
+-- the same of a link, where there is one
+abbrev pub LinkAt : View → ℕ → (Ts → Bool) → Option Link → Copies → Type 0
+LinkAt port r committed None copies = Unit {0}
+LinkAt port r committed (Some link) copies = LinkIn port r committed link copies

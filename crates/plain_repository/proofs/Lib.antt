@@ -1,0 +1,4 @@
+pub mod Lending
+pub mod Restarting
+pub mod Taking
+pub mod Working
