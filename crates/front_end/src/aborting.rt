@@ -1,6 +1,7 @@
 //! Before the rules: a transaction that its coordinator has prepared and whose try has ended is aborted
 //! there.
 
+ghost use Rattle.front_end.specs.Acting.{ActsIf};
 ghost use Rattle.front_end.specs.Moving.{uncounted};
 ghost use Rattle.std.specs.Prelude.{OnOk, length, ℕ, ◌+◌, ◌≤◌};
 
@@ -16,6 +17,7 @@ impl Client {
     /// nothing is handed on.
     pub fn abort<Q: Port>(&mut self, port: &mut Q, abort: Abort) -> Result<(), NoMemory>
         ensures { OnOk result ((tries : ℕ) → uncounted tries self.new ≤ uncounted tries self.old + (length abort.prepared + 1)) }
+        ensures acts { ActsIf Q.shows (Q.view port.old) (Q.view port.new) }
     {
         let Abort {
             coordinator,

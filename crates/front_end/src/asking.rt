@@ -2,6 +2,7 @@
 
 ghost use Rattle.client_state.specs.Owing.{asking_in, calls_in};
 ghost use Rattle.client_state.specs.declared.phase.Phase.TheVariants as phase;
+ghost use Rattle.front_end.specs.Acting.{ActsIf};
 ghost use Rattle.front_end.specs.Moving.{uncounted};
 ghost use Rattle.std.specs.Prelude.{IsSome, OnOk, length, ℕ, ◌+◌, ◌<◌, ◌≡◌, ◌≤◌};
 
@@ -23,6 +24,7 @@ impl Client {
         task: Task<'_>,
     ) -> Result<News, NoMemory>
         ensures { IsSome (asking_in self.old.phase) → OnOk result (uncounted task.tries self.new < uncounted task.tries self.old) }
+        ensures acts { ActsIf Q.shows (Q.view port.old) (Q.view port.new) }
     {
         match self.take_phase().into_asking() {
             Some((sent, answers)) => self.ask_coordinator(port, opened, task, sent, answers),
@@ -39,6 +41,7 @@ impl Client {
         answers: u32,
     ) -> Result<News, NoMemory>
         ensures { OnOk result (uncounted task.tries self.new < uncounted task.tries self.old + calls_in task.tries (phase.Asking sent answers)) }
+        ensures acts { ActsIf Q.shows (Q.view port.old) (Q.view port.new) }
     {
         match port.ask(sent.coordinator(), sent.ts) {
             Ok(Asked::Settled(verdict)) => self.learn_own(opened, sent, verdict),

@@ -1,6 +1,7 @@
 //! A client of repositories, which goes on by steps.
 
 ghost use Rattle.client_state.specs.Owing.{asking_in};
+ghost use Rattle.front_end.specs.Acting.{ActsIf};
 ghost use Rattle.front_end.specs.Moving.{GoesOn, Keeps, MovesOn, course_of, left_of, standing_of, uncounted};
 ghost use Rattle.front_end.specs.declared.front_end.Step.TheVariants as step;
 ghost use Rattle.item_progress.specs.Courses.{Goes, IsInOrder};
@@ -79,6 +80,7 @@ impl FrontEnd {
         ensures goes { Goes (course_of self.old) (course_of self.new) }
         ensures ended { result ≡ Ok step.Ended → (self.new ≡ self.old) × (length (course_of self.old).ended ≡ (course_of self.old).count) }
         ensures falls { result ≡ Ok step.Moved → Falls (left_of self.old) (left_of self.new) }
+        ensures acts { ActsIf Q.shows (Q.view port.old) (Q.view port.new) }
     {
         if self.has_ended() {
             return Ok(Step::Ended);
@@ -99,6 +101,7 @@ impl FrontEnd {
     fn move_on<Q: Port>(&mut self, port: &mut Q, opened: &Opened) -> Result<(), NoMemory>
         ensures goes { Goes (course_of self.old) (course_of self.new) }
         ensures falls { MovesOn self.old → OnOk result (Falls (left_of self.old) (left_of self.new)) }
+        ensures acts { ActsIf Q.shows (Q.view port.old) (Q.view port.new) }
     {
         match self.client.duties.abort.take() {
             Some(abort) => self.client.abort(port, abort),
@@ -110,6 +113,7 @@ impl FrontEnd {
     fn follow<Q: Port>(&mut self, port: &mut Q, opened: &Opened) -> Result<(), NoMemory>
         ensures goes { Goes (course_of self.old) (course_of self.new) }
         ensures falls { GoesOn self.old → OnOk result (Falls (left_of self.old) (left_of self.new)) }
+        ensures acts { ActsIf Q.shows (Q.view port.old) (Q.view port.new) }
     {
         match self.client.next_rule(opened) {
             Rule::Counted { rule } => self.follow_counted(port, opened, rule),
@@ -127,6 +131,7 @@ impl FrontEnd {
     ) -> Result<(), NoMemory>
         ensures goes { Goes (course_of self.old) (course_of self.new) }
         ensures falls { GoesOn self.old → OnOk result (Falls (left_of self.old) (left_of self.new)) }
+        ensures acts { ActsIf Q.shows (Q.view port.old) (Q.view port.new) }
     {
         if !self.attempts.count_call() {
             return self.run_out_of_calls(port);
@@ -140,6 +145,7 @@ impl FrontEnd {
     fn ask<Q: Port>(&mut self, port: &mut Q, opened: &Opened) -> Result<(), NoMemory>
         ensures goes { Goes (course_of self.old) (course_of self.new) }
         ensures falls { IsSome (asking_in self.old.client.phase) → OnOk result (Falls (left_of self.old) (left_of self.new)) }
+        ensures acts { ActsIf Q.shows (Q.view port.old) (Q.view port.new) }
     {
         let task = self.progress.task(opened, self.attempts.each);
         let news = self.client.ask(port, opened, task)?;
@@ -151,6 +157,7 @@ impl FrontEnd {
     fn run_out_of_calls<Q: Port>(&mut self, port: &mut Q) -> Result<(), NoMemory>
         ensures goes { Goes (course_of self.old) (course_of self.new) }
         ensures falls { GoesOn self.old → OnOk result (Falls (left_of self.old) (left_of self.new)) }
+        ensures acts { ActsIf Q.shows (Q.view port.old) (Q.view port.new) }
     {
         if self.progress.has_ended() {
             return self.client.hand_on(port);
@@ -192,6 +199,7 @@ impl FrontEnd {
     ) -> Result<(), NoMemory>
         ensures goes { Goes (course_of self.old) (course_of self.new) }
         ensures keeps { OnOk result (Keeps (left_of self.old) (left_of self.new)) }
+        ensures acts { ActsIf Q.shows (Q.view port.old) (Q.view port.new) }
     {
         match self.client.held.at(repo) {
             Some(at) => self.receive(port, opened, at),
@@ -203,6 +211,7 @@ impl FrontEnd {
     fn receive<Q: Port>(&mut self, port: &mut Q, opened: &Opened, at: At) -> Result<(), NoMemory>
         ensures goes { Goes (course_of self.old) (course_of self.new) }
         ensures keeps { OnOk result (Keeps (left_of self.old) (left_of self.new)) }
+        ensures acts { ActsIf Q.shows (Q.view port.old) (Q.view port.new) }
     {
         let news = self.client.receive_delivered(port, opened, at)?;
         self.take_down(news)
@@ -222,6 +231,7 @@ impl FrontEnd {
     fn ask_last<Q: Port>(&mut self, port: &mut Q, opened: &Opened, repo: u8) -> Result<(), NoMemory>
         ensures goes { Goes (course_of self.old) (course_of self.new) }
         ensures keeps { OnOk result (Keeps (left_of self.old) (left_of self.new)) }
+        ensures acts { ActsIf Q.shows (Q.view port.old) (Q.view port.new) }
     {
         let news = self.client.ask_last(port, opened, repo)?;
         self.take_down(news)

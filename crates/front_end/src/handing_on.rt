@@ -2,6 +2,7 @@
 
 ghost use Rattle.client_state.specs.Owing.{calls_of};
 ghost use Rattle.client_state.specs.declared.duties.Duty.TheVariants.{Finish};
+ghost use Rattle.front_end.specs.Acting.{ActsIf};
 ghost use Rattle.front_end.specs.Moving.{uncounted};
 ghost use Rattle.std.specs.Prelude.{OnOk, length, ℕ, ◌+◌, ◌<◌, ◌≡◌};
 
@@ -16,6 +17,7 @@ impl Client {
     /// Hands on the oldest verdict to its next participant, or has the coordinator forget.
     pub fn hand_on<Q: Port>(&mut self, port: &mut Q) -> Result<(), NoMemory>
         ensures { 0 < length self.old.duties.verdicts → OnOk result ((tries : ℕ) → uncounted tries self.new < uncounted tries self.old) }
+        ensures acts { ActsIf Q.shows (Q.view port.old) (Q.view port.new) }
     {
         if self.duties.verdicts.is_empty() {
             return Ok(());
@@ -39,6 +41,7 @@ impl Client {
         forgets: bool,
     ) -> Result<(), NoMemory>
         ensures { OnOk result ((tries : ℕ) → uncounted tries self.new < uncounted tries self.old + calls_of (Finish verdict to forgets)) }
+        ensures acts { ActsIf Q.shows (Q.view port.old) (Q.view port.new) }
     {
         if to.is_empty() {
             return Ok(());
@@ -71,7 +74,9 @@ impl Client {
 }
 
 /// Has the coordinator forget a decision. A refusal leaves it there.
-fn forget<Q: Port>(port: &mut Q, ts: Ts) -> Result<(), NoMemory> {
+fn forget<Q: Port>(port: &mut Q, ts: Ts) -> Result<(), NoMemory>
+    ensures acts { ActsIf Q.shows (Q.view port.old) (Q.view port.new) }
+{
     match port.forget(ts.repo, ts) {
         Ok(()) => Ok(()),
         Err(Refusal::NoMemory) => Err(NoMemory),
