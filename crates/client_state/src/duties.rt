@@ -1,7 +1,7 @@
 //! What a client has to do about transactions before its next try.
 
-ghost use Rattle.client_state.specs.Owing.{calls_of_all};
-ghost use Rattle.std.specs.Prelude.{IsTrue, None, OnOk, Some, [], length, not, ◌≡◌, ◌<◌, ◌≤◌, ◌+◌};
+ghost use Rattle.client_state.specs.Owing.{calls_of, calls_of_all};
+ghost use Rattle.std.specs.Prelude.{IsTrue, MatchOption, None, OnOk, Some, [], length, not, ◌≡◌, ◌<◌, ◌≤◌, ◌+◌};
 
 use message_outbox::{At, Verdict};
 use std::alloc::Global;
@@ -75,6 +75,51 @@ impl Duties {
         ensures { self.new ≡ record self.old { abort = Some abort } }
     {
         drop(mem::replace(&mut self.abort, Some(abort)));
+    }
+
+    /// Takes the oldest duty.
+    #[tactic(auto, using(crate::proofs::Owing::taken_first))]
+    pub fn take_first(&mut self) -> Option<Duty>
+        ensures first { MatchOption result (self.old.verdicts ≡ []) (λ duty. calls_of_all self.old.verdicts ≡ calls_of duty + calls_of_all self.new.verdicts) }
+        ensures rest { self.new ≡ record self.old { verdicts = self.new.verdicts } }
+    {
+        if self.verdicts.is_empty() {
+            return None;
+        }
+        Some(self.verdicts.remove(0))
+    }
+
+    /// A participant was to be told: the others come first now. Where none is left, the coordinator is to
+    /// forget, if it is to.
+    pub fn keep_behind(
+        &mut self,
+        verdict: Verdict,
+        others: Repos,
+        forgets: bool,
+    ) -> Result<(), NoMemory>
+        ensures owed { OnOk result (calls_of_all self.new.verdicts ≤ calls_of_all self.old.verdicts + (length others + 1)) }
+        ensures rest { self.new ≡ record self.old { verdicts = self.new.verdicts } }
+    {
+        if !others.is_empty() {
+            return self.put_first(Duty::Finish {
+                verdict,
+                to: others,
+                forgets,
+            });
+        }
+        if forgets {
+            return self.put_first(Duty::Forget { ts: verdict.tx() });
+        }
+        Ok(())
+    }
+
+    /// A duty comes before all others.
+    #[tactic(auto, using(crate::proofs::Owing::put_first))]
+    fn put_first(&mut self, duty: Duty) -> Result<(), NoMemory>
+        ensures owed { OnOk result (calls_of_all self.new.verdicts ≡ calls_of_all self.old.verdicts + calls_of duty) }
+        ensures rest { self.new ≡ record self.old { verdicts = self.new.verdicts } }
+    {
+        self.verdicts.insert(0, duty)
     }
 
     /// A verdict is to be handed to participants. A commit that all of them have finished is to be

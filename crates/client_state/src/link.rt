@@ -133,7 +133,7 @@ impl Link {
 
     /// A session has ended. It answers whether it is this one.
     pub fn end_session(&mut self, ended: u32) -> bool
-        ensures { self.new ≡ without_session ended self.old }
+        ensures link { self.new ≡ without_session ended self.old }
         ensures answer { result ≡ is_session ended self.old }
     {
         if !self.is_session(ended) {

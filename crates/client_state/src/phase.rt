@@ -1,7 +1,8 @@
 //! How far a try has come.
 
 ghost use Rattle.client_state.specs.Owing.{asking_in, calls_in, calls_of_abort};
-ghost use Rattle.std.specs.Prelude.{ℕ, ◌≡◌, ◌≤◌};
+ghost use Rattle.client_state.specs.declared.phase.Phase.TheVariants as phase;
+ghost use Rattle.std.specs.Prelude.{IfSome, ℕ, ◌≡◌, ◌≤◌};
 
 use crate::duties::Abort;
 use crate::link::Link;
@@ -90,7 +91,8 @@ impl Phase {
 
     /// What was sent, and how many answers had no verdict, where its verdict is asked for.
     pub fn into_asking(self) -> Option<(Sent, u32)>
-        ensures { result ≡ asking_in self }
+        ensures asked { result ≡ asking_in self }
+        ensures calls { IfSome result (λ asking. (tries : ℕ) → calls_in tries self ≡ calls_in tries (phase.Asking asking.0 asking.1)) }
     {
         match self {
             Phase::Asking { sent, answers } => Some((sent, answers)),

@@ -11,13 +11,65 @@ use std::fs::{File, OpenOptions};
 use std::os::unix::fs::FileExt;
 use std::rt::Files;
 
+/// How many bytes longer than its disk a log's file is made at once.
+const AHEAD: u64 = 1 << 18;
+
+/// The file of a log's disk. Zeros stand behind the disk's last byte while it is open, so that few of the writes change
+/// the file's length, which a sync would have to write too. It is cut to its disk's length when it is let go; where
+/// that doesn't come about, as when the program is killed, the zeros are taken for the disk's.
+struct LogFile {
+    file: File,
+    /// How many bytes the disk has.
+    len: u64,
+    /// How many bytes the file has.
+    room: u64,
+}
+
+impl LogFile {
+    /// A file with all its bytes as the disk's.
+    fn of(file: File) -> Option<LogFile> {
+        let len = file.metadata().ok()?.len();
+        Some(LogFile {
+            file,
+            len,
+            room: len,
+        })
+    }
+
+    fn write(&mut self, at: u64, bytes: &[u8]) -> Option<()> {
+        let end = at.saturating_add(bytes.len() as u64);
+        self.lengthen(end);
+        self.file.write_all_at(bytes, at).ok()?;
+        self.len = self.len.max(end);
+        Some(())
+    }
+
+    /// Makes the file longer than a write needs that would end past its end. One that can't be made so long stays.
+    fn lengthen(&mut self, end: u64) {
+        let room = end.saturating_add(AHEAD);
+        if self.room < end && self.file.set_len(room).is_ok() {
+            self.room = room;
+        }
+    }
+}
+
+impl Drop for LogFile {
+    fn drop(self) {
+        let LogFile { file, len, room } = self;
+        if len < room {
+            let _ = file.set_len(len);
+        }
+        drop(file);
+    }
+}
+
 /// Parts over three files, which tell contracts nothing but their counts. They never want memory.
 ///
 /// Where a file couldn't be opened, each call on that disk is `Failed`.
 #[derive(Drop)]
 pub struct FileParts<C> {
-    log0: Option<File>,
-    log1: Option<File>,
+    log0: Option<LogFile>,
+    log1: Option<LogFile>,
     pages: Option<File>,
     counts: Counts,
     clock: C,
@@ -36,8 +88,8 @@ impl<C> FileParts<C> {
         ensures clock { clock_of result ≡ clock }
     {
         FileParts {
-            log0: open_file(rt, log0),
-            log1: open_file(rt, log1),
+            log0: open_log(rt, log0),
+            log1: open_log(rt, log1),
             pages: open_file(rt, pages),
             counts: Counts::new(),
             clock,
@@ -46,9 +98,17 @@ impl<C> FileParts<C> {
 
     fn file(&self, disk: u8) -> Option<&File> {
         match disk {
-            0 => self.log0.as_ref(),
-            1 => self.log1.as_ref(),
+            0 => Some(&self.log0.as_ref()?.file),
+            1 => Some(&self.log1.as_ref()?.file),
             _ => self.pages.as_ref(),
+        }
+    }
+
+    fn len_of(&self, disk: u8) -> Option<u64> {
+        match disk {
+            0 => Some(self.log0.as_ref()?.len),
+            1 => Some(self.log1.as_ref()?.len),
+            _ => file_len(self.pages.as_ref()),
         }
     }
 }
@@ -61,17 +121,33 @@ fn open_file<R: Files<File = File>>(rt: &R, path: &str) -> Option<File> {
     options.open(rt, path).ok()
 }
 
+fn open_log<R: Files<File = File>>(rt: &R, path: &str) -> Option<LogFile> {
+    LogFile::of(open_file(rt, path)?)
+}
+
 fn read(file: Option<&File>, at: u64, into: &mut [u8]) -> Option<()> {
     file?.read_exact_at(into, at).ok()
 }
 
-fn write(file: Option<&File>, at: u64, bytes: &[u8]) -> Option<()>
+/// Writes bytes into the file of a disk.
+fn write(
+    disk: u8,
+    log0: &mut Option<LogFile>,
+    log1: &mut Option<LogFile>,
+    pages: &Option<File>,
+    at: u64,
+    bytes: &[u8],
+) -> Option<()>
     ensures { 2 ^ 40 < at + length bytes.now → result ≡ None }
 {
     if ends_too_far(at, bytes.len()) {
         return None;
     }
-    file?.write_all_at(bytes, at).ok()
+    match disk {
+        0 => log0.as_mut()?.write(at, bytes),
+        1 => log1.as_mut()?.write(at, bytes),
+        _ => pages.as_ref()?.write_all_at(bytes, at).ok(),
+    }
 }
 
 fn sync(file: Option<&File>) -> Option<()> {
@@ -105,7 +181,7 @@ impl<C: Clock> Parts for FileParts<C> {
         ensures counts { counts_of self.new ≡ counted (counts_of self.old) disk (is_err result) }
         ensures no_memory { IsErrOf result Outage.NoMemory → ⊥ }
     {
-        let answer = write(self.file(disk), at, bytes);
+        let answer = write(disk, &mut self.log0, &mut self.log1, &self.pages, at, bytes);
         self.counts.after(disk, answer)
     }
 
@@ -127,7 +203,7 @@ impl<C: Clock> Parts for FileParts<C> {
         ensures counts { counts_of self.new ≡ counted (counts_of self.old) disk (is_err result) }
         ensures no_memory { IsErrOf result Outage.NoMemory → ⊥ }
     {
-        let answer = file_len(self.file(disk));
+        let answer = self.len_of(disk);
         self.counts.after(disk, answer)
     }
 

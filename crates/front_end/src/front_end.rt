@@ -98,6 +98,7 @@ impl FrontEnd {
     }
 
     /// What is to be aborted is aborted, or the rule that is next is followed.
+    #[tactic(auto, using(crate::proofs::Moving::same_standing_falls))]
     fn move_on<Q: Port>(&mut self, port: &mut Q, opened: &Opened) -> Result<(), NoMemory>
         ensures goes { Goes (course_of self.old) (course_of self.new) }
         ensures falls { MovesOn self.old → OnOk result (Falls (left_of self.old) (left_of self.new)) }
@@ -110,6 +111,7 @@ impl FrontEnd {
     }
 
     /// Follows the rule that is next.
+    #[tactic(auto, using(crate::proofs::Moving::same_standing_falls))]
     fn follow<Q: Port>(&mut self, port: &mut Q, opened: &Opened) -> Result<(), NoMemory>
         ensures goes { Goes (course_of self.old) (course_of self.new) }
         ensures falls { GoesOn self.old → OnOk result (Falls (left_of self.old) (left_of self.new)) }
@@ -123,6 +125,7 @@ impl FrontEnd {
     }
 
     /// Follows a rule whose calls are counted.
+    #[tactic(auto, using(item_progress::proofs::Falling::then_never_rises))]
     fn follow_counted<Q: Port>(
         &mut self,
         port: &mut Q,
@@ -133,15 +136,42 @@ impl FrontEnd {
         ensures falls { GoesOn self.old → OnOk result (Falls (left_of self.old) (left_of self.new)) }
         ensures acts { ActsIf Q.shows (Q.view port.old) (Q.view port.new) }
     {
-        if !self.attempts.count_call() {
+        if !self.count_call() {
             return self.run_out_of_calls(port);
         }
+        self.make_counted(port, opened, rule)
+    }
+
+    /// Counts a call, where one may still be made.
+    #[tactic(auto, using(item_progress::proofs::Falling::calls_fall))]
+    fn count_call(&mut self) -> bool
+        ensures each { self.new.attempts.each ≡ self.old.attempts.each }
+        ensures counted { IsTrue result → CountsDown (standing_of self.old) (standing_of self.new) }
+        ensures course { course_of self.new ≡ course_of self.old }
+        ensures none { IsTrue (not result) → self.new ≡ self.old }
+    {
+        self.attempts.count_call()
+    }
+
+    /// Makes the call of a rule whose calls are counted, and takes down what it has come to.
+    fn make_counted<Q: Port>(
+        &mut self,
+        port: &mut Q,
+        opened: &Opened,
+        rule: Counted,
+    ) -> Result<(), NoMemory>
+        ensures goes { Goes (course_of self.old) (course_of self.new) }
+        ensures each { self.new.attempts.each ≡ self.old.attempts.each }
+        ensures left { OnOk result (NeverRises (standing_of self.old) (standing_of self.new)) }
+        ensures acts { ActsIf Q.shows (Q.view port.old) (Q.view port.new) }
+    {
         let task = self.progress.task(opened, self.attempts.each);
         let news = self.client.follow(port, opened, task, rule)?;
         self.take_down(news)
     }
 
     /// Asks for the verdict on the client's own transaction.
+    #[tactic(auto, using(item_progress::proofs::Falling::uncounted_falls))]
     fn ask<Q: Port>(&mut self, port: &mut Q, opened: &Opened) -> Result<(), NoMemory>
         ensures goes { Goes (course_of self.old) (course_of self.new) }
         ensures falls { IsSome (asking_in self.old.client.phase) → OnOk result (Falls (left_of self.old) (left_of self.new)) }
@@ -154,6 +184,7 @@ impl FrontEnd {
 
     /// The calls of the try are used up: it ends. Where no item is left, what held a next try back is passed
     /// over, and a verdict is handed on.
+    #[tactic(auto, using(crate::proofs::Moving::same_standing_falls))]
     fn run_out_of_calls<Q: Port>(&mut self, port: &mut Q) -> Result<(), NoMemory>
         ensures goes { Goes (course_of self.old) (course_of self.new) }
         ensures falls { GoesOn self.old → OnOk result (Falls (left_of self.old) (left_of self.new)) }
@@ -208,6 +239,7 @@ impl FrontEnd {
     }
 
     /// Takes one message of a session.
+    #[tactic(auto, using(item_progress::proofs::Falling::nothing_rises))]
     fn receive<Q: Port>(&mut self, port: &mut Q, opened: &Opened, at: At) -> Result<(), NoMemory>
         ensures goes { Goes (course_of self.old) (course_of self.new) }
         ensures keeps { OnOk result (Keeps (left_of self.old) (left_of self.new)) }
@@ -228,6 +260,7 @@ impl FrontEnd {
     }
 
     /// Asks once for the Unknown item that a repository coordinates.
+    #[tactic(auto, using(item_progress::proofs::Falling::nothing_rises))]
     fn ask_last<Q: Port>(&mut self, port: &mut Q, opened: &Opened, repo: u8) -> Result<(), NoMemory>
         ensures goes { Goes (course_of self.old) (course_of self.new) }
         ensures keeps { OnOk result (Keeps (left_of self.old) (left_of self.new)) }

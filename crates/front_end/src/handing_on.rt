@@ -1,7 +1,6 @@
 //! The fifth rule: verdicts are handed on.
 
 ghost use Rattle.client_state.specs.Owing.{calls_of};
-ghost use Rattle.client_state.specs.declared.duties.Duty.TheVariants.{Finish};
 ghost use Rattle.front_end.specs.Acting.{ActsIf};
 ghost use Rattle.front_end.specs.Moving.{uncounted};
 ghost use Rattle.std.specs.Prelude.{OnOk, length, ℕ, ◌+◌, ◌<◌, ◌≡◌};
@@ -19,10 +18,18 @@ impl Client {
         ensures { 0 < length self.old.duties.verdicts → OnOk result ((tries : ℕ) → uncounted tries self.new < uncounted tries self.old) }
         ensures acts { ActsIf Q.shows (Q.view port.old) (Q.view port.new) }
     {
-        if self.duties.verdicts.is_empty() {
-            return Ok(());
+        match self.duties.take_first() {
+            Some(duty) => self.do_next(port, duty),
+            None => Ok(()),
         }
-        match self.duties.verdicts.remove(0) {
+    }
+
+    /// Makes the next call of a duty, and keeps what is to be done behind it.
+    fn do_next<Q: Port>(&mut self, port: &mut Q, duty: Duty) -> Result<(), NoMemory>
+        ensures { OnOk result ((tries : ℕ) → uncounted tries self.new < uncounted tries self.old + calls_of duty) }
+        ensures acts { ActsIf Q.shows (Q.view port.old) (Q.view port.new) }
+    {
+        match duty {
             Duty::Finish {
                 verdict,
                 to,
@@ -40,36 +47,26 @@ impl Client {
         mut to: Repos,
         forgets: bool,
     ) -> Result<(), NoMemory>
-        ensures { OnOk result ((tries : ℕ) → uncounted tries self.new < uncounted tries self.old + calls_of (Finish verdict to forgets)) }
+        ensures { OnOk result ((tries : ℕ) → uncounted tries self.new < uncounted tries self.old + (length to + 1)) }
         ensures acts { ActsIf Q.shows (Q.view port.old) (Q.view port.new) }
     {
         if to.is_empty() {
             return Ok(());
         }
         let repo = to.remove(0);
-        let told = match port.finish(repo, &verdict) {
-            Ok(_) => true,
-            Err(Refusal::NoMemory) => return Err(NoMemory),
-            Err(_) => false,
-        };
-        let forgets = forgets && told;
-        if !to.is_empty() {
-            return self.duties.verdicts.insert(
-                0,
-                Duty::Finish {
-                    verdict,
-                    to,
-                    forgets,
-                },
-            );
-        }
-        if forgets {
-            return self
-                .duties
-                .verdicts
-                .insert(0, Duty::Forget { ts: verdict.tx() });
-        }
-        Ok(())
+        let told = tell(port, repo, &verdict)?;
+        self.duties.keep_behind(verdict, to, forgets && told)
+    }
+}
+
+/// Tells a participant the verdict. It answers whether it has taken it.
+fn tell<Q: Port>(port: &mut Q, repo: u8, verdict: &Verdict) -> Result<bool, NoMemory>
+    ensures acts { ActsIf Q.shows (Q.view port.old) (Q.view port.new) }
+{
+    match port.finish(repo, verdict) {
+        Ok(_) => Ok(true),
+        Err(Refusal::NoMemory) => Err(NoMemory),
+        Err(_) => Ok(false),
     }
 }
 

@@ -3,7 +3,7 @@
 ghost use Rattle.client_state.specs.declared.phase.Phase.TheVariants as phase;
 ghost use Rattle.front_end.specs.Moving.{uncounted};
 ghost use Rattle.item_progress.specs.declared.news.News.TheVariants as news;
-ghost use Rattle.std.specs.Prelude.{ℕ, ◌≡◌, ◌≤◌};
+ghost use Rattle.std.specs.Prelude.{OnOk, ℕ, ◌≡◌, ◌≤◌};
 
 use crate::client::Client;
 use client_state::{Came, Helping, Phase, cause_of};
@@ -76,17 +76,29 @@ impl Client {
     /// aborted.
     pub fn end_try(&mut self, cause: Cause) -> News
         ensures news { result ≡ news.TryEnded cause }
+        ensures phase { self.new.phase ≡ phase.Between }
         ensures left { (tries : ℕ) → uncounted tries self.new ≤ uncounted tries self.old }
     {
-        if let Some(abort) = self.take_phase().into_abort() {
-            self.duties.note_abort(abort);
-        }
+        self.end_phase();
         self.held.give_up();
         News::TryEnded { cause }
     }
 
+    /// No try runs any more. What its coordinator has prepared is to be aborted.
+    fn end_phase(&mut self)
+        ensures phase { self.new.phase ≡ phase.Between }
+        ensures left { (tries : ℕ) → uncounted tries self.new ≤ uncounted tries self.old }
+    {
+        match self.take_phase().into_abort() {
+            Some(abort) => self.duties.note_abort(abort),
+            None => {}
+        }
+    }
+
     /// A request was refused: the client learns from it, and the try ends.
-    pub fn end_refused(&mut self, repo: u8, refusal: Refusal) -> Result<News, NoMemory> {
+    pub fn end_refused(&mut self, repo: u8, refusal: Refusal) -> Result<News, NoMemory>
+        ensures { OnOk result (self.new.phase ≡ phase.Between) }
+    {
         let cause = cause_of(refusal, repo)?;
         self.held.learn(repo, refusal);
         if let Some(helping) = helping_behind(refusal, repo) {

@@ -30,19 +30,20 @@ pub(crate) fn image_of(alloc: Global, base: &Page, mob: &Mob, repo: u8) -> Resul
     ensures objects { IfOk result HasObjects }
 {
     let mut image = base.copy()?;
+    let mut room = Text::from_vec(Vec::with_capacity(alloc, USUAL)?);
     for slot in 0..SLOTS {
         let oref = Oref {
             repo,
             page: base.number(),
             slot,
         };
-        put_over(alloc, &mut image, mob, oref)?;
+        put_over(&mut image, &mut room, mob, oref)?;
     }
     Ok(image)
 }
 
-/// Puts the buffer's object of a name into its slot, where there is one.
-fn put_over(alloc: Global, image: &mut Page, mob: &Mob, oref: Oref) -> Result<(), NoMemory>
+/// Puts the buffer's object of a name into its slot, where there is one. It is spelled in the room.
+fn put_over(image: &mut Page, room: &mut Text, mob: &Mob, oref: Oref) -> Result<(), NoMemory>
     requires objects { HasObjects image.old }
     requires slot { oref.slot < 12 }
     ensures ok { OnOk result (image.new ≡ overlaid image.old oref.slot (object_of mob.now.objects oref)) }
@@ -50,21 +51,21 @@ fn put_over(alloc: Global, image: &mut Page, mob: &Mob, oref: Oref) -> Result<()
 {
     match mob.get(oref) {
         None => Ok(()),
-        Some(object) => put_object(alloc, image, oref.slot, object),
+        Some(object) => put_object(image, room, oref.slot, object),
     }
 }
 
-/// Puts an object into a slot.
-fn put_object(alloc: Global, image: &mut Page, slot: u8, object: &Obj) -> Result<(), NoMemory>
+/// Puts an object into a slot. It is spelled in the room.
+fn put_object(image: &mut Page, room: &mut Text, slot: u8, object: &Obj) -> Result<(), NoMemory>
     requires objects { HasObjects image.old }
     requires slot { slot < 12 }
     requires object { ObjFits object.now }
     ensures ok { OnOk result (image.new ≡ overlaid image.old slot (Some object.now)) }
     ensures objects { HasObjects image.new }
 {
-    let mut bytes = Text::from_vec(Vec::with_capacity(alloc, USUAL)?);
-    put_obj(object, &mut bytes)?;
-    match put_bytes(image, slot, bytes.as_slice()) {
+    room.truncate(0);
+    put_obj(object, room)?;
+    match put_bytes(image, slot, room.as_slice()) {
         Ok(()) => Ok(()),
         Err(_) => Err(NoMemory),
     }

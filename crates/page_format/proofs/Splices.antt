@@ -155,3 +155,16 @@ module _ (count slot : ℕ) (bytes object : List ℕ) (s : AreStored count bytes
   pub ready_in : (place : ℕ × ℕ) (ready front back : List ℕ) → place ≡ place_at count slot bytes → ready ≡ front ++ object_entry (slot, object) ++ back → front ≡ take place.0 bytes → back ≡ drop place.1 bytes → ready ≡ entries new
   ready_in place ready front back e r f b =
       r ∙ ap (λ (t : List ℕ). (t ++ object_entry (slot, object)) ++ back) f ∙ ap (λ (t : List ℕ). (take place.0 bytes ++ object_entry (slot, object)) ++ t) b ∙ whole_in place e
+
+  -- an object in the place of one of its length
+  pub over_in : (place : ℕ × ℕ) (ready : List ℕ) → place ≡ place_at count slot bytes → place.0 ≤ place.1 → place.1 ≤ length bytes → place.1 - place.0 ≡ 3 + length object → slot < 256
+      → ready ≡ (take place.0 bytes ++ object_entry (slot, object)) ++ drop (place.0 + (3 + length object)) bytes → AreStored count ready × (pairs_of count ready ≡ new)
+  over_in place ready e le within size fits r =
+      let end : place.0 + (3 + length object) ≡ place.1 = omega (arith, size, le) in
+      let whole : ready ≡ entries new = r ∙ ap (λ (k : ℕ). (take place.0 bytes ++ object_entry (slot, object)) ++ drop k bytes) end ∙ whole_in place e in
+      let long = length_in place e le within in
+      let room = s.fit.room in
+      let few = s.fit.count in
+      let all = s.all in
+      let same = ap length s.whole in
+      stored_in count fits (omega (arith, room, same, within, size)) (there_in place e (λ h. omega (arith, h, size))) (omega (arith, few, all)) (omega (arith, long, room, same, size, le, within)) ready whole

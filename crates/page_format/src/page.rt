@@ -4,7 +4,7 @@ ghost use Rattle.thor_value.specs.FiniteMap.{empty, get, insert, len as object_c
 ghost use Rattle.page_format.specs.Pages.{Contents, PageFits, ObjectsFit, Passes, Parsed, page_bytes, page_size, taken};
 
 use crate::fault::{Damaged, Full};
-use crate::splice::{spelled, spliced};
+use crate::splice::{put_over, spelled, spliced};
 use crate::walk::{find, nth, parts_of};
 use std::alloc::Global;
 use std::marker::Model;
@@ -101,6 +101,9 @@ impl Page {
         ensures full { IsErrOf result Full.NoRoom → Passes (insert self.old.objects slot bytes.now).pairs }
         ensures err { OnErr result (self.new ≡ self.old) }
     {
+        if put_over(self.entries.as_mut_slice(), self.count, slot, bytes) {
+            return Ok(());
+        }
         let alloc = *self.entries.allocator();
         let (entries, count) = spliced(alloc, self.entries.as_slice(), self.count, slot, bytes)?;
         self.entries = entries;

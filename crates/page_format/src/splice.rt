@@ -1,6 +1,7 @@
 //! Putting an object among others, and spelling a page.
 
-ghost use Rattle.std.specs.Prelude.{◌≡◌, ◌≤◌, ◌<◌, ◌+◌, ◌-◌, ◌^◌, ◌++◌, length, replicate, IfOk, IsErrOf, OnOk};
+ghost use Rattle.std.specs.Prelude.{◌≡◌, ◌≤◌, ◌<◌, ◌+◌, ◌-◌, ◌^◌, ◌++◌, ◌∷◌, length, take, drop, replicate, true, false, IfOk, IsErrOf, OnOk};
+ghost use Rattle.std.specs.Int.{w16, to_be_bytes};
 ghost use Rattle.std.specs.Ordering.{nat_cmp};
 ghost use Rattle.std.specs.BTreeMap.{insert_entry};
 ghost use Rattle.page_format.specs.Pages.{Passes, head, object_entry};
@@ -48,6 +49,51 @@ pub(crate) fn spliced(
     }
 }
 
+/// Puts an object in the place of one of its length that is in its slot, and tells whether there is one.
+pub(crate) fn put_over(entries: &mut [u8], count: u8, slot: u8, object: &[u8]) -> bool
+    requires { AreStored count entries.old }
+    ensures stored { AreStored count entries.new }
+    ensures pairs { result ≡ true → pairs_of count entries.new ≡ insert_entry nat_cmp (pairs_of count entries.old) slot object.now }
+    ensures left { result ≡ false → entries.new ≡ entries.old }
+{
+    let (start, end) = place(entries, count, slot);
+    if end - start != ENTRY + object.len() {
+        return false;
+    }
+    put_at(entries, start, slot, object);
+    true
+}
+
+/// Puts an object in its slot over the bytes from a place on.
+fn put_at(entries: &mut [u8], start: usize, slot: u8, object: &[u8])
+    requires within { start + (3 + length object.now) ≤ length entries.old }
+    requires short { length object.now ≤ 4096 }
+    ensures { entries.new ≡ (take start entries.old ++ object_entry (slot, object.now)) ++ drop (start + (3 + length object.now)) entries.old }
+{
+    let end = start + (ENTRY + object.len());
+    fill(&mut entries[start..end], slot, object);
+}
+
+/// Puts an object in its slot over as many bytes as it takes.
+fn fill(bytes: &mut [u8], slot: u8, object: &[u8])
+    requires size { length bytes.old ≡ 3 + length object.now }
+    requires short { length object.now ≤ 4096 }
+    ensures { bytes.new ≡ object_entry (slot, object.now) }
+{
+    let (about, body) = bytes.split_at_mut(ENTRY);
+    about.copy_from_slice(&about_bytes(slot, object.len() as u16));
+    body.copy_from_slice(object);
+}
+
+/// What stands before an object of so many bytes: its slot, and the number of its bytes.
+fn about_bytes(slot: u8, count: u16) -> [u8; 3]
+    ensures { result ≡ slot ∷ to_be_bytes w16 count }
+{
+    let mut about = [slot, 0, 0];
+    BigEndian::write_u16(&mut about[1..], count);
+    about
+}
+
 /// An object in its slot, between the bytes of others.
 fn joined(
     alloc: Global,
@@ -61,10 +107,8 @@ fn joined(
 {
     let room = front.len() + ENTRY + object.len() + back.len();
     let mut bytes = Vec::with_capacity(alloc, room)?;
-    let mut about = [slot, 0, 0];
-    BigEndian::write_u16(&mut about[1..], object.len() as u16);
     bytes.extend_from_slice(front)?;
-    bytes.extend_from_slice(&about)?;
+    bytes.extend_from_slice(&about_bytes(slot, object.len() as u16))?;
     bytes.extend_from_slice(object)?;
     bytes.extend_from_slice(back)?;
     Ok(bytes)

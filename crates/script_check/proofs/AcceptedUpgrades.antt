@@ -1,5 +1,6 @@
 -- That upgrades of which no fault is told are accepted one after the other as epochs of a store.
 use Rattle.std.proofs.Common.{◌≡◌, ◌<◌, ℕ, zero, suc, arith, List, [], ◌∷◌, length, None, refl, ap, sym, subst, ◌∙◌}
+use Rattle.class_defs.proofs.KeptRules.{neither}
 use Rattle.class_defs.specs.Accepted.{AllAccepted, IsAccepted}
 use Rattle.class_defs.specs.Applied.{applied}
 use Rattle.class_defs.specs.Epochs.{schema_of}
@@ -7,7 +8,6 @@ use Rattle.class_defs.specs.UpgradeOrder.{own_fault}
 use Rattle.class_defs.specs.declared.statements.Stmt.{Stmt}
 use Rattle.class_defs.specs.declared.store.Schema.{Schema}
 use Rattle.class_defs.specs.declared.upgrades.Upgrade.{Upgrade}
-use Rattle.script_check.proofs.UpgradingLaws.{none_first}
 use Rattle.script_check.specs.Upgrading.{schemas_behind, upgrades_fault}
 
 -- the epochs behind the first upgrade are those of the store that begins there
@@ -20,11 +20,11 @@ accepted_at repos blocks s [] k none h = absurd (omega (arith, h))
 accepted_at repos blocks s (u ∷ us) zero none h = record {
   upgrade = u;
   leads = refl;
-  keeps = (none_first (own_fault s repos u blocks) (upgrades_fault (applied s u) repos us blocks) none).0;
+  keeps = (neither (own_fault s repos u blocks) (upgrades_fault (applied s u) repos us blocks) none).0;
   behind = refl;
 }
 accepted_at repos blocks s (u ∷ us) (suc k) none h =
-    let n = none_first (own_fault s repos u blocks) (upgrades_fault (applied s u) repos us blocks) none in
+    let n = neither (own_fault s repos u blocks) (upgrades_fault (applied s u) repos us blocks) none in
     let within : k < length us = omega (arith, h) in
     let a : IsAccepted (schemas_behind (applied s u) us) repos blocks k = accepted_at repos blocks (applied s u) us k n.1 within in
     let here = same_schema s u us k in

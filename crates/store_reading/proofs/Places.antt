@@ -1,5 +1,5 @@
 -- The seats of a store beside its parts.
-use Rattle.repository_reading.proofs.Paging as lists
+use Rattle.std.proofs.lemmas.Slice.Zip.{all_zipped_more}
 use Rattle.repository_reading.specs.Same.{AreSame}
 use Rattle.store_reading.specs.Seated.{AreSeated, Gives}
 use Rattle.store_reading.specs.declared.closed.Closed.{Closed}
@@ -13,7 +13,7 @@ use Rattle.std.specs.declared.vec.IntoIter.{IntoIter}
 module _ {X Y : Type 0} (R : X → Y → Type 0) where
   -- one more of each list
   pub zip_more : (xs : List X) (ys put : List Y) (x : X) (y : Y) → put ≡ ys ++ y ∷ [] → AllZip R xs ys → R x y → AllZip R (xs ++ x ∷ []) put
-  zip_more xs ys put x y is each one = subst (λ (zs : List Y). AllZip R (xs ++ x ∷ []) zs) (sym is) (lists.zip_more R xs ys x y each one)
+  zip_more xs ys put x y is each one = subst (λ (zs : List Y). AllZip R (xs ++ x ∷ []) zs) (sym is) (all_zipped_more R xs ys x y each one)
 
 pub next_one : {X : Type 0} (yielded rest left all : List X) (x : X) → yielded ++ rest ≡ all → rest ≡ x ∷ left → (yielded ++ x ∷ []) ++ left ≡ all
 next_one yielded rest left all x whole next = append_assoc yielded (x ∷ []) left ∙ (ap (λ xs. yielded ++ xs) (sym next) ∙ whole)

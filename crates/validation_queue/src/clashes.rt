@@ -112,7 +112,12 @@ pub fn first_earlier(members: &Members, tx: Ts, ros: &[Oref]) -> Option<Reason>
 }
 
 /// The clash with the least member that is later.
-pub fn first_later(members: &Members, tx: Ts, ros: &[Oref], writes: &[(Oref, Obj)]) -> Option<Reason>
+pub fn first_later(
+    members: &Members,
+    tx: Ts,
+    ros: &[Oref],
+    writes: &[(Oref, Obj)],
+) -> Option<Reason>
     requires { IsInOrder ros.now (keys_of writes.now) }
     ensures { result ≡ first_some (comes_later tx ros.now (keys_of writes.now)) members.now.entries }
 {

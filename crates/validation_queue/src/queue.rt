@@ -100,7 +100,13 @@ impl Queue {
     ///
     /// It looks at the transactions in the queue alone, of which there are at most 1,024, and takes no
     /// memory. Where all of them are decided and the transaction is above them, it looks at one.
-    pub fn validate(&self, tx: Ts, upgrade: bool, ros: &Orefs, writes: &Writes) -> Result<(), Reason>
+    pub fn validate(
+        &self,
+        tx: Ts,
+        upgrade: bool,
+        ros: &Orefs,
+        writes: &Writes,
+    ) -> Result<(), Reason>
         requires { IsInOrder ros.now (keys_of writes.now) }
         ensures { result ≡ answer (clash self.now (transaction tx upgrade ros.now writes.now)) }
     {
