@@ -106,6 +106,12 @@ cause_tells (cause.Reason (Full a)) (cause.Reason (Full b)) n m f g h k e =
     (ap (λ t. cause.Reason (Full t)) (decimal_injective a b f g a'), decimal_injective n m h k c)
 cause_tells (cause.Reason ClockEnd) (cause.Reason ClockEnd) n m f g h k e = let c : decimal n ≡ decimal m = cc in (refl, decimal_injective n m h k c)
 cause_tells Calls Calls n m f g h k e = let c : decimal n ≡ decimal m = cc in (refl, decimal_injective n m h k c)
+cause_tells (Missing x) (cause.Reason ClockEnd) n m f g h k e =
+    let same : first_mark (cause_words (Missing x) ++ try_words n) ≡ first_mark (cause_words (cause.Reason ClockEnd) ++ try_words m) = ap first_mark e in absurd (omega arith)
+cause_tells (Down a) (cause.Reason ClockEnd) n m f g h k e =
+    let same : first_mark (cause_words (Down a) ++ try_words n) ≡ first_mark (cause_words (cause.Reason ClockEnd) ++ try_words m) = ap first_mark e in absurd (omega arith)
+cause_tells Calls (cause.Reason ClockEnd) n m f g h k e =
+    let same : first_mark (cause_words Calls ++ try_words n) ≡ first_mark (cause_words (cause.Reason ClockEnd) ++ try_words m) = ap first_mark e in absurd (omega arith)
 cause_tells c d n m f g h k e =
     let same : first_mark (cause_words c ++ try_words n) ≡ first_mark (cause_words d ++ try_words m) = ap first_mark e in absurd (omega arith)
 
