@@ -30,17 +30,19 @@ one_copy y o is = by (same_oref y x) refl is
     by true k e = (tells_apart oref_exact y x k, cc)
     by false k e = cc
 
+-- a copy is current, and its page is the session's
+abbrev Holds : List Item → Oref → Obj → Type 0
+Holds T y o = IsSomeAnd (session home T 2) (λ v. IsCurrent home (entries T) 2 v nothing_committed y o × (has v.pages y.page ≡ true))
+
+-- the one copy is of x
+each_copy : (T : List Item) → Holds T x (box 0) → (y : Oref) (o : Obj) → copy_of_x y ≡ Some o → Holds T y o
+each_copy T h y o is = let k = one_copy y o is in subst (λ z. Holds T z o) (sym k.0) (subst (Holds T x) k.1 h)
+
 none_since : OthersSince 2 1 (writers home (entries fetched) x)
 none_since = All-nil (λ c. 1 ≤ c.0 → nat_eq c.1.session 2 ≡ false)
 
 right : IsSomeAnd (session home fetched 2) (λ v. RightAt home (entries fetched) 2 v x (box 0) 1)
 right = record { unknown = omega arith; there = omega arith; cached = omega arith; value = refl; others = none_since }
-
-current : (y : Oref) (o : Obj) → copy_of_x y ≡ Some o → IsSomeAnd (session home fetched 2) (λ v. IsCurrent home (entries fetched) 2 v nothing_committed y o × (has v.pages y.page ≡ true))
-current y o is =
-    let k = one_copy y o is in
-    subst (λ z. IsSomeAnd (session home fetched 2) (λ v. IsCurrent home (entries fetched) 2 v nothing_committed z o × (has v.pages z.page ≡ true))) (sym k.0)
-    (subst (λ u. IsSomeAnd (session home fetched 2) (λ v. IsCurrent home (entries fetched) 2 v nothing_committed x u × (has v.pages x.page ≡ true))) k.1 (inl (1, right), refl))
 
 unsettled : {A : Type 0} → false ≡ true → A
 unsettled e = cc
@@ -55,7 +57,7 @@ taken = record {
     step = record { taken = omega arith; acked = omega arith };
     asked = omega arith;
     copies = λ _. record {
-      current = λ y o here is. current y o is;
+      current = λ y o here is. each_copy fetched (inl (1, right), refl) y o is;
       own = λ y o d t w here own is. unsettled own.settled;
       pages = All-nil (StaysRight home (entries fetched) 2 nothing_committed);
     };
@@ -68,12 +70,6 @@ since_then = All-cons (λ c. 1 ≤ c.0 → nat_eq c.1.session 2 ≡ false) (2, s
 right_then : IsSomeAnd (session home written_since 2) (λ v. RightAt home (entries written_since) 2 v x (box 0) 1)
 right_then = record { unknown = omega arith; there = omega arith; cached = omega arith; value = refl; others = since_then }
 
-current_then : (y : Oref) (o : Obj) → copy_of_x y ≡ Some o → IsSomeAnd (session home written_since 2) (λ v. IsCurrent home (entries written_since) 2 v nothing_committed y o × (has v.pages y.page ≡ true))
-current_then y o is =
-    let k = one_copy y o is in
-    subst (λ z. IsSomeAnd (session home written_since 2) (λ v. IsCurrent home (entries written_since) 2 v nothing_committed z o × (has v.pages z.page ≡ true))) (sym k.0)
-    (subst (λ u. IsSomeAnd (session home written_since 2) (λ v. IsCurrent home (entries written_since) 2 v nothing_committed x u × (has v.pages x.page ≡ true))) k.1 (inl (1, right_then), refl))
-
 pub written : FitsAt 2 home Calm written_since nothing_committed (keeping 1 copy_of_x)
 written = record {
   v = _;
@@ -84,7 +80,7 @@ written = record {
     step = record { taken = omega arith; acked = omega arith };
     asked = omega arith;
     copies = λ _. record {
-      current = λ y o here is. current_then y o is;
+      current = λ y o here is. each_copy written_since (inl (1, right_then), refl) y o is;
       own = λ y o d t w here own is. unsettled own.settled;
       pages = All-cons (StaysRight home (entries written_since) 2 nothing_committed) (Invalid (x ∷ []) 2) [] tt (All-nil (StaysRight home (entries written_since) 2 nothing_committed));
     };

@@ -1,5 +1,6 @@
 -- Links behind calls on a port that shows what its calls do.
 use Rattle.client_cache.specs.Copies.{Contents, kept}
+use Rattle.client_laws.proofs.Asking.{same_number}
 use Rattle.client_laws.proofs.Growing.{agrees_before, grown}
 use Rattle.client_laws.proofs.Linked.{outlives}
 use Rattle.client_laws.proofs.Working as works
@@ -54,10 +55,6 @@ set_here (x ∷ xs) (suc r) old new e = set_here xs r old new e
 changes_here : (xs : List Link) (r : ℕ) (f : Link → Link) (old : Link) → slice_get xs r ≡ Some old → slice_get (at_repo xs r f) r ≡ Some (f old)
 changes_here xs r f old e = ap (λ (o : Option Link). slice_get (changed_at xs r f o) r) e ∙ set_here xs r old (f old) e
 
-same_number : (n : ℕ) → nat_eq n n ≡ true
-same_number zero = refl
-same_number (suc n) = same_number n
-
 -- ---- what is seen
 
 module _ (old new : View) (n : ℕ) (committed : Ts → Bool) (same : new.opened ≡ old.opened) (seen : IsSeenRight new n committed) where
@@ -85,7 +82,7 @@ others_fit old new r n at met committed link copies called other seen h =
 
 -- ---- the trace at the call is a front of the one behind it
 
-Front : List Item → List Item → Type 0
+abbrev Front : List Item → List Item → Type 0
 Front at after = (more : List Item) × (after ≡ at ++ more)
 
 none_more : (at after : List Item) → after ≡ at → Front at after
@@ -164,7 +161,7 @@ module _ (old new : View) (r : ℕ) (committed : Ts → Bool) (at : List Item) (
   sd = sound_now old new r committed called.same seen
 
   split : (f : Front at after) → entries after ≡ entries at ++ entries f.0
-  split f = ap entries f.1 ∙ entries-append at
+  split f = ap entries f.1 ∙ entries-append at f.0
 
   -- what is kept fits the trace at the call
   met_fits : Front at after → (kept' : Kept) → FitsAt c b (old.unsettled r) (old.seen r) committed kept' → FitsAt c b met at committed kept'
@@ -191,7 +188,7 @@ module _ (old new : View) (r : ℕ) (committed : Ts → Bool) (at : List Item) (
     gone_link = changes_here before r (without_session s) (Joined s upto waits) there ∙ ap (λ (t : Bool). Some (cond t Apart (Joined s upto waits))) (same_number s)
 
     -- what holds of the link behind the call
-    Then : Option Link → Type 0
+    abbrev Then : Option Link → Type 0
     Then link = LinkAt (record new { opened = old.opened }) r committed link (kept left)
 
     lost_fits : CopiesLost s r before copies left → Then (slice_get (at_repo before r (without_session s)) r)
@@ -325,28 +322,26 @@ module _ (old new : View) (at : At) (upto : ℕ) (before after : List Link) (cop
       (λ calm work. draw_done old new repo committed d.at d.met d.called seen at.session upto waits before copies left there here f.floor f.result calm work f.kept_so)))
 
 -- a client that is apart
+module _ (old new : View) (repo : ℕ) (before : List Link) (copies : Copies) (committed : Ts → Bool) (there : slice_get before repo ≡ Some Apart) (none : LinkIn old repo committed Apart copies) where
+  abbrev Joins : Result Welcome Refusal → Type 0
+  Joins result = LinkAt (record new { opened = old.opened }) repo committed (slice_get (links_joined result repo before) repo) copies
+
+  still_apart : (k : Refusal) → Joins (Err k)
+  still_apart k = subst (λ (o : Option Link). LinkAt (record new { opened = old.opened }) repo committed o copies) (sym there) none
+
+  joins : (met : Unsettled) (at : List Item) (result : Result Welcome Refusal) → Answered repo result met at (new.seen repo) (new.unsettled repo) (ConnectWork old.opened.client result (old.opened.base repo) at (new.seen repo) (new.unsettled repo)) → Joins result
+  joins Calm at (Ok w) a = subst (λ (o : Option Link). LinkAt (record new { opened = old.opened }) repo committed o copies) (sym (changes_here before repo (λ l. Joined w.session w.place Idle) Apart there)) (works.connected old.opened.client (old.opened.base repo) committed at (new.seen repo) (new.unsettled repo) w copies none a)
+  joins (MayCome e) at (Ok w) a = absurd a.0
+  joins Came at (Ok w) a = absurd a.0
+  joins Halted at (Ok w) a = absurd a.0
+  joins Calm at (Err k) a = still_apart k
+  joins (MayCome e) at (Err k) a = still_apart k
+  joins Came at (Err k) a = still_apart k
+  joins Halted at (Err k) a = still_apart k
+
 pub connected : (old new : View) (repo : ℕ) (before after : List Link) (copies : Copies) (committed : Ts → Bool) → Connects true old new repo old.opened.client before after → IsSeenRight new repo committed → slice_get before repo ≡ Some Apart
     → LinkIn old repo committed Apart copies → LinkAt new repo committed (slice_get after repo) copies
 connected old new repo before after copies committed f seen there none =
     let d : Does old new repo f.result (ConnectWork old.opened.client f.result) = f.call refl in
     fits_now old new repo committed d.called.same seen (slice_get after repo) copies
-    (subst (λ (ls : List Link). LinkAt (record new { opened = old.opened }) repo committed (slice_get ls repo) copies) (sym f.links) (by d.met d.at f.result d.answer))
-  where
-    abbrev b : Base
-    b = old.opened.base repo
-
-    Then : Result Welcome Refusal → Type 0
-    Then result = LinkAt (record new { opened = old.opened }) repo committed (slice_get (links_joined result repo before) repo) copies
-
-    apart : (k : Refusal) → Then (Err k)
-    apart k = subst (λ (o : Option Link). LinkAt (record new { opened = old.opened }) repo committed o copies) (sym there) none
-
-    by : (met : Unsettled) (at : List Item) (result : Result Welcome Refusal) → Answered repo result met at (new.seen repo) (new.unsettled repo) (ConnectWork old.opened.client result b at (new.seen repo) (new.unsettled repo)) → Then result
-    by Calm at (Ok w) a = subst (λ (o : Option Link). LinkAt (record new { opened = old.opened }) repo committed o copies) (sym (changes_here before repo (λ l. Joined w.session w.place Idle) Apart there)) (works.connected old.opened.client b committed at (new.seen repo) (new.unsettled repo) w copies none a)
-    by (MayCome e) at (Ok w) a = absurd a.0
-    by Came at (Ok w) a = absurd a.0
-    by Halted at (Ok w) a = absurd a.0
-    by Calm at (Err k) a = apart k
-    by (MayCome e) at (Err k) a = apart k
-    by Came at (Err k) a = apart k
-    by Halted at (Err k) a = apart k
+    (subst (λ (ls : List Link). LinkAt (record new { opened = old.opened }) repo committed (slice_get ls repo) copies) (sym f.links) (joins old new repo before copies committed there none d.met d.at f.result d.answer))

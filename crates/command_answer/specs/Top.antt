@@ -11,7 +11,7 @@ use Rattle.script_parse.specs.Script.{IsRefusedText, IsWritten}
 use Rattle.script_parse.specs.declared.refusal.Refusal.{Refusal}
 use Rattle.script_parse.specs.declared.refusal.Refusal.TheVariants as refusal
 use Rattle.script_parse.specs.declared.script.Script.{Script}
-use Rattle.command_answer.specs.Opening.{IsAccepted, IsBase}
+use Rattle.command_answer.specs.Opening.{DiskBytes, IsAccepted, IsBase}
 use Rattle.command_answer.specs.Reports.{IsReport}
 use Rattle.checked_report.specs.Texts.{TellsUnopened, limit_text}
 use Rattle.command_words.specs.Words.{plan_of}
@@ -31,18 +31,18 @@ pub record IsChecked (repos : ℕ) (script : Script) (text : List ℕ) : Type 0 
   pub written_out : text ≡ codes "ok" ++ 10 ∷ []
 
 -- what a command writes of an accepted script, where all items are finished
-abbrev pub IsDone : Command → ℕ → Script → List ℕ → Type 0
-IsDone Check repos script text = IsChecked repos script text
-IsDone Play repos script text = IsReport form.Report repos script true text
-IsDone Run repos script text = IsReport form.Report repos script true text
-IsDone (Gen n) repos script text = IsReport form.Summary repos script true text
+abbrev pub IsDone : DiskBytes → Command → ℕ → Script → List ℕ → Type 0
+IsDone DiskReads Check repos script text = IsChecked repos script text
+IsDone DiskReads Play repos script text = IsReport DiskReads form.Report repos script true text
+IsDone DiskReads Run repos script text = IsReport DiskReads form.Report repos script true text
+IsDone DiskReads (Gen n) repos script text = IsReport DiskReads form.Summary repos script true text
 
 -- and where one was refused
-abbrev pub IsUnfinished : Command → ℕ → Script → List ℕ → Type 0
-IsUnfinished Check repos script text = ⊥
-IsUnfinished Play repos script text = IsReport form.Report repos script false text
-IsUnfinished Run repos script text = IsReport form.Report repos script false text
-IsUnfinished (Gen n) repos script text = IsReport form.Summary repos script false text
+abbrev pub IsUnfinished : DiskBytes → Command → ℕ → Script → List ℕ → Type 0
+IsUnfinished DiskReads Check repos script text = ⊥
+IsUnfinished DiskReads Play repos script text = IsReport DiskReads form.Report repos script false text
+IsUnfinished DiskReads Run repos script text = IsReport DiskReads form.Report repos script false text
+IsUnfinished DiskReads (Gen n) repos script text = IsReport DiskReads form.Summary repos script false text
 
 -- ---- refused scripts
 
@@ -71,17 +71,17 @@ IsOverLimit script limit =
     ⊎ ((length script.clients ≤ 64) × (length script.events ≤ 1000000) × IsOverStore limit))
 
 -- what the status and its text tell of a script that was read
-abbrev pub TellsOf : Plan → Script → Status → List ℕ → Type 0
-TellsOf plan script status.Done text = IsWithinLimits script × IsDone plan.command plan.repos script text
-TellsOf plan script status.Unfinished text = IsWithinLimits script × IsUnfinished plan.command plan.repos script text
-TellsOf plan script status.Script text = IsWithinLimits script × ((r : Refusal) × (IsRefused plan.repos script r × (text ≡ refusal_text r)))
-TellsOf plan script status.Limit text = (limit : ℕ) × (IsOverLimit script limit × (text ≡ limit_text limit))
-TellsOf plan script status.DiskFault text = TellsUnopened status.DiskFault text
-TellsOf plan script status.Damaged text = TellsUnopened status.Damaged text
-TellsOf plan script status.Words text = ⊥
-TellsOf plan script status.SourceFault text = ⊥
-TellsOf plan script status.SinkFault text = ⊥
-TellsOf plan script status.NoMemory text = ⊥
+abbrev pub TellsOf : DiskBytes → Plan → Script → Status → List ℕ → Type 0
+TellsOf DiskReads plan script status.Done text = IsWithinLimits script × IsDone DiskReads plan.command plan.repos script text
+TellsOf DiskReads plan script status.Unfinished text = IsWithinLimits script × IsUnfinished DiskReads plan.command plan.repos script text
+TellsOf DiskReads plan script status.Script text = IsWithinLimits script × ((r : Refusal) × (IsRefused plan.repos script r × (text ≡ refusal_text r)))
+TellsOf DiskReads plan script status.Limit text = (limit : ℕ) × (IsOverLimit script limit × (text ≡ limit_text limit))
+TellsOf DiskReads plan script status.DiskFault text = TellsUnopened status.DiskFault text
+TellsOf DiskReads plan script status.Damaged text = TellsUnopened status.Damaged text
+TellsOf DiskReads plan script status.Words text = ⊥
+TellsOf DiskReads plan script status.SourceFault text = ⊥
+TellsOf DiskReads plan script status.SinkFault text = ⊥
+TellsOf DiskReads plan script status.NoMemory text = ⊥
 
 -- what the status and its text tell of bytes that are no script
 abbrev pub TellsRefused : List ℕ → Status → List ℕ → Type 0
@@ -97,8 +97,8 @@ TellsRefused bytes status.SinkFault text = ⊥
 TellsRefused bytes status.NoMemory text = ⊥
 
 -- what they tell of a script's bytes
-abbrev pub Tells : Plan → List ℕ → Status → List ℕ → Type 0
-Tells plan bytes s text = TellsRefused bytes s text ⊎ ((script : Script) × (IsWritten bytes script × TellsOf plan script s text))
+abbrev pub Tells : DiskBytes → Plan → List ℕ → Status → List ℕ → Type 0
+Tells DiskReads plan bytes s text = TellsRefused bytes s text ⊎ ((script : Script) × (IsWritten bytes script × TellsOf DiskReads plan script s text))
 
 -- the source was read to its end, and these were all its bytes, where it tells them; they are no more than a script
 -- may have
@@ -113,36 +113,36 @@ pub record Told : Type 0 where
   pub faults : ℕ
 
 -- what is told of the bytes of the source
-abbrev pub TellsBytes : Plan → Told → Told → Status → List ℕ → Type 0
-TellsBytes plan before after s text = (bytes : List ℕ) × (WasRead before.left after.left bytes × Tells plan bytes s text)
+abbrev pub TellsBytes : DiskBytes → Plan → Told → Told → Status → List ℕ → Type 0
+TellsBytes DiskReads plan before after s text = (bytes : List ℕ) × (WasRead before.left after.left bytes × Tells DiskReads plan bytes s text)
 
 -- what is told of the script that the source gives
-abbrev pub SaysRead : Plan → Told → Told → Status → List ℕ → Type 0
-SaysRead plan before after status.Done text = TellsBytes plan before after status.Done text
-SaysRead plan before after status.Unfinished text = TellsBytes plan before after status.Unfinished text
-SaysRead plan before after status.Script text = TellsBytes plan before after status.Script text
-SaysRead plan before after status.Limit text = TellsBytes plan before after status.Limit text ⊎ (IsMoreThan 8388608 before.left × (text ≡ limit_text 8388608))
-SaysRead plan before after status.DiskFault text = TellsBytes plan before after status.DiskFault text
-SaysRead plan before after status.Damaged text = TellsBytes plan before after status.Damaged text
-SaysRead plan before after status.SourceFault text = Rose before.faults after.faults × (text ≡ codes "source" ++ 10 ∷ [])
-SaysRead plan before after status.Words text = ⊥
-SaysRead plan before after status.SinkFault text = ⊥
-SaysRead plan before after status.NoMemory text = ⊥
+abbrev pub SaysRead : DiskBytes → Plan → Told → Told → Status → List ℕ → Type 0
+SaysRead DiskReads plan before after status.Done text = TellsBytes DiskReads plan before after status.Done text
+SaysRead DiskReads plan before after status.Unfinished text = TellsBytes DiskReads plan before after status.Unfinished text
+SaysRead DiskReads plan before after status.Script text = TellsBytes DiskReads plan before after status.Script text
+SaysRead DiskReads plan before after status.Limit text = TellsBytes DiskReads plan before after status.Limit text ⊎ (IsMoreThan 8388608 before.left × (text ≡ limit_text 8388608))
+SaysRead DiskReads plan before after status.DiskFault text = TellsBytes DiskReads plan before after status.DiskFault text
+SaysRead DiskReads plan before after status.Damaged text = TellsBytes DiskReads plan before after status.Damaged text
+SaysRead DiskReads plan before after status.SourceFault text = Rose before.faults after.faults × (text ≡ codes "source" ++ 10 ∷ [])
+SaysRead DiskReads plan before after status.Words text = ⊥
+SaysRead DiskReads plan before after status.SinkFault text = ⊥
+SaysRead DiskReads plan before after status.NoMemory text = ⊥
 
 -- What is told of the generated script of a number: what is told of its bytes. The source is as it was.
-abbrev pub SaysGenerated : ℕ → Plan → Told → Told → Status → List ℕ → Type 0
-SaysGenerated n plan before after s text = (after ≡ before) × Tells plan (script_text n plan.repos) s text
+abbrev pub SaysGenerated : DiskBytes → ℕ → Plan → Told → Told → Status → List ℕ → Type 0
+SaysGenerated DiskReads n plan before after s text = (after ≡ before) × Tells DiskReads plan (script_text n plan.repos) s text
 
 -- by the command: `check`, `play` and `run` read the source, `gen` doesn't
-abbrev pub SaysFor : Command → Plan → Told → Told → Status → List ℕ → Type 0
-SaysFor Check plan before after s text = SaysRead plan before after s text
-SaysFor Play plan before after s text = SaysRead plan before after s text
-SaysFor Run plan before after s text = SaysRead plan before after s text
-SaysFor (Gen n) plan before after s text = SaysGenerated n plan before after s text
+abbrev pub SaysFor : DiskBytes → Command → Plan → Told → Told → Status → List ℕ → Type 0
+SaysFor DiskReads Check plan before after s text = SaysRead DiskReads plan before after s text
+SaysFor DiskReads Play plan before after s text = SaysRead DiskReads plan before after s text
+SaysFor DiskReads Run plan before after s text = SaysRead DiskReads plan before after s text
+SaysFor DiskReads (Gen n) plan before after s text = SaysGenerated DiskReads n plan before after s text
 
 -- what is true where the program ends with a status and has this text to write, by a plan
-abbrev pub SaysOf : Plan → Told → Told → Status → List ℕ → Type 0
-SaysOf plan before after s text = SaysFor plan.command plan before after s text
+abbrev pub SaysOf : DiskBytes → Plan → Told → Told → Status → List ℕ → Type 0
+SaysOf DiskReads plan before after s text = SaysFor DiskReads plan.command plan before after s text
 
 -- the words are a plan for so many repositories
 pub record IsPlan (words : List (List ℕ)) (count : ℕ) (plan : Plan) : Type 0 where
@@ -155,21 +155,27 @@ IsNoPlan words count = (plan : Plan) → IsPlan words count plan → ⊥
 
 -- What is true where the program ends with a status and has this text to write. Where the words are no plan for as many
 -- repositories as there are, the source is as it was; and a fault of the source is one that was counted.
-abbrev pub Says : List (List ℕ) → ℕ → Told → Told → Status → List ℕ → Type 0
-Says words count before after s text =
-    ((plan : Plan) × (IsPlan words count plan × SaysOf plan before after s text))
+abbrev pub Says : DiskBytes → List (List ℕ) → ℕ → Told → Told → Status → List ℕ → Type 0
+Says DiskReads words count before after s text =
+    ((plan : Plan) × (IsPlan words count plan × SaysOf DiskReads plan before after s text))
     ⊎ ((s ≡ status.Words) × (IsNoPlan words count × ((after ≡ before) × (text ≡ codes "words" ++ 10 ∷ []))))
 
--- What the sink took: the text of the status; where the sink failed, a front of some status's text; where memory ran
--- out, nothing.
-abbrev pub Wrote : List (List ℕ) → ℕ → Told → Told → Option (List ℕ) → Option (List ℕ) → Status → Type 0
-Wrote words count before after had taken status.SinkFault = (s : Status) × ((text : List ℕ) × (Says words count before after s text × PutFront had text taken))
-Wrote words count before after had taken status.NoMemory = taken ≡ had
-Wrote words count before after had taken status.Done = (text : List ℕ) × (Says words count before after status.Done text × Put had text taken)
-Wrote words count before after had taken status.Unfinished = (text : List ℕ) × (Says words count before after status.Unfinished text × Put had text taken)
-Wrote words count before after had taken status.Words = (text : List ℕ) × (Says words count before after status.Words text × Put had text taken)
-Wrote words count before after had taken status.Script = (text : List ℕ) × (Says words count before after status.Script text × Put had text taken)
-Wrote words count before after had taken status.SourceFault = (text : List ℕ) × (Says words count before after status.SourceFault text × Put had text taken)
-Wrote words count before after had taken status.Limit = (text : List ℕ) × (Says words count before after status.Limit text × Put had text taken)
-Wrote words count before after had taken status.DiskFault = (text : List ℕ) × (Says words count before after status.DiskFault text × Put had text taken)
-Wrote words count before after had taken status.Damaged = (text : List ℕ) × (Says words count before after status.Damaged text × Put had text taken)
+-- The same by a plan, which may be one for another number of repositories than there are.
+abbrev pub SaysBy : DiskBytes → Plan → ℕ → Told → Told → Status → List ℕ → Type 0
+SaysBy DiskReads plan count before after s text =
+    ((plan.repos ≡ count) × SaysOf DiskReads plan before after s text)
+    ⊎ ((s ≡ status.Words) × (((plan.repos ≡ count) → ⊥) × ((after ≡ before) × (text ≡ codes "words" ++ 10 ∷ []))))
+
+-- What the sink took, where this is said: the text of the status; where the sink failed, a front of some status's text; where
+-- memory ran out, nothing.
+abbrev pub Wrote : (Status → List ℕ → Type 0) → Option (List ℕ) → Option (List ℕ) → Status → Type 0
+Wrote Said had taken status.SinkFault = (s : Status) × ((text : List ℕ) × (Said s text × PutFront had text taken))
+Wrote Said had taken status.NoMemory = taken ≡ had
+Wrote Said had taken status.Done = (text : List ℕ) × (Said status.Done text × Put had text taken)
+Wrote Said had taken status.Unfinished = (text : List ℕ) × (Said status.Unfinished text × Put had text taken)
+Wrote Said had taken status.Words = (text : List ℕ) × (Said status.Words text × Put had text taken)
+Wrote Said had taken status.Script = (text : List ℕ) × (Said status.Script text × Put had text taken)
+Wrote Said had taken status.SourceFault = (text : List ℕ) × (Said status.SourceFault text × Put had text taken)
+Wrote Said had taken status.Limit = (text : List ℕ) × (Said status.Limit text × Put had text taken)
+Wrote Said had taken status.DiskFault = (text : List ℕ) × (Said status.DiskFault text × Put had text taken)
+Wrote Said had taken status.Damaged = (text : List ℕ) × (Said status.Damaged text × Put had text taken)

@@ -1,9 +1,10 @@
 //! What the program has to write, with the parts.
 
 ghost use Rattle.repository_reading.specs.Same.{AreSame};
-ghost use Rattle.std.specs.Prelude.{◌≡◌, vec_len};
+ghost use Rattle.std.specs.Prelude.{false, length, true, vec_len, ◌≡◌};
 
 use checked_report::{Reply, Status};
+use command_words::Plan;
 use disk_trait::Parts;
 use std::alloc::Global;
 use thor_value::NoMemory;
@@ -54,4 +55,12 @@ pub fn untouched<P: Parts>(
     ensures same { AreSame P.disks parts.items result.parts.items }
 {
     unplayed(alloc, reply, parts)
+}
+
+/// Whether there are the parts of as many repositories as a plan asks for.
+pub fn are_parts_of<P>(plan: &Plan, parts: &[P]) -> bool
+    ensures same { result ≡ true → plan.now.repos ≡ length parts.now }
+    ensures other { result ≡ false → (plan.now.repos ≡ length parts.now → ⊥) }
+{
+    usize::from(plan.repos) == parts.len()
 }

@@ -3,4 +3,4 @@
 
 mod answered;
 
-pub use answered::{Answered, Outcome, unplayed, untouched};
+pub use answered::{Answered, Outcome, are_parts_of, unplayed, untouched};

@@ -36,6 +36,14 @@ impl LogFile {
         })
     }
 
+    /// Reads bytes that the disk has.
+    fn read(&self, at: u64, into: &mut [u8]) -> Option<()> {
+        if self.len < at.saturating_add(into.len() as u64) {
+            return None;
+        }
+        self.file.read_exact_at(into, at).ok()
+    }
+
     fn write(&mut self, at: u64, bytes: &[u8]) -> Option<()> {
         let end = at.saturating_add(bytes.len() as u64);
         self.lengthen(end);
@@ -104,6 +112,14 @@ impl<C> FileParts<C> {
         }
     }
 
+    fn read(&self, disk: u8, at: u64, into: &mut [u8]) -> Option<()> {
+        match disk {
+            0 => self.log0.as_ref()?.read(at, into),
+            1 => self.log1.as_ref()?.read(at, into),
+            _ => self.pages.as_ref()?.read_exact_at(into, at).ok(),
+        }
+    }
+
     fn len_of(&self, disk: u8) -> Option<u64> {
         match disk {
             0 => Some(self.log0.as_ref()?.len),
@@ -123,10 +139,6 @@ fn open_file<R: Files<File = File>>(rt: &R, path: &str) -> Option<File> {
 
 fn open_log<R: Files<File = File>>(rt: &R, path: &str) -> Option<LogFile> {
     LogFile::of(open_file(rt, path)?)
-}
-
-fn read(file: Option<&File>, at: u64, into: &mut [u8]) -> Option<()> {
-    file?.read_exact_at(into, at).ok()
 }
 
 /// Writes bytes into the file of a disk.
@@ -171,7 +183,7 @@ impl<C: Clock> Parts for FileParts<C> {
         ensures counts { counts_of self.new ≡ counted (counts_of self.old) disk (is_err result) }
         ensures no_memory { IsErrOf result Outage.NoMemory → ⊥ }
     {
-        let answer = read(self.file(disk), at, into);
+        let answer = self.read(disk, at, into);
         self.counts.after(disk, answer)
     }
 

@@ -1,6 +1,6 @@
 -- Calls and expressions of checked code tell the owners above what they need, where their parts and the bodies of methods do.
 use Rattle.std.proofs.Common.{◌≡◌, ◌⊎◌, Bool, true, false, cond, map, List, [], ◌∷◌, ◌++◌, Option, Some, None, Result, Ok, Err, refl, ap, sym, subst, ◌∙◌, ℕ, zero, suc, append-nil, append_assoc, arith, inl, inr, length}
-use Rattle.std.proofs.lemmas.Bool.{both_ways}
+use Rattle.std.proofs.lemmas.Bool.{both_ways, or_right}
 use Rattle.std.specs.List.{AllByRecursion}
 use Rattle.std.specs.Prelude.{find, is_some, nat_lt, option_map, slice_get, ◌+◌, ◌==◌, ◌||◌}
 use Rattle.thor_value.specs.FiniteMap.{has, insert, len}

@@ -23,7 +23,7 @@ impl Client {
         opened: &Opened,
         task: Task<'_>,
     ) -> Result<News, NoMemory>
-        ensures { IsSome (asking_in self.old.phase) → OnOk result (uncounted task.tries self.new < uncounted task.tries self.old) }
+        ensures { IsSome (asking_in self.old.phase) → OnOk result (uncounted task.entry.tries self.new < uncounted task.entry.tries self.old) }
         ensures acts { ActsIf Q.shows (Q.view port.old) (Q.view port.new) }
     {
         match self.take_phase().into_asking() {
@@ -40,7 +40,7 @@ impl Client {
         sent: Sent,
         answers: u32,
     ) -> Result<News, NoMemory>
-        ensures { OnOk result (uncounted task.tries self.new < uncounted task.tries self.old + calls_in task.tries (phase.Asking sent answers)) }
+        ensures { OnOk result (uncounted task.entry.tries self.new < uncounted task.entry.tries self.old + calls_in task.entry.tries (phase.Asking sent answers)) }
         ensures acts { ActsIf Q.shows (Q.view port.old) (Q.view port.new) }
     {
         match port.ask(sent.coordinator(), sent.ts) {
@@ -71,7 +71,7 @@ impl Client {
 
     /// An answer had no verdict. Behind as many as there are tries, the item is held as Unknown.
     fn ask_again(&mut self, task: Task<'_>, sent: Sent, answers: u32) -> News
-        ensures { (before : ℕ) → (answers < task.tries → before < answers) → uncounted task.tries self.new < uncounted task.tries self.old + calls_in task.tries (phase.Asking sent before) }
+        ensures { (before : ℕ) → (answers < task.entry.tries → before < answers) → uncounted task.entry.tries self.new < uncounted task.entry.tries self.old + calls_in task.entry.tries (phase.Asking sent before) }
     {
         if answers < task.tries {
             self.set_phase(Phase::Asking { sent, answers });

@@ -1,9 +1,7 @@
 -- What falls, and what leads on to it.
-use Rattle.item_progress.specs.Courses.{Course, Ends, Learns}
+use Rattle.item_progress.specs.Courses.{Course}
 use Rattle.item_progress.specs.Falling.{CountsDown, Falls, Left, NeverRises, Standing, StandsStill, left_by, most_calls}
 use Rattle.item_progress.specs.declared.attempts.Attempts.{Attempts}
-use Rattle.std.proofs.lemmas.List.{length-set}
-use Rattle.item_progress.proofs.Places.{end_length}
 use Rattle.std.proofs.Common.{ap, arith, inl, inr, length, refl, subst, sym, ◌+◌, ◌-◌, ◌<◌, ◌≡◌, ◌∙◌, ℕ}
 use Rattle.std.proofs.Math.Nat.{eq-or-lt_of_le}
 use Rattle.std.specs.Prelude.{◌≤◌, ◌⊎◌}
@@ -26,23 +24,13 @@ both_fall a b c (inr (inr (inr p))) (inr (inl q)) = inr (inl (q.0 ∙ p.0, omega
 both_fall a b c (inr (inr (inr p))) (inr (inr (inl q))) = inr (inr (inl (q.0 ∙ p.0, q.1 ∙ p.1, omega (arith, p.2, q.2))))
 both_fall a b c (inr (inr (inr p))) (inr (inr (inr q))) = inr (inr (inr (q.0 ∙ p.0, q.1 ∙ p.1, q.2 ∙ p.2, omega (arith, p.3, q.3))))
 
--- the next item has ended
-pub item_falls : (old new : Standing) → Ends old.course new.course → CountsDown old new
-item_falls old new e = record { falls = λ n m. inl (rw (ap (λ (c : Course). c.count - length c.ended) e.grown, end_length old.course.ended e.last) (omega (arith, e.left))) }
-
-pub tries_fall : (old new : Standing) → new.course ≡ old.course → new.attempts.each - new.attempts.tried < old.attempts.each - old.attempts.tried → CountsDown old new
-tries_fall old new same less = record { falls = λ n m. inr (inl (ap (λ (c : Course). c.count - length c.ended) same, less)) }
-
+-- a call was counted
 pub calls_fall : (old new : Standing) → new.course ≡ old.course → old.attempts.calls < most_calls → new.attempts ≡ record old.attempts { calls = old.attempts.calls + 1 } → CountsDown old new
 calls_fall old new same room counted = record { falls = λ n m. inr (inr (inl (ap (λ (c : Course). c.count - length c.ended) same, ap (λ (a : Attempts). a.each - a.tried) counted, rw (ap (λ (a : Attempts). most_calls - a.calls) counted) (omega (arith, room))))) }
 
+-- nothing has changed
 pub stands_still : (old new : Standing) → new.course ≡ old.course → new.attempts ≡ old.attempts → StandsStill old new
 stands_still old new same tries = record { same = λ n. rw (same, tries) refl }
-
--- an item that had ended is another
-pub settling_stands : (old new : Standing) → Learns old.course new.course → new.attempts ≡ old.attempts → StandsStill old new
-settling_stands old new (inl same) tries = stands_still old new same tries
-settling_stands old new (inr s) tries = record { same = λ n. rw (ap (λ (c : Course). c.count - length c.ended) s.set, length-set old.course.ended s.place (record s.was { outcome = s.outcome }), tries) refl }
 
 -- what has fallen and never rises then has fallen
 pub then_never_rises : (a b c : Standing) → CountsDown a b → NeverRises b c → CountsDown a c

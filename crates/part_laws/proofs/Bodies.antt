@@ -35,6 +35,7 @@ use Rattle.part_laws.proofs.Fields.{NewFor, assign_goes}
 use Rattle.part_laws.proofs.Steps.{Any, AreFree, BlocksGo, Goes, PartsGo, Placed, TidyAt, free_type, on, steps, still, stops}
 use Rattle.part_laws.proofs.Tidy.{grows_no, grows_then}
 use Rattle.std.proofs.Common.{Bool, List, [], ap, cond, false, map, not, refl, subst, sym, true, ℕ, zero, suc, ◌++◌, ◌≡◌, ◌∙◌, ◌∷◌}
+use Rattle.std.proofs.lemmas.Bool.{both_ways}
 use Rattle.std.specs.Option.{option_and_then}
 use Rattle.std.specs.Prelude.{Ok, Option, Result, Some, is_some, slice_get, ◌||◌}
 use Rattle.thor_value.specs.declared.names.Oref.{Oref}
@@ -192,7 +193,7 @@ module _ (schema : Schema) (repos : ℕ) (sound : (c : ℕ) (d : Class) → slic
     given_new : (owned : Bool) (e : Expr) (kind : ExprType) (a : Value) (n : Machine) → is_part schema.classes kind ≡ owned → fits kind (judged here e).kind ≡ true → First e (place_for owned) a n
         → is_part schema.classes kind ≡ true → NewFor schema repos E t r l a n
     given_new true e kind a n is suits good part = λ x at q this. good.placed x at (part_fits schema.classes (seen world n) kind (judged here e).kind x suits part (subst (λ (y : Value). ValueFits (seen world n) (judged here e).kind y) at good.value)) q this
-    given_new false e kind a n is suits good part = Rattle.part_laws.proofs.Tidy.not_both (is_part schema.classes kind) part is
+    given_new false e kind a n is suits good part = absurd (both_ways (is_part schema.classes kind) is part)
 
     node_goes : (x : Stmt-F Stmt) (m : Machine) → broken_at (map-Stmt Stmt Ruled ruled x) here ≡ [] → MachineFits world here m → TidyAt schema repos E m
         → Owed Any m (statement_at world v b x m).0 (statement_at world v b x m).1

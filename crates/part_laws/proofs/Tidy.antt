@@ -12,7 +12,7 @@ use Rattle.fitting_laws.proofs.FitValues.{insert_put, put}
 use Rattle.part_laws.proofs.Made.{age, age-more, among-cases, among-more, among-new, is_among}
 use Rattle.part_laws.specs.Owning.{OwnsIn}
 use Rattle.std.proofs.Common.{Bool, List, [], ap, cond, false, inl, inr, refl, subst, sym, true, ℕ, zero, suc, ◌++◌, ◌<◌, ◌≡◌, ◌∙◌, ◌∷◌}
-use Rattle.std.proofs.lemmas.Bool.{or_cases, both_ways}
+use Rattle.std.proofs.lemmas.Bool.{or_cases, both_ways, or_left, or_right}
 use Rattle.std.proofs.lemmas.Option.{none-some}
 use Rattle.std.specs.Prelude.{None, Option, Some, is_some, slice_get, slice_set, ◌||◌, ◌⊎◌}
 use Rattle.thor_value.proofs.FiniteMap.{get-insert}

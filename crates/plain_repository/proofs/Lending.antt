@@ -11,9 +11,10 @@ use Rattle.port.specs.Works.{Answered, Does, IsDown}
 use Rattle.port_views.proofs.Grown.{none_grew}
 use Rattle.port_views.proofs.Stopping.{does_down}
 use Rattle.session_outbox.specs.Trace.{Item}
-use Rattle.std.proofs.Common.{Bool, List, [], ap, false, length, refl, subst, sym, true, ◌∙◌, ◌≡◌, ◌≢◌, ℕ}
+use Rattle.std.proofs.Common.{Bool, List, [], ap, false, get_or, inl, inr, length, refl, subst, sym, true, ◌<◌, ◌∙◌, ◌∷◌, ◌≡◌, ◌≢◌, ◌≤◌, ◌⊎◌, ℕ}
+use Rattle.std.proofs.lemmas.Option.{slice_get_cases, slice_get_read}
 use Rattle.std.specs.List.{slice_get}
-use Rattle.std.specs.Prelude.{None, Option, Result, Some, cond, nat_eq, slice_set, suc, zero}
+use Rattle.std.specs.Prelude.{None, Result, Some, cond, nat_eq, slice_set, suc, zero}
 use Rattle.validation_window.specs.declared.refusal.Refusal.{Refusal}
 
 -- ---- lists
@@ -124,3 +125,24 @@ module _ (bases : ℕ → Base) (c : ℕ) (sites : List Site) (r : ℕ) (old new
 
     pub lent : SiteDoes c r (bases r) old new result work → Does was now r result work
     lent h = by (is_down old.left) refl h
+
+-- ---- a place of the list
+
+-- one of the list at a place
+pub lent_at : {X : Type 0} (bases : ℕ → Base) (c : ℕ) (sites : List Site) (r i n : ℕ) (old new : Site) → i ≡ r → n ≡ length sites → i < n → old ≡ get_or sites i old → (result : Result X Refusal) (work : Base → List Item → List Item → Unsettled → Type 0)
+    → SiteDoes c r (bases r) old new result work → Does (view_of bases c sites) (view_of bases c (slice_set sites i new)) r result work
+lent_at bases c sites r i n old new place count within found result work h =
+    subst (λ (k : ℕ). Does (view_of bases c sites) (view_of bases c (slice_set sites k new)) r result work) (sym place)
+    (lent bases c sites r old new (ap (slice_get sites) (sym place) ∙ slice_get_read sites n i old count within found) result work h)
+
+past : (sites : List Site) (i n : ℕ) → n ≡ length sites → (i < n → false ≡ true) → slice_get sites i ≡ None
+past sites i n count out = by (slice_get_cases sites i).1
+  where
+    by : ((x : Site) × (i < length sites) × (slice_get sites i ≡ Some x) × (get_or sites i x ≡ x)) ⊎ ((length sites ≤ i) × (slice_get sites i ≡ None)) → slice_get sites i ≡ None
+    by (inl y) = let w : i < n = subst (λ (k : ℕ). i < k) (sym count) y.1 in let no : false ≡ true = out w in cc
+    by (inr y) = y.1
+
+-- none at a place
+pub none_at : {X : Type 0} (bases : ℕ → Base) (c : ℕ) (sites : List Site) (r i n : ℕ) → i ≡ r → n ≡ length sites → (i < n → false ≡ true) → (result : Result X Refusal) (work : Base → List Item → List Item → Unsettled → Type 0)
+    → IsDown r result → Does (view_of bases c sites) (view_of bases c sites) r result work
+none_at bases c sites r i n place count out result work d = none_there bases c sites r result work (ap (slice_get sites) (sym place) ∙ past sites i n count out) d

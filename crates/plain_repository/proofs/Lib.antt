@@ -1,4 +1,4 @@
+pub mod Beginning
 pub mod Lending
-pub mod Restarting
 pub mod Taking
 pub mod Working

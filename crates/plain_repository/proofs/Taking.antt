@@ -1,16 +1,15 @@
 -- What becomes of a step that was read off a trace.
 use Rattle.commit_log.specs.declared.entry.Entry.{Entry}
 use Rattle.plain_repository.specs.Reading.{IsStep, added, read, trace_of}
-use Rattle.plain_repository.specs.Sites.{HasFailed, HasStopped, IfDown, IsDone, IsPut, IsTaken, is_down, trace_in, unsettled_of}
+use Rattle.plain_repository.specs.Sites.{IfDown, IsPut, IsTaken, is_down, trace_in, unsettled_of}
 use Rattle.plain_repository.specs.declared.item.Item as item
-use Rattle.plain_repository.specs.declared.item.Item.TheVariants as items
 use Rattle.plain_repository.specs.declared.site.Left.TheVariants as left
 use Rattle.plain_repository.specs.declared.site.Left.{Left}
 use Rattle.plain_repository.specs.declared.site.Site.{Site}
-use Rattle.port.specs.Views.{Calm, Came, Halted, MayCome, Unsettled}
+use Rattle.port.specs.Views.{Calm, Halted, MayCome, Unsettled}
 use Rattle.port_views.specs.Plain.{Stepped}
 use Rattle.session_outbox.specs.Trace.{E, Item}
-use Rattle.std.proofs.Common.{Bool, List, [], ap, false, inl, inr, refl, subst, sym, true, ◌++◌, ◌∙◌, ◌∷◌, ◌≡◌, ◌⊎◌, ℕ}
+use Rattle.std.proofs.Common.{Bool, List, [], ap, false, inl, inr, refl, subst, sym, true, ◌++◌, ◌∙◌, ◌∷◌, ◌≡◌, ℕ}
 use Rattle.std.proofs.lemmas.List.{append-nil, map-append}
 use Rattle.std.specs.Prelude.{Err, IfOk, None, Ok, Option, Result, Some}
 use Rattle.thor_value.specs.declared.memory.NoMemory.{NoMemory}

@@ -12,7 +12,7 @@ use Rattle.plain_repository.specs.Reading.{IsAnswer, IsOkStep, IsStep}
 use Rattle.plain_repository.specs.Sites.{IsPut, IsTaken, trace_in, unsettled_of}
 use Rattle.plain_repository.specs.declared.item.Item as item
 use Rattle.plain_repository.specs.declared.site.Site.{Site}
-use Rattle.port.specs.Views.{Calm, Halted, MayCome, Unsettled}
+use Rattle.port.specs.Views.{Calm, MayCome, Unsettled}
 use Rattle.port.specs.Works.{AskWork, CommitWork, ConnectWork, DecideWork, DrawWork, FetchWork, FinishWork, ForgetWork, GrantWork, MayHaveLeft, PrepareWork, ReceiveWork, alone_entry, commits_by, is_prepared_by}
 use Rattle.port_views.proofs.Meeting as meets
 use Rattle.port_views.proofs.Stopping as stopping
@@ -24,7 +24,7 @@ use Rattle.session_outbox.specs.Trace.{E, Item, M, entries}
 use Rattle.session_outbox.specs.Verdict.{verdict}
 use Rattle.session_outbox.specs.declared.mark.Mark.TheVariants as the
 use Rattle.session_outbox.specs.declared.mark.Mark.{Mark}
-use Rattle.std.proofs.Common.{Bool, List, [], ap, arith, cond, false, length, refl, subst, sym, true, ◌+◌, ◌++◌, ◌∙◌, ◌∷◌, ◌≡◌, ℕ}
+use Rattle.std.proofs.Common.{Bool, List, [], ap, cond, false, length, refl, subst, sym, true, ◌++◌, ◌∷◌, ◌≡◌, ℕ}
 use Rattle.std.specs.Prelude.{Err, IfOk, None, Ok, Option, Result, Some}
 use Rattle.thor_value.specs.declared.memory.NoMemory.{NoMemory}
 use Rattle.thor_value.specs.declared.names.Ts.{Ts}
@@ -116,14 +116,7 @@ module _ (b : Base) (c r : ℕ) (old new : Site) where
       taken_works (λ x S u. CommitWork s q x b T S u) plan c r old new result (plain.commit_one b T s q) h p (λ _ _. meets.commits b T s q own) (refl, tt)
       (λ e come. let k = requested_so s q e (alone_entry q) (verdict b T s q) come in (refl, may_come e (alone_entry q) (verdict b T s q ≡ None) k.0 k.1))
 
-  -- a request of another session takes the repository down
-  pub unread_prepare : (s : ℕ) (q : Request) (result : Result ℕ Refusal) → IsTaken (Err NoMemory) c r old new result → PrepareWork s q result b T (trace_in new) U
-  unread_prepare s q result p = taken_works (λ x S u. PrepareWork s q x b T S u) (Err NoMemory) c r old new result (plain.prepare b T s q) tt p (λ step is. cc) (refl, tt) (λ e come. let k = requested_so s q e (Prepared q) (verdict b T s q) come in (refl, may_come e (Prepared q) (verdict b T s q ≡ None) k.0 k.1))
-
-  pub unread_commit : (s : ℕ) (q : Request) (result : Result ℕ Refusal) → IsTaken (Err NoMemory) c r old new result → CommitWork s q result b T (trace_in new) U
-  unread_commit s q result p = taken_works (λ x S u. CommitWork s q x b T S u) (Err NoMemory) c r old new result (plain.commit_one b T s q) tt p (λ step is. cc) (refl, tt) (λ e come. let k = requested_so s q e (alone_entry q) (verdict b T s q) come in (refl, may_come e (alone_entry q) (verdict b T s q ≡ None) k.0 k.1))
-
-  decided_so : (s : ℕ) (t : Ts) (k : Bool) (e : Entry) (l u : Bool) → T ++ E e ∷ [] ≡ (cond l (cond u (Ok (record { tx = t; commit = k }), T ++ E (Decided t k) ∷ []) (Ok (record { tx = t; commit = commits_by b T t }), T)) (Err {A = Verdict} (refused.Reason (reasons.Gone s)), T)).1 → (e ≡ Decided t k) × (u ≡ true)
+  decided_so : (s : ℕ) (t : Ts) (k : Bool) (e : Entry) (l u : Bool) → T ++ E e ∷ [] ≡ (cond {A = plain.Stepped Verdict} l (cond u (Ok (record { tx = t; commit = k }), T ++ E (Decided t k) ∷ []) (Ok (record { tx = t; commit = commits_by b T t }), T)) (Err (refused.Reason (reasons.Gone s)), T)).1 → (e ≡ Decided t k) × (u ≡ true)
   decided_so s t k e true true h = (same_entry T e (Decided t k) h, refl)
   decided_so s t k e true false h = absurd (not_longer T (E e) h)
   decided_so s t k e false u h = absurd (not_longer T (E e) h)
@@ -134,7 +127,7 @@ module _ (b : Base) (c r : ℕ) (old new : Site) where
       taken_works (λ x S u. DecideWork s t k x b T S u) plan c r old new result (plain.decide b T s t k) h p (λ _ _. meets.decides b T s t k) (refl, tt)
       (λ e come. let z = decided_so s t k e (lives (session b T s)) (is_prepared_by s (known_by b (entries T) t)) come in (refl, may_come e (Decided t k) (is_prepared_by s (known_by b (entries T) t) ≡ true) z.0 z.1))
 
-  finished_so : (t : Ts) (k : Bool) (e : Entry) (u : Bool) → T ++ E e ∷ [] ≡ (cond u (Ok {B = Refusal} (Some (length (entries T))), T ++ E (Finished t k) ∷ []) (Ok None, T)).1 → (e ≡ Finished t k) × (u ≡ true)
+  finished_so : (t : Ts) (k : Bool) (e : Entry) (u : Bool) → T ++ E e ∷ [] ≡ (cond {A = plain.Stepped (Option ℕ)} u (Ok (Some (length (entries T))), T ++ E (Finished t k) ∷ []) (Ok None, T)).1 → (e ≡ Finished t k) × (u ≡ true)
   finished_so t k e true h = (same_entry T e (Finished t k) h, refl)
   finished_so t k e false h = absurd (not_longer T (E e) h)
 

@@ -3,7 +3,7 @@ use Rattle.plain_repository.specs.declared.item.Item.TheVariants as items
 use Rattle.plain_repository.specs.declared.item.Item as item
 use Rattle.port_views.specs.Plain.{Stepped}
 use Rattle.session_outbox.specs.Trace.{E, Item, M}
-use Rattle.std.specs.Prelude.{List, None, Ok, Err, Option, Result, Some, [], map, ℕ, ◌++◌, ◌∷◌, ◌≡◌}
+use Rattle.std.specs.Prelude.{List, None, Ok, Err, Option, Result, Some, [], map, ◌++◌, ◌∷◌, ◌≡◌}
 use Rattle.validation_window.specs.declared.refusal.Refusal.{Refusal}
 
 abbrev pub read : item.Item → Item

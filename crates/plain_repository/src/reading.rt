@@ -57,13 +57,7 @@ pub trait Reads {
         ensures { IfOk result (λ step. IsStep items.now step (plain.receive (message_of (pages repo) (texts repo)) (bases repo) (trace_of items.now) session)) };
 
     /// To one that draws a timestamp, where a clock says some time.
-    fn draw(
-        &self,
-        repo: u8,
-        items: &[Item],
-        session: u32,
-        floor: u64,
-    ) -> Result<Step<Ts>, NoMemory>
+    fn draw(&self, repo: u8, items: &[Item], session: u32, floor: u64) -> Result<Step<Ts>, NoMemory>
         ensures { IfOk result (λ step. (now : ℕ) × IsStep items.now step (plain.draw (bases repo) (trace_of items.now) session now floor)) };
 
     /// To one that has a transaction of several repositories prepared.

@@ -20,10 +20,19 @@ impl Site {
         ensures { (c : ℕ) → MayRecover (R.bases repo) c (trace_in self.old) self.old.left →
             Grew (R.bases repo) c (unsettled_of c self.old.left) (trace_in self.old) (unsettled_of c self.new.left) (trace_in self.new) }
     {
-        if takes {
-            self.recover()?;
-        }
+        self.recover_where(takes)?;
         self.begin_life(reader, repo)
+    }
+
+    /// The entry that was being written comes, where that is wanted.
+    fn recover_where(&mut self, takes: bool) -> Result<(), NoMemory>
+        ensures { (b : Base) (c : ℕ) → MayRecover b c (trace_in self.old) self.old.left →
+            Grew b c (unsettled_of c self.old.left) (trace_in self.old) (unsettled_of c self.new.left) (trace_in self.new) }
+    {
+        if takes {
+            return self.recover();
+        }
+        Ok(())
     }
 
     /// The entry that was being written comes.

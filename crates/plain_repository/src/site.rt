@@ -139,12 +139,7 @@ impl Site {
         }
     }
 
-    fn take_step<X: Drop>(
-        &mut self,
-        client: u8,
-        repo: u8,
-        step: Step<X>,
-    ) -> Result<X, Refusal>
+    fn take_step<X: Drop>(&mut self, client: u8, repo: u8, step: Step<X>) -> Result<X, Refusal>
         requires { is_down self.old.left ≡ false }
         ensures { IsTaken (Ok step) client repo self.old self.new result }
     {

@@ -5,3 +5,4 @@ pub mod UpgradingLaws
 pub mod OpenedFits
 pub mod OpenedOwned
 pub mod Extending
+mod OutsideLaws

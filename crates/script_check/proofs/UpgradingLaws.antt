@@ -1,7 +1,7 @@
 -- Upgrades one after the other, and lists of what each item gives.
 use Rattle.std.proofs.Common.{◌≡◌, ◌≤◌, ◌<◌, ◌+◌, ℕ, suc, arith, add-one, List, [], ◌∷◌, ◌++◌, length, min, take, drop, get_or, Option, Some, None, Result, Ok, Err, refl, ap, sym, subst, ◌∙◌}
 use Rattle.std.specs.List.{flat_map}
-use Rattle.std.proofs.lemmas.List.{append-nil, drop_all, flat_map_more, length-append, take_more}
+use Rattle.std.proofs.lemmas.List.{drop_all, flat_map_more, length-append, take_more}
 use Rattle.std.proofs.Math.Seq.{drop-cons}
 use Rattle.class_defs.proofs.KeptRules.{neither}
 use Rattle.class_defs.specs.Applied.{applied, next_number}
@@ -27,9 +27,6 @@ from_place f xs i x within is =
     ap (flat_map f) (drop-cons xs i x within)
     ∙ ap (λ q. f q ++ flat_map f (drop (suc i) xs)) (sym is)
     ∙ ap (λ k. f x ++ flat_map f (drop k xs)) (sym (add-one i))
-
-pub nothing_more : {X : Type 0} (xs : List X) → xs ++ [] ≡ xs
-nothing_more xs = append-nil xs
 
 -- one more of several, each of which gives something of its own
 pub given_more : {X Y : Type 0} (f : X → List Y) (xs : List X) (i : ℕ) (x : X) (before : List Y) → i < length xs → x ≡ get_or xs i x → (before ++ flat_map f (take i xs)) ++ f x ≡ before ++ flat_map f (take (i + 1) xs)

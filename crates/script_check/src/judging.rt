@@ -49,7 +49,7 @@ fn note_items(
 }
 
 /// Notes what the items of the clients break.
-fn note_clients(
+pub(crate) fn note_clients(
     alloc: Global,
     schema: &Schema,
     clients: &[Items],

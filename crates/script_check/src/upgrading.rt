@@ -1,10 +1,15 @@
-ghost use Rattle.std.specs.Prelude.{◌≡◌, ◌^◌, ◌-◌, ◌++◌, [], length, min, IfOk, OnOk};
+ghost use Rattle.std.specs.Prelude.{◌≡◌, ◌≤◌, ◌^◌, ◌-◌, ◌∷◌, [], length, min, None, IfOk, IfErr, OnOk};
 ghost use Rattle.std.specs.List.{flat_map};
-ghost use Rattle.class_defs.specs.SchemaRules.{schema_rules};
+ghost use Rattle.class_defs.specs.Applied.{applied};
+ghost use Rattle.class_defs.specs.Rules.{least};
+ghost use Rattle.class_defs.specs.SchemaRules.{item_rules, schema_rules};
+ghost use Rattle.class_defs.specs.UpgradeOrder.{own_fault};
+ghost use Rattle.method_check.specs.Told.{Tells};
 ghost use Rattle.script_check.specs.Upgrading as spec;
-ghost use Rattle.script_check.specs.Upgrading.{HasRoom, Leads, block_in, upgrade_in, upgrades_of};
+ghost use Rattle.script_check.specs.Upgrading.{HasRoom, Leads, upgrade_in, upgrades_of};
 
-use class_defs::{Blocks, Checked, RuleFault, Schema};
+use crate::judging::note_clients;
+use class_defs::{Blocks, Checked, Rule, RuleFault, Schema, Upgrade};
 use method_check::CheckError;
 use ownership_check::own_check;
 use script_parse::Items;
@@ -44,36 +49,53 @@ pub fn upgrade_count(clients: &[Items]) -> usize
     count
 }
 
-/// Puts an item's block behind others, where it is a transaction.
-#[tactic(auto, using(crate::proofs::UpgradingLaws::nothing_more))]
-fn take_block(item: &What, blocks: &mut Blocks) -> Result<(), NoMemory>
-    ensures { OnOk result (blocks.new ≡ blocks.old ++ block_in item.now) }
+/// One of the faults of all clients' transactions under a schema.
+#[tactic(auto, using(crate::proofs::OutsideLaws::items_as_blocks))]
+fn items_fault(
+    alloc: Global,
+    schema: &Schema,
+    repos: u8,
+    clients: &[Items],
+) -> Result<Option<RuleFault>, NoMemory>
+    requires { length schema.now.classes ≤ 65536 }
+    ensures { IfOk result (λ fault. fault ≡ least (flat_map (item_rules schema.now repos) (spec.blocks_of clients.now))) }
 {
-    match item {
-        What::Tx(block) => blocks.push(block.copy()?),
-        What::Upgrade(_) => Ok(()),
-    }
+    let mut found = None;
+    note_clients(alloc, schema, clients, repos, &mut found)?;
+    Ok(found)
 }
 
-/// Puts the blocks of a client's transactions behind others.
-fn take_blocks(items: &[What], blocks: &mut Blocks) -> Result<(), NoMemory>
-    ensures { OnOk result (blocks.new ≡ blocks.old ++ flat_map block_in items.now) }
+/// The schema behind an upgrade, which is checked without the transactions.
+fn behind_alone(alloc: Global, schema: &Checked, upgrade: &Upgrade) -> Result<Checked, CheckError>
+    requires { HasRoom schema.now.schema (upgrade.now ∷ []) }
+    ensures sound { OnOk result (own_fault schema.now.schema schema.now.repos upgrade.now [] ≡ None) }
+    ensures schema { IfOk result (λ behind. behind.schema ≡ applied schema.now.schema upgrade.now) }
+    ensures repos { IfOk result (λ behind. behind.repos ≡ schema.now.repos) }
+    ensures broken { IfErr result (λ error. Tells error (own_fault schema.now.schema schema.now.repos upgrade.now [])) }
 {
-    for item in items {
-        take_block(item, blocks)?;
-    }
-    Ok(())
+    let none = Blocks::new(alloc);
+    Ok(own_check(alloc, schema, upgrade, &none)?.checked)
 }
 
-/// The blocks of all clients' transactions.
-fn blocks_of(alloc: Global, clients: &[Items]) -> Result<Blocks, NoMemory>
-    ensures { IfOk result (λ blocks. blocks ≡ spec.blocks_of clients.now) }
+/// The schema behind an upgrade. What it breaks of the transactions is looked at behind the rest, so that they are lent
+/// and not copied.
+fn behind_upgrade(
+    alloc: Global,
+    schema: &Checked,
+    upgrade: &Upgrade,
+    all: &[Items],
+) -> Result<Checked, CheckError>
+    requires { HasRoom schema.now.schema (upgrade.now ∷ []) }
+    ensures { Leads schema.now.schema schema.now.repos (upgrade.now ∷ []) (spec.blocks_of all.now) result }
 {
-    let mut blocks = Blocks::new(alloc);
-    for client in clients {
-        take_blocks(client.as_slice(), &mut blocks)?;
+    let behind = behind_alone(alloc, schema, upgrade)?;
+    match items_fault(alloc, &behind.schema, behind.repos, all)? {
+        None => Ok(behind),
+        Some(_) => Err(CheckError::Broken(RuleFault {
+            line: upgrade.line,
+            rule: Rule::O7,
+        })),
     }
-    Ok(blocks)
 }
 
 /// The schema behind an item, which may be an upgrade.
@@ -81,14 +103,14 @@ fn behind_item(
     alloc: Global,
     schema: Checked,
     item: &What,
-    blocks: &Blocks,
+    all: &[Items],
 ) -> Result<Checked, CheckError>
     requires { HasRoom schema.schema (upgrade_in item.now) }
-    ensures { Leads schema.schema schema.repos (upgrade_in item.now) blocks.now result }
+    ensures { Leads schema.schema schema.repos (upgrade_in item.now) (spec.blocks_of all.now) result }
 {
     match item {
         What::Tx(_) => Ok(schema),
-        What::Upgrade(upgrade) => Ok(own_check(alloc, &schema, upgrade, blocks)?.checked),
+        What::Upgrade(upgrade) => behind_upgrade(alloc, &schema, upgrade, all),
     }
 }
 
@@ -97,31 +119,26 @@ fn behind_items(
     alloc: Global,
     schema: Checked,
     items: &[What],
-    blocks: &Blocks,
+    all: &[Items],
 ) -> Result<Checked, CheckError>
     requires { HasRoom schema.schema (flat_map upgrade_in items.now) }
-    ensures { Leads schema.schema schema.repos (flat_map upgrade_in items.now) blocks.now result }
+    ensures { Leads schema.schema schema.repos (flat_map upgrade_in items.now) (spec.blocks_of all.now) result }
 {
     let mut standing = schema;
     for item in items {
-        standing = behind_item(alloc, standing, item, blocks)?;
+        standing = behind_item(alloc, standing, item, all)?;
     }
     Ok(standing)
 }
 
 /// The schema behind the upgrades of all clients.
-fn behind_clients(
-    alloc: Global,
-    schema: Checked,
-    clients: &[Items],
-    blocks: &Blocks,
-) -> Result<Checked, CheckError>
+fn behind_clients(alloc: Global, schema: Checked, clients: &[Items]) -> Result<Checked, CheckError>
     requires { HasRoom schema.schema (upgrades_of clients.now) }
-    ensures { Leads schema.schema schema.repos (upgrades_of clients.now) blocks.now result }
+    ensures { Leads schema.schema schema.repos (upgrades_of clients.now) (spec.blocks_of clients.now) result }
 {
     let mut standing = schema;
     for client in clients {
-        standing = behind_items(alloc, standing, client.as_slice(), blocks)?;
+        standing = behind_items(alloc, standing, client.as_slice(), clients)?;
     }
     Ok(standing)
 }
@@ -140,9 +157,8 @@ pub fn upgrades_fault(
     if upgrade_count(clients) == 0 {
         return Ok(None);
     }
-    let blocks = blocks_of(alloc, clients)?;
     let checked = Checked::new(schema.copy()?, repos);
-    match behind_clients(alloc, checked, clients, &blocks) {
+    match behind_clients(alloc, checked, clients) {
         Ok(_) => Ok(None),
         Err(CheckError::Broken(fault)) => Ok(Some(fault)),
         Err(CheckError::NoMemory) => Err(NoMemory),

@@ -1,4 +1,4 @@
 pub mod BaseLaws
-pub mod KeptLaws
 pub mod PromiseLaws
-pub mod TopLaws
+pub mod StageLaws
+pub mod WordsLaws

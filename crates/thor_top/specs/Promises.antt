@@ -9,9 +9,10 @@ use Rattle.script_parse.specs.Refusals.{refusal_text}
 use Rattle.script_parse.specs.Script.{IsRefusedText, IsWritten}
 use Rattle.script_parse.specs.declared.refusal.Refusal.{Refusal}
 use Rattle.script_parse.specs.declared.script.Script.{Script}
+use Rattle.command_answer.specs.Opening.{DiskBytes}
 use Rattle.command_answer.specs.Reports.{IsReport}
 use Rattle.checked_report.specs.Texts.{TellsUnopened, limit_text}
-use Rattle.command_answer.specs.Top.{IsChecked, IsNoPlan, IsOverLimit, IsPlan, IsRefused, IsWithinLimits, Says, Told, WasRead}
+use Rattle.command_answer.specs.Top.{IsChecked, IsNoPlan, IsOverLimit, IsPlan, IsRefused, IsWithinLimits, Says, SaysBy, Told, WasRead}
 use Rattle.checked_report.specs.declared.form.Form.TheVariants as form
 use Rattle.checked_report.specs.declared.status.Status.{Status}
 use Rattle.checked_report.specs.declared.status.Status.TheVariants as status
@@ -64,12 +65,12 @@ Runs Run = Unit {0}
 Runs (Gen n) = ⊥
 
 -- the text is the report of the script's run
-abbrev pub SaysReport : Plan → Bool → List ℕ → List ℕ → Type 0
-SaysReport plan finished bytes text = OfScript (λ script text. IsReport form.Report plan.repos script finished text) bytes text
+abbrev pub SaysReport : DiskBytes → Plan → Bool → List ℕ → List ℕ → Type 0
+SaysReport DiskReads plan finished bytes text = OfScript (λ script text. IsReport DiskReads form.Report plan.repos script finished text) bytes text
 
 -- the text is the summary of the script's run
-abbrev pub SaysSummary : Plan → Bool → List ℕ → List ℕ → Type 0
-SaysSummary plan finished bytes text = OfScript (λ script text. IsReport form.Summary plan.repos script finished text) bytes text
+abbrev pub SaysSummary : DiskBytes → Plan → Bool → List ℕ → List ℕ → Type 0
+SaysSummary DiskReads plan finished bytes text = OfScript (λ script text. IsReport DiskReads form.Summary plan.repos script finished text) bytes text
 
 -- the text is `ok`, and the script breaks no rule; a check has no other answer
 abbrev pub SaysOk : Plan → Bool → List ℕ → List ℕ → Type 0
@@ -110,9 +111,19 @@ pub record AreNoWords (words : List (List ℕ)) (repos : ℕ) (before after : To
   pub unread : after ≡ before
   pub put : Put had (codes "words" ++ 10 ∷ []) taken
 
+-- There are the parts of another number of repositories than a plan has: the source is as it was, and the sink took `words`.
+pub record AreOtherParts (plan : Plan) (count : ℕ) (before after : Told) (had taken : Option (List ℕ)) : Type 0 where
+  pub other : (plan.repos ≡ count) → ⊥
+  pub unread : after ≡ before
+  pub put : Put had (codes "words" ++ 10 ∷ []) taken
+
 -- a front of a text that would have been right, with some status
-abbrev pub IsFront : List (List ℕ) → ℕ → Told → Told → Option (List ℕ) → Option (List ℕ) → Type 0
-IsFront words repos before after had taken = (s : Status) × ((text : List ℕ) × (Says words repos before after s text × PutFront had text taken))
+abbrev pub IsFront : DiskBytes → List (List ℕ) → ℕ → Told → Told → Option (List ℕ) → Option (List ℕ) → Type 0
+IsFront DiskReads words repos before after had taken = (s : Status) × ((text : List ℕ) × (Says DiskReads words repos before after s text × PutFront had text taken))
+
+-- the same of what is said by a plan
+abbrev pub IsFrontBy : DiskBytes → Plan → ℕ → Told → Told → Option (List ℕ) → Option (List ℕ) → Type 0
+IsFrontBy DiskReads plan count before after had taken = (s : Status) × ((text : List ℕ) × (SaysBy DiskReads plan count before after s text × PutFront had text taken))
 
 -- the words are a plan for so many repositories, with all statuses but these three
 abbrev pub IsPlanned : List (List ℕ) → ℕ → Status → Type 0

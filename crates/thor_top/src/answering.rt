@@ -1,90 +1,76 @@
-//! The answer to the words of the program, written to its sink.
+//! The answer to a plan, on one thread or on several.
 
-ghost use Rattle.command_answer.specs.Kept.{Refuses, RefusesBy};
-ghost use Rattle.command_answer.specs.Top.{Says, Wrote};
-ghost use Rattle.command_words.specs.Words.{plan_of};
-ghost use Rattle.command_words.specs.declared.command.Command.TheVariants.{Check};
-ghost use Rattle.command_words.specs.declared.command.Plan.{Plan};
-ghost use Rattle.outside.specs.Faults.{Rose};
+ghost use Rattle.command_answer.specs.Kept.{WritesNothing};
+ghost use Rattle.command_answer.specs.Top.{SaysBy};
 ghost use Rattle.repository_reading.specs.Same.{AreSame};
-ghost use Rattle.std.specs.Prelude.{IfOk, Some, vec_len, ◌≡◌};
+ghost use Rattle.std.specs.Prelude.{IfOk, vec_len, ◌≡◌};
+ghost use Rattle.store_reading.specs.Reading.{ReadAll};
 
-use crate::by_plan::reply_by_plan;
-use crate::running::Runtime;
-use checked_report::{Status, says};
-use command_answer::{Answered, Outcome, untouched};
-use command_words::{WordsFault, read_words};
+use crate::beginning::begin;
+use crate::in_turn::run_in_turn;
+use crate::opening::OpenRun;
+use crate::telling::told;
+use cluster_threads::run_clients;
+use command_answer::Answered;
+use command_words::Plan;
 use disk_trait::Parts;
-use outside::{Gate, Sink, Source, write_all};
+use outside::{Gate, Source};
 use std::alloc::Global;
 use std::sync::Wait;
 use std::thread::Threads;
-use thor_value::{NoMemory, Text};
 
-/// The answer to the words.
-fn answer<R: Threads + Wait + Sync, S: Source, P: Parts + Send, G: Gate + Sync>(
+/// What a run on threads goes by: what starts them, and the gate that their events pass.
+#[derive(Drop)]
+pub struct Runtime<'a, R: Wait, G: Gate> {
+    pub rt: &'a R,
+    pub gate: &'a G,
+}
+
+/// Answers a plan. A run performs its events one after the other.
+pub(crate) fn answer_in_turn<S: Source, P: Parts>(
     alloc: Global,
-    runtime: &Runtime<'_, R, G>,
-    words: &[Text],
+    plan: &Plan,
     source: &mut S,
     parts: Vec<P>,
 ) -> Answered<P>
-    ensures reply { IfOk result.reply (λ reply. Says words.now (vec_len parts) (record { left = S.left source.old; faults = S.faults source.old }) (record { left = S.left source.new; faults = S.faults source.new }) reply.status reply.text) }
+    ensures reply { IfOk result.reply (λ r. SaysBy (ReadAll P.disks parts.items) plan.now (vec_len parts) (record { left = S.left source.old; faults = S.faults source.old }) (record { left = S.left source.new; faults = S.faults source.new }) r.status r.text) }
     ensures parts { vec_len result.parts ≡ vec_len parts }
-    ensures refused { RefusesBy result.reply → AreSame P.disks parts.items result.parts.items }
-    ensures checked { (plan : Plan) → plan_of words.now ≡ Some plan → plan.command ≡ Check → AreSame P.disks parts.items result.parts.items }
+    ensures kept { WritesNothing plan.now.command result.reply → AreSame P.disks parts.items result.parts.items }
 {
-    match read_words(alloc, words) {
-        Ok(plan) => {
-            if usize::from(plan.repos) == parts.len() {
-                reply_by_plan(alloc, runtime, &plan, source, parts)
-            } else {
-                untouched(alloc, says(alloc, Status::Words, b"words\n"), parts)
-            }
+    match begin(alloc, plan, source, parts) {
+        Ok(run) => {
+            let OpenRun { cluster, expected } = run;
+            let finished = run_in_turn(cluster, expected.script.events.as_slice());
+            told(alloc, expected, finished)
         }
-        Err(WordsFault::Words) => untouched(alloc, says(alloc, Status::Words, b"words\n"), parts),
-        Err(WordsFault::NoMemory) => untouched(alloc, Err(NoMemory), parts),
+        Err(answered) => answered,
     }
 }
 
-/// Answers the words, and writes the answer to the sink.
-#[tactic(auto, using(crate::proofs::TopLaws::says_fault))]
-pub(crate) fn answer_and_write<
+/// Answers a plan. A run has a thread for each client.
+pub(crate) fn answer_on_threads<
     R: Threads + Wait + Sync,
     S: Source,
-    K: Sink,
     P: Parts + Send,
     G: Gate + Sync,
 >(
     alloc: Global,
     runtime: &Runtime<'_, R, G>,
-    words: &[Text],
+    plan: &Plan,
     source: &mut S,
-    sink: &mut K,
     parts: Vec<P>,
-) -> Outcome<P>
-    ensures wrote { Wrote words.now (vec_len parts) (record { left = S.left source.old; faults = S.faults source.old }) (record { left = S.left source.new; faults = S.faults source.new }) (K.taken sink.old) (K.taken sink.new) result.status }
-    ensures source_fault { result.status ≡ Status.SourceFault → Rose (S.faults source.old) (S.faults source.new) }
-    ensures sink_fault { result.status ≡ Status.SinkFault → Rose (K.faults sink.old) (K.faults sink.new) }
+) -> Answered<P>
+    ensures reply { IfOk result.reply (λ r. SaysBy (ReadAll P.disks parts.items) plan.now (vec_len parts) (record { left = S.left source.old; faults = S.faults source.old }) (record { left = S.left source.new; faults = S.faults source.new }) r.status r.text) }
     ensures parts { vec_len result.parts ≡ vec_len parts }
-    ensures refused { Refuses result.status → AreSame P.disks parts.items result.parts.items }
-    ensures checked { (plan : Plan) → plan_of words.now ≡ Some plan → plan.command ≡ Check → AreSame P.disks parts.items result.parts.items }
+    ensures kept { WritesNothing plan.now.command result.reply → AreSame P.disks parts.items result.parts.items }
 {
-    let Answered {
-        reply,
-        parts,
-        traces,
-    } = answer(alloc, runtime, words, source, parts);
-    let status = match reply {
-        Ok(said) => match write_all(sink, said.text.as_slice()) {
-            Ok(()) => said.status,
-            Err(_) => Status::SinkFault,
-        },
-        Err(NoMemory) => Status::NoMemory,
-    };
-    Outcome {
-        status,
-        parts,
-        traces,
+    match begin(alloc, plan, source, parts) {
+        Ok(run) => {
+            let OpenRun { cluster, expected } = run;
+            let events = expected.script.events.as_slice();
+            let finished = run_clients(runtime.rt, alloc, cluster, events, plan.mob, runtime.gate);
+            told(alloc, expected, finished)
+        }
+        Err(answered) => answered,
     }
 }

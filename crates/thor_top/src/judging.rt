@@ -1,30 +1,22 @@
-//! The reply to a script on the store that was found.
+//! Whether a script may be run on the store that was found.
 
-ghost use Rattle.command_answer.specs.Kept.{WritesNothing};
 ghost use Rattle.command_answer.specs.Opening.{IsAccepted, IsBase};
-ghost use Rattle.command_answer.specs.Top.{IsOverLimit, IsWithinLimits, TellsOf};
-ghost use Rattle.repository_reading.specs.Same.{AreSame};
+ghost use Rattle.command_answer.specs.Top.{IsOverLimit, IsRefused, IsWithinLimits};
 ghost use Rattle.script_check.specs.Upgrading.{upgrades_of};
 ghost use Rattle.script_parse.specs.Script.{HasFew};
 ghost use Rattle.serial_model.specs.Replays.{AreMade};
-ghost use Rattle.std.specs.Prelude.{IfOk, IfSome, List, None, length, vec_len, ◌≡◌, ◌≤◌};
-ghost use Rattle.store_reading.specs.Counts.{HasParts, parts_in};
+ghost use Rattle.std.specs.Prelude.{IfErr, IfOk, IfSome, None, length, ◌≡◌, ◌≤◌};
+ghost use Rattle.thor_top.specs.Stages.{IsJudged, TellsUnjudged};
 
-use crate::playing::play;
-use crate::running::Runtime;
 use crate::starting::base_of;
-use checked_report::{Form, Reply, Status, limited, refused, says};
+use checked_report::{Reply, limited, refused};
 use class_defs::Schemas;
-use command_answer::{Answered, unplayed};
-use command_words::{Command, Plan};
+use command_words::Plan;
 use disk_trait::Parts;
-use outside::Gate;
 use script_check::{judge, last_schema, upgrade_count};
 use script_parse::{Refusal, Script};
 use serial_model::are_made;
 use std::alloc::Global;
-use std::sync::Wait;
-use std::thread::Threads;
 use store_reading::Found;
 use thor_value::NoMemory;
 
@@ -57,129 +49,107 @@ fn passed_limit<P: Parts>(script: &Script, found: &Found<P>) -> Option<u64>
     None
 }
 
-/// The reply to a command on a script that breaks no rule.
-fn accepted<R: Threads + Wait + Sync, P: Parts + Send, G: Gate + Sync>(
-    alloc: Global,
-    runtime: &Runtime<'_, R, G>,
-    plan: &Plan,
-    script: &Script,
-    base: &Schemas,
-    found: Found<P>,
-) -> Answered<P>
-    requires accepted { IsAccepted plan.now.repos script.now base.now }
-    requires made { AreMade base.now }
-    requires within { IsWithinLimits script.now }
-    ensures reply { IfOk result.reply (λ reply. TellsOf plan.now script.now reply.status reply.text) }
-    ensures parts { vec_len result.parts ≡ parts_in found }
-    ensures kept { (given : List P) → HasParts P.disks given found → WritesNothing plan.now.command result.reply → AreSame P.disks given result.parts.items }
-{
-    match plan.command {
-        Command::Check => unplayed(
-            alloc,
-            says(alloc, Status::Done, b"ok\n"),
-            found.into_parts(),
-        ),
-        Command::Play => play(alloc, runtime, plan, Form::Report, script, base, found),
-        Command::Run => play(alloc, runtime, plan, Form::Report, script, base, found),
-        Command::Gen { n: _ } => play(alloc, runtime, plan, Form::Summary, script, base, found),
-    }
-}
-
-/// The reply to a command on a script, under schemas that are as upgrades make them.
-fn judged_on<R: Threads + Wait + Sync, P: Parts + Send, G: Gate + Sync>(
-    alloc: Global,
-    runtime: &Runtime<'_, R, G>,
-    plan: &Plan,
-    script: &Script,
-    base: &Schemas,
-    found: Found<P>,
-) -> Answered<P>
-    requires base { IsBase script.now.setup base.now }
-    requires made { AreMade base.now }
-    requires epochs { length base.now.upgraded ≤ 1000 }
-    requires within { IsWithinLimits script.now }
-    ensures reply { IfOk result.reply (λ reply. TellsOf plan.now script.now reply.status reply.text) }
-    ensures parts { vec_len result.parts ≡ parts_in found }
-    ensures kept { (given : List P) → HasParts P.disks given found → WritesNothing plan.now.command result.reply → AreSame P.disks given result.parts.items }
-{
-    match judge(alloc, last_schema(base), script, plan.repos) {
-        Ok(Some(refusal)) => unplayed(alloc, refused(alloc, refusal), found.into_parts()),
-        Ok(None) => accepted(alloc, runtime, plan, script, base, found),
-        Err(NoMemory) => unplayed(alloc, Err(NoMemory), found.into_parts()),
-    }
-}
-
-/// The reply to a command on a script, under the schemas of the store.
-fn judged<R: Threads + Wait + Sync, P: Parts + Send, G: Gate + Sync>(
-    alloc: Global,
-    runtime: &Runtime<'_, R, G>,
-    plan: &Plan,
-    script: &Script,
-    base: &Schemas,
-    found: Found<P>,
-) -> Answered<P>
-    requires base { IsBase script.now.setup base.now }
-    requires within { IsWithinLimits script.now }
-    ensures reply { IfOk result.reply (λ reply. TellsOf plan.now script.now reply.status reply.text) }
-    ensures parts { vec_len result.parts ≡ parts_in found }
-    ensures kept { (given : List P) → HasParts P.disks given found → WritesNothing plan.now.command result.reply → AreSame P.disks given result.parts.items }
-{
-    if UPGRADE_LIMIT < base.upgraded.len() || !are_made(base) {
-        return unplayed(alloc, Err(NoMemory), found.into_parts());
-    }
-    judged_on(alloc, runtime, plan, script, base, found)
-}
-
-/// The reply to a command on a script and the store that was found.
-pub(crate) fn reply_found<R: Threads + Wait + Sync, P: Parts + Send, G: Gate + Sync>(
-    alloc: Global,
-    runtime: &Runtime<'_, R, G>,
-    plan: &Plan,
-    script: &Script,
-    found: Found<P>,
-) -> Answered<P>
-    requires few { HasFew script.now.setup }
-    requires clients { length script.now.clients ≤ 64 }
-    requires events { length script.now.events ≤ 1000000 }
-    ensures reply { IfOk result.reply (λ reply. TellsOf plan.now script.now reply.status reply.text) }
-    ensures parts { vec_len result.parts ≡ parts_in found }
-    ensures kept { (given : List P) → HasParts P.disks given found → WritesNothing plan.now.command result.reply → AreSame P.disks given result.parts.items }
-{
-    match passed_limit(script, &found) {
-        Some(limit) => unplayed(
-            alloc,
-            over_limit(alloc, plan, script, limit),
-            found.into_parts(),
-        ),
-        None => reply_within(alloc, runtime, plan, script, found),
-    }
-}
-
-/// The reply to a command on a script that passes a limit.
+/// The reply to a script that passes a limit.
 fn over_limit(alloc: Global, plan: &Plan, script: &Script, limit: u64) -> Result<Reply, NoMemory>
     requires { IsOverLimit script.now limit }
-    ensures { IfOk result (λ reply. TellsOf plan.now script.now reply.status reply.text) }
+    ensures { IfOk result (λ reply. TellsUnjudged plan.now script.now reply.status reply.text) }
 {
     limited(alloc, limit)
 }
 
-/// The reply to a command on a script that is within the limits, and the store that was found.
-fn reply_within<R: Threads + Wait + Sync, P: Parts + Send, G: Gate + Sync>(
+/// The reply to a script that is refused.
+fn refusal(alloc: Global, plan: &Plan, script: &Script, refusal: Refusal) -> Result<Reply, NoMemory>
+    requires within { IsWithinLimits script.now }
+    requires refused { IsRefused plan.now.repos script.now refusal }
+    ensures { IfOk result (λ reply. TellsUnjudged plan.now script.now reply.status reply.text) }
+{
+    refused(alloc, refusal)
+}
+
+/// Schemas that are as upgrades make them, where a script breaks no rule under them; else the reply.
+fn judged_on(
     alloc: Global,
-    runtime: &Runtime<'_, R, G>,
     plan: &Plan,
     script: &Script,
-    found: Found<P>,
-) -> Answered<P>
+    base: Schemas,
+) -> Result<Schemas, Result<Reply, NoMemory>>
+    requires base { IsBase script.now.setup base }
+    requires made { AreMade base }
+    requires epochs { length base.upgraded ≤ 1000 }
+    requires within { IsWithinLimits script.now }
+    ensures base { IfOk result (λ judged. judged ≡ base) }
+    ensures made { IfOk result AreMade }
+    ensures accepted { IfOk result (λ judged. IsAccepted plan.now.repos script.now judged) }
+    ensures reply { IfErr result (λ reply. IfOk reply (λ r. TellsUnjudged plan.now script.now r.status r.text)) }
+{
+    match judge(alloc, last_schema(&base), script, plan.repos) {
+        Ok(Some(broken)) => {
+            drop(base);
+            Err(refusal(alloc, plan, script, broken))
+        }
+        Ok(None) => Ok(base),
+        Err(NoMemory) => {
+            drop(base);
+            Err(Err(NoMemory))
+        }
+    }
+}
+
+/// The schemas of the store, where a script breaks no rule under them; else the reply.
+fn judged(
+    alloc: Global,
+    plan: &Plan,
+    script: &Script,
+    base: Schemas,
+) -> Result<Schemas, Result<Reply, NoMemory>>
+    requires base { IsBase script.now.setup base }
+    requires within { IsWithinLimits script.now }
+    ensures base { IfOk result (λ judged. judged ≡ base) }
+    ensures made { IfOk result AreMade }
+    ensures accepted { IfOk result (λ judged. IsAccepted plan.now.repos script.now judged) }
+    ensures reply { IfErr result (λ reply. IfOk reply (λ r. TellsUnjudged plan.now script.now r.status r.text)) }
+{
+    if UPGRADE_LIMIT < base.upgraded.len() || !are_made(&base) {
+        drop(base);
+        return Err(Err(NoMemory));
+    }
+    judged_on(alloc, plan, script, base)
+}
+
+/// The schemas of the store that was found, where a script within the limits breaks no rule on it; else the reply.
+fn base_within<P: Parts>(
+    alloc: Global,
+    plan: &Plan,
+    script: &Script,
+    found: &Found<P>,
+) -> Result<Schemas, Result<Reply, NoMemory>>
     requires few { HasFew script.now.setup }
     requires within { IsWithinLimits script.now }
-    ensures reply { IfOk result.reply (λ reply. TellsOf plan.now script.now reply.status reply.text) }
-    ensures parts { vec_len result.parts ≡ parts_in found }
-    ensures kept { (given : List P) → HasParts P.disks given found → WritesNothing plan.now.command result.reply → AreSame P.disks given result.parts.items }
+    ensures judged { IfOk result (IsJudged plan.now script.now found.now.store) }
+    ensures reply { IfErr result (λ reply. IfOk reply (λ r. TellsUnjudged plan.now script.now r.status r.text)) }
 {
-    match base_of(alloc, &script.setup, &found) {
-        Ok(Some(base)) => judged(alloc, runtime, plan, script, &base, found),
-        Ok(None) => unplayed(alloc, refused(alloc, Refusal::Setup), found.into_parts()),
-        Err(NoMemory) => unplayed(alloc, Err(NoMemory), found.into_parts()),
+    match base_of(alloc, &script.setup, found) {
+        Ok(Some(base)) => judged(alloc, plan, script, base),
+        Ok(None) => Err(refusal(alloc, plan, script, Refusal::Setup)),
+        Err(NoMemory) => Err(Err(NoMemory)),
+    }
+}
+
+/// The schemas of the store that was found, where the script breaks no rule on it; else the reply.
+pub(crate) fn base_in<P: Parts>(
+    alloc: Global,
+    plan: &Plan,
+    script: &Script,
+    found: &Found<P>,
+) -> Result<Schemas, Result<Reply, NoMemory>>
+    requires few { HasFew script.now.setup }
+    requires clients { length script.now.clients ≤ 64 }
+    requires events { length script.now.events ≤ 1000000 }
+    ensures judged { IfOk result (IsJudged plan.now script.now found.now.store) }
+    ensures reply { IfErr result (λ reply. IfOk reply (λ r. TellsUnjudged plan.now script.now r.status r.text)) }
+{
+    match passed_limit(script, found) {
+        Some(limit) => Err(over_limit(alloc, plan, script, limit)),
+        None => base_within(alloc, plan, script, found),
     }
 }

@@ -2,17 +2,22 @@
 #![tactic(auto)]
 
 mod answering;
-mod by_plan;
+mod beginning;
+mod expected;
+mod finding;
 mod in_turn;
 mod judging;
-mod playing;
-mod replying;
-mod running;
+mod opening;
+mod performing;
+mod reading;
 mod starting;
+mod telling;
 mod top;
 mod unopened;
+mod writing;
 
-pub use by_plan::SCRIPT_LIMIT;
 pub use checked_report::Status;
 pub use command_answer::Outcome;
+pub use performing::perform;
+pub use reading::SCRIPT_LIMIT;
 pub use top::thor;

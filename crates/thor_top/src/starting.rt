@@ -3,6 +3,7 @@
 ghost use Rattle.std.specs.Prelude.{◌≡◌, ◌<◌, ◌^◌, IfOk, IfSome, length};
 ghost use Rattle.script_parse.specs.Script.{HasFew};
 ghost use Rattle.command_answer.specs.Opening.{IsBase, first_schemas};
+ghost use Rattle.thor_top.specs.Stages.{HasSchemas};
 
 use class_defs::{Declarations, Schemas, UpgradedSchemas};
 use disk_trait::Parts;
@@ -30,7 +31,8 @@ pub fn base_of<P: Parts>(
     found: &Found<P>,
 ) -> Result<Option<Schemas>, NoMemory>
     requires { HasFew setup.now }
-    ensures { IfOk result (λ base. IfSome base (IsBase setup.now)) }
+    ensures base { IfOk result (λ base. IfSome base (IsBase setup.now)) }
+    ensures schemas { IfOk result (λ base. IfSome base (HasSchemas setup.now found.now.store)) }
 {
     match (setup, found.schemas()) {
         (Some(setup), None) => Ok(Some(first_schemas(alloc, setup)?)),

@@ -1,24 +1,75 @@
 ghost use Rattle.std.specs.Prelude.{◌≡◌, ◌⊎◌, ◌++◌, ◌∷◌, [], Some, codes, vec_len, ℕ};
 ghost use Rattle.command_answer.specs.Kept.{Refuses};
-ghost use Rattle.command_answer.specs.Top.{IsPlan};
+ghost use Rattle.command_answer.specs.Top.{IsPlan, Says, SaysBy, Wrote};
 ghost use Rattle.command_words.specs.Words.{plan_of};
 ghost use Rattle.command_words.specs.declared.command.Command.TheVariants.{Check, Gen};
 ghost use Rattle.command_words.specs.declared.command.Plan.{Plan};
 ghost use Rattle.outside.specs.Faults.{Rose};
 ghost use Rattle.outside.specs.Streams.{Put};
 ghost use Rattle.repository_reading.specs.Same.{AreSame};
+ghost use Rattle.store_reading.specs.Reading.{ReadAll};
 ghost use Rattle.thor_top.specs.Promises.{AreNoWords, HasTold, IsFront, IsPlanned, IsTooLong, OnAnswer, Reads, Runs, SaysDisk, SaysLimit, SaysOk, SaysReport, SaysRule, SaysSummary};
 
-use crate::answering::answer_and_write;
-use crate::running::Runtime;
-use checked_report::Status;
-use command_answer::Outcome;
+use crate::answering::Runtime;
+use crate::performing::{perform, perform_on_threads};
+use crate::writing::write_answer;
+use checked_report::{Status, says};
+use command_answer::{Outcome, untouched};
+use command_words::{Command, Plan, WordsFault, read_words};
 use disk_trait::Parts;
 use outside::{Gate, Sink, Source};
 use std::alloc::Global;
 use std::sync::Wait;
 use std::thread::Threads;
-use thor_value::Text;
+use thor_value::{NoMemory, Text};
+
+/// Performs a plan, and writes the answer.
+fn perform_plan<R: Threads + Wait + Sync, S: Source, K: Sink, P: Parts + Send, G: Gate + Sync>(
+    alloc: Global,
+    runtime: &Runtime<'_, R, G>,
+    plan: Plan,
+    source: &mut S,
+    sink: &mut K,
+    parts: Vec<P>,
+) -> Outcome<P>
+    ensures wrote { Wrote (SaysBy (ReadAll P.disks parts.items) plan (vec_len parts) (record { left = S.left source.old; faults = S.faults source.old }) (record { left = S.left source.new; faults = S.faults source.new })) (K.taken sink.old) (K.taken sink.new) result.status }
+    ensures sink_fault { result.status ≡ Status.SinkFault → Rose (K.faults sink.old) (K.faults sink.new) }
+    ensures parts { vec_len result.parts ≡ vec_len parts }
+    ensures refused { Refuses result.status → AreSame P.disks parts.items result.parts.items }
+    ensures checked { plan.command ≡ Check → AreSame P.disks parts.items result.parts.items }
+{
+    match plan.command {
+        Command::Run => perform_on_threads(alloc, runtime, &plan, source, sink, parts),
+        Command::Check | Command::Play | Command::Gen { n: _ } => {
+            perform(alloc, plan, source, sink, parts)
+        }
+    }
+}
+
+/// Performs what the words ask for, and writes the answer.
+fn perform_words<R: Threads + Wait + Sync, S: Source, K: Sink, P: Parts + Send, G: Gate + Sync>(
+    alloc: Global,
+    runtime: &Runtime<'_, R, G>,
+    words: &[Text],
+    source: &mut S,
+    sink: &mut K,
+    parts: Vec<P>,
+) -> Outcome<P>
+    ensures wrote { Wrote (Says (ReadAll P.disks parts.items) words.now (vec_len parts) (record { left = S.left source.old; faults = S.faults source.old }) (record { left = S.left source.new; faults = S.faults source.new })) (K.taken sink.old) (K.taken sink.new) result.status }
+    ensures sink_fault { result.status ≡ Status.SinkFault → Rose (K.faults sink.old) (K.faults sink.new) }
+    ensures parts { vec_len result.parts ≡ vec_len parts }
+    ensures refused { Refuses result.status → AreSame P.disks parts.items result.parts.items }
+    ensures checked { (plan : Plan) → plan_of words.now ≡ Some plan → plan.command ≡ Check → AreSame P.disks parts.items result.parts.items }
+{
+    match read_words(alloc, words) {
+        Ok(plan) => perform_plan(alloc, runtime, plan, source, sink, parts),
+        Err(WordsFault::Words) => {
+            let reply = says(alloc, Status::Words, b"words\n");
+            write_answer(sink, untouched(alloc, reply, parts))
+        }
+        Err(WordsFault::NoMemory) => write_answer(sink, untouched(alloc, Err(NoMemory), parts)),
+    }
+}
 
 /// The program: reads a script from the source, does with it what the words ask for, on the parts of as many
 /// repositories, and writes the answer to the sink.
@@ -39,9 +90,9 @@ pub fn thor<R: Threads + Wait + Sync, S: Source, K: Sink, P: Parts + Send, G: Ga
     // But for wrong words, a failed sink and want of memory, the words are a plan.
     ensures planned { IsPlanned words.now (vec_len parts) result.status }
     // Status 0 and 1 of `play` and `run`: the sink took the report of one serial history of the script.
-    ensures report { (plan : Plan) → IsPlan words.now (vec_len parts) plan → Runs plan.command → OnAnswer (λ finished. HasTold plan (record { left = S.left source.old; faults = S.faults source.old }) (record { left = S.left source.new; faults = S.faults source.new }) (K.taken sink.old) (K.taken sink.new) (SaysReport plan finished)) result.status }
+    ensures report { (plan : Plan) → IsPlan words.now (vec_len parts) plan → Runs plan.command → OnAnswer (λ finished. HasTold plan (record { left = S.left source.old; faults = S.faults source.old }) (record { left = S.left source.new; faults = S.faults source.new }) (K.taken sink.old) (K.taken sink.new) (SaysReport (ReadAll P.disks parts.items) plan finished)) result.status }
     // Of `gen`: the summary of one of the generated script.
-    ensures summary { (plan : Plan) (n : ℕ) → IsPlan words.now (vec_len parts) plan → plan.command ≡ Gen n → OnAnswer (λ finished. HasTold plan (record { left = S.left source.old; faults = S.faults source.old }) (record { left = S.left source.new; faults = S.faults source.new }) (K.taken sink.old) (K.taken sink.new) (SaysSummary plan finished)) result.status }
+    ensures summary { (plan : Plan) (n : ℕ) → IsPlan words.now (vec_len parts) plan → plan.command ≡ Gen n → OnAnswer (λ finished. HasTold plan (record { left = S.left source.old; faults = S.faults source.old }) (record { left = S.left source.new; faults = S.faults source.new }) (K.taken sink.old) (K.taken sink.new) (SaysSummary (ReadAll P.disks parts.items) plan finished)) result.status }
     // Of `check`: the script breaks no rule.
     ensures ok { (plan : Plan) → IsPlan words.now (vec_len parts) plan → plan.command ≡ Check → OnAnswer (λ finished. HasTold plan (record { left = S.left source.old; faults = S.faults source.old }) (record { left = S.left source.new; faults = S.faults source.new }) (K.taken sink.old) (K.taken sink.new) (SaysOk plan finished)) result.status }
     // The bytes are no script, or the script is refused.
@@ -57,7 +108,7 @@ pub fn thor<R: Threads + Wait + Sync, S: Source, K: Sink, P: Parts + Send, G: Ga
     ensures source { result.status ≡ Status.SourceFault → Put (K.taken sink.old) (codes "source" ++ 10 ∷ []) (K.taken sink.new) }
     ensures source_fault { result.status ≡ Status.SourceFault → Rose (S.faults source.old) (S.faults source.new) }
     // The sink failed, which it counted, behind a front of what would have been right.
-    ensures front { result.status ≡ Status.SinkFault → IsFront words.now (vec_len parts) (record { left = S.left source.old; faults = S.faults source.old }) (record { left = S.left source.new; faults = S.faults source.new }) (K.taken sink.old) (K.taken sink.new) }
+    ensures front { result.status ≡ Status.SinkFault → IsFront (ReadAll P.disks parts.items) words.now (vec_len parts) (record { left = S.left source.old; faults = S.faults source.old }) (record { left = S.left source.new; faults = S.faults source.new }) (K.taken sink.old) (K.taken sink.new) }
     ensures sink_fault { result.status ≡ Status.SinkFault → Rose (K.faults sink.old) (K.faults sink.new) }
     // Memory ran out.
     ensures nothing { result.status ≡ Status.NoMemory → K.taken sink.new ≡ K.taken sink.old }
@@ -68,5 +119,5 @@ pub fn thor<R: Threads + Wait + Sync, S: Source, K: Sink, P: Parts + Send, G: Ga
     ensures checked { (plan : Plan) → plan_of words.now ≡ Some plan → plan.command ≡ Check → AreSame P.disks parts.items result.parts.items }
 {
     let runtime = Runtime { rt, gate };
-    answer_and_write(alloc, &runtime, words, source, sink, parts)
+    perform_words(alloc, &runtime, words, source, sink, parts)
 }

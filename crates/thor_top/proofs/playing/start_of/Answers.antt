@@ -1,4 +1,0 @@
-use Rattle.thor_top.proofs.playing.start_of.Goals as goal
-
-pub roots_of-requires : goal.roots_of-requires
-roots_of-requires c = c.requires.few 0

@@ -1,0 +1,116 @@
+//! What a plan asks for is begun: its script is read, its store is opened. No run is made here.
+
+ghost use Rattle.cluster_core.specs.Counts.{parts_of};
+ghost use Rattle.command_answer.specs.Kept.{WritesNothing};
+ghost use Rattle.command_answer.specs.Top.{SaysBy, TellsOf};
+ghost use Rattle.repository_reading.specs.Same.{AreSame};
+ghost use Rattle.script_parse.specs.Script.{HasFew};
+ghost use Rattle.std.specs.Prelude.{IfErr, IfOk, List, length, vec_len, ◌≡◌, ◌≤◌};
+ghost use Rattle.store_reading.specs.Counts.{HasParts, parts_in};
+ghost use Rattle.store_reading.specs.Reading.{ReadAll};
+ghost use Rattle.thor_top.specs.Stages.{Foretells, IsJudged, IsPlayed, IsStoredBy};
+
+use crate::finding::{Judged, find};
+use crate::opening::{OpenRun, open_run};
+use crate::reading::script_of;
+use checked_report::{Form, Status, says};
+use command_answer::{Answered, are_parts_of, unplayed, untouched};
+use command_words::{Command, Plan};
+use disk_trait::Parts;
+use outside::Source;
+use script_parse::Script;
+use std::alloc::Global;
+
+/// The answer to a check of a script that breaks no rule.
+fn checked<P: Parts>(alloc: Global, plan: &Plan, script: &Script, judged: Judged<P>) -> Answered<P>
+    requires command { plan.now.command ≡ Command.Check }
+    requires judged { IsJudged plan.now script.now judged.found.store judged.base }
+    ensures reply { (given : List P) → IfOk result.reply (λ r. TellsOf (ReadAll P.disks given) plan.now script.now r.status r.text) }
+    ensures parts { vec_len result.parts ≡ parts_in judged.found }
+    ensures same { (given : List P) → HasParts P.disks given judged.found → AreSame P.disks given result.parts.items }
+{
+    let Judged { base, found } = judged;
+    drop(base);
+    unplayed(
+        alloc,
+        says(alloc, Status::Done, b"ok\n"),
+        found.into_parts(),
+    )
+}
+
+/// Opens the store for the run that a command asks for. Else the answer, with the parts.
+fn begin_judged<P: Parts>(
+    alloc: Global,
+    plan: &Plan,
+    script: Script,
+    judged: Judged<P>,
+) -> Result<OpenRun<P>, Answered<P>>
+    requires { IsJudged plan.now script judged.found.store judged.base }
+    ensures foretells { (given : List P) → IsStoredBy (ReadAll P.disks given) judged.found.store → IfOk result (λ run. Foretells (TellsOf (ReadAll P.disks given) plan.now script) run.expected) }
+    ensures played { IfOk result (λ run. IsPlayed plan.now.command) }
+    ensures count { IfOk result (λ run. parts_of run.cluster ≡ parts_in judged.found) }
+    ensures reply { (given : List P) → IfErr result (λ a. IfOk a.reply (λ r. TellsOf (ReadAll P.disks given) plan.now script r.status r.text)) }
+    ensures parts { IfErr result (λ a. vec_len a.parts ≡ parts_in judged.found) }
+    ensures kept { (given : List P) → HasParts P.disks given judged.found → IfErr result (λ a. WritesNothing plan.now.command a.reply → AreSame P.disks given a.parts.items) }
+{
+    match plan.command {
+        Command::Check => {
+            let answered = checked(alloc, plan, &script, judged);
+            drop(script);
+            Err(answered)
+        }
+        Command::Play => open_run(alloc, plan, Form::Report, script, judged),
+        Command::Run => open_run(alloc, plan, Form::Report, script, judged),
+        Command::Gen { n: _ } => open_run(alloc, plan, Form::Summary, script, judged),
+    }
+}
+
+/// Begins what a plan asks for with a script that was read.
+fn begin_script<P: Parts>(
+    alloc: Global,
+    plan: &Plan,
+    script: Script,
+    parts: Vec<P>,
+) -> Result<OpenRun<P>, Answered<P>>
+    requires few { HasFew script.setup }
+    requires clients { length script.clients ≤ 64 }
+    requires events { length script.events ≤ 1000000 }
+    ensures foretells { IfOk result (λ run. Foretells (TellsOf (ReadAll P.disks parts.items) plan.now script) run.expected) }
+    ensures played { IfOk result (λ run. IsPlayed plan.now.command) }
+    ensures count { IfOk result (λ run. parts_of run.cluster ≡ vec_len parts) }
+    ensures reply { IfErr result (λ a. IfOk a.reply (λ r. TellsOf (ReadAll P.disks parts.items) plan.now script r.status r.text)) }
+    ensures parts { IfErr result (λ a. vec_len a.parts ≡ vec_len parts) }
+    ensures kept { IfErr result (λ a. WritesNothing plan.now.command a.reply → AreSame P.disks parts.items a.parts.items) }
+{
+    match find(alloc, plan, &script, parts) {
+        Ok(judged) => begin_judged(alloc, plan, script, judged),
+        Err(answered) => {
+            drop(script);
+            Err(answered)
+        }
+    }
+}
+
+/// Begins what a plan asks for, on the parts: the store is open for the script's run. Else the answer, with the parts:
+/// where words, script or store are refused, and behind a check, their disks are as they were.
+pub(crate) fn begin<S: Source, P: Parts>(
+    alloc: Global,
+    plan: &Plan,
+    source: &mut S,
+    parts: Vec<P>,
+) -> Result<OpenRun<P>, Answered<P>>
+    ensures foretells { IfOk result (λ run. Foretells (SaysBy (ReadAll P.disks parts.items) plan.now (vec_len parts) (record { left = S.left source.old; faults = S.faults source.old }) (record { left = S.left source.new; faults = S.faults source.new })) run.expected) }
+    ensures played { IfOk result (λ run. IsPlayed plan.now.command) }
+    ensures count { IfOk result (λ run. parts_of run.cluster ≡ vec_len parts) }
+    ensures reply { IfErr result (λ a. IfOk a.reply (λ r. SaysBy (ReadAll P.disks parts.items) plan.now (vec_len parts) (record { left = S.left source.old; faults = S.faults source.old }) (record { left = S.left source.new; faults = S.faults source.new }) r.status r.text)) }
+    ensures parts { IfErr result (λ a. vec_len a.parts ≡ vec_len parts) }
+    ensures kept { IfErr result (λ a. WritesNothing plan.now.command a.reply → AreSame P.disks parts.items a.parts.items) }
+{
+    if !are_parts_of(plan, parts.as_slice()) {
+        return Err(untouched(alloc, says(alloc, Status::Words, b"words\n"), parts));
+    }
+    match script_of(alloc, plan, source) {
+        Ok(script) => begin_script(alloc, plan, script, parts),
+        Err(reply) => Err(untouched(alloc, reply, parts)),
+    }
+}

@@ -1,0 +1,125 @@
+//! The script that a plan asks for: that of the source, or a generated one.
+
+ghost use Rattle.command_answer.specs.Top.{IsOverLimit};
+ghost use Rattle.generator.specs.Bank.{script_text};
+ghost use Rattle.std.specs.Prelude.{IfErr, IfOk, IfSome, None, length, ◌≡◌, ◌≤◌};
+ghost use Rattle.std.specs.String.{string_bytes};
+ghost use Rattle.thor_top.specs.Stages.{IsRead, IsReadFrom, IsScriptFor, SaysNoScriptFor, SaysUnread, TellsNoScript, TellsOver};
+
+use checked_report::{Reply, Status, limited, refused, says};
+use command_words::{Command, Plan};
+use generator::generate;
+use outside::{ReadAll, Source, read_all};
+use script_parse::{ReadError, Script, read_script};
+use std::alloc::Global;
+use thor_value::NoMemory;
+
+/// The most bytes that a script may have.
+pub const SCRIPT_LIMIT: usize = 8_388_608;
+
+/// The most clients that a script may have.
+const CLIENT_LIMIT: usize = 64;
+
+/// The most events that a schedule may have.
+const EVENT_LIMIT: usize = 1_000_000;
+
+/// The limit on clients or events that a script passes.
+fn script_limit(script: &Script) -> Option<u64>
+    ensures passed { IfSome result (λ limit. IsOverLimit script.now limit) }
+    ensures clients { result ≡ None → length script.now.clients ≤ 64 }
+    ensures events { result ≡ None → length script.now.events ≤ 1000000 }
+{
+    if CLIENT_LIMIT < script.clients.len() {
+        return Some(CLIENT_LIMIT as u64);
+    }
+    if EVENT_LIMIT < script.events.len() {
+        return Some(EVENT_LIMIT as u64);
+    }
+    None
+}
+
+/// The reply to a script that passes a limit.
+fn over(alloc: Global, script: &Script, limit: u64) -> Result<Reply, NoMemory>
+    requires { IsOverLimit script.now limit }
+    ensures { IfOk result (λ reply. TellsOver script.now reply.status reply.text) }
+{
+    limited(alloc, limit)
+}
+
+/// A script that passes no limit of its own; else the reply.
+fn within_limits(alloc: Global, script: Script) -> Result<Script, Result<Reply, NoMemory>>
+    ensures script { IfOk result (λ within. within ≡ script) }
+    ensures clients { IfOk result (λ within. length within.clients ≤ 64) }
+    ensures events { IfOk result (λ within. length within.events ≤ 1000000) }
+    ensures reply { IfErr result (λ reply. IfOk reply (λ r. TellsOver script r.status r.text)) }
+{
+    match script_limit(&script) {
+        Some(limit) => {
+            let reply = over(alloc, &script, limit);
+            drop(script);
+            Err(reply)
+        }
+        None => Ok(script),
+    }
+}
+
+/// The script that bytes are; else the reply.
+fn read_bytes(alloc: Global, bytes: &[u8]) -> Result<Script, Result<Reply, NoMemory>>
+    ensures script { IfOk result (IsRead bytes.now) }
+    ensures reply { IfErr result (λ reply. IfOk reply (λ r. TellsNoScript bytes.now r.status r.text)) }
+{
+    match read_script(alloc, bytes) {
+        Ok(script) => within_limits(alloc, script),
+        Err(ReadError::Refused(refusal)) => Err(refused(alloc, refusal)),
+        Err(ReadError::NoMemory) => Err(Err(NoMemory)),
+    }
+}
+
+/// The script that the source gives; else the reply.
+fn read_source<S: Source>(alloc: Global, source: &mut S) -> Result<Script, Result<Reply, NoMemory>>
+    ensures script { IfOk result (IsReadFrom (record { left = S.left source.old; faults = S.faults source.old }) (record { left = S.left source.new; faults = S.faults source.new })) }
+    ensures reply { IfErr result (λ reply. IfOk reply (λ r. SaysUnread (record { left = S.left source.old; faults = S.faults source.old }) (record { left = S.left source.new; faults = S.faults source.new }) r.status r.text)) }
+{
+    match read_all(alloc, source, SCRIPT_LIMIT) {
+        Ok(bytes) => read_bytes(alloc, bytes.as_slice()),
+        Err(ReadAll::Failed) => Err(says(alloc, Status::SourceFault, b"source\n")),
+        Err(ReadAll::Over) => Err(limited(alloc, SCRIPT_LIMIT as u64)),
+        Err(ReadAll::NoMemory) => Err(Err(NoMemory)),
+    }
+}
+
+/// The generated text of a number over so many repositories, of which there is at least one.
+fn generated(alloc: Global, n: u16, repos: u8) -> Result<String, NoMemory>
+    ensures { IfOk result (λ text. string_bytes text ≡ script_text n repos) }
+{
+    if repos == 0 {
+        return Err(NoMemory);
+    }
+    generate(alloc, n, repos)
+}
+
+/// The generated script of a number; else the reply.
+fn generated_script(alloc: Global, n: u16, repos: u8) -> Result<Script, Result<Reply, NoMemory>>
+    ensures script { IfOk result (IsRead (script_text n repos)) }
+    ensures reply { IfErr result (λ reply. IfOk reply (λ r. TellsNoScript (script_text n repos) r.status r.text)) }
+{
+    match generated(alloc, n, repos) {
+        Ok(text) => read_bytes(alloc, text.as_bytes()),
+        Err(NoMemory) => Err(Err(NoMemory)),
+    }
+}
+
+/// The script that a plan asks for; else the reply.
+pub(crate) fn script_of<S: Source>(
+    alloc: Global,
+    plan: &Plan,
+    source: &mut S,
+) -> Result<Script, Result<Reply, NoMemory>>
+    ensures script { IfOk result (IsScriptFor plan.now.command plan.now.repos (record { left = S.left source.old; faults = S.faults source.old }) (record { left = S.left source.new; faults = S.faults source.new })) }
+    ensures reply { IfErr result (λ reply. IfOk reply (λ r. SaysNoScriptFor plan.now.command plan.now.repos (record { left = S.left source.old; faults = S.faults source.old }) (record { left = S.left source.new; faults = S.faults source.new }) r.status r.text)) }
+{
+    match plan.command {
+        Command::Check | Command::Play | Command::Run => read_source(alloc, source),
+        Command::Gen { n } => generated_script(alloc, n, plan.repos),
+    }
+}

@@ -1,0 +1,67 @@
+//! What is told of a run that was made.
+
+ghost use Rattle.checked_report.specs.Reports.{IsReported};
+ghost use Rattle.std.specs.Prelude.{IfOk, ◌≡◌};
+ghost use Rattle.thor_value.specs.FiniteMap.{IsSorted};
+
+use crate::expected::Expected;
+use checked_report::{Reply, report};
+use cluster_core::{Finished, Ran};
+use command_answer::Answered;
+use disk_trait::Parts;
+use std::alloc::Global;
+use thor_value::NoMemory;
+use trace_record::Traces;
+
+/// What is told of what was run, where it is as expected.
+fn reported(
+    alloc: Global,
+    expected: &Expected,
+    ran: Result<Ran, NoMemory>,
+) -> (Result<Reply, NoMemory>, Traces)
+    requires { IsSorted expected.now.opened.store.objects }
+    ensures { IfOk result.0 (λ reply. IsReported expected.now.form expected.now.opened.schemas expected.now.opened.store expected.now.script reply.status reply.text) }
+{
+    match ran {
+        Ok(
+            Ran {
+                ends,
+                lines,
+                traces,
+                ..
+            },
+        ) => (
+            report(
+                alloc,
+                expected.form,
+                &expected.opened.schemas,
+                &expected.opened.store,
+                &expected.script,
+                lines,
+                &ends,
+            ),
+            traces,
+        ),
+        Err(NoMemory) => (Err(NoMemory), Traces::new(alloc)),
+    }
+}
+
+/// What is told of a run, with the parts.
+pub(crate) fn told<P: Parts>(
+    alloc: Global,
+    expected: Expected,
+    finished: Finished<P>,
+) -> Answered<P>
+    requires { IsSorted expected.opened.store.objects }
+    ensures reply { IfOk result.reply (λ reply. IsReported expected.form expected.opened.schemas expected.opened.store expected.script reply.status reply.text) }
+    ensures parts { result.parts ≡ finished.parts }
+{
+    let Finished { parts, ran } = finished;
+    let (reply, traces) = reported(alloc, &expected, ran);
+    drop(expected);
+    Answered {
+        reply,
+        parts,
+        traces,
+    }
+}
