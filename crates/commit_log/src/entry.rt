@@ -4,7 +4,7 @@ use crate::request::Request;
 use thor_value::{NoMemory, TryCopy, Ts};
 
 /// One entry of the history of a repository.
-#[derive(Debug, Drop)]
+#[derive(Debug)]
 pub enum Entry {
     /// The repository was opened or restarted. Its transactions that were prepared and not decided
     /// are aborted by it.
@@ -41,6 +41,22 @@ pub enum Entry {
         /// What the client sent.
         request: Request,
     },
+}
+
+impl Drop for Entry {
+    fn drop(self) {
+        match self {
+            Entry::One { request } | Entry::Prepared { request } | Entry::Upgraded { request } => {
+                drop(request);
+            }
+            Entry::Life { life } => {
+                let _ = life;
+            }
+            Entry::Decided { tx, commit } | Entry::Finished { tx, commit } => {
+                let _ = (tx, commit);
+            }
+        }
+    }
 }
 
 impl TryCopy for Entry {

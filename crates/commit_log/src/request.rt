@@ -20,7 +20,7 @@ pub enum Kind {
 ///
 /// A client sends the names that it read and the objects that it wrote, and neither versions nor
 /// the values that it read (Liskov and others, SIGMOD 1996; Adya and others, SIGMOD 1995).
-#[derive(Debug, Drop)]
+#[derive(Debug)]
 pub struct Request {
     /// The transaction, by its timestamp. `tx.repo` is its coordinator.
     pub tx: Ts,
@@ -45,6 +45,31 @@ pub struct Request {
     pub answer: Answer,
     /// The other repositories that take part.
     pub others: Repos,
+}
+
+impl Drop for Request {
+    fn drop(self) {
+        let Request {
+            tx,
+            who,
+            session,
+            kind,
+            epoch,
+            upto,
+            ros,
+            writes,
+            fresh,
+            answer,
+            others,
+        } = self;
+        let _ = (tx, who, session, epoch, upto);
+        drop(kind);
+        drop(ros);
+        drop(writes);
+        drop(fresh);
+        drop(answer);
+        drop(others);
+    }
 }
 
 impl TryCopy for Kind {

@@ -39,10 +39,17 @@ const MOST_PAGES: u32 = 65_536;
 ///
 /// It moves by one entry, or by one installed page, as its log does. Beside the log's state it keeps the
 /// page that is granted next, which no record tells: it is never below the log's next page.
-#[derive(Drop)]
 pub struct HeldState {
     alloc: Global,
     held: Held,
+}
+
+impl Drop for HeldState {
+    fn drop(self) {
+        let HeldState { alloc, held } = self;
+        let _ = alloc;
+        drop(held);
+    }
 }
 
 impl Model for HeldState {
@@ -157,9 +164,17 @@ impl HeldState {
         ensures keeps { Keeps recovered → Keeps self.old → Keeps self.new }
         ensures held { self.new ≡ record self.old { objects = recovered.objects } }
     {
-        let HeldState { alloc: _, held } = recovered;
+        self.held.objects = recovered.into_objects();
+    }
+
+    /// The objects. All else is let go.
+    fn into_objects(self) -> ObjectStore
+        ensures { result ≡ self.objects }
+    {
+        let HeldState { alloc, held } = self;
+        let _ = alloc;
         let Held { objects, .. } = held;
-        self.held.objects = objects;
+        objects
     }
 
     /// Forgets the decision to commit a transaction. No record tells it: the log keeps the decision until
