@@ -1,5 +1,4 @@
 -- What a client's function has made of its port (this project's).
-use Rattle.client_state.specs.Calling.{Connects, Draws, Fetches, Grants}
 use Rattle.commit_log.specs.declared.request.Request.{Request}
 use Rattle.message_outbox.specs.declared.answers.Asked as answer
 use Rattle.message_outbox.specs.declared.answers.Verdict.{Verdict}

@@ -31,7 +31,6 @@ impl Client {
     }
 
     /// Draws the evaluated transaction at its coordinator.
-    #[tactic(auto, using(crate::proofs::Acting::drawn))]
     fn draw<Q: Port>(&mut self, port: &mut Q, coordinator: u8) -> Result<News, NoMemory>
         ensures acts { ActsIf Q.shows (Q.view port.old) (Q.view port.new) }
     {

@@ -106,7 +106,6 @@ impl Client {
     }
 
     /// Asks for the page of an object, or begins a session at its repository.
-    #[tactic(auto, using(crate::proofs::Acting::fetched))]
     fn fetch<Q: Port>(
         &mut self,
         port: &mut Q,
@@ -122,7 +121,6 @@ impl Client {
     }
 
     /// Asks for a page of names, or begins a session at the repository.
-    #[tactic(auto, using(crate::proofs::Acting::granted))]
     fn ask_for_names<Q: Port>(
         &mut self,
         port: &mut Q,

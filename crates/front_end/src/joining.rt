@@ -25,7 +25,6 @@ impl Client {
 
     /// Begins a session at a repository. Where an Unknown item's verdict is still to be learnt there,
     /// that is asked for first, and no session begins.
-    #[tactic(auto, using(crate::proofs::Acting::connected))]
     pub fn join<Q: Port>(
         &mut self,
         port: &mut Q,

@@ -102,7 +102,6 @@ impl Client {
     }
 
     /// Draws the transaction of a transform.
-    #[tactic(auto, using(crate::proofs::Acting::drawn))]
     fn draw_made<Q: Port>(
         &mut self,
         port: &mut Q,
