@@ -30,8 +30,8 @@ python3 - "$(ls -S "$work"/counts.* | head -1)" "$*" <<'END'
 import re
 import sys
 
-PHASES = [("reading", "script_parse::reading::read_script"), ("checking", "script_check::judging::judge"),
-          ("running", "cluster_core::cluster::Cluster::turn"), ("the check of the report", "thor_top::checking::report")]
+PHASES = [("reading", "thor_top::reading::script_of"), ("checking", "thor_top::judging::judged"),
+          ("running", "cluster_core::cluster::Cluster::turn"), ("the check of the report", "thor_top::telling::reported")]
 names, own, whole, calls, edge = {}, {}, {}, {}, None
 
 

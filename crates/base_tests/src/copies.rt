@@ -1,8 +1,5 @@
 //! The copies that a client holds: what a try leaves of them, and which pages leave.
 
-ghost use Rattle.std.specs.Prelude.{IfOk};
-ghost use Rattle.client_cache.specs.Placing.{IsObjectPage};
-
 use client_cache::{Cache, Looked};
 use page_format::Page;
 use std::alloc::Global;
@@ -21,6 +18,8 @@ enum Step {
     Invalidate(At),
     /// Page 0 of a repository comes, without an object.
     Place(u8),
+    /// Its bytes come as those of page 1, and bring nothing.
+    PlaceOther(u8),
     /// The try settles, the page of an object is used, and pages leave.
     Evict(At),
     DropRepo(u8),
@@ -54,6 +53,8 @@ const TRIES: &[Step] = &[
     Step::Undo,
     Step::Number((0, 0, 1), None),
     Step::Page((0, 0, 0), true),
+    Step::PlaceOther(0),
+    Step::Page((0, 1, 0), false),
 ];
 
 const PAGES: &[Step] = &[
@@ -93,9 +94,7 @@ fn name(at: At) -> Oref {
 }
 
 /// The bytes of a page with no object.
-fn empty_page(alloc: Global, page: u32) -> Result<Text, NoMemory>
-    ensures { IfOk result (λ bytes. IsObjectPage bytes page) }
-{
+fn empty_page(alloc: Global, page: u32) -> Result<Text, NoMemory> {
     let empty = Page::empty(alloc, page)?;
     let bytes = empty.spell()?;
     Ok(bytes)
@@ -123,9 +122,16 @@ fn invalidate(alloc: Global, cache: &mut Cache, at: At) -> Result<(), NoMemory> 
     Ok(())
 }
 
-fn place(alloc: Global, cache: &mut Cache, repo: u8) -> Result<(), NoMemory> {
+/// Places a page with no object. The answer is whether it was placed.
+fn place(alloc: Global, cache: &mut Cache, repo: u8) -> Result<bool, NoMemory> {
     let bytes = empty_page(alloc, 0)?;
     cache.place(0, repo, bytes.as_slice())
+}
+
+/// Whether the bytes of page 0 bring nothing where page 1 is meant.
+fn refuses(alloc: Global, cache: &mut Cache, repo: u8) -> Result<bool, NoMemory> {
+    let bytes = empty_page(alloc, 0)?;
+    Ok(!cache.place(1, repo, bytes.as_slice())?)
 }
 
 fn evict(cache: &mut Cache, at: At) {
@@ -156,7 +162,8 @@ fn holds(alloc: Global, cache: &mut Cache, step: &Step) -> Result<bool, NoMemory
         Step::Settle => cache.settle(),
         Step::Undo => cache.undo(),
         Step::Invalidate(at) => invalidate(alloc, cache, *at)?,
-        Step::Place(repo) => place(alloc, cache, *repo)?,
+        Step::Place(repo) => return place(alloc, cache, *repo),
+        Step::PlaceOther(repo) => return refuses(alloc, cache, *repo),
         Step::Evict(at) => evict(cache, *at),
         Step::DropRepo(repo) => cache.drop_repo(*repo),
         Step::Number(at, n) => return Ok(number(cache, *at) == *n),

@@ -2,6 +2,7 @@ mod Bare
 mod Brought
 mod Elsewhere
 mod Leaving
+mod Named
 mod OneSlot
 mod PageLookups
 mod PageOrder

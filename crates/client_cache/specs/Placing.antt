@@ -27,3 +27,7 @@ pub record IsPageOf (bytes : List ℕ) (number : ℕ) (objects : ℕ → Option 
 -- the bytes spell such a page
 abbrev pub IsObjectPage : List ℕ → ℕ → Type 0
 IsObjectPage bytes number = (objects : ℕ → Option Obj) × IsPageOf bytes number objects
+
+-- in a slot that objects are named by stand bytes
+abbrev pub HasName : ℕ × List ℕ → Type 0
+HasName q = q.0 < 12

@@ -2,7 +2,7 @@ ghost use Rattle.std.specs.BTreeMap.{is_at};
 ghost use Rattle.std.specs.BTreeSet.{Updates, insert_key};
 ghost use Rattle.std.specs.List.{filter, list_any};
 ghost use Rattle.std.specs.Map.{keys_of};
-ghost use Rattle.std.specs.Prelude.{◌≡◌, ◌<◌, ℕ, [], false, true, cond, not, nat_eq, Option, Some, None, IfOk, OnOk, OnErr, take};
+ghost use Rattle.std.specs.Prelude.{◌≡◌, ◌<◌, ◌↔◌, ℕ, [], false, true, cond, not, nat_eq, Option, Some, None, IfOk, IsTrue, OnOk, OnErr, take};
 ghost use Rattle.thor_value.specs.Names.{oref_cmp};
 ghost use Rattle.thor_value.specs.declared.names.Oref.{Oref};
 ghost use Rattle.thor_value.specs.declared.values.Obj.{Obj};
@@ -10,6 +10,7 @@ ghost use Rattle.client_cache.specs.Copies.{changed, elsewhere, forward, holds, 
 ghost use Rattle.client_cache.specs.Looks.{Tells};
 ghost use Rattle.client_cache.specs.Pages.{on, page_of, same_name, same_page};
 ghost use Rattle.client_cache.specs.Placing.{IsObjectPage, IsPageOf};
+ghost use Rattle.client_cache.specs.Slots.{kept_in, written_in};
 
 use crate::held_pages::HeldPages;
 use crate::look::Looked;
@@ -85,21 +86,42 @@ impl Cache {
         self.pages.bring_forward(PageName::of(oref));
     }
 
-    /// Puts the objects of a page, as its message brings them, in the place of the copies there. What the try
-    /// has written stays. The page becomes the most recently used one. After `NoMemory` nothing has changed.
-    pub fn place(&mut self, page: u32, repo: u8, bytes: &[u8]) -> Result<(), NoMemory>
-        requires { IsObjectPage bytes.now page }
+    /// Puts the objects of a page, as its message brings them, in the place of the copies there, and answers whether
+    /// the bytes are such a page; where they aren't, nothing has changed. What the try has written stays. The page
+    /// becomes the most recently used one. After `NoMemory` nothing has changed.
+    pub fn place(&mut self, page: u32, repo: u8, bytes: &[u8]) -> Result<bool, NoMemory>
+        ensures placed { IfOk result (λ placed. IsTrue placed ↔ IsObjectPage bytes.now page) }
         ensures kept { OnOk result ((objects : ℕ → Option Obj) → IsPageOf bytes.now page objects → (x : Oref) → kept self.new x ≡ cond (same_page (on repo page) (page_of x)) (objects x.slot) (kept self.old x)) }
         ensures changed { OnOk result ((x : Oref) → changed self.new x ≡ changed self.old x) }
-        ensures pages { OnOk result (pages self.new ≡ forward (on repo page) (pages self.old)) }
+        ensures pages { IfOk result (λ placed. pages self.new ≡ cond placed (forward (on repo page) (pages self.old)) (pages self.old)) }
         ensures written { self.new.written ≡ self.old.written }
-        ensures made { OnOk result (self.new.made ≡ filter (λ x. not (same_page (on repo page) (page_of x))) self.old.made) }
+        ensures made { IfOk result (λ placed. self.new.made ≡ cond placed (filter (λ x. not (same_page (on repo page) (page_of x))) self.old.made) self.old.made) }
+        ensures limit { self.new.limit ≡ self.old.limit }
+        ensures other { IfOk result (λ placed. IsTrue (not placed) → self.new ≡ self.old) }
+        ensures err { OnErr result (self.new ≡ self.old) }
+    {
+        match copies_of(self.pages.allocator(), bytes, page)? {
+            Some(copies) => {
+                self.place_copies(PageName { repo, page }, copies)?;
+                Ok(true)
+            }
+            None => Ok(false),
+        }
+    }
+
+    // Puts copies in the place of those of a page. After `NoMemory` nothing has changed.
+    fn place_copies(&mut self, page: PageName, copies: Slots) -> Result<(), NoMemory>
+        requires { (s : ℕ) → written_in copies s ≡ None }
+        ensures kept { OnOk result ((x : Oref) → kept self.new x ≡ cond (same_page page (page_of x)) (kept_in copies x.slot) (kept self.old x)) }
+        ensures changed { OnOk result ((x : Oref) → changed self.new x ≡ changed self.old x) }
+        ensures pages { OnOk result (pages self.new ≡ forward page (pages self.old)) }
+        ensures written { self.new.written ≡ self.old.written }
+        ensures made { OnOk result (self.new.made ≡ filter (λ x. not (same_page page (page_of x))) self.old.made) }
         ensures limit { self.new.limit ≡ self.old.limit }
         ensures err { OnErr result (self.new ≡ self.old) }
     {
-        let copies = copies_of(self.pages.allocator(), bytes, page)?;
-        self.pages.place(PageName { repo, page }, copies)?;
-        leave_page(&mut self.made, PageName { repo, page });
+        self.pages.place(page, copies)?;
+        leave_page(&mut self.made, page);
         Ok(())
     }
 

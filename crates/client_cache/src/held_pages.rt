@@ -203,6 +203,9 @@ impl HeldPages {
         requires { 0 < limit }
         ensures { self.new ≡ take limit self.old }
     {
+        if self.pages.len() <= limit as usize {
+            return;
+        }
         if let Some(limit) = NonZeroUsize::new(limit as usize) {
             self.pages.resize(limit);
             self.pages.resize(NonZeroUsize::MAX);

@@ -86,23 +86,23 @@ others_fit old new r n at met committed link copies called other seen h =
 
 -- ---- the trace at the call is a front of the one behind it
 
-abbrev Front : List Item → List Item → Type 0
+abbrev pub Front : List Item → List Item → Type 0
 Front at after = (more : List Item) × (after ≡ at ++ more)
 
-none_more : (at after : List Item) → after ≡ at → Front at after
+pub none_more : (at after : List Item) → after ≡ at → Front at after
 none_more at after e = ([], e ∙ sym (append-nil at))
 
-one_more : (at after : List Item) (i : Item) → after ≡ at ++ i ∷ [] → Front at after
+pub one_more : (at after : List Item) (i : Item) → after ≡ at ++ i ∷ [] → Front at after
 one_more at after i e = (i ∷ [], e)
 
-answered_front : {X : Type 0} (r : ℕ) (result : Result X Refusal) (met : Unsettled) (at after : List Item) (u : Unsettled) (work : Type 0) → (work → Front at after) → Answered r result met at after u work → Front at after
+pub answered_front : {X : Type 0} (r : ℕ) (result : Result X Refusal) (met : Unsettled) (at after : List Item) (u : Unsettled) (work : Type 0) → (work → Front at after) → Answered r result met at after u work → Front at after
 answered_front r result Calm at after u work f h = f h
 answered_front r result (MayCome e) at after u work f h = none_more at after h.1
 answered_front r result Came at after u work f h = none_more at after h.1
 answered_front r result Halted at after u work f h = none_more at after h.1
 
 module _ (b : Base) (at after : List Item) (u : Unsettled) (s : ℕ) where
-  unmarked_front : (k : Refusal) → RefusedUnmarked b at s k after u → Front at after
+  pub unmarked_front : (k : Refusal) → RefusedUnmarked b at s k after u → Front at after
   unmarked_front (refused.Reason k) w = none_more at after w.2.0
   unmarked_front (refused.Down n) w = none_more at after w.1.0
   unmarked_front (refused.Stopped n) w = none_more at after w.1.0
@@ -168,7 +168,7 @@ module _ (old new : View) (r : ℕ) (committed : Ts → Bool) (at : List Item) (
   split f = ap entries f.1 ∙ entries-append at f.0
 
   -- what is kept fits the trace at the call
-  met_fits : Front at after → (kept' : Kept) → FitsAt c b (old.unsettled r) (old.seen r) committed kept' → FitsAt c b met at committed kept'
+  pub met_fits : Front at after → (kept' : Kept) → FitsAt c b (old.unsettled r) (old.seen r) committed kept' → FitsAt c b met at committed kept'
   met_fits f k h =
       let here : sound b (entries at ++ entries f.0) = subst (sound b) (split f) sd in
       grown c b committed k (old.unsettled r) met (old.seen r) at called.reached (exact-beginning b at f.0 (subst (exact b) f.1 (exact_now old new r committed called.same seen))) (sound-beginning b (entries at) (entries f.0) here)

@@ -3,6 +3,7 @@ pub mod Committing
 pub mod Falls
 pub mod Fits
 pub mod Growing
+pub mod Handing
 pub mod Lending
 pub mod Linked
 pub mod Other

@@ -11,7 +11,6 @@ use crate::link::{Link, Waits};
 use client_cache::Looked;
 use item_progress::Opened;
 use message_outbox::At;
-use object_pages::is_object_page;
 use paused_eval::{Copies, GrantedNames, KeptTexts};
 use std::alloc::Global;
 use std::mem;
@@ -269,10 +268,7 @@ impl Held {
     /// Puts a page's objects in the place of the copies of it. Bytes that are no page of objects bring
     /// nothing.
     pub fn place(&mut self, repo: u8, page: u32, bytes: &Text) -> Result<(), NoMemory> {
-        let bytes = bytes.as_slice();
-        if is_object_page(self.alloc, bytes, page)? {
-            self.cache.place(page, repo, bytes)?;
-        }
+        self.cache.place(page, repo, bytes.as_slice())?;
         Ok(())
     }
 

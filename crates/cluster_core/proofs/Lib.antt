@@ -1,2 +1,3 @@
+mod Recovered
 pub mod Restarts
 mod Steps

@@ -14,6 +14,7 @@ use page_format::Page;
 use std::alloc::Global;
 use std::collections::BTreeMap;
 use std::marker::Model;
+use std::mem;
 use thor_value::{NoMemory, Oref, Orefs};
 
 /// The live sessions of a repository, each with what its client may have cached and what waits for it. A
@@ -102,12 +103,9 @@ impl Sessions {
         ensures ok { OnOk result (self.new ≡ ended self.old) }
         ensures err { OnErr result (self.new ≡ self.old) }
     {
-        let sets = Sets::new(self.alloc)?;
-        let outbox = Outbox::new(self.alloc)?;
-        self.clients = BTreeMap::new(self.alloc);
-        self.live = BTreeMap::new(self.alloc);
-        self.sets = sets;
-        self.outbox = outbox;
+        let mut sessions = Sessions::new(self.alloc)?;
+        sessions.last = self.last;
+        drop(mem::replace(self, sessions));
         Ok(())
     }
 

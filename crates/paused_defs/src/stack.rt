@@ -1,4 +1,4 @@
-ghost use Rattle.std.specs.Prelude.{◌≡◌, [], ◌∷◌, ◌↔◌, IsTrue, OnOk, MatchOption};
+ghost use Rattle.std.specs.Prelude.{◌≡◌, [], ◌∷◌, ◌↔◌, IsTrue, IfOk, OnOk, MatchOption};
 
 use std::alloc::Global;
 use std::marker::Model;
@@ -29,6 +29,15 @@ impl<T: Drop> Stack<T> {
         Stack {
             items: Vec::new(alloc),
         }
+    }
+
+    /// The empty stack, with room for so many elements: up to there a push takes no memory.
+    pub fn with_room(alloc: Global, count: usize) -> Result<Stack<T>, NoMemory>
+        ensures { IfOk result (λ stack. stack ≡ []) }
+    {
+        Ok(Stack {
+            items: Vec::with_capacity(alloc, count)?,
+        })
     }
 
     pub fn is_empty(&self) -> bool

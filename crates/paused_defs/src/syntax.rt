@@ -30,6 +30,13 @@ impl Model for SharedExpr {
 }
 
 impl SharedExpr {
+    /// Its node, with its owners.
+    pub fn shared(&self) -> &Shared<ExprNode>
+        ensures { plain result.now ≡ self.now }
+    {
+        &self.node
+    }
+
     /// A part of a node, as its other owner.
     pub fn of(node: &Shared<ExprNode>) -> Result<SharedExpr, NoMemory>
         ensures { IfOk result (λ expr. expr ≡ plain node.now) }
@@ -73,6 +80,22 @@ impl Model for SharedStmt {
 }
 
 impl SharedStmt {
+    /// A statement of a block, as its other owner.
+    pub fn of(node: &Shared<StmtNode>) -> Result<SharedStmt, NoMemory>
+        ensures { IfOk result (λ stmt. stmt ≡ plain_stmt node.now) }
+    {
+        Ok(SharedStmt {
+            node: node.share()?,
+        })
+    }
+
+    /// Its node, with its owners.
+    pub fn shared(&self) -> &Shared<StmtNode>
+        ensures { plain_stmt result.now ≡ self.now }
+    {
+        &self.node
+    }
+
     pub fn node(&self) -> &StmtNode
         ensures { plain_stmt result.now ≡ self.now }
     {

@@ -1,5 +1,6 @@
 pub mod Beginning
 pub mod Copying
+pub mod Directly
 pub mod Ending
 pub mod Granted
 pub mod Hands
@@ -8,4 +9,5 @@ pub mod Lifting
 pub mod Nested
 pub mod Nodes
 pub mod Standing
+pub mod Unwinding
 pub mod Writes

@@ -24,7 +24,7 @@ use Rattle.paused_defs.specs.declared.frames.Doing.{Doing}
 use Rattle.paused_defs.specs.declared.frames.Doing.TheVariants as doing
 use Rattle.paused_defs.specs.declared.frames.Frame.{Frame}
 use Rattle.paused_eval.specs.Does.{Moves}
-use Rattle.paused_eval.specs.Standing.{AtStop, CameTo, IsFault, Runs, Stands, Stays, Steps, answer_of, is_done, moved_to, outcome_of}
+use Rattle.paused_eval.specs.Standing.{AtStop, CameTo, IsFault, Runs, Stands, Stays, Steps, Went, answer_of, is_done, moved_to, outcome_of}
 use Rattle.paused_eval.specs.Copies.{at_hand, state_with, written_in}
 use Rattle.paused_eval.specs.FromPages.{FromPages}
 use Rattle.paused_eval.specs.declared.came.Came.{Came}
@@ -44,7 +44,7 @@ use Rattle.paused_eval.specs.declared.moved.Moved.TheVariants.{To, Waits, WaitsF
 abbrev pub named : NameSupply → Machine → Machine
 named ns m = record m { names = ns }
 
-named_is : (ns : NameSupply) (w : World) (d : Doing) (fs : List Frame) (m n : Machine) (r : Result Left Stop) → IsNoCreation d → move w d fs m ≡ (r, n)
+pub named_is : (ns : NameSupply) (w : World) (d : Doing) (fs : List Frame) (m n : Machine) (r : Result Left Stop) → IsNoCreation d → move w d fs m ≡ (r, n)
     → move w d fs (named ns m) ≡ (r, named ns n)
 named_is ns w d fs m n r h e = move_adds (λ k. ns) w d fs m h ∙ ap (both (λ k. ns)) e
 
@@ -134,6 +134,21 @@ module _ (s : Schema) (f : Oref → Option Object) (tx : List Stmt) (names : Lis
   faults g count d fs gs m n Ended h l same r is st = absurd is
   faults g count d fs gs m n (came.Waits x owners) h l same r is st = absurd is
   faults g count d fs gs m n (came.WaitsForName repo) h l same r is st = absurd is
+
+-- what plain recursion came to that is a fault
+pub fault_ends : (s : Schema) (f : Oref → Option Object) (tx : List Stmt) (names : List Oref) (count : ℕ) (e : Came) (h : Halt) (gs : List Frame) (n : Machine) (l : Left) → IsFault e h
+    → Went s f tx names count (Err h) gs n → CameTo s f tx names e l n
+fault_ends s f tx names count (Faulted e) h gs n l is w = subst (λ (k : Halt). Went s f tx names count (Err k) gs n) is w
+fault_ends s f tx names count Ended h gs n l is w = absurd is
+fault_ends s f tx names count (came.Waits x owners) h gs n l is w = absurd is
+fault_ends s f tx names count (came.WaitsForName repo) h gs n l is w = absurd is
+
+-- the objects at hand are the same, said in another way
+pub same_objects : (s : Schema) (f g : Oref → Option Object) (tx : List Stmt) (names : List Oref) (count : ℕ) (d : Doing) (fs gs : List Frame) (m n : Machine) (r : Result Doing Halt) → g ≡ f
+    → (Runs s g tx names count (record { doing = d; stack = fs }) m → Went s g tx names count r gs n)
+    → Runs s f tx names count (record { doing = d; stack = fs }) m → Went s f tx names count r gs n
+same_objects s f g tx names count d fs gs m n r same h =
+    subst (λ (k : Oref → Option Object). Runs s k tx names count (record { doing = d; stack = fs }) m → Went s k tx names count r gs n) same h
 
 -- ---- before the first step
 

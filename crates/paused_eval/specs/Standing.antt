@@ -79,6 +79,12 @@ CameTo s f tx names (Faulted e) l m = outcome_of s f tx names ≡ (Err (stop.Fau
 CameTo s f tx names (came.Waits x owners) l m = (outcome_of s f tx names ≡ (Err (stop.Need x owners), m)) × Stands s f tx names l m
 CameTo s f tx names (came.WaitsForName repo) l m = (outcome_of s f tx names ≡ (Err (stop.NeedName repo), m)) × Stands s f tx names l m
 
+-- what is done next, over these frames, or the fault in which the run ends
+abbrev pub Went : Schema → (Oref → Option Object) → List Stmt → List Oref → ℕ → Result Doing Halt → List Frame → Machine → Type 0
+Went s f tx names count (Ok d) gs n = Runs s f tx names count (record { doing = d; stack = gs }) n
+Went s f tx names count (Err (Stopped t)) gs n = outcome_of s f tx names ≡ (Err t, n)
+Went s f tx names count (Err NoMemory) gs n = Unit {0}
+
 -- the run ended for this fault
 abbrev pub IsFault : Came → Halt → Type 0
 IsFault (Faulted e) h = h ≡ Stopped (stop.Fault e)

@@ -1,5 +1,5 @@
 ghost use Rattle.std.proofs.Props.{props};
-ghost use Rattle.std.specs.Prelude.{◌≡◌, ◌<◌, ℕ, [], cond, nat_eq, Option, None, Some, IfOk, OnOk, OnErr, not};
+ghost use Rattle.std.specs.Prelude.{◌≡◌, ◌<◌, ◌↔◌, ℕ, [], cond, nat_eq, Option, None, Some, IfOk, IsTrue, OnOk, OnErr, not};
 ghost use Rattle.std.specs.List.{list_any};
 ghost use Rattle.thor_value.specs.FiniteMap.{empty, insert, keep};
 ghost use Rattle.thor_value.specs.declared.names.Oref.{Oref};
@@ -82,14 +82,16 @@ impl Copies {
         self.cache.bring_forward(oref);
     }
 
-    /// Puts the objects of a page, as its message brings them, in the place of the copies there. What the try
-    /// has written stays. The page becomes the most recently used one. After `NoMemory` nothing has changed.
+    /// Puts the objects of a page, as its message brings them, in the place of the copies there, and answers whether
+    /// the bytes are such a page; where they aren't, nothing has changed. What the try has written stays. The page
+    /// becomes the most recently used one. After `NoMemory` nothing has changed.
     #[tactic(auto, using(crate::proofs::Hands::same_tied))]
-    pub fn place(&mut self, page: u32, repo: u8, bytes: &[u8]) -> Result<(), NoMemory>
-        requires { IsObjectPage bytes.now page }
+    pub fn place(&mut self, page: u32, repo: u8, bytes: &[u8]) -> Result<bool, NoMemory>
+        ensures placed { IfOk result (λ placed. IsTrue placed ↔ IsObjectPage bytes.now page) }
         ensures kept { OnOk result ((objects : ℕ → Option Obj) → IsPageOf bytes.now page objects → (x : Oref) → kept self.new.cache x ≡ cond (same_page (on repo page) (page_of x)) (objects x.slot) (kept self.old.cache x)) }
         ensures changed { (x : Oref) → changed self.new.cache x ≡ changed self.old.cache x }
         ensures written { self.new.written ≡ self.old.written }
+        ensures other { IfOk result (λ placed. IsTrue (not placed) → self.new.cache ≡ self.old.cache) }
         ensures err { OnErr result (self.new.cache ≡ self.old.cache) }
     {
         self.cache.place(page, repo, bytes)

@@ -1,9 +1,11 @@
 //! The evaluation of a transaction on a client's copies, which stops where one is missing and goes on from there.
 #![tactic(auto)]
 
+mod ahead;
 mod bodies;
 mod came;
 mod copies;
+mod direct;
 mod entering;
 mod granted_names;
 mod kept_texts;
@@ -18,6 +20,7 @@ mod running;
 mod small;
 mod starting;
 mod types;
+mod unwound;
 mod written_names;
 
 pub use copies::Copies;

@@ -110,7 +110,7 @@ pub fn go_into_for(
 
 /// The part of a statement that is evaluated first.
 #[tactic(auto, using(crate::proofs::Nodes::stmt_nodes))]
-fn first_part(node: &StmtNode) -> &Shared<ExprNode>
+pub fn first_part(node: &StmtNode) -> &Shared<ExprNode>
     ensures { plain result.now ≡ first_part (out-Stmt (plain_stmt node.now)) }
 {
     match node {
@@ -128,7 +128,7 @@ fn first_part(node: &StmtNode) -> &Shared<ExprNode>
 
 /// The frame that waits for this part.
 #[tactic(auto, using(crate::proofs::Nodes::stmt_nodes))]
-fn waiting_frame(program: &Program<'_>, inner: u32, node: &StmtNode) -> Result<Frame, NoMemory>
+pub fn waiting_frame(program: &Program<'_>, inner: u32, node: &StmtNode) -> Result<Frame, NoMemory>
     ensures { IfOk result (λ frame. frame ≡ waiting_frame program.now.schema.now.classes inner (out-Stmt (plain_stmt node.now))) }
 {
     match node {

@@ -43,6 +43,9 @@ pub struct Paused {
 /// No schema has more classes: they are numbered by `u16`.
 const CLASS_LIMIT: usize = 65_536;
 
+/// How many frames a stack has room for from the beginning: most transactions need no more.
+const FRAMES: usize = 24;
+
 /// An object of the cache comes behind the others.
 fn push_written(cache: &Cache, epoch: u32, oref: Oref, writes: &mut Writes) -> Result<(), NoMemory>
     ensures { OnOk result (writes.new ≡ writes.old ++ stored_at epoch (entry oref (seen cache.now oref) [])) }
@@ -98,7 +101,7 @@ impl Paused {
         ensures stands { IfOk result (λ paused. (s : Schema) → (copies : Copies) → (names : GrantedNames) → copies.written ≡ empty
             → Stands s (at_hand s copies.cache) tx.now (supply names.names).waiting (record { doing = paused.doing; stack = paused.stack }) (state_with paused.machine copies.written copies.cache names.names)) }
     {
-        let mut stack = Stack::new(alloc);
+        let mut stack = Stack::with_room(alloc, FRAMES)?;
         stack.push(Frame::BlockEnd { count: 0 })?;
         stack.push(Frame::Rest {
             nested: 100_001,

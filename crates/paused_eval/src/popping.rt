@@ -53,7 +53,7 @@ fn with_argument(done: Values, flow: Flow) -> Result<Values, NoMemory>
 }
 
 /// A body has ended: what held outside of it holds again.
-fn leave_body(machine: &mut Machine, depth: u32, this: Option<Receiver>, locals: Locals)
+pub fn leave_body(machine: &mut Machine, depth: u32, this: Option<Receiver>, locals: Locals)
     ensures { machine.new ≡ spec.outside depth this locals machine.old }
 {
     machine.depth = depth;

@@ -6,6 +6,7 @@ ghost use Rattle.paused_eval.specs.Copies.{Keeps, Tied, at_hand, state_with, who
 ghost use Rattle.paused_eval.specs.FromPages.{FromPages};
 ghost use Rattle.paused_eval.specs.Standing.{CameTo, IsFault, Stands, is_done};
 
+use crate::ahead::ahead;
 use crate::bodies::{Bodies, CopiedBodies};
 use crate::came::Came;
 use crate::moved::Moved;
@@ -42,7 +43,7 @@ fn faulted(halt: Halt) -> Result<Came, NoMemory>
     }
 }
 
-/// Small steps up to an end, a fault, or what isn't at hand.
+/// Small steps up to an end, a fault, or what isn't at hand, and between them as much as plain recursion can do.
 fn run(
     program: &Program<'_>,
     epoch: u32,
@@ -69,7 +70,15 @@ fn run(
             return Ok((Came::Ended, doing));
         }
         doing = match small(program, epoch, cache, names, progress, bodies, stack, doing) {
-            Ok(Moved::To { doing: next }) => next,
+            Ok(Moved::To { doing: next }) => {
+                match ahead(program, epoch, cache, progress, bodies, stack, next) {
+                    Ok(then) => then,
+                    Err(halt) => {
+                        let came = faulted(halt)?;
+                        return Ok((came, Doing::Give { flow: Flow::Next }));
+                    }
+                }
+            }
             Ok(
                 Moved::Waits {
                     doing: same,

@@ -1,5 +1,6 @@
 pub mod Asked
 pub mod Decisions
+pub mod Formatting
 pub mod Marked
 pub mod Phases
 pub mod Requests

@@ -1,4 +1,5 @@
 -- What no repository tests, and who calls it vouches for.
+use Rattle.class_defs.specs.declared.store.Setup.{Setup}
 use Rattle.commit_log.specs.declared.request.Request.{Request}
 use Rattle.held_state.specs.declared.held.Held.{Held}
 use Rattle.local_history.specs.History.{Base}
@@ -10,8 +11,9 @@ use Rattle.local_history.specs.Requests.{has_created, has_written}
 use Rattle.session_outbox.specs.Calls.{was_granted}
 use Rattle.session_outbox.specs.Session.{session}
 use Rattle.std.specs.Option.{IsSomeAnd}
-use Rattle.std.specs.Prelude.{IsTrue, None, length, true, ℕ, ◌+◌, ◌<◌, ◌^◌, ◌≡◌, ◌≤◌}
-use Rattle.thor_value.specs.FiniteMap.{has}
+use Rattle.std.specs.Prelude.{[], IsTrue, None, length, true, ℕ, ◌+◌, ◌<◌, ◌^◌, ◌≡◌, ◌≤◌}
+use Rattle.store_format.specs.Fresh.{first_ts, page_count}
+use Rattle.thor_value.specs.FiniteMap.{empty, has}
 use Rattle.thor_value.specs.declared.names.Oref.{Oref}
 use Rattle.thor_value.specs.declared.names.Ts.{Ts}
 
@@ -38,3 +40,16 @@ pub record IsBase (b : Base) (h : Held) : Type 0 where
   pub silence : b.silence ≡ None
   pub begins : CanBegin b h
   pub limit : h.objects.mob.limit ≡ b.limit
+
+-- The base of a new store, with a buffer of so many bytes: nothing has happened, and the pages of its roots are granted.
+pub record IsNewBase (repo : ℕ) (setup : Setup) (mob : ℕ) (b : Base) : Type 0 where
+  pub number : b.repo ≡ repo
+  pub life : b.life ≡ 0
+  pub count : b.count ≡ 0
+  pub limit : b.limit ≡ mob
+  pub top : b.top ≡ first_ts
+  pub texts : b.texts ≡ []
+  pub next_page : b.next_page ≡ page_count repo setup.roots
+  pub alone : b.alone ≡ empty
+  pub left : b.left ≡ empty
+  pub silence : b.silence ≡ None

@@ -1,6 +1,7 @@
 //! The calls.
 
 ghost use Rattle.std.specs.Prelude.{◌≡◌, ◌≢◌, ◌≤◌, IfOk, false, length, true};
+ghost use Rattle.disk_trait.specs.AllDisks.{AllSettled};
 ghost use Rattle.disk_trait.specs.Fused.{fused_disks};
 ghost use Rattle.held_state.specs.Keeps.{Keeps};
 ghost use Rattle.held_state.specs.Said.{said};
@@ -8,10 +9,11 @@ ghost use Rattle.local_history.specs.History.{Base};
 ghost use Rattle.log_bytes.specs.declared.state.State.{State as AState};
 ghost use Rattle.repo_core.specs.Calls.{MayRequest};
 ghost use Rattle.repository_events.specs.Seen.{IsRun, SaysHistory, StandsRight};
-ghost use Rattle.repository_events.specs.Vouching.{IsBase, IsCounted, IsSent, WasKept};
+ghost use Rattle.repository_events.specs.Vouching.{IsBase, IsCounted, IsNewBase, IsSent, WasKept};
 ghost use Rattle.stable_store.specs.Taking.{AgreesWhere};
 ghost use Rattle.state_log.specs.Holds.{Holds};
 
+use class_defs::Setup;
 use commit_log::Request;
 use disk_trait::{Fused, Parts};
 use message_outbox::{Asked, Message, Verdict, Welcome};
@@ -36,6 +38,21 @@ pub fn open<P: Parts>(
     ensures { (b : Base) → IsBase b recovered.state → IfOk result (StandsRight b) }
 {
     Repo::open(alloc, parts, recovered)
+}
+
+/// A new repository is right behind its formatting, with the base of a new store.
+pub fn format<P: Parts>(
+    alloc: Global,
+    parts: P,
+    repo: u8,
+    repos: u8,
+    setup: &Setup,
+    mob: u32,
+) -> Result<Repo<P>, OpenFault<P>>
+    requires { AllSettled (P.disks parts) }
+    ensures { (b : Base) → IsNewBase repo setup.now mob b → IfOk result (StandsRight b) }
+{
+    Repo::format(alloc, parts, repo, repos, setup, mob)
 }
 
 /// A client connects.

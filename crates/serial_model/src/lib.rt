@@ -4,7 +4,6 @@
 mod applying;
 mod entries;
 mod equality;
-mod field_values;
 mod fresh;
 mod lines_aside;
 mod made;

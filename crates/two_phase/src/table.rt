@@ -219,12 +219,20 @@ impl Table {
         false
     }
 
+    // Takes out a transaction.
+    fn take_out(&mut self, tx: Ts) -> Option<Transaction>
+        ensures transaction { result ≡ get self.old.transactions tx }
+        ensures table { self.new ≡ without self.old tx }
+    {
+        self.transactions.remove(&tx)
+    }
+
     // Takes out a transaction, and hands back its request.
     fn close(&mut self, tx: Ts) -> Option<Request>
         ensures request { result ≡ open_at self.old tx }
         ensures table { self.new ≡ without self.old tx }
     {
-        self.transactions.remove(&tx)?.into_request()
+        self.take_out(tx)?.into_request()
     }
 
     /// The open request with the least timestamp, or the least above one.

@@ -1,7 +1,5 @@
-use Rattle.std.proofs.Common.{[], ◌∙◌, sym, append-nil, length}
-use Rattle.object_codec.specs.Spelling.{obj_bytes}
-use Rattle.client_cache.proofs.Brought.{one-found}
+use Rattle.client_cache.proofs.Brought.{too_few}
 use Rattle.client_cache.proofs.placing.object_of.Goals as goal
 
-pub returns-in-Ok : goal.returns-in-Ok
-returns-in-Ok c = λ o is. one-found c.in-Ok.obj o c.in-Ok.field-0-1 (length (obj_bytes o)) (c.in-Ok.ensures.only o [] is.fits (is.spelled ∙ sym (append-nil (obj_bytes o))))
+pub returns-then-length-bytes-clause-none : goal.returns-then-length-bytes-clause-none
+returns-then-length-bytes-clause-none c = λ none. too_few c.args.bytes.now c.in-Ok.read.0 c.in-Ok.read.1 c.in-Ok.ensures.only c.if-length-bytes.true

@@ -1,7 +1,7 @@
-use Rattle.std.proofs.Common.{arith, ◌∙◌, sym}
+use Rattle.std.proofs.Common.{◌+◌, Err, Ok, arith, ◌∙◌, sym}
 use Rattle.paused_eval.proofs.Hands.{same_hands}
-use Rattle.paused_eval.proofs.Standing.{ends, faults, goes, waits}
-use Rattle.paused_eval.specs.Copies.{at_hand}
+use Rattle.paused_eval.proofs.Standing.{ends, fault_ends, faults, goes, same_objects, waits}
+use Rattle.paused_eval.specs.Copies.{Keeps, at_hand, whole_state}
 use Rattle.paused_eval.proofs.running.run.Goals as goal
 
 pub returns-then-is_ended-clause-answers : goal.returns-then-is_ended-clause-answers
@@ -26,18 +26,34 @@ returns-in-Err-clause-answers c = λ tx given stands.
     faults s (at_hand s c.args.cache.now) tx given (at_hand s c.loop.cache) c.loop.counter c.loop.doing c.loop.stack c.small.new.stack _ _ c.in_ok-came-in-Err.came c.in-Err.halt _
     (same_hands s c.args.cache.now c.loop.cache c.loop.invariant.1.0) (c.loop.invariant.1.1.1.1 tx given stands) c.in_ok-came-in-Err.ensures c.in-Err.ensures.does
 
+pub returns-in-Err-ahead-clause-answers : goal.returns-in-Err-ahead-clause-answers
+returns-in-Err-ahead-clause-answers c = λ tx given stands.
+    let s = c.args.program.now.schema.now in
+    let kept : Keeps c.args.cache.now c.small.new.cache = λ x. c.in-Ok-To.ensures.kept x ∙ c.loop.invariant.1.0 x in
+    fault_ends s (at_hand s c.args.cache.now) tx given (c.loop.counter + 1) c.in_ok-came-in-Err-ahead.came c.in-Err-ahead.halt c.ahead.new.stack
+    (whole_state c.ahead.new.progress c.ahead.new.cache c.small.new.names) _ c.in_ok-came-in-Err-ahead.ensures
+    (same_objects s (at_hand s c.args.cache.now) (at_hand s c.small.new.cache) tx given (c.loop.counter + 1) c.in-Ok-To.next c.small.new.stack c.ahead.new.stack
+    (whole_state c.small.new.progress c.small.new.cache c.small.new.names) (whole_state c.ahead.new.progress c.ahead.new.cache c.small.new.names) (Err c.in-Err-ahead.halt)
+    (same_hands s c.args.cache.now c.small.new.cache kept) (c.in-Err-ahead.ensures.goes tx given (c.loop.counter + 1) c.small.new.names)
+    (goes s (at_hand s c.args.cache.now) tx given (at_hand s c.loop.cache) c.loop.counter c.loop.doing _ c.loop.stack c.small.new.stack _ _
+    (same_hands s c.args.cache.now c.loop.cache c.loop.invariant.1.0) (sym c.is_ended.ensures ∙ c.if-is_ended.false) (c.loop.invariant.1.1.1.1 tx given stands) (rw c.in-Ok-To.field-0-is at c.in-Ok-To.ensures.does)))
+
 pub loop-preserved : goal.loop-preserved
 loop-preserved c =
-    let s = c.args.program.now.schema.now in (
-      c.in-Ok-To.ensures.tied,
+    let s = c.args.program.now.schema.now in
+    let kept : Keeps c.args.cache.now c.small.new.cache = λ x. c.in-Ok-To.ensures.kept x ∙ c.loop.invariant.1.0 x in (
+      c.in-Ok.ensures.tied,
       (
-        (λ x. c.in-Ok-To.ensures.kept x ∙ c.loop.invariant.1.0 x),
+        (λ x. c.in-Ok.ensures.kept x ∙ kept x),
         (
           c.small.ensures.names,
           (
-            c.small.ensures.known,
-            (λ tx given stands. goes s (at_hand s c.args.cache.now) tx given (at_hand s c.loop.cache) c.loop.counter c.loop.doing _ c.loop.stack c.small.new.stack _ _
-                (same_hands s c.args.cache.now c.loop.cache c.loop.invariant.1.0) (sym c.is_ended.ensures ∙ c.if-is_ended.false) (c.loop.invariant.1.1.1.1 tx given stands) (rw c.in-Ok-To.field-0-is at c.in-Ok-To.ensures.does)),
+            c.ahead.ensures.known,
+            (λ tx given stands. same_objects s (at_hand s c.args.cache.now) (at_hand s c.small.new.cache) tx given (c.loop.counter + 1) c.in-Ok-To.next c.small.new.stack c.ahead.new.stack
+                (whole_state c.small.new.progress c.small.new.cache c.small.new.names) (whole_state c.ahead.new.progress c.ahead.new.cache c.small.new.names) (Ok c.in-Ok.then)
+                (same_hands s c.args.cache.now c.small.new.cache kept) (c.in-Ok.ensures.goes tx given (c.loop.counter + 1) c.small.new.names)
+                (goes s (at_hand s c.args.cache.now) tx given (at_hand s c.loop.cache) c.loop.counter c.loop.doing _ c.loop.stack c.small.new.stack _ _
+                (same_hands s c.args.cache.now c.loop.cache c.loop.invariant.1.0) (sym c.is_ended.ensures ∙ c.if-is_ended.false) (c.loop.invariant.1.1.1.1 tx given stands) (rw c.in-Ok-To.field-0-is at c.in-Ok-To.ensures.does))),
           ),
         ),
       ),

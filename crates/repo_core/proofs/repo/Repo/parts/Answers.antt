@@ -1,6 +1,5 @@
 use Rattle.disk_trait.specs.Disks.{Disks}
 use Rattle.disk_trait.specs.Fused.{fused_disks}
-use Rattle.disk_trait.specs.declared.fused.Fused.{Fused}
 use Rattle.repo_core.specs.Shown.{Shown}
 use Rattle.stable_store.proofs.Saying.{images_of}
 use Rattle.stable_store.specs.Kept.{pending}
@@ -8,9 +7,9 @@ use Rattle.stable_store.specs.Saying.{ImagesSay}
 use Rattle.std.proofs.Common.{ap, subst, sym, ◌∙◌}
 use Rattle.repo_core.proofs.repo.Repo.parts.Goals as goal
 
-pub returns-clause-0 : goal.returns-clause-0
-returns-clause-0 g c = λ whole.
+pub returns : goal.returns
+returns g c = λ whole.
     let i = c.self.inside in
     let says = images_of g.P.Parts.disks i.stable (ap (λ (s : Shown). s.is_torn) c.self.view_is ∙ whole) c.self.invariant.1 in
     subst (λ (s : Shown). ImagesSay (fused_disks g.P.Parts.disks c.parts.result.now) s.held s.pending) c.self.view_is
-    (subst (λ (f : Fused g.P). ImagesSay (fused_disks g.P.Parts.disks f) i.stable.held (pending i.stable)) (sym c.parts.ensures) says)
+    (subst (λ f. ImagesSay (fused_disks g.P.Parts.disks f) i.stable.held (pending i.stable)) (sym c.parts.ensures) says)

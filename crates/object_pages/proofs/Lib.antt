@@ -1,2 +1,0 @@
-mod Bringing
-mod ObjectBytes

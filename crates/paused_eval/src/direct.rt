@@ -1,0 +1,976 @@
+//! An evaluation by plain recursion, as far as the objects are at hand. Where it can't go on, each function that is left
+//! puts the frame that waits for its part behind those of the parts inside. Objects are made in small steps.
+
+ghost use Rattle.std.specs.Prelude.{◌≡◌, ◌<◌, [], ◌∷◌, map, None, Err, IfOk};
+ghost use Rattle.class_defs.specs.Types.{method_of};
+ghost use Rattle.class_defs.specs.declared.expressions.Expr.{out-Expr};
+ghost use Rattle.class_defs.specs.declared.statements.Stmt.{out-Stmt};
+ghost use Rattle.paused_defs.specs.Plain.{plain, plain_stmt};
+ghost use Rattle.paused_defs.specs.Reaches.{over};
+ghost use Rattle.paused_defs.specs.Resume as small;
+ghost use Rattle.paused_eval.specs.Bodies.{AreOf};
+ghost use Rattle.paused_eval.specs.Copies.{Keeps, Tied, state};
+ghost use Rattle.paused_eval.specs.Direct as spec;
+ghost use Rattle.paused_eval.specs.Direct.{Directs, IsLeft, Lasts, LaterBehind, Waits, directly, on};
+
+use crate::bodies::{Bodies, body_of};
+use crate::moves::{ended, first_part, waiting_frame};
+use crate::objects::{assign_field, field_value, touch};
+use crate::popping::leave_body;
+use crate::progress::Progress;
+use crate::types::type_of;
+use crate::unwound::{Frames, Unwound};
+use class_defs::{
+    DEPTH_LIMIT, ExprType, Flow, Machine, Method, Operator, Receiver, STEP_LIMIT, Stop, combined,
+    number,
+};
+use client_cache::Cache;
+use method_eval::{
+    Halt, Program, assign_local, bound, declare, holds, method_of, named_value, owners_at,
+    type_named,
+};
+use paused_defs::{
+    Doing, ExprNode, ExprNodes, Frame, Shared, SharedBlock, SharedExpr, SharedExprs, SharedStmt,
+    StmtNode, StmtNodes,
+};
+use std::alloc::Global;
+use std::mem;
+use thor_value::{Fault, NoMemory, Oref, Text, Value, Values};
+
+/// Small steps go on from here.
+fn later<T>(alloc: Global, doing: Doing) -> Result<T, Unwound>
+    ensures { result ≡ Err (Unwound.Later doing []) }
+{
+    Err(Unwound::Later {
+        doing,
+        frames: Frames::new(alloc),
+    })
+}
+
+fn faulted<T>(fault: Fault) -> Result<T, Unwound>
+    ensures { result ≡ Err (Unwound.Faulted fault) }
+{
+    Err(Unwound::Faulted { fault })
+}
+
+/// One frame more waits behind it.
+fn behind(unwound: Unwound, frame: Frame) -> Unwound
+    ensures { Waits frame unwound result }
+{
+    match unwound {
+        Unwound::Later { doing, mut frames } => match frames.push(frame) {
+            Ok(()) => Unwound::Later { doing, frames },
+            Err(NoMemory) => Unwound::NoMemory,
+        },
+        Unwound::Faulted { fault } => Unwound::Faulted { fault },
+        Unwound::NoMemory => Unwound::NoMemory,
+    }
+}
+
+/// The value of an expression whose nodes may be `nested` deep.
+#[cycle(direct)]
+#[tactic(auto, using(crate::proofs::Directly::at_depth))]
+pub fn value_of(
+    program: &Program<'_>,
+    epoch: u32,
+    cache: &mut Cache,
+    progress: &mut Progress,
+    bodies: &mut Bodies,
+    nested: u32,
+    expr: &Shared<ExprNode>,
+) -> Result<Value, Unwound>
+    requires tied { Tied progress.old.written cache.old }
+    requires known { AreOf program.now.schema.now.classes bodies.old.called }
+    ensures does { Directs result (state progress.new cache.new) ((directly (on program.now.schema.now cache.old) nested).value_of (plain expr.now) (state progress.old cache.old)) }
+    ensures tied { Lasts result (Tied progress.new.written cache.new) }
+    ensures kept { Lasts result (Keeps cache.old cache.new) }
+    ensures known { AreOf program.now.schema.now.classes bodies.new.called }
+{
+    if nested == 0 || progress.machine.steps >= STEP_LIMIT {
+        return later(
+            program.alloc,
+            Doing::Evaluate {
+                nested,
+                expr: SharedExpr::of(expr)?,
+            },
+        );
+    }
+    progress.machine.steps += 1;
+    node(
+        program,
+        epoch,
+        cache,
+        progress,
+        bodies,
+        nested - 1,
+        expr.get(),
+    )
+}
+
+/// A node whose step is taken.
+#[cycle(direct)]
+#[tactic(auto, using(crate::proofs::Nodes::expr_nodes))]
+fn node(
+    program: &Program<'_>,
+    epoch: u32,
+    cache: &mut Cache,
+    progress: &mut Progress,
+    bodies: &mut Bodies,
+    inner: u32,
+    node: &ExprNode,
+) -> Result<Value, Unwound>
+    requires tied { Tied progress.old.written cache.old }
+    requires known { AreOf program.now.schema.now.classes bodies.old.called }
+    ensures does { Directs result (state progress.new cache.new) (spec.node (on program.now.schema.now cache.old) inner (directly (on program.now.schema.now cache.old) inner) (out-Expr (plain node.now)) (state progress.old cache.old)) }
+    ensures tied { Lasts result (Tied progress.new.written cache.new) }
+    ensures kept { Lasts result (Keeps cache.old cache.new) }
+    ensures known { AreOf program.now.schema.now.classes bodies.new.called }
+{
+    match node {
+        ExprNode::Int { value, line: _ } => Ok(Value::Int(*value)),
+        ExprNode::Null { line: _ } => Ok(Value::Null),
+        ExprNode::This { line: _ } => Ok(match &progress.machine.this {
+            Some(this) => Value::Ref(this.oref),
+            None => Value::Null,
+        }),
+        ExprNode::Field { name, line: _ } => Ok(field_value(
+            program,
+            cache,
+            progress,
+            name.get().as_slice(),
+        )),
+        ExprNode::Variable { name, line: _ } => Ok(named_value(
+            program,
+            &progress.machine,
+            name.get().as_slice(),
+        )),
+        ExprNode::New { class, line: _, at } => later(
+            program.alloc,
+            Doing::Create {
+                class: class.share()?,
+                at: *at,
+            },
+        ),
+        ExprNode::Parens { inner: inside, .. } => {
+            value_of(program, epoch, cache, progress, bodies, inner, inside)
+        }
+        ExprNode::Negate { operand, .. } => {
+            negate(program, epoch, cache, progress, bodies, inner, operand)
+        }
+        ExprNode::Binary {
+            operator,
+            left,
+            right,
+            ..
+        } => binary(
+            program, epoch, cache, progress, bodies, inner, *operator, left, right,
+        ),
+        ExprNode::Call {
+            receiver,
+            method,
+            arguments,
+            ..
+        } => called(
+            program, epoch, cache, progress, bodies, inner, receiver, method, arguments,
+        ),
+    }
+}
+
+#[cycle(direct)]
+#[tactic(auto, using(crate::proofs::Directly::left_waiting))]
+fn negate(
+    program: &Program<'_>,
+    epoch: u32,
+    cache: &mut Cache,
+    progress: &mut Progress,
+    bodies: &mut Bodies,
+    inner: u32,
+    operand: &Shared<ExprNode>,
+) -> Result<Value, Unwound>
+    requires tied { Tied progress.old.written cache.old }
+    requires known { AreOf program.now.schema.now.classes bodies.old.called }
+    ensures does { Directs result (state progress.new cache.new) (spec.negate (on program.now.schema.now cache.old) inner (directly (on program.now.schema.now cache.old) inner) (plain operand.now) (state progress.old cache.old)) }
+    ensures tied { Lasts result (Tied progress.new.written cache.new) }
+    ensures kept { Lasts result (Keeps cache.old cache.new) }
+    ensures known { AreOf program.now.schema.now.classes bodies.new.called }
+{
+    match value_of(program, epoch, cache, progress, bodies, inner, operand) {
+        Ok(value) => Ok(Value::Int(0i64.wrapping_sub(number(value)))),
+        Err(unwound) => Err(behind(unwound, Frame::Negate)),
+    }
+}
+
+/// The right operand, behind the value of the left one.
+#[cycle(direct)]
+#[tactic(auto, using(crate::proofs::Directly::left_waiting))]
+fn combine(
+    program: &Program<'_>,
+    epoch: u32,
+    cache: &mut Cache,
+    progress: &mut Progress,
+    bodies: &mut Bodies,
+    inner: u32,
+    operator: Operator,
+    first: Value,
+    right: &Shared<ExprNode>,
+) -> Result<Value, Unwound>
+    requires tied { Tied progress.old.written cache.old }
+    requires known { AreOf program.now.schema.now.classes bodies.old.called }
+    ensures does { Directs result (state progress.new cache.new) (spec.combine (on program.now.schema.now cache.old) inner (directly (on program.now.schema.now cache.old) inner) operator first (plain right.now) (state progress.old cache.old)) }
+    ensures tied { Lasts result (Tied progress.new.written cache.new) }
+    ensures kept { Lasts result (Keeps cache.old cache.new) }
+    ensures known { AreOf program.now.schema.now.classes bodies.new.called }
+{
+    match value_of(program, epoch, cache, progress, bodies, inner, right) {
+        Ok(second) => Ok(combined(operator, first, second)),
+        Err(unwound) => Err(behind(
+            unwound,
+            Frame::Combine {
+                operator,
+                left: first,
+            },
+        )),
+    }
+}
+
+#[cycle(direct)]
+#[tactic(auto, using(crate::proofs::Directly::left_waiting, crate::proofs::Directly::same_world))]
+fn binary(
+    program: &Program<'_>,
+    epoch: u32,
+    cache: &mut Cache,
+    progress: &mut Progress,
+    bodies: &mut Bodies,
+    inner: u32,
+    operator: Operator,
+    left: &Shared<ExprNode>,
+    right: &Shared<ExprNode>,
+) -> Result<Value, Unwound>
+    requires tied { Tied progress.old.written cache.old }
+    requires known { AreOf program.now.schema.now.classes bodies.old.called }
+    ensures does { Directs result (state progress.new cache.new) (spec.binary (on program.now.schema.now cache.old) inner (directly (on program.now.schema.now cache.old) inner) operator (plain left.now) (plain right.now) (state progress.old cache.old)) }
+    ensures tied { Lasts result (Tied progress.new.written cache.new) }
+    ensures kept { Lasts result (Keeps cache.old cache.new) }
+    ensures known { AreOf program.now.schema.now.classes bodies.new.called }
+{
+    match value_of(program, epoch, cache, progress, bodies, inner, left) {
+        Ok(first) => combine(
+            program, epoch, cache, progress, bodies, inner, operator, first, right,
+        ),
+        Err(unwound) => {
+            let frame = Frame::Right {
+                nested: inner,
+                operator,
+                right: SharedExpr::of(right)?,
+            };
+            Err(behind(unwound, frame))
+        }
+    }
+}
+
+#[cycle(direct)]
+#[tactic(auto, using(crate::proofs::Directly::left_waiting, crate::proofs::Directly::same_world))]
+fn called(
+    program: &Program<'_>,
+    epoch: u32,
+    cache: &mut Cache,
+    progress: &mut Progress,
+    bodies: &mut Bodies,
+    inner: u32,
+    receiver: &Shared<ExprNode>,
+    method: &Shared<Text>,
+    arguments: &Shared<ExprNodes>,
+) -> Result<Value, Unwound>
+    requires tied { Tied progress.old.written cache.old }
+    requires known { AreOf program.now.schema.now.classes bodies.old.called }
+    ensures does { Directs result (state progress.new cache.new) (spec.called (on program.now.schema.now cache.old) inner (directly (on program.now.schema.now cache.old) inner) (plain receiver.now) method.now (map plain arguments.now) (state progress.old cache.old)) }
+    ensures tied { Lasts result (Tied progress.new.written cache.new) }
+    ensures kept { Lasts result (Keeps cache.old cache.new) }
+    ensures known { AreOf program.now.schema.now.classes bodies.new.called }
+{
+    let kind = type_of(program, &progress.machine, receiver.get());
+    match value_of(program, epoch, cache, progress, bodies, inner, receiver) {
+        Ok(target) => {
+            let none = Values::new(program.alloc);
+            let rest = SharedExprs::of(arguments)?;
+            collect(
+                program, epoch, cache, progress, bodies, inner, kind, target, method, none, rest,
+            )
+        }
+        Err(unwound) => {
+            let frame = Frame::Callee {
+                nested: inner,
+                kind,
+                method: method.share()?,
+                arguments: SharedExprs::of(arguments)?,
+            };
+            Err(behind(unwound, frame))
+        }
+    }
+}
+
+/// The arguments that are left, and then the call.
+#[cycle(direct)]
+#[tactic(auto, using(crate::proofs::Directly::left_waiting, crate::proofs::Directly::same_world))]
+fn collect(
+    program: &Program<'_>,
+    epoch: u32,
+    cache: &mut Cache,
+    progress: &mut Progress,
+    bodies: &mut Bodies,
+    inner: u32,
+    kind: ExprType,
+    target: Value,
+    method: &Shared<Text>,
+    none: Values,
+    arguments: SharedExprs,
+) -> Result<Value, Unwound>
+    requires tied { Tied progress.old.written cache.old }
+    requires known { AreOf program.now.schema.now.classes bodies.old.called }
+    ensures does { Directs result (state progress.new cache.new) (spec.collect (on program.now.schema.now cache.old) inner (directly (on program.now.schema.now cache.old) inner) kind target method.now none arguments (state progress.old cache.old)) }
+    ensures tied { Lasts result (Tied progress.new.written cache.new) }
+    ensures kept { Lasts result (Keeps cache.old cache.new) }
+    ensures known { AreOf program.now.schema.now.classes bodies.new.called }
+{
+    let mut done = none;
+    let mut left = arguments;
+    for _ in 0..u64::MAX {
+        match left.split_first()? {
+            None => {
+                return ready(
+                    program, epoch, cache, progress, bodies, inner, kind, target, method, done,
+                );
+            }
+            Some((expr, rest)) => {
+                match value_of(
+                    program,
+                    epoch,
+                    cache,
+                    progress,
+                    bodies,
+                    inner,
+                    expr.shared(),
+                ) {
+                    Ok(value) => {
+                        done.push(value)?;
+                        left = rest;
+                    }
+                    Err(unwound) => {
+                        let frame = Frame::Arguments {
+                            nested: inner,
+                            kind,
+                            target,
+                            method: method.share()?,
+                            done,
+                            rest,
+                        };
+                        return Err(behind(unwound, frame));
+                    }
+                }
+            }
+        }
+    }
+    Err(Unwound::NoMemory)
+}
+
+/// The parts of a call are there.
+#[cycle(direct)]
+fn ready(
+    program: &Program<'_>,
+    epoch: u32,
+    cache: &mut Cache,
+    progress: &mut Progress,
+    bodies: &mut Bodies,
+    inner: u32,
+    kind: ExprType,
+    target: Value,
+    method: &Shared<Text>,
+    arguments: Values,
+) -> Result<Value, Unwound>
+    requires tied { Tied progress.old.written cache.old }
+    requires known { AreOf program.now.schema.now.classes bodies.old.called }
+    ensures does { Directs result (state progress.new cache.new) (spec.ready (on program.now.schema.now cache.old) inner (directly (on program.now.schema.now cache.old) inner) kind target method.now arguments (state progress.old cache.old)) }
+    ensures tied { Lasts result (Tied progress.new.written cache.new) }
+    ensures kept { Lasts result (Keeps cache.old cache.new) }
+    ensures known { AreOf program.now.schema.now.classes bodies.new.called }
+{
+    match (kind, target) {
+        (ExprType::Class(class), Value::Ref(oref)) => call(
+            program, epoch, cache, progress, bodies, inner, class, oref, method, arguments,
+        ),
+        (_, _) => faulted(Fault::NullCall),
+    }
+}
+
+/// What is left of a call whose object isn't at hand, or that is a fault.
+fn not_entered(
+    alloc: Global,
+    halt: Halt,
+    inner: u32,
+    class: u16,
+    oref: Oref,
+    method: &Shared<Text>,
+    arguments: Values,
+) -> Unwound
+    ensures { IsLeft (Doing.Enter inner class oref method.now arguments) halt result }
+{
+    match halt {
+        Halt::Stopped(Stop::Fault(fault)) => Unwound::Faulted { fault },
+        Halt::Stopped(_) => match method.share() {
+            Ok(method) => Unwound::Later {
+                doing: Doing::Enter {
+                    nested: inner,
+                    class,
+                    oref,
+                    method,
+                    arguments,
+                },
+                frames: Frames::new(alloc),
+            },
+            Err(NoMemory) => Unwound::NoMemory,
+        },
+        Halt::NoMemory => Unwound::NoMemory,
+    }
+}
+
+/// A call whose parts are evaluated.
+#[cycle(direct)]
+#[tactic(auto, using(crate::proofs::Directly::left_there, crate::proofs::Directly::same_world), unfolding(class_defs::specs::Calls::owners_at))]
+fn call(
+    program: &Program<'_>,
+    epoch: u32,
+    cache: &mut Cache,
+    progress: &mut Progress,
+    bodies: &mut Bodies,
+    inner: u32,
+    class: u16,
+    oref: Oref,
+    method: &Shared<Text>,
+    arguments: Values,
+) -> Result<Value, Unwound>
+    requires tied { Tied progress.old.written cache.old }
+    requires known { AreOf program.now.schema.now.classes bodies.old.called }
+    ensures does { Directs result (state progress.new cache.new) (spec.call (on program.now.schema.now cache.old) inner (directly (on program.now.schema.now cache.old) inner) class oref method.now arguments (state progress.old cache.old)) }
+    ensures tied { Lasts result (Tied progress.new.written cache.new) }
+    ensures kept { Lasts result (Keeps cache.old cache.new) }
+    ensures known { AreOf program.now.schema.now.classes bodies.new.called }
+{
+    if progress.machine.depth >= DEPTH_LIMIT {
+        return faulted(Fault::Depth);
+    }
+    let owners = owners_at(program, class, oref, &progress.machine)?;
+    match touch(program, cache, progress, &owners, oref) {
+        Ok(found) => {
+            let this = Receiver {
+                oref,
+                class,
+                owners,
+            };
+            enter(
+                program, epoch, cache, progress, bodies, inner, found, this, method, &arguments,
+            )
+        }
+        Err(halt) => Err(not_entered(program.alloc, halt, inner, class, oref, method, arguments)),
+    }
+}
+
+/// A method is called whose object was read.
+#[cycle(direct)]
+fn enter(
+    program: &Program<'_>,
+    epoch: u32,
+    cache: &mut Cache,
+    progress: &mut Progress,
+    bodies: &mut Bodies,
+    inner: u32,
+    found: u16,
+    this: Receiver,
+    name: &Shared<Text>,
+    arguments: &Values,
+) -> Result<Value, Unwound>
+    requires tied { Tied progress.old.written cache.old }
+    requires known { AreOf program.now.schema.now.classes bodies.old.called }
+    requires depth { progress.old.machine.depth < 64 }
+    ensures does { Directs result (state progress.new cache.new) (spec.enter_as (on program.now.schema.now cache.old) inner (directly (on program.now.schema.now cache.old) inner) this found (method_of program.now.schema.now.classes this.class name.now) arguments.now (state progress.old cache.old)) }
+    ensures tied { Lasts result (Tied progress.new.written cache.new) }
+    ensures kept { Lasts result (Keeps cache.old cache.new) }
+    ensures known { AreOf program.now.schema.now.classes bodies.new.called }
+{
+    if found != this.class {
+        return faulted(Fault::NullCall);
+    }
+    match method_of(program, this.class, name.get().as_slice()) {
+        Some(method) => {
+            let body = body_of(program, bodies, this.class, name, method)?;
+            run_body(
+                program, epoch, cache, progress, bodies, inner, this, method, body, arguments,
+            )
+        }
+        None => faulted(Fault::NullCall),
+    }
+}
+
+/// What holds outside of a body.
+#[derive(Drop)]
+struct Outside {
+    depth: u32,
+    this: Option<Receiver>,
+    locals: class_defs::Locals,
+}
+
+/// A body begins, with `this` and its parameters; what held outside of it is given back.
+fn go_inside(
+    program: &Program<'_>,
+    machine: &mut Machine,
+    this: Receiver,
+    method: &Method,
+    arguments: &Values,
+) -> Result<Outside, NoMemory>
+    requires { machine.old.depth < 64 }
+    ensures inside { IfOk result (λ outside. machine.new ≡ small.inside (over program.now.schema.now (λ x. None)) this method.now arguments.now machine.old) }
+    ensures outside { IfOk result (λ outside. outside ≡ record { depth = machine.old.depth; this = machine.old.this; locals = machine.old.locals }) }
+{
+    let locals = bound(program, &method.parameters, arguments)?;
+    let depth = machine.depth;
+    let locals = mem::replace(&mut machine.locals, locals);
+    let caller = mem::replace(&mut machine.this, Some(this));
+    machine.depth = depth + 1;
+    Ok(Outside {
+        depth,
+        this: caller,
+        locals,
+    })
+}
+
+/// Runs a body, and then gives back what held outside of it.
+#[cycle(direct)]
+#[tactic(auto, using(crate::proofs::Directly::left_waiting, crate::proofs::Directly::same_world))]
+fn run_body(
+    program: &Program<'_>,
+    epoch: u32,
+    cache: &mut Cache,
+    progress: &mut Progress,
+    bodies: &mut Bodies,
+    inner: u32,
+    this: Receiver,
+    method: &Method,
+    body: SharedBlock,
+    arguments: &Values,
+) -> Result<Value, Unwound>
+    requires tied { Tied progress.old.written cache.old }
+    requires known { AreOf program.now.schema.now.classes bodies.old.called }
+    requires depth { progress.old.machine.depth < 64 }
+    requires body { body ≡ method.now.body }
+    ensures does { Directs result (state progress.new cache.new) (spec.run_body (on program.now.schema.now cache.old) inner (directly (on program.now.schema.now cache.old) inner) this method.now arguments.now (state progress.old cache.old)) }
+    ensures tied { Lasts result (Tied progress.new.written cache.new) }
+    ensures kept { Lasts result (Keeps cache.old cache.new) }
+    ensures known { AreOf program.now.schema.now.classes bodies.new.called }
+{
+    let Outside {
+        depth,
+        this,
+        locals,
+    } = go_inside(program, &mut progress.machine, this, method, arguments)?;
+    let kind = type_named(program, &method.result);
+    match block(program, epoch, cache, progress, bodies, inner, body) {
+        Ok(flow) => {
+            leave_body(&mut progress.machine, depth, this, locals);
+            Ok(ended(kind, flow))
+        }
+        Err(unwound) => {
+            let frame = Frame::BodyEnd {
+                depth,
+                this,
+                locals,
+                result: kind,
+            };
+            Err(behind(unwound, frame))
+        }
+    }
+}
+
+/// The statements of a block in order. A local ends with the block in which it was declared.
+#[cycle(direct)]
+#[tactic(auto, using(crate::proofs::Directly::left_waiting, crate::proofs::Directly::same_world))]
+fn block(
+    program: &Program<'_>,
+    epoch: u32,
+    cache: &mut Cache,
+    progress: &mut Progress,
+    bodies: &mut Bodies,
+    inner: u32,
+    stmts: SharedBlock,
+) -> Result<Flow, Unwound>
+    requires tied { Tied progress.old.written cache.old }
+    requires known { AreOf program.now.schema.now.classes bodies.old.called }
+    ensures does { Directs result (state progress.new cache.new) (spec.block (on program.now.schema.now cache.old) inner (directly (on program.now.schema.now cache.old) inner) stmts (state progress.old cache.old)) }
+    ensures tied { Lasts result (Tied progress.new.written cache.new) }
+    ensures kept { Lasts result (Keeps cache.old cache.new) }
+    ensures known { AreOf program.now.schema.now.classes bodies.new.called }
+{
+    let count = progress.machine.locals.len();
+    match in_order(program, epoch, cache, progress, bodies, inner, stmts) {
+        Ok(flow) => {
+            progress.machine.locals.truncate(count);
+            Ok(flow)
+        }
+        Err(unwound) => Err(behind(unwound, Frame::BlockEnd { count })),
+    }
+}
+
+/// Statements in order, until one returns.
+#[cycle(direct)]
+#[tactic(auto, using(crate::proofs::Directly::left_waiting, crate::proofs::Directly::same_world))]
+fn in_order(
+    program: &Program<'_>,
+    epoch: u32,
+    cache: &mut Cache,
+    progress: &mut Progress,
+    bodies: &mut Bodies,
+    inner: u32,
+    stmts: SharedBlock,
+) -> Result<Flow, Unwound>
+    requires tied { Tied progress.old.written cache.old }
+    requires known { AreOf program.now.schema.now.classes bodies.old.called }
+    ensures does { Directs result (state progress.new cache.new) (spec.in_order (on program.now.schema.now cache.old) inner (directly (on program.now.schema.now cache.old) inner) stmts (state progress.old cache.old)) }
+    ensures tied { Lasts result (Tied progress.new.written cache.new) }
+    ensures kept { Lasts result (Keeps cache.old cache.new) }
+    ensures known { AreOf program.now.schema.now.classes bodies.new.called }
+{
+    let mut left = stmts;
+    for _ in 0..u64::MAX {
+        match left.split_first()? {
+            None => return Ok(Flow::Next),
+            Some((stmt, rest)) => {
+                match execute(
+                    program,
+                    epoch,
+                    cache,
+                    progress,
+                    bodies,
+                    inner,
+                    stmt.shared(),
+                ) {
+                    Ok(Flow::Next) => left = rest,
+                    Ok(Flow::Returned(value)) => return Ok(Flow::Returned(value)),
+                    Err(unwound) => {
+                        let frame = Frame::Rest {
+                            nested: inner,
+                            rest,
+                        };
+                        return Err(behind(unwound, frame));
+                    }
+                }
+            }
+        }
+    }
+    Err(Unwound::NoMemory)
+}
+
+/// A statement whose nodes may be `nested` deep.
+#[cycle(direct)]
+#[tactic(auto, using(crate::proofs::Directly::at_depth))]
+pub fn execute(
+    program: &Program<'_>,
+    epoch: u32,
+    cache: &mut Cache,
+    progress: &mut Progress,
+    bodies: &mut Bodies,
+    nested: u32,
+    stmt: &Shared<StmtNode>,
+) -> Result<Flow, Unwound>
+    requires tied { Tied progress.old.written cache.old }
+    requires known { AreOf program.now.schema.now.classes bodies.old.called }
+    ensures does { Directs result (state progress.new cache.new) ((directly (on program.now.schema.now cache.old) nested).execute (plain_stmt stmt.now) (state progress.old cache.old)) }
+    ensures tied { Lasts result (Tied progress.new.written cache.new) }
+    ensures kept { Lasts result (Keeps cache.old cache.new) }
+    ensures known { AreOf program.now.schema.now.classes bodies.new.called }
+{
+    if nested == 0 || progress.machine.steps >= STEP_LIMIT {
+        return later(
+            program.alloc,
+            Doing::Execute {
+                nested,
+                stmt: SharedStmt::of(stmt)?,
+            },
+        );
+    }
+    progress.machine.steps += 1;
+    statement(
+        program,
+        epoch,
+        cache,
+        progress,
+        bodies,
+        nested - 1,
+        stmt.get(),
+    )
+}
+
+/// A statement whose step is taken.
+#[cycle(direct)]
+#[tactic(auto, using(crate::proofs::Directly::left_waiting, crate::proofs::Directly::same_world))]
+fn statement(
+    program: &Program<'_>,
+    epoch: u32,
+    cache: &mut Cache,
+    progress: &mut Progress,
+    bodies: &mut Bodies,
+    inner: u32,
+    node: &StmtNode,
+) -> Result<Flow, Unwound>
+    requires tied { Tied progress.old.written cache.old }
+    requires known { AreOf program.now.schema.now.classes bodies.old.called }
+    ensures does { Directs result (state progress.new cache.new) (spec.statement (on program.now.schema.now cache.old) inner (directly (on program.now.schema.now cache.old) inner) (out-Stmt (plain_stmt node.now)) (state progress.old cache.old)) }
+    ensures tied { Lasts result (Tied progress.new.written cache.new) }
+    ensures kept { Lasts result (Keeps cache.old cache.new) }
+    ensures known { AreOf program.now.schema.now.classes bodies.new.called }
+{
+    match value_of(
+        program,
+        epoch,
+        cache,
+        progress,
+        bodies,
+        inner,
+        first_part(node),
+    ) {
+        Ok(value) => effect(program, epoch, cache, progress, bodies, inner, node, value),
+        Err(unwound) => {
+            let frame = waiting_frame(program, inner, node)?;
+            Err(behind(unwound, frame))
+        }
+    }
+}
+
+/// What a statement does with the value of its first part.
+#[cycle(direct)]
+#[tactic(auto, using(crate::proofs::Nodes::stmt_nodes))]
+fn effect(
+    program: &Program<'_>,
+    epoch: u32,
+    cache: &mut Cache,
+    progress: &mut Progress,
+    bodies: &mut Bodies,
+    inner: u32,
+    node: &StmtNode,
+    value: Value,
+) -> Result<Flow, Unwound>
+    requires tied { Tied progress.old.written cache.old }
+    requires known { AreOf program.now.schema.now.classes bodies.old.called }
+    ensures does { Directs result (state progress.new cache.new) (spec.effect (on program.now.schema.now cache.old) inner (directly (on program.now.schema.now cache.old) inner) (out-Stmt (plain_stmt node.now)) value (state progress.old cache.old)) }
+    ensures tied { Lasts result (Tied progress.new.written cache.new) }
+    ensures kept { Lasts result (Keeps cache.old cache.new) }
+    ensures known { AreOf program.now.schema.now.classes bodies.new.called }
+{
+    match node {
+        StmtNode::Var {
+            type_name,
+            name,
+            ..
+        } => {
+            let kind = type_named(program, type_name);
+            declare(&mut progress.machine, kind, name.get(), value)?;
+            Ok(Flow::Next)
+        }
+        StmtNode::Assign { name, .. } => {
+            assign_local(&mut progress.machine.locals, name.get().as_slice(), value);
+            Ok(Flow::Next)
+        }
+        StmtNode::FieldAssign { field, .. } => {
+            assign_field(
+                program,
+                epoch,
+                cache,
+                progress,
+                field.get().as_slice(),
+                value,
+            )?;
+            Ok(Flow::Next)
+        }
+        StmtNode::Return { .. } => Ok(Flow::Returned(value)),
+        StmtNode::If { then, .. } => {
+            if holds(value) {
+                let stmts = SharedBlock::of(then)?;
+                block(program, epoch, cache, progress, bodies, inner, stmts)
+            } else {
+                Ok(Flow::Next)
+            }
+        }
+        StmtNode::IfElse {
+            then,
+            otherwise,
+            ..
+        } => {
+            if holds(value) {
+                let stmts = SharedBlock::of(then)?;
+                block(program, epoch, cache, progress, bodies, inner, stmts)
+            } else {
+                let stmts = SharedBlock::of(otherwise)?;
+                block(program, epoch, cache, progress, bodies, inner, stmts)
+            }
+        }
+        StmtNode::While { condition, body } => {
+            turns(
+                program, epoch, cache, progress, bodies, inner, condition, body, value,
+            )
+        }
+        StmtNode::Print { .. } => {
+            progress.machine.printed.push(number(value))?;
+            Ok(Flow::Next)
+        }
+        StmtNode::Evaluate { .. } => Ok(Flow::Next),
+    }
+}
+
+/// The frame in which a loop waits for the end of its body.
+fn again_frame(
+    inner: u32,
+    turns: u32,
+    condition: &Shared<ExprNode>,
+    body: &Shared<StmtNodes>,
+) -> Result<Frame, NoMemory>
+    ensures { IfOk result (λ frame. frame ≡ Frame.Again inner turns (plain condition.now) (map plain_stmt body.now)) }
+{
+    Ok(Frame::Again {
+        nested: inner,
+        turns,
+        condition: SharedExpr::of(condition)?,
+        body: SharedBlock::of(body)?,
+    })
+}
+
+/// The frame in which a loop waits for its condition.
+fn test_frame(
+    inner: u32,
+    turns: u32,
+    condition: &Shared<ExprNode>,
+    body: &Shared<StmtNodes>,
+) -> Result<Frame, NoMemory>
+    ensures { IfOk result (λ frame. frame ≡ Frame.Test inner turns (plain condition.now) (map plain_stmt body.now)) }
+{
+    Ok(Frame::Test {
+        nested: inner,
+        turns,
+        condition: SharedExpr::of(condition)?,
+        body: SharedBlock::of(body)?,
+    })
+}
+
+/// Small steps go on from here, with one frame behind.
+fn later_behind<T>(alloc: Global, doing: Doing, frame: Frame) -> Result<T, Unwound>
+    ensures { LaterBehind result doing frame }
+{
+    let mut frames = Frames::new(alloc);
+    frames.push(frame)?;
+    Err(Unwound::Later { doing, frames })
+}
+
+/// The body of a loop, whose condition holds.
+#[cycle(direct)]
+#[tactic(auto, using(crate::proofs::Directly::left_waiting))]
+fn turn_body(
+    program: &Program<'_>,
+    epoch: u32,
+    cache: &mut Cache,
+    progress: &mut Progress,
+    bodies: &mut Bodies,
+    inner: u32,
+    turns: u32,
+    condition: &Shared<ExprNode>,
+    body: &Shared<StmtNodes>,
+) -> Result<Flow, Unwound>
+    requires tied { Tied progress.old.written cache.old }
+    requires known { AreOf program.now.schema.now.classes bodies.old.called }
+    ensures does { Directs result (state progress.new cache.new) (spec.part (spec.block (on program.now.schema.now cache.old) inner (directly (on program.now.schema.now cache.old) inner) (map plain_stmt body.now)) (Frame.Again inner turns (plain condition.now) (map plain_stmt body.now)) spec.done (state progress.old cache.old)) }
+    ensures tied { Lasts result (Tied progress.new.written cache.new) }
+    ensures kept { Lasts result (Keeps cache.old cache.new) }
+    ensures known { AreOf program.now.schema.now.classes bodies.new.called }
+{
+    let stmts = SharedBlock::of(body)?;
+    match block(program, epoch, cache, progress, bodies, inner, stmts) {
+        Ok(flow) => Ok(flow),
+        Err(unwound) => {
+            let frame = again_frame(inner, turns, condition, body)?;
+            Err(behind(unwound, frame))
+        }
+    }
+}
+
+/// The next test of a loop, which takes a step.
+#[cycle(direct)]
+#[tactic(auto, using(crate::proofs::Directly::left_waiting, crate::proofs::Directly::at_turn))]
+fn test_again(
+    program: &Program<'_>,
+    epoch: u32,
+    cache: &mut Cache,
+    progress: &mut Progress,
+    bodies: &mut Bodies,
+    inner: u32,
+    turns: u32,
+    condition: &Shared<ExprNode>,
+    body: &Shared<StmtNodes>,
+) -> Result<Value, Unwound>
+    requires tied { Tied progress.old.written cache.old }
+    requires known { AreOf program.now.schema.now.classes bodies.old.called }
+    ensures does { Directs result (state progress.new cache.new) (spec.tests (on program.now.schema.now cache.old) inner (directly (on program.now.schema.now cache.old) inner) turns (plain condition.now) (map plain_stmt body.now) (state progress.old cache.old)) }
+    ensures tied { Lasts result (Tied progress.new.written cache.new) }
+    ensures kept { Lasts result (Keeps cache.old cache.new) }
+    ensures known { AreOf program.now.schema.now.classes bodies.new.called }
+{
+    if turns == 0 || progress.machine.steps >= STEP_LIMIT {
+        let frame = again_frame(inner, turns, condition, body)?;
+        return later_behind(program.alloc, Doing::Give { flow: Flow::Next }, frame);
+    }
+    progress.machine.steps += 1;
+    match value_of(program, epoch, cache, progress, bodies, inner, condition) {
+        Ok(value) => Ok(value),
+        Err(unwound) => {
+            let frame = test_frame(inner, turns - 1, condition, body)?;
+            Err(behind(unwound, frame))
+        }
+    }
+}
+
+/// A loop whose first test has given this value.
+#[cycle(direct)]
+#[tactic(auto, using(crate::proofs::Directly::same_world))]
+fn turns(
+    program: &Program<'_>,
+    epoch: u32,
+    cache: &mut Cache,
+    progress: &mut Progress,
+    bodies: &mut Bodies,
+    inner: u32,
+    condition: &Shared<ExprNode>,
+    body: &Shared<StmtNodes>,
+    tested: Value,
+) -> Result<Flow, Unwound>
+    requires tied { Tied progress.old.written cache.old }
+    requires known { AreOf program.now.schema.now.classes bodies.old.called }
+    ensures does { Directs result (state progress.new cache.new) (spec.turn (on program.now.schema.now cache.old) inner (directly (on program.now.schema.now cache.old) inner) 100000 (plain condition.now) (map plain_stmt body.now) tested (state progress.old cache.old)) }
+    ensures tied { Lasts result (Tied progress.new.written cache.new) }
+    ensures kept { Lasts result (Keeps cache.old cache.new) }
+    ensures known { AreOf program.now.schema.now.classes bodies.new.called }
+{
+    let mut value = tested;
+    for count in 0..100_001u32 {
+        if !holds(value) {
+            return Ok(Flow::Next);
+        }
+        let turns = 100_000 - count;
+        match turn_body(
+            program, epoch, cache, progress, bodies, inner, turns, condition, body,
+        )? {
+            Flow::Next => {}
+            Flow::Returned(value) => return Ok(Flow::Returned(value)),
+        }
+        match test_again(
+            program, epoch, cache, progress, bodies, inner, turns, condition, body,
+        ) {
+            Ok(next) => value = next,
+            Err(unwound) => return Err(unwound),
+        }
+    }
+    Err(Unwound::NoMemory)
+}

@@ -1,0 +1,26 @@
+ghost use Rattle.std.specs.Prelude.{◌≡◌};
+
+use paused_defs::{Doing, Frame};
+use thor_value::{Fault, NoMemory, Sequence};
+
+/// Frames, the innermost first.
+pub type Frames = Sequence<Frame>;
+
+/// Why an evaluation by plain recursion doesn't go on.
+#[derive(Drop)]
+pub enum Unwound {
+    /// This is done next, in small steps, and the frames wait behind it.
+    Later { doing: Doing, frames: Frames },
+    Faulted { fault: Fault },
+    NoMemory,
+}
+
+impl From<NoMemory> for Unwound {
+    ghost use Rattle.paused_eval.specs.declared.unwound.Unwound.TheVariants as unwound;
+
+    ghost from_gives = { λ _ made. made ≡ unwound.NoMemory };
+
+    fn from(_refused: NoMemory) -> Unwound {
+        Unwound::NoMemory
+    }
+}
