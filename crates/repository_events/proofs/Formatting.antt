@@ -1,7 +1,6 @@
 -- A new repository, behind its formatting.
 use Rattle.class_defs.specs.declared.store.Setup.{Setup}
 use Rattle.commit_log.specs.declared.entry.Entry.TheVariants.{Life}
-use Rattle.commit_log.specs.declared.request.Request.{Request}
 use Rattle.held_state.specs.declared.held.Held.{Held}
 use Rattle.local_history.specs.History.{Base}
 use Rattle.log_bytes.specs.declared.state.State.{State}
@@ -10,10 +9,10 @@ use Rattle.repo_core.specs.Shown.{Shown}
 use Rattle.repository_events.proofs.Restarts.{opening}
 use Rattle.repository_events.specs.Seen.{StandsRight}
 use Rattle.repository_events.specs.Vouching.{IsBase, IsNewBase}
-use Rattle.std.proofs.Common.{Err, List, Ok, Option, Result, [], ◌∷◌, ap, arith, refl, subst, sym, true, ℕ, ◌+◌, ◌∙◌, ◌≡◌, ◌≤◌}
+use Rattle.std.proofs.Common.{Err, List, Ok, Result, [], ◌∷◌, ap, arith, refl, subst, sym, true, ℕ, ◌+◌, ◌∙◌, ◌≡◌, ◌≤◌}
 use Rattle.std.specs.List.Sorted.{IsStrictlySortedBy}
 use Rattle.std.specs.Map.{keys_of, values_of}
-use Rattle.std.specs.Prelude.{IfOk, None, Some, option_and_then}
+use Rattle.std.specs.Prelude.{IfOk, option_and_then}
 use Rattle.store_format.specs.Fresh.{IsFresh, page_count}
 use Rattle.thor_value.specs.FiniteMap.{IsSorted, Map, empty, get}
 use Rattle.thor_value.specs.Names.{ts_cmp}
@@ -26,9 +25,9 @@ use Rattle.two_phase.specs.declared.transaction.Transaction.{Transaction}
 
 -- a table in which nothing is open and no decision is kept has no transaction
 no_transaction : (es : List (Ts × Transaction)) → values_of (those request_of es) ≡ [] → keys_of (those decision_of es) ≡ [] → es ≡ []
-no_transaction [] open decided = refl
-no_transaction ((t, kept.Open q) ∷ es) open decided = absurd (cc)
-no_transaction ((t, kept.Kept) ∷ es) open decided = absurd (cc)
+no_transaction [] prepared decided = refl
+no_transaction ((t, kept.Open q) ∷ es) prepared decided = absurd (cc)
+no_transaction ((t, kept.Kept) ∷ es) prepared decided = absurd (cc)
 
 abbrev none : Map ts_cmp Transaction
 none = empty
