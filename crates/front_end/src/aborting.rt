@@ -2,6 +2,7 @@
 //! there.
 
 ghost use Rattle.client_state.specs.Owing.{count_of};
+ghost use Rattle.front_end.specs.Acting.{ActsIf};
 ghost use Rattle.front_end.specs.Moving.{uncounted};
 ghost use Rattle.std.specs.Prelude.{OnOk, ℕ, ◌+◌, ◌≤◌};
 
@@ -16,7 +17,8 @@ impl Client {
     /// Has the coordinator abort. Where it answers, the participants are to be told; where it refuses,
     /// nothing is handed on.
     pub fn abort<Q: Port>(&mut self, port: &mut Q, abort: Abort) -> Result<(), NoMemory>
-        ensures { OnOk result ((tries : ℕ) → uncounted tries self.new ≤ uncounted tries self.old + (count_of abort.prepared + 1)) }
+        ensures owed { OnOk result ((tries : ℕ) → uncounted tries self.new ≤ uncounted tries self.old + (count_of abort.prepared + 1)) }
+        ensures acts { ActsIf Q.shows (Q.view port.old) (Q.view port.new) }
     {
         let Abort {
             coordinator,

@@ -2,6 +2,7 @@
 
 ghost use Rattle.client_state.specs.Owing.{asking_in, calls_in, count_of};
 ghost use Rattle.client_state.specs.declared.phase.Phase.TheVariants as phase;
+ghost use Rattle.front_end.specs.Acting.{ActsIf};
 ghost use Rattle.front_end.specs.Moving.{uncounted};
 ghost use Rattle.std.specs.Prelude.{IsSome, OnOk, ℕ, ◌+◌, ◌<◌, ◌≡◌, ◌≤◌};
 
@@ -22,7 +23,8 @@ impl Client {
         opened: &Opened,
         task: Task<'_>,
     ) -> Result<News, NoMemory>
-        ensures { IsSome (asking_in self.old.phase) → OnOk result (uncounted task.entry.tries self.new < uncounted task.entry.tries self.old) }
+        ensures owed { IsSome (asking_in self.old.phase) → OnOk result (uncounted task.entry.tries self.new < uncounted task.entry.tries self.old) }
+        ensures acts { ActsIf Q.shows (Q.view port.old) (Q.view port.new) }
     {
         match self.take_phase().into_asking() {
             Some((sent, answers)) => self.ask_coordinator(port, opened, task, sent, answers),
@@ -38,7 +40,8 @@ impl Client {
         sent: Sent,
         answers: u32,
     ) -> Result<News, NoMemory>
-        ensures { OnOk result (uncounted task.entry.tries self.new < uncounted task.entry.tries self.old + calls_in task.entry.tries (phase.Asking sent answers)) }
+        ensures owed { OnOk result (uncounted task.entry.tries self.new < uncounted task.entry.tries self.old + calls_in task.entry.tries (phase.Asking sent answers)) }
+        ensures acts { ActsIf Q.shows (Q.view port.old) (Q.view port.new) }
     {
         match port.ask(sent.coordinator(), sent.ts) {
             Ok(Asked::Settled(verdict)) => self.learn_own(opened, sent, verdict),

@@ -1,5 +1,7 @@
 //! The first rule: a reply is outstanding.
 
+ghost use Rattle.front_end.specs.Acting.{ActsIf};
+
 use crate::client::Client;
 use item_progress::{News, Opened};
 use message_outbox::At;
@@ -13,7 +15,9 @@ impl Client {
         port: &mut Q,
         opened: &Opened,
         at: At,
-    ) -> Result<News, NoMemory> {
+    ) -> Result<News, NoMemory>
+        ensures acts { ActsIf Q.shows (Q.view port.old) (Q.view port.new) }
+    {
         match self.receive(port, opened, at)? {
             Some(news) => Ok(news),
             None => Ok(News::Nothing),

@@ -1,5 +1,7 @@
 //! The second rule: the client catches up with a repository that refused it.
 
+ghost use Rattle.front_end.specs.Acting.{ActsIf};
+
 use crate::client::Client;
 use client_state::Waits;
 use item_progress::{News, Opened};
@@ -14,7 +16,9 @@ impl Client {
         port: &mut Q,
         opened: &Opened,
         at: At,
-    ) -> Result<News, NoMemory> {
+    ) -> Result<News, NoMemory>
+        ensures acts { ActsIf Q.shows (Q.view port.old) (Q.view port.new) }
+    {
         match self.receive(port, opened, at)? {
             Some(news) => Ok(news),
             None => {

@@ -1,5 +1,7 @@
 //! How a transaction is drawn, sent and decided.
 
+ghost use Rattle.front_end.specs.Acting.{ActsIf};
+
 use crate::client::Client;
 use client_state::{Drew, Phase, Sending, Sent, Transaction};
 use item_progress::{News, Opened};
@@ -16,7 +18,9 @@ impl Client {
         port: &mut Q,
         opened: &Opened,
         transaction: Transaction,
-    ) -> Result<News, NoMemory> {
+    ) -> Result<News, NoMemory>
+        ensures acts { ActsIf Q.shows (Q.view port.old) (Q.view port.new) }
+    {
         let apart = self.held.first_apart(&transaction.participants);
         let coordinator = transaction.coordinator();
         self.set_phase(Phase::Evaluated { transaction });
@@ -27,7 +31,9 @@ impl Client {
     }
 
     /// Draws the evaluated transaction at its coordinator.
-    fn draw<Q: Port>(&mut self, port: &mut Q, coordinator: u8) -> Result<News, NoMemory> {
+    fn draw<Q: Port>(&mut self, port: &mut Q, coordinator: u8) -> Result<News, NoMemory>
+        ensures acts { ActsIf Q.shows (Q.view port.old) (Q.view port.new) }
+    {
         let Some(at) = self.held.at(coordinator) else {
             return Ok(News::Nothing);
         };
@@ -49,7 +55,9 @@ impl Client {
         who: Who,
         ts: Ts,
         mut transaction: Transaction,
-    ) -> Result<News, NoMemory> {
+    ) -> Result<News, NoMemory>
+        ensures acts { ActsIf Q.shows (Q.view port.old) (Q.view port.new) }
+    {
         self.held.names.spend();
         match self.held.next_sending(who, ts, &mut transaction)? {
             Some(sending) => self.send_first(port, opened, ts, transaction, sending),
@@ -64,7 +72,9 @@ impl Client {
         ts: Ts,
         transaction: Transaction,
         sending: Sending,
-    ) -> Result<News, NoMemory> {
+    ) -> Result<News, NoMemory>
+        ensures acts { ActsIf Q.shows (Q.view port.old) (Q.view port.new) }
+    {
         if transaction.participants.len() == 1 {
             return self.commit_one(port, opened, transaction.sent(ts), sending);
         }
@@ -77,7 +87,9 @@ impl Client {
         opened: &Opened,
         sent: Sent,
         sending: Sending,
-    ) -> Result<News, NoMemory> {
+    ) -> Result<News, NoMemory>
+        ensures acts { ActsIf Q.shows (Q.view port.old) (Q.view port.new) }
+    {
         let Sending { at, request } = sending;
         match port.commit_one(at, request) {
             Ok(_) => Ok(self.end_committed(opened, sent)),
@@ -95,7 +107,9 @@ impl Client {
         ts: Ts,
         transaction: Transaction,
         sending: Sending,
-    ) -> Result<News, NoMemory> {
+    ) -> Result<News, NoMemory>
+        ensures acts { ActsIf Q.shows (Q.view port.old) (Q.view port.new) }
+    {
         let Sending { at, request } = sending;
         match port.prepare(at, request) {
             Ok(_) => {
@@ -122,7 +136,9 @@ impl Client {
         transaction: Transaction,
         coordinator: At,
         prepared: Repos,
-    ) -> Result<News, NoMemory> {
+    ) -> Result<News, NoMemory>
+        ensures acts { ActsIf Q.shows (Q.view port.old) (Q.view port.new) }
+    {
         if transaction.shares.is_empty() {
             return self.decide(port, opened, transaction.sent(ts), coordinator);
         }
@@ -137,7 +153,9 @@ impl Client {
         mut transaction: Transaction,
         coordinator: At,
         prepared: Repos,
-    ) -> Result<News, NoMemory> {
+    ) -> Result<News, NoMemory>
+        ensures acts { ActsIf Q.shows (Q.view port.old) (Q.view port.new) }
+    {
         let sending = self.held.next_sending(who, ts, &mut transaction);
         self.set_phase(Phase::Preparing {
             ts,
@@ -152,7 +170,9 @@ impl Client {
     }
 
     /// Has a participant prepare. Where it refuses, the try ends, and its coordinator is to abort.
-    fn prepare<Q: Port>(&mut self, port: &mut Q, sending: Sending) -> Result<News, NoMemory> {
+    fn prepare<Q: Port>(&mut self, port: &mut Q, sending: Sending) -> Result<News, NoMemory>
+        ensures acts { ActsIf Q.shows (Q.view port.old) (Q.view port.new) }
+    {
         let Sending { at, request } = sending;
         match port.prepare(at, request) {
             Ok(_) => {
@@ -170,7 +190,9 @@ impl Client {
         opened: &Opened,
         sent: Sent,
         coordinator: At,
-    ) -> Result<News, NoMemory> {
+    ) -> Result<News, NoMemory>
+        ensures acts { ActsIf Q.shows (Q.view port.old) (Q.view port.new) }
+    {
         match port.decide(coordinator, sent.ts, true) {
             Ok(verdict) => self.learn_own(opened, sent, verdict),
             Err(Refusal::NoMemory) => Err(NoMemory),

@@ -1,5 +1,7 @@
 //! How the transaction of an item is evaluated.
 
+ghost use Rattle.front_end.specs.Acting.{ActsIf};
+
 use crate::client::Client;
 use client_state::{Came, Phase};
 use item_progress::{News, Opened};
@@ -16,7 +18,9 @@ impl Client {
         port: &mut Q,
         opened: &Opened,
         mut run: Paused,
-    ) -> Result<News, NoMemory> {
+    ) -> Result<News, NoMemory>
+        ensures acts { ActsIf Q.shows (Q.view port.old) (Q.view port.new) }
+    {
         let ran = self.held.evaluate(opened, &mut run);
         let awaited = None;
         self.set_phase(Phase::Evaluating { run, awaited });
@@ -29,7 +33,9 @@ impl Client {
         port: &mut Q,
         opened: &Opened,
         ran: Ran,
-    ) -> Result<News, NoMemory> {
+    ) -> Result<News, NoMemory>
+        ensures acts { ActsIf Q.shows (Q.view port.old) (Q.view port.new) }
+    {
         match ran {
             Ran::Done {
                 answer,
@@ -52,7 +58,9 @@ impl Client {
         opened: &Opened,
         oref: Oref,
         owners: Orefs,
-    ) -> Result<News, NoMemory> {
+    ) -> Result<News, NoMemory>
+        ensures acts { ActsIf Q.shows (Q.view port.old) (Q.view port.new) }
+    {
         match self.held.copy_of(oref)? {
             Some(obj) => self.begin_transform(port, opened, oref, obj, owners),
             None => self.fetch_needed(port, opened, oref),
@@ -65,7 +73,9 @@ impl Client {
         port: &mut Q,
         opened: &Opened,
         oref: Oref,
-    ) -> Result<News, NoMemory> {
+    ) -> Result<News, NoMemory>
+        ensures acts { ActsIf Q.shows (Q.view port.old) (Q.view port.new) }
+    {
         if oref.repo >= opened.repos {
             return Ok(self.end_try(Cause::Missing { oref }));
         }
@@ -80,7 +90,9 @@ impl Client {
         port: &mut Q,
         opened: &Opened,
         repo: u8,
-    ) -> Result<News, NoMemory> {
+    ) -> Result<News, NoMemory>
+        ensures acts { ActsIf Q.shows (Q.view port.old) (Q.view port.new) }
+    {
         if repo >= opened.repos {
             let oref = Oref {
                 repo,
@@ -99,7 +111,9 @@ impl Client {
         port: &mut Q,
         opened: &Opened,
         oref: Oref,
-    ) -> Result<Came, NoMemory> {
+    ) -> Result<Came, NoMemory>
+        ensures acts { ActsIf Q.shows (Q.view port.old) (Q.view port.new) }
+    {
         let Some(at) = self.held.at(oref.repo) else {
             return self.join(port, opened, oref.repo);
         };
@@ -112,7 +126,9 @@ impl Client {
         port: &mut Q,
         opened: &Opened,
         repo: u8,
-    ) -> Result<Came, NoMemory> {
+    ) -> Result<Came, NoMemory>
+        ensures acts { ActsIf Q.shows (Q.view port.old) (Q.view port.new) }
+    {
         let Some(at) = self.held.at(repo) else {
             return self.join(port, opened, repo);
         };

@@ -1,6 +1,7 @@
 //! A client of repositories, which goes on by steps.
 
 ghost use Rattle.client_state.specs.Owing.{asking_in};
+ghost use Rattle.front_end.specs.Acting.{ActsIf};
 ghost use Rattle.front_end.specs.Moving.{GoesOn, Keeps, MovesOn, course_of, left_of, standing_of, steps_left, tries_of, uncounted};
 ghost use Rattle.front_end.specs.declared.front_end.Step.TheVariants as step;
 ghost use Rattle.item_progress.specs.Courses.{Goes, IsInOrder};
@@ -81,6 +82,7 @@ impl FrontEnd {
         ensures ended { result ≡ Ok step.Ended → (self.new ≡ self.old) × (length (course_of self.old).ended ≡ (course_of self.old).count) }
         ensures falls { result ≡ Ok step.Moved → Falls (left_of self.old) (left_of self.new) }
         ensures steps { result ≡ Ok step.Moved → steps_left self.new < steps_left self.old }
+        ensures acts { ActsIf Q.shows (Q.view port.old) (Q.view port.new) }
     {
         if self.has_ended() {
             return Ok(Step::Ended);
@@ -103,6 +105,7 @@ impl FrontEnd {
         ensures goes { Goes (course_of self.old) (course_of self.new) }
         ensures each { tries_of self.new ≡ tries_of self.old }
         ensures falls { MovesOn self.old → OnOk result (Falls (left_of self.old) (left_of self.new)) }
+        ensures acts { ActsIf Q.shows (Q.view port.old) (Q.view port.new) }
     {
         match self.client.duties.abort.take() {
             Some(abort) => self.client.abort(port, abort),
@@ -116,6 +119,7 @@ impl FrontEnd {
         ensures goes { Goes (course_of self.old) (course_of self.new) }
         ensures each { tries_of self.new ≡ tries_of self.old }
         ensures falls { GoesOn self.old → OnOk result (Falls (left_of self.old) (left_of self.new)) }
+        ensures acts { ActsIf Q.shows (Q.view port.old) (Q.view port.new) }
     {
         match self.client.next_rule(opened) {
             Rule::Counted { rule } => self.follow_counted(port, opened, rule),
@@ -135,6 +139,7 @@ impl FrontEnd {
         ensures goes { Goes (course_of self.old) (course_of self.new) }
         ensures each { tries_of self.new ≡ tries_of self.old }
         ensures falls { GoesOn self.old → OnOk result (Falls (left_of self.old) (left_of self.new)) }
+        ensures acts { ActsIf Q.shows (Q.view port.old) (Q.view port.new) }
     {
         if !self.count_call() {
             return self.run_out_of_calls(port);
@@ -163,6 +168,7 @@ impl FrontEnd {
         ensures goes { Goes (course_of self.old) (course_of self.new) }
         ensures each { tries_of self.new ≡ tries_of self.old }
         ensures left { OnOk result (NeverRises (standing_of self.old) (standing_of self.new)) }
+        ensures acts { ActsIf Q.shows (Q.view port.old) (Q.view port.new) }
     {
         let task = self.progress.task(opened, self.attempts.each);
         let news = self.client.follow(port, opened, task, rule)?;
@@ -175,6 +181,7 @@ impl FrontEnd {
         ensures goes { Goes (course_of self.old) (course_of self.new) }
         ensures each { tries_of self.new ≡ tries_of self.old }
         ensures falls { IsSome (asking_in self.old.client.phase) → OnOk result (Falls (left_of self.old) (left_of self.new)) }
+        ensures acts { ActsIf Q.shows (Q.view port.old) (Q.view port.new) }
     {
         let task = self.progress.task(opened, self.attempts.each);
         let news = self.client.ask(port, opened, task)?;
@@ -188,6 +195,7 @@ impl FrontEnd {
         ensures goes { Goes (course_of self.old) (course_of self.new) }
         ensures each { tries_of self.new ≡ tries_of self.old }
         ensures falls { GoesOn self.old → OnOk result (Falls (left_of self.old) (left_of self.new)) }
+        ensures acts { ActsIf Q.shows (Q.view port.old) (Q.view port.new) }
     {
         if self.progress.has_ended() {
             return self.client.hand_on(port);
@@ -229,6 +237,7 @@ impl FrontEnd {
     ) -> Result<(), NoMemory>
         ensures goes { Goes (course_of self.old) (course_of self.new) }
         ensures keeps { OnOk result (Keeps (left_of self.old) (left_of self.new)) }
+        ensures acts { ActsIf Q.shows (Q.view port.old) (Q.view port.new) }
     {
         match self.client.held.at(repo) {
             Some(at) => self.receive(port, opened, at),
@@ -241,6 +250,7 @@ impl FrontEnd {
     fn receive<Q: Port>(&mut self, port: &mut Q, opened: &Opened, at: At) -> Result<(), NoMemory>
         ensures goes { Goes (course_of self.old) (course_of self.new) }
         ensures keeps { OnOk result (Keeps (left_of self.old) (left_of self.new)) }
+        ensures acts { ActsIf Q.shows (Q.view port.old) (Q.view port.new) }
     {
         let news = self.client.receive_delivered(port, opened, at)?;
         self.take_down(news)
@@ -261,6 +271,7 @@ impl FrontEnd {
     fn ask_last<Q: Port>(&mut self, port: &mut Q, opened: &Opened, repo: u8) -> Result<(), NoMemory>
         ensures goes { Goes (course_of self.old) (course_of self.new) }
         ensures keeps { OnOk result (Keeps (left_of self.old) (left_of self.new)) }
+        ensures acts { ActsIf Q.shows (Q.view port.old) (Q.view port.new) }
     {
         let news = self.client.ask_last(port, opened, repo)?;
         self.take_down(news)

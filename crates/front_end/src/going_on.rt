@@ -1,5 +1,7 @@
 //! The sixth rule: the try goes on.
 
+ghost use Rattle.front_end.specs.Acting.{ActsIf};
+
 use crate::client::Client;
 use client_state::{Phase, Transaction};
 use item_progress::{News, Opened, Task};
@@ -15,7 +17,9 @@ impl Client {
         port: &mut Q,
         opened: &Opened,
         task: Task<'_>,
-    ) -> Result<News, NoMemory> {
+    ) -> Result<News, NoMemory>
+        ensures acts { ActsIf Q.shows (Q.view port.old) (Q.view port.new) }
+    {
         match self.take_phase() {
             Phase::Between | Phase::Beginning => self.begin(port, opened, task),
             Phase::Evaluating { run, .. } => self.evaluate(port, opened, run),
@@ -51,7 +55,9 @@ impl Client {
         port: &mut Q,
         opened: &Opened,
         task: Task<'_>,
-    ) -> Result<News, NoMemory> {
+    ) -> Result<News, NoMemory>
+        ensures acts { ActsIf Q.shows (Q.view port.old) (Q.view port.new) }
+    {
         let alloc = self.held.alloc;
         match task.what {
             Some(What::Tx(block)) => {

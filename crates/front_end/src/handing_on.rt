@@ -1,6 +1,7 @@
 //! The fifth rule: verdicts are handed on.
 
 ghost use Rattle.client_state.specs.Owing.{calls_of, count_of};
+ghost use Rattle.front_end.specs.Acting.{ActsIf};
 ghost use Rattle.front_end.specs.Moving.{uncounted};
 ghost use Rattle.std.specs.Prelude.{MatchOption, OnOk, [], length, ℕ, ◌+◌, ◌<◌, ◌≡◌};
 
@@ -14,7 +15,8 @@ use validation_window::Refusal;
 impl Client {
     /// Hands on the oldest verdict to its next participant, or has the coordinator forget.
     pub fn hand_on<Q: Port>(&mut self, port: &mut Q) -> Result<(), NoMemory>
-        ensures { 0 < length self.old.duties.verdicts → OnOk result ((tries : ℕ) → uncounted tries self.new < uncounted tries self.old) }
+        ensures owed { 0 < length self.old.duties.verdicts → OnOk result ((tries : ℕ) → uncounted tries self.new < uncounted tries self.old) }
+        ensures acts { ActsIf Q.shows (Q.view port.old) (Q.view port.new) }
     {
         match self.duties.take_first() {
             Some(duty) => self.do_next(port, duty),
@@ -24,7 +26,8 @@ impl Client {
 
     /// Makes the next call of a duty, and keeps what is to be done behind it.
     fn do_next<Q: Port>(&mut self, port: &mut Q, duty: Duty) -> Result<(), NoMemory>
-        ensures { OnOk result ((tries : ℕ) → uncounted tries self.new < uncounted tries self.old + calls_of duty) }
+        ensures owed { OnOk result ((tries : ℕ) → uncounted tries self.new < uncounted tries self.old + calls_of duty) }
+        ensures acts { ActsIf Q.shows (Q.view port.old) (Q.view port.new) }
     {
         match duty {
             Duty::Finish {
@@ -44,7 +47,8 @@ impl Client {
         mut to: Repos,
         forgets: bool,
     ) -> Result<(), NoMemory>
-        ensures { OnOk result ((tries : ℕ) → uncounted tries self.new < uncounted tries self.old + (count_of to + 1)) }
+        ensures owed { OnOk result ((tries : ℕ) → uncounted tries self.new < uncounted tries self.old + (count_of to + 1)) }
+        ensures acts { ActsIf Q.shows (Q.view port.old) (Q.view port.new) }
     {
         match take_next(&mut to) {
             Some(repo) => {
@@ -68,7 +72,9 @@ fn take_next(to: &mut Repos) -> Option<u8>
 }
 
 /// Tells a participant the verdict. It answers whether it has taken it.
-fn tell<Q: Port>(port: &mut Q, repo: u8, verdict: &Verdict) -> Result<bool, NoMemory> {
+fn tell<Q: Port>(port: &mut Q, repo: u8, verdict: &Verdict) -> Result<bool, NoMemory>
+    ensures acts { ActsIf Q.shows (Q.view port.old) (Q.view port.new) }
+{
     match port.finish(repo, verdict) {
         Ok(_) => Ok(true),
         Err(Refusal::NoMemory) => Err(NoMemory),
@@ -77,7 +83,9 @@ fn tell<Q: Port>(port: &mut Q, repo: u8, verdict: &Verdict) -> Result<bool, NoMe
 }
 
 /// Has the coordinator forget a decision. A refusal leaves it there.
-fn forget<Q: Port>(port: &mut Q, ts: Ts) -> Result<(), NoMemory> {
+fn forget<Q: Port>(port: &mut Q, ts: Ts) -> Result<(), NoMemory>
+    ensures acts { ActsIf Q.shows (Q.view port.old) (Q.view port.new) }
+{
     match port.forget(ts.repo, ts) {
         Ok(()) => Ok(()),
         Err(Refusal::NoMemory) => Err(NoMemory),

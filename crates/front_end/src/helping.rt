@@ -1,5 +1,7 @@
 //! The third rule: the client helps on a transaction that stood against its request.
 
+ghost use Rattle.front_end.specs.Acting.{ActsIf};
+
 use crate::client::Client;
 use client_state::Helping;
 use item_progress::{Learnt, News, Opened};
@@ -15,7 +17,9 @@ impl Client {
         port: &mut Q,
         opened: &Opened,
         helping: Helping,
-    ) -> Result<News, NoMemory> {
+    ) -> Result<News, NoMemory>
+        ensures acts { ActsIf Q.shows (Q.view port.old) (Q.view port.new) }
+    {
         self.duties.helping = None;
         match helping {
             Helping::Ask { ts, refuser } => self.ask_about(port, opened, ts, refuser),
@@ -34,7 +38,9 @@ impl Client {
         opened: &Opened,
         ts: Ts,
         refuser: u8,
-    ) -> Result<News, NoMemory> {
+    ) -> Result<News, NoMemory>
+        ensures acts { ActsIf Q.shows (Q.view port.old) (Q.view port.new) }
+    {
         if ts.repo >= opened.repos {
             return Ok(News::Nothing);
         }
@@ -54,7 +60,9 @@ impl Client {
 }
 
 /// Hands a verdict to a repository. A refusal leaves it to whoever asks later.
-fn finish<Q: Port>(port: &mut Q, verdict: Verdict, repo: u8) -> Result<(), NoMemory> {
+fn finish<Q: Port>(port: &mut Q, verdict: Verdict, repo: u8) -> Result<(), NoMemory>
+    ensures acts { ActsIf Q.shows (Q.view port.old) (Q.view port.new) }
+{
     match port.finish(repo, &verdict) {
         Ok(_) => Ok(()),
         Err(Refusal::NoMemory) => Err(NoMemory),

@@ -1,5 +1,7 @@
 //! How a session begins where a try needs one.
 
+ghost use Rattle.front_end.specs.Acting.{ActsIf};
+
 use crate::client::Client;
 use client_state::{Came, cause_of};
 use item_progress::{News, Opened};
@@ -14,7 +16,9 @@ impl Client {
         port: &mut Q,
         opened: &Opened,
         repo: u8,
-    ) -> Result<News, NoMemory> {
+    ) -> Result<News, NoMemory>
+        ensures acts { ActsIf Q.shows (Q.view port.old) (Q.view port.new) }
+    {
         let came = self.join(port, opened, repo)?;
         Ok(self.go_behind(came))
     }
@@ -26,7 +30,9 @@ impl Client {
         port: &mut Q,
         opened: &Opened,
         repo: u8,
-    ) -> Result<Came, NoMemory> {
+    ) -> Result<Came, NoMemory>
+        ensures acts { ActsIf Q.shows (Q.view port.old) (Q.view port.new) }
+    {
         match self.held.unsettled(repo) {
             Some(ts) => self.ask_before(port, opened, repo, ts),
             None => self.held.connect(port, opened, repo),
@@ -41,7 +47,9 @@ impl Client {
         opened: &Opened,
         repo: u8,
         ts: Ts,
-    ) -> Result<Came, NoMemory> {
+    ) -> Result<Came, NoMemory>
+        ensures acts { ActsIf Q.shows (Q.view port.old) (Q.view port.new) }
+    {
         match port.ask(repo, ts) {
             Ok(Asked::Settled(verdict)) => {
                 match self.learn_verdict(opened, repo, verdict)? {

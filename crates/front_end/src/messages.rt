@@ -1,5 +1,6 @@
 //! What a client does with the messages of a repository.
 
+ghost use Rattle.front_end.specs.Acting.{ActsIf};
 ghost use Rattle.front_end.specs.Moving.{uncounted};
 ghost use Rattle.std.specs.Prelude.{OnOk, ℕ, ◌≤◌};
 
@@ -27,7 +28,9 @@ impl Client {
         port: &mut Q,
         opened: &Opened,
         at: At,
-    ) -> Result<Option<News>, NoMemory> {
+    ) -> Result<Option<News>, NoMemory>
+        ensures acts { ActsIf Q.shows (Q.view port.old) (Q.view port.new) }
+    {
         match self.held.receive(port, at) {
             Ok(Some(message)) => Ok(Some(self.take(opened, at.repo, message)?)),
             Ok(None) => Ok(None),
@@ -49,7 +52,8 @@ impl Client {
         opened: &Opened,
         at: At,
     ) -> Result<News, NoMemory>
-        ensures { OnOk result ((tries : ℕ) → uncounted tries self.new ≤ uncounted tries self.old) }
+        ensures owed { OnOk result ((tries : ℕ) → uncounted tries self.new ≤ uncounted tries self.old) }
+        ensures acts { ActsIf Q.shows (Q.view port.old) (Q.view port.new) }
     {
         match self.held.receive(port, at) {
             Ok(Some(message)) => self.take(opened, at.repo, message),

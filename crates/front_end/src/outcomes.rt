@@ -1,5 +1,6 @@
 //! What becomes of items whose verdict is known.
 
+ghost use Rattle.front_end.specs.Acting.{ActsIf};
 ghost use Rattle.item_progress.specs.Courses.{is_committed};
 ghost use Rattle.std.specs.Prelude.{◌≡◌, IfOk, IfSome};
 
@@ -80,7 +81,8 @@ impl Client {
         opened: &Opened,
         repo: u8,
     ) -> Result<News, NoMemory>
-        ensures { self.new ≡ record self.old { held = self.new.held } }
+        ensures rest { self.new ≡ record self.old { held = self.new.held } }
+        ensures acts { ActsIf Q.shows (Q.view port.old) (Q.view port.new) }
     {
         let (sent, index) = match self.held.take_link(repo) {
             Link::Unsettled { sent, index } => (sent, index),

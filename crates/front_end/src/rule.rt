@@ -1,5 +1,6 @@
 //! Which rule a step follows.
 
+ghost use Rattle.front_end.specs.Acting.{ActsIf};
 ghost use Rattle.client_state.specs.Owing.{asking_in};
 ghost use Rattle.front_end.specs.Rules.{asks, hands_on};
 ghost use Rattle.std.specs.Prelude.{IsSome, length, true, ◌<◌, ◌≡◌};
@@ -79,7 +80,9 @@ impl Client {
         opened: &Opened,
         task: Task<'_>,
         rule: Counted,
-    ) -> Result<News, NoMemory> {
+    ) -> Result<News, NoMemory>
+        ensures acts { ActsIf Q.shows (Q.view port.old) (Q.view port.new) }
+    {
         match rule {
             Counted::Await { at } => self.await_reply(port, opened, at),
             Counted::CatchUp { at } => self.catch_up(port, opened, at),

@@ -2,6 +2,8 @@
 //!
 //! Lazy transforms are those of Boyapati and others (OOPSLA 2003).
 
+ghost use Rattle.front_end.specs.Acting.{ActsIf};
+
 use crate::client::Client;
 use client_state::{Becomes, Drew, Phase, Transform};
 use commit_log::Request;
@@ -22,7 +24,9 @@ impl Client {
         oref: Oref,
         obj: Obj,
         owners: Orefs,
-    ) -> Result<News, NoMemory> {
+    ) -> Result<News, NoMemory>
+        ensures acts { ActsIf Q.shows (Q.view port.old) (Q.view port.new) }
+    {
         self.held.undo();
         self.held.cache.bring_forward(oref);
         let epoch = self.held.epoch(opened);
@@ -37,7 +41,9 @@ impl Client {
         opened: &Opened,
         run: Paused,
         transform: Transform,
-    ) -> Result<News, NoMemory> {
+    ) -> Result<News, NoMemory>
+        ensures acts { ActsIf Q.shows (Q.view port.old) (Q.view port.new) }
+    {
         let awaited = None;
         self.set_phase(Phase::Evaluating { run, awaited });
         match transform.into_drawn() {
@@ -53,7 +59,9 @@ impl Client {
         port: &mut Q,
         opened: &Opened,
         mut transform: Transform,
-    ) -> Result<News, NoMemory> {
+    ) -> Result<News, NoMemory>
+        ensures acts { ActsIf Q.shows (Q.view port.old) (Q.view port.new) }
+    {
         match self.held.collect(opened, &mut transform)? {
             Wanted::All(reads) => self.draw_transform(port, opened, transform, &reads),
             Wanted::Part(part) => {
@@ -76,7 +84,9 @@ impl Client {
         opened: &Opened,
         transform: Transform,
         reads: &Orefs,
-    ) -> Result<News, NoMemory> {
+    ) -> Result<News, NoMemory>
+        ensures acts { ActsIf Q.shows (Q.view port.old) (Q.view port.new) }
+    {
         let repo = transform.oref.repo;
         match self.held.at(repo) {
             Some(at) => {
@@ -97,7 +107,9 @@ impl Client {
         port: &mut Q,
         at: At,
         becomes: Becomes,
-    ) -> Result<News, NoMemory> {
+    ) -> Result<News, NoMemory>
+        ensures acts { ActsIf Q.shows (Q.view port.old) (Q.view port.new) }
+    {
         match self.held.draw(port, at)? {
             Drew::Ts(ts) => {
                 self.phase.draw_transform(ts, becomes);
@@ -112,7 +124,9 @@ impl Client {
         port: &mut Q,
         ts: Ts,
         becomes: Becomes,
-    ) -> Result<News, NoMemory> {
+    ) -> Result<News, NoMemory>
+        ensures acts { ActsIf Q.shows (Q.view port.old) (Q.view port.new) }
+    {
         let oref = becomes.oref;
         match self.held.at(oref.repo) {
             Some(at) => {
@@ -134,7 +148,9 @@ impl Client {
         request: Request,
         oref: Oref,
         made: Obj,
-    ) -> Result<News, NoMemory> {
+    ) -> Result<News, NoMemory>
+        ensures acts { ActsIf Q.shows (Q.view port.old) (Q.view port.new) }
+    {
         match port.commit_one(at, request) {
             Ok(_) => self.end_transform(ts, oref, made),
             Err(refusal) => self.refuse_transform(at, ts, refusal),

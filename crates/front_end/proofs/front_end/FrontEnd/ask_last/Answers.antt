@@ -3,4 +3,4 @@ use Rattle.front_end.proofs.front_end.FrontEnd.ask_last.Goals as goal
 use Rattle.std.proofs.lemmas.Result.{on_ok_weaker}
 
 pub returns-clause-keeps : goal.returns-clause-keeps
-returns-clause-keeps g c = on_ok_weaker c.take_down.result (λ never. keeps_behind c.args.self.now c.take_down.new.self c.ask_last.new.self never c.take_down.ensures.each c.take_down.ensures.uncounted (nothing_owed c.args.self.now.client c.ask_last.new.self c.ask_last.ensures)) c.take_down.ensures.left
+returns-clause-keeps g c = on_ok_weaker c.take_down.result (λ never. keeps_behind c.args.self.now c.take_down.new.self c.ask_last.new.self never c.take_down.ensures.each c.take_down.ensures.uncounted (nothing_owed c.args.self.now.client c.ask_last.new.self c.ask_last.ensures.rest)) c.take_down.ensures.left

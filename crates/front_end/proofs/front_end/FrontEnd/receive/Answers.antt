@@ -3,4 +3,4 @@ use Rattle.front_end.proofs.front_end.FrontEnd.receive.Goals as goal
 use Rattle.std.proofs.lemmas.Result.{on_ok_weaker}
 
 pub returns-clause-keeps : goal.returns-clause-keeps
-returns-clause-keeps g c = on_ok_weaker c.take_down.result (λ never. keeps_behind c.args.self.now c.take_down.new.self c.receive_delivered.new.self never c.take_down.ensures.each c.take_down.ensures.uncounted c.in_ok-news.ensures) c.take_down.ensures.left
+returns-clause-keeps g c = on_ok_weaker c.take_down.result (λ never. keeps_behind c.args.self.now c.take_down.new.self c.receive_delivered.new.self never c.take_down.ensures.each c.take_down.ensures.uncounted c.in_ok-news.ensures.owed) c.take_down.ensures.left

@@ -1,0 +1,11 @@
+use Rattle.front_end.proofs.Acting.{by_ask}
+use Rattle.front_end.proofs.client.Client.ask_coordinator.Goals as goal
+
+pub returns-in-Ok-Settled-clause-acts : goal.returns-in-Ok-Settled-clause-acts
+returns-in-Ok-Settled-clause-acts g c = by_ask _ _ _ _ _ _ c.ask.ensures.call
+
+pub returns-in-Err-NoMemory-clause-acts : goal.returns-in-Err-NoMemory-clause-acts
+returns-in-Err-NoMemory-clause-acts g c = by_ask _ _ _ _ _ _ c.ask.ensures.call
+
+pub returns-in-Ok-Undecided-clause-acts : goal.returns-in-Ok-Undecided-clause-acts
+returns-in-Ok-Undecided-clause-acts g c = by_ask _ _ _ _ _ _ c.ask.ensures.call

@@ -1,0 +1,17 @@
+use Rattle.front_end.proofs.Acting.{by_receive}
+use Rattle.front_end.proofs.client.Client.receive_delivered.Goals as goal
+
+pub returns-in-Ok-Some-clause-acts : goal.returns-in-Ok-Some-clause-acts
+returns-in-Ok-Some-clause-acts g c = by_receive _ _ _ _ _ _ c.receive.ensures.call
+
+pub returns-in-Ok-None-clause-acts : goal.returns-in-Ok-None-clause-acts
+returns-in-Ok-None-clause-acts g c = by_receive _ _ _ _ _ _ c.receive.ensures.call
+
+pub returns-in-Err-Reason-Gone-clause-acts : goal.returns-in-Err-Reason-Gone-clause-acts
+returns-in-Err-Reason-Gone-clause-acts g c = by_receive _ _ _ _ _ _ c.receive.ensures.call
+
+pub returns-in-Err-NoMemory-clause-acts : goal.returns-in-Err-NoMemory-clause-acts
+returns-in-Err-NoMemory-clause-acts g c = by_receive _ _ _ _ _ _ c.receive.ensures.call
+
+pub returns-in-Err-clause-acts : goal.returns-in-Err-clause-acts
+returns-in-Err-clause-acts g c = by_receive _ _ _ _ _ _ c.receive.ensures.call
