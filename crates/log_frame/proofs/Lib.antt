@@ -5,5 +5,6 @@ pub mod Tears
 pub mod Appends
 pub mod AppendRuns
 pub mod LogAppends
+pub mod Stills
 pub mod Formats
 pub mod FormatRuns

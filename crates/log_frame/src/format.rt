@@ -26,7 +26,7 @@ pub(crate) fn spell_header(alloc: Global, sequence: u64, head: &[u8]) -> Result<
 }
 
 /// What is known of a disk's header before a new log is written over it.
-#[derive(Clone, Copy, Debug, PartialEq, Eq)]
+#[derive(Clone, Copy, PartialEq, Eq)]
 enum Header {
     /// Its gate stands there and isn't open.
     Shut,
@@ -35,7 +35,7 @@ enum Header {
 }
 
 /// Looks at a disk's header: `len`, and a read of the first byte where two stand there.
-#[tactic(auto, using(disk_trait::proofs::Runs::alone_then, disk_trait::proofs::Runs::still_none, disk_trait::proofs::Runs::still_call))]
+#[tactic(auto, using(disk_trait::proofs::Runs::alone_then, disk_trait::proofs::Runs::still_none, disk_trait::proofs::Runs::still_call, crate::proofs::Stills::call_then_still))]
 fn look<P: Parts>(parts: &mut P, disk: u8) -> Result<Header, LogFault>
     requires { disk < 3 }
     ensures alone { OnDisk (P.disks parts.old) (P.disks parts.new) disk }
@@ -50,6 +50,23 @@ fn look<P: Parts>(parts: &mut P, disk: u8) -> Result<Header, LogFault>
     if parts.len(disk)? < 2 {
         return Ok(Header::OpenOrShort);
     }
+    look_at_gate(parts, disk)
+}
+
+/// Looks at a disk's header by its first byte.
+#[tactic(auto, using(disk_trait::proofs::Runs::still_none, disk_trait::proofs::Runs::still_call))]
+fn look_at_gate<P: Parts>(parts: &mut P, disk: u8) -> Result<Header, LogFault>
+    requires there { disk < 3 }
+    requires two { WhereTold (P.disks parts.old) disk (λ bytes. 2 ≤ length bytes) }
+    ensures alone { OnDisk (P.disks parts.old) (P.disks parts.new) disk }
+    ensures content { (P.disks parts.new).content disk ≡ (P.disks parts.old).content disk }
+    ensures crash { NoNewImage (P.disks parts.old) (P.disks parts.new) disk }
+    ensures still { Leaves (P.disks parts.old) (P.disks parts.new) disk (MayLeave (P.disks parts.old) disk) }
+    ensures shut { result ≡ Ok Shut → WhereTold (P.disks parts.old) disk IsShut }
+    ensures open { result ≡ Ok OpenOrShort → WhereTold (P.disks parts.old) disk MayBeOpen }
+    ensures damaged { (place : ℕ) → IsErrOf result (Damaged place) → ⊥ }
+    ensures failed { IsErrOf result Failed → Rose ((P.disks parts.old).faults disk) ((P.disks parts.new).faults disk) }
+{
     let mut gate = [CLOSED];
     parts.read_at(disk, 0, &mut gate)?;
     if gate[0] == OPEN {

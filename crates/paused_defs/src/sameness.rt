@@ -38,9 +38,13 @@ fn is_place(at: Option<At>, other: Option<At>) -> bool
         Some(at) => match other {
             None => false,
             Some(same) => {
-                at.line == same.line
-                    && at.number == same.number
-                    && at.number_line == same.number_line
+                if at.line != same.line {
+                    return false;
+                }
+                if at.number != same.number {
+                    return false;
+                }
+                at.number_line == same.number_line
             }
         },
     }
@@ -78,7 +82,12 @@ pub fn is_expr(node: &ExprNode, expr: &Expr) -> bool
             Expr::Int {
                 value: same,
                 line: at,
-            } => *value == *same && *line == *at,
+            } => {
+                if *line != *at {
+                    return false;
+                }
+                *value == *same
+            }
             _ => false,
         },
         ExprNode::Null { line } => match expr {
@@ -101,21 +110,36 @@ pub fn is_expr(node: &ExprNode, expr: &Expr) -> bool
             Expr::New {
                 class: same,
                 at: place,
-            } => is_name(class, *line, same) && is_place(*at, *place),
+            } => {
+                if !is_name(class, *line, same) {
+                    return false;
+                }
+                is_place(*at, *place)
+            }
             _ => false,
         },
         ExprNode::Parens { inner, line, .. } => match expr {
             Expr::Parens {
                 inner: same,
                 line: at,
-            } => *line == *at && is_expr(inner.get(), same.get()),
+            } => {
+                if *line != *at {
+                    return false;
+                }
+                is_expr(inner.get(), same.get())
+            }
             _ => false,
         },
         ExprNode::Negate { operand, line, .. } => match expr {
             Expr::Negate {
                 operand: same,
                 line: at,
-            } => *line == *at && is_expr(operand.get(), same.get()),
+            } => {
+                if *line != *at {
+                    return false;
+                }
+                is_expr(operand.get(), same.get())
+            }
             _ => false,
         },
         ExprNode::Binary {
@@ -131,10 +155,16 @@ pub fn is_expr(node: &ExprNode, expr: &Expr) -> bool
                 right: second,
                 line: at,
             } => {
-                *operator == *same
-                    && *line == *at
-                    && is_expr(left.get(), first.get())
-                    && is_expr(right.get(), second.get())
+                if *operator != *same {
+                    return false;
+                }
+                if *line != *at {
+                    return false;
+                }
+                if !is_expr(left.get(), first.get()) {
+                    return false;
+                }
+                is_expr(right.get(), second.get())
             }
             _ => false,
         },
@@ -150,9 +180,13 @@ pub fn is_expr(node: &ExprNode, expr: &Expr) -> bool
                 method: same,
                 arguments: others,
             } => {
-                is_name(method, *line, same)
-                    && is_expr(receiver.get(), target.get())
-                    && are_exprs(arguments.get(), others)
+                if !is_name(method, *line, same) {
+                    return false;
+                }
+                if !is_expr(receiver.get(), target.get()) {
+                    return false;
+                }
+                are_exprs(arguments.get(), others)
             }
             _ => false,
         },
@@ -199,10 +233,16 @@ fn is_stmt(node: &StmtNode, stmt: &Stmt) -> bool
                 line: at,
                 value: other,
             } => {
-                is_type(type_name, kind)
-                    && is_name(name, *name_line, same)
-                    && *line == *at
-                    && is_expr(value.get(), other)
+                if !is_type(type_name, kind) {
+                    return false;
+                }
+                if !is_name(name, *name_line, same) {
+                    return false;
+                }
+                if *line != *at {
+                    return false;
+                }
+                is_expr(value.get(), other)
             }
             _ => false,
         },
@@ -216,7 +256,15 @@ fn is_stmt(node: &StmtNode, stmt: &Stmt) -> bool
                 name: same,
                 line: at,
                 value: other,
-            } => is_name(name, *name_line, same) && *line == *at && is_expr(value.get(), other),
+            } => {
+                if !is_name(name, *name_line, same) {
+                    return false;
+                }
+                if *line != *at {
+                    return false;
+                }
+                is_expr(value.get(), other)
+            }
             _ => false,
         },
         StmtNode::FieldAssign {
@@ -229,7 +277,15 @@ fn is_stmt(node: &StmtNode, stmt: &Stmt) -> bool
                 field: same,
                 line: at,
                 value: other,
-            } => is_name(field, *field_line, same) && *line == *at && is_expr(value.get(), other),
+            } => {
+                if !is_name(field, *field_line, same) {
+                    return false;
+                }
+                if *line != *at {
+                    return false;
+                }
+                is_expr(value.get(), other)
+            }
             _ => false,
         },
         StmtNode::Return { value } => match stmt {
@@ -240,7 +296,12 @@ fn is_stmt(node: &StmtNode, stmt: &Stmt) -> bool
             Stmt::If {
                 condition: same,
                 then: block,
-            } => is_expr(condition.get(), same) && are_stmts(then.get(), block),
+            } => {
+                if !is_expr(condition.get(), same) {
+                    return false;
+                }
+                are_stmts(then.get(), block)
+            }
             _ => false,
         },
         StmtNode::IfElse {
@@ -253,9 +314,13 @@ fn is_stmt(node: &StmtNode, stmt: &Stmt) -> bool
                 then: block,
                 otherwise: other,
             } => {
-                is_expr(condition.get(), same)
-                    && are_stmts(then.get(), block)
-                    && are_stmts(otherwise.get(), other)
+                if !is_expr(condition.get(), same) {
+                    return false;
+                }
+                if !are_stmts(then.get(), block) {
+                    return false;
+                }
+                are_stmts(otherwise.get(), other)
             }
             _ => false,
         },
@@ -263,7 +328,12 @@ fn is_stmt(node: &StmtNode, stmt: &Stmt) -> bool
             Stmt::While {
                 condition: same,
                 body: block,
-            } => is_expr(condition.get(), same) && are_stmts(body.get(), block),
+            } => {
+                if !is_expr(condition.get(), same) {
+                    return false;
+                }
+                are_stmts(body.get(), block)
+            }
             _ => false,
         },
         StmtNode::Print { value } => match stmt {
