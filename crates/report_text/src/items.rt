@@ -2,10 +2,10 @@ ghost use Rattle.std.specs.Prelude.{◌≡◌, ◌++◌, ◌<◌, ◌^◌, OnOk}
 ghost use Rattle.std.specs.String.{string_bytes};
 ghost use Rattle.report_text.specs.Fits.{FitsInts, FitsOutcome};
 ghost use Rattle.report_text.specs.Lines.{spaced_words};
-ghost use Rattle.report_text.specs.Report.{values_words, upgrade_words, outcome_words, item_line};
+ghost use Rattle.report_text.specs.Report.{values_words, try_words, upgrade_words, outcome_words, item_line};
 ghost use Rattle.report_text.specs.Shown.{FitsItem};
 
-use crate::words::{fault_name, print_cause, print_ts, print_who};
+use crate::words::{fault_name, print_cause, print_who, print_with_ts, print_word};
 use serial_model::{Ended, ItemOutcome};
 use std::fmt::Write;
 use thor_value::NoMemory;
@@ -35,6 +35,14 @@ pub fn print_upgrade(out: &mut String, number: u32) -> Result<(), NoMemory>
     Ok(())
 }
 
+/// Prints ` try` and the number of the last try behind a space.
+fn print_tries(out: &mut String, tries: u32) -> Result<(), NoMemory>
+    ensures { OnOk result (string_bytes out.new ≡ string_bytes out.old ++ spaced_words (try_words tries)) }
+{
+    write!(out, " try {tries}")?;
+    Ok(())
+}
+
 /// Prints how an item ended, each word behind a space.
 #[tactic(auto, using(std::proofs::Common::append_assoc), unfolding(crate::specs::Report::outcome_words))]
 fn print_outcome(out: &mut String, tries: u32, outcome: &ItemOutcome) -> Result<(), NoMemory>
@@ -44,33 +52,26 @@ fn print_outcome(out: &mut String, tries: u32, outcome: &ItemOutcome) -> Result<
 {
     match outcome {
         ItemOutcome::Done { ts, answer } => {
-            out.push_str(" Done ")?;
-            print_ts(out, *ts)?;
-            write!(out, " try {tries}")?;
+            print_with_ts(out, "Done", *ts)?;
+            print_tries(out, tries)?;
             print_values(out, answer.as_slice())
         }
         ItemOutcome::Upgraded { ts, number } => {
-            out.push_str(" Done ")?;
-            print_ts(out, *ts)?;
-            write!(out, " try {tries}")?;
+            print_with_ts(out, "Done", *ts)?;
+            print_tries(out, tries)?;
             print_upgrade(out, *number)
         }
         ItemOutcome::Faulted { ts, fault } => {
-            write!(out, " Faulted {} ", fault_name(*fault))?;
-            print_ts(out, *ts)?;
-            write!(out, " try {tries}")?;
-            Ok(())
+            print_word(out, "Faulted")?;
+            print_with_ts(out, fault_name(*fault), *ts)?;
+            print_tries(out, tries)
         }
         ItemOutcome::Refused { cause } => {
-            out.push_str(" Refused")?;
+            print_word(out, "Refused")?;
             print_cause(out, *cause)?;
-            write!(out, " try {tries}")?;
-            Ok(())
+            print_tries(out, tries)
         }
-        ItemOutcome::Unknown { tx } => {
-            out.push_str(" Unknown ")?;
-            print_ts(out, *tx)
-        }
+        ItemOutcome::Unknown { tx } => { print_with_ts(out, "Unknown", *tx) }
     }
 }
 

@@ -1,4 +1,5 @@
-ghost use Rattle.std.specs.Prelude.{◌≡◌, ◌++◌, OnOk};
+ghost use Rattle.std.specs.Prelude.{◌≡◌, ◌++◌, ◌<◌, ◌^◌, OnOk};
+ghost use Rattle.std.specs.Fmt.{decimal};
 ghost use Rattle.std.specs.String.{string_bytes};
 ghost use Rattle.report_text.specs.Fits.{FitsCause, FitsOref, FitsTs, FitsWho};
 ghost use Rattle.report_text.specs.Lines.{spaced, spaced_words};
@@ -52,13 +53,50 @@ pub fn fault_name(fault: Fault) -> &'static str
 }
 
 /// Prints a word and a timestamp, each behind a space.
-fn print_with_ts(out: &mut String, word: &str, ts: Ts) -> Result<(), NoMemory>
+pub fn print_with_ts(out: &mut String, word: &str, ts: Ts) -> Result<(), NoMemory>
     ensures text { OnOk result
         (string_bytes out.new ≡ string_bytes out.old ++ (spaced word.now ++ spaced (ts_word ts))) }
     ensures fits { OnOk result (FitsTs ts) }
 {
     write!(out, " {word} ")?;
     print_ts(out, ts)
+}
+
+/// Prints a word and a name, each behind a space.
+fn print_with_oref(out: &mut String, word: &str, oref: Oref) -> Result<(), NoMemory>
+    ensures text { OnOk result
+        (string_bytes out.new ≡ string_bytes out.old ++ (spaced word.now ++ spaced (oref_word oref))) }
+    ensures fits { OnOk result (FitsOref oref) }
+{
+    write!(out, " {word}")?;
+    print_oref(out, oref)
+}
+
+/// Prints a word and a number, each behind a space.
+fn print_with_number(out: &mut String, word: &str, number: u64) -> Result<(), NoMemory>
+    ensures text { OnOk result
+        (string_bytes out.new ≡ string_bytes out.old ++ (spaced word.now ++ spaced (decimal number))) }
+    ensures fits { OnOk result (number < 2 ^ 64) }
+{
+    write!(out, " {word} {number}")?;
+    Ok(())
+}
+
+/// Prints a number behind a space.
+fn print_number(out: &mut String, number: u64) -> Result<(), NoMemory>
+    ensures text { OnOk result (string_bytes out.new ≡ string_bytes out.old ++ spaced (decimal number)) }
+    ensures fits { OnOk result (number < 2 ^ 64) }
+{
+    write!(out, " {number}")?;
+    Ok(())
+}
+
+/// Prints a word behind a space.
+pub fn print_word(out: &mut String, word: &str) -> Result<(), NoMemory>
+    ensures { OnOk result (string_bytes out.new ≡ string_bytes out.old ++ spaced word.now) }
+{
+    write!(out, " {word}")?;
+    Ok(())
 }
 
 /// Prints a cause and what it names, each word behind a space.
@@ -70,30 +108,27 @@ pub fn print_cause(out: &mut String, cause: Cause) -> Result<(), NoMemory>
 {
     match cause {
         Cause::Reason(Reason::Stale { oref, place }) => {
-            out.push_str(" Stale")?;
-            print_oref(out, oref)?;
-            write!(out, " {place}")?;
+            print_with_oref(out, "Stale", oref)?;
+            print_number(out, place)
         }
         Cause::Reason(Reason::Earlier { tx, oref }) => {
             print_with_ts(out, "Earlier", tx)?;
-            print_oref(out, oref)?;
+            print_oref(out, oref)
         }
         Cause::Reason(Reason::Later { tx, oref }) => {
             print_with_ts(out, "Later", tx)?;
-            print_oref(out, oref)?;
+            print_oref(out, oref)
         }
-        Cause::Reason(Reason::TooOld { threshold }) => print_with_ts(out, "TooOld", threshold)?,
-        Cause::Reason(Reason::Epoch { n }) => write!(out, " Epoch {n}")?,
-        Cause::Reason(Reason::Blocked { tx }) => print_with_ts(out, "Blocked", tx)?,
-        Cause::Reason(Reason::Gone { session }) => write!(out, " Gone {session}")?,
-        Cause::Missing { oref } => {
-            out.push_str(" Missing")?;
-            print_oref(out, oref)?;
+        Cause::Reason(Reason::TooOld { threshold }) => print_with_ts(out, "TooOld", threshold),
+        Cause::Reason(Reason::Epoch { n }) => print_with_number(out, "Epoch", u64::from(n)),
+        Cause::Reason(Reason::Blocked { tx }) => print_with_ts(out, "Blocked", tx),
+        Cause::Reason(Reason::Gone { session }) => {
+            print_with_number(out, "Gone", u64::from(session))
         }
-        Cause::Down { repo } => write!(out, " Down {repo}")?,
-        Cause::Reason(Reason::Full { limit }) => write!(out, " Full {limit}")?,
-        Cause::Reason(Reason::ClockEnd) => out.push_str(" ClockEnd")?,
-        Cause::Calls => out.push_str(" Calls")?,
+        Cause::Missing { oref } => print_with_oref(out, "Missing", oref),
+        Cause::Down { repo } => print_with_number(out, "Down", u64::from(repo)),
+        Cause::Reason(Reason::Full { limit }) => print_with_number(out, "Full", u64::from(limit)),
+        Cause::Reason(Reason::ClockEnd) => print_word(out, "ClockEnd"),
+        Cause::Calls => print_word(out, "Calls"),
     }
-    Ok(())
 }
