@@ -9,17 +9,27 @@ ghost use Rattle.page_format.specs.Sides.{SidesFit};
 ghost use Rattle.state_log.specs.Values.{writes_if};
 ghost use Rattle.thor_value.specs.FiniteMap.{get};
 ghost use Rattle.two_phase.specs.Contents.{finished, open_at};
-ghost use Rattle.two_phase.specs.Lists.{aborted_of};
+ghost use Rattle.two_phase.specs.Lists.{aborted_of, kept_decisions, open_requests};
 
 use crate::spelling::copy_of;
 use crate::writes::{are_of, later_of, page_behind};
 use class_defs::Roots;
 use commit_log::{Entry, Kind, Request};
-use log_bytes::State;
+use log_bytes::{Alones, Requests, State};
 use mob_flusher::ObjectStore;
+use page_format::Sides;
 use std::alloc::Global;
-use thor_value::{NoMemory, Text, Texts, TryCopy, Ts};
+use thor_value::{NoMemory, Stamps, Text, Texts, TryCopy, Ts, Writes, both};
 use two_phase::Table;
+
+/// The classes, the roots and the upgrades of a state.
+type Declared = (Text, Roots, Texts);
+
+/// The sides in use and the buffered objects of a state.
+type Stored = (Sides, Writes);
+
+/// The open requests of a state, the decisions that are kept, and the last commits of clients alone.
+type Standing = (Requests, Stamps, Alones);
 
 /// What is kept in memory of a log's state, and the page that is granted next.
 #[derive(Drop)]
@@ -203,8 +213,11 @@ impl Held {
         ensures distinct { OnOk result (AreDistinct self.now.objects.mob.objects) }
         ensures sides { OnOk result (SidesFit self.now.objects.pages.sides) }
     {
-        let sides = self.objects.pages().sides();
-        let _ = sides.as_slice();
+        let declared = self.declared()?;
+        let (declared, stored) = both(declared, self.stored(alloc))?;
+        let (held, standing) = both((declared, stored), self.standing(alloc))?;
+        let ((classes, roots, upgrades), (installed, mob)) = held;
+        let (prepared, kept, alone) = standing;
         Ok(State {
             format: 1,
             repo: self.repo,
@@ -213,14 +226,42 @@ impl Held {
             count: self.count,
             threshold: self.threshold,
             next_page: self.next_grant,
-            classes: self.classes.copy()?,
-            roots: self.roots.copy()?,
-            upgrades: self.upgrades.copy()?,
-            installed: sides.copy()?,
-            mob: copy_of(alloc, self.objects.mob())?,
-            prepared: self.table.open_requests(alloc)?,
-            kept: self.table.kept_decisions(alloc)?,
-            alone: self.table.single_commits(alloc)?,
+            classes,
+            roots,
+            upgrades,
+            installed,
+            mob,
+            prepared,
+            kept,
+            alone,
         })
+    }
+
+    fn declared(&self) -> Result<Declared, NoMemory>
+        ensures { IfOk result (λ declared. declared ≡ (self.now.classes, self.now.roots, self.now.upgrades)) }
+    {
+        let classes = self.classes.copy()?;
+        let (classes, roots) = both(classes, self.roots.copy())?;
+        let ((classes, roots), upgrades) = both((classes, roots), self.upgrades.copy())?;
+        Ok((classes, roots, upgrades))
+    }
+
+    fn stored(&self, alloc: Global) -> Result<Stored, NoMemory>
+        ensures stored { IfOk result (λ stored. stored ≡ (self.now.objects.pages.sides, self.now.objects.mob.objects)) }
+        ensures distinct { OnOk result (AreDistinct self.now.objects.mob.objects) }
+        ensures sides { OnOk result (SidesFit self.now.objects.pages.sides) }
+    {
+        let sides = self.objects.pages().sides();
+        let _ = sides.as_slice();
+        both(sides.copy()?, copy_of(alloc, self.objects.mob()))
+    }
+
+    fn standing(&self, alloc: Global) -> Result<Standing, NoMemory>
+        ensures { IfOk result (λ standing. standing ≡ (open_requests self.now.table, kept_decisions self.now.table, self.now.table.alone.pairs)) }
+    {
+        let prepared = self.table.open_requests(alloc)?;
+        let (prepared, kept) = both(prepared, self.table.kept_decisions(alloc))?;
+        let ((prepared, kept), alone) = both((prepared, kept), self.table.single_commits(alloc))?;
+        Ok((prepared, kept, alone))
     }
 }
