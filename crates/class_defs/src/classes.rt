@@ -25,7 +25,7 @@ pub struct Parameter {
 
 pub type Parameters = Sequence<Parameter>;
 
-#[derive(Debug, Drop)]
+#[derive(Debug)]
 pub struct Method {
     pub result: TypeName,
     pub name: Name,
@@ -33,14 +33,44 @@ pub struct Method {
     pub body: Block,
 }
 
+impl Drop for Method {
+    fn drop(self) {
+        let Method {
+            result,
+            name,
+            parameters,
+            body,
+        } = self;
+        drop(result);
+        drop(name);
+        drop(parameters);
+        drop(body);
+    }
+}
+
 pub type Methods = Sequence<Method>;
 
-#[derive(Debug, Drop)]
+#[derive(Debug)]
 pub struct Class {
     pub kind: ClassKind,
     pub name: Name,
     pub fields: Fields,
     pub methods: Methods,
+}
+
+impl Drop for Class {
+    fn drop(self) {
+        let Class {
+            kind,
+            name,
+            fields,
+            methods,
+        } = self;
+        let _ = kind;
+        drop(name);
+        drop(fields);
+        drop(methods);
+    }
 }
 
 /// Classes, numbered from 0 in their order.

@@ -47,21 +47,42 @@ pub struct FieldUpgrade {
 
 pub type FieldUpgrades = Sequence<FieldUpgrade>;
 
-#[derive(Debug, Drop)]
+#[derive(Debug)]
 pub struct ClassUpgrade {
     pub name: Name,
     pub fields: FieldUpgrades,
     pub methods: Methods,
 }
 
+impl Drop for ClassUpgrade {
+    fn drop(self) {
+        let ClassUpgrade {
+            name,
+            fields,
+            methods,
+        } = self;
+        drop(name);
+        drop(fields);
+        drop(methods);
+    }
+}
+
 pub type ClassUpgrades = Sequence<ClassUpgrade>;
 
 /// A complete set of class upgrades, installed at one place of the serial history.
-#[derive(Debug, Drop)]
+#[derive(Debug)]
 pub struct Upgrade {
     /// The line of the word `upgrade`.
     pub line: u32,
     pub classes: ClassUpgrades,
+}
+
+impl Drop for Upgrade {
+    fn drop(self) {
+        let Upgrade { line, classes } = self;
+        let _ = line;
+        drop(classes);
+    }
 }
 
 impl TryCopy for Tf {

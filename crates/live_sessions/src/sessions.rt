@@ -19,7 +19,6 @@ use thor_value::{NoMemory, Oref, Orefs};
 
 /// The live sessions of a repository, each with what its client may have cached and what waits for it. A
 /// client has one live session at most.
-#[derive(Drop)]
 pub struct Sessions {
     pub(crate) alloc: Global,
     /// The client of each live session.
@@ -30,6 +29,25 @@ pub struct Sessions {
     pub(crate) last: u32,
     pub(crate) sets: Sets,
     pub(crate) outbox: Outbox,
+}
+
+impl Drop for Sessions {
+    fn drop(self) {
+        let Sessions {
+            alloc,
+            clients,
+            live,
+            last,
+            sets,
+            outbox,
+        } = self;
+        let _ = alloc;
+        drop(clients);
+        drop(live);
+        let _ = last;
+        drop(sets);
+        drop(outbox);
+    }
 }
 
 impl Model for Sessions {

@@ -2,7 +2,7 @@ use class_defs::{Block, Upgrade};
 use thor_value::{Answer, NoMemory, Orefs, Sequence, TryCopy, Ts, Who};
 
 /// What an item of a script asks for.
-#[derive(Debug, Drop)]
+#[derive(Debug)]
 pub enum What {
     /// A transaction, which runs its statements.
     Tx(Block),
@@ -10,8 +10,17 @@ pub enum What {
     Upgrade(Upgrade),
 }
 
+impl Drop for What {
+    fn drop(self) {
+        match self {
+            What::Tx(block) => drop(block),
+            What::Upgrade(upgrade) => drop(upgrade),
+        }
+    }
+}
+
 /// An entry of the serial history: one committed item.
-#[derive(Debug, Drop)]
+#[derive(Debug)]
 pub struct Did {
     /// Its timestamp, which is also its name.
     pub ts: Ts,
@@ -24,6 +33,25 @@ pub struct Did {
     /// The names of the objects that it created, in the order in which it made them.
     pub fresh: Orefs,
     pub answer: Answer,
+}
+
+impl Drop for Did {
+    fn drop(self) {
+        let Did {
+            ts,
+            who,
+            what,
+            number,
+            fresh,
+            answer,
+        } = self;
+        let _ = ts;
+        let _ = who;
+        drop(what);
+        let _ = number;
+        drop(fresh);
+        drop(answer);
+    }
 }
 
 /// Entries, in the order of the history.

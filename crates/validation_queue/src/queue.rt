@@ -21,13 +21,27 @@ const LIMIT: u32 = 1_024;
 /// The transactions against which a repository validates a request (Adya and others, SIGMOD 1995):
 /// the undecided ones, and those of the committed ones that fit. The threshold isn't below those
 /// that have left.
-#[derive(Drop)]
 pub struct Queue {
     threshold: Ts,
     members: Members,
     /// Where `true`, no transaction in the queue is undecided.
     all_decided: bool,
     alloc: Global,
+}
+
+impl Drop for Queue {
+    fn drop(self) {
+        let Queue {
+            threshold,
+            members,
+            all_decided,
+            alloc,
+        } = self;
+        let _ = threshold;
+        drop(members);
+        let _ = all_decided;
+        let _ = alloc;
+    }
 }
 
 impl Model for Queue {

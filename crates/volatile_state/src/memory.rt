@@ -22,7 +22,6 @@ use thor_value::{NoMemory, Ts};
 use validation_queue::Queue;
 
 /// What of a repository a restart begins anew, and the transactions that came since its opening.
-#[derive(Drop)]
 pub struct Memory {
     /// The transactions against which requests are validated.
     pub(crate) queue: Queue,
@@ -31,6 +30,21 @@ pub struct Memory {
     pub(crate) requested: BTreeMap<Ts, ()>,
     /// The time that was drawn last; behind a restart the threshold's.
     pub(crate) drawn: u64,
+}
+
+impl Drop for Memory {
+    fn drop(self) {
+        let Memory {
+            queue,
+            sessions,
+            requested,
+            drawn,
+        } = self;
+        drop(queue);
+        drop(sessions);
+        drop(requested);
+        let _ = drawn;
+    }
 }
 
 impl Model for Memory {
