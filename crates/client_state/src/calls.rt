@@ -1,6 +1,6 @@
 //! The calls of a running try on one repository, and what they come to.
 
-ghost use Rattle.client_state.specs.Calling.{Connects, CopiesRefused, Draws, Fetches, Grants, links_refused, upto_in};
+ghost use Rattle.client_state.specs.Calling.{Connects, CopiesRefused, Draws, DrawsAbove, Fetches, Grants, links_refused, upto_in};
 ghost use Rattle.client_state.specs.Links.{at_repo};
 ghost use Rattle.client_state.specs.declared.link.Link.TheVariants.{Joined};
 ghost use Rattle.client_state.specs.declared.link.Waits.TheVariants.{Idle};
@@ -112,6 +112,7 @@ impl Held {
     /// Draws a timestamp.
     pub fn draw<Q: Port>(&mut self, port: &mut Q, at: At) -> Result<Drew, NoMemory>
         ensures call { Draws Q.shows (Q.view port.old) (Q.view port.new) at result self.old.links.items self.new.links.items self.old.cache.cache self.new.cache.cache }
+        ensures above { DrawsAbove Q.shows (Q.view port.old) (Q.view port.new) at self.old.floor }
     {
         match port.draw(at, self.floor()) {
             Ok(ts) => Ok(Drew::Ts(ts)),

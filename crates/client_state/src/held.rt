@@ -2,9 +2,10 @@
 
 ghost use Rattle.client_state.specs.Calling.{CopiesLost, is_session_of, upto_in};
 ghost use Rattle.client_state.specs.Learning.{without_session};
-ghost use Rattle.client_state.specs.Links.{at_repo, waiting};
+ghost use Rattle.client_state.specs.Links.{NoneAwaits, NoneIsBehind, at_repo, awaits_reply, is_behind, waiting};
+ghost use Rattle.client_state.specs.declared.link.Link.{Link};
 ghost use Rattle.client_cache.specs.Copies.{kept};
-ghost use Rattle.std.specs.Prelude.{◌≡◌, ◌<◌, None, cond, max, nat_eq, slice_get};
+ghost use Rattle.std.specs.Prelude.{false, ◌≡◌, ◌<◌, ◌≤◌, None, Some, cond, max, nat_eq, slice_get};
 ghost use Rattle.thor_value.specs.declared.names.Oref.{Oref};
 
 use crate::link::{Link, Waits};
@@ -62,7 +63,9 @@ impl Held {
     }
 
     /// The client's epoch: how many upgrades it counts as installed.
-    pub fn epoch(&self, opened: &Opened) -> u32 {
+    pub fn epoch(&self, opened: &Opened) -> u32
+        ensures { result ≡ max opened.now.epoch self.now.learnt }
+    {
         if self.learnt < opened.epoch {
             return opened.epoch;
         }
@@ -96,28 +99,48 @@ impl Held {
     }
 
     /// The repository of which a reply is outstanding. There is one at most.
-    pub fn awaited(&self) -> Option<At> {
+    pub fn awaited(&self) -> Option<At>
+        ensures { result ≡ None → NoneAwaits 8 self.now.links.items }
+    {
         for repo in 0..REPOSITORIES {
-            if let Some(link) = self.links.get(usize::from(repo)) {
-                if link.awaits_reply() {
-                    return link.at(repo);
-                }
+            if let Some(at) = self.awaited_at(repo) {
+                return Some(at);
             }
         }
         None
     }
 
+    /// The session at a repository, where a reply of it is outstanding.
+    fn awaited_at(&self, repo: u8) -> Option<At>
+        ensures { result ≡ None → (l : Link) → slice_get self.now.links.items repo ≡ Some l → awaits_reply l ≡ false }
+    {
+        match self.links.get(usize::from(repo)) {
+            Some(link) if link.awaits_reply() => link.at(repo),
+            Some(_) | None => None,
+        }
+    }
+
     /// The repository with which the client has to catch up. There is one at most.
-    pub fn behind(&self, opened: &Opened) -> Option<At> {
+    pub fn behind(&self, opened: &Opened) -> Option<At>
+        ensures { result ≡ None → NoneIsBehind 8 (max opened.now.epoch self.now.learnt) self.now.links.items }
+    {
         let epoch = self.epoch(opened);
         for repo in 0..REPOSITORIES {
-            if let Some(link) = self.links.get(usize::from(repo)) {
-                if link.is_behind(epoch) {
-                    return link.at(repo);
-                }
+            if let Some(at) = self.behind_at(repo, epoch) {
+                return Some(at);
             }
         }
         None
+    }
+
+    /// The session at a repository, where a client of this epoch is behind it.
+    fn behind_at(&self, repo: u8, epoch: u32) -> Option<At>
+        ensures { result ≡ None → (l : Link) → slice_get self.now.links.items repo ≡ Some l → is_behind epoch l ≡ false }
+    {
+        match self.links.get(usize::from(repo)) {
+            Some(link) if link.is_behind(epoch) => link.at(repo),
+            Some(_) | None => None,
+        }
     }
 
     /// The first of some repositories where there is no session.
@@ -218,7 +241,9 @@ impl Held {
 
     /// The time above which the next transaction is drawn. A transaction whose verdict isn't learnt
     /// counts.
-    pub fn floor(&self) -> u64 {
+    pub fn floor(&self) -> u64
+        ensures { self.now.floor ≤ result }
+    {
         let mut floor = self.floor;
         for link in &self.links {
             let time = link.unsettled_time();
