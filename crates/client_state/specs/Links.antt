@@ -69,6 +69,11 @@ session_at repo Apart = None
 session_at repo (Joined s upto waits) = Some (record { repo = repo; session = s })
 session_at repo (Unsettled sent index) = None
 
+-- the same of a repository that may have no link
+abbrev pub session_in : ℕ → Option Link → Option At
+session_in repo None = None
+session_in repo (Some link) = session_at repo link
+
 -- Of the repositories below n none has a reply outstanding.
 abbrev pub NoneAwaits : ℕ → List Link → Type 0
 NoneAwaits n links = (r : ℕ) (l : Link) → r < n → slice_get links r ≡ Some l → awaits_reply l ≡ false

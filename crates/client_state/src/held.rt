@@ -1,11 +1,12 @@
 //! What a client holds of the repositories: sessions, copies of objects, names for new ones.
 
-ghost use Rattle.client_state.specs.Calling.{CopiesLost, is_session_of, upto_in};
+ghost use Rattle.client_state.specs.Calling.{CopiesLost, CopiesStay, is_session_of, upto_in};
 ghost use Rattle.client_state.specs.Learning.{without_session};
-ghost use Rattle.client_state.specs.Links.{NoneAwaits, NoneIsBehind, at_repo, awaits_reply, is_behind, waiting};
+ghost use Rattle.client_state.specs.Links.{NoneAwaits, NoneIsBehind, at_repo, awaits_reply, is_behind, session_in, waiting};
+ghost use Rattle.client_state.specs.Taking.{BringsPage};
 ghost use Rattle.client_state.specs.declared.link.Link.{Link};
 ghost use Rattle.client_cache.specs.Copies.{kept};
-ghost use Rattle.std.specs.Prelude.{false, ◌≡◌, ◌<◌, ◌≤◌, None, Some, cond, max, nat_eq, slice_get};
+ghost use Rattle.std.specs.Prelude.{false, ◌≡◌, ◌<◌, ◌≤◌, IsTrue, None, OnOk, Some, cond, max, nat_eq, not, slice_get};
 ghost use Rattle.thor_value.specs.declared.names.Oref.{Oref};
 
 use crate::link::{Link, Waits};
@@ -73,7 +74,9 @@ impl Held {
     }
 
     /// The session at a repository, as a call names it, where there is one.
-    pub fn at(&self, repo: u8) -> Option<At> {
+    pub fn at(&self, repo: u8) -> Option<At>
+        ensures { result ≡ session_in repo (slice_get self.now.links.items repo) }
+    {
         match self.links.get(usize::from(repo)) {
             Some(link) => link.at(repo),
             None => None,
@@ -275,7 +278,9 @@ impl Held {
     }
 
     /// Whether an object is held.
-    pub fn holds(&self, oref: Oref) -> bool {
+    pub fn holds(&self, oref: Oref) -> bool
+        ensures { IsTrue (not result) → kept self.now.cache.cache oref ≡ None }
+    {
         match self.cache.look(oref) {
             Looked::Here(_) => true,
             Looked::NoPage | Looked::NoSlot => false,
@@ -292,13 +297,18 @@ impl Held {
 
     /// Puts a page's objects in the place of the copies of it. Bytes that are no page of objects bring
     /// nothing.
-    pub fn place(&mut self, repo: u8, page: u32, bytes: &Text) -> Result<(), NoMemory> {
+    pub fn place(&mut self, repo: u8, page: u32, bytes: &Text) -> Result<(), NoMemory>
+        ensures kept { OnOk result (BringsPage repo page bytes.now self.old.cache.cache self.new.cache.cache) }
+        ensures rest { self.new ≡ record self.old { cache = self.new.cache } }
+    {
         self.cache.place(page, repo, bytes.as_slice())?;
         Ok(())
     }
 
     /// Keeps an object as it was made by a transform.
-    pub fn keep_made(&mut self, oref: Oref, made: Obj) -> Result<(), NoMemory> {
+    pub fn keep_made(&mut self, oref: Oref, made: Obj) -> Result<(), NoMemory>
+        ensures { self.new ≡ record self.old { cache = self.new.cache } }
+    {
         if oref.slot < SLOTS {
             self.cache.write(oref, made)?;
         }
@@ -307,19 +317,32 @@ impl Held {
     }
 
     /// What a try has changed is given up.
-    pub fn undo(&mut self) {
+    pub fn undo(&mut self)
+        ensures copies { CopiesStay self.old.cache.cache self.new.cache.cache }
+        ensures links { self.new.links ≡ self.old.links }
+        ensures floor { self.new.floor ≡ self.old.floor }
+        ensures learnt { self.new.learnt ≡ self.old.learnt }
+    {
         self.cache.undo();
         self.names.reset();
     }
 
     /// What a try has changed is given up, and the try has ended.
-    pub fn give_up(&mut self) {
+    pub fn give_up(&mut self)
+        ensures links { self.new.links ≡ self.old.links }
+        ensures floor { self.new.floor ≡ self.old.floor }
+        ensures learnt { self.new.learnt ≡ self.old.learnt }
+    {
         self.undo();
         self.cache.evict();
     }
 
     /// What a try has changed is kept, and the try has ended.
-    pub fn keep(&mut self) {
+    pub fn keep(&mut self)
+        ensures links { self.new.links ≡ self.old.links }
+        ensures floor { self.new.floor ≡ self.old.floor }
+        ensures learnt { self.new.learnt ≡ self.old.learnt }
+    {
         self.cache.settle();
         self.cache.evict();
     }
