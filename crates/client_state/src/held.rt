@@ -1,7 +1,7 @@
 //! What a client holds of the repositories: sessions, copies of objects, names for new ones.
 
 ghost use Rattle.client_state.specs.Calling.{CopiesLost, CopiesStay, is_session_of, upto_in};
-ghost use Rattle.client_state.specs.Learning.{without_session};
+ghost use Rattle.client_state.specs.Learning.{KeepsBounds, Rises, without_session};
 ghost use Rattle.client_state.specs.Links.{NoneAwaits, NoneIsBehind, at_repo, awaits_reply, is_behind, session_in, waiting};
 ghost use Rattle.client_state.specs.Taking.{BringsPage};
 ghost use Rattle.client_state.specs.declared.link.Link.{Link};
@@ -167,7 +167,9 @@ impl Held {
     }
 
     /// The client waits for nothing.
-    pub fn stop_waiting(&mut self) {
+    pub fn stop_waiting(&mut self)
+        ensures bounds { KeepsBounds self.old self.new }
+    {
         for repo in 0..REPOSITORIES {
             self.wait(repo, Waits::Idle);
         }
@@ -184,7 +186,9 @@ impl Held {
     }
 
     /// Takes how the client stood with a repository; it is apart then.
-    pub fn take_link(&mut self, repo: u8) -> Link {
+    pub fn take_link(&mut self, repo: u8) -> Link
+        ensures bounds { KeepsBounds self.old self.new }
+    {
         match self.links.get_mut(usize::from(repo)) {
             Some(place) => mem::replace(place, Link::Apart),
             None => Link::Apart,
@@ -193,7 +197,9 @@ impl Held {
 
     /// Drops the session, the copies and the names of a repository, and what was waited for there. A
     /// verdict that is still to be learnt there stays so.
-    pub fn leave(&mut self, repo: u8) {
+    pub fn leave(&mut self, repo: u8)
+        ensures bounds { KeepsBounds self.old self.new }
+    {
         if self.at(repo).is_some() {
             self.set_link(repo, Link::Apart);
         }
@@ -205,6 +211,7 @@ impl Held {
         ensures copies { (x : Oref) → kept self.new.cache.cache x ≡ cond (nat_eq x.repo repo) None (kept self.old.cache.cache x) }
         ensures links { self.new.links ≡ self.old.links }
         ensures floor { self.new.floor ≡ self.old.floor }
+        ensures bounds { KeepsBounds self.old self.new }
     {
         self.cache.drop_repo(repo);
         self.names.drop_repo(repo);
@@ -215,6 +222,7 @@ impl Held {
         ensures links { self.new.links.items ≡ at_repo self.old.links.items repo (without_session session) }
         ensures floor { self.new.floor ≡ self.old.floor }
         ensures copies { CopiesLost session repo self.old.links.items self.old.cache.cache self.new.cache.cache }
+        ensures bounds { KeepsBounds self.old self.new }
     {
         if self.end_session(repo, session) {
             self.drop_held(repo);
@@ -261,6 +269,7 @@ impl Held {
     /// script. It answers whether the epoch rises.
     pub fn learn_epoch(&mut self, opened: &Opened, number: u32) -> bool
         ensures rest { self.new ≡ record self.old { learnt = self.new.learnt } }
+        ensures rises { Rises self.old self.new }
     {
         if number <= self.epoch(opened) || number as usize > opened.schemas.upgraded.len() {
             return false;
@@ -270,7 +279,10 @@ impl Held {
     }
 
     /// The same where the number is that of the next epoch alone.
-    pub fn learn_next_epoch(&mut self, opened: &Opened, number: u32) -> bool {
+    pub fn learn_next_epoch(&mut self, opened: &Opened, number: u32) -> bool
+        ensures rest { self.new ≡ record self.old { learnt = self.new.learnt } }
+        ensures rises { Rises self.old self.new }
+    {
         if number != self.epoch(opened).saturating_add(1) {
             return false;
         }
@@ -278,6 +290,7 @@ impl Held {
     }
 
     /// Whether an object is held.
+    #[tactic(auto, using(crate::proofs::Holding::not_seen, crate::proofs::Holding::no_page))]
     pub fn holds(&self, oref: Oref) -> bool
         ensures { IsTrue (not result) → kept self.now.cache.cache oref ≡ None }
     {
@@ -320,8 +333,7 @@ impl Held {
     pub fn undo(&mut self)
         ensures copies { CopiesStay self.old.cache.cache self.new.cache.cache }
         ensures links { self.new.links ≡ self.old.links }
-        ensures floor { self.new.floor ≡ self.old.floor }
-        ensures learnt { self.new.learnt ≡ self.old.learnt }
+        ensures bounds { KeepsBounds self.old self.new }
     {
         self.cache.undo();
         self.names.reset();
@@ -330,8 +342,7 @@ impl Held {
     /// What a try has changed is given up, and the try has ended.
     pub fn give_up(&mut self)
         ensures links { self.new.links ≡ self.old.links }
-        ensures floor { self.new.floor ≡ self.old.floor }
-        ensures learnt { self.new.learnt ≡ self.old.learnt }
+        ensures bounds { KeepsBounds self.old self.new }
     {
         self.undo();
         self.cache.evict();
@@ -340,8 +351,7 @@ impl Held {
     /// What a try has changed is kept, and the try has ended.
     pub fn keep(&mut self)
         ensures links { self.new.links ≡ self.old.links }
-        ensures floor { self.new.floor ≡ self.old.floor }
-        ensures learnt { self.new.learnt ≡ self.old.learnt }
+        ensures bounds { KeepsBounds self.old self.new }
     {
         self.cache.settle();
         self.cache.evict();

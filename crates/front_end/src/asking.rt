@@ -1,5 +1,6 @@
 //! The fourth rule: the client asks for its own transaction, which was sent to be decided.
 
+ghost use Rattle.client_state.specs.Learning.{Rises};
 ghost use Rattle.client_state.specs.Owing.{asking_in, calls_in, count_of};
 ghost use Rattle.client_state.specs.declared.phase.Phase.TheVariants as phase;
 ghost use Rattle.front_end.specs.Showing.{NewsShown, ShownIf};
@@ -28,6 +29,7 @@ impl Client {
         ensures owed { IsSome (asking_in self.old.phase) → OnOk result (uncounted task.entry.tries self.new < uncounted task.entry.tries self.old) }
         ensures acts { ActsIf Q.shows (Q.view port.old) (Q.view port.new) }
         ensures shown { ShownIf Q.shows (Q.view port.old) (Q.view port.new) opened.now.repos result }
+        ensures rises { Rises self.old.held self.new.held }
     {
         match self.take_phase().into_asking() {
             Some((sent, answers)) => self.ask_coordinator(port, opened, task, sent, answers),
@@ -46,6 +48,7 @@ impl Client {
         ensures owed { OnOk result (uncounted task.entry.tries self.new < uncounted task.entry.tries self.old + calls_in task.entry.tries (phase.Asking sent answers)) }
         ensures acts { ActsIf Q.shows (Q.view port.old) (Q.view port.new) }
         ensures shown { ShownIf Q.shows (Q.view port.old) (Q.view port.new) opened.now.repos result }
+        ensures rises { Rises self.old.held self.new.held }
     {
         match port.ask(sent.coordinator(), sent.ts) {
             Ok(Asked::Settled(verdict)) => self.learn_own(opened, sent, verdict),
@@ -65,6 +68,7 @@ impl Client {
     ) -> Result<News, NoMemory>
         ensures owed { OnOk result ((tries : ℕ) → uncounted tries self.new ≤ uncounted tries self.old + (count_of sent.participants + 1)) }
         ensures shown { IfOk result (λ news. (old new : View) (repos : ℕ) → IsDecided old new sent.ts verdict.commit → NewsShown old new repos news) }
+        ensures rises { Rises self.old.held self.new.held }
     {
         let coordinator = sent.coordinator();
         self.duties.hand_on(verdict, sent.others()?)?;
@@ -78,6 +82,7 @@ impl Client {
     fn ask_again(&mut self, task: Task<'_>, sent: Sent, answers: u32) -> News
         ensures owed { (before : ℕ) → (answers < task.entry.tries → before < answers) → uncounted task.entry.tries self.new < uncounted task.entry.tries self.old + calls_in task.entry.tries (phase.Asking sent before) }
         ensures shown { (old new : View) (repos : ℕ) → NewsShown old new repos result }
+        ensures rises { Rises self.old.held self.new.held }
     {
         if answers < task.tries {
             self.set_phase(Phase::Asking { sent, answers });
@@ -91,6 +96,7 @@ impl Client {
     fn hold_as_unknown(&mut self, task: Task<'_>, sent: Sent) -> News
         ensures rest { self.new ≡ record self.old { held = self.new.held } }
         ensures shown { (old new : View) (repos : ℕ) → NewsShown old new repos result }
+        ensures rises { Rises self.old.held self.new.held }
     {
         for repo in sent.participants.as_slice() {
             self.held.leave(*repo);

@@ -1,5 +1,6 @@
 //! The first rule: a reply is outstanding.
 
+ghost use Rattle.client_state.specs.Learning.{Rises};
 ghost use Rattle.front_end.specs.Showing.{ShownIf};
 ghost use Rattle.port.specs.Acting.{ActsIf};
 
@@ -19,6 +20,7 @@ impl Client {
     ) -> Result<News, NoMemory>
         ensures acts { ActsIf Q.shows (Q.view port.old) (Q.view port.new) }
         ensures shown { ShownIf Q.shows (Q.view port.old) (Q.view port.new) opened.now.repos result }
+        ensures rises { Rises self.old.held self.new.held }
     {
         match self.receive(port, opened, at)? {
             Some(news) => Ok(news),

@@ -1,5 +1,6 @@
 //! How a transaction is drawn, sent and decided.
 
+ghost use Rattle.client_state.specs.Learning.{Rises};
 ghost use Rattle.front_end.specs.Showing.{ShownIf};
 ghost use Rattle.port.specs.Acting.{ActsIf};
 ghost use Rattle.std.specs.Prelude.{ℕ, ◌≡◌};
@@ -23,6 +24,7 @@ impl Client {
     ) -> Result<News, NoMemory>
         ensures acts { ActsIf Q.shows (Q.view port.old) (Q.view port.new) }
         ensures shown { ShownIf Q.shows (Q.view port.old) (Q.view port.new) opened.now.repos result }
+        ensures rises { Rises self.old.held self.new.held }
     {
         let apart = self.held.first_apart(&transaction.participants);
         let coordinator = transaction.coordinator();
@@ -37,6 +39,7 @@ impl Client {
     fn draw<Q: Port>(&mut self, port: &mut Q, coordinator: u8) -> Result<News, NoMemory>
         ensures acts { ActsIf Q.shows (Q.view port.old) (Q.view port.new) }
         ensures shown { (repos : ℕ) → ShownIf Q.shows (Q.view port.old) (Q.view port.new) repos result }
+        ensures rises { Rises self.old.held self.new.held }
     {
         let Some(at) = self.held.at(coordinator) else {
             return Ok(News::Nothing);
@@ -62,6 +65,7 @@ impl Client {
     ) -> Result<News, NoMemory>
         ensures acts { ActsIf Q.shows (Q.view port.old) (Q.view port.new) }
         ensures shown { ShownIf Q.shows (Q.view port.old) (Q.view port.new) opened.now.repos result }
+        ensures rises { Rises self.old.held self.new.held }
     {
         self.held.names.spend();
         match self.held.next_sending(who, ts, &mut transaction)? {
@@ -80,6 +84,7 @@ impl Client {
     ) -> Result<News, NoMemory>
         ensures acts { ActsIf Q.shows (Q.view port.old) (Q.view port.new) }
         ensures shown { sending.request.tx ≡ ts → ShownIf Q.shows (Q.view port.old) (Q.view port.new) opened.now.repos result }
+        ensures rises { Rises self.old.held self.new.held }
     {
         if transaction.participants.len() == 1 {
             return self.commit_one(port, opened, transaction.sent(ts), sending);
@@ -96,6 +101,7 @@ impl Client {
     ) -> Result<News, NoMemory>
         ensures acts { ActsIf Q.shows (Q.view port.old) (Q.view port.new) }
         ensures shown { sending.request.tx ≡ sent.ts → ShownIf Q.shows (Q.view port.old) (Q.view port.new) opened.now.repos result }
+        ensures rises { Rises self.old.held self.new.held }
     {
         let Sending { at, request } = sending;
         match port.commit_one(at, request) {
@@ -117,6 +123,7 @@ impl Client {
     ) -> Result<News, NoMemory>
         ensures acts { ActsIf Q.shows (Q.view port.old) (Q.view port.new) }
         ensures shown { (repos : ℕ) → ShownIf Q.shows (Q.view port.old) (Q.view port.new) repos result }
+        ensures rises { Rises self.old.held self.new.held }
     {
         let Sending { at, request } = sending;
         match port.prepare(at, request) {
@@ -147,6 +154,7 @@ impl Client {
     ) -> Result<News, NoMemory>
         ensures acts { ActsIf Q.shows (Q.view port.old) (Q.view port.new) }
         ensures shown { ShownIf Q.shows (Q.view port.old) (Q.view port.new) opened.now.repos result }
+        ensures rises { Rises self.old.held self.new.held }
     {
         if transaction.shares.is_empty() {
             return self.decide(port, opened, transaction.sent(ts), coordinator);
@@ -165,6 +173,7 @@ impl Client {
     ) -> Result<News, NoMemory>
         ensures acts { ActsIf Q.shows (Q.view port.old) (Q.view port.new) }
         ensures shown { (repos : ℕ) → ShownIf Q.shows (Q.view port.old) (Q.view port.new) repos result }
+        ensures rises { Rises self.old.held self.new.held }
     {
         let sending = self.held.next_sending(who, ts, &mut transaction);
         self.set_phase(Phase::Preparing {
@@ -183,6 +192,7 @@ impl Client {
     fn prepare<Q: Port>(&mut self, port: &mut Q, sending: Sending) -> Result<News, NoMemory>
         ensures acts { ActsIf Q.shows (Q.view port.old) (Q.view port.new) }
         ensures shown { (repos : ℕ) → ShownIf Q.shows (Q.view port.old) (Q.view port.new) repos result }
+        ensures rises { Rises self.old.held self.new.held }
     {
         let Sending { at, request } = sending;
         match port.prepare(at, request) {
@@ -204,6 +214,7 @@ impl Client {
     ) -> Result<News, NoMemory>
         ensures acts { ActsIf Q.shows (Q.view port.old) (Q.view port.new) }
         ensures shown { ShownIf Q.shows (Q.view port.old) (Q.view port.new) opened.now.repos result }
+        ensures rises { Rises self.old.held self.new.held }
     {
         match port.decide(coordinator, sent.ts, true) {
             Ok(verdict) => self.learn_own(opened, sent, verdict),
@@ -220,7 +231,9 @@ impl Client {
         }
     }
 
-    fn begin_asking(&mut self, sent: Sent) {
+    fn begin_asking(&mut self, sent: Sent)
+        ensures rises { Rises self.old.held self.new.held }
+    {
         self.set_phase(Phase::Asking { sent, answers: 0 });
     }
 }

@@ -1,5 +1,6 @@
 //! The third rule: the client helps on a transaction that stood against its request.
 
+ghost use Rattle.client_state.specs.Learning.{Rises};
 ghost use Rattle.front_end.specs.Showing.{ShownIf};
 ghost use Rattle.port.specs.Acting.{ActsIf};
 
@@ -21,6 +22,7 @@ impl Client {
     ) -> Result<News, NoMemory>
         ensures acts { ActsIf Q.shows (Q.view port.old) (Q.view port.new) }
         ensures shown { ShownIf Q.shows (Q.view port.old) (Q.view port.new) opened.now.repos result }
+        ensures rises { Rises self.old.held self.new.held }
     {
         self.duties.helping = None;
         match helping {
@@ -43,6 +45,7 @@ impl Client {
     ) -> Result<News, NoMemory>
         ensures acts { ActsIf Q.shows (Q.view port.old) (Q.view port.new) }
         ensures shown { ShownIf Q.shows (Q.view port.old) (Q.view port.new) opened.now.repos result }
+        ensures rises { Rises self.old.held self.new.held }
     {
         if ts.repo >= opened.repos {
             return Ok(News::Nothing);

@@ -1,5 +1,6 @@
 //! How a session begins where a try needs one.
 
+ghost use Rattle.client_state.specs.Learning.{Rises};
 ghost use Rattle.front_end.specs.Showing.{ShownIf};
 ghost use Rattle.client_state.specs.Showing.{CameIf};
 ghost use Rattle.port.specs.Acting.{ActsIf};
@@ -21,6 +22,7 @@ impl Client {
     ) -> Result<News, NoMemory>
         ensures acts { ActsIf Q.shows (Q.view port.old) (Q.view port.new) }
         ensures shown { ShownIf Q.shows (Q.view port.old) (Q.view port.new) opened.now.repos result }
+        ensures rises { Rises self.old.held self.new.held }
     {
         let came = self.join(port, opened, repo)?;
         Ok(self.go_behind(came))
@@ -36,6 +38,7 @@ impl Client {
     ) -> Result<Came, NoMemory>
         ensures acts { ActsIf Q.shows (Q.view port.old) (Q.view port.new) }
         ensures shown { CameIf Q.shows (Q.view port.old) (Q.view port.new) result }
+        ensures rises { Rises self.old.held self.new.held }
     {
         match self.held.unsettled(repo) {
             Some(ts) => self.ask_before(port, opened, repo, ts),
@@ -54,6 +57,7 @@ impl Client {
     ) -> Result<Came, NoMemory>
         ensures acts { ActsIf Q.shows (Q.view port.old) (Q.view port.new) }
         ensures shown { CameIf Q.shows (Q.view port.old) (Q.view port.new) result }
+        ensures rises { Rises self.old.held self.new.held }
     {
         match port.ask(repo, ts) {
             Ok(Asked::Settled(verdict)) => {

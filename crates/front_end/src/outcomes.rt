@@ -1,5 +1,6 @@
 //! What becomes of items whose verdict is known.
 
+ghost use Rattle.client_state.specs.Learning.{Rises};
 ghost use Rattle.front_end.specs.Showing.{NewsShown, ShownIf};
 ghost use Rattle.port.specs.Acting.{ActsIf, IsDecided};
 ghost use Rattle.port.specs.Views.{View};
@@ -19,6 +20,7 @@ impl Client {
     pub fn end_committed(&mut self, opened: &Opened, sent: Sent) -> News
         ensures shown { (old new : View) (repos : ℕ) → IsDecided old new sent.ts true → NewsShown old new repos result }
         ensures rest { self.new ≡ record self.old { held = self.new.held } }
+        ensures rises { Rises self.old.held self.new.held }
     {
         let Sent { ts, meaning, .. } = sent;
         self.held.keep();
@@ -31,7 +33,8 @@ impl Client {
     /// A transaction of the client has committed. Where it is an upgrade, that is learnt. It answers
     /// whether the epoch rises.
     fn learn_commit(&mut self, opened: &Opened, ts: Ts, meaning: &Meaning) -> bool
-        ensures { self.new ≡ record self.old { held = self.new.held } }
+        ensures rest { self.new ≡ record self.old { held = self.new.held } }
+        ensures rises { Rises self.old.held self.new.held }
     {
         self.held.raise_floor(ts);
         match meaning {
@@ -50,6 +53,7 @@ impl Client {
     ) -> Result<Option<Learnt>, NoMemory>
         ensures stands { IfOk result (λ learnt. IfSome learnt (λ l. is_committed l.settled.outcome ≡ verdict.commit)) }
         ensures tx { IfOk result (λ learnt. IfSome learnt (λ l. l.settled.ts ≡ verdict.tx)) }
+        ensures rises { Rises self.old.held self.new.held }
     {
         match self.held.take_link(repo) {
             Link::Unsettled { sent, index } if sent.ts == verdict.tx() => {
@@ -68,6 +72,7 @@ impl Client {
         ensures stands { is_committed result.settled.outcome ≡ verdict.commit }
         ensures tx { result.settled.ts ≡ sent.ts }
         ensures rest { self.new ≡ record self.old { held = self.new.held } }
+        ensures rises { Rises self.old.held self.new.held }
     {
         let repo = sent.coordinator();
         let Sent { ts, meaning, .. } = sent;
@@ -89,6 +94,7 @@ impl Client {
         ensures rest { self.new ≡ record self.old { held = self.new.held } }
         ensures acts { ActsIf Q.shows (Q.view port.old) (Q.view port.new) }
         ensures shown { ShownIf Q.shows (Q.view port.old) (Q.view port.new) opened.now.repos result }
+        ensures rises { Rises self.old.held self.new.held }
     {
         let (sent, index) = match self.held.take_link(repo) {
             Link::Unsettled { sent, index } => (sent, index),

@@ -1,5 +1,6 @@
 //! Which rule a step follows.
 
+ghost use Rattle.client_state.specs.Learning.{Rises};
 ghost use Rattle.front_end.specs.Showing.{ShownIf};
 ghost use Rattle.port.specs.Acting.{ActsIf};
 ghost use Rattle.client_state.specs.Owing.{asking_in};
@@ -85,6 +86,7 @@ impl Client {
     ) -> Result<News, NoMemory>
         ensures acts { ActsIf Q.shows (Q.view port.old) (Q.view port.new) }
         ensures shown { ShownIf Q.shows (Q.view port.old) (Q.view port.new) opened.now.repos result }
+        ensures rises { Rises self.old.held self.new.held }
     {
         match rule {
             Counted::Await { at } => self.await_reply(port, opened, at),

@@ -2,6 +2,7 @@
 //!
 //! Lazy transforms are those of Boyapati and others (OOPSLA 2003).
 
+ghost use Rattle.client_state.specs.Learning.{Rises};
 ghost use Rattle.front_end.specs.Showing.{NewsShown, ShownIf};
 ghost use Rattle.port.specs.Acting.{ActsIf, Refuses};
 ghost use Rattle.port.specs.Views.{View};
@@ -30,6 +31,7 @@ impl Client {
     ) -> Result<News, NoMemory>
         ensures acts { ActsIf Q.shows (Q.view port.old) (Q.view port.new) }
         ensures shown { ShownIf Q.shows (Q.view port.old) (Q.view port.new) opened.now.repos result }
+        ensures rises { Rises self.old.held self.new.held }
     {
         self.held.undo();
         self.held.cache.bring_forward(oref);
@@ -48,6 +50,7 @@ impl Client {
     ) -> Result<News, NoMemory>
         ensures acts { ActsIf Q.shows (Q.view port.old) (Q.view port.new) }
         ensures shown { ShownIf Q.shows (Q.view port.old) (Q.view port.new) opened.now.repos result }
+        ensures rises { Rises self.old.held self.new.held }
     {
         let awaited = None;
         self.set_phase(Phase::Evaluating { run, awaited });
@@ -67,6 +70,7 @@ impl Client {
     ) -> Result<News, NoMemory>
         ensures acts { ActsIf Q.shows (Q.view port.old) (Q.view port.new) }
         ensures shown { ShownIf Q.shows (Q.view port.old) (Q.view port.new) opened.now.repos result }
+        ensures rises { Rises self.old.held self.new.held }
     {
         match self.held.collect(opened, &mut transform)? {
             Wanted::All(reads) => self.draw_transform(port, opened, transform, &reads),
@@ -78,7 +82,9 @@ impl Client {
     }
 
     /// The try goes on with this transform.
-    fn go_on_with(&mut self, transform: Transform) {
+    fn go_on_with(&mut self, transform: Transform)
+        ensures rises { Rises self.old.held self.new.held }
+    {
         let phase = self.take_phase().transforming(transform);
         self.set_phase(phase);
     }
@@ -93,6 +99,7 @@ impl Client {
     ) -> Result<News, NoMemory>
         ensures acts { ActsIf Q.shows (Q.view port.old) (Q.view port.new) }
         ensures shown { ShownIf Q.shows (Q.view port.old) (Q.view port.new) opened.now.repos result }
+        ensures rises { Rises self.old.held self.new.held }
     {
         let repo = transform.oref.repo;
         match self.held.at(repo) {
@@ -117,6 +124,7 @@ impl Client {
     ) -> Result<News, NoMemory>
         ensures acts { ActsIf Q.shows (Q.view port.old) (Q.view port.new) }
         ensures shown { (repos : ℕ) → ShownIf Q.shows (Q.view port.old) (Q.view port.new) repos result }
+        ensures rises { Rises self.old.held self.new.held }
     {
         match self.held.draw(port, at)? {
             Drew::Ts(ts) => {
@@ -135,6 +143,7 @@ impl Client {
     ) -> Result<News, NoMemory>
         ensures acts { ActsIf Q.shows (Q.view port.old) (Q.view port.new) }
         ensures shown { (repos : ℕ) → ShownIf Q.shows (Q.view port.old) (Q.view port.new) repos result }
+        ensures rises { Rises self.old.held self.new.held }
     {
         let oref = becomes.oref;
         match self.held.at(oref.repo) {
@@ -160,6 +169,7 @@ impl Client {
     ) -> Result<News, NoMemory>
         ensures acts { ActsIf Q.shows (Q.view port.old) (Q.view port.new) }
         ensures shown { (repos : ℕ) → ShownIf Q.shows (Q.view port.old) (Q.view port.new) repos result }
+        ensures rises { Rises self.old.held self.new.held }
     {
         match port.commit_one(at, request) {
             Ok(_) => self.end_transform(ts, oref, made),
@@ -169,7 +179,8 @@ impl Client {
 
     /// The object is written. The evaluation begins anew.
     fn end_transform(&mut self, ts: Ts, oref: Oref, made: Obj) -> Result<News, NoMemory>
-        ensures { IfOk result (λ news. (old new : View) (repos : ℕ) → NewsShown old new repos news) }
+        ensures shown { IfOk result (λ news. (old new : View) (repos : ℕ) → NewsShown old new repos news) }
+        ensures rises { Rises self.old.held self.new.held }
     {
         self.held.raise_floor(ts);
         self.held.keep_made(oref, made)?;
@@ -180,7 +191,8 @@ impl Client {
     /// A refused transform is a refused try. One whose call stopped may still have been committed, and
     /// nobody asks for it.
     fn refuse_transform(&mut self, at: At, ts: Ts, refusal: Refusal) -> Result<News, NoMemory>
-        ensures { IfOk result (λ news. (old new : View) (repos : ℕ) → Refuses old new at.repo refusal → NewsShown old new repos news) }
+        ensures shown { IfOk result (λ news. (old new : View) (repos : ℕ) → Refuses old new at.repo refusal → NewsShown old new repos news) }
+        ensures rises { Rises self.old.held self.new.held }
     {
         if let Refusal::Stopped { .. } = &refusal {
             self.held.raise_floor(ts);
