@@ -1,3 +1,4 @@
+use Rattle.front_end.proofs.Showing.{shown_counted, shown_used}
 use Rattle.front_end.proofs.front_end.FrontEnd.follow_counted.Goals as goal
 use Rattle.front_end.specs.Moving.{standing_of}
 use Rattle.item_progress.proofs.Falling.{then_never_rises}
@@ -6,3 +7,9 @@ use Rattle.std.proofs.lemmas.Result.{on_ok_weaker}
 
 pub returns-clause-falls : goal.returns-clause-falls
 returns-clause-falls g c = λ _. on_ok_weaker c.make_counted.result (λ never. (then_never_rises (standing_of c.args.self.now) (standing_of c.count_call.new.self) (standing_of c.make_counted.new.self) (c.if-not-count_call.ensures.counted refl) never).falls _ _) c.make_counted.ensures.left
+
+pub returns-then-not-count_call-clause-shown : goal.returns-then-not-count_call-clause-shown
+returns-then-not-count_call-clause-shown g c = shown_used _ _ _ _ c.args.self.now c.count_call.new.self c.run_out_of_calls.new.self (c.if-not-count_call.ensures.none refl) (c.if-not-count_call.ensures.used_up refl) c.run_out_of_calls.ensures.shown
+
+pub returns-clause-shown : goal.returns-clause-shown
+returns-clause-shown g c = shown_counted _ _ _ _ c.args.self.now c.count_call.new.self c.make_counted.new.self c.count_call.ensures.each c.count_call.ensures.course c.make_counted.ensures.shown
