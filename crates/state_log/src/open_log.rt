@@ -94,6 +94,7 @@ impl CommitLog {
         ensures appended { OnOk result ((s : AState) → Holds (P.disks parts.old) self.old s → Holds (P.disks parts.new) self.new (after s (AnEntry entry.now))) }
         ensures pages { (P.disks parts.new).content 2 ≡ (P.disks parts.old).content 2 }
         ensures still { NoNewImage (P.disks parts.old) (P.disks parts.new) 2 }
+        ensures clock { (P.disks parts.new).clock ≡ (P.disks parts.old).clock }
         ensures damaged { (place : ℕ) → IsErrOf result (Damaged place) → ⊥ }
         ensures failed { IsErrOf result Failed → Rose ((P.disks parts.old).faults self.old.disk) ((P.disks parts.new).faults self.old.disk) }
     {
@@ -119,6 +120,7 @@ impl CommitLog {
         ensures appended { OnOk result ((s : AState) → Holds (P.disks parts.old) self.old s → Holds (P.disks parts.new) self.new (after s (AnInstalled page side))) }
         ensures pages { (P.disks parts.new).content 2 ≡ (P.disks parts.old).content 2 }
         ensures still { NoNewImage (P.disks parts.old) (P.disks parts.new) 2 }
+        ensures clock { (P.disks parts.new).clock ≡ (P.disks parts.old).clock }
         ensures damaged { (place : ℕ) → IsErrOf result (Damaged place) → ⊥ }
         ensures failed { IsErrOf result Failed → Rose ((P.disks parts.old).faults self.old.disk) ((P.disks parts.new).faults self.old.disk) }
     {
@@ -142,6 +144,7 @@ impl CommitLog {
         ensures other { OnOk result (self.new.disk ≡ beside self.old.disk) }
         ensures pages { (P.disks parts.new).content 2 ≡ (P.disks parts.old).content 2 }
         ensures still { NoNewImage (P.disks parts.old) (P.disks parts.new) 2 }
+        ensures clock { (P.disks parts.new).clock ≡ (P.disks parts.old).clock }
         ensures damaged { (place : ℕ) → IsErrOf result (Damaged place) → ⊥ }
         ensures failed { IsErrOf result Failed → Rose ((P.disks parts.old).faults (beside self.old.disk)) ((P.disks parts.new).faults (beside self.old.disk)) }
     {
