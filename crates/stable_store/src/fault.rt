@@ -1,7 +1,9 @@
 //! Why a repository wasn't opened, and how faults of the layers below are told.
 
-ghost use Rattle.std.specs.Prelude.{◌≡◌, true};
+ghost use Rattle.std.specs.Prelude.{◌≡◌, true, ℕ};
+ghost use Rattle.recovery.specs.declared.fault.RecoverFault.TheVariants.{Damaged as AtRecovery};
 ghost use Rattle.stable_store.specs.Kept.{is_fault};
+ghost use Rattle.validation_window.specs.declared.refusal.Refusal.TheVariants.{Damaged as IsDamaged};
 
 use disk_trait::Outage;
 use log_frame::LogFault;
@@ -83,7 +85,8 @@ pub(crate) fn of_store(repo: u8, fault: StoreFault) -> Refusal
 
 /// The refusal of a restart in which a disk had an outage.
 pub(crate) fn of_outage(repo: u8, outage: Outage) -> Refusal
-    ensures { is_fault result ≡ true }
+    ensures fault { is_fault result ≡ true }
+    ensures damaged { (r place : ℕ) → result ≡ IsDamaged r place → ⊥ }
 {
     match outage {
         Outage::Failed => Refusal::Stopped { repo },
@@ -93,7 +96,8 @@ pub(crate) fn of_outage(repo: u8, outage: Outage) -> Refusal
 
 /// The refusal of a restart that couldn't recover.
 pub(crate) fn of_recovery(repo: u8, fault: RecoverFault) -> Refusal
-    ensures { is_fault result ≡ true }
+    ensures fault { is_fault result ≡ true }
+    ensures damaged { (r place : ℕ) → result ≡ IsDamaged r place → (d at : ℕ) × (fault ≡ AtRecovery d at) }
 {
     match fault {
         RecoverFault::Failed { disk: _ } => Refusal::Stopped { repo },
