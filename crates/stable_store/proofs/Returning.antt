@@ -282,3 +282,6 @@ returned_pending {P = P} disks old new found log pending e was parts phase held 
 pub on_err_any : {T E : Type 0} (r : Result T E) (A : Type 0) → A → OnErr r A
 on_err_any (Ok x) A a = tt
 on_err_any (Err e) A a = a
+
+pub same_err : {T E : Type 0} (r : Result T E) (a b : E) → r ≡ Err a → r ≡ Err b → a ≡ b
+same_err r a b is e = cc
