@@ -1,7 +1,9 @@
 //! Why a repository wasn't opened, and how faults of the layers below are told.
 
 ghost use Rattle.std.specs.Prelude.{◌≡◌, true};
-ghost use Rattle.stable_store.specs.Kept.{is_fault};
+ghost use Rattle.stable_store.specs.Causes.{cause_of_log, cause_of_outage, cause_of_store};
+ghost use Rattle.stable_store.specs.Kept.{is_fault, repo_named};
+ghost use Rattle.stable_store.specs.declared.fault.OpenCause.TheVariants.{NoMemory as OutOfMemory};
 
 use disk_trait::Outage;
 use log_frame::LogFault;
@@ -20,12 +22,16 @@ pub enum OpenCause {
 }
 
 impl From<NoMemory> for OpenCause {
+    ghost from_gives = { λ _ cause. cause ≡ OutOfMemory };
+
     fn from(_refused: NoMemory) -> OpenCause {
         OpenCause::NoMemory
     }
 }
 
 impl From<Outage> for OpenCause {
+    ghost from_gives = { λ outage cause. cause ≡ cause_of_outage outage };
+
     fn from(outage: Outage) -> OpenCause {
         match outage {
             Outage::Failed => OpenCause::Failed,
@@ -35,6 +41,8 @@ impl From<Outage> for OpenCause {
 }
 
 impl From<StoreFault> for OpenCause {
+    ghost from_gives = { λ fault cause. cause ≡ cause_of_store fault };
+
     fn from(fault: StoreFault) -> OpenCause {
         match fault {
             StoreFault::NoMemory => OpenCause::NoMemory,
@@ -44,6 +52,8 @@ impl From<StoreFault> for OpenCause {
 }
 
 impl From<LogFault> for OpenCause {
+    ghost from_gives = { λ fault cause. cause ≡ cause_of_log fault };
+
     fn from(fault: LogFault) -> OpenCause {
         match fault {
             LogFault::NoMemory => OpenCause::NoMemory,
@@ -61,7 +71,8 @@ pub struct OpenFault<P> {
 
 /// The refusal of a call of the repository in which its log had a fault.
 pub(crate) fn of_log(repo: u8, fault: LogFault) -> Refusal
-    ensures { is_fault result ≡ true }
+    ensures fault { is_fault result ≡ true }
+    ensures names { repo_named repo result ≡ repo }
 {
     match fault {
         LogFault::Failed => Refusal::Stopped { repo },
@@ -72,7 +83,8 @@ pub(crate) fn of_log(repo: u8, fault: LogFault) -> Refusal
 
 /// The refusal of a call in which its pages had a fault.
 pub(crate) fn of_store(repo: u8, fault: StoreFault) -> Refusal
-    ensures { is_fault result ≡ true }
+    ensures fault { is_fault result ≡ true }
+    ensures names { repo_named repo result ≡ repo }
 {
     match fault {
         StoreFault::Failed => Refusal::Stopped { repo },
@@ -83,7 +95,8 @@ pub(crate) fn of_store(repo: u8, fault: StoreFault) -> Refusal
 
 /// The refusal of a restart in which a disk had an outage.
 pub(crate) fn of_outage(repo: u8, outage: Outage) -> Refusal
-    ensures { is_fault result ≡ true }
+    ensures fault { is_fault result ≡ true }
+    ensures names { repo_named repo result ≡ repo }
 {
     match outage {
         Outage::Failed => Refusal::Stopped { repo },
@@ -93,7 +106,8 @@ pub(crate) fn of_outage(repo: u8, outage: Outage) -> Refusal
 
 /// The refusal of a restart that couldn't recover.
 pub(crate) fn of_recovery(repo: u8, fault: RecoverFault) -> Refusal
-    ensures { is_fault result ≡ true }
+    ensures fault { is_fault result ≡ true }
+    ensures names { repo_named repo result ≡ repo }
 {
     match fault {
         RecoverFault::Failed { disk: _ } => Refusal::Stopped { repo },

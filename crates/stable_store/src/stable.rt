@@ -3,12 +3,13 @@
 ghost use Rattle.std.specs.Option.{IfSome, IsNone};
 ghost use Rattle.std.specs.Prelude.{◌≡◌, ◌≤◌, IfErr, IfOk, IsTrue, None, OnErr, OnOk, Some, cond, false, max, nat_eq, true};
 ghost use Rattle.disk_trait.specs.Disks.{Disks, SameDisks};
+ghost use Rattle.disk_trait.specs.Fused.{armed, parts_of};
 ghost use Rattle.held_state.specs.Entering.{can_enter, entered};
 ghost use Rattle.held_state.specs.Keeps.{Keeps};
 ghost use Rattle.held_state.specs.Said.{said};
 ghost use Rattle.log_bytes.specs.Grammar.{BodyFits};
 ghost use Rattle.log_bytes.specs.declared.body.Body.TheVariants.{Entry as AnEntry};
-ghost use Rattle.stable_store.specs.Kept.{GoesOnUp, IsKept, IsOpen, RestsWith, StandsAfter, disks_of, down, down_with, held_of, is_fault, is_up, lowered, parts_in, torn};
+ghost use Rattle.stable_store.specs.Kept.{GoesOnUp, IsKept, IsOpen, RestsWith, StandsAfter, disks_of, down, down_with, held_of, is_fault, is_up, lowered, parts_in, repo_named, torn};
 ghost use Rattle.stable_store.specs.Flushes.{IsLastFlush};
 ghost use Rattle.stable_store.specs.Saying.{ImagesSay, IsAhead, IsSaid, LogSays};
 ghost use Rattle.stable_store.specs.declared.stable.Phase.TheVariants.{Torn as IsTorn, Up as IsUp};
@@ -110,7 +111,9 @@ impl<P: Parts> Stable<P> {
     }
 
     /// The parts.
-    pub fn into_parts(self) -> P {
+    pub fn into_parts(self) -> P
+        ensures { result ≡ parts_of (parts_in self) }
+    {
         let Stable { parts, phase, held } = self;
         drop(phase);
         drop(held);
@@ -172,6 +175,7 @@ impl<P: Parts> Stable<P> {
         ensures up { is_up self.new ≡ cond (nat_eq calls 0) false (is_up self.old) }
         ensures phase { self.new.phase ≡ cond (nat_eq calls 0) (lowered self.old.phase) self.old.phase }
         ensures says { IsSaid P.disks self.old → IsSaid P.disks self.new }
+        ensures parts { parts_in self.new ≡ armed (parts_in self.old) calls }
     {
         if calls == 0 {
             self.parts.disarm();
@@ -189,6 +193,7 @@ impl<P: Parts> Stable<P> {
         ensures held { held_of self.new ≡ held_of self.old }
         ensures phase { self.new.phase ≡ self.old.phase }
         ensures says { IsSaid P.disks self.old → IsSaid P.disks self.new }
+        ensures parts { parts_in self.new ≡ armed (parts_in self.old) 0 }
     {
         self.parts.disarm();
     }
@@ -202,6 +207,7 @@ impl<P: Parts> Stable<P> {
         ensures held { held_of self.new ≡ held_of self.old }
         ensures phase { self.new.phase ≡ self.old.phase }
         ensures says { IsSaid P.disks self.old → IsSaid P.disks self.new }
+        ensures asked { P.asked (parts_of (parts_in self.old)) result (parts_of (parts_in self.new)) }
     {
         self.parts.now()
     }
@@ -240,6 +246,8 @@ impl<P: Parts> Stable<P> {
         ensures ahead { IsSaid P.disks self.old → OnOk result (IsAhead P.disks self.new entry) }
         ensures says { IsSaid P.disks self.old → OnErr result (IsSaid P.disks self.new) }
         ensures pages { (disks_of P.disks self.new).content 2 ≡ (disks_of P.disks self.old).content 2 }
+        ensures clock { (disks_of P.disks self.new).clock ≡ (disks_of P.disks self.old).clock }
+        ensures names { IfErr result (λ r. repo_named (held_of self.old).repo r ≡ (held_of self.old).repo) }
     {
         let Some(mut log) = self.take_log() else {
             drop(entry);
@@ -292,6 +300,7 @@ impl<P: Parts> Stable<P> {
         ensures held { held_of self.new ≡ record (held_of self.old) { table = cond (keeps (get (held_of self.old).table.transactions tx)) (without (held_of self.old).table tx) (held_of self.old).table } }
         ensures phase { self.new.phase ≡ self.old.phase }
         ensures says { is_up self.old ≡ true → IsSaid P.disks self.old → IsSaid P.disks self.new }
+        ensures parts { parts_in self.new ≡ parts_in self.old }
     {
         self.held.forget(tx);
     }
@@ -304,6 +313,7 @@ impl<P: Parts> Stable<P> {
         ensures held { held_of self.new ≡ record (held_of self.old) { next_grant = max (held_of self.old).next_grant page } }
         ensures phase { self.new.phase ≡ self.old.phase }
         ensures says { is_up self.old ≡ true → IsSaid P.disks self.old → IsSaid P.disks self.new }
+        ensures parts { parts_in self.new ≡ parts_in self.old }
     {
         self.held.grant_from(page);
     }
@@ -320,6 +330,9 @@ impl<P: Parts> Stable<P> {
         ensures held { held_of self.new ≡ record (held_of self.old) { objects = (held_of self.new).objects } }
         ensures limit { (held_of self.new).objects.mob.limit ≡ (held_of self.old).objects.mob.limit }
         ensures says { IsSaid P.disks self.old → IsSaid P.disks self.new }
+        ensures pages { (disks_of P.disks self.new).content 2 ≡ (disks_of P.disks self.old).content 2 }
+        ensures clock { (disks_of P.disks self.new).clock ≡ (disks_of P.disks self.old).clock }
+        ensures names { IfErr result (λ r. repo_named (held_of self.old).repo r ≡ (held_of self.old).repo) }
     {
         let Some(log) = self.take_log() else {
             return Err(Refusal::Down { repo: self.repo() });
@@ -347,6 +360,8 @@ impl<P: Parts> Stable<P> {
         ensures held { held_of self.new ≡ record (held_of self.old) { objects = (held_of self.new).objects } }
         ensures limit { (held_of self.new).objects.mob.limit ≡ (held_of self.old).objects.mob.limit }
         ensures says { IsSaid P.disks self.old → IsSaid P.disks self.new }
+        ensures clock { (disks_of P.disks self.new).clock ≡ (disks_of P.disks self.old).clock }
+        ensures names { IfErr result (λ r. repo_named (held_of self.old).repo r ≡ (held_of self.old).repo) }
     {
         let Some(mut log) = self.take_log() else {
             return Err(Refusal::Down { repo: self.repo() });
@@ -374,6 +389,8 @@ impl<P: Parts> Stable<P> {
         ensures fault { IfErr result (λ r. is_fault r ≡ true) }
         ensures log { LogSays (disks_of P.disks self.old) log.old (said (held_of self.old)) → OnOk result (LogSays (disks_of P.disks self.new) log.new (said (held_of self.new))) }
         ensures images { LogSays (disks_of P.disks self.old) log.old (said (held_of self.old)) → OnErr result (ImagesSay (disks_of P.disks self.new) (held_of self.new) None) }
+        ensures clock { (disks_of P.disks self.new).clock ≡ (disks_of P.disks self.old).clock }
+        ensures names { IfErr result (λ r. repo_named (held_of self.old).repo r ≡ (held_of self.old).repo) }
     {
         match self.held.flush_one(&mut self.parts) {
             Ok(flushed) => self.put_flushed(log, flushed),
@@ -394,6 +411,8 @@ impl<P: Parts> Stable<P> {
         ensures fault { IfErr result (λ r. is_fault r ≡ true) }
         ensures log { LogSays (disks_of P.disks self.old) log.old (said (held_of self.old)) → OnOk result (LogSays (disks_of P.disks self.new) log.new (said (held_of self.new))) }
         ensures images { LogSays (disks_of P.disks self.old) log.old (said (held_of self.old)) → OnErr result (ImagesSay (disks_of P.disks self.new) (held_of self.new) None) }
+        ensures clock { (disks_of P.disks self.new).clock ≡ (disks_of P.disks self.old).clock }
+        ensures names { IfErr result (λ r. repo_named (held_of self.old).repo r ≡ (held_of self.old).repo) }
     {
         let Flushed::Installed { page, side } = flushed else {
             return Ok(flushed);
@@ -419,6 +438,9 @@ impl<P: Parts> Stable<P> {
         ensures rests { is_up self.old ≡ true → OnErr result (RestsWith None self.new) }
         ensures held { held_of self.new ≡ held_of self.old }
         ensures says { IsSaid P.disks self.old → IsSaid P.disks self.new }
+        ensures pages { (disks_of P.disks self.new).content 2 ≡ (disks_of P.disks self.old).content 2 }
+        ensures clock { (disks_of P.disks self.new).clock ≡ (disks_of P.disks self.old).clock }
+        ensures names { IfErr result (λ r. repo_named (held_of self.old).repo r ≡ (held_of self.old).repo) }
     {
         let Some(mut log) = self.take_log() else {
             return Err(Refusal::Down { repo: self.repo() });
