@@ -51,12 +51,12 @@ ends_within n page side below = grind (arith, nat_tests, below)
 -- what is found in a list that rises is no lower
 none_lower : (low : ℕ) (sides : List (ℕ × ℕ)) (page side : ℕ) → Rises low sides → side_in_use sides page ≡ Some side → low ≤ page
 none_lower low [] page side rises is = cc
-none_lower low (p ∷ ps) page side rises is = by (nat_cmp page p.0) refl is
+none_lower low (p ∷ ps) page side rises is = by (nat_cmp page p.0) refl is (λ more. none_lower (suc p.0) ps page side rises.1 more)
   where
-    by : (o : Ordering) → nat_cmp page p.0 ≡ o → cond (is_eq o) (Some p.1) (side_in_use ps page) ≡ Some side → low ≤ page
-    by Less at more = let above = none_lower (suc p.0) ps page side rises.1 more in omega (arith, above, rises.0)
-    by Greater at more = let above = none_lower (suc p.0) ps page side rises.1 more in omega (arith, above, rises.0)
-    by Equal at more = let there : page ≡ p.0 = nat_cmp-IsAntisymmetric page p.0 at in omega (arith, there, rises.0)
+    by : (o : Ordering) → nat_cmp page p.0 ≡ o → cond (is_eq o) (Some p.1) (side_in_use ps page) ≡ Some side → (side_in_use ps page ≡ Some side → suc p.0 ≤ page) → low ≤ page
+    by Less at more rest = let above = rest more in omega (arith, above, rises.0)
+    by Greater at more rest = let above = rest more in omega (arith, above, rises.0)
+    by Equal at more rest = let there : page ≡ p.0 = nat_cmp-IsAntisymmetric page p.0 at in omega (arith, there, rises.0)
 
 first_found : (p : ℕ × ℕ) (ps : List (ℕ × ℕ)) → side_in_use (p ∷ ps) p.0 ≡ Some p.1
 first_found p ps = ap (λ (o : Ordering). cond (is_eq o) (Some p.1) (side_in_use ps p.0)) (sym (nat_cmp_is p.0 p.0 Equal refl))
@@ -80,6 +80,6 @@ all_end n low (p ∷ ps) rises each =
 
 -- sides that don't all end within the length of a disk it doesn't reach
 pub not_reached : (sides : List (ℕ × ℕ)) (disk : List ℕ) (answer : Bool) → SidesFit sides → answer ≡ are_within (length disk) sides → answer ≡ false → ReachesSides sides disk → ⊥
-not_reached sides disk answer fit is no reaches =
+not_reached sides disk answer fit is isnt reaches =
     let within : are_within (length disk) sides ≡ true = all_end (length disk) 0 sides fit.rising (λ page side used. let end = reaches page side used in omega (arith, end)) in
     cc

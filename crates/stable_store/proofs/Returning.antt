@@ -34,8 +34,8 @@ use Rattle.state_log.specs.Opening.{IsFresh}
 use Rattle.state_log.specs.Recovered.{after, chosen, closed, decided, kept_by, opened_without, stands, state_in}
 use Rattle.std.proofs.Common.{Bool, Err, List, None, Ok, Option, Result, Some, ap, arith, false, inl, inr, length, refl, true, suc, zero, subst, sym, ◌+◌, ◌<◌, ◌∙◌, ◌≡◌, ◌≢◌, ◌≤◌, ◌⊎◌, ℕ}
 use Rattle.std.proofs.lemmas.Bool.{cases_eq}
-use Rattle.std.specs.Option.{IfSome, option_and_then}
-use Rattle.std.specs.Prelude.{IfOk, OnErr}
+use Rattle.std.specs.Option.{IfSome, IsSome, option_and_then}
+use Rattle.std.specs.Prelude.{IfOk, OnErr, OnOk}
 use Rattle.disk_trait.proofs.Several.{goes_one}
 use Rattle.thor_value.specs.declared.names.Ts.{Ts}
 use Rattle.two_phase.specs.Contents.{open_at}
@@ -117,19 +117,19 @@ reads_same : (old new : Disks) (bytes : ℕ → List ℕ) → SameContent old ne
 reads_same old new bytes same reads = λ d within. sym (same d) ∙ reads d within
 
 -- where no log is found, or one is damaged, that log can't be taken into memory
-unheld : (old read : Disks) (h : Held) (pending : Option Entry) → LeavesNoMore old read → ((bytes : ℕ → List ℕ) → ReadsAs read bytes → MayLeaveAll read read.time bytes) → ((bytes : ℕ → List ℕ) → ReadsAs read bytes → (stands bytes ≡ None) ⊎ StandsUnheld bytes) → ImagesSay old h pending → TellsAll old → GivesUnheld read
+unheld : (old read : Disks) (h : Held) (pending : Option Entry) → LeavesNoMore old read → ((bytes : ℕ → List ℕ) → ReadsAs read bytes → MayLeaveAll read read.time bytes) → ((bytes : ℕ → List ℕ) → ReadsAs read bytes → (stands bytes ≡ None) ⊎ StandsUnheld bytes) → ImagesSay old h pending → TellsAll old → GivesUnheld read.content
 unheld old read h pending more left lost says tells =
     let got = reads_of read (more.goes_on tells) in
     let one = says.each tells got.0 (more.images got.0 (left got.0 got.1)) in
     elim (lost got.0 got.1) [
       | inl none ↦ absurd (never_none one.state (stands got.0) one.stands none)
-      | inr is ↦ record { bytes = got.0; reads = got.1; unheld = is }
+      | inr is ↦ record { bytes = got.0; told = got.1; unheld = is }
     ]
 
-pub lost_unheld : (old mid read : Disks) (h : Held) (pending : Option Entry) → LeavesNoMore old read → SameContent mid read → ((bytes : ℕ → List ℕ) → ReadsAs read bytes → MayLeaveAll read read.time bytes) → ((bytes : ℕ → List ℕ) → ReadsAs mid bytes → (stands bytes ≡ None) ⊎ StandsUnheld bytes) → ImagesSay old h pending → TellsAll old → GivesUnheld read
+pub lost_unheld : (old mid read : Disks) (h : Held) (pending : Option Entry) → LeavesNoMore old read → SameContent mid read → ((bytes : ℕ → List ℕ) → ReadsAs read bytes → MayLeaveAll read read.time bytes) → ((bytes : ℕ → List ℕ) → ReadsAs mid bytes → (stands bytes ≡ None) ⊎ StandsUnheld bytes) → ImagesSay old h pending → TellsAll old → GivesUnheld read.content
 lost_unheld old mid read h pending more same left lost says tells = unheld old read h pending more left (λ bytes reads. lost bytes (reads_same mid read bytes same reads)) says tells
 
-pub fresh_unheld : (old mid read : Disks) (h : Held) (pending : Option Entry) → LeavesNoMore old read → SameContent mid read → ((bytes : ℕ → List ℕ) → ReadsAs read bytes → MayLeaveAll read read.time bytes) → ((bytes : ℕ → List ℕ) → ReadsAs mid bytes → IsFresh bytes) → ImagesSay old h pending → TellsAll old → GivesUnheld read
+pub fresh_unheld : (old mid read : Disks) (h : Held) (pending : Option Entry) → LeavesNoMore old read → SameContent mid read → ((bytes : ℕ → List ℕ) → ReadsAs read bytes → MayLeaveAll read read.time bytes) → ((bytes : ℕ → List ℕ) → ReadsAs mid bytes → IsFresh bytes) → ImagesSay old h pending → TellsAll old → GivesUnheld read.content
 fresh_unheld old mid read h pending more same left fresh says tells = unheld old read h pending more left (λ bytes reads. inl (fresh_none bytes (fresh bytes (reads_same mid read bytes same reads)))) says tells
 
 -- the disk of pages reaches the sides in use
@@ -240,7 +240,7 @@ restart_stays {P = P} disks old mid new pending is down more held parts same pha
     said_in_phase disks new pending phase (subst (λ (p : Fused P). ImagesSay (fused_disks disks p) new.held pending) (sym parts) there)
 
 -- it isn't torn: then images of its disks said what it holds, or that with the pending entry
-pub restart_unheld : {P : Type 0} (disks : P → Disks) (old : Stable P) (now' : Disks) (p : Phase) → IsSaid disks old → old.phase ≡ lowered p → is_torn_in old.phase ≡ false → ((pending : Option Entry) → ImagesSay (disks_of disks old) old.held pending → GivesUnheld now') → GivesUnheld now'
+pub restart_unheld : {P : Type 0} (disks : P → Disks) (old : Stable P) (now' : ℕ → Option (List ℕ)) (p : Phase) → IsSaid disks old → old.phase ≡ lowered p → is_torn_in old.phase ≡ false → ((pending : Option Entry) → ImagesSay (disks_of disks old) old.held pending → GivesUnheld now') → GivesUnheld now'
 restart_unheld disks old now' (Up log) is down whole unheld = unheld None (subst (SaysIn (disks_of disks old) old.held) down is.says)
 restart_unheld disks old now' (Down pending) is down whole unheld = unheld pending (subst (SaysIn (disks_of disks old) old.held) down is.says)
 restart_unheld disks old now' (Torn e) is down whole unheld = (let no : true ≡ false = sym (ap is_torn_in down) ∙ whole in cc)
@@ -285,3 +285,11 @@ on_err_any (Err e) A a = a
 
 pub same_err : {T E : Type 0} (r : Result T E) (a b : E) → r ≡ Err a → r ≡ Err b → a ≡ b
 same_err r a b is e = cc
+
+pub none_pending : (pending : Option Entry) → IsSome pending → pending ≡ None → ⊥
+none_pending None some is = absurd some
+none_pending (Some e) some is = cc
+
+pub on_ok_any : {T E : Type 0} (r : Result T E) (A : Type 0) → A → OnOk r A
+on_ok_any (Ok x) A a = a
+on_ok_any (Err e) A a = tt

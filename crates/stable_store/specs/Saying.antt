@@ -1,6 +1,6 @@
 -- What the disks of a repository say of what it holds, where every disk tells its bytes.
 use Rattle.commit_log.specs.declared.entry.Entry.{Entry}
-use Rattle.disk_trait.specs.AllDisks.{MayLeaveAll, ReadsAs, TellsAll}
+use Rattle.disk_trait.specs.AllDisks.{MayLeaveAll, TellsAll}
 use Rattle.disk_trait.specs.Disks.{Disks}
 use Rattle.held_state.specs.Said.{said}
 use Rattle.held_state.specs.declared.held.Held.{Held}
@@ -19,7 +19,7 @@ use Rattle.stable_store.specs.declared.stable.Phase.{Phase}
 use Rattle.stable_store.specs.declared.stable.Stable.{Stable}
 use Rattle.state_log.specs.Holds.{Holds}
 use Rattle.state_log.specs.Recovered.{after, stands}
-use Rattle.std.specs.Prelude.{List, None, Option, Some, ℕ, ◌≡◌, ◌⊎◌}
+use Rattle.std.specs.Prelude.{List, None, Option, Some, ℕ, ◌<◌, ◌≡◌, ◌⊎◌}
 
 -- the state of a log says what is held, with that page in use which was flushed last: its other side has all its objects
 pub record IsInstalling (h : Held) (s : State) : Type 0 where
@@ -84,8 +84,8 @@ pub record LeavesNoMore (old new : Disks) : Type 0 where
 abbrev pub FindsOneOf : Disks → Disks → Held → State → Type 0
 FindsOneOf old new h s = (pending : Option Entry) → ImagesSay old h pending → TellsAll new → IsOneOf h pending s
 
--- The disks tell what they give, and the log that counts there can't be taken into memory.
-pub record GivesUnheld (disks : Disks) : Type 0 where
+-- The disks tell their bytes, and the log that counts there can't be taken into memory.
+pub record GivesUnheld (content : ℕ → Option (List ℕ)) : Type 0 where
   pub bytes : ℕ → List ℕ
-  pub reads : ReadsAs disks bytes
+  pub told : (d : ℕ) → d < 3 → content d ≡ Some (bytes d)
   pub unheld : StandsUnheld bytes

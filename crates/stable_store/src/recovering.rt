@@ -93,7 +93,7 @@ impl<P: Parts> Stable<P> {
         ensures whole { OnOk result (is_torn self.old ≡ false) }
         ensures says { IsSaid P.disks self.old → IfOk result (SaysTaken P.disks self.new) }
         ensures stays_said { IsSaid P.disks self.old → OnErr result (IsSaid P.disks self.new) }
-        ensures damaged { (r place : ℕ) → IsErrOf result (IsDamaged r place) → IsSaid P.disks self.old → TellsAll (disks_of P.disks self.old) → GivesUnheld (disks_of P.disks self.new) }
+        ensures damaged { (r place : ℕ) → IsErrOf result (IsDamaged r place) → IsSaid P.disks self.old → TellsAll (disks_of P.disks self.old) → GivesUnheld (disks_of P.disks self.new).content }
     {
         self.parts.disarm();
         self.take_down();
@@ -137,7 +137,7 @@ impl<P: Parts> Stable<P> {
         ensures stands { IfOk result (λ r. Holds (disks_of P.disks self.new) r.log (said r.state)) }
         ensures crash { LeavesNoMore (disks_of P.disks self.old) (disks_of P.disks self.new) }
         ensures found { IfOk result (λ r. FindsOneOf (disks_of P.disks self.old) (disks_of P.disks self.new) (held_of self.old) (said r.state)) }
-        ensures damaged { (r place : ℕ) → IsErrOf result (IsDamaged r place) → (pending : Option AnyEntry) → ImagesSay (disks_of P.disks self.old) (held_of self.old) pending → TellsAll (disks_of P.disks self.old) → GivesUnheld (disks_of P.disks self.new) }
+        ensures damaged { (r place : ℕ) → IsErrOf result (IsDamaged r place) → (pending : Option AnyEntry) → ImagesSay (disks_of P.disks self.old) (held_of self.old) pending → TellsAll (disks_of P.disks self.old) → GivesUnheld (disks_of P.disks self.new).content }
     {
         let repo = self.repo();
         let mob_limit = self.held.objects().mob().limit();

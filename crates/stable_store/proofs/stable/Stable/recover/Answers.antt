@@ -3,8 +3,9 @@ use Rattle.held_state.specs.Said.{said}
 use Rattle.held_state.specs.declared.held.Held.{Held}
 use Rattle.recovery.specs.declared.fault.RecoverFault.TheVariants.{Damaged as AtRecovery}
 use Rattle.recovery.specs.declared.fault.RecoverFault.{RecoverFault}
+use Rattle.recovery.specs.declared.recovered.Recovered.{Recovered}
 use Rattle.stable_store.proofs.Returning.{finds_one, finds_then, fresh_unheld, if_ok_on, lost_unheld, more_run, more_then, none_lacks, same_err}
-use Rattle.std.proofs.Common.{Err, IsErrOf, ap, refl, subst, sym, ◌∙◌, ◌≡◌}
+use Rattle.std.proofs.Common.{Err, IsErrOf, Ok, Option, ap, refl, subst, sym, ◌∙◌, ◌≡◌}
 use Rattle.validation_window.specs.declared.refusal.Refusal.TheVariants.{Damaged as IsDamaged}
 use Rattle.stable_store.specs.Kept.{disks_of, held_of}
 use Rattle.stable_store.specs.Saying.{FindsOneOf}
@@ -26,7 +27,8 @@ returns-in-Ok-Some-clause-found g c =
     let now = disks_of g.P.Parts.disks c.reached.new.self in
     let held = held_of c.args.self.now in
     let more = more_then old mid read (more_run old mid c.restart_all.ensures.any_moment) (more_run mid read c.recover-found.ensures.any_moment) in
-    let finds = finds_one old read c.in-Ok-Some.recovered.log held (said c.in-Ok-Some.recovered.state) more c.in-Ok-Some.ensures.holds c.content_is_left.ensures in
+    let holds = rw c.in-Ok-Some.field-0-is at c.in-Ok-Some.ensures.holds in
+    let finds = finds_one old read c.in-Ok-Some.recovered.log held (said c.in-Ok-Some.recovered.state) more holds c.content_is_left.ensures in
     if_ok_on c.reached.result (λ r. r.state ≡ c.in-Ok-Some.recovered.state) (λ r. FindsOneOf old now held (said r.state)) (λ r same. subst (λ (s : Held). FindsOneOf old now held (said s)) (sym same) (finds_then old read now held (said c.in-Ok-Some.recovered.state) c.reached.ensures.crash finds)) c.reached.ensures.same
 
 pub returns-in-Ok-None-clause-crash : goal.returns-in-Ok-None-clause-crash
@@ -36,8 +38,8 @@ returns-in-Ok-None-clause-crash g c =
     let read = fused_disks g.P.Parts.disks c.recover-found.new.parts in
     more_then old mid read (more_run old mid c.restart_all.ensures.any_moment) (more_run mid read c.recover-found.ensures.any_moment)
 
-pub returns-in-Err-recover-clause-crash : goal.returns-in-Err-recover-clause-crash
-returns-in-Err-recover-clause-crash g c =
+pub returns-in-Err-found-clause-crash : goal.returns-in-Err-found-clause-crash
+returns-in-Err-found-clause-crash g c =
     let old = disks_of g.P.Parts.disks c.args.self.now in
     let mid = fused_disks g.P.Parts.disks c.restart_all.new.parts in
     let read = fused_disks g.P.Parts.disks c.recover-found.new.parts in
@@ -49,10 +51,10 @@ returns-in-Ok-None-clause-damaged g c = λ r place wrong pending says tells.
     let mid = fused_disks g.P.Parts.disks c.restart_all.new.parts in
     let read = fused_disks g.P.Parts.disks c.recover-found.new.parts in
     let more = more_then old mid read (more_run old mid c.restart_all.ensures.any_moment) (more_run mid read c.recover-found.ensures.any_moment) in
-    fresh_unheld old mid read (held_of c.args.self.now) pending more c.recover-found.ensures.content c.content_is_left.ensures (λ bytes reads. c.recover-found.ensures.fresh bytes reads c.in-Ok-None.is) says tells
+    fresh_unheld old mid read (held_of c.args.self.now) pending more c.recover-found.ensures.content c.content_is_left.ensures (λ bytes reads. c.recover-found.ensures.fresh bytes reads (c.in-Ok-None.is ∙ ap (λ (o : Option Recovered). Ok o) c.in-Ok-None.field-0-is)) says tells
 
-pub returns-in-Err-recover-clause-damaged : goal.returns-in-Err-recover-clause-damaged
-returns-in-Err-recover-clause-damaged g c = λ r place wrong pending says tells.
+pub returns-in-Err-found-clause-damaged : goal.returns-in-Err-found-clause-damaged
+returns-in-Err-found-clause-damaged g c = λ r place wrong pending says tells.
     let old = disks_of g.P.Parts.disks c.args.self.now in
     let mid = fused_disks g.P.Parts.disks c.restart_all.new.parts in
     let read = fused_disks g.P.Parts.disks c.recover-found.new.parts in
@@ -67,4 +69,5 @@ returns-in-Ok-Some-clause-damaged g c = λ r place wrong pending says tells.
     let mid = fused_disks g.P.Parts.disks c.restart_all.new.parts in
     let read = fused_disks g.P.Parts.disks c.recover-found.new.parts in
     let more = more_then old mid read (more_run old mid c.restart_all.ensures.any_moment) (more_run mid read c.recover-found.ensures.any_moment) in
-    absurd (none_lacks old read c.in-Ok-Some.recovered.log (held_of c.args.self.now) (said c.in-Ok-Some.recovered.state) pending more c.in-Ok-Some.ensures.holds c.content_is_left.ensures says tells (c.reached.ensures.damaged r place wrong))
+    let holds = rw c.in-Ok-Some.field-0-is at c.in-Ok-Some.ensures.holds in
+    absurd (none_lacks old read c.in-Ok-Some.recovered.log (held_of c.args.self.now) (said c.in-Ok-Some.recovered.state) pending more holds c.content_is_left.ensures says tells (c.reached.ensures.damaged r place wrong))
