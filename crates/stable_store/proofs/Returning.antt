@@ -287,7 +287,7 @@ pub same_err : {T E : Type 0} (r : Result T E) (a b : E) → r ≡ Err a → r �
 same_err r a b is e = cc
 
 pub none_pending : (pending : Option Entry) → IsSome pending → pending ≡ None → ⊥
-none_pending None some is = absurd some
+none_pending None some is = cc
 none_pending (Some e) some is = cc
 
 pub on_ok_any : {T E : Type 0} (r : Result T E) (A : Type 0) → A → OnOk r A

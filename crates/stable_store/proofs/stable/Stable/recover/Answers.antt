@@ -61,7 +61,7 @@ returns-in-Err-found-clause-damaged g c = λ r place wrong pending says tells.
     let more = more_then old mid read (more_run old mid c.restart_all.ensures.any_moment) (more_run mid read c.recover-found.ensures.any_moment) in
     let at = c.of_recovery.ensures.damaged r place (same_err _ c.of_recovery.result (IsDamaged r place) refl wrong) in
     lost_unheld old mid read (held_of c.args.self.now) pending more c.recover-found.ensures.content c.content_is_left.ensures
-    (λ bytes reads. c.recover-found.ensures.lost bytes at.0 at.1 reads (c.in-Err.is ∙ ap (λ (f : RecoverFault). Err f) at.2)) says tells
+    (λ bytes reads. c.recover-found.ensures.lost bytes at.0 at.1 reads (c.in-Err-found.is ∙ ap (λ (f : RecoverFault). Err f) at.2)) says tells
 
 pub returns-in-Ok-Some-clause-damaged : goal.returns-in-Ok-Some-clause-damaged
 returns-in-Ok-Some-clause-damaged g c = λ r place wrong pending says tells.
