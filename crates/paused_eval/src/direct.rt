@@ -8,6 +8,7 @@ ghost use Rattle.class_defs.specs.declared.statements.Stmt.{out-Stmt};
 ghost use Rattle.paused_defs.specs.Plain.{plain, plain_stmt};
 ghost use Rattle.paused_defs.specs.Reaches.{over};
 ghost use Rattle.paused_defs.specs.Resume as small;
+ghost use Rattle.paused_defs.specs.declared.frames.Frame.TheVariants as frame;
 ghost use Rattle.paused_eval.specs.Bodies.{AreOf};
 ghost use Rattle.paused_eval.specs.Copies.{Keeps, Tied, state};
 ghost use Rattle.paused_eval.specs.Counted.{surplus};
@@ -733,7 +734,7 @@ fn turn_body<L: Ledger>(
 ) -> Result<Flow, Unwound>
     requires tied { Tied progress.old.written cache.old }
     requires known { AreOf program.now.schema.now.classes bodies.old.called }
-    ensures does { Directs result (state progress.new cache.new) (spec.part (spec.block (on program.now.schema.now cache.old) inner (directly (on program.now.schema.now cache.old) inner) (map plain_stmt body.now)) (Frame.Again inner turns (plain condition.now) (map plain_stmt body.now)) spec.done (state progress.old cache.old)) }
+    ensures does { Directs result (state progress.new cache.new) (spec.part (spec.block (on program.now.schema.now cache.old) inner (directly (on program.now.schema.now cache.old) inner) (map plain_stmt body.now)) (frame.Again inner turns (plain condition.now) (map plain_stmt body.now)) spec.done (state progress.old cache.old)) }
     ensures tied { Lasts result (Tied progress.new.written cache.new) }
     ensures kept { Lasts result (Keeps cache.old cache.new) }
     ensures known { AreOf program.now.schema.now.classes bodies.new.called }
