@@ -1,5 +1,5 @@
 -- What is left of a list from a place on, by its first element.
-use Rattle.std.proofs.Common.{◌≡◌, ◌+◌, List, [], ◌∷◌, ℕ, zero, suc, map, drop, length, ◌≤◌, refl, ap, sym, ◌∙◌, arith, slice_get, Option, Some, None}
+use Rattle.std.proofs.Common.{◌≡◌, ◌+◌, List, [], ◌∷◌, ℕ, zero, suc, map, drop, length, ◌≤◌, refl, ap, sym, ◌∙◌, arith, slice_get, Some, None}
 use Rattle.std.specs.Prelude.{unwrap_or}
 
 pub dropped : {X Y : Type 0} (f : X → Y) (xs : List X) (i : ℕ) (x : X) → slice_get xs i ≡ Some x → map f (drop i xs) ≡ f x ∷ map f (drop (i + 1) xs)

@@ -22,7 +22,7 @@ use Rattle.paused_defs.specs.declared.nodes.ExprNode.{ExprNode}
 use Rattle.paused_eval.proofs.Directly.{body, left_waiting, next_turn, same_world, test_left}
 use Rattle.paused_eval.specs.Begins.{first_part, waiting_frame}
 use Rattle.paused_eval.specs.Copies.{Keeps, state}
-use Rattle.paused_eval.specs.Direct.{Direct, Directly, Directs, Outcome, Waits, on, behind, called, collect, directly, effect, in_order, node, statement, tests, turn, unless}
+use Rattle.paused_eval.specs.Direct.{Direct, Directly, Directs, Outcome, Waits, on, behind, called, collect, directly, effect, node, statement, tests, turn}
 use Rattle.paused_eval.specs.declared.progress.Progress.{Progress}
 use Rattle.paused_eval.specs.declared.unwound.Unwound.{Unwound}
 use Rattle.paused_eval.specs.declared.unwound.Unwound.TheVariants.{Faulted, Later, NoMemory}

@@ -1,6 +1,6 @@
 use Rattle.std.proofs.Common.{◌≡◌, ◌-◌, ◌∷◌, map, ap, refl, sym, ◌∙◌}
 use Rattle.class_defs.specs.declared.expressions.Expr.{Expr, out-Expr}
-use Rattle.class_defs.specs.declared.statements.Stmt.{Stmt, out-Stmt}
+use Rattle.class_defs.specs.declared.statements.Stmt.{out-Stmt}
 use Rattle.paused_defs.specs.Plain.{plain, plain_stmt}
 use Rattle.paused_defs.specs.declared.nodes.ExprNode.{ExprNode}
 use Rattle.paused_eval.proofs.Nodes.{out_variable}

@@ -1,4 +1,4 @@
-use Rattle.std.proofs.Common.{sym, ◌∙◌}
+use Rattle.std.proofs.Common.{sym}
 use Rattle.paused_defs.specs.Plain.{plain_stmt}
 use Rattle.paused_defs.proofs.Drops.{first_there, none_there}
 use Rattle.paused_defs.proofs.syntax.SharedBlock.first.Goals as goal
