@@ -303,7 +303,9 @@ fn collect<L: Ledger>(
                         left = rest;
                     }
                     Err(unwound) => {
-                        return Err(behind_argument(unwound, inner, kind, target, method, done, rest));
+                        return Err(behind_argument(
+                            unwound, inner, kind, target, method, done, rest,
+                        ));
                     }
                 }
             }
@@ -545,23 +547,16 @@ fn in_order<L: Ledger>(
 {
     let mut left = stmts;
     for _ in 0..u64::MAX {
-        match left.split_first()? {
+        match left.first() {
             None => return Ok(Flow::Next),
-            Some((stmt, rest)) => {
-                match execute(
-                    program,
-                    epoch,
-                    cache,
-                    progress,
-                    bodies,
-                    inner,
-                    stmt.shared(),
-                ) {
-                    Ok(Flow::Next) => left = rest,
-                    Ok(Flow::Returned(value)) => return Ok(Flow::Returned(value)),
-                    Err(unwound) => return Err(behind_statement(unwound, inner, rest)),
+            Some(stmt) => match execute(program, epoch, cache, progress, bodies, inner, stmt) {
+                Ok(Flow::Next) => left.drop_first(),
+                Ok(Flow::Returned(value)) => return Ok(Flow::Returned(value)),
+                Err(unwound) => {
+                    left.drop_first();
+                    return Err(behind_statement(unwound, inner, left));
                 }
-            }
+            },
         }
     }
     Err(Unwound::NoMemory)

@@ -49,8 +49,8 @@ pub struct Paused {
 /// No schema has more classes: they are numbered by `u16`.
 const CLASS_LIMIT: usize = 65_536;
 
-/// How many frames a stack has room for from the beginning: most transactions need no more.
-const FRAMES: usize = 24;
+/// How many frames a stack has room for from the beginning: most transactions need no more between two stops.
+const FRAMES: usize = 8;
 
 /// An object of the cache comes behind the others.
 fn push_written(cache: &Cache, epoch: u32, oref: Oref, writes: &mut Writes) -> Result<(), NoMemory>

@@ -11,10 +11,7 @@ pub type Frames = Sequence<Frame>;
 pub enum Unwound {
     /// This is done next, in small steps, and the frames wait behind it. It lies in memory of its own, so that what comes
     /// of an evaluation is small.
-    Later {
-        doing: Boxed<Doing>,
-        frames: Frames,
-    },
+    Later { doing: Boxed<Doing>, frames: Frames },
     Faulted { fault: Fault },
     NoMemory,
 }

@@ -30,11 +30,7 @@ fn later<T>(alloc: Global, doing: Doing) -> Result<T, Unwound>
 }
 
 /// An expression is evaluated by small steps.
-pub fn evaluate_later(
-    alloc: Global,
-    nested: u32,
-    expr: &Shared<ExprNode>,
-) -> Result<Value, Unwound>
+pub fn evaluate_later(alloc: Global, nested: u32, expr: &Shared<ExprNode>) -> Result<Value, Unwound>
     ensures { IsLater result (Doing.Evaluate nested (plain expr.now)) }
 {
     let expr = SharedExpr::of(expr)?;

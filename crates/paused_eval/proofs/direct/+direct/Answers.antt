@@ -1,10 +1,10 @@
 use Rattle.std.proofs.Common.{◌≡◌, ◌-◌, ◌∷◌, map, ap, refl, sym, ◌∙◌}
 use Rattle.class_defs.specs.declared.expressions.Expr.{Expr, out-Expr}
-use Rattle.class_defs.specs.declared.statements.Stmt.{Stmt, out-Stmt}
+use Rattle.class_defs.specs.declared.statements.Stmt.{out-Stmt}
 use Rattle.paused_defs.specs.Plain.{plain, plain_stmt}
 use Rattle.paused_defs.specs.declared.nodes.ExprNode.{ExprNode}
 use Rattle.paused_eval.proofs.Nodes.{out_variable}
-use Rattle.paused_eval.proofs.Unwinding.{called_does, called_left, collect_left, in_order_left, kind_there, node_variable, one_less, statement_does, turn_left, turned, value_there}
+use Rattle.paused_eval.proofs.Unwinding.{called_does, called_left, collect_left, kind_there, node_variable, one_less, statement_does, turn_left, turned, value_there}
 use Rattle.paused_eval.specs.Copies.{state}
 use Rattle.paused_eval.specs.Direct as spec
 use Rattle.paused_eval.specs.Direct.{directly, on}
@@ -38,16 +38,6 @@ collect-returns-in-Err-clause-does g t c =
     (spec.collect w c.args.inner (directly w c.args.inner) c.args.kind c.args.target c.args.method.now c.args.none c.args.arguments (state c.args.progress.now c.args.cache.now))
     c.loop.invariant.1.0 c.loop.invariant.1.1.1.1 (first ∙ ap (λ (e : Expr). e ∷ c.in-Some.rest) (sym c.shared.ensures)) refl c.in-Err.ensures.does c.behind_argument.ensures
 
-pub in_order-returns-in-Err-clause-does : goal.in_order-returns-in-Err-clause-does
-in_order-returns-in-Err-clause-does g t c =
-    let s = c.args.program.now.schema.now in
-    let w = on s c.args.cache.now in
-    let first : c.loop.left ≡ c.in-Some.stmt ∷ c.in-Some.rest = rw c.in-Some.is at c.in_ok-split_first.ensures in
-    in_order_left s c.args.cache.now c.loop.cache c.args.inner c.loop.left (plain_stmt c.shared.result.now) c.in-Some.rest
-    c.in-Err.unwound c.behind_statement.result (state c.loop.progress c.loop.cache) (state c.execute.new.progress c.execute.new.cache)
-    (spec.in_order w c.args.inner (directly w c.args.inner) c.args.stmts (state c.args.progress.now c.args.cache.now))
-    c.loop.invariant.1.0 c.loop.invariant.1.1.1.1 (first ∙ ap (λ (x : Stmt). x ∷ c.in-Some.rest) (sym c.shared.ensures)) c.in-Err.ensures.does c.behind_statement.ensures
-
 pub node-returns-in-Variable-clause-does : goal.node-returns-in-Variable-clause-does
 node-returns-in-Variable-clause-does g t c =
     let s = c.args.program.now.schema.now in
@@ -80,13 +70,13 @@ turns-loop-count-preserved g t c =
         (
           c.test_again.ensures.known,
           (
-          c.in-Ok.ensures.work ∙ c.in_ok-turn_body.ensures.work ∙ c.loop-count.invariant.1.1.1.0,
-          turned s c.args.cache.now c.loop-count.cache c.turn_body.new.cache c.args.inner (100000 - c.loop-count.count) (plain c.args.condition.now) (map plain_stmt c.args.body.now)
-              c.loop-count.value (state c.loop-count.progress c.loop-count.cache) (state c.turn_body.new.progress c.turn_body.new.cache) (state c.test_again.new.progress c.test_again.new.cache)
-              (spec.turn w c.args.inner (directly w c.args.inner) 100000 (plain c.args.condition.now) (map plain_stmt c.args.body.now) c.args.tested (state c.args.progress.now c.args.cache.now))
-              c.in_ok-turn_body.field-0 c.loop-count.invariant.1.0 c.in_ok-turn_body.ensures.kept (sym c.holds.ensures ∙ c.if-not-holds.false) c.loop-count.invariant.1.1.1.1 c.in_ok-turn_body.ensures.does c.in-Next.is
-              c.in-Ok.next c.in-Ok.ensures.does
-              ∙ ap (λ k. spec.turn w c.args.inner (directly w c.args.inner) k (plain c.args.condition.now) (map plain_stmt c.args.body.now) c.in-Ok.next (state c.test_again.new.progress c.test_again.new.cache)) (one_less 100000 c.loop-count.count),
+            c.in-Ok.ensures.work ∙ c.in_ok-turn_body.ensures.work ∙ c.loop-count.invariant.1.1.1.0,
+            turned s c.args.cache.now c.loop-count.cache c.turn_body.new.cache c.args.inner (100000 - c.loop-count.count) (plain c.args.condition.now) (map plain_stmt c.args.body.now)
+                c.loop-count.value (state c.loop-count.progress c.loop-count.cache) (state c.turn_body.new.progress c.turn_body.new.cache) (state c.test_again.new.progress c.test_again.new.cache)
+                (spec.turn w c.args.inner (directly w c.args.inner) 100000 (plain c.args.condition.now) (map plain_stmt c.args.body.now) c.args.tested (state c.args.progress.now c.args.cache.now))
+                c.in_ok-turn_body.field-0 c.loop-count.invariant.1.0 c.in_ok-turn_body.ensures.kept (sym c.holds.ensures ∙ c.if-not-holds.false) c.loop-count.invariant.1.1.1.1 c.in_ok-turn_body.ensures.does c.in-Next.is
+                c.in-Ok.next c.in-Ok.ensures.does
+                ∙ ap (λ k. spec.turn w c.args.inner (directly w c.args.inner) k (plain c.args.condition.now) (map plain_stmt c.args.body.now) c.in-Ok.next (state c.test_again.new.progress c.test_again.new.cache)) (one_less 100000 c.loop-count.count),
           ),
         ),
       ),
