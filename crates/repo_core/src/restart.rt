@@ -6,7 +6,7 @@ ghost use Rattle.live_sessions.specs.Sessions.{ended};
 ghost use Rattle.log_bytes.specs.Grammar.{BodyFits};
 ghost use Rattle.log_bytes.specs.declared.body.Body.TheVariants.{Entry as AnEntry};
 ghost use Rattle.repo_core.specs.Behind.{IsRecovered, IsRestarted, Stands, is_marked};
-ghost use Rattle.stable_store.specs.Kept.{IsKept, held_of, is_fault, is_up};
+ghost use Rattle.stable_store.specs.Kept.{IsKept, held_of, is_fault, is_up, parts_in};
 ghost use Rattle.stable_store.specs.Saying.{IsAhead, IsSaid};
 ghost use Rattle.trace_record.specs.Recorded.{with_entry};
 ghost use Rattle.repo_core.specs.Restarting.{ComesUp, DropsEarlier, LetsGo, StaysDown, Takes, TakesNone, life_behind};
@@ -105,6 +105,8 @@ impl<P: Parts> Repo<P> {
         ensures held { DropsEarlier self.old self.new }
         ensures pending { self.new.pending ≡ self.old.pending }
         ensures torn { self.new.is_torn ≡ self.old.is_torn }
+        ensures pages { self.new.pages ≡ self.old.pages }
+        ensures clock { self.new.clock ≡ self.old.clock }
         ensures opened { self.new.opened_in ≡ self.old.opened_in }
     {
         forget_before(&mut self.stable, self.opened_in);
@@ -156,6 +158,7 @@ fn forget_before<P: Parts>(stable: &mut Stable<P>, life: u32)
     ensures up { is_up stable.new ≡ is_up stable.old }
     ensures life { (held_of stable.new).life ≡ (held_of stable.old).life }
     ensures phase { stable.new.phase ≡ stable.old.phase }
+    ensures parts { parts_in stable.new ≡ parts_in stable.old }
     ensures held { held_of stable.new ≡ record (held_of stable.old) { table = (held_of stable.new).table } }
     ensures go { LetsGo life (held_of stable.old).table (held_of stable.new).table }
 {
@@ -178,6 +181,7 @@ fn forget_earlier<P: Parts>(stable: &mut Stable<P>, tx: Ts, life: u32)
     ensures kept { IsKept P.disks stable.new }
     ensures says { IsSaid P.disks stable.new }
     ensures phase { stable.new.phase ≡ stable.old.phase }
+    ensures parts { parts_in stable.new ≡ parts_in stable.old }
     ensures held { held_of stable.new ≡ record (held_of stable.old) { table = (held_of stable.new).table } }
     ensures go { LetsGo life (held_of stable.old).table (held_of stable.new).table }
 {
@@ -196,6 +200,7 @@ fn forget_one<P: Parts>(stable: &mut Stable<P>, tx: Ts, life: u32)
     ensures kept { IsKept P.disks stable.new }
     ensures says { IsSaid P.disks stable.new }
     ensures phase { stable.new.phase ≡ stable.old.phase }
+    ensures parts { parts_in stable.new ≡ parts_in stable.old }
     ensures held { held_of stable.new ≡ record (held_of stable.old) { table = (held_of stable.new).table } }
     ensures go { LetsGo life (held_of stable.old).table (held_of stable.new).table }
 {
