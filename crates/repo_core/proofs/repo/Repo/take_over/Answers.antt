@@ -1,10 +1,11 @@
 use Rattle.repo_core.proofs.Entered.{goes_down, on_err2}
-use Rattle.repo_core.proofs.Taking.{down_with_it, on_ok4, pending_falls, taken_from, takes_after}
+use Rattle.repo_core.proofs.Taking.{down_with_it, on_ok4, pending_falls, taken_from, takes_after, tells_shown, unheld_shown}
 use Rattle.repo_core.specs.Restarting.{Takes, TakesNone}
 use Rattle.repo_core.specs.Shown.{Shown, shown}
 use Rattle.stable_store.specs.Kept.{pending}
-use Rattle.std.proofs.Common.{OnOk, refl, subst}
+use Rattle.std.proofs.Common.{IsErrOf, OnOk, refl, rules, subst}
 use Rattle.std.specs.Prelude.{OnErr}
+use Rattle.validation_window.specs.declared.refusal.Refusal.TheVariants.{Damaged as IsDamaged}
 use Rattle.repo_core.proofs.repo.Repo.take_over.Goals as goal
 
 pub returns-in-Pending-clause-takes : goal.returns-in-Pending-clause-takes
@@ -33,3 +34,10 @@ returns-in-Pending-clause-none g c =
     (on_err2 c.take_pending.result _ _ _ c.take_pending.ensures.left c.take_pending.ensures.refused
     (λ falls trace. pending_falls x y z e c.in_ok-restart.ensures.whole (down_with_it i.stable.phase e there c.in_ok-restart.ensures.whole) there (record { objects = c.in_ok-restart.ensures.held; limit = c.restart.ensures.limit }) refl refl
     (goes_down s n y z e c.in_ok-restart.ensures.up refl refl refl refl falls c.take_pending.ensures.lasts) trace))
+
+pub returns-in_err-restart-clause-damaged : goal.returns-in_err-restart-clause-damaged
+returns-in_err-restart-clause-damaged g c = λ n place is told.
+    let i = c.self.inside in
+    let wrong : IsErrOf c.restart.result (IsDamaged n place) = search rules in
+    let tells = tells_shown g.P.Parts.disks i.stable i.memory i.trace i.opened_in c.args.self.now c.self.view_is told in
+    unheld_shown g.P.Parts.disks c.restart.new.self i.memory i.trace i.opened_in _ refl (c.restart.ensures.damaged n place wrong c.self.invariant.1 tells)
