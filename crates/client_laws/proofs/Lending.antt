@@ -131,7 +131,7 @@ module _ (b : Base) (at after : List Item) (u : Unsettled) (s : ℕ) where
 -- ---- a call of a session
 
 -- the same copies of the repository's objects fit
-same_copies : (c : ℕ) (b : Base) (u : Unsettled) (T : List Item) (committed : Ts → Bool) (kept' : Kept) (copies : Copies) → SameCopies b copies kept'.copies → FitsAt c b u T committed kept' → FitsAt c b u T committed (record kept' { copies = copies })
+pub same_copies : (c : ℕ) (b : Base) (u : Unsettled) (T : List Item) (committed : Ts → Bool) (kept' : Kept) (copies : Copies) → SameCopies b copies kept'.copies → FitsAt c b u T committed kept' → FitsAt c b u T committed (record kept' { copies = copies })
 same_copies c b u T committed k copies same h = record {
   v = h.v;
   there = h.there;

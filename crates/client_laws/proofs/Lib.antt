@@ -11,6 +11,7 @@ pub mod Passing
 pub mod Resting
 pub mod Sending
 pub mod Showing
+mod Stepping
 pub mod Taking
 pub mod Telling
 pub mod Working

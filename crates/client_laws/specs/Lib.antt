@@ -2,3 +2,4 @@ pub mod Examples
 pub mod Fitting
 pub mod Links
 pub mod Seen
+pub mod Steps

@@ -2,6 +2,7 @@
 //! calls leaves it right. It is definitions and laws.
 #![tactic(auto)]
 
+mod acting;
 mod calls;
 mod conditions;
 mod examples;
@@ -12,6 +13,7 @@ mod lent_sending;
 mod links;
 mod outcomes;
 
+pub use acting::acting_links_fit;
 pub use calls::{
     asked_clients_fit, commits_rest, deciding_clients_fit, joined_clients_fit,
     receiving_clients_fit, sending_clients_fit, telling_clients_fit,

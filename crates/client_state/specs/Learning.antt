@@ -1,9 +1,10 @@
 -- What a client learns from the refusal of a request (this project's).
 use Rattle.client_state.specs.Links.{at_repo, waiting}
+use Rattle.client_state.specs.declared.held.Held.{Held}
 use Rattle.client_state.specs.declared.link.Link.{Link}
 use Rattle.client_state.specs.declared.link.Link.TheVariants.{Apart, Joined, Unsettled}
 use Rattle.client_state.specs.declared.link.Waits.TheVariants as waits
-use Rattle.std.specs.Prelude.{Bool, List, cond, false, max, nat_eq, ℕ}
+use Rattle.std.specs.Prelude.{Bool, List, cond, false, max, nat_eq, ℕ, ◌≡◌, ◌≤◌}
 use Rattle.refusal_reasons.specs.declared.reason.Reason.TheVariants as reasons
 use Rattle.validation_window.specs.declared.refusal.Refusal.TheVariants as refused
 use Rattle.validation_window.specs.declared.refusal.Refusal.{Refusal}
@@ -50,3 +51,11 @@ floor_learnt (refused.Stopped n) floor = floor
 floor_learnt (refused.Damaged n place) floor = floor
 floor_learnt (refused.Reason reasons.ClockEnd) floor = floor
 floor_learnt refused.NoMemory floor = floor
+
+-- The floor and the greatest epoch that was learnt stay as they are.
+abbrev pub KeepsBounds : Held → Held → Type 0
+KeepsBounds old new = (new.floor ≡ old.floor) × (new.learnt ≡ old.learnt)
+
+-- Neither falls.
+abbrev pub Rises : Held → Held → Type 0
+Rises old new = (old.floor ≤ new.floor) × (old.learnt ≤ new.learnt)

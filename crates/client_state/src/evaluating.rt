@@ -1,5 +1,7 @@
 //! How an evaluation and a transform go on over what is held.
 
+ghost use Rattle.client_state.specs.Learning.{KeepsBounds};
+
 use crate::held::Held;
 use crate::transaction::Transaction;
 use crate::transform::Transform;
@@ -21,7 +23,9 @@ fn schema_of(opened: &Opened, epoch: u32) -> &Schema {
 
 impl Held {
     /// Evaluates as far as the copies allow.
-    pub fn evaluate(&mut self, opened: &Opened, run: &mut Paused) -> Result<Ran, NoMemory> {
+    pub fn evaluate(&mut self, opened: &Opened, run: &mut Paused) -> Result<Ran, NoMemory>
+        ensures bounds { KeepsBounds self.old self.new }
+    {
         let epoch = self.epoch(opened);
         let schema = schema_of(opened, epoch);
         run.go(
@@ -34,7 +38,9 @@ impl Held {
     }
 
     /// The evaluation of a transaction before its first step.
-    pub fn begin(&mut self, tx: &Block) -> Result<Paused, NoMemory> {
+    pub fn begin(&mut self, tx: &Block) -> Result<Paused, NoMemory>
+        ensures bounds { KeepsBounds self.old self.new }
+    {
         Paused::begin(self.alloc, tx, &mut self.texts)
     }
 
@@ -46,7 +52,9 @@ impl Held {
         reads: Orefs,
         writes: Writes,
         fresh: Orefs,
-    ) -> Result<Transaction, NoMemory> {
+    ) -> Result<Transaction, NoMemory>
+        ensures bounds { KeepsBounds self.old self.new }
+    {
         if let Answer::Fault(_) = &answer {
             self.undo();
         }
@@ -59,7 +67,9 @@ impl Held {
         &mut self,
         opened: &Opened,
         transform: &mut Transform,
-    ) -> Result<Wanted, NoMemory> {
+    ) -> Result<Wanted, NoMemory>
+        ensures bounds { KeepsBounds self.old self.new }
+    {
         for _ in 0..u64::MAX {
             let epoch = transform.parts.epoch;
             match wants(
@@ -81,7 +91,9 @@ impl Held {
     }
 
     /// Looks at a part, where it is held, and answers whether it is.
-    fn look_at(&mut self, transform: &mut Transform, part: Oref) -> Result<bool, NoMemory> {
+    fn look_at(&mut self, transform: &mut Transform, part: Oref) -> Result<bool, NoMemory>
+        ensures bounds { KeepsBounds self.old self.new }
+    {
         match self.copy_of(part)? {
             Some(obj) => {
                 self.cache.bring_forward(part);

@@ -1,10 +1,12 @@
 //! What a client holds of the repositories: sessions, copies of objects, names for new ones.
 
-ghost use Rattle.client_state.specs.Calling.{CopiesLost, is_session_of, upto_in};
-ghost use Rattle.client_state.specs.Learning.{without_session};
-ghost use Rattle.client_state.specs.Links.{at_repo, waiting};
+ghost use Rattle.client_state.specs.Calling.{CopiesLost, CopiesStay, is_session_of, upto_in};
+ghost use Rattle.client_state.specs.Learning.{KeepsBounds, Rises, without_session};
+ghost use Rattle.client_state.specs.Links.{NoneAwaits, NoneIsBehind, at_repo, awaits_reply, is_behind, session_in, waiting};
+ghost use Rattle.client_state.specs.Taking.{BringsPage};
+ghost use Rattle.client_state.specs.declared.link.Link.{Link};
 ghost use Rattle.client_cache.specs.Copies.{kept};
-ghost use Rattle.std.specs.Prelude.{◌≡◌, ◌<◌, None, cond, max, nat_eq, slice_get};
+ghost use Rattle.std.specs.Prelude.{false, ◌≡◌, ◌<◌, ◌≤◌, IsTrue, None, OnOk, Some, cond, max, nat_eq, not, slice_get};
 ghost use Rattle.thor_value.specs.declared.names.Oref.{Oref};
 
 use crate::link::{Link, Waits};
@@ -62,7 +64,9 @@ impl Held {
     }
 
     /// The client's epoch: how many upgrades it counts as installed.
-    pub fn epoch(&self, opened: &Opened) -> u32 {
+    pub fn epoch(&self, opened: &Opened) -> u32
+        ensures { result ≡ max opened.now.epoch self.now.learnt }
+    {
         if self.learnt < opened.epoch {
             return opened.epoch;
         }
@@ -70,7 +74,9 @@ impl Held {
     }
 
     /// The session at a repository, as a call names it, where there is one.
-    pub fn at(&self, repo: u8) -> Option<At> {
+    pub fn at(&self, repo: u8) -> Option<At>
+        ensures { result ≡ session_in repo (slice_get self.now.links.items repo) }
+    {
         match self.links.get(usize::from(repo)) {
             Some(link) => link.at(repo),
             None => None,
@@ -96,28 +102,48 @@ impl Held {
     }
 
     /// The repository of which a reply is outstanding. There is one at most.
-    pub fn awaited(&self) -> Option<At> {
+    pub fn awaited(&self) -> Option<At>
+        ensures { result ≡ None → NoneAwaits 8 self.now.links.items }
+    {
         for repo in 0..REPOSITORIES {
-            if let Some(link) = self.links.get(usize::from(repo)) {
-                if link.awaits_reply() {
-                    return link.at(repo);
-                }
+            if let Some(at) = self.awaited_at(repo) {
+                return Some(at);
             }
         }
         None
     }
 
+    /// The session at a repository, where a reply of it is outstanding.
+    fn awaited_at(&self, repo: u8) -> Option<At>
+        ensures { result ≡ None → (l : Link) → slice_get self.now.links.items repo ≡ Some l → awaits_reply l ≡ false }
+    {
+        match self.links.get(usize::from(repo)) {
+            Some(link) if link.awaits_reply() => link.at(repo),
+            Some(_) | None => None,
+        }
+    }
+
     /// The repository with which the client has to catch up. There is one at most.
-    pub fn behind(&self, opened: &Opened) -> Option<At> {
+    pub fn behind(&self, opened: &Opened) -> Option<At>
+        ensures { result ≡ None → NoneIsBehind 8 (max opened.now.epoch self.now.learnt) self.now.links.items }
+    {
         let epoch = self.epoch(opened);
         for repo in 0..REPOSITORIES {
-            if let Some(link) = self.links.get(usize::from(repo)) {
-                if link.is_behind(epoch) {
-                    return link.at(repo);
-                }
+            if let Some(at) = self.behind_at(repo, epoch) {
+                return Some(at);
             }
         }
         None
+    }
+
+    /// The session at a repository, where a client of this epoch is behind it.
+    fn behind_at(&self, repo: u8, epoch: u32) -> Option<At>
+        ensures { result ≡ None → (l : Link) → slice_get self.now.links.items repo ≡ Some l → is_behind epoch l ≡ false }
+    {
+        match self.links.get(usize::from(repo)) {
+            Some(link) if link.is_behind(epoch) => link.at(repo),
+            Some(_) | None => None,
+        }
     }
 
     /// The first of some repositories where there is no session.
@@ -141,7 +167,9 @@ impl Held {
     }
 
     /// The client waits for nothing.
-    pub fn stop_waiting(&mut self) {
+    pub fn stop_waiting(&mut self)
+        ensures bounds { KeepsBounds self.old self.new }
+    {
         for repo in 0..REPOSITORIES {
             self.wait(repo, Waits::Idle);
         }
@@ -158,7 +186,9 @@ impl Held {
     }
 
     /// Takes how the client stood with a repository; it is apart then.
-    pub fn take_link(&mut self, repo: u8) -> Link {
+    pub fn take_link(&mut self, repo: u8) -> Link
+        ensures bounds { KeepsBounds self.old self.new }
+    {
         match self.links.get_mut(usize::from(repo)) {
             Some(place) => mem::replace(place, Link::Apart),
             None => Link::Apart,
@@ -167,7 +197,9 @@ impl Held {
 
     /// Drops the session, the copies and the names of a repository, and what was waited for there. A
     /// verdict that is still to be learnt there stays so.
-    pub fn leave(&mut self, repo: u8) {
+    pub fn leave(&mut self, repo: u8)
+        ensures bounds { KeepsBounds self.old self.new }
+    {
         if self.at(repo).is_some() {
             self.set_link(repo, Link::Apart);
         }
@@ -179,6 +211,7 @@ impl Held {
         ensures copies { (x : Oref) → kept self.new.cache.cache x ≡ cond (nat_eq x.repo repo) None (kept self.old.cache.cache x) }
         ensures links { self.new.links ≡ self.old.links }
         ensures floor { self.new.floor ≡ self.old.floor }
+        ensures bounds { KeepsBounds self.old self.new }
     {
         self.cache.drop_repo(repo);
         self.names.drop_repo(repo);
@@ -189,6 +222,7 @@ impl Held {
         ensures links { self.new.links.items ≡ at_repo self.old.links.items repo (without_session session) }
         ensures floor { self.new.floor ≡ self.old.floor }
         ensures copies { CopiesLost session repo self.old.links.items self.old.cache.cache self.new.cache.cache }
+        ensures bounds { KeepsBounds self.old self.new }
     {
         if self.end_session(repo, session) {
             self.drop_held(repo);
@@ -218,7 +252,9 @@ impl Held {
 
     /// The time above which the next transaction is drawn. A transaction whose verdict isn't learnt
     /// counts.
-    pub fn floor(&self) -> u64 {
+    pub fn floor(&self) -> u64
+        ensures { self.now.floor ≤ result }
+    {
         let mut floor = self.floor;
         for link in &self.links {
             let time = link.unsettled_time();
@@ -233,6 +269,7 @@ impl Held {
     /// script. It answers whether the epoch rises.
     pub fn learn_epoch(&mut self, opened: &Opened, number: u32) -> bool
         ensures rest { self.new ≡ record self.old { learnt = self.new.learnt } }
+        ensures rises { Rises self.old self.new }
     {
         if number <= self.epoch(opened) || number as usize > opened.schemas.upgraded.len() {
             return false;
@@ -242,7 +279,10 @@ impl Held {
     }
 
     /// The same where the number is that of the next epoch alone.
-    pub fn learn_next_epoch(&mut self, opened: &Opened, number: u32) -> bool {
+    pub fn learn_next_epoch(&mut self, opened: &Opened, number: u32) -> bool
+        ensures rest { self.new ≡ record self.old { learnt = self.new.learnt } }
+        ensures rises { Rises self.old self.new }
+    {
         if number != self.epoch(opened).saturating_add(1) {
             return false;
         }
@@ -250,7 +290,10 @@ impl Held {
     }
 
     /// Whether an object is held.
-    pub fn holds(&self, oref: Oref) -> bool {
+    #[tactic(auto, using(crate::proofs::Holding::not_seen, crate::proofs::Holding::no_page))]
+    pub fn holds(&self, oref: Oref) -> bool
+        ensures { IsTrue (not result) → kept self.now.cache.cache oref ≡ None }
+    {
         match self.cache.look(oref) {
             Looked::Here(_) => true,
             Looked::NoPage | Looked::NoSlot => false,
@@ -267,13 +310,18 @@ impl Held {
 
     /// Puts a page's objects in the place of the copies of it. Bytes that are no page of objects bring
     /// nothing.
-    pub fn place(&mut self, repo: u8, page: u32, bytes: &Text) -> Result<(), NoMemory> {
+    pub fn place(&mut self, repo: u8, page: u32, bytes: &Text) -> Result<(), NoMemory>
+        ensures kept { OnOk result (BringsPage repo page bytes.now self.old.cache.cache self.new.cache.cache) }
+        ensures rest { self.new ≡ record self.old { cache = self.new.cache } }
+    {
         self.cache.place(page, repo, bytes.as_slice())?;
         Ok(())
     }
 
     /// Keeps an object as it was made by a transform.
-    pub fn keep_made(&mut self, oref: Oref, made: Obj) -> Result<(), NoMemory> {
+    pub fn keep_made(&mut self, oref: Oref, made: Obj) -> Result<(), NoMemory>
+        ensures { self.new ≡ record self.old { cache = self.new.cache } }
+    {
         if oref.slot < SLOTS {
             self.cache.write(oref, made)?;
         }
@@ -282,19 +330,29 @@ impl Held {
     }
 
     /// What a try has changed is given up.
-    pub fn undo(&mut self) {
+    pub fn undo(&mut self)
+        ensures copies { CopiesStay self.old.cache.cache self.new.cache.cache }
+        ensures links { self.new.links ≡ self.old.links }
+        ensures bounds { KeepsBounds self.old self.new }
+    {
         self.cache.undo();
         self.names.reset();
     }
 
     /// What a try has changed is given up, and the try has ended.
-    pub fn give_up(&mut self) {
+    pub fn give_up(&mut self)
+        ensures links { self.new.links ≡ self.old.links }
+        ensures bounds { KeepsBounds self.old self.new }
+    {
         self.undo();
         self.cache.evict();
     }
 
     /// What a try has changed is kept, and the try has ended.
-    pub fn keep(&mut self) {
+    pub fn keep(&mut self)
+        ensures links { self.new.links ≡ self.old.links }
+        ensures bounds { KeepsBounds self.old self.new }
+    {
         self.cache.settle();
         self.cache.evict();
     }

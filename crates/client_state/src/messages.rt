@@ -1,5 +1,6 @@
 //! How messages are taken, and what they make of the copies.
 
+ghost use Rattle.client_state.specs.Learning.{KeepsBounds};
 ghost use Rattle.client_state.specs.Links.{at_repo};
 ghost use Rattle.client_state.specs.Taking.{Without, behind, links_behind, took};
 ghost use Rattle.port.specs.Works.{Does, ReceiveWork};
@@ -68,6 +69,7 @@ impl Held {
     pub fn drop_copies(&mut self, orefs: &Orefs)
         ensures copies { Without orefs.now self.old.cache.cache self.new.cache.cache }
         ensures links { self.new.links ≡ self.old.links }
+        ensures bounds { KeepsBounds self.old self.new }
     {
         self.cache.invalidate(orefs);
     }

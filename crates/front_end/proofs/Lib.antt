@@ -1,3 +1,4 @@
 pub mod Acting
 pub mod Moving
+pub mod Showing
 pub mod Steps

@@ -1,5 +1,6 @@
 -- What is left for a client to do, which falls at each step by which it moves on (this project's).
 use Rattle.client_state.specs.Owing.{calls_in, owed}
+use Rattle.client_state.specs.declared.held.Held.{Held}
 use Rattle.front_end.specs.declared.client.Client.{Client}
 use Rattle.front_end.specs.declared.front_end.FrontEnd.{FrontEnd}
 use Rattle.item_progress.specs.Courses.{Course}
@@ -13,6 +14,10 @@ uncounted tries c = owed c.duties + calls_in tries c.phase
 -- how far it has come in its items
 abbrev pub course_of : FrontEnd → Course
 course_of f = f.progress
+
+-- what it holds of its repositories
+abbrev pub held_of : FrontEnd → Held
+held_of f = f.client.held
 
 abbrev pub standing_of : FrontEnd → Standing
 standing_of f = record { course = f.progress; attempts = f.attempts }

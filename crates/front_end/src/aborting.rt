@@ -1,8 +1,9 @@
 //! Before the rules: a transaction that its coordinator has prepared and whose try has ended is aborted
 //! there.
 
+ghost use Rattle.client_state.specs.Learning.{Rises};
 ghost use Rattle.client_state.specs.Owing.{count_of};
-ghost use Rattle.front_end.specs.Acting.{ActsIf};
+ghost use Rattle.port.specs.Acting.{ActsIf};
 ghost use Rattle.front_end.specs.Moving.{uncounted};
 ghost use Rattle.std.specs.Prelude.{OnOk, ℕ, ◌+◌, ◌≤◌};
 
@@ -19,6 +20,7 @@ impl Client {
     pub fn abort<Q: Port>(&mut self, port: &mut Q, abort: Abort) -> Result<(), NoMemory>
         ensures owed { OnOk result ((tries : ℕ) → uncounted tries self.new ≤ uncounted tries self.old + (count_of abort.prepared + 1)) }
         ensures acts { ActsIf Q.shows (Q.view port.old) (Q.view port.new) }
+        ensures rises { Rises self.old.held self.new.held }
     {
         let Abort {
             coordinator,

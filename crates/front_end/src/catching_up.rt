@@ -1,6 +1,8 @@
 //! The second rule: the client catches up with a repository that refused it.
 
-ghost use Rattle.front_end.specs.Acting.{ActsIf};
+ghost use Rattle.client_state.specs.Learning.{Rises};
+ghost use Rattle.front_end.specs.Showing.{ShownIf};
+ghost use Rattle.port.specs.Acting.{ActsIf};
 
 use crate::client::Client;
 use client_state::Waits;
@@ -18,6 +20,8 @@ impl Client {
         at: At,
     ) -> Result<News, NoMemory>
         ensures acts { ActsIf Q.shows (Q.view port.old) (Q.view port.new) }
+        ensures shown { ShownIf Q.shows (Q.view port.old) (Q.view port.new) opened.now.repos result }
+        ensures rises { Rises self.old.held self.new.held }
     {
         match self.receive(port, opened, at)? {
             Some(news) => Ok(news),

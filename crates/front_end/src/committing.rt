@@ -1,6 +1,9 @@
 //! How a transaction is drawn, sent and decided.
 
-ghost use Rattle.front_end.specs.Acting.{ActsIf};
+ghost use Rattle.client_state.specs.Learning.{Rises};
+ghost use Rattle.front_end.specs.Showing.{ShownIf};
+ghost use Rattle.port.specs.Acting.{ActsIf};
+ghost use Rattle.std.specs.Prelude.{ℕ, ◌≡◌};
 
 use crate::client::Client;
 use client_state::{Drew, Phase, Sending, Sent, Transaction};
@@ -20,6 +23,8 @@ impl Client {
         transaction: Transaction,
     ) -> Result<News, NoMemory>
         ensures acts { ActsIf Q.shows (Q.view port.old) (Q.view port.new) }
+        ensures shown { ShownIf Q.shows (Q.view port.old) (Q.view port.new) opened.now.repos result }
+        ensures rises { Rises self.old.held self.new.held }
     {
         let apart = self.held.first_apart(&transaction.participants);
         let coordinator = transaction.coordinator();
@@ -33,6 +38,8 @@ impl Client {
     /// Draws the evaluated transaction at its coordinator.
     fn draw<Q: Port>(&mut self, port: &mut Q, coordinator: u8) -> Result<News, NoMemory>
         ensures acts { ActsIf Q.shows (Q.view port.old) (Q.view port.new) }
+        ensures shown { (repos : ℕ) → ShownIf Q.shows (Q.view port.old) (Q.view port.new) repos result }
+        ensures rises { Rises self.old.held self.new.held }
     {
         let Some(at) = self.held.at(coordinator) else {
             return Ok(News::Nothing);
@@ -57,6 +64,8 @@ impl Client {
         mut transaction: Transaction,
     ) -> Result<News, NoMemory>
         ensures acts { ActsIf Q.shows (Q.view port.old) (Q.view port.new) }
+        ensures shown { ShownIf Q.shows (Q.view port.old) (Q.view port.new) opened.now.repos result }
+        ensures rises { Rises self.old.held self.new.held }
     {
         self.held.names.spend();
         match self.held.next_sending(who, ts, &mut transaction)? {
@@ -74,6 +83,8 @@ impl Client {
         sending: Sending,
     ) -> Result<News, NoMemory>
         ensures acts { ActsIf Q.shows (Q.view port.old) (Q.view port.new) }
+        ensures shown { sending.request.tx ≡ ts → ShownIf Q.shows (Q.view port.old) (Q.view port.new) opened.now.repos result }
+        ensures rises { Rises self.old.held self.new.held }
     {
         if transaction.participants.len() == 1 {
             return self.commit_one(port, opened, transaction.sent(ts), sending);
@@ -89,6 +100,8 @@ impl Client {
         sending: Sending,
     ) -> Result<News, NoMemory>
         ensures acts { ActsIf Q.shows (Q.view port.old) (Q.view port.new) }
+        ensures shown { sending.request.tx ≡ sent.ts → ShownIf Q.shows (Q.view port.old) (Q.view port.new) opened.now.repos result }
+        ensures rises { Rises self.old.held self.new.held }
     {
         let Sending { at, request } = sending;
         match port.commit_one(at, request) {
@@ -109,6 +122,8 @@ impl Client {
         sending: Sending,
     ) -> Result<News, NoMemory>
         ensures acts { ActsIf Q.shows (Q.view port.old) (Q.view port.new) }
+        ensures shown { (repos : ℕ) → ShownIf Q.shows (Q.view port.old) (Q.view port.new) repos result }
+        ensures rises { Rises self.old.held self.new.held }
     {
         let Sending { at, request } = sending;
         match port.prepare(at, request) {
@@ -138,6 +153,8 @@ impl Client {
         prepared: Repos,
     ) -> Result<News, NoMemory>
         ensures acts { ActsIf Q.shows (Q.view port.old) (Q.view port.new) }
+        ensures shown { ShownIf Q.shows (Q.view port.old) (Q.view port.new) opened.now.repos result }
+        ensures rises { Rises self.old.held self.new.held }
     {
         if transaction.shares.is_empty() {
             return self.decide(port, opened, transaction.sent(ts), coordinator);
@@ -155,6 +172,8 @@ impl Client {
         prepared: Repos,
     ) -> Result<News, NoMemory>
         ensures acts { ActsIf Q.shows (Q.view port.old) (Q.view port.new) }
+        ensures shown { (repos : ℕ) → ShownIf Q.shows (Q.view port.old) (Q.view port.new) repos result }
+        ensures rises { Rises self.old.held self.new.held }
     {
         let sending = self.held.next_sending(who, ts, &mut transaction);
         self.set_phase(Phase::Preparing {
@@ -172,6 +191,8 @@ impl Client {
     /// Has a participant prepare. Where it refuses, the try ends, and its coordinator is to abort.
     fn prepare<Q: Port>(&mut self, port: &mut Q, sending: Sending) -> Result<News, NoMemory>
         ensures acts { ActsIf Q.shows (Q.view port.old) (Q.view port.new) }
+        ensures shown { (repos : ℕ) → ShownIf Q.shows (Q.view port.old) (Q.view port.new) repos result }
+        ensures rises { Rises self.old.held self.new.held }
     {
         let Sending { at, request } = sending;
         match port.prepare(at, request) {
@@ -192,6 +213,8 @@ impl Client {
         coordinator: At,
     ) -> Result<News, NoMemory>
         ensures acts { ActsIf Q.shows (Q.view port.old) (Q.view port.new) }
+        ensures shown { ShownIf Q.shows (Q.view port.old) (Q.view port.new) opened.now.repos result }
+        ensures rises { Rises self.old.held self.new.held }
     {
         match port.decide(coordinator, sent.ts, true) {
             Ok(verdict) => self.learn_own(opened, sent, verdict),
@@ -208,7 +231,9 @@ impl Client {
         }
     }
 
-    fn begin_asking(&mut self, sent: Sent) {
+    fn begin_asking(&mut self, sent: Sent)
+        ensures rises { Rises self.old.held self.new.held }
+    {
         self.set_phase(Phase::Asking { sent, answers: 0 });
     }
 }

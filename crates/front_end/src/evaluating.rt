@@ -1,6 +1,9 @@
 //! How the transaction of an item is evaluated.
 
-ghost use Rattle.front_end.specs.Acting.{ActsIf};
+ghost use Rattle.client_state.specs.Learning.{Rises};
+ghost use Rattle.front_end.specs.Showing.{ShownIf};
+ghost use Rattle.client_state.specs.Showing.{CameIf};
+ghost use Rattle.port.specs.Acting.{ActsIf};
 
 use crate::client::Client;
 use client_state::{Came, Phase};
@@ -20,6 +23,8 @@ impl Client {
         mut run: Paused,
     ) -> Result<News, NoMemory>
         ensures acts { ActsIf Q.shows (Q.view port.old) (Q.view port.new) }
+        ensures shown { ShownIf Q.shows (Q.view port.old) (Q.view port.new) opened.now.repos result }
+        ensures rises { Rises self.old.held self.new.held }
     {
         let ran = self.held.evaluate(opened, &mut run);
         let awaited = None;
@@ -35,6 +40,8 @@ impl Client {
         ran: Ran,
     ) -> Result<News, NoMemory>
         ensures acts { ActsIf Q.shows (Q.view port.old) (Q.view port.new) }
+        ensures shown { ShownIf Q.shows (Q.view port.old) (Q.view port.new) opened.now.repos result }
+        ensures rises { Rises self.old.held self.new.held }
     {
         match ran {
             Ran::Done {
@@ -60,6 +67,8 @@ impl Client {
         owners: Orefs,
     ) -> Result<News, NoMemory>
         ensures acts { ActsIf Q.shows (Q.view port.old) (Q.view port.new) }
+        ensures shown { ShownIf Q.shows (Q.view port.old) (Q.view port.new) opened.now.repos result }
+        ensures rises { Rises self.old.held self.new.held }
     {
         match self.held.copy_of(oref)? {
             Some(obj) => self.begin_transform(port, opened, oref, obj, owners),
@@ -75,6 +84,8 @@ impl Client {
         oref: Oref,
     ) -> Result<News, NoMemory>
         ensures acts { ActsIf Q.shows (Q.view port.old) (Q.view port.new) }
+        ensures shown { ShownIf Q.shows (Q.view port.old) (Q.view port.new) opened.now.repos result }
+        ensures rises { Rises self.old.held self.new.held }
     {
         if oref.repo >= opened.repos {
             return Ok(self.end_try(Cause::Missing { oref }));
@@ -92,6 +103,8 @@ impl Client {
         repo: u8,
     ) -> Result<News, NoMemory>
         ensures acts { ActsIf Q.shows (Q.view port.old) (Q.view port.new) }
+        ensures shown { ShownIf Q.shows (Q.view port.old) (Q.view port.new) opened.now.repos result }
+        ensures rises { Rises self.old.held self.new.held }
     {
         if repo >= opened.repos {
             let oref = Oref {
@@ -113,6 +126,8 @@ impl Client {
         oref: Oref,
     ) -> Result<Came, NoMemory>
         ensures acts { ActsIf Q.shows (Q.view port.old) (Q.view port.new) }
+        ensures shown { CameIf Q.shows (Q.view port.old) (Q.view port.new) result }
+        ensures rises { Rises self.old.held self.new.held }
     {
         let Some(at) = self.held.at(oref.repo) else {
             return self.join(port, opened, oref.repo);
@@ -128,6 +143,8 @@ impl Client {
         repo: u8,
     ) -> Result<Came, NoMemory>
         ensures acts { ActsIf Q.shows (Q.view port.old) (Q.view port.new) }
+        ensures shown { CameIf Q.shows (Q.view port.old) (Q.view port.new) result }
+        ensures rises { Rises self.old.held self.new.held }
     {
         let Some(at) = self.held.at(repo) else {
             return self.join(port, opened, repo);

@@ -1,17 +1,20 @@
 //! A client of repositories, which goes on by steps.
 
+ghost use Rattle.client_state.specs.Learning.{};
+ghost use Rattle.client_state.specs.Learning.{Rises};
 ghost use Rattle.client_state.specs.Owing.{asking_in};
-ghost use Rattle.front_end.specs.Acting.{ActsIf};
-ghost use Rattle.front_end.specs.Moving.{GoesOn, Keeps, MovesOn, course_of, left_of, standing_of, steps_left, tries_of, uncounted};
+ghost use Rattle.front_end.specs.Showing.{GoesShown, ItemsShown};
+ghost use Rattle.port.specs.Acting.{ActsIf};
+ghost use Rattle.front_end.specs.Moving.{GoesOn, Keeps, MovesOn, course_of, held_of, left_of, standing_of, steps_left, tries_of, uncounted};
 ghost use Rattle.front_end.specs.declared.front_end.Step.TheVariants as step;
 ghost use Rattle.item_progress.specs.Courses.{Goes, IsInOrder};
-ghost use Rattle.item_progress.specs.Ending.{ends_try};
-ghost use Rattle.item_progress.specs.Falling.{CountsDown, Falls, IsLeft, NeverRises};
-ghost use Rattle.std.specs.Prelude.{◌≡◌, ◌<◌, ◌^◌, [], IfOk, IsSome, IsTrue, OnOk, length, not, Ok, true, ℕ};
+ghost use Rattle.item_progress.specs.Ending.{GoesBy, ends_try};
+ghost use Rattle.item_progress.specs.Falling.{CountsDown, Falls, IsLeft, NeverRises, most_calls};
+ghost use Rattle.std.specs.Prelude.{◌≡◌, ◌<◌, ◌^◌, [], IfOk, IsSome, IsTrue, OnOk, length, not, Ok, true, ℕ, ◌≤◌};
 
 use crate::client::Client;
 use crate::rule::{Counted, Rule};
-use client_state::REPOSITORIES;
+use client_state::{Held, REPOSITORIES};
 use item_progress::{Attempts, Items, News, Opened, Progress};
 use message_outbox::At;
 use port::Port;
@@ -83,6 +86,8 @@ impl FrontEnd {
         ensures falls { result ≡ Ok step.Moved → Falls (left_of self.old) (left_of self.new) }
         ensures steps { result ≡ Ok step.Moved → steps_left self.new < steps_left self.old }
         ensures acts { ActsIf Q.shows (Q.view port.old) (Q.view port.new) }
+        ensures shown { ItemsShown Q.shows (Q.view port.old) (Q.view port.new) opened.now.repos self.old self.new }
+        ensures rises { Rises (held_of self.old) (held_of self.new) }
     {
         if self.has_ended() {
             return Ok(Step::Ended);
@@ -106,6 +111,8 @@ impl FrontEnd {
         ensures each { tries_of self.new ≡ tries_of self.old }
         ensures falls { MovesOn self.old → OnOk result (Falls (left_of self.old) (left_of self.new)) }
         ensures acts { ActsIf Q.shows (Q.view port.old) (Q.view port.new) }
+        ensures shown { ItemsShown Q.shows (Q.view port.old) (Q.view port.new) opened.now.repos self.old self.new }
+        ensures rises { Rises (held_of self.old) (held_of self.new) }
     {
         match self.client.duties.abort.take() {
             Some(abort) => self.client.abort(port, abort),
@@ -120,6 +127,8 @@ impl FrontEnd {
         ensures each { tries_of self.new ≡ tries_of self.old }
         ensures falls { GoesOn self.old → OnOk result (Falls (left_of self.old) (left_of self.new)) }
         ensures acts { ActsIf Q.shows (Q.view port.old) (Q.view port.new) }
+        ensures shown { ItemsShown Q.shows (Q.view port.old) (Q.view port.new) opened.now.repos self.old self.new }
+        ensures rises { Rises (held_of self.old) (held_of self.new) }
     {
         match self.client.next_rule(opened) {
             Rule::Counted { rule } => self.follow_counted(port, opened, rule),
@@ -140,6 +149,8 @@ impl FrontEnd {
         ensures each { tries_of self.new ≡ tries_of self.old }
         ensures falls { GoesOn self.old → OnOk result (Falls (left_of self.old) (left_of self.new)) }
         ensures acts { ActsIf Q.shows (Q.view port.old) (Q.view port.new) }
+        ensures shown { ItemsShown Q.shows (Q.view port.old) (Q.view port.new) opened.now.repos self.old self.new }
+        ensures rises { Rises (held_of self.old) (held_of self.new) }
     {
         if !self.count_call() {
             return self.run_out_of_calls(port);
@@ -154,6 +165,7 @@ impl FrontEnd {
         ensures counted { IsTrue result → CountsDown (standing_of self.old) (standing_of self.new) }
         ensures course { course_of self.new ≡ course_of self.old }
         ensures none { IsTrue (not result) → self.new ≡ self.old }
+        ensures used_up { IsTrue (not result) → most_calls ≤ self.old.attempts.calls }
     {
         self.attempts.count_call()
     }
@@ -169,6 +181,8 @@ impl FrontEnd {
         ensures each { tries_of self.new ≡ tries_of self.old }
         ensures left { OnOk result (NeverRises (standing_of self.old) (standing_of self.new)) }
         ensures acts { ActsIf Q.shows (Q.view port.old) (Q.view port.new) }
+        ensures shown { (calls : ℕ) → GoesShown Q.shows (Q.view port.old) (Q.view port.new) opened.now.repos (tries_of self.old) calls (course_of self.old) (course_of self.new) }
+        ensures rises { Rises (held_of self.old) (held_of self.new) }
     {
         let task = self.progress.task(opened, self.attempts.each);
         let news = self.client.follow(port, opened, task, rule)?;
@@ -182,6 +196,8 @@ impl FrontEnd {
         ensures each { tries_of self.new ≡ tries_of self.old }
         ensures falls { IsSome (asking_in self.old.client.phase) → OnOk result (Falls (left_of self.old) (left_of self.new)) }
         ensures acts { ActsIf Q.shows (Q.view port.old) (Q.view port.new) }
+        ensures shown { ItemsShown Q.shows (Q.view port.old) (Q.view port.new) opened.now.repos self.old self.new }
+        ensures rises { Rises (held_of self.old) (held_of self.new) }
     {
         let task = self.progress.task(opened, self.attempts.each);
         let news = self.client.ask(port, opened, task)?;
@@ -196,6 +212,8 @@ impl FrontEnd {
         ensures each { tries_of self.new ≡ tries_of self.old }
         ensures falls { GoesOn self.old → OnOk result (Falls (left_of self.old) (left_of self.new)) }
         ensures acts { ActsIf Q.shows (Q.view port.old) (Q.view port.new) }
+        ensures shown { (repos : ℕ) → most_calls ≤ self.old.attempts.calls → ItemsShown Q.shows (Q.view port.old) (Q.view port.new) repos self.old self.new }
+        ensures rises { Rises (held_of self.old) (held_of self.new) }
     {
         if self.progress.has_ended() {
             return self.client.hand_on(port);
@@ -212,6 +230,8 @@ impl FrontEnd {
         ensures left { OnOk result (NeverRises (standing_of self.old) (standing_of self.new)) }
         ensures tried { ends_try news ≡ true → IsLeft (course_of self.old) → OnOk result (CountsDown (standing_of self.old) (standing_of self.new)) }
         ensures uncounted { (tries : ℕ) → uncounted tries self.new.client ≡ uncounted tries self.old.client }
+        ensures told { GoesBy (tries_of self.old) news (course_of self.old) (course_of self.new) }
+        ensures rises { Rises (held_of self.old) (held_of self.new) }
     {
         self.stop_waiting_behind(&news);
         self.progress.take_down(&mut self.attempts, news)
@@ -221,6 +241,7 @@ impl FrontEnd {
     fn stop_waiting_behind(&mut self, news: &News)
         ensures rest { self.new ≡ record self.old { client = self.new.client } }
         ensures uncounted { (tries : ℕ) → uncounted tries self.new.client ≡ uncounted tries self.old.client }
+        ensures rises { Rises (held_of self.old) (held_of self.new) }
     {
         if news.ends_try() && self.progress.has_ended() {
             self.client.stop_waiting();
@@ -238,6 +259,8 @@ impl FrontEnd {
         ensures goes { Goes (course_of self.old) (course_of self.new) }
         ensures keeps { OnOk result (Keeps (left_of self.old) (left_of self.new)) }
         ensures acts { ActsIf Q.shows (Q.view port.old) (Q.view port.new) }
+        ensures shown { ItemsShown Q.shows (Q.view port.old) (Q.view port.new) opened.now.repos self.old self.new }
+        ensures rises { Rises (held_of self.old) (held_of self.new) }
     {
         match self.client.held.at(repo) {
             Some(at) => self.receive(port, opened, at),
@@ -251,6 +274,8 @@ impl FrontEnd {
         ensures goes { Goes (course_of self.old) (course_of self.new) }
         ensures keeps { OnOk result (Keeps (left_of self.old) (left_of self.new)) }
         ensures acts { ActsIf Q.shows (Q.view port.old) (Q.view port.new) }
+        ensures shown { ItemsShown Q.shows (Q.view port.old) (Q.view port.new) opened.now.repos self.old self.new }
+        ensures rises { Rises (held_of self.old) (held_of self.new) }
     {
         let news = self.client.receive_delivered(port, opened, at)?;
         self.take_down(news)
@@ -258,7 +283,8 @@ impl FrontEnd {
 
     /// Asks once for each Unknown item. What is left for the client to do doesn't rise.
     pub fn last<Q: Port>(&mut self, port: &mut Q, opened: &Opened) -> Result<(), NoMemory>
-        ensures { OnOk result (Keeps (left_of self.old) (left_of self.new)) }
+        ensures keeps { OnOk result (Keeps (left_of self.old) (left_of self.new)) }
+        ensures rises { Rises (held_of self.old) (held_of self.new) }
     {
         for repo in 0..REPOSITORIES {
             self.ask_last(port, opened, repo)?;
@@ -272,9 +298,18 @@ impl FrontEnd {
         ensures goes { Goes (course_of self.old) (course_of self.new) }
         ensures keeps { OnOk result (Keeps (left_of self.old) (left_of self.new)) }
         ensures acts { ActsIf Q.shows (Q.view port.old) (Q.view port.new) }
+        ensures shown { ItemsShown Q.shows (Q.view port.old) (Q.view port.new) opened.now.repos self.old self.new }
+        ensures rises { Rises (held_of self.old) (held_of self.new) }
     {
         let news = self.client.ask_last(port, opened, repo)?;
         self.take_down(news)
+    }
+
+    /// What it holds of its repositories.
+    pub fn held(&self) -> &Held
+        ensures { result.now ≡ held_of self.now }
+    {
+        &self.client.held
     }
 
     /// How the items ended so far: those of the first items, one each, in their order.

@@ -1,6 +1,8 @@
 //! The sixth rule: the try goes on.
 
-ghost use Rattle.front_end.specs.Acting.{ActsIf};
+ghost use Rattle.client_state.specs.Learning.{Rises};
+ghost use Rattle.front_end.specs.Showing.{ShownIf};
+ghost use Rattle.port.specs.Acting.{ActsIf};
 
 use crate::client::Client;
 use client_state::{Phase, Transaction};
@@ -19,6 +21,8 @@ impl Client {
         task: Task<'_>,
     ) -> Result<News, NoMemory>
         ensures acts { ActsIf Q.shows (Q.view port.old) (Q.view port.new) }
+        ensures shown { ShownIf Q.shows (Q.view port.old) (Q.view port.new) opened.now.repos result }
+        ensures rises { Rises self.old.held self.new.held }
     {
         match self.take_phase() {
             Phase::Between | Phase::Beginning => self.begin(port, opened, task),
@@ -57,6 +61,8 @@ impl Client {
         task: Task<'_>,
     ) -> Result<News, NoMemory>
         ensures acts { ActsIf Q.shows (Q.view port.old) (Q.view port.new) }
+        ensures shown { ShownIf Q.shows (Q.view port.old) (Q.view port.new) opened.now.repos result }
+        ensures rises { Rises self.old.held self.new.held }
     {
         let alloc = self.held.alloc;
         match task.what {

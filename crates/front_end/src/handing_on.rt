@@ -1,7 +1,8 @@
 //! The fifth rule: verdicts are handed on.
 
+ghost use Rattle.client_state.specs.Learning.{Rises};
 ghost use Rattle.client_state.specs.Owing.{calls_of, count_of};
-ghost use Rattle.front_end.specs.Acting.{ActsIf};
+ghost use Rattle.port.specs.Acting.{ActsIf};
 ghost use Rattle.front_end.specs.Moving.{uncounted};
 ghost use Rattle.std.specs.Prelude.{MatchOption, OnOk, [], length, ℕ, ◌+◌, ◌<◌, ◌≡◌};
 
@@ -17,6 +18,7 @@ impl Client {
     pub fn hand_on<Q: Port>(&mut self, port: &mut Q) -> Result<(), NoMemory>
         ensures owed { 0 < length self.old.duties.verdicts → OnOk result ((tries : ℕ) → uncounted tries self.new < uncounted tries self.old) }
         ensures acts { ActsIf Q.shows (Q.view port.old) (Q.view port.new) }
+        ensures rises { Rises self.old.held self.new.held }
     {
         match self.duties.take_first() {
             Some(duty) => self.do_next(port, duty),
@@ -28,6 +30,7 @@ impl Client {
     fn do_next<Q: Port>(&mut self, port: &mut Q, duty: Duty) -> Result<(), NoMemory>
         ensures owed { OnOk result ((tries : ℕ) → uncounted tries self.new < uncounted tries self.old + calls_of duty) }
         ensures acts { ActsIf Q.shows (Q.view port.old) (Q.view port.new) }
+        ensures rises { Rises self.old.held self.new.held }
     {
         match duty {
             Duty::Finish {
@@ -49,6 +52,7 @@ impl Client {
     ) -> Result<(), NoMemory>
         ensures owed { OnOk result ((tries : ℕ) → uncounted tries self.new < uncounted tries self.old + (count_of to + 1)) }
         ensures acts { ActsIf Q.shows (Q.view port.old) (Q.view port.new) }
+        ensures rises { Rises self.old.held self.new.held }
     {
         match take_next(&mut to) {
             Some(repo) => {

@@ -1,8 +1,11 @@
 //! What becomes of items whose verdict is known.
 
-ghost use Rattle.front_end.specs.Acting.{ActsIf};
+ghost use Rattle.client_state.specs.Learning.{Rises};
+ghost use Rattle.front_end.specs.Showing.{NewsShown, ShownIf};
+ghost use Rattle.port.specs.Acting.{ActsIf, IsDecided};
+ghost use Rattle.port.specs.Views.{View};
 ghost use Rattle.item_progress.specs.Courses.{is_committed};
-ghost use Rattle.std.specs.Prelude.{◌≡◌, IfOk, IfSome};
+ghost use Rattle.std.specs.Prelude.{◌≡◌, IfOk, IfSome, true, ℕ};
 
 use crate::client::Client;
 use client_state::{Link, Sent};
@@ -15,7 +18,9 @@ use validation_window::Refusal;
 impl Client {
     /// The present item has committed: what its try has changed is kept.
     pub fn end_committed(&mut self, opened: &Opened, sent: Sent) -> News
-        ensures { self.new ≡ record self.old { held = self.new.held } }
+        ensures shown { (old new : View) (repos : ℕ) → IsDecided old new sent.ts true → NewsShown old new repos result }
+        ensures rest { self.new ≡ record self.old { held = self.new.held } }
+        ensures rises { Rises self.old.held self.new.held }
     {
         let Sent { ts, meaning, .. } = sent;
         self.held.keep();
@@ -28,7 +33,8 @@ impl Client {
     /// A transaction of the client has committed. Where it is an upgrade, that is learnt. It answers
     /// whether the epoch rises.
     fn learn_commit(&mut self, opened: &Opened, ts: Ts, meaning: &Meaning) -> bool
-        ensures { self.new ≡ record self.old { held = self.new.held } }
+        ensures rest { self.new ≡ record self.old { held = self.new.held } }
+        ensures rises { Rises self.old.held self.new.held }
     {
         self.held.raise_floor(ts);
         match meaning {
@@ -45,7 +51,9 @@ impl Client {
         repo: u8,
         verdict: Verdict,
     ) -> Result<Option<Learnt>, NoMemory>
-        ensures { IfOk result (λ learnt. IfSome learnt (λ l. is_committed l.settled.outcome ≡ verdict.commit)) }
+        ensures stands { IfOk result (λ learnt. IfSome learnt (λ l. is_committed l.settled.outcome ≡ verdict.commit)) }
+        ensures tx { IfOk result (λ learnt. IfSome learnt (λ l. l.settled.ts ≡ verdict.tx)) }
+        ensures rises { Rises self.old.held self.new.held }
     {
         match self.held.take_link(repo) {
             Link::Unsettled { sent, index } if sent.ts == verdict.tx() => {
@@ -62,7 +70,9 @@ impl Client {
     /// What becomes of an Unknown item by the verdict: its transaction stands exactly where that commits.
     fn settle(&mut self, opened: &Opened, sent: Sent, index: u32, verdict: Verdict) -> Learnt
         ensures stands { is_committed result.settled.outcome ≡ verdict.commit }
+        ensures tx { result.settled.ts ≡ sent.ts }
         ensures rest { self.new ≡ record self.old { held = self.new.held } }
+        ensures rises { Rises self.old.held self.new.held }
     {
         let repo = sent.coordinator();
         let Sent { ts, meaning, .. } = sent;
@@ -83,6 +93,8 @@ impl Client {
     ) -> Result<News, NoMemory>
         ensures rest { self.new ≡ record self.old { held = self.new.held } }
         ensures acts { ActsIf Q.shows (Q.view port.old) (Q.view port.new) }
+        ensures shown { ShownIf Q.shows (Q.view port.old) (Q.view port.new) opened.now.repos result }
+        ensures rises { Rises self.old.held self.new.held }
     {
         let (sent, index) = match self.held.take_link(repo) {
             Link::Unsettled { sent, index } => (sent, index),

@@ -2,7 +2,11 @@
 //!
 //! Lazy transforms are those of Boyapati and others (OOPSLA 2003).
 
-ghost use Rattle.front_end.specs.Acting.{ActsIf};
+ghost use Rattle.client_state.specs.Learning.{Rises};
+ghost use Rattle.front_end.specs.Showing.{NewsShown, ShownIf};
+ghost use Rattle.port.specs.Acting.{ActsIf, Refuses};
+ghost use Rattle.port.specs.Views.{View};
+ghost use Rattle.std.specs.Prelude.{IfOk, ℕ};
 
 use crate::client::Client;
 use client_state::{Becomes, Drew, Phase, Transform};
@@ -26,6 +30,8 @@ impl Client {
         owners: Orefs,
     ) -> Result<News, NoMemory>
         ensures acts { ActsIf Q.shows (Q.view port.old) (Q.view port.new) }
+        ensures shown { ShownIf Q.shows (Q.view port.old) (Q.view port.new) opened.now.repos result }
+        ensures rises { Rises self.old.held self.new.held }
     {
         self.held.undo();
         self.held.cache.bring_forward(oref);
@@ -43,6 +49,8 @@ impl Client {
         transform: Transform,
     ) -> Result<News, NoMemory>
         ensures acts { ActsIf Q.shows (Q.view port.old) (Q.view port.new) }
+        ensures shown { ShownIf Q.shows (Q.view port.old) (Q.view port.new) opened.now.repos result }
+        ensures rises { Rises self.old.held self.new.held }
     {
         let awaited = None;
         self.set_phase(Phase::Evaluating { run, awaited });
@@ -61,6 +69,8 @@ impl Client {
         mut transform: Transform,
     ) -> Result<News, NoMemory>
         ensures acts { ActsIf Q.shows (Q.view port.old) (Q.view port.new) }
+        ensures shown { ShownIf Q.shows (Q.view port.old) (Q.view port.new) opened.now.repos result }
+        ensures rises { Rises self.old.held self.new.held }
     {
         match self.held.collect(opened, &mut transform)? {
             Wanted::All(reads) => self.draw_transform(port, opened, transform, &reads),
@@ -72,7 +82,9 @@ impl Client {
     }
 
     /// The try goes on with this transform.
-    fn go_on_with(&mut self, transform: Transform) {
+    fn go_on_with(&mut self, transform: Transform)
+        ensures rises { Rises self.old.held self.new.held }
+    {
         let phase = self.take_phase().transforming(transform);
         self.set_phase(phase);
     }
@@ -86,6 +98,8 @@ impl Client {
         reads: &Orefs,
     ) -> Result<News, NoMemory>
         ensures acts { ActsIf Q.shows (Q.view port.old) (Q.view port.new) }
+        ensures shown { ShownIf Q.shows (Q.view port.old) (Q.view port.new) opened.now.repos result }
+        ensures rises { Rises self.old.held self.new.held }
     {
         let repo = transform.oref.repo;
         match self.held.at(repo) {
@@ -109,6 +123,8 @@ impl Client {
         becomes: Becomes,
     ) -> Result<News, NoMemory>
         ensures acts { ActsIf Q.shows (Q.view port.old) (Q.view port.new) }
+        ensures shown { (repos : ℕ) → ShownIf Q.shows (Q.view port.old) (Q.view port.new) repos result }
+        ensures rises { Rises self.old.held self.new.held }
     {
         match self.held.draw(port, at)? {
             Drew::Ts(ts) => {
@@ -126,6 +142,8 @@ impl Client {
         becomes: Becomes,
     ) -> Result<News, NoMemory>
         ensures acts { ActsIf Q.shows (Q.view port.old) (Q.view port.new) }
+        ensures shown { (repos : ℕ) → ShownIf Q.shows (Q.view port.old) (Q.view port.new) repos result }
+        ensures rises { Rises self.old.held self.new.held }
     {
         let oref = becomes.oref;
         match self.held.at(oref.repo) {
@@ -150,6 +168,8 @@ impl Client {
         made: Obj,
     ) -> Result<News, NoMemory>
         ensures acts { ActsIf Q.shows (Q.view port.old) (Q.view port.new) }
+        ensures shown { (repos : ℕ) → ShownIf Q.shows (Q.view port.old) (Q.view port.new) repos result }
+        ensures rises { Rises self.old.held self.new.held }
     {
         match port.commit_one(at, request) {
             Ok(_) => self.end_transform(ts, oref, made),
@@ -158,7 +178,10 @@ impl Client {
     }
 
     /// The object is written. The evaluation begins anew.
-    fn end_transform(&mut self, ts: Ts, oref: Oref, made: Obj) -> Result<News, NoMemory> {
+    fn end_transform(&mut self, ts: Ts, oref: Oref, made: Obj) -> Result<News, NoMemory>
+        ensures shown { IfOk result (λ news. (old new : View) (repos : ℕ) → NewsShown old new repos news) }
+        ensures rises { Rises self.old.held self.new.held }
+    {
         self.held.raise_floor(ts);
         self.held.keep_made(oref, made)?;
         self.begin_anew();
@@ -167,7 +190,10 @@ impl Client {
 
     /// A refused transform is a refused try. One whose call stopped may still have been committed, and
     /// nobody asks for it.
-    fn refuse_transform(&mut self, at: At, ts: Ts, refusal: Refusal) -> Result<News, NoMemory> {
+    fn refuse_transform(&mut self, at: At, ts: Ts, refusal: Refusal) -> Result<News, NoMemory>
+        ensures shown { IfOk result (λ news. (old new : View) (repos : ℕ) → Refuses old new at.repo refusal → NewsShown old new repos news) }
+        ensures rises { Rises self.old.held self.new.held }
+    {
         if let Refusal::Stopped { .. } = &refusal {
             self.held.raise_floor(ts);
         }

@@ -1,11 +1,11 @@
 use Rattle.front_end.proofs.Acting.{by_commit}
 use Rattle.front_end.proofs.client.Client.commit_one.Goals as goal
 
-pub returns-in-Ok : goal.returns-in-Ok
-returns-in-Ok g c = record { acts = by_commit _ _ _ _ _ c.args.sending.request _ c.commit_one.ensures.call }
+pub returns-in-Ok-clause-acts : goal.returns-in-Ok-clause-acts
+returns-in-Ok-clause-acts g c = by_commit _ _ _ _ _ c.args.sending.request _ c.commit_one.ensures.call
 
-pub returns-in-Err-Stopped : goal.returns-in-Err-Stopped
-returns-in-Err-Stopped g c = record { acts = by_commit _ _ _ _ _ c.args.sending.request _ c.commit_one.ensures.call }
+pub returns-in-Err-Stopped-clause-acts : goal.returns-in-Err-Stopped-clause-acts
+returns-in-Err-Stopped-clause-acts g c = by_commit _ _ _ _ _ c.args.sending.request _ c.commit_one.ensures.call
 
-pub returns-in-Err : goal.returns-in-Err
-returns-in-Err g c = record { acts = by_commit _ _ _ _ _ c.args.sending.request _ c.commit_one.ensures.call }
+pub returns-in-Err-clause-acts : goal.returns-in-Err-clause-acts
+returns-in-Err-clause-acts g c = by_commit _ _ _ _ _ c.args.sending.request _ c.commit_one.ensures.call

@@ -1,11 +1,11 @@
 use Rattle.front_end.proofs.Acting.{by_draw}
 use Rattle.front_end.proofs.client.Client.draw.Goals as goal
 
-pub returns-in_err-ts : goal.returns-in_err-ts
-returns-in_err-ts g c = record { acts = by_draw _ _ _ _ _ _ _ _ _ c.draw.ensures.call }
+pub returns-in_err-ts-clause-acts : goal.returns-in_err-ts-clause-acts
+returns-in_err-ts-clause-acts g c = by_draw _ _ _ _ _ _ _ _ _ c.draw.ensures.call
 
-pub returns-in-Ts : goal.returns-in-Ts
-returns-in-Ts g c = record { acts = by_draw _ _ _ _ _ _ _ _ _ c.draw.ensures.call }
+pub returns-in-Ts-clause-acts : goal.returns-in-Ts-clause-acts
+returns-in-Ts-clause-acts g c = by_draw _ _ _ _ _ _ _ _ _ c.draw.ensures.call
 
-pub returns-in-Refused : goal.returns-in-Refused
-returns-in-Refused g c = record { acts = by_draw _ _ _ _ _ _ _ _ _ c.draw.ensures.call }
+pub returns-in-Refused-clause-acts : goal.returns-in-Refused-clause-acts
+returns-in-Refused-clause-acts g c = by_draw _ _ _ _ _ _ _ _ _ c.draw.ensures.call

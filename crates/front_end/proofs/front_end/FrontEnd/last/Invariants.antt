@@ -1,6 +1,7 @@
-use Rattle.front_end.specs.Moving.{Keeps, left_of}
+use Rattle.client_state.specs.Learning.{Rises}
 use Rattle.front_end.proofs.front_end.FrontEnd.last.Given as goal
+use Rattle.front_end.specs.Moving.{Keeps, held_of, left_of}
 
--- what is left stays as it was, or has fallen
+-- what is left stays as it was, or has fallen; what it was told isn't forgotten
 abbrev pub invariant-loop-repo : goal.invariant-loop-repo
-invariant-loop-repo g l = Keeps (left_of l.fn.self) (left_of l.self)
+invariant-loop-repo g l = Keeps (left_of l.fn.self) (left_of l.self) × Rises (held_of l.fn.self) (held_of l.self)

@@ -1,0 +1,5 @@
+use Rattle.client_state.proofs.held.Held.collect.Given as goal
+use Rattle.client_state.specs.Learning.{KeepsBounds}
+
+abbrev pub invariant-loop : goal.invariant-loop
+invariant-loop l = KeepsBounds l.fn.self l.self

@@ -1,0 +1,106 @@
+-- That what a client's items come to is shown.
+use Rattle.client_cache.specs.Copies.{Contents, kept}
+use Rattle.client_cache.specs.Pages.{on, page_of, same_page}
+use Rattle.client_cache.specs.Placing.{IsPageOf}
+use Rattle.client_state.specs.Taking.{BringsPage}
+use Rattle.front_end.specs.Moving.{course_of}
+use Rattle.front_end.specs.Showing.{ByAbort, ByPage, CauseShown, EndsSo, GoesShown, ItemsShown, LacksSlot, NewsShown, OutcomeShown, RefusedSo, SettlesSo, Stays, UsedUp}
+use Rattle.front_end.specs.declared.front_end.FrontEnd.{FrontEnd}
+use Rattle.item_progress.specs.Courses.{Course, IsLateOutcome, is_committed}
+use Rattle.item_progress.specs.Ending.{GoesBy}
+use Rattle.item_progress.specs.Falling.{most_calls}
+use Rattle.item_progress.specs.declared.news.News.TheVariants as news
+use Rattle.item_progress.specs.declared.news.News.{News}
+use Rattle.item_progress.specs.declared.news.Settled.{Settled}
+use Rattle.message_outbox.specs.declared.answers.Asked as answer
+use Rattle.message_outbox.specs.declared.answers.Asked.TheVariants as answers
+use Rattle.message_outbox.specs.declared.answers.Verdict.{Verdict}
+use Rattle.message_outbox.specs.declared.message.Message.TheVariants.{Page}
+use Rattle.port.specs.Acting.{IsDecided, IsTaken}
+use Rattle.port.specs.Views.{Calm, Came, Halted, MayCome, Unsettled, View}
+use Rattle.port.specs.Works.{Answered, AskWork, Does}
+use Rattle.serial_model.specs.declared.outcomes.Cause.TheVariants as cause
+use Rattle.serial_model.specs.declared.outcomes.ItemOutcome.TheVariants.{Done, Faulted, Refused, Unknown, Upgraded}
+use Rattle.serial_model.specs.declared.outcomes.ItemOutcome.{ItemOutcome}
+use Rattle.std.proofs.Common.{Bool, List, ap, arith, cond, false, inl, inr, refl, subst, sym, true, ◌∙◌, ◌≡◌, ◌≤◌, ℕ}
+use Rattle.std.proofs.lemmas.Bool.Decides.{nat_tests}
+use Rattle.std.proofs.lemmas.Option.{same_Some}
+use Rattle.std.specs.Prelude.{None, Ok, Option, nat_eq, ◌&&◌}
+use Rattle.thor_value.specs.declared.names.Oref.{Oref}
+use Rattle.thor_value.specs.declared.names.Ts.{Ts}
+use Rattle.thor_value.specs.declared.values.Obj.{Obj}
+
+module _ (old new : View) where
+  decided_so : (t u : Ts) (c d : Bool) → u ≡ t → d ≡ c → IsDecided old new t c → IsDecided old new u d
+  decided_so t u c d e f h = subst (λ (x : Ts). IsDecided old new x d) (sym e) (subst (λ (x : Bool). IsDecided old new t x) (sym f) h)
+
+  -- a transaction that is decided so lets its item end so
+  pub outcome_shown : (repos : ℕ) (t : Ts) (commit : Bool) (o : ItemOutcome) → IsLateOutcome t o → is_committed o ≡ commit → IsDecided old new t commit → OutcomeShown old new repos o
+  outcome_shown repos t commit (Done ts values) late is h = decided_so t ts commit true (same_Some ts t late) is h
+  outcome_shown repos t commit (Upgraded ts number) late is h = decided_so t ts commit true (same_Some ts t late) is h
+  outcome_shown repos t commit (Faulted ts fault) late is h = decided_so t ts commit true (same_Some ts t late) is h
+  outcome_shown repos t commit (Refused (cause.Reason r)) late is h = cc
+  outcome_shown repos t commit (Refused (cause.Missing x)) late is h = cc
+  outcome_shown repos t commit (Refused (cause.Down r)) late is h = ByAbort t r (decided_so t t commit false refl is h) refl
+  outcome_shown repos t commit (Refused cause.Calls) late is h = cc
+  outcome_shown repos t commit (Unknown tx) late is h = tt
+
+  -- a try whose transaction was aborted ends so
+  pub abort_shown : (repos : ℕ) (t : Ts) (commit : Bool) (r : ℕ) → commit ≡ false → IsDecided old new t commit → CauseShown old new repos (cause.Down r)
+  abort_shown repos t commit r is h = ByAbort t r (decided_so t t commit false refl (sym is) h) refl
+
+  -- what is answered of a transaction is of that one
+  module _ (r : ℕ) (t : Ts) (v : Verdict) (d : Does {X = answer.Asked} old new r (Ok (answers.Settled v)) (AskWork t (Ok (answers.Settled v)))) where
+    told_by : (m : Unsettled) → Answered {X = answer.Asked} r (Ok (answers.Settled v)) m d.at (new.seen r) (new.unsettled r) (AskWork t (Ok (answers.Settled v)) (old.opened.base r) d.at (new.seen r) (new.unsettled r)) → v.tx ≡ t
+    told_by Calm h = h.0.0
+    told_by (MayCome e) h = absurd h.0
+    told_by Came h = absurd h.0
+    told_by Halted h = absurd h.0
+
+    pub told_tx : v.tx ≡ t
+    told_tx = told_by d.met d.answer
+
+-- ---- a page that came lacks an object
+
+same_number : (n : ℕ) → nat_eq n n ≡ true
+same_number n = grind (arith, nat_tests)
+
+same_place : (r p : ℕ) → same_page (on r p) (on r p) ≡ true
+same_place r p = ap (λ (t : Bool). t && nat_eq p p) (same_number r) ∙ same_number p
+
+pub page_lacks : (bytes : List ℕ) (x : Oref) (before after : Contents) → BringsPage x.repo x.page bytes before after → kept after x ≡ None → LacksSlot bytes x
+page_lacks bytes x before after brings none objects is =
+    ap (λ (t : Bool). cond t (objects x.slot) (kept before x)) (sym (same_place x.repo x.page)) ∙ (sym (brings objects is x) ∙ none)
+
+pub page_shown : (old new : View) (repos repo page place : ℕ) (bytes : List ℕ) (x : Oref) (before after : Contents) → x.repo ≡ repo → x.page ≡ page → BringsPage repo page bytes before after → kept after x ≡ None
+    → IsTaken old new repo (Page page bytes place) → CauseShown old new repos (cause.Missing x)
+page_shown old new repos repo page place bytes x before after here there brings none taken =
+    let b : BringsPage x.repo x.page bytes before after = subst (λ (r : ℕ). BringsPage r x.page bytes before after) (sym here) (subst (λ (p : ℕ). BringsPage repo p bytes before after) (sym there) brings) in
+    let t : IsTaken old new x.repo (Page x.page bytes place) = subst (λ (r : ℕ). IsTaken old new r (Page x.page bytes place)) (sym here) (subst (λ (p : ℕ). IsTaken old new repo (Page p bytes place)) (sym there) taken) in
+    ByPage x place bytes t (page_lacks bytes x before after b none) refl
+
+-- ---- items
+
+module _ (shows : Bool) (old new : View) (repos each calls : ℕ) where
+  -- what a step has come to is taken down
+  pub goes_shown : (n : News) (before after : Course) → (shows ≡ true → NewsShown old new repos n) → GoesBy each n before after → GoesShown shows old new repos each calls before after
+  goes_shown news.Nothing before after h g = Stays g
+  goes_shown (news.TryEnded c) before after h (inl same) = Stays same
+  goes_shown (news.TryEnded c) before after h (inr g) = RefusedSo c g h
+  goes_shown (news.Ended outcome) before after h (inl same) = Stays same
+  goes_shown (news.Ended outcome) before after h (inr g) = EndsSo outcome g h
+  goes_shown (news.Settled settled) before after h (inl same) = Stays same
+  goes_shown (news.Settled settled) before after h (inr g) = SettlesSo settled.outcome g (λ s. outcome_shown old new repos settled.ts (is_committed settled.outcome) settled.outcome settled.late refl (h s))
+
+  -- the calls of the try were used up
+  pub used_up : (n : News) (before after : Course) → n ≡ news.TryEnded cause.Calls → most_calls ≤ calls → GoesBy each n before after → GoesShown shows old new repos each calls before after
+  used_up n before after is most g = ended (subst (λ (m : News). GoesBy each m before after) is g)
+    where
+      ended : GoesBy each (news.TryEnded cause.Calls) before after → GoesShown shows old new repos each calls before after
+      ended (inl same) = Stays same
+      ended (inr r) = UsedUp r most
+
+-- a call was counted before
+pub shown_counted : (shows : Bool) (old new : View) (repos : ℕ) (f m g : FrontEnd) → m.attempts.each ≡ f.attempts.each → course_of m ≡ course_of f
+    → ((calls : ℕ) → GoesShown shows old new repos m.attempts.each calls (course_of m) (course_of g)) → ItemsShown shows old new repos f g
+shown_counted shows old new repos f m g each course h = subst (λ (n : ℕ). GoesShown shows old new repos n f.attempts.calls (course_of f) (course_of g)) each (subst (λ (c : Course). GoesShown shows old new repos m.attempts.each f.attempts.calls c (course_of g)) course (h f.attempts.calls))
