@@ -11,7 +11,7 @@ ghost use Rattle.std.specs.Prelude.{◌≡◌, ◌<◌, ◌^◌, [], IfOk, IsSom
 
 use crate::client::Client;
 use crate::rule::{Counted, Rule};
-use client_state::REPOSITORIES;
+use client_state::{Held, REPOSITORIES};
 use item_progress::{Attempts, Items, News, Opened, Progress};
 use message_outbox::At;
 use port::Port;
@@ -89,6 +89,11 @@ impl FrontEnd {
         }
         self.move_on(port, opened)?;
         Ok(Step::Moved)
+    }
+
+    /// What the client holds of its repositories: its sessions, its copies, and what it knows of them.
+    pub fn held(&self) -> &Held {
+        &self.client.held
     }
 
     /// Whether every item has ended, and no verdict is left to hand on.
