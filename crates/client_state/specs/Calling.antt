@@ -12,7 +12,7 @@ use Rattle.message_outbox.specs.declared.answers.Welcome.{Welcome}
 use Rattle.port.specs.Views.{View}
 use Rattle.port.specs.Works.{ConnectWork, Does, DrawWork, FetchWork, GrantWork}
 use Rattle.refusal_reasons.specs.declared.reason.Reason.TheVariants as reasons
-use Rattle.std.specs.Prelude.{Bool, Err, IfOk, List, None, Ok, Option, Result, Some, cond, false, nat_eq, slice_get, true, ℕ, ◌&&◌, ◌≡◌}
+use Rattle.std.specs.Prelude.{Bool, Err, IfOk, List, None, Ok, Option, Result, Some, cond, false, nat_eq, slice_get, true, ℕ, ◌&&◌, ◌≡◌, ◌≤◌}
 use Rattle.thor_value.specs.declared.names.Oref.{Oref}
 use Rattle.thor_value.specs.declared.names.Ts.{Ts}
 use Rattle.thor_value.specs.declared.memory.NoMemory.{NoMemory}
@@ -106,3 +106,10 @@ pub record Draws (shows : Bool) (old new : View) (at : At) (answer : Result Drew
   pub told : IfOk answer (λ d. IsDrawnSo d result)
   pub links : after ≡ links_drawn result at.repo before
   pub kept_so : CopiesBehind result at.repo before copies left
+
+-- what is drawn is above the least that the client has to draw above
+pub record DrawsAbove (shows : Bool) (old new : View) (at : At) (least : ℕ) : Type 0 where
+  pub floor : ℕ
+  pub above : least ≤ floor
+  pub result : Result Ts Refusal
+  pub call : shows ≡ true → Does old new at.repo result (DrawWork at.session floor result)

@@ -3,4 +3,5 @@ pub mod Causes
 pub mod Learning
 pub mod Links
 pub mod Owing
+pub mod Showing
 pub mod Taking

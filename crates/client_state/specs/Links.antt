@@ -3,7 +3,8 @@ use Rattle.client_state.specs.declared.link.Link.{Link}
 use Rattle.client_state.specs.declared.link.Link.TheVariants.{Apart, Joined, Unsettled}
 use Rattle.client_state.specs.declared.link.Waits.{Waits}
 use Rattle.client_state.specs.declared.link.Waits.TheVariants.{Epoch, Idle, Past, Reply}
-use Rattle.std.specs.Prelude.{Bool, List, None, Option, Some, cond, false, nat_eq, nat_le, nat_lt, slice_get, slice_set, true, ℕ}
+use Rattle.message_outbox.specs.declared.answers.At.{At}
+use Rattle.std.specs.Prelude.{Bool, List, None, Option, Some, cond, false, nat_eq, nat_le, nat_lt, slice_get, slice_set, true, ℕ, ◌<◌, ◌≡◌}
 
 -- how far the messages of a repository were taken; 0 without a session
 abbrev pub upto_of : Link → ℕ
@@ -61,6 +62,25 @@ abbrev pub is_behind : ℕ → Link → Bool
 is_behind epoch Apart = false
 is_behind epoch (Joined s upto waits) = is_behind_of epoch upto waits
 is_behind epoch (Unsettled sent index) = false
+
+-- The session at a repository, as a call names it, where there is one.
+abbrev pub session_at : ℕ → Link → Option At
+session_at repo Apart = None
+session_at repo (Joined s upto waits) = Some (record { repo = repo; session = s })
+session_at repo (Unsettled sent index) = None
+
+-- the same of a repository that may have no link
+abbrev pub session_in : ℕ → Option Link → Option At
+session_in repo None = None
+session_in repo (Some link) = session_at repo link
+
+-- Of the repositories below n none has a reply outstanding.
+abbrev pub NoneAwaits : ℕ → List Link → Type 0
+NoneAwaits n links = (r : ℕ) (l : Link) → r < n → slice_get links r ≡ Some l → awaits_reply l ≡ false
+
+-- A client of this epoch is behind none of the repositories below n.
+abbrev pub NoneIsBehind : ℕ → ℕ → List Link → Type 0
+NoneIsBehind n epoch links = (r : ℕ) (l : Link) → r < n → slice_get links r ≡ Some l → is_behind epoch l ≡ false
 
 -- the link at a repository that has one becomes another
 abbrev pub changed_at : List Link → ℕ → (Link → Link) → Option Link → List Link

@@ -34,3 +34,7 @@ links_behind (Err refusal) repo links = links
 -- no copy is left of these objects, and all others stay
 abbrev pub Without : List Oref → Contents → Contents → Type 0
 Without names old new = (x : Oref) → kept new x ≡ cond (list_any (λ y. same_name y x) names) None (kept old x)
+
+-- a page's objects come in the place of the copies of it, where its bytes spell a page of objects
+abbrev pub BringsPage : ℕ → ℕ → List ℕ → Contents → Contents → Type 0
+BringsPage repo page bytes old new = (objects : ℕ → Option Obj) → IsPageOf bytes page objects → (x : Oref) → kept new x ≡ cond (same_page (on repo page) (page_of x)) (objects x.slot) (kept old x)

@@ -1,10 +1,13 @@
 //! The calls of a running try on one repository, and what they come to.
 
-ghost use Rattle.client_state.specs.Calling.{Connects, CopiesRefused, Draws, Fetches, Grants, links_refused, upto_in};
+ghost use Rattle.client_state.specs.Calling.{Connects, CopiesRefused, Draws, DrawsAbove, Fetches, Grants, links_refused, upto_in};
 ghost use Rattle.client_state.specs.Links.{at_repo};
+ghost use Rattle.client_state.specs.Showing.{CameIf, CameShown, DrewIf};
 ghost use Rattle.client_state.specs.declared.link.Link.TheVariants.{Joined};
 ghost use Rattle.client_state.specs.declared.link.Waits.TheVariants.{Idle};
-ghost use Rattle.std.specs.Prelude.{slice_get, ◌≡◌};
+ghost use Rattle.port.specs.Acting.{Refuses};
+ghost use Rattle.port.specs.Views.{View};
+ghost use Rattle.std.specs.Prelude.{IfOk, slice_get, ◌≡◌};
 
 use crate::causes::cause_of;
 use crate::held::Held;
@@ -50,6 +53,7 @@ impl Held {
     ) -> Result<Came, NoMemory>
         ensures call { Connects Q.shows (Q.view port.old) (Q.view port.new) repo self.old.client self.old.links.items self.new.links.items }
         ensures copies { self.new.cache ≡ self.old.cache }
+        ensures shown { CameIf Q.shows (Q.view port.old) (Q.view port.new) result }
     {
         match port.connect(repo, self.client) {
             Ok(welcome) => Ok(self.welcome(opened, repo, welcome)),
@@ -60,6 +64,7 @@ impl Held {
     fn welcome(&mut self, opened: &Opened, repo: u8, welcome: Welcome) -> Came
         ensures links { self.new.links.items ≡ at_repo self.old.links.items repo (λ l. Joined welcome.session welcome.place Idle) }
         ensures copies { self.new.cache ≡ self.old.cache }
+        ensures shown { (old new : View) → CameShown old new result }
     {
         let Welcome {
             session,
@@ -86,6 +91,7 @@ impl Held {
     /// Asks for a page.
     pub fn fetch<Q: Port>(&mut self, port: &mut Q, at: At, page: u32) -> Result<Came, NoMemory>
         ensures call { Fetches Q.shows (Q.view port.old) (Q.view port.new) at page (upto_in (slice_get self.old.links.items at.repo)) self.old.links.items self.new.links.items self.old.cache.cache self.new.cache.cache }
+        ensures shown { CameIf Q.shows (Q.view port.old) (Q.view port.new) result }
     {
         match port.fetch(at, page, self.upto(at.repo)) {
             Ok(()) => {
@@ -99,6 +105,7 @@ impl Held {
     /// Asks for a page of names.
     pub fn ask_for_names<Q: Port>(&mut self, port: &mut Q, at: At) -> Result<Came, NoMemory>
         ensures call { Grants Q.shows (Q.view port.old) (Q.view port.new) at self.old.links.items self.new.links.items self.old.cache.cache self.new.cache.cache }
+        ensures shown { CameIf Q.shows (Q.view port.old) (Q.view port.new) result }
     {
         match port.grant(at) {
             Ok(()) => {
@@ -112,6 +119,8 @@ impl Held {
     /// Draws a timestamp.
     pub fn draw<Q: Port>(&mut self, port: &mut Q, at: At) -> Result<Drew, NoMemory>
         ensures call { Draws Q.shows (Q.view port.old) (Q.view port.new) at result self.old.links.items self.new.links.items self.old.cache.cache self.new.cache.cache }
+        ensures above { DrawsAbove Q.shows (Q.view port.old) (Q.view port.new) at self.old.floor }
+        ensures shown { DrewIf Q.shows (Q.view port.old) (Q.view port.new) result }
     {
         match port.draw(at, self.floor()) {
             Ok(ts) => Ok(Drew::Ts(ts)),
@@ -124,6 +133,7 @@ impl Held {
     fn refused(&mut self, repo: u8, refusal: Refusal) -> Result<Came, NoMemory>
         ensures links { self.new.links.items ≡ links_refused refusal repo self.old.links.items }
         ensures copies { CopiesRefused refusal repo self.old.links.items self.old.cache.cache self.new.cache.cache }
+        ensures shown { IfOk result (λ came. (old new : View) → Refuses old new repo refusal → CameShown old new came) }
     {
         if self.lose_gone(repo, refusal) {
             return Ok(Came::Anew);

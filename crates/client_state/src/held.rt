@@ -1,10 +1,12 @@
 //! What a client holds of the repositories: sessions, copies of objects, names for new ones.
 
-ghost use Rattle.client_state.specs.Calling.{CopiesLost, is_session_of, upto_in};
+ghost use Rattle.client_state.specs.Calling.{CopiesLost, CopiesStay, is_session_of, upto_in};
 ghost use Rattle.client_state.specs.Learning.{without_session};
-ghost use Rattle.client_state.specs.Links.{at_repo, waiting};
+ghost use Rattle.client_state.specs.Links.{NoneAwaits, NoneIsBehind, at_repo, awaits_reply, is_behind, session_in, waiting};
+ghost use Rattle.client_state.specs.Taking.{BringsPage};
+ghost use Rattle.client_state.specs.declared.link.Link.{Link};
 ghost use Rattle.client_cache.specs.Copies.{kept};
-ghost use Rattle.std.specs.Prelude.{◌≡◌, ◌<◌, None, cond, max, nat_eq, slice_get};
+ghost use Rattle.std.specs.Prelude.{false, ◌≡◌, ◌<◌, ◌≤◌, IsTrue, None, OnOk, Some, cond, max, nat_eq, not, slice_get};
 ghost use Rattle.thor_value.specs.declared.names.Oref.{Oref};
 
 use crate::link::{Link, Waits};
@@ -62,7 +64,9 @@ impl Held {
     }
 
     /// The client's epoch: how many upgrades it counts as installed.
-    pub fn epoch(&self, opened: &Opened) -> u32 {
+    pub fn epoch(&self, opened: &Opened) -> u32
+        ensures { result ≡ max opened.now.epoch self.now.learnt }
+    {
         if self.learnt < opened.epoch {
             return opened.epoch;
         }
@@ -70,7 +74,9 @@ impl Held {
     }
 
     /// The session at a repository, as a call names it, where there is one.
-    pub fn at(&self, repo: u8) -> Option<At> {
+    pub fn at(&self, repo: u8) -> Option<At>
+        ensures { result ≡ session_in repo (slice_get self.now.links.items repo) }
+    {
         match self.links.get(usize::from(repo)) {
             Some(link) => link.at(repo),
             None => None,
@@ -96,28 +102,48 @@ impl Held {
     }
 
     /// The repository of which a reply is outstanding. There is one at most.
-    pub fn awaited(&self) -> Option<At> {
+    pub fn awaited(&self) -> Option<At>
+        ensures { result ≡ None → NoneAwaits 8 self.now.links.items }
+    {
         for repo in 0..REPOSITORIES {
-            if let Some(link) = self.links.get(usize::from(repo)) {
-                if link.awaits_reply() {
-                    return link.at(repo);
-                }
+            if let Some(at) = self.awaited_at(repo) {
+                return Some(at);
             }
         }
         None
     }
 
+    /// The session at a repository, where a reply of it is outstanding.
+    fn awaited_at(&self, repo: u8) -> Option<At>
+        ensures { result ≡ None → (l : Link) → slice_get self.now.links.items repo ≡ Some l → awaits_reply l ≡ false }
+    {
+        match self.links.get(usize::from(repo)) {
+            Some(link) if link.awaits_reply() => link.at(repo),
+            Some(_) | None => None,
+        }
+    }
+
     /// The repository with which the client has to catch up. There is one at most.
-    pub fn behind(&self, opened: &Opened) -> Option<At> {
+    pub fn behind(&self, opened: &Opened) -> Option<At>
+        ensures { result ≡ None → NoneIsBehind 8 (max opened.now.epoch self.now.learnt) self.now.links.items }
+    {
         let epoch = self.epoch(opened);
         for repo in 0..REPOSITORIES {
-            if let Some(link) = self.links.get(usize::from(repo)) {
-                if link.is_behind(epoch) {
-                    return link.at(repo);
-                }
+            if let Some(at) = self.behind_at(repo, epoch) {
+                return Some(at);
             }
         }
         None
+    }
+
+    /// The session at a repository, where a client of this epoch is behind it.
+    fn behind_at(&self, repo: u8, epoch: u32) -> Option<At>
+        ensures { result ≡ None → (l : Link) → slice_get self.now.links.items repo ≡ Some l → is_behind epoch l ≡ false }
+    {
+        match self.links.get(usize::from(repo)) {
+            Some(link) if link.is_behind(epoch) => link.at(repo),
+            Some(_) | None => None,
+        }
     }
 
     /// The first of some repositories where there is no session.
@@ -218,7 +244,9 @@ impl Held {
 
     /// The time above which the next transaction is drawn. A transaction whose verdict isn't learnt
     /// counts.
-    pub fn floor(&self) -> u64 {
+    pub fn floor(&self) -> u64
+        ensures { self.now.floor ≤ result }
+    {
         let mut floor = self.floor;
         for link in &self.links {
             let time = link.unsettled_time();
@@ -250,7 +278,9 @@ impl Held {
     }
 
     /// Whether an object is held.
-    pub fn holds(&self, oref: Oref) -> bool {
+    pub fn holds(&self, oref: Oref) -> bool
+        ensures { IsTrue (not result) → kept self.now.cache.cache oref ≡ None }
+    {
         match self.cache.look(oref) {
             Looked::Here(_) => true,
             Looked::NoPage | Looked::NoSlot => false,
@@ -267,13 +297,18 @@ impl Held {
 
     /// Puts a page's objects in the place of the copies of it. Bytes that are no page of objects bring
     /// nothing.
-    pub fn place(&mut self, repo: u8, page: u32, bytes: &Text) -> Result<(), NoMemory> {
+    pub fn place(&mut self, repo: u8, page: u32, bytes: &Text) -> Result<(), NoMemory>
+        ensures kept { OnOk result (BringsPage repo page bytes.now self.old.cache.cache self.new.cache.cache) }
+        ensures rest { self.new ≡ record self.old { cache = self.new.cache } }
+    {
         self.cache.place(page, repo, bytes.as_slice())?;
         Ok(())
     }
 
     /// Keeps an object as it was made by a transform.
-    pub fn keep_made(&mut self, oref: Oref, made: Obj) -> Result<(), NoMemory> {
+    pub fn keep_made(&mut self, oref: Oref, made: Obj) -> Result<(), NoMemory>
+        ensures { self.new ≡ record self.old { cache = self.new.cache } }
+    {
         if oref.slot < SLOTS {
             self.cache.write(oref, made)?;
         }
@@ -282,19 +317,32 @@ impl Held {
     }
 
     /// What a try has changed is given up.
-    pub fn undo(&mut self) {
+    pub fn undo(&mut self)
+        ensures copies { CopiesStay self.old.cache.cache self.new.cache.cache }
+        ensures links { self.new.links ≡ self.old.links }
+        ensures floor { self.new.floor ≡ self.old.floor }
+        ensures learnt { self.new.learnt ≡ self.old.learnt }
+    {
         self.cache.undo();
         self.names.reset();
     }
 
     /// What a try has changed is given up, and the try has ended.
-    pub fn give_up(&mut self) {
+    pub fn give_up(&mut self)
+        ensures links { self.new.links ≡ self.old.links }
+        ensures floor { self.new.floor ≡ self.old.floor }
+        ensures learnt { self.new.learnt ≡ self.old.learnt }
+    {
         self.undo();
         self.cache.evict();
     }
 
     /// What a try has changed is kept, and the try has ended.
-    pub fn keep(&mut self) {
+    pub fn keep(&mut self)
+        ensures links { self.new.links ≡ self.old.links }
+        ensures floor { self.new.floor ≡ self.old.floor }
+        ensures learnt { self.new.learnt ≡ self.old.learnt }
+    {
         self.cache.settle();
         self.cache.evict();
     }

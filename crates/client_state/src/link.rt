@@ -1,7 +1,7 @@
 //! What a client holds of one repository.
 
 ghost use Rattle.client_state.specs.Learning.{is_session, without_session};
-ghost use Rattle.client_state.specs.Links.{acknowledged, answered, is_behind, awaits_reply, is_behind_of, upto_of, waiting};
+ghost use Rattle.client_state.specs.Links.{acknowledged, answered, is_behind, awaits_reply, is_behind_of, session_at, upto_of, waiting};
 ghost use Rattle.std.specs.Prelude.{◌≡◌};
 
 use crate::transaction::Sent;
@@ -60,7 +60,9 @@ impl Waits {
 
 impl Link {
     /// The session as a call names it, where there is one.
-    pub fn at(&self, repo: u8) -> Option<At> {
+    pub fn at(&self, repo: u8) -> Option<At>
+        ensures { result ≡ session_at repo self.now }
+    {
         match self {
             Link::Joined { session, .. } => Some(At {
                 repo,

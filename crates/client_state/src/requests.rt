@@ -1,5 +1,7 @@
 //! The requests by which a client has its transactions committed.
 
+ghost use Rattle.std.specs.Prelude.{IfOk, IfSome, ◌≡◌};
+
 use crate::held::Held;
 use crate::transaction::{Share, Transaction};
 use crate::transform::{Becomes, transform_request};
@@ -21,7 +23,9 @@ impl Held {
         who: Who,
         ts: Ts,
         transaction: &mut Transaction,
-    ) -> Result<Option<Sending>, NoMemory> {
+    ) -> Result<Option<Sending>, NoMemory>
+        ensures { IfOk result (λ some. IfSome some (λ sending. sending.request.tx ≡ ts)) }
+    {
         match transaction.next_share() {
             Some(share) => Ok(Some(self.sending(who, ts, transaction, share)?)),
             None => Ok(None),
@@ -34,7 +38,9 @@ impl Held {
         ts: Ts,
         transaction: &Transaction,
         share: Share,
-    ) -> Result<Sending, NoMemory> {
+    ) -> Result<Sending, NoMemory>
+        ensures { IfOk result (λ sending. sending.request.tx ≡ ts) }
+    {
         let at = share.at();
         let request = self.request(who, ts, transaction, share)?;
         Ok(Sending { at, request })
@@ -59,7 +65,9 @@ impl Held {
         ts: Ts,
         transaction: &Transaction,
         share: Share,
-    ) -> Result<Request, NoMemory> {
+    ) -> Result<Request, NoMemory>
+        ensures { IfOk result (λ request. request.tx ≡ ts) }
+    {
         let Share {
             repo,
             session,

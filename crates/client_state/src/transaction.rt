@@ -1,7 +1,7 @@
 //! A transaction that a try has made, and what is sent of it.
 
 ghost use Rattle.client_state.specs.Owing.{count_of};
-ghost use Rattle.std.specs.Prelude.{IfOk, length, ◌≤◌};
+ghost use Rattle.std.specs.Prelude.{IfOk, length, ◌≡◌, ◌≤◌};
 
 use crate::link::Link;
 use item_progress::Meaning;
@@ -148,7 +148,9 @@ impl Transaction {
     }
 
     /// It is sent to be decided under its name.
-    pub fn sent(self, ts: Ts) -> Sent {
+    pub fn sent(self, ts: Ts) -> Sent
+        ensures { result.ts ≡ ts }
+    {
         let Transaction {
             meaning,
             participants,

@@ -4,7 +4,7 @@ use Rattle.client_state.specs.Calling.{Connects, Draws, Fetches, Grants}
 use Rattle.client_state.specs.declared.calls.Drew.{Drew}
 use Rattle.client_state.specs.declared.link.Link.{Link}
 use Rattle.commit_log.specs.declared.request.Request.{Request}
-use Rattle.front_end.specs.Acting.{ActsIf, Asked, Committed, Connected, Decided, Drew as drew, Fetched, Finished, Forgot, Granted, Prepared, Received, Rests}
+use Rattle.port.specs.Acting.{ActsIf, Asked, Committed, Connected, Decided, Drew as drew, Fetched, Finished, Forgot, Granted, Prepared, Received, Rests}
 use Rattle.message_outbox.specs.declared.answers.Asked as answer
 use Rattle.message_outbox.specs.declared.answers.At.{At}
 use Rattle.message_outbox.specs.declared.answers.Verdict.{Verdict}

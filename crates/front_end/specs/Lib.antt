@@ -1,3 +1,3 @@
-pub mod Acting
 pub mod Moving
 pub mod Rules
+pub mod Showing

@@ -1,7 +1,11 @@
--- Which of the rules of a step are not counted (this project's).
+-- Which of the rules of a step are not counted, and when the last one comes (this project's).
+use Rattle.client_state.specs.Links.{NoneAwaits, NoneIsBehind}
+use Rattle.front_end.specs.declared.client.Client.{Client}
+use Rattle.front_end.specs.declared.rule.Counted.TheVariants as counted
+use Rattle.front_end.specs.declared.rule.Counted.{Counted}
 use Rattle.front_end.specs.declared.rule.Rule.{Rule}
 use Rattle.front_end.specs.declared.rule.Rule.TheVariants as rules
-use Rattle.std.specs.Prelude.{Bool, false, true}
+use Rattle.std.specs.Prelude.{Bool, None, false, true, ℕ, ◌≡◌}
 
 -- the client asks for its own transaction
 abbrev pub asks : Rule → Bool
@@ -14,3 +18,23 @@ abbrev pub hands_on : Rule → Bool
 hands_on (rules.Counted rule) = false
 hands_on rules.Ask = false
 hands_on rules.HandOn = true
+
+-- a call of a try goes on with it
+abbrev pub goes_on_by : Counted → Bool
+goes_on_by (counted.Await at) = false
+goes_on_by (counted.CatchUp at) = false
+goes_on_by (counted.Help helping) = false
+goes_on_by counted.GoOn = true
+
+-- the try goes on
+abbrev pub goes_on : Rule → Bool
+goes_on (rules.Counted rule) = goes_on_by rule
+goes_on rules.Ask = false
+goes_on rules.HandOn = false
+
+-- Nothing holds the try of a client of this epoch back: no reply is outstanding, behind each refusal the messages were taken
+-- that it had to take, and no transaction of another's is to be helped on.
+pub record NothingHoldsBack (epoch : ℕ) (c : Client) : Type 0 where
+  pub awaited : NoneAwaits 8 c.held.links.items
+  pub behind : NoneIsBehind 8 epoch c.held.links.items
+  pub helping : c.duties.helping ≡ None

@@ -2,7 +2,7 @@
 //! there.
 
 ghost use Rattle.client_state.specs.Owing.{count_of};
-ghost use Rattle.front_end.specs.Acting.{ActsIf};
+ghost use Rattle.port.specs.Acting.{ActsIf};
 ghost use Rattle.front_end.specs.Moving.{uncounted};
 ghost use Rattle.std.specs.Prelude.{OnOk, ℕ, ◌+◌, ◌≤◌};
 

@@ -2,9 +2,11 @@
 
 ghost use Rattle.client_state.specs.Owing.{asking_in, calls_in, count_of};
 ghost use Rattle.client_state.specs.declared.phase.Phase.TheVariants as phase;
-ghost use Rattle.front_end.specs.Acting.{ActsIf};
+ghost use Rattle.front_end.specs.Showing.{NewsShown, ShownIf};
+ghost use Rattle.port.specs.Acting.{ActsIf, IsDecided};
+ghost use Rattle.port.specs.Views.{View};
 ghost use Rattle.front_end.specs.Moving.{uncounted};
-ghost use Rattle.std.specs.Prelude.{IsSome, OnOk, ℕ, ◌+◌, ◌<◌, ◌≡◌, ◌≤◌};
+ghost use Rattle.std.specs.Prelude.{IfOk, IsSome, OnOk, ℕ, ◌+◌, ◌<◌, ◌≡◌, ◌≤◌};
 
 use crate::client::Client;
 use client_state::{Link, Phase, Sent};
@@ -25,6 +27,7 @@ impl Client {
     ) -> Result<News, NoMemory>
         ensures owed { IsSome (asking_in self.old.phase) → OnOk result (uncounted task.entry.tries self.new < uncounted task.entry.tries self.old) }
         ensures acts { ActsIf Q.shows (Q.view port.old) (Q.view port.new) }
+        ensures shown { ShownIf Q.shows (Q.view port.old) (Q.view port.new) opened.now.repos result }
     {
         match self.take_phase().into_asking() {
             Some((sent, answers)) => self.ask_coordinator(port, opened, task, sent, answers),
@@ -42,6 +45,7 @@ impl Client {
     ) -> Result<News, NoMemory>
         ensures owed { OnOk result (uncounted task.entry.tries self.new < uncounted task.entry.tries self.old + calls_in task.entry.tries (phase.Asking sent answers)) }
         ensures acts { ActsIf Q.shows (Q.view port.old) (Q.view port.new) }
+        ensures shown { ShownIf Q.shows (Q.view port.old) (Q.view port.new) opened.now.repos result }
     {
         match port.ask(sent.coordinator(), sent.ts) {
             Ok(Asked::Settled(verdict)) => self.learn_own(opened, sent, verdict),
@@ -59,7 +63,8 @@ impl Client {
         sent: Sent,
         verdict: Verdict,
     ) -> Result<News, NoMemory>
-        ensures { OnOk result ((tries : ℕ) → uncounted tries self.new ≤ uncounted tries self.old + (count_of sent.participants + 1)) }
+        ensures owed { OnOk result ((tries : ℕ) → uncounted tries self.new ≤ uncounted tries self.old + (count_of sent.participants + 1)) }
+        ensures shown { IfOk result (λ news. (old new : View) (repos : ℕ) → IsDecided old new sent.ts verdict.commit → NewsShown old new repos news) }
     {
         let coordinator = sent.coordinator();
         self.duties.hand_on(verdict, sent.others()?)?;
@@ -71,7 +76,8 @@ impl Client {
 
     /// An answer had no verdict. Behind as many as there are tries, the item is held as Unknown.
     fn ask_again(&mut self, task: Task<'_>, sent: Sent, answers: u32) -> News
-        ensures { (before : ℕ) → (answers < task.entry.tries → before < answers) → uncounted task.entry.tries self.new < uncounted task.entry.tries self.old + calls_in task.entry.tries (phase.Asking sent before) }
+        ensures owed { (before : ℕ) → (answers < task.entry.tries → before < answers) → uncounted task.entry.tries self.new < uncounted task.entry.tries self.old + calls_in task.entry.tries (phase.Asking sent before) }
+        ensures shown { (old new : View) (repos : ℕ) → NewsShown old new repos result }
     {
         if answers < task.tries {
             self.set_phase(Phase::Asking { sent, answers });
@@ -83,7 +89,8 @@ impl Client {
     /// The client goes on without the verdict. It leaves every participant, so that what may still be
     /// committed there comes from another session.
     fn hold_as_unknown(&mut self, task: Task<'_>, sent: Sent) -> News
-        ensures { self.new ≡ record self.old { held = self.new.held } }
+        ensures rest { self.new ≡ record self.old { held = self.new.held } }
+        ensures shown { (old new : View) (repos : ℕ) → NewsShown old new repos result }
     {
         for repo in sent.participants.as_slice() {
             self.held.leave(*repo);

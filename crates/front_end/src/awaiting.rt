@@ -1,6 +1,7 @@
 //! The first rule: a reply is outstanding.
 
-ghost use Rattle.front_end.specs.Acting.{ActsIf};
+ghost use Rattle.front_end.specs.Showing.{ShownIf};
+ghost use Rattle.port.specs.Acting.{ActsIf};
 
 use crate::client::Client;
 use item_progress::{News, Opened};
@@ -17,6 +18,7 @@ impl Client {
         at: At,
     ) -> Result<News, NoMemory>
         ensures acts { ActsIf Q.shows (Q.view port.old) (Q.view port.new) }
+        ensures shown { ShownIf Q.shows (Q.view port.old) (Q.view port.new) opened.now.repos result }
     {
         match self.receive(port, opened, at)? {
             Some(news) => Ok(news),

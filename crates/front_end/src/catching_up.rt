@@ -1,6 +1,7 @@
 //! The second rule: the client catches up with a repository that refused it.
 
-ghost use Rattle.front_end.specs.Acting.{ActsIf};
+ghost use Rattle.front_end.specs.Showing.{ShownIf};
+ghost use Rattle.port.specs.Acting.{ActsIf};
 
 use crate::client::Client;
 use client_state::Waits;
@@ -18,6 +19,7 @@ impl Client {
         at: At,
     ) -> Result<News, NoMemory>
         ensures acts { ActsIf Q.shows (Q.view port.old) (Q.view port.new) }
+        ensures shown { ShownIf Q.shows (Q.view port.old) (Q.view port.new) opened.now.repos result }
     {
         match self.receive(port, opened, at)? {
             Some(news) => Ok(news),

@@ -1,6 +1,8 @@
 //! How a transaction is drawn, sent and decided.
 
-ghost use Rattle.front_end.specs.Acting.{ActsIf};
+ghost use Rattle.front_end.specs.Showing.{ShownIf};
+ghost use Rattle.port.specs.Acting.{ActsIf};
+ghost use Rattle.std.specs.Prelude.{ℕ, ◌≡◌};
 
 use crate::client::Client;
 use client_state::{Drew, Phase, Sending, Sent, Transaction};
@@ -20,6 +22,7 @@ impl Client {
         transaction: Transaction,
     ) -> Result<News, NoMemory>
         ensures acts { ActsIf Q.shows (Q.view port.old) (Q.view port.new) }
+        ensures shown { ShownIf Q.shows (Q.view port.old) (Q.view port.new) opened.now.repos result }
     {
         let apart = self.held.first_apart(&transaction.participants);
         let coordinator = transaction.coordinator();
@@ -33,6 +36,7 @@ impl Client {
     /// Draws the evaluated transaction at its coordinator.
     fn draw<Q: Port>(&mut self, port: &mut Q, coordinator: u8) -> Result<News, NoMemory>
         ensures acts { ActsIf Q.shows (Q.view port.old) (Q.view port.new) }
+        ensures shown { (repos : ℕ) → ShownIf Q.shows (Q.view port.old) (Q.view port.new) repos result }
     {
         let Some(at) = self.held.at(coordinator) else {
             return Ok(News::Nothing);
@@ -57,6 +61,7 @@ impl Client {
         mut transaction: Transaction,
     ) -> Result<News, NoMemory>
         ensures acts { ActsIf Q.shows (Q.view port.old) (Q.view port.new) }
+        ensures shown { ShownIf Q.shows (Q.view port.old) (Q.view port.new) opened.now.repos result }
     {
         self.held.names.spend();
         match self.held.next_sending(who, ts, &mut transaction)? {
@@ -74,6 +79,7 @@ impl Client {
         sending: Sending,
     ) -> Result<News, NoMemory>
         ensures acts { ActsIf Q.shows (Q.view port.old) (Q.view port.new) }
+        ensures shown { sending.request.tx ≡ ts → ShownIf Q.shows (Q.view port.old) (Q.view port.new) opened.now.repos result }
     {
         if transaction.participants.len() == 1 {
             return self.commit_one(port, opened, transaction.sent(ts), sending);
@@ -89,6 +95,7 @@ impl Client {
         sending: Sending,
     ) -> Result<News, NoMemory>
         ensures acts { ActsIf Q.shows (Q.view port.old) (Q.view port.new) }
+        ensures shown { sending.request.tx ≡ sent.ts → ShownIf Q.shows (Q.view port.old) (Q.view port.new) opened.now.repos result }
     {
         let Sending { at, request } = sending;
         match port.commit_one(at, request) {
@@ -109,6 +116,7 @@ impl Client {
         sending: Sending,
     ) -> Result<News, NoMemory>
         ensures acts { ActsIf Q.shows (Q.view port.old) (Q.view port.new) }
+        ensures shown { (repos : ℕ) → ShownIf Q.shows (Q.view port.old) (Q.view port.new) repos result }
     {
         let Sending { at, request } = sending;
         match port.prepare(at, request) {
@@ -138,6 +146,7 @@ impl Client {
         prepared: Repos,
     ) -> Result<News, NoMemory>
         ensures acts { ActsIf Q.shows (Q.view port.old) (Q.view port.new) }
+        ensures shown { ShownIf Q.shows (Q.view port.old) (Q.view port.new) opened.now.repos result }
     {
         if transaction.shares.is_empty() {
             return self.decide(port, opened, transaction.sent(ts), coordinator);
@@ -155,6 +164,7 @@ impl Client {
         prepared: Repos,
     ) -> Result<News, NoMemory>
         ensures acts { ActsIf Q.shows (Q.view port.old) (Q.view port.new) }
+        ensures shown { (repos : ℕ) → ShownIf Q.shows (Q.view port.old) (Q.view port.new) repos result }
     {
         let sending = self.held.next_sending(who, ts, &mut transaction);
         self.set_phase(Phase::Preparing {
@@ -172,6 +182,7 @@ impl Client {
     /// Has a participant prepare. Where it refuses, the try ends, and its coordinator is to abort.
     fn prepare<Q: Port>(&mut self, port: &mut Q, sending: Sending) -> Result<News, NoMemory>
         ensures acts { ActsIf Q.shows (Q.view port.old) (Q.view port.new) }
+        ensures shown { (repos : ℕ) → ShownIf Q.shows (Q.view port.old) (Q.view port.new) repos result }
     {
         let Sending { at, request } = sending;
         match port.prepare(at, request) {
@@ -192,6 +203,7 @@ impl Client {
         coordinator: At,
     ) -> Result<News, NoMemory>
         ensures acts { ActsIf Q.shows (Q.view port.old) (Q.view port.new) }
+        ensures shown { ShownIf Q.shows (Q.view port.old) (Q.view port.new) opened.now.repos result }
     {
         match port.decide(coordinator, sent.ts, true) {
             Ok(verdict) => self.learn_own(opened, sent, verdict),

@@ -1,6 +1,8 @@
 //! How the transaction of an item is evaluated.
 
-ghost use Rattle.front_end.specs.Acting.{ActsIf};
+ghost use Rattle.front_end.specs.Showing.{ShownIf};
+ghost use Rattle.client_state.specs.Showing.{CameIf};
+ghost use Rattle.port.specs.Acting.{ActsIf};
 
 use crate::client::Client;
 use client_state::{Came, Phase};
@@ -20,6 +22,7 @@ impl Client {
         mut run: Paused,
     ) -> Result<News, NoMemory>
         ensures acts { ActsIf Q.shows (Q.view port.old) (Q.view port.new) }
+        ensures shown { ShownIf Q.shows (Q.view port.old) (Q.view port.new) opened.now.repos result }
     {
         let ran = self.held.evaluate(opened, &mut run);
         let awaited = None;
@@ -35,6 +38,7 @@ impl Client {
         ran: Ran,
     ) -> Result<News, NoMemory>
         ensures acts { ActsIf Q.shows (Q.view port.old) (Q.view port.new) }
+        ensures shown { ShownIf Q.shows (Q.view port.old) (Q.view port.new) opened.now.repos result }
     {
         match ran {
             Ran::Done {
@@ -60,6 +64,7 @@ impl Client {
         owners: Orefs,
     ) -> Result<News, NoMemory>
         ensures acts { ActsIf Q.shows (Q.view port.old) (Q.view port.new) }
+        ensures shown { ShownIf Q.shows (Q.view port.old) (Q.view port.new) opened.now.repos result }
     {
         match self.held.copy_of(oref)? {
             Some(obj) => self.begin_transform(port, opened, oref, obj, owners),
@@ -75,6 +80,7 @@ impl Client {
         oref: Oref,
     ) -> Result<News, NoMemory>
         ensures acts { ActsIf Q.shows (Q.view port.old) (Q.view port.new) }
+        ensures shown { ShownIf Q.shows (Q.view port.old) (Q.view port.new) opened.now.repos result }
     {
         if oref.repo >= opened.repos {
             return Ok(self.end_try(Cause::Missing { oref }));
@@ -92,6 +98,7 @@ impl Client {
         repo: u8,
     ) -> Result<News, NoMemory>
         ensures acts { ActsIf Q.shows (Q.view port.old) (Q.view port.new) }
+        ensures shown { ShownIf Q.shows (Q.view port.old) (Q.view port.new) opened.now.repos result }
     {
         if repo >= opened.repos {
             let oref = Oref {
@@ -113,6 +120,7 @@ impl Client {
         oref: Oref,
     ) -> Result<Came, NoMemory>
         ensures acts { ActsIf Q.shows (Q.view port.old) (Q.view port.new) }
+        ensures shown { CameIf Q.shows (Q.view port.old) (Q.view port.new) result }
     {
         let Some(at) = self.held.at(oref.repo) else {
             return self.join(port, opened, oref.repo);
@@ -128,6 +136,7 @@ impl Client {
         repo: u8,
     ) -> Result<Came, NoMemory>
         ensures acts { ActsIf Q.shows (Q.view port.old) (Q.view port.new) }
+        ensures shown { CameIf Q.shows (Q.view port.old) (Q.view port.new) result }
     {
         let Some(at) = self.held.at(repo) else {
             return self.join(port, opened, repo);

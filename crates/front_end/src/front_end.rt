@@ -1,13 +1,14 @@
 //! A client of repositories, which goes on by steps.
 
 ghost use Rattle.client_state.specs.Owing.{asking_in};
-ghost use Rattle.front_end.specs.Acting.{ActsIf};
+ghost use Rattle.front_end.specs.Showing.{GoesShown, ItemsShown};
+ghost use Rattle.port.specs.Acting.{ActsIf};
 ghost use Rattle.front_end.specs.Moving.{GoesOn, Keeps, MovesOn, course_of, left_of, standing_of, steps_left, tries_of, uncounted};
 ghost use Rattle.front_end.specs.declared.front_end.Step.TheVariants as step;
 ghost use Rattle.item_progress.specs.Courses.{Goes, IsInOrder};
-ghost use Rattle.item_progress.specs.Ending.{ends_try};
-ghost use Rattle.item_progress.specs.Falling.{CountsDown, Falls, IsLeft, NeverRises};
-ghost use Rattle.std.specs.Prelude.{◌≡◌, ◌<◌, ◌^◌, [], IfOk, IsSome, IsTrue, OnOk, length, not, Ok, true, ℕ};
+ghost use Rattle.item_progress.specs.Ending.{GoesBy, ends_try};
+ghost use Rattle.item_progress.specs.Falling.{CountsDown, Falls, IsLeft, NeverRises, most_calls};
+ghost use Rattle.std.specs.Prelude.{◌≡◌, ◌<◌, ◌^◌, [], IfOk, IsSome, IsTrue, OnOk, length, not, Ok, true, ℕ, ◌≤◌};
 
 use crate::client::Client;
 use crate::rule::{Counted, Rule};
@@ -83,6 +84,7 @@ impl FrontEnd {
         ensures falls { result ≡ Ok step.Moved → Falls (left_of self.old) (left_of self.new) }
         ensures steps { result ≡ Ok step.Moved → steps_left self.new < steps_left self.old }
         ensures acts { ActsIf Q.shows (Q.view port.old) (Q.view port.new) }
+        ensures shown { ItemsShown Q.shows (Q.view port.old) (Q.view port.new) opened.now.repos self.old self.new }
     {
         if self.has_ended() {
             return Ok(Step::Ended);
@@ -111,6 +113,7 @@ impl FrontEnd {
         ensures each { tries_of self.new ≡ tries_of self.old }
         ensures falls { MovesOn self.old → OnOk result (Falls (left_of self.old) (left_of self.new)) }
         ensures acts { ActsIf Q.shows (Q.view port.old) (Q.view port.new) }
+        ensures shown { ItemsShown Q.shows (Q.view port.old) (Q.view port.new) opened.now.repos self.old self.new }
     {
         match self.client.duties.abort.take() {
             Some(abort) => self.client.abort(port, abort),
@@ -125,6 +128,7 @@ impl FrontEnd {
         ensures each { tries_of self.new ≡ tries_of self.old }
         ensures falls { GoesOn self.old → OnOk result (Falls (left_of self.old) (left_of self.new)) }
         ensures acts { ActsIf Q.shows (Q.view port.old) (Q.view port.new) }
+        ensures shown { ItemsShown Q.shows (Q.view port.old) (Q.view port.new) opened.now.repos self.old self.new }
     {
         match self.client.next_rule(opened) {
             Rule::Counted { rule } => self.follow_counted(port, opened, rule),
@@ -145,6 +149,7 @@ impl FrontEnd {
         ensures each { tries_of self.new ≡ tries_of self.old }
         ensures falls { GoesOn self.old → OnOk result (Falls (left_of self.old) (left_of self.new)) }
         ensures acts { ActsIf Q.shows (Q.view port.old) (Q.view port.new) }
+        ensures shown { ItemsShown Q.shows (Q.view port.old) (Q.view port.new) opened.now.repos self.old self.new }
     {
         if !self.count_call() {
             return self.run_out_of_calls(port);
@@ -159,6 +164,7 @@ impl FrontEnd {
         ensures counted { IsTrue result → CountsDown (standing_of self.old) (standing_of self.new) }
         ensures course { course_of self.new ≡ course_of self.old }
         ensures none { IsTrue (not result) → self.new ≡ self.old }
+        ensures used_up { IsTrue (not result) → most_calls ≤ self.old.attempts.calls }
     {
         self.attempts.count_call()
     }
@@ -174,6 +180,7 @@ impl FrontEnd {
         ensures each { tries_of self.new ≡ tries_of self.old }
         ensures left { OnOk result (NeverRises (standing_of self.old) (standing_of self.new)) }
         ensures acts { ActsIf Q.shows (Q.view port.old) (Q.view port.new) }
+        ensures shown { (calls : ℕ) → GoesShown Q.shows (Q.view port.old) (Q.view port.new) opened.now.repos (tries_of self.old) calls (course_of self.old) (course_of self.new) }
     {
         let task = self.progress.task(opened, self.attempts.each);
         let news = self.client.follow(port, opened, task, rule)?;
@@ -187,6 +194,7 @@ impl FrontEnd {
         ensures each { tries_of self.new ≡ tries_of self.old }
         ensures falls { IsSome (asking_in self.old.client.phase) → OnOk result (Falls (left_of self.old) (left_of self.new)) }
         ensures acts { ActsIf Q.shows (Q.view port.old) (Q.view port.new) }
+        ensures shown { ItemsShown Q.shows (Q.view port.old) (Q.view port.new) opened.now.repos self.old self.new }
     {
         let task = self.progress.task(opened, self.attempts.each);
         let news = self.client.ask(port, opened, task)?;
@@ -201,6 +209,7 @@ impl FrontEnd {
         ensures each { tries_of self.new ≡ tries_of self.old }
         ensures falls { GoesOn self.old → OnOk result (Falls (left_of self.old) (left_of self.new)) }
         ensures acts { ActsIf Q.shows (Q.view port.old) (Q.view port.new) }
+        ensures shown { (repos : ℕ) → most_calls ≤ self.old.attempts.calls → ItemsShown Q.shows (Q.view port.old) (Q.view port.new) repos self.old self.new }
     {
         if self.progress.has_ended() {
             return self.client.hand_on(port);
@@ -217,6 +226,7 @@ impl FrontEnd {
         ensures left { OnOk result (NeverRises (standing_of self.old) (standing_of self.new)) }
         ensures tried { ends_try news ≡ true → IsLeft (course_of self.old) → OnOk result (CountsDown (standing_of self.old) (standing_of self.new)) }
         ensures uncounted { (tries : ℕ) → uncounted tries self.new.client ≡ uncounted tries self.old.client }
+        ensures told { GoesBy (tries_of self.old) news (course_of self.old) (course_of self.new) }
     {
         self.stop_waiting_behind(&news);
         self.progress.take_down(&mut self.attempts, news)
@@ -243,6 +253,7 @@ impl FrontEnd {
         ensures goes { Goes (course_of self.old) (course_of self.new) }
         ensures keeps { OnOk result (Keeps (left_of self.old) (left_of self.new)) }
         ensures acts { ActsIf Q.shows (Q.view port.old) (Q.view port.new) }
+        ensures shown { ItemsShown Q.shows (Q.view port.old) (Q.view port.new) opened.now.repos self.old self.new }
     {
         match self.client.held.at(repo) {
             Some(at) => self.receive(port, opened, at),
@@ -256,6 +267,7 @@ impl FrontEnd {
         ensures goes { Goes (course_of self.old) (course_of self.new) }
         ensures keeps { OnOk result (Keeps (left_of self.old) (left_of self.new)) }
         ensures acts { ActsIf Q.shows (Q.view port.old) (Q.view port.new) }
+        ensures shown { ItemsShown Q.shows (Q.view port.old) (Q.view port.new) opened.now.repos self.old self.new }
     {
         let news = self.client.receive_delivered(port, opened, at)?;
         self.take_down(news)
@@ -277,6 +289,7 @@ impl FrontEnd {
         ensures goes { Goes (course_of self.old) (course_of self.new) }
         ensures keeps { OnOk result (Keeps (left_of self.old) (left_of self.new)) }
         ensures acts { ActsIf Q.shows (Q.view port.old) (Q.view port.new) }
+        ensures shown { ItemsShown Q.shows (Q.view port.old) (Q.view port.new) opened.now.repos self.old self.new }
     {
         let news = self.client.ask_last(port, opened, repo)?;
         self.take_down(news)

@@ -1,6 +1,7 @@
 //! The sixth rule: the try goes on.
 
-ghost use Rattle.front_end.specs.Acting.{ActsIf};
+ghost use Rattle.front_end.specs.Showing.{ShownIf};
+ghost use Rattle.port.specs.Acting.{ActsIf};
 
 use crate::client::Client;
 use client_state::{Phase, Transaction};
@@ -19,6 +20,7 @@ impl Client {
         task: Task<'_>,
     ) -> Result<News, NoMemory>
         ensures acts { ActsIf Q.shows (Q.view port.old) (Q.view port.new) }
+        ensures shown { ShownIf Q.shows (Q.view port.old) (Q.view port.new) opened.now.repos result }
     {
         match self.take_phase() {
             Phase::Between | Phase::Beginning => self.begin(port, opened, task),
@@ -57,6 +59,7 @@ impl Client {
         task: Task<'_>,
     ) -> Result<News, NoMemory>
         ensures acts { ActsIf Q.shows (Q.view port.old) (Q.view port.new) }
+        ensures shown { ShownIf Q.shows (Q.view port.old) (Q.view port.new) opened.now.repos result }
     {
         let alloc = self.held.alloc;
         match task.what {

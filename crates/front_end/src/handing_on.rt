@@ -1,7 +1,7 @@
 //! The fifth rule: verdicts are handed on.
 
 ghost use Rattle.client_state.specs.Owing.{calls_of, count_of};
-ghost use Rattle.front_end.specs.Acting.{ActsIf};
+ghost use Rattle.port.specs.Acting.{ActsIf};
 ghost use Rattle.front_end.specs.Moving.{uncounted};
 ghost use Rattle.std.specs.Prelude.{MatchOption, OnOk, [], length, ℕ, ◌+◌, ◌<◌, ◌≡◌};
 

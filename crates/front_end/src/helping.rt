@@ -1,6 +1,7 @@
 //! The third rule: the client helps on a transaction that stood against its request.
 
-ghost use Rattle.front_end.specs.Acting.{ActsIf};
+ghost use Rattle.front_end.specs.Showing.{ShownIf};
+ghost use Rattle.port.specs.Acting.{ActsIf};
 
 use crate::client::Client;
 use client_state::Helping;
@@ -19,6 +20,7 @@ impl Client {
         helping: Helping,
     ) -> Result<News, NoMemory>
         ensures acts { ActsIf Q.shows (Q.view port.old) (Q.view port.new) }
+        ensures shown { ShownIf Q.shows (Q.view port.old) (Q.view port.new) opened.now.repos result }
     {
         self.duties.helping = None;
         match helping {
@@ -40,6 +42,7 @@ impl Client {
         refuser: u8,
     ) -> Result<News, NoMemory>
         ensures acts { ActsIf Q.shows (Q.view port.old) (Q.view port.new) }
+        ensures shown { ShownIf Q.shows (Q.view port.old) (Q.view port.new) opened.now.repos result }
     {
         if ts.repo >= opened.repos {
             return Ok(News::Nothing);

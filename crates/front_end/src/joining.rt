@@ -1,6 +1,8 @@
 //! How a session begins where a try needs one.
 
-ghost use Rattle.front_end.specs.Acting.{ActsIf};
+ghost use Rattle.front_end.specs.Showing.{ShownIf};
+ghost use Rattle.client_state.specs.Showing.{CameIf};
+ghost use Rattle.port.specs.Acting.{ActsIf};
 
 use crate::client::Client;
 use client_state::{Came, cause_of};
@@ -18,6 +20,7 @@ impl Client {
         repo: u8,
     ) -> Result<News, NoMemory>
         ensures acts { ActsIf Q.shows (Q.view port.old) (Q.view port.new) }
+        ensures shown { ShownIf Q.shows (Q.view port.old) (Q.view port.new) opened.now.repos result }
     {
         let came = self.join(port, opened, repo)?;
         Ok(self.go_behind(came))
@@ -32,6 +35,7 @@ impl Client {
         repo: u8,
     ) -> Result<Came, NoMemory>
         ensures acts { ActsIf Q.shows (Q.view port.old) (Q.view port.new) }
+        ensures shown { CameIf Q.shows (Q.view port.old) (Q.view port.new) result }
     {
         match self.held.unsettled(repo) {
             Some(ts) => self.ask_before(port, opened, repo, ts),
@@ -49,6 +53,7 @@ impl Client {
         ts: Ts,
     ) -> Result<Came, NoMemory>
         ensures acts { ActsIf Q.shows (Q.view port.old) (Q.view port.new) }
+        ensures shown { CameIf Q.shows (Q.view port.old) (Q.view port.new) result }
     {
         match port.ask(repo, ts) {
             Ok(Asked::Settled(verdict)) => {

@@ -1,8 +1,11 @@
 //! What a client does with the messages of a repository.
 
-ghost use Rattle.front_end.specs.Acting.{ActsIf};
+ghost use Rattle.front_end.specs.Showing.{NewsShown, ShownIf, SomeShownIf};
+ghost use Rattle.port.specs.Acting.{ActsIf, IsTaken};
+ghost use Rattle.port.specs.Views.{View};
 ghost use Rattle.front_end.specs.Moving.{uncounted};
-ghost use Rattle.std.specs.Prelude.{OnOk, ℕ, ◌≤◌};
+ghost use Rattle.message_outbox.specs.declared.message.Message.TheVariants as message;
+ghost use Rattle.std.specs.Prelude.{IfOk, IsTrue, List, OnOk, ℕ, ◌≡◌, ◌≤◌};
 
 use crate::client::Client;
 use client_state::cause_of;
@@ -16,7 +19,9 @@ use thor_value::{NoMemory, Oref, Orefs, Text};
 use validation_window::Refusal;
 
 /// Whether an object lies on a page.
-fn is_on(oref: Oref, repo: u8, page: u32) -> bool {
+fn is_on(oref: Oref, repo: u8, page: u32) -> bool
+    ensures { IsTrue result → (oref.repo ≡ repo) × (oref.page ≡ page) }
+{
     oref.repo == repo && oref.page == page
 }
 
@@ -30,6 +35,7 @@ impl Client {
         at: At,
     ) -> Result<Option<News>, NoMemory>
         ensures acts { ActsIf Q.shows (Q.view port.old) (Q.view port.new) }
+        ensures shown { SomeShownIf Q.shows (Q.view port.old) (Q.view port.new) opened.now.repos result }
     {
         match self.held.receive(port, at) {
             Ok(Some(message)) => Ok(Some(self.take(opened, at.repo, message)?)),
@@ -54,6 +60,7 @@ impl Client {
     ) -> Result<News, NoMemory>
         ensures owed { OnOk result ((tries : ℕ) → uncounted tries self.new ≤ uncounted tries self.old) }
         ensures acts { ActsIf Q.shows (Q.view port.old) (Q.view port.new) }
+        ensures shown { ShownIf Q.shows (Q.view port.old) (Q.view port.new) opened.now.repos result }
     {
         match self.held.receive(port, at) {
             Ok(Some(message)) => self.take(opened, at.repo, message),
@@ -79,7 +86,8 @@ impl Client {
     }
 
     fn take(&mut self, opened: &Opened, repo: u8, message: Message) -> Result<News, NoMemory>
-        ensures { OnOk result ((tries : ℕ) → uncounted tries self.new ≤ uncounted tries self.old) }
+        ensures owed { OnOk result ((tries : ℕ) → uncounted tries self.new ≤ uncounted tries self.old) }
+        ensures shown { IfOk result (λ news. (old new : View) (repos : ℕ) → IsTaken old new repo message → NewsShown old new repos news) }
     {
         match message {
             Message::Page { page, bytes, .. } => self.take_page(repo, page, &bytes),
@@ -91,7 +99,8 @@ impl Client {
 
     /// A page has come. Where it lacks the object that is needed next, the try ends.
     fn take_page(&mut self, repo: u8, page: u32, bytes: &Text) -> Result<News, NoMemory>
-        ensures { OnOk result ((tries : ℕ) → uncounted tries self.new ≤ uncounted tries self.old) }
+        ensures owed { OnOk result ((tries : ℕ) → uncounted tries self.new ≤ uncounted tries self.old) }
+        ensures shown { IfOk result (λ news. (old new : View) (repos : ℕ) → (place : ℕ) → IsTaken old new repo (message.Page page bytes.now place) → NewsShown old new repos news) }
     {
         self.held.place(repo, page, bytes)?;
         match self.phase.awaited() {
@@ -104,7 +113,8 @@ impl Client {
 
     /// An empty page has come, whose names may be given.
     fn take_grant(&mut self, repo: u8, page: u32) -> Result<News, NoMemory>
-        ensures { OnOk result ((tries : ℕ) → uncounted tries self.new ≤ uncounted tries self.old) }
+        ensures owed { OnOk result ((tries : ℕ) → uncounted tries self.new ≤ uncounted tries self.old) }
+        ensures shown { IfOk result (λ news. (old new : View) (repos : ℕ) → NewsShown old new repos news) }
     {
         let bytes = Page::empty(self.held.alloc, page)?.spell()?;
         self.held.place(repo, page, &bytes)?;
@@ -116,7 +126,8 @@ impl Client {
 
     /// Objects were written by others. A try that has read one of them ends.
     fn take_invalid(&mut self, orefs: &Orefs, place: u64) -> News
-        ensures { (tries : ℕ) → uncounted tries self.new ≤ uncounted tries self.old }
+        ensures owed { (tries : ℕ) → uncounted tries self.new ≤ uncounted tries self.old }
+        ensures shown { (old new : View) (repos : ℕ) → (repo : ℕ) → IsTaken old new repo (message.Invalid orefs.now place) → NewsShown old new repos result }
     {
         self.held.drop_copies(orefs);
         match self.phase.first_read(orefs) {
@@ -127,7 +138,8 @@ impl Client {
 
     /// An upgrade was installed. Where it is the next one, a running try ends.
     fn take_upgrade(&mut self, opened: &Opened, number: u32) -> News
-        ensures { (tries : ℕ) → uncounted tries self.new ≤ uncounted tries self.old }
+        ensures owed { (tries : ℕ) → uncounted tries self.new ≤ uncounted tries self.old }
+        ensures shown { (old new : View) (repos : ℕ) → (repo place : ℕ) (text : List ℕ) → IsTaken old new repo (message.Upgrade number text place) → NewsShown old new repos result }
     {
         if self.held.learn_next_epoch(opened, number) && self.phase.runs() {
             return self.end_try(Cause::Reason(Reason::Epoch { n: number }));

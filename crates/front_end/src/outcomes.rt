@@ -1,8 +1,10 @@
 //! What becomes of items whose verdict is known.
 
-ghost use Rattle.front_end.specs.Acting.{ActsIf};
+ghost use Rattle.front_end.specs.Showing.{NewsShown, ShownIf};
+ghost use Rattle.port.specs.Acting.{ActsIf, IsDecided};
+ghost use Rattle.port.specs.Views.{View};
 ghost use Rattle.item_progress.specs.Courses.{is_committed};
-ghost use Rattle.std.specs.Prelude.{◌≡◌, IfOk, IfSome};
+ghost use Rattle.std.specs.Prelude.{◌≡◌, IfOk, IfSome, true, ℕ};
 
 use crate::client::Client;
 use client_state::{Link, Sent};
@@ -15,7 +17,8 @@ use validation_window::Refusal;
 impl Client {
     /// The present item has committed: what its try has changed is kept.
     pub fn end_committed(&mut self, opened: &Opened, sent: Sent) -> News
-        ensures { self.new ≡ record self.old { held = self.new.held } }
+        ensures shown { (old new : View) (repos : ℕ) → IsDecided old new sent.ts true → NewsShown old new repos result }
+        ensures rest { self.new ≡ record self.old { held = self.new.held } }
     {
         let Sent { ts, meaning, .. } = sent;
         self.held.keep();
@@ -45,7 +48,8 @@ impl Client {
         repo: u8,
         verdict: Verdict,
     ) -> Result<Option<Learnt>, NoMemory>
-        ensures { IfOk result (λ learnt. IfSome learnt (λ l. is_committed l.settled.outcome ≡ verdict.commit)) }
+        ensures stands { IfOk result (λ learnt. IfSome learnt (λ l. is_committed l.settled.outcome ≡ verdict.commit)) }
+        ensures tx { IfOk result (λ learnt. IfSome learnt (λ l. l.settled.ts ≡ verdict.tx)) }
     {
         match self.held.take_link(repo) {
             Link::Unsettled { sent, index } if sent.ts == verdict.tx() => {
@@ -62,6 +66,7 @@ impl Client {
     /// What becomes of an Unknown item by the verdict: its transaction stands exactly where that commits.
     fn settle(&mut self, opened: &Opened, sent: Sent, index: u32, verdict: Verdict) -> Learnt
         ensures stands { is_committed result.settled.outcome ≡ verdict.commit }
+        ensures tx { result.settled.ts ≡ sent.ts }
         ensures rest { self.new ≡ record self.old { held = self.new.held } }
     {
         let repo = sent.coordinator();
@@ -83,6 +88,7 @@ impl Client {
     ) -> Result<News, NoMemory>
         ensures rest { self.new ≡ record self.old { held = self.new.held } }
         ensures acts { ActsIf Q.shows (Q.view port.old) (Q.view port.new) }
+        ensures shown { ShownIf Q.shows (Q.view port.old) (Q.view port.new) opened.now.repos result }
     {
         let (sent, index) = match self.held.take_link(repo) {
             Link::Unsettled { sent, index } => (sent, index),

@@ -1,9 +1,10 @@
 //! Which rule a step follows.
 
-ghost use Rattle.front_end.specs.Acting.{ActsIf};
+ghost use Rattle.front_end.specs.Showing.{ShownIf};
+ghost use Rattle.port.specs.Acting.{ActsIf};
 ghost use Rattle.client_state.specs.Owing.{asking_in};
-ghost use Rattle.front_end.specs.Rules.{asks, hands_on};
-ghost use Rattle.std.specs.Prelude.{IsSome, length, true, ◌<◌, ◌≡◌};
+ghost use Rattle.front_end.specs.Rules.{NothingHoldsBack, asks, goes_on, hands_on};
+ghost use Rattle.std.specs.Prelude.{IsSome, length, max, true, ◌<◌, ◌≡◌};
 
 use crate::client::Client;
 use client_state::{Helping, Phase};
@@ -42,6 +43,7 @@ impl Client {
     pub fn next_rule(&self, opened: &Opened) -> Rule
         ensures asks { asks result ≡ true → IsSome (asking_in self.now.phase) }
         ensures hands_on { hands_on result ≡ true → 0 < length self.now.duties.verdicts }
+        ensures goes_on { goes_on result ≡ true → NothingHoldsBack (max opened.now.epoch self.now.held.learnt) self.now }
     {
         if let Some(at) = self.held.awaited() {
             let rule = Counted::Await { at };
@@ -82,6 +84,7 @@ impl Client {
         rule: Counted,
     ) -> Result<News, NoMemory>
         ensures acts { ActsIf Q.shows (Q.view port.old) (Q.view port.new) }
+        ensures shown { ShownIf Q.shows (Q.view port.old) (Q.view port.new) opened.now.repos result }
     {
         match rule {
             Counted::Await { at } => self.await_reply(port, opened, at),

@@ -2,7 +2,10 @@
 //!
 //! Lazy transforms are those of Boyapati and others (OOPSLA 2003).
 
-ghost use Rattle.front_end.specs.Acting.{ActsIf};
+ghost use Rattle.front_end.specs.Showing.{NewsShown, ShownIf};
+ghost use Rattle.port.specs.Acting.{ActsIf, Refuses};
+ghost use Rattle.port.specs.Views.{View};
+ghost use Rattle.std.specs.Prelude.{IfOk, ℕ};
 
 use crate::client::Client;
 use client_state::{Becomes, Drew, Phase, Transform};
@@ -26,6 +29,7 @@ impl Client {
         owners: Orefs,
     ) -> Result<News, NoMemory>
         ensures acts { ActsIf Q.shows (Q.view port.old) (Q.view port.new) }
+        ensures shown { ShownIf Q.shows (Q.view port.old) (Q.view port.new) opened.now.repos result }
     {
         self.held.undo();
         self.held.cache.bring_forward(oref);
@@ -43,6 +47,7 @@ impl Client {
         transform: Transform,
     ) -> Result<News, NoMemory>
         ensures acts { ActsIf Q.shows (Q.view port.old) (Q.view port.new) }
+        ensures shown { ShownIf Q.shows (Q.view port.old) (Q.view port.new) opened.now.repos result }
     {
         let awaited = None;
         self.set_phase(Phase::Evaluating { run, awaited });
@@ -61,6 +66,7 @@ impl Client {
         mut transform: Transform,
     ) -> Result<News, NoMemory>
         ensures acts { ActsIf Q.shows (Q.view port.old) (Q.view port.new) }
+        ensures shown { ShownIf Q.shows (Q.view port.old) (Q.view port.new) opened.now.repos result }
     {
         match self.held.collect(opened, &mut transform)? {
             Wanted::All(reads) => self.draw_transform(port, opened, transform, &reads),
@@ -86,6 +92,7 @@ impl Client {
         reads: &Orefs,
     ) -> Result<News, NoMemory>
         ensures acts { ActsIf Q.shows (Q.view port.old) (Q.view port.new) }
+        ensures shown { ShownIf Q.shows (Q.view port.old) (Q.view port.new) opened.now.repos result }
     {
         let repo = transform.oref.repo;
         match self.held.at(repo) {
@@ -109,6 +116,7 @@ impl Client {
         becomes: Becomes,
     ) -> Result<News, NoMemory>
         ensures acts { ActsIf Q.shows (Q.view port.old) (Q.view port.new) }
+        ensures shown { (repos : ℕ) → ShownIf Q.shows (Q.view port.old) (Q.view port.new) repos result }
     {
         match self.held.draw(port, at)? {
             Drew::Ts(ts) => {
@@ -126,6 +134,7 @@ impl Client {
         becomes: Becomes,
     ) -> Result<News, NoMemory>
         ensures acts { ActsIf Q.shows (Q.view port.old) (Q.view port.new) }
+        ensures shown { (repos : ℕ) → ShownIf Q.shows (Q.view port.old) (Q.view port.new) repos result }
     {
         let oref = becomes.oref;
         match self.held.at(oref.repo) {
@@ -150,6 +159,7 @@ impl Client {
         made: Obj,
     ) -> Result<News, NoMemory>
         ensures acts { ActsIf Q.shows (Q.view port.old) (Q.view port.new) }
+        ensures shown { (repos : ℕ) → ShownIf Q.shows (Q.view port.old) (Q.view port.new) repos result }
     {
         match port.commit_one(at, request) {
             Ok(_) => self.end_transform(ts, oref, made),
@@ -158,7 +168,9 @@ impl Client {
     }
 
     /// The object is written. The evaluation begins anew.
-    fn end_transform(&mut self, ts: Ts, oref: Oref, made: Obj) -> Result<News, NoMemory> {
+    fn end_transform(&mut self, ts: Ts, oref: Oref, made: Obj) -> Result<News, NoMemory>
+        ensures { IfOk result (λ news. (old new : View) (repos : ℕ) → NewsShown old new repos news) }
+    {
         self.held.raise_floor(ts);
         self.held.keep_made(oref, made)?;
         self.begin_anew();
@@ -167,7 +179,9 @@ impl Client {
 
     /// A refused transform is a refused try. One whose call stopped may still have been committed, and
     /// nobody asks for it.
-    fn refuse_transform(&mut self, at: At, ts: Ts, refusal: Refusal) -> Result<News, NoMemory> {
+    fn refuse_transform(&mut self, at: At, ts: Ts, refusal: Refusal) -> Result<News, NoMemory>
+        ensures { IfOk result (λ news. (old new : View) (repos : ℕ) → Refuses old new at.repo refusal → NewsShown old new repos news) }
+    {
         if let Refusal::Stopped { .. } = &refusal {
             self.held.raise_floor(ts);
         }

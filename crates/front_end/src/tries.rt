@@ -1,9 +1,15 @@
 //! How a try goes on behind a call, begins anew, and ends.
 
+ghost use Rattle.client_state.specs.Learning.{floor_learnt, links_learnt};
+ghost use Rattle.client_state.specs.Showing.{CameShown};
 ghost use Rattle.client_state.specs.declared.phase.Phase.TheVariants as phase;
 ghost use Rattle.front_end.specs.Moving.{uncounted};
+ghost use Rattle.front_end.specs.Showing.{NewsShown};
+ghost use Rattle.item_progress.specs.Courses.{is_committed};
 ghost use Rattle.item_progress.specs.declared.news.News.TheVariants as news;
-ghost use Rattle.std.specs.Prelude.{OnOk, ℕ, ◌≡◌, ◌≤◌};
+ghost use Rattle.port.specs.Acting.{IsDecided, Refuses};
+ghost use Rattle.port.specs.Views.{View};
+ghost use Rattle.std.specs.Prelude.{IfOk, OnOk, ℕ, ◌≡◌, ◌≤◌};
 
 use crate::client::Client;
 use client_state::{Came, Helping, Phase, cause_of};
@@ -41,7 +47,9 @@ impl Client {
     }
 
     /// Behind a call the try goes on as it is, begins anew, or ends.
-    pub fn go_behind(&mut self, came: Came) -> News {
+    pub fn go_behind(&mut self, came: Came) -> News
+        ensures { (old new : View) (repos : ℕ) → CameShown old new came → NewsShown old new repos result }
+    {
         match came {
             Came::Well => News::Nothing,
             Came::Anew => {
@@ -55,7 +63,9 @@ impl Client {
 
     /// Behind a call by which a verdict was learnt late, the try goes on as it was, or its evaluation begins
     /// anew.
-    fn take_learnt(&mut self, learnt: Learnt) -> News {
+    fn take_learnt(&mut self, learnt: Learnt) -> News
+        ensures { (old new : View) (repos : ℕ) → IsDecided old new learnt.settled.ts (is_committed learnt.settled.outcome) → NewsShown old new repos result }
+    {
         let Learnt { settled, rises } = learnt;
         if rises {
             self.begin_anew();
@@ -76,6 +86,8 @@ impl Client {
     /// aborted.
     pub fn end_try(&mut self, cause: Cause) -> News
         ensures news { result ≡ news.TryEnded cause }
+        ensures links { self.new.held.links ≡ self.old.held.links }
+        ensures floor { self.new.held.floor ≡ self.old.held.floor }
         ensures phase { self.new.phase ≡ phase.Between }
         ensures left { (tries : ℕ) → uncounted tries self.new ≤ uncounted tries self.old }
     {
@@ -86,6 +98,7 @@ impl Client {
 
     /// No try runs any more. What its coordinator has prepared is to be aborted.
     fn end_phase(&mut self)
+        ensures held { self.new.held ≡ self.old.held }
         ensures phase { self.new.phase ≡ phase.Between }
         ensures left { (tries : ℕ) → uncounted tries self.new ≤ uncounted tries self.old }
     {
@@ -97,7 +110,10 @@ impl Client {
 
     /// A request was refused: the client learns from it, and the try ends.
     pub fn end_refused(&mut self, repo: u8, refusal: Refusal) -> Result<News, NoMemory>
-        ensures { OnOk result (self.new.phase ≡ phase.Between) }
+        ensures phase { OnOk result (self.new.phase ≡ phase.Between) }
+        ensures shown { IfOk result (λ news. (old new : View) (repos : ℕ) → Refuses old new repo refusal → NewsShown old new repos news) }
+        ensures links { OnOk result (self.new.held.links.items ≡ links_learnt refusal repo self.old.held.links.items) }
+        ensures floor { OnOk result (self.new.held.floor ≡ floor_learnt refusal self.old.held.floor) }
     {
         let cause = cause_of(refusal, repo)?;
         self.held.learn(repo, refusal);

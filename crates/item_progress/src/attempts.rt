@@ -1,7 +1,7 @@
 //! How many tries and calls a client has had of its present item.
 
 ghost use Rattle.item_progress.specs.Falling.{most_calls};
-ghost use Rattle.std.specs.Prelude.{IsTrue, not, ◌≡◌, ◌+◌, ◌<◌};
+ghost use Rattle.std.specs.Prelude.{IsTrue, not, ◌≡◌, ◌+◌, ◌<◌, ◌≤◌};
 
 /// How many tries and calls a client has had of its present item.
 #[derive(Clone, Copy)]
@@ -31,6 +31,7 @@ impl Attempts {
         ensures room { IsTrue result → self.old.calls < most_calls }
         ensures counted { IsTrue result → self.new ≡ record self.old { calls = self.old.calls + 1 } }
         ensures none { IsTrue (not result) → self.new ≡ self.old }
+        ensures used_up { IsTrue (not result) → most_calls ≤ self.old.calls }
     {
         if self.calls == u32::MAX {
             return false;
@@ -44,6 +45,7 @@ impl Attempts {
         ensures each { self.new.each ≡ self.old.each }
         ensures left { IsTrue result → self.new.tried < self.new.each }
         ensures tried { IsTrue result → self.new.tried ≡ self.old.tried + 1 }
+        ensures none { IsTrue (not result) → self.new.each ≤ self.new.tried }
     {
         self.calls = 0;
         self.tried = self.tried.saturating_add(1);

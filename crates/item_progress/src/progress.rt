@@ -1,7 +1,7 @@
 //! How far a client has come in its items.
 
 ghost use Rattle.item_progress.specs.Courses.{Ends, Goes, IsInOrder, IsLateOutcome, Learns, who_behind};
-ghost use Rattle.item_progress.specs.Ending.{ends_try};
+ghost use Rattle.item_progress.specs.Ending.{EndsIn, GoesBy, IsRefused, SettlesAs, ends_try};
 ghost use Rattle.item_progress.specs.Falling.{CountsDown, IsLeft, NeverRises};
 ghost use Rattle.serial_model.specs.declared.outcomes.ItemOutcome.TheVariants as outcomes;
 ghost use Rattle.std.specs.Prelude.{◌≡◌, ◌+◌, ◌<◌, ◌^◌, ◌⊎◌, [], IsSome, IsTrue, OnOk, length, not, true, ◌↔◌};
@@ -124,6 +124,7 @@ impl Progress {
         ensures each { attempts.new.each ≡ attempts.old.each }
         ensures left { OnOk result (NeverRises (record { course = self.old; attempts = attempts.old }) (record { course = self.new; attempts = attempts.new })) }
         ensures tried { ends_try news ≡ true → IsLeft self.old → OnOk result (CountsDown (record { course = self.old; attempts = attempts.old }) (record { course = self.new; attempts = attempts.new })) }
+        ensures told { GoesBy attempts.old.each news self.old self.new }
     {
         match news {
             News::Nothing => Ok(()),
@@ -146,6 +147,7 @@ impl Progress {
         ensures each { attempts.new.each ≡ attempts.old.each }
         ensures left { OnOk result (NeverRises (record { course = self.old; attempts = attempts.old }) (record { course = self.new; attempts = attempts.new })) }
         ensures tried { IsLeft self.old → OnOk result (CountsDown (record { course = self.old; attempts = attempts.old }) (record { course = self.new; attempts = attempts.new })) }
+        ensures told { (self.new ≡ self.old) ⊎ IsRefused attempts.old.each cause self.old self.new }
     {
         if self.has_ended() {
             return Ok(());
@@ -158,6 +160,7 @@ impl Progress {
         ensures goes { Goes self.old self.new }
         ensures each { attempts.new.each ≡ attempts.old.each }
         ensures tried { IsLeft self.old → OnOk result (CountsDown (record { course = self.old; attempts = attempts.old }) (record { course = self.new; attempts = attempts.new })) }
+        ensures told { (self.new ≡ self.old) ⊎ IsRefused attempts.old.each cause self.old self.new }
     {
         if attempts.begin_next_try() {
             return Ok(());
@@ -177,6 +180,7 @@ impl Progress {
         ensures each { attempts.new.each ≡ attempts.old.each }
         ensures left { OnOk result (((self.new ≡ self.old) × (attempts.new ≡ attempts.old)) ⊎ Ends self.old self.new) }
         ensures ended { IsLeft self.old → OnOk result (Ends self.old self.new) }
+        ensures told { (self.new ≡ self.old) ⊎ EndsIn tries outcome self.old self.new }
     {
         let who = self.who();
         let upgrades = match self.item() {
@@ -196,7 +200,8 @@ impl Progress {
 
     /// An item that was Unknown has ended, in the try that was sent.
     fn settle(&mut self, settled: Settled)
-        ensures { Learns self.old self.new }
+        ensures goes { Learns self.old self.new }
+        ensures told { (self.new ≡ self.old) ⊎ SettlesAs settled.outcome self.old self.new }
     {
         let Settled { index, ts, outcome } = settled;
         if index == 0 {

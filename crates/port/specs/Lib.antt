@@ -1,3 +1,4 @@
+pub mod Acting
 pub mod Growing
 pub mod Views
 pub mod Works

@@ -1,12 +1,13 @@
--- What a client's function has made of its port (this project's).
+-- What a client has called of its port, and what it was told (this project's).
 use Rattle.commit_log.specs.declared.request.Request.{Request}
 use Rattle.message_outbox.specs.declared.answers.Asked as answer
+use Rattle.message_outbox.specs.declared.answers.Asked.TheVariants as answers
 use Rattle.message_outbox.specs.declared.answers.Verdict.{Verdict}
 use Rattle.message_outbox.specs.declared.answers.Welcome.{Welcome}
 use Rattle.message_outbox.specs.declared.message.Message.{Message}
 use Rattle.port.specs.Views.{View}
 use Rattle.port.specs.Works.{AskWork, CommitWork, ConnectWork, DecideWork, Does, DrawWork, FetchWork, FinishWork, ForgetWork, GrantWork, PrepareWork, ReceiveWork}
-use Rattle.std.specs.Prelude.{Bool, Option, Result, true, ℕ, ◌≡◌}
+use Rattle.std.specs.Prelude.{Bool, Err, Ok, Option, Result, Some, true, ℕ, ◌≡◌}
 use Rattle.thor_value.specs.declared.names.Ts.{Ts}
 use Rattle.validation_window.specs.declared.refusal.Refusal.{Refusal}
 
@@ -28,3 +29,24 @@ pub data Acts (old new : View) : Type 0 where
 -- the same of a port that may show nothing
 abbrev pub ActsIf : Bool → View → View → Type 0
 ActsIf shows old new = shows ≡ true → Acts old new
+
+-- The client has called the repository r, which has refused the call so.
+pub data Refuses (old new : View) (r : ℕ) (e : Refusal) : Type 0 where
+  RefusesConnect : (c : ℕ) → Does {X = Welcome} old new r (Err e) (ConnectWork c (Err e)) → Refuses old new r e
+  RefusesFetch : (s page upto : ℕ) → Does {X = Unit {0}} old new r (Err e) (FetchWork s page upto (Err e)) → Refuses old new r e
+  RefusesGrant : (s : ℕ) → Does {X = Unit {0}} old new r (Err e) (GrantWork s (Err e)) → Refuses old new r e
+  RefusesReceive : (s : ℕ) → Does {X = Option Message} old new r (Err e) (ReceiveWork s (Err e)) → Refuses old new r e
+  RefusesDraw : (s floor : ℕ) → Does {X = Ts} old new r (Err e) (DrawWork s floor (Err e)) → Refuses old new r e
+  RefusesPrepare : (s : ℕ) (q : Request) → Does {X = ℕ} old new r (Err e) (PrepareWork s q (Err e)) → Refuses old new r e
+  RefusesCommit : (s : ℕ) (q : Request) → Does {X = ℕ} old new r (Err e) (CommitWork s q (Err e)) → Refuses old new r e
+  RefusesAsk : (t : Ts) → Does {X = answer.Asked} old new r (Err e) (AskWork t (Err e)) → Refuses old new r e
+
+-- The client has called a repository, which has committed t, has decided so about it, or has told that it is decided so.
+pub data IsDecided (old new : View) (t : Ts) (commit : Bool) : Type 0 where
+  ByCommit : (r s place : ℕ) (q : Request) → q.tx ≡ t → commit ≡ true → Does {X = ℕ} old new r (Ok place) (CommitWork s q (Ok place)) → IsDecided old new t commit
+  ByDecision : (r s : ℕ) (asked : Bool) (v : Verdict) → v.commit ≡ commit → Does {X = Verdict} old new r (Ok v) (DecideWork s t asked (Ok v)) → IsDecided old new t commit
+  ByAnswer : (r : ℕ) (v : Verdict) → v.commit ≡ commit → Does {X = answer.Asked} old new r (Ok (answers.Settled v)) (AskWork t (Ok (answers.Settled v))) → IsDecided old new t commit
+
+-- The client has taken this message of the repository r.
+pub data IsTaken (old new : View) (r : ℕ) (m : Message) : Type 0 where
+  Takes : (s : ℕ) → Does {X = Option Message} old new r (Ok (Some m)) (ReceiveWork s (Ok (Some m))) → IsTaken old new r m
