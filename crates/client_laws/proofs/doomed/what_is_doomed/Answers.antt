@@ -1,11 +1,18 @@
 use Rattle.client_laws.proofs.doomed.what_is_doomed.Goals as goal
-use Rattle.client_laws.specs.Doomed.{DoomedAt}
-use Rattle.client_laws.specs.Examples.{lost, prepared}
-use Rattle.commit_log.specs.declared.entry.Entry.TheVariants.{Decided}
-use Rattle.local_history.specs.Examples.{at, home}
-use Rattle.port.specs.Views.{Calm, MayCome}
-use Rattle.session_outbox.specs.ExactExamples.{deciding}
-use Rattle.std.proofs.Common.{false, refl, true, ◌≡◌}
+use Rattle.client_laws.specs.Examples.{prepared}
+use Rattle.local_history.specs.Examples.{home}
+use Rattle.local_history.specs.History.{Fate, IsCommitted, Known, Open}
+use Rattle.session_outbox.specs.Gaps.{client_in}
+use Rattle.std.proofs.Common.{ap, false, refl, subst, true, ◌∙◌, ◌≡◌, ℕ}
+use Rattle.std.specs.Prelude.{None, Option, Some}
+
+fate_in : Option Known → Fate
+fate_in None = Open
+fate_in (Some o) = o.fate
+
+session_in : Option Known → ℕ
+session_in None = 0
+session_in (Some o) = o.request.session
 
 pub returns : goal.returns
 returns c = record {
@@ -13,6 +20,6 @@ returns c = record {
   aborting = record { o = _; there = refl; own = refl; uncommitted = λ done. done; coming = refl };
   lost = record { o = _; there = refl; own = refl; uncommitted = λ done. done; coming = tt };
   committing = λ d. let e : true ≡ false = d.coming in cc;
-  decided = λ d. cc d.there;
-  other = λ d. cc d.there;
+  decided = λ d. d.uncommitted (subst IsCommitted (ap fate_in d.there) tt);
+  other = λ d. let e : Some 1 ≡ Some 2 = ap (λ (k : Option Known). client_in home prepared (session_in k)) d.there ∙ d.own in cc;
 }
