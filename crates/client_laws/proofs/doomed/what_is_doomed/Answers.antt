@@ -15,6 +15,7 @@ session_in None = 0
 session_in (Some o) = o.request.session
 
 pub returns : goal.returns
+unfolding fate_in session_in
 returns c = record {
   prepared = record { o = _; there = refl; own = refl; uncommitted = λ done. done; coming = tt };
   aborting = record { o = _; there = refl; own = refl; uncommitted = λ done. done; coming = refl };
