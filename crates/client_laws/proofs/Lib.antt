@@ -1,6 +1,7 @@
 pub mod Asking
 pub mod Beginning
 pub mod Committing
+pub mod Elsewhere
 pub mod Falls
 pub mod Fits
 pub mod Growing
