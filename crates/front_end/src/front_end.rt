@@ -96,11 +96,6 @@ impl FrontEnd {
         Ok(Step::Moved)
     }
 
-    /// What the client holds of its repositories: its sessions, its copies, and what it knows of them.
-    pub fn held(&self) -> &Held {
-        &self.client.held
-    }
-
     /// Whether every item has ended, and no verdict is left to hand on.
     fn has_ended(&self) -> bool
         ensures ended { IsTrue result → length (course_of self.now).ended ≡ (course_of self.now).count }
