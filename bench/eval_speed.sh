@@ -1,7 +1,9 @@
 #!/usr/bin/env bash
 # What an evaluation over a client's copies costs beside `eval` over a view that has the objects: a transfer between two objects at
-# hand, begun, run to its end and given up, and a loop of 12,499 turns. Instructions by callgrind, so that other work on the machine
-# changes nothing. It needs valgrind. Without UNPROVED (see measuring.sh) it proves what it measures.
+# hand, begun, run to its end and given up, and a loop of 12,499 turns. And what stops cost: a walk over 1,000 objects, each on a page
+# of its own, that has them all at hand, and one that stops at each and goes on when its page is placed; what it costs to place the
+# pages and let them go is counted alone and taken off. Instructions by callgrind, so that other work on the machine changes nothing.
+# It needs valgrind. Without UNPROVED (see measuring.sh) it proves what it measures.
 set -eu
 source "$(dirname "$0")/measuring.sh"
 command -v valgrind > /dev/null || { echo "there is no valgrind" >&2; exit 1; }
@@ -12,18 +14,26 @@ cat > "$work/crates/eval_speed/src/main.rt" <<'RT'
 use class_defs::{Block, Declarations, RootDeclaration, RootDeclarations, Schema};
 use method_eval::{Names, Ran, View, eval};
 use method_parse::{parse_block, parse_setup};
+use object_codec::put_obj;
+use page_format::Page;
 use paused_eval::{Copies, GrantedNames, KeptTexts, Paused};
 use script_text::scan;
 use std::alloc::Global;
 use std::env;
 use std::test::Fail;
-use thor_value::{NoMemory, Obj, Oref, OrefMap, Orefs, Sequence, TryCopy, Value};
+use thor_value::{NoMemory, Obj, Oref, OrefMap, Sequence, Text, TryCopy, Value};
 
 const SETUP: &[u8] = b"free class Acct { int n; method int get() { return this.n; } method int add(int k) { this.n = this.n + k; return this.n; } method int move(Acct to, int k) { if (this.n < k) { return 0; } this.n = this.n - k; to.add(k); return k; } } root a = new Acct(); root b = new Acct();";
 
 const TRANSFER: &[u8] = b"{ a.move(b, 3); }";
 
 const LOOP: &[u8] = b"{ var int i = 0; while (i < 12499) { i = i + 1; } print i; }";
+
+const NODES: &[u8] = b"free class Node { int number; Node next; method int get() { return this.number; } method Node rest() { return this.next; } } root first = new Node();";
+
+const WALK: &[u8] = b"{ var Node n = first; var int s = 0; while (n != null) { s = s + n.get(); n = n.rest(); } print s; }";
+
+const NODES_COUNT: u32 = 1000;
 
 fn name_of(slot: u8) -> Oref {
     Oref {
@@ -100,6 +110,93 @@ fn by_go(alloc: Global, schema: &Schema, tx: &Block, count: u32) -> Result<(), F
     Ok(())
 }
 
+/// The page of one node, behind which the next page's comes.
+fn node_page(alloc: Global, number: u32) -> Result<Text, Fail> {
+    let mut fields = Sequence::new(alloc);
+    fields.push(Value::Int(1))?;
+    fields.push(if number + 1 < NODES_COUNT {
+        Value::Ref(Oref {
+            repo: 0,
+            page: number + 1,
+            slot: 0,
+        })
+    } else {
+        Value::Null
+    })?;
+    let node = Obj {
+        class: 0,
+        ver: 0,
+        fields,
+    };
+    let mut bytes = Text::new(alloc);
+    put_obj(&node, &mut bytes)?;
+    let mut page = Page::empty(alloc, number)?;
+    match page.put(0, bytes.as_slice()) {
+        Ok(()) => {}
+        Err(_) => return Err(Fail::new("no room")),
+    }
+    Ok(page.spell()?)
+}
+
+fn place(copies: &mut Copies, pages: &Sequence<Text>, number: u32) -> Result<(), Fail> {
+    match pages.get(number as usize) {
+        Some(bytes) => {
+            copies.place(number, 0, bytes.as_slice())?;
+            Ok(())
+        }
+        None => Err(Fail::new("no page")),
+    }
+}
+
+/// One walk, that has its pages placed where it stops.
+fn walk(
+    alloc: Global,
+    schema: &Schema,
+    tx: &Block,
+    pages: &Sequence<Text>,
+    copies: &mut Copies,
+    kept: &mut KeptTexts,
+) -> Result<(), Fail> {
+    let mut names = GrantedNames::new(alloc);
+    let mut run = Paused::begin(alloc, tx, kept)?;
+    for _ in 0..2 * NODES_COUNT {
+        match run.go(schema, 0, copies, &mut names, kept)? {
+            Ran::Done { .. } => return Ok(()),
+            Ran::Need { oref, .. } => place(copies, pages, oref.page)?,
+            Ran::NeedName { .. } => return Err(Fail::new("a name")),
+        }
+    }
+    Err(Fail::new("not done"))
+}
+
+/// Walks of a client that holds at most so many pages between them; or its pages alone, placed and let go.
+fn walks(
+    alloc: Global,
+    schema: &Schema,
+    tx: &Block,
+    held: u32,
+    alone: bool,
+    count: u32,
+) -> Result<(), Fail> {
+    let mut pages: Sequence<Text> = Sequence::new(alloc);
+    for number in 0..NODES_COUNT {
+        pages.push(node_page(alloc, number)?)?;
+    }
+    let mut copies = Copies::new(alloc, held)?;
+    let mut kept = KeptTexts::new(alloc);
+    for _ in 0..count {
+        if alone {
+            for number in 0..NODES_COUNT {
+                place(&mut copies, &pages, number)?;
+            }
+        } else {
+            walk(alloc, schema, tx, &pages, &mut copies, &mut kept)?;
+        }
+        copies.evict();
+    }
+    Ok(())
+}
+
 fn main(rt: HostRuntime) -> Result<(), Fail> {
     let alloc = rt.alloc();
     let words = env::args(&rt)?.collect::<Vec<String>>(alloc)?;
@@ -107,17 +204,25 @@ fn main(rt: HostRuntime) -> Result<(), Fail> {
         let how = how.as_str().parse::<u32>()?;
         let what = what.as_str().parse::<u32>()?;
         let count = count.as_str().parse::<u32>()?;
-        let declared = match parse_setup(alloc, &scan(alloc, SETUP)?) {
+        let setup = if what < 2 { SETUP } else { NODES };
+        let declared = match parse_setup(alloc, &scan(alloc, setup)?) {
             Ok(declared) => declared,
             Err(_) => return Err(Fail::new("no setup")),
         };
         let schema = schema_of(alloc, declared)?;
-        let text = if what == 0 { TRANSFER } else { LOOP };
+        let text = match what {
+            0 => TRANSFER,
+            1 => LOOP,
+            _ => WALK,
+        };
         let tx = match parse_block(alloc, &scan(alloc, text)?) {
             Ok(tx) => tx,
             Err(_) => return Err(Fail::new("no block")),
         };
-        if how == 0 {
+        if what == 2 {
+            let held = if how == 0 { NODES_COUNT } else { 1 };
+            walks(alloc, &schema, &tx, held, how == 2, count)?;
+        } else if how == 0 {
             by_eval(alloc, &schema, &tx, count)?;
         } else {
             by_go(alloc, &schema, &tx, count)?;
@@ -148,3 +253,11 @@ each() {
 
 each "a transfer" 0 100 1100
 each "a loop of 12,499 turns" 1 1 5
+
+# walk HOW: one more walk at hand (0), with a stop at each object (1), and its pages alone (2).
+walk() {
+    echo $(( ($(counted "$1" 2 6) - $(counted "$1" 2 2)) / 4 ))
+}
+
+awk -v at="$(walk 0)" -v stops="$(walk 1)" -v alone="$(walk 2)" 'BEGIN {
+    printf "1,000 objects at hand: %d instructions; with 1,000 stops %d, %.2f times; without what its pages cost, %d: %.2f times\n", at, stops, stops / at, alone, (stops - alone) / at }'

@@ -1,7 +1,10 @@
 -- Marks of several objects, in turn.
+use Rattle.cached_sets.specs.Cost.{touch_steps}
 use Rattle.cached_sets.specs.Invalid.{Invalids, mark}
 use Rattle.cached_sets.specs.Sets.{holders, marked, touches}
+use Rattle.link_table.specs.Pairs.{lefts}
 use Rattle.std.proofs.Common.{◌≡◌, List, [], ◌++◌, ◌<◌, ◌+◌, ◌∷◌, add-one, ap, drop, drop-cons, false, get_or, length, nat_eq, refl, suc, sym, true, ◌∙◌}
+use Rattle.std.proofs.lemmas.List.Sums.{sum_by-cons}
 use Rattle.std.proofs.lemmas.List.{append-nil}
 use Rattle.std.specs.List.{filter}
 use Rattle.std.specs.Map.{keys_of}
@@ -37,6 +40,13 @@ touches_from cached w ws i d N k l =
     ap (λ (ts : List (ℕ × Oref)). marked N ts k) (touches_first cached w (get_or ws i d).0 (keys_of (drop (suc i) ws)))
     ∙ marked_append N (touches cached w ((get_or ws i d).0 ∷ [])) (touches cached w (keys_of (drop (suc i) ws))) k
     )
+
+-- the steps of the writes from one on: of that one, and of those behind it
+pub steps_from : (cached : List (ℕ × ℕ)) (ws : List (Oref × Obj)) (i : ℕ) (d : Oref × Obj) → i < length ws
+    → touch_steps cached (keys_of (drop i ws)) ≡ (1 + length (lefts cached (get_or ws i d).0.page)) + touch_steps cached (keys_of (drop (i + 1) ws))
+steps_from cached ws i d l =
+    let parts : drop i ws ≡ get_or ws i d ∷ drop (suc i) ws = drop-cons ws i d l in
+    rw (parts, add-one) (sum_by-cons (λ (x : Oref). 1 + length (lefts cached x.page)) (get_or ws i d).0 (keys_of (drop (suc i) ws)))
 
 pub on_ok : {T E P : Type 0} (r : Result T E) → is_err r ≡ false → OnOk r P → P
 on_ok (Ok x) h p = p

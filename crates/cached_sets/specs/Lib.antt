@@ -1,4 +1,5 @@
 pub mod Bounds
+pub mod Cost
 pub mod Invalid
 pub mod Meaning
 pub mod Sets

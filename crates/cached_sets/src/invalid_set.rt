@@ -1,17 +1,20 @@
 //! The invalid set of one session.
 
 ghost use Rattle.cached_sets.specs.Invalid.{first_stale, from, if_behind, next_of};
+ghost use Rattle.cached_sets.specs.Cost.{stale_steps};
 ghost use Rattle.cached_sets.specs.Undoing.{put_back};
 ghost use Rattle.cached_sets.specs.Bounds.{bound_behind};
 ghost use Rattle.std.specs.Option.{option_and_then};
-ghost use Rattle.std.specs.Prelude.{OnErr, OnOk, ◌≡◌};
-ghost use Rattle.thor_value.specs.FiniteMap.{empty, get, insert};
+ghost use Rattle.std.specs.Prelude.{OnErr, OnOk, length, ◌+◌, ◌≡◌, ◌≤◌};
+ghost use Rattle.thor_value.specs.FiniteMap.{empty, get, insert, len};
 ghost use Rattle.validation_queue.specs.Names.{Rises};
 
+use link_table::Steps;
 use std::alloc::Global;
 use std::collections::BTreeMap;
 use std::marker::Model;
 use std::ops::Bound;
+use std::sync::ledger::Ledger;
 use thor_value::{NoMemory, Oref};
 use validation_queue::is_one_of;
 
@@ -97,15 +100,21 @@ impl InvalidSet {
     }
 
     /// The least of some names that is in the set at a place not below `upto`, with its place. It looks
-    /// at the names or at the set, whichever are fewer.
-    pub fn first_stale(&self, names: &[Oref], upto: u64) -> Option<(Oref, u64)>
+    /// at the names or at the set, whichever are fewer, and counts a step for each that it looks at.
+    pub fn first_stale<L: Ledger>(
+        &self,
+        names: &[Oref],
+        upto: u64,
+        steps: &mut Steps<L>,
+    ) -> Option<(Oref, u64)>
         requires { Rises names.now }
-        ensures { result ≡ first_stale self.now upto names.now }
+        ensures value { result ≡ first_stale self.now upto names.now }
+        ensures cost { steps.new ≤ steps.old + stale_steps self.now names.now }
     {
         if self.places.len() < names.len() {
-            self.first_of_set(names, upto)
+            self.first_of_set(names, upto, steps)
         } else {
-            self.first_of_names(names, upto)
+            self.first_of_names(names, upto, steps)
         }
     }
 
@@ -121,10 +130,17 @@ impl InvalidSet {
         }
     }
 
-    fn first_of_names(&self, names: &[Oref], upto: u64) -> Option<(Oref, u64)>
-        ensures { result ≡ first_stale self.now upto names.now }
+    fn first_of_names<L: Ledger>(
+        &self,
+        names: &[Oref],
+        upto: u64,
+        steps: &mut Steps<L>,
+    ) -> Option<(Oref, u64)>
+        ensures value { result ≡ first_stale self.now upto names.now }
+        ensures cost { steps.new ≤ steps.old + length names.now }
     {
         for name in names {
+            steps.tick();
             if let Some(stale) = self.if_stale(*name, upto) {
                 return Some(stale);
             }
@@ -132,11 +148,18 @@ impl InvalidSet {
         None
     }
 
-    fn first_of_set(&self, names: &[Oref], upto: u64) -> Option<(Oref, u64)>
+    fn first_of_set<L: Ledger>(
+        &self,
+        names: &[Oref],
+        upto: u64,
+        steps: &mut Steps<L>,
+    ) -> Option<(Oref, u64)>
         requires { Rises names.now }
-        ensures { result ≡ first_stale self.now upto names.now }
+        ensures value { result ≡ first_stale self.now upto names.now }
+        ensures cost { steps.new ≤ steps.old + len self.now }
     {
         for (oref, place) in self.places.iter() {
+            steps.tick();
             if upto <= *place && is_one_of(names, *oref) {
                 return Some((*oref, *place));
             }

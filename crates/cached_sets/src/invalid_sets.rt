@@ -1,17 +1,20 @@
 //! The invalid sets of all sessions.
 
+ghost use Rattle.cached_sets.specs.Cost.{stale_steps};
 ghost use Rattle.cached_sets.specs.Invalid.{Invalids, change, first_stale, from, mark, next_of, set_of};
 ghost use Rattle.cached_sets.specs.Sets.{opened};
 ghost use Rattle.cached_sets.specs.Undoing.{undo};
-ghost use Rattle.std.specs.Prelude.{IfOk, IsTrue, OnErr, OnOk, not, ◌≡◌};
+ghost use Rattle.std.specs.Prelude.{IfOk, IsTrue, OnErr, OnOk, length, not, ◌+◌, ◌≡◌, ◌≤◌};
 ghost use Rattle.thor_value.specs.FiniteMap.{empty, has, remove};
 ghost use Rattle.validation_queue.specs.Names.{Rises};
 
 use crate::invalid_set::InvalidSet;
 use crate::marked::Marked;
+use link_table::Steps;
 use std::alloc::Global;
 use std::collections::BTreeMap;
 use std::marker::Model;
+use std::sync::ledger::Ledger;
 use thor_value::{NoMemory, Oref};
 
 /// The invalid sets of some sessions. Contracts see them as a finite map.
@@ -71,6 +74,7 @@ impl InvalidSets {
     ) -> Result<(), NoMemory>
         ensures ok { OnOk result (self.new ≡ mark self.old session oref place) }
         ensures undone { (N : Invalids) → undo self.old done.old.items ≡ N → undo self.new done.new.items ≡ N }
+        ensures one { length done.new.items ≤ length done.old.items + 1 }
     {
         let Some(set) = self.sets.get_mut(&session) else {
             return Ok(());
@@ -84,11 +88,13 @@ impl InvalidSets {
         set.put(oref, place)
     }
 
-    /// Takes marks back, the last one first.
-    pub fn undo(&mut self, mut done: Vec<Marked>)
-        ensures { self.new ≡ undo self.old done.items }
+    /// Takes marks back, the last one first, and counts a step for each.
+    pub fn undo<L: Ledger>(&mut self, mut done: Vec<Marked>, steps: &mut Steps<L>)
+        ensures rest { self.new ≡ undo self.old done.items }
+        ensures cost { steps.new ≡ steps.old + length done.items }
     {
         while let Some(mark) = done.pop() {
+            steps.tick();
             if let Some(set) = self.sets.get_mut(&mark.session) {
                 set.put_back(mark.oref, mark.before);
             }
@@ -111,13 +117,21 @@ impl InvalidSets {
         self.sets.remove(&session);
     }
 
-    /// The least of some names that is in the set of a session at a place not below `upto`.
-    pub fn first_stale(&self, session: u32, names: &[Oref], upto: u64) -> Option<(Oref, u64)>
+    /// The least of some names that is in the set of a session at a place not below `upto`. It counts a
+    /// step for each of the names or of the set that it looks at.
+    pub fn first_stale<L: Ledger>(
+        &self,
+        session: u32,
+        names: &[Oref],
+        upto: u64,
+        steps: &mut Steps<L>,
+    ) -> Option<(Oref, u64)>
         requires { Rises names.now }
-        ensures { result ≡ first_stale (set_of self.now session) upto names.now }
+        ensures value { result ≡ first_stale (set_of self.now session) upto names.now }
+        ensures cost { steps.new ≤ steps.old + stale_steps (set_of self.now session) names.now }
     {
         match self.sets.get(&session) {
-            Some(set) => set.first_stale(names, upto),
+            Some(set) => set.first_stale(names, upto, steps),
             None => None,
         }
     }

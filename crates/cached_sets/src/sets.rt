@@ -1,19 +1,21 @@
 //! The calls of a repository on the sets of its sessions.
 
+ghost use Rattle.cached_sets.specs.Cost.{stale_steps, touch_steps};
 ghost use Rattle.cached_sets.specs.Sets.{acknowledge, cache, drop_session, invalid_after, marked, no_sets, stale, touch, touches};
-ghost use Rattle.cached_sets.specs.Invalid.{Invalids};
+ghost use Rattle.cached_sets.specs.Invalid.{Invalids, set_of};
 ghost use Rattle.cached_sets.specs.Undoing.{undo};
-ghost use Rattle.link_table.specs.Pairs.{first, lefts, next};
+ghost use Rattle.link_table.specs.Pairs.{first, lefts, next, rights};
 ghost use Rattle.std.specs.List.{IsDistinct, last_or};
 ghost use Rattle.std.specs.Map.{keys_of};
-ghost use Rattle.std.specs.Prelude.{List, None, Ok, OnErr, OnOk, [], nat_eq, ℕ, ◌++◌, ◌∷◌, ◌≡◌};
+ghost use Rattle.std.specs.Prelude.{List, None, Ok, OnErr, OnOk, [], length, nat_eq, ℕ, ◌*◌, ◌++◌, ◌+◌, ◌<◌, ◌∷◌, ◌≡◌, ◌≤◌};
 ghost use Rattle.validation_queue.specs.Names.{Rises};
 
 use crate::invalid_sets::InvalidSets;
 use crate::marked::Marked;
-use link_table::Links;
+use link_table::{Links, Steps};
 use std::alloc::Global;
-use std::marker::Model;
+use std::marker::{Brand, Model};
+use std::sync::ledger::{Blank, Ledger};
 use thor_value::{NoMemory, Oref, Orefs, Writes};
 
 /// For each session the pages that its client may have, and its invalid set: the objects on those
@@ -70,13 +72,51 @@ impl Sets {
     /// every other session that has its page, with that place. After `NoMemory` the sets are as they
     /// were.
     ///
-    /// It takes time for each such session and object, and none for the others.
+    /// It takes time for each such session and object, and none for the others: `touch_counted` says how
+    /// many steps.
     pub fn touch(&mut self, writer: u32, writes: &Writes, place: u64) -> Result<(), NoMemory>
         ensures ok { OnOk result (self.new ≡ touch self.old writer (keys_of writes.now) place) }
         ensures err { OnErr result (self.new ≡ self.old) }
     {
+        self.touch_uncounted::<Brand>(writer, writes, place, Blank::new(1))
+    }
+
+    fn touch_uncounted<L: Ledger>(
+        &mut self,
+        writer: u32,
+        writes: &Writes,
+        place: u64,
+        ledger: Blank,
+    ) -> Result<(), NoMemory>
+        requires name { ledger.name ≡ L.name }
+        requires parts { ledger.parts ≡ L.parts }
+        requires some { 0 < ledger.parts }
+        ensures ok { OnOk result (self.new ≡ touch self.old writer (keys_of writes.now) place) }
+        ensures err { OnErr result (self.new ≡ self.old) }
+    {
+        let mut steps: Steps<L> = Steps::new(ledger);
+        self.touch_counted(writer, writes, place, &mut steps)
+    }
+
+    /// `touch`, counted: one step for each written object, and one for each session that has its page.
+    /// Each step takes time in proportion to the logarithm of how many sessions or invalid objects
+    /// there are. Before it answers `NoMemory` it takes back what it has done, with at most as many
+    /// steps again.
+    pub fn touch_counted<L: Ledger>(
+        &mut self,
+        writer: u32,
+        writes: &Writes,
+        place: u64,
+        steps: &mut Steps<L>,
+    ) -> Result<(), NoMemory>
+        ensures ok { OnOk result (self.new ≡ touch self.old writer (keys_of writes.now) place) }
+        ensures err { OnErr result (self.new ≡ self.old) }
+        ensures cost { OnOk result (steps.new ≡ steps.old + touch_steps self.old.cached (keys_of writes.now)) }
+        ensures err_cost { OnErr result (steps.new ≤ steps.old + 2 * touch_steps self.old.cached (keys_of writes.now)) }
+    {
         let mut done = Vec::new(self.alloc);
         for write in writes.as_slice() {
+            steps.tick();
             let touched = mark_holders(
                 &self.pages,
                 &mut self.invalid,
@@ -84,9 +124,10 @@ impl Sets {
                 write.0,
                 place,
                 &mut done,
+                steps,
             );
             if touched.is_err() {
-                self.invalid.undo(done);
+                self.invalid.undo(done, steps);
                 return Err(NoMemory);
             }
         }
@@ -104,7 +145,7 @@ impl Sets {
     }
 
     /// The client of a session knows what was written below a place: those objects leave its invalid
-    /// set. It takes no memory.
+    /// set. It looks once at each object of that set, and at no other, and takes no memory.
     pub fn acknowledge(&mut self, session: u32, upto: u64)
         ensures { self.new ≡ acknowledge self.old session upto }
     {
@@ -113,45 +154,105 @@ impl Sets {
 
     /// The least of the names that a request read which its session's invalid set has at a place not
     /// below `upto`, with that place. It looks at the names or at the set, whichever are fewer, and takes
-    /// no memory.
+    /// no memory: `stale_counted` says how many steps.
     pub fn stale(&self, session: u32, ros: &Orefs, upto: u64) -> Option<(Oref, u64)>
         requires { Rises ros.now }
         ensures { result ≡ stale self.now session ros.now upto }
     {
-        self.invalid.first_stale(session, ros.as_slice(), upto)
+        self.stale_uncounted::<Brand>(session, ros, upto, Blank::new(1))
+    }
+
+    fn stale_uncounted<L: Ledger>(
+        &self,
+        session: u32,
+        ros: &Orefs,
+        upto: u64,
+        ledger: Blank,
+    ) -> Option<(Oref, u64)>
+        requires rises { Rises ros.now }
+        requires name { ledger.name ≡ L.name }
+        requires parts { ledger.parts ≡ L.parts }
+        requires some { 0 < ledger.parts }
+        ensures { result ≡ stale self.now session ros.now upto }
+    {
+        let mut steps: Steps<L> = Steps::new(ledger);
+        self.stale_counted(session, ros, upto, &mut steps)
+    }
+
+    /// `stale`, counted: one step for each of the names, or for each object of the set, that it looks
+    /// at. Each step takes time in proportion to the logarithm of how many there are of the others.
+    pub fn stale_counted<L: Ledger>(
+        &self,
+        session: u32,
+        ros: &Orefs,
+        upto: u64,
+        steps: &mut Steps<L>,
+    ) -> Option<(Oref, u64)>
+        requires { Rises ros.now }
+        ensures value { result ≡ stale self.now session ros.now upto }
+        ensures cost { steps.new ≤ steps.old + stale_steps (set_of self.now.invalid session) ros.now }
+    {
+        self.invalid
+            .first_stale(session, ros.as_slice(), upto, steps)
     }
 
     /// The next object of a session's invalid set behind one, names rising, with its place; the first
-    /// one behind `None`. It takes no memory.
+    /// one behind `None`. It looks at no other, and takes no memory.
     pub fn invalid(&self, session: u32, after: Option<Oref>) -> Option<(Oref, u64)>
         ensures { result ≡ invalid_after self.now session after }
     {
         self.invalid.next(session, after)
     }
 
-    /// A session ends: it has no page and no invalid set. It takes no memory.
+    /// A session ends: it has no page and no invalid set. It takes no memory: `drop_counted` says how
+    /// many steps.
     pub fn drop_session(&mut self, session: u32)
         ensures { self.new ≡ drop_session self.old session }
     {
-        self.pages.part_left(session);
+        self.drop_uncounted::<Brand>(session, Blank::new(1));
+    }
+
+    fn drop_uncounted<L: Ledger>(&mut self, session: u32, ledger: Blank)
+        requires name { ledger.name ≡ L.name }
+        requires parts { ledger.parts ≡ L.parts }
+        requires some { 0 < ledger.parts }
+        ensures { self.new ≡ drop_session self.old session }
+    {
+        let mut steps: Steps<L> = Steps::new(ledger);
+        self.drop_counted(session, &mut steps);
+    }
+
+    /// `drop_session`, counted: one step for each page that the session has. Its invalid set goes as a
+    /// whole.
+    pub fn drop_counted<L: Ledger>(&mut self, session: u32, steps: &mut Steps<L>)
+        ensures rest { self.new ≡ drop_session self.old session }
+        ensures cost { steps.new ≡ steps.old + length (rights self.old.cached session) }
+    {
+        self.pages.unlink_left(session, steps);
         self.invalid.close(session);
     }
 }
 
-/// Marks an object in the set of each session that has its page, but for the writer's.
-fn mark_holders(
+/// Marks an object in the set of each session that has its page, but for the writer's. It counts a
+/// step for each session that has the page; `done` gets at most one mark for each.
+fn mark_holders<L: Ledger>(
     pages: &Links,
     invalid: &mut InvalidSets,
     writer: u32,
     oref: Oref,
     place: u64,
     done: &mut Vec<Marked>,
+    steps: &mut Steps<L>,
 ) -> Result<(), NoMemory>
     ensures ok { OnOk result (invalid.new ≡ marked invalid.old (touches pages.now writer (oref ∷ [])) place) }
     ensures undone { (N : Invalids) → undo invalid.old done.old.items ≡ N → undo invalid.new done.new.items ≡ N }
+    ensures cost { OnOk result (steps.new ≡ steps.old + length (lefts pages.now oref.page)) }
+    ensures bound { steps.new ≤ steps.old + length (lefts pages.now oref.page) }
+    ensures marks { length done.new.items + steps.old ≤ length done.old.items + steps.new }
 {
     let mut after = None;
     while let Some(session) = pages.next_left(oref.page, after) {
+        steps.tick();
         if session != writer {
             invalid.mark(session, oref, place, done)?;
         }

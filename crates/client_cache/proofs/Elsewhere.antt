@@ -1,5 +1,5 @@
 -- What is told where pages have left.
-use Rattle.std.proofs.Common.{◌≡◌, ℕ, zero, suc, Bool, true, false, cond, not, ◌&&◌, nat_eq, List, [], ◌∷◌, take, Option, None, is_some, refl, sym, ap}
+use Rattle.std.proofs.Common.{◌≡◌, ℕ, zero, suc, Bool, true, false, cond, not, ◌&&◌, nat_eq, List, [], ◌∷◌, take, Option, Some, None, is_some, refl, sym, ap}
 use Rattle.std.specs.BTreeMap.{is_at}
 use Rattle.std.specs.List.{filter, list_any}
 use Rattle.std.specs.Map.{lookup}
@@ -43,3 +43,9 @@ written_elsewhere repo written x = any-filter_same (is_at (oref_cmp x)) (λ y. n
 pub some_unless : (b : Bool) (o : Option Obj) → is_some (cond b None o) ≡ (not b && is_some o)
 some_unless true o = refl
 some_unless false o = refl
+
+-- nothing here and nothing there
+pub nothing_both : (o p : Option Obj) → is_some o ≡ false → is_some p ≡ false → p ≡ o
+nothing_both None None h i = refl
+nothing_both None (Some y) h i = cc
+nothing_both (Some x) p h i = cc

@@ -270,10 +270,26 @@ impl Cache {
     }
 
     /// Drops whole pages, the least recently used ones first, until at most as many are left as were given
-    /// to `new`. It is called between tries: nothing may be written that isn't settled or given up.
+    /// to `new`. It is called between tries: while something is written that isn't settled or given up, it drops
+    /// nothing, so that no page of the present try goes.
     pub fn evict(&mut self)
+        ensures held { self.old.written ≡ [] → self.new.held ≡ take self.old.limit self.old.held }
+        ensures own { (self.old.written ≡ [] → ⊥) → self.new.held ≡ self.old.held }
+        ensures changed { (x : Oref) → changed self.new x ≡ changed self.old x }
+        ensures written { self.new.written ≡ self.old.written }
+        ensures made { self.new.made ≡ self.old.made }
+        ensures limit { self.new.limit ≡ self.old.limit }
+    {
+        if self.written.is_empty() {
+            self.evict_between_tries();
+        }
+    }
+
+    // The same where nothing is written that isn't settled or given up.
+    fn evict_between_tries(&mut self)
         requires { self.old.written ≡ [] }
         ensures held { self.new.held ≡ take self.old.limit self.old.held }
+        ensures changed { (x : Oref) → changed self.new x ≡ changed self.old x }
         ensures written { self.new.written ≡ [] }
         ensures made { self.new.made ≡ self.old.made }
         ensures limit { self.new.limit ≡ self.old.limit }

@@ -1,17 +1,23 @@
 pub mod Asking
+pub mod Beginning
 pub mod Committing
+pub mod Elsewhere
 pub mod Falls
 pub mod Fits
 pub mod Growing
 pub mod Handing
+pub mod Leaving
 pub mod Lending
 pub mod Linked
 pub mod Other
 pub mod Passing
+pub mod Quiet
 pub mod Resting
 pub mod Sending
 pub mod Showing
 mod Stepping
 pub mod Taking
 pub mod Telling
+pub mod Uncommitted
+pub mod UncommittedCalls
 pub mod Working

@@ -162,7 +162,7 @@ module _ (b : Base) (c : ℕ) (T : List Item) (s : ℕ) (v : Session) (committed
 
   -- ---- what an item prepares
 
-  asked : (e : Entry) → maker b T (E e) ≢ Some c → (q : Request) → Asks e q → q.session ≡ s → ⊥
+  pub asked : (e : Entry) → maker b T (E e) ≢ Some c → (q : Request) → Asks e q → q.session ≡ s → ⊥
   asked (Life n) other q x e = x
   asked (One r) other q x e = other (ap (λ (z : Request). client_in b T z.session) x ∙ ap (client_in b T) e ∙ mine)
   asked (Prepared r) other q x e = other (ap (λ (z : Request). client_in b T z.session) x ∙ ap (client_in b T) e ∙ mine)

@@ -134,7 +134,7 @@ module _ (b : Base) where
   since_grown T (M m) s x k a h = subst (λ (H : List Entry). OthersSince s k (writers b H x)) (sym (after-mark b T m)) h
 
   -- one that is undecided behind an entry was so before it
-  was_open : (cs : List (ℕ × Request)) (n : ℕ) (q : Request) (f g : Fate) → g ≡ Open → steps.FateMoves cs n q f g → f ≡ Open
+  pub was_open : (cs : List (ℕ × Request)) (n : ℕ) (q : Request) (f g : Fate) → g ≡ Open → steps.FateMoves cs n q f g → f ≡ Open
   was_open cs n q Open g e m = refl
   was_open cs n q (Committed a) Open e m = absurd m
   was_open cs n q (Committed a) (Committed at) e m = cc

@@ -1,8 +1,11 @@
 -- What a client keeps, against the small traces of session_outbox: client 2 has session 2, has taken page 0, and
 -- others write its object x then.
 use Rattle.client_laws.specs.Fitting.{Copies, Kept}
+use Rattle.commit_log.specs.declared.entry.Entry.TheVariants.{Life}
 use Rattle.local_history.specs.Examples.{box, x}
-use Rattle.std.specs.Prelude.{None, Some, cond, false, ℕ}
+use Rattle.session_outbox.specs.ExactExamples.{deciding}
+use Rattle.session_outbox.specs.Trace.{E, Item}
+use Rattle.std.specs.Prelude.{List, None, Some, [], cond, false, take, ℕ, ◌++◌, ◌∷◌}
 use Rattle.thor_value.specs.Names.{same_oref}
 
 -- a copy of x as it was at the beginning, and none
@@ -15,3 +18,13 @@ no_copy y = None
 -- client 2 waits for no answer, knows the places below this one, and has these copies
 abbrev pub keeping : ℕ → Copies → Kept
 keeping upto copies = record { session = 2; upto = upto; awaits = false; copies = copies }
+
+-- ---- doomed transactions
+
+-- Client 1 has prepared a transaction at its coordinator,
+abbrev pub prepared : List Item
+prepared = take 4 deciding
+
+-- which is then restarted
+abbrev pub lost : List Item
+lost = prepared ++ E (Life 2) ∷ []

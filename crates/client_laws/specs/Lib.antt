@@ -1,3 +1,4 @@
+pub mod Doomed
 pub mod Examples
 pub mod Fitting
 pub mod Links

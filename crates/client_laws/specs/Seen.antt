@@ -3,6 +3,7 @@ use Rattle.client_laws.specs.Fitting.{Agrees, Copies}
 use Rattle.client_laws.specs.Links.{LinkFits}
 use Rattle.client_state.specs.declared.link.Link.{Link}
 use Rattle.local_history.specs.Sound.{sound}
+use Rattle.port.specs.Acting.{Acts, Asked, Committed, Connected, Decided, Drew, Fetched, Finished, Forgot, Granted, Prepared, Received, Rests}
 use Rattle.port.specs.Views.{View}
 use Rattle.session_outbox.specs.Exact.{exact}
 use Rattle.session_outbox.specs.Trace.{entries}
@@ -24,3 +25,18 @@ LinkIn port r committed link copies = LinkFits port.opened.client (port.opened.b
 abbrev pub LinkAt : View → ℕ → (Ts → Bool) → Option Link → Copies → Type 0
 LinkAt port r committed None copies = Unit {0}
 LinkAt port r committed (Some link) copies = LinkIn port r committed link copies
+
+-- the repository that was called
+abbrev pub called_at : (old new : View) → Acts old new → Option ℕ
+called_at old new (Rests same) = None
+called_at old new (Connected r c result does) = Some r
+called_at old new (Fetched r s page upto result does) = Some r
+called_at old new (Granted r s result does) = Some r
+called_at old new (Received r s result does) = Some r
+called_at old new (Drew r s floor result does) = Some r
+called_at old new (Prepared r s q result does) = Some r
+called_at old new (Committed r s q result does) = Some r
+called_at old new (Decided r s t commit result does) = Some r
+called_at old new (Finished r t commit result does) = Some r
+called_at old new (Forgot r t result does) = Some r
+called_at old new (Asked r t result does) = Some r

@@ -5,7 +5,7 @@
 ghost use Rattle.client_cache.specs.Copies.{Contents, kept};
 ghost use Rattle.client_laws.specs.Fitting.{Copies, NoneToFinish};
 ghost use Rattle.client_laws.specs.Links.{Becomes, BringsContent};
-ghost use Rattle.client_laws.specs.Seen.{IsSeenRight, LinkAt, LinkIn};
+ghost use Rattle.client_laws.specs.Seen.{IsSeenRight, LinkAt, LinkIn, called_at};
 ghost use Rattle.client_state.specs.Calling.{Connects, Draws, Fetches, Grants};
 ghost use Rattle.client_state.specs.Links.{is_reply};
 ghost use Rattle.client_state.specs.Taking.{took};
@@ -15,6 +15,7 @@ ghost use Rattle.client_state.specs.declared.link.Link.TheVariants.{Apart, Joine
 ghost use Rattle.client_state.specs.declared.link.Waits.{Waits};
 ghost use Rattle.message_outbox.specs.declared.answers.At.{At};
 ghost use Rattle.message_outbox.specs.declared.message.Message.{Message};
+ghost use Rattle.port.specs.Acting.{Acts};
 ghost use Rattle.port.specs.Growing.{Called};
 ghost use Rattle.port.specs.Views.{Unsettled, View};
 ghost use Rattle.port.specs.Works.{Does, ReceiveWork};
@@ -28,10 +29,12 @@ ghost use Rattle.thor_value.specs.declared.names.Ts.{Ts};
 ghost use Rattle.thor_value.specs.declared.values.Obj.{Obj};
 ghost use Rattle.validation_window.specs.declared.refusal.Refusal.{Refusal};
 
-/// A link with a repository that isn't called fits what others make of it.
+/// A link with a repository that isn't called fits what others make of it, whatever call was made elsewhere.
 pub fn other_links_fit()
-    ensures { (old new : View) (r n : ℕ) (at : List Item) (met : Unsettled) (committed : Ts → Bool) (link : Link) (copies : Copies) →
+    ensures called { (old new : View) (r n : ℕ) (at : List Item) (met : Unsettled) (committed : Ts → Bool) (link : Link) (copies : Copies) →
         Called old new r at met → n ≢ r → IsSeenRight new n committed → LinkIn old n committed link copies → LinkIn new n committed link copies }
+    ensures acts { (old new : View) (a : Acts old new) (n : ℕ) (committed : Ts → Bool) (link : Link) (copies : Copies) →
+        called_at old new a ≢ Some n → IsSeenRight new n committed → LinkIn old n committed link copies → LinkIn new n committed link copies }
 {}
 
 /// A client that is apart from a repository and connects there fits what it is told, or is apart still.

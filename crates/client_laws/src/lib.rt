@@ -5,6 +5,7 @@
 mod acting;
 mod calls;
 mod conditions;
+mod doomed;
 mod examples;
 mod falling;
 mod growth;
@@ -19,6 +20,10 @@ pub use calls::{
     receiving_clients_fit, sending_clients_fit, telling_clients_fit,
 };
 pub use conditions::{sent_requests_continue, shown_calls_may_come};
+pub use doomed::{
+    doomed_transactions_stay, joined_sessions_are_quiet, quiet_sessions_owe_nothing,
+    quiet_sessions_stay, what_is_doomed,
+};
 pub use examples::{what_does_not_fit, what_fits};
 pub use falling::{falling_ends, owed_calls};
 pub use growth::{others_act, outcomes_are_told};

@@ -146,7 +146,7 @@ stamp_keys [] = refl
 stamp_keys (t ∷ ts) = ap (λ (us : List Ts). t ∷ us) (stamp_keys ts)
 
 module _ (repo : ℕ) (prepared : List Request) (decisions : List Ts) (rise : IsStrictlySortedBy ts_cmp decisions) where
-  stamps_in_order : (c : Contents) (rest : List Ts) → KeepsTo repo prepared decisions c rest → IsStrictlySortedBy ts_cmp (keys_of (those decision_of c.transactions.pairs ++ map stamped rest))
+  pub stamps_in_order : (c : Contents) (rest : List Ts) → KeepsTo repo prepared decisions c rest → IsStrictlySortedBy ts_cmp (keys_of (those decision_of c.transactions.pairs ++ map stamped rest))
   stamps_in_order c rest to = subst (λ (es : List (Ts × Unit {0})). IsStrictlySortedBy ts_cmp (keys_of es)) (sym to.kept) (subst (IsStrictlySortedBy ts_cmp) (sym (stamp_keys decisions)) rise)
 
   not_there : {X : Type 0} (o : Option X) → is_some o ≡ false → o ≡ None

@@ -6,4 +6,5 @@ pub mod Limits
 pub mod Filled
 pub mod Pages
 pub mod Tables
+pub mod Unfit
 pub mod Written

@@ -2,3 +2,4 @@ pub mod Entering
 pub mod Keeps
 pub mod Making
 pub mod Said
+pub mod Unfit

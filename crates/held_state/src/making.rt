@@ -4,17 +4,20 @@ ghost use Rattle.std.specs.List.{AllByRecursion};
 ghost use Rattle.std.specs.List.Sorted.{IsStrictlySortedBy};
 ghost use Rattle.std.specs.Map.{keys_of};
 ghost use Rattle.std.specs.Ordering.{nat_cmp};
-ghost use Rattle.std.specs.Prelude.{◌≡◌, List, [], map, IfOk, IsTrue, None, OnOk, ℕ};
+ghost use Rattle.std.specs.Prelude.{◌≡◌, Err, List, [], map, IfOk, IsTrue, None, OnOk, ℕ};
 ghost use Rattle.commit_log.specs.RequestForm.{RequestFits, WriteFits};
 ghost use Rattle.commit_log.specs.declared.request.Request.{Request as ARequest};
 ghost use Rattle.held_state.specs.Entering.{are_of};
-ghost use Rattle.held_state.specs.Keeps.{IsUnread};
+ghost use Rattle.held_state.specs.Keeps.{IsUnread, TableFits};
 ghost use Rattle.held_state.specs.Making.{AlonesTo, IsTableOf, KeepsTo, OpensTo};
+ghost use Rattle.held_state.specs.declared.fault.HoldFault.TheVariants.{Unfit};
 ghost use Rattle.log_bytes.specs.Checkpoint.{StampFits, client_of, tx_of};
 ghost use Rattle.mob_buffer.specs.Buffer.{AreDistinct, AreOf};
 ghost use Rattle.thor_value.specs.Names.{ts_cmp};
 ghost use Rattle.thor_value.specs.Spelling.{TsFits};
 ghost use Rattle.thor_value.specs.declared.names.Ts.{Ts as ATs};
+ghost use Rattle.two_phase.specs.Contents.{Contents};
+ghost use Rattle.two_phase.specs.Lists.{kept_decisions, open_requests};
 
 use crate::fault::HoldFault;
 use crate::writes::are_of;
@@ -42,7 +45,8 @@ pub(crate) fn table_of(
     requires kept_rise { IsStrictlySortedBy ts_cmp kept }
     requires alone { AllByRecursion StampFits alone }
     requires alone_rise { IsStrictlySortedBy nat_cmp (map client_of alone) }
-    ensures { IfOk result (IsTableOf repo prepared kept alone) }
+    ensures made { IfOk result (IsTableOf repo prepared kept alone) }
+    ensures unfit { result ≡ Err Unfit → (c : Contents) → TableFits repo c → open_requests c ≡ prepared → kept_decisions c ≡ kept → ⊥ }
 {
     let mut table = Table::new(alloc)?;
     open_all(&mut table, repo, prepared)?;
@@ -55,7 +59,8 @@ pub(crate) fn table_of(
 fn open_all(table: &mut Table, repo: u8, prepared: Requests) -> Result<(), HoldFault>
     requires to { OpensTo repo prepared table.old prepared }
     requires rise { IsStrictlySortedBy ts_cmp (map tx_of prepared) }
-    ensures { OnOk result (OpensTo repo prepared table.new []) }
+    ensures all { OnOk result (OpensTo repo prepared table.new []) }
+    ensures unfit { result ≡ Err Unfit → (c : Contents) → TableFits repo c → open_requests c ≡ prepared → ⊥ }
 {
     for request in prepared.into_vec() {
         if !are_of(repo, request.writes.as_slice()) {
@@ -69,7 +74,8 @@ fn open_all(table: &mut Table, repo: u8, prepared: Requests) -> Result<(), HoldF
 // Keeps decisions to commit.
 fn keep_all(table: &mut Table, repo: u8, kept: Stamps) -> Result<(), HoldFault>
     requires rise { IsStrictlySortedBy ts_cmp kept }
-    ensures { (prepared : List ARequest) → KeepsTo repo prepared kept table.old kept → OnOk result (KeepsTo repo prepared kept table.new []) }
+    ensures all { (prepared : List ARequest) → KeepsTo repo prepared kept table.old kept → OnOk result (KeepsTo repo prepared kept table.new []) }
+    ensures unfit { (prepared : List ARequest) → KeepsTo repo prepared kept table.old kept → result ≡ Err Unfit → (c : Contents) → TableFits repo c → open_requests c ≡ prepared → kept_decisions c ≡ kept → ⊥ }
 {
     for tx in kept.into_vec() {
         if table.knows(tx) {
@@ -83,7 +89,8 @@ fn keep_all(table: &mut Table, repo: u8, kept: Stamps) -> Result<(), HoldFault>
 // Puts the last single commits.
 fn put_all(table: &mut Table, repo: u8, alone: Alones) -> Result<(), HoldFault>
     requires rise { IsStrictlySortedBy nat_cmp (map client_of alone) }
-    ensures { (prepared : List ARequest) (decisions : List ATs) → AlonesTo repo prepared decisions alone table.old alone → OnOk result (AlonesTo repo prepared decisions alone table.new []) }
+    ensures all { (prepared : List ARequest) (decisions : List ATs) → AlonesTo repo prepared decisions alone table.old alone → OnOk result (AlonesTo repo prepared decisions alone table.new []) }
+    ensures unfit { result ≡ Err Unfit → ⊥ }
 {
     for (client, tx) in alone.into_vec() {
         table.alone(client, tx)?;
@@ -107,6 +114,7 @@ pub(crate) fn objects_of(
     ensures limit { IfOk result (λ objects. objects.mob.limit ≡ mob_limit) }
     ensures mob { IfOk result (λ objects. objects.mob.objects ≡ mob) }
     ensures one_repo { IfOk result (λ objects. AreOf repo objects.mob.objects) }
+    ensures unfit { result ≡ Err Unfit → AreOf repo mob → ⊥ }
 {
     if !are_of(repo, mob.as_slice()) {
         return Err(HoldFault::Unfit);

@@ -1,8 +1,10 @@
-ghost use Rattle.std.specs.Prelude.{◌≡◌, ◌+◌, ◌<◌, ◌≤◌, ◌^◌, IfOk, IfSome, IsErrOf, IsTrue, List, None, Ok, OnOk, Some, [], cond, length, max, slice_get, ℕ};
+ghost use Rattle.std.specs.Prelude.{◌≡◌, ◌+◌, ◌<◌, ◌≤◌, ◌^◌, Err, IfOk, IfSome, IsErrOf, IsTrue, List, None, Ok, OnOk, Some, [], cond, length, max, slice_get, ℕ};
 ghost use Rattle.disk_trait.specs.Disks.{Disks, IsSettled, Leaves, NoNewImage, OnDisk, Rose, WhereTold};
 ghost use Rattle.held_state.specs.Entering.{can_enter, entered, installed_in};
 ghost use Rattle.held_state.specs.Keeps.{IsUnread, Keeps};
 ghost use Rattle.held_state.specs.Said.{said, spelled};
+ghost use Rattle.held_state.specs.Unfit.{IsUnfit};
+ghost use Rattle.held_state.specs.declared.fault.HoldFault.TheVariants.{Unfit};
 ghost use Rattle.log_bytes.specs.Checkpoint.{StateFits};
 ghost use Rattle.log_bytes.specs.Grammar.{BodyFits};
 ghost use Rattle.log_bytes.specs.declared.body.Body.TheVariants.{Entry as AnEntry, Installed};
@@ -62,7 +64,7 @@ impl Model for HeldState {
 
 impl HeldState {
     /// Takes a checkpoint's state in, with a buffer that is full at so many bytes. Objects and requests are
-    /// moved.
+    /// moved. `Unfit` only where no memory of a repository says the state.
     pub fn of(alloc: Global, state: State, mob_limit: u32) -> Result<HeldState, HoldFault>
         requires { StateFits state }
         ensures keeps { IfOk result Keeps }
@@ -70,6 +72,7 @@ impl HeldState {
         ensures granted { IfOk result (λ held. held.next_grant ≡ state.next_page) }
         ensures unread { IfOk result (λ held. IsUnread held.objects.pages) }
         ensures limit { IfOk result (λ held. held.objects.mob.limit ≡ mob_limit) }
+        ensures unfit { result ≡ Err Unfit → IsUnfit state }
     {
         let State {
             format: _,

@@ -7,7 +7,7 @@ use Rattle.std.proofs.Common.{ap, arith, refl, sym}
 use Rattle.std.proofs.lemmas.Bool.{eq-eqb, eqb-true, or_right}
 use Rattle.std.specs.List.{AllByRecursion, IsDistinct, filter}
 use Rattle.std.specs.Map.{keys_of}
-use Rattle.std.specs.Prelude.{Bool, List, None, Some, [], cond, false, length, nat_eq, not, true, ℕ, ◌+◌, ◌++◌, ◌∷◌, ◌≡◌, ◌||◌}
+use Rattle.std.specs.Prelude.{Bool, List, None, Some, [], cond, false, length, nat_eq, not, true, ℕ, ◌+◌, ◌++◌, ◌∷◌, ◌≡◌}
 
 -- the entries without the one of a key
 abbrev pub drop_key : Entries → ℕ → Entries

@@ -1,11 +1,12 @@
-//! The count of the nodes that are taken out of a table.
+//! The count of the steps that a call takes.
 
 ghost use Rattle.std.specs.Prelude.{ℕ, ◌+◌, ◌<◌, ◌≡◌};
 
 use std::marker::Model;
 use std::sync::ledger::{Blank, Book, Ledger, Share};
 
-/// How many nodes were taken. It has no bytes, and costs nothing when it runs.
+/// How many steps were taken: what a step is, the call says that counts them. It has no bytes, and
+/// costs nothing when it runs.
 #[derive(Drop)]
 pub struct Steps<L: Ledger> {
     book: Book<L>,
@@ -34,8 +35,8 @@ impl<L: Ledger> Steps<L> {
         Steps { book, share }
     }
 
-    /// Counts one more node.
-    pub(crate) fn tick(&mut self)
+    /// Counts one more step.
+    pub fn tick(&mut self)
         ensures { self.new ≡ self.old + 1 }
     {
         self.book.add(&mut self.share, 1);

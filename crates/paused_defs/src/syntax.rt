@@ -1,4 +1,4 @@
-ghost use Rattle.std.specs.Prelude.{◌≡◌, [], ◌∷◌, map, IfOk, IsTrue, MatchOption};
+ghost use Rattle.std.specs.Prelude.{◌≡◌, [], ◌∷◌, drop, map, IfOk, IsTrue, MatchOption};
 ghost use Rattle.paused_defs.specs.Plain.{plain, plain_stmt};
 
 use crate::nodes::{ExprNode, ExprNodes, StmtNode, StmtNodes};
@@ -214,6 +214,25 @@ impl SharedBlock {
             nodes: self.nodes.share()?,
             from: self.from,
         })
+    }
+
+    /// Its first statement, with its owners.
+    pub fn first(&self) -> Option<&Shared<StmtNode>>
+        ensures { MatchOption result (self.now ≡ []) (λ node. self.now ≡ plain_stmt node.now ∷ drop 1 self.now) }
+    {
+        match self.nodes.get().get(self.from) {
+            Some(node) => Some(node),
+            None => None,
+        }
+    }
+
+    /// Leaves its first statement behind.
+    pub fn drop_first(&mut self)
+        ensures { self.new ≡ drop 1 self.old }
+    {
+        if self.from < self.nodes.get().len() {
+            self.from += 1;
+        }
     }
 
     /// The first, with those behind it.

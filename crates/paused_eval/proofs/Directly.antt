@@ -53,7 +53,7 @@ use Rattle.paused_eval.proofs.Hands.{same_hands}
 use Rattle.paused_eval.proofs.Standing.{named, named_is, stops}
 use Rattle.paused_eval.specs.Begins.{first_part, waiting_frame}
 use Rattle.paused_eval.specs.Copies.{Keeps}
-use Rattle.paused_eval.specs.Direct.{Direct, Directly, Directs, IsLeft, Outcome, Resumes, Waits, on, again, behind, block, call, collect, directly, done, effect, enter, enter_as, faulted, in_order, met, node, part, ready, returned, statement, statement_at, stepped, tests, turn, turn_by, unless, value_at, waiting}
+use Rattle.paused_eval.specs.Direct.{Direct, Directly, Directs, IsLater, IsLeft, Outcome, Resumes, Waits, on, again, behind, block, call, collect, directly, done, effect, enter, enter_as, faulted, in_order, met, node, part, ready, returned, statement, statement_at, stepped, tests, turn, turn_by, unless, value_at, waiting}
 use Rattle.paused_eval.specs.Standing.{Runs, Went, outcome_of}
 use Rattle.paused_eval.specs.declared.unwound.Unwound.{Unwound}
 use Rattle.paused_eval.specs.declared.unwound.Unwound.TheVariants.{Faulted, Later, NoMemory}
@@ -105,6 +105,12 @@ left_there p (Stopped t) NoMemory d k n h i = tt
 left_there p halt.NoMemory (Later e hs) d k n h i = absurd i
 left_there p halt.NoMemory (Faulted e) d k n h i = absurd i
 left_there p halt.NoMemory NoMemory d k n h i = tt
+
+pub left_later : {A : Type 0} (r : Result A Unwound) (d : Doing) (p : Outcome A) (n : Machine) → IsLater r d → p ≡ (Err (Later d []), n) → Directs r n p
+left_later (Ok a) d p n h e = absurd h
+left_later (Err (Later k fs)) d p n h e = e ∙ ap (λ (x : Unwound). (Err x, n)) (sym h)
+left_later (Err (Faulted t)) d p n h e = absurd h
+left_later (Err NoMemory) d p n h e = tt
 
 pub same_world : (s : Schema) (c d : Contents) → Keeps c d → on s d ≡ on s c
 same_world s c d h = ap (over s) (same_hands s c d h)

@@ -8,3 +8,7 @@ on_ok (Err e) P Q f h = tt
 pub if_ok : {A E : Type 0} (r : Result A E) (x y : A) → x ≡ y → IfOk r (λ b. b ≡ x) → IfOk r (λ b. b ≡ y)
 if_ok (Ok a) x y e h = h ∙ e
 if_ok (Err t) x y e h = tt
+
+pub always : {A E : Type 0} (r : Result A E) (P : Type 0) → P → OnOk r P
+always (Ok a) P h = h
+always (Err e) P h = tt

@@ -1,5 +1,6 @@
 pub mod Beginning
 pub mod Copying
+pub mod Counting
 pub mod Directly
 pub mod Ending
 pub mod Granted

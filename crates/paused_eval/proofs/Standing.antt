@@ -180,3 +180,11 @@ ended_well s f tx names e l m is h = subst (λ (k : Came). CameTo s f tx names k
 pub done_stands : {E : Type 0} (r : Result Ran E) (epoch : ℕ) (g : Flow) (m : Machine) (P : Type 0) → IfOk r (λ ran. ran ≡ ran_at epoch (Ok g) m) → IfOk r (λ ran. AtStop ran P)
 done_stands (Ok ran) epoch g m P h = subst (λ (x : Ran). AtStop x P) (sym h) tt
 done_stands (Err e) epoch g m P h = tt
+
+-- the steps that were taken are those of the run from the start
+pub steps_are : (s : Schema) (f : Oref → Option Object) (tx : List Stmt) (names : List Oref) (e : Came) (l : Left) (m : Machine) → CameTo s f tx names e l m
+    → m.steps ≡ (outcome_of s f tx names).1.steps
+steps_are s f tx names Ended l m (g, h) = ap (λ (p : Result Flow Stop × Machine). p.1.steps) (sym h)
+steps_are s f tx names (Faulted e) l m h = ap (λ (p : Result Flow Stop × Machine). p.1.steps) (sym h)
+steps_are s f tx names (came.Waits x owners) l m (h, on) = ap (λ (p : Result Flow Stop × Machine). p.1.steps) (sym h)
+steps_are s f tx names (came.WaitsForName repo) l m (h, on) = ap (λ (p : Result Flow Stop × Machine). p.1.steps) (sym h)

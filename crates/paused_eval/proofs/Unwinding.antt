@@ -22,7 +22,7 @@ use Rattle.paused_defs.specs.declared.nodes.ExprNode.{ExprNode}
 use Rattle.paused_eval.proofs.Directly.{body, left_waiting, next_turn, same_world, test_left}
 use Rattle.paused_eval.specs.Begins.{first_part, waiting_frame}
 use Rattle.paused_eval.specs.Copies.{Keeps, state}
-use Rattle.paused_eval.specs.Direct.{Direct, Directly, Directs, Outcome, Waits, on, behind, called, collect, directly, effect, in_order, node, statement, tests, turn, unless}
+use Rattle.paused_eval.specs.Direct.{Direct, Directly, Directs, Outcome, Waits, on, behind, called, collect, directly, effect, node, statement, tests, turn}
 use Rattle.paused_eval.specs.declared.progress.Progress.{Progress}
 use Rattle.paused_eval.specs.declared.unwound.Unwound.{Unwound}
 use Rattle.paused_eval.specs.declared.unwound.Unwound.TheVariants.{Faulted, Later, NoMemory}
@@ -89,16 +89,6 @@ collect_left s c d n t r name same vs xs e es u v m o q h from first is does i =
     let waits : Waits (frame.Arguments n t r name vs es) u v = subst (λ (k : List ℕ). Waits (frame.Arguments n t r k vs es) u v) is i in
     directs_is (Err v) o (collect w n (directly w n) t r name vs (e ∷ es) m) q (from ∙ ap (λ (k : List Expr). collect w n (directly w n) t r name vs k m) first)
     (left_waiting p u v (frame.Arguments n t r name vs es) (λ x. collect w n (directly w n) t r name (vs ++ x ∷ []) es) o there waits)
-
-pub in_order_left : (s : Schema) (c d : Contents) (n : ℕ) (xs : List Stmt) (x : Stmt) (rest : List Stmt) (u v : Unwound) (m o : Machine) (q : Outcome Flow) → Keeps c d
-    → q ≡ in_order (on s c) n (directly (on s c) n) xs m → xs ≡ x ∷ rest → Directs {A = Flow} (Err u) o ((directly (on s d) n).execute x m)
-    → Waits (frame.Rest n rest) u v → Directs {A = Flow} (Err v) o q
-in_order_left s c d n xs x rest u v m o q h from first does waits =
-    let w : World = on s c in
-    let p : Outcome Flow = (directly w n).execute x m in
-    let there : Directs {A = Flow} (Err u) o p = subst (λ (k : Outcome Flow). Directs {A = Flow} (Err u) o k) (other_world s c d (λ (k : World). (directly k n).execute x m) h) does in
-    directs_is (Err v) o (in_order w n (directly w n) (x ∷ rest) m) q (from ∙ ap (λ (k : List Stmt). in_order w n (directly w n) k m) first)
-    (left_waiting p u v (frame.Rest n rest) (λ g. unless g (in_order w n (directly w n) rest)) o there waits)
 
 pub statement_does : (s : Schema) (c d : Contents) (n : ℕ) (x : Stmt-F Stmt) (e : Expr) (v : Value) (m o p : Machine) (r : Result Flow Unwound) → Keeps c d → e ≡ first_part x
     → (directly (on s c) n).value_of e m ≡ (Ok v, o) → Directs r p (effect (on s d) n (directly (on s d) n) x v o) → Directs r p (statement (on s c) n (directly (on s c) n) x m)

@@ -117,6 +117,13 @@ IsLeft d halt.NoMemory (Later e fs) = ⊥
 IsLeft d halt.NoMemory (Faulted e) = ⊥
 IsLeft d halt.NoMemory NoMemory = Unit {0}
 
+-- this is done next, by small steps
+abbrev pub IsLater : {A : Type 0} → Result A Unwound → Doing → Type 0
+IsLater (Ok a) d = ⊥
+IsLater (Err (Later e fs)) d = Later e fs ≡ Later d []
+IsLater (Err (Faulted t)) d = ⊥
+IsLater (Err NoMemory) d = Unit {0}
+
 -- this is done next, with one frame behind
 abbrev pub LaterBehind : {A : Type 0} → Result A Unwound → Doing → Frame → Type 0
 LaterBehind (Ok a) d f = ⊥

@@ -1,6 +1,7 @@
 pub mod Begins
 pub mod Bodies
 pub mod Copies
+pub mod Counted
 pub mod Direct
 pub mod Does
 pub mod FromPages

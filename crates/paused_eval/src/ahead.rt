@@ -5,6 +5,7 @@ ghost use Rattle.class_defs.specs.declared.statements.Stmt.{Stmt};
 ghost use Rattle.method_eval.specs.Names.{Names};
 ghost use Rattle.paused_eval.specs.Bodies.{AreOf};
 ghost use Rattle.paused_eval.specs.Copies.{Keeps, Tied, at_hand, whole_state};
+ghost use Rattle.paused_eval.specs.Counted.{surplus};
 ghost use Rattle.paused_eval.specs.Direct as spec;
 ghost use Rattle.paused_eval.specs.Direct.{Resumes};
 ghost use Rattle.paused_eval.specs.Does.{Holds};
@@ -19,6 +20,7 @@ use class_defs::{Flow, Stop};
 use client_cache::Cache;
 use method_eval::{Halt, Program};
 use paused_defs::{Doing, Frame, Stack};
+use std::sync::ledger::Ledger;
 use thor_value::{NoMemory, Value};
 
 /// The frames that were left come onto the stack, the innermost on the top.
@@ -50,7 +52,7 @@ fn resumed(stack: &mut Stack<Frame>, came: Result<Flow, Unwound>) -> Result<Doin
         Ok(flow) => Ok(Doing::Give { flow }),
         Err(Unwound::Later { doing, frames }) => {
             put_back(stack, frames)?;
-            Ok(doing)
+            Ok(doing.into_inner())
         }
         Err(Unwound::Faulted { fault }) => Err(Halt::Stopped(Stop::Fault(fault))),
         Err(Unwound::NoMemory) => Err(Halt::NoMemory),
@@ -58,12 +60,12 @@ fn resumed(stack: &mut Stack<Frame>, came: Result<Flow, Unwound>) -> Result<Doin
 }
 
 /// What is done next, where an expression or a statement is evaluated by plain recursion as far as that goes.
-pub fn ahead(
+pub fn ahead<L: Ledger>(
     program: &Program<'_>,
     epoch: u32,
     cache: &mut Cache,
     progress: &mut Progress,
-    bodies: &mut Bodies,
+    bodies: &mut Bodies<L>,
     stack: &mut Stack<Frame>,
     doing: Doing,
 ) -> Result<Doing, Halt>
@@ -75,6 +77,7 @@ pub fn ahead(
     ensures tied { Holds result (Tied progress.new.written cache.new) }
     ensures kept { Holds result (Keeps cache.old cache.new) }
     ensures known { AreOf program.now.schema.now.classes bodies.new.called }
+    ensures work { Holds result (surplus bodies.new.work progress.new.machine.steps ≡ surplus bodies.old.work progress.old.machine.steps) }
 {
     match doing {
         Doing::Evaluate { nested, expr } => {

@@ -1,12 +1,16 @@
-ghost use Rattle.std.specs.Prelude.{◌≡◌, ◌&&◌, nat_eq, ◌<◌, find, length, Some, IfOk, IfSome};
+ghost use Rattle.std.specs.Prelude.{◌≡◌, ◌&&◌, nat_eq, ◌<◌, find, length, [], Some, IfOk, IfSome};
 ghost use Rattle.std.specs.Option.{option_copied};
 ghost use Rattle.std.specs.Str.{bytes_eq};
 ghost use Rattle.class_defs.specs.Types.{method_of};
 ghost use Rattle.paused_eval.specs.Bodies.{AreOf};
 
+use crate::work::Work;
 use class_defs::Method;
 use method_eval::Program;
 use paused_defs::{Shared, SharedBlock};
+use std::alloc::Global;
+use std::mem;
+use std::sync::ledger::Ledger;
 use thor_value::{NoMemory, Sequence, Text};
 
 /// The body of a method, copied.
@@ -24,13 +28,38 @@ pub type CopiedBodies = Sequence<Copied>;
 /// How many bodies are kept at most for later runs.
 const KEPT_LIMIT: usize = 256;
 
-/// The bodies of the methods that a run calls.
+/// The bodies of the methods that a run calls, and the count of the nodes that it evaluates.
 #[derive(Drop)]
-pub struct Bodies {
+pub struct Bodies<L: Ledger> {
     /// Those that it has called since it went on. They are the schema's.
     pub called: CopiedBodies,
     /// Those that were called before. The schema may have others by now.
     pub kept: CopiedBodies,
+    pub work: Work<L>,
+}
+
+impl<L: Ledger> Bodies<L> {
+    /// Before it goes on: what was called before is taken from where it is kept.
+    pub fn taken(alloc: Global, kept: &mut CopiedBodies, work: Work<L>) -> Bodies<L>
+        ensures called { result.called ≡ [] }
+        ensures work { result.work ≡ work }
+    {
+        Bodies {
+            called: CopiedBodies::new(alloc),
+            kept: mem::replace(kept, CopiedBodies::new(alloc)),
+            work,
+        }
+    }
+
+    /// Keeps for later runs what was called before, and gives the count back.
+    pub fn put_back(self, place: &mut CopiedBodies) -> Work<L>
+        ensures { result ≡ self.work }
+    {
+        let Bodies { called, kept, work } = self;
+        drop(called);
+        drop(mem::replace(place, kept));
+        work
+    }
 }
 
 fn find_copy<'a>(bodies: &'a CopiedBodies, class: u16, name: &[u8]) -> Option<&'a Copied>
@@ -117,9 +146,9 @@ fn taken_body(
 
 /// The body of a method that was found by its name. It is copied where no run has called it before.
 #[tactic(auto, using(crate::proofs::Copying::copying))]
-pub fn body_of(
+pub fn body_of<L: Ledger>(
     program: &Program<'_>,
-    bodies: &mut Bodies,
+    bodies: &mut Bodies<L>,
     class: u16,
     name: &Shared<Text>,
     method: &Method,
@@ -128,6 +157,7 @@ pub fn body_of(
     requires known { AreOf program.now.schema.now.classes bodies.old.called }
     ensures body { IfOk result (λ body. body ≡ method.now.body) }
     ensures known { AreOf program.now.schema.now.classes bodies.new.called }
+    ensures work { bodies.new.work ≡ bodies.old.work }
 {
     if let Some(one) = find_copy(&bodies.called, class, name.get().as_slice()) {
         return one.body.share();

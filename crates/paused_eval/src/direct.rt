@@ -1,81 +1,53 @@
 //! An evaluation by plain recursion, as far as the objects are at hand. Where it can't go on, each function that is left
 //! puts the frame that waits for its part behind those of the parts inside. Objects are made in small steps.
 
-ghost use Rattle.std.specs.Prelude.{◌≡◌, ◌<◌, [], ◌∷◌, map, None, Err, IfOk};
+ghost use Rattle.std.specs.Prelude.{◌≡◌, ◌<◌, map, None, IfOk};
 ghost use Rattle.class_defs.specs.Types.{method_of};
 ghost use Rattle.class_defs.specs.declared.expressions.Expr.{out-Expr};
 ghost use Rattle.class_defs.specs.declared.statements.Stmt.{out-Stmt};
 ghost use Rattle.paused_defs.specs.Plain.{plain, plain_stmt};
 ghost use Rattle.paused_defs.specs.Reaches.{over};
 ghost use Rattle.paused_defs.specs.Resume as small;
+ghost use Rattle.paused_defs.specs.declared.frames.Frame.TheVariants as frame;
 ghost use Rattle.paused_eval.specs.Bodies.{AreOf};
 ghost use Rattle.paused_eval.specs.Copies.{Keeps, Tied, state};
+ghost use Rattle.paused_eval.specs.Counted.{surplus};
 ghost use Rattle.paused_eval.specs.Direct as spec;
-ghost use Rattle.paused_eval.specs.Direct.{Directs, IsLeft, Lasts, LaterBehind, Waits, directly, on};
+ghost use Rattle.paused_eval.specs.Direct.{Directs, Lasts, directly, on};
 
 use crate::bodies::{Bodies, body_of};
-use crate::moves::{ended, first_part, waiting_frame};
+use crate::moves::{ended, first_part};
 use crate::objects::{assign_field, field_value, touch};
 use crate::popping::leave_body;
 use crate::progress::Progress;
 use crate::types::type_of;
-use crate::unwound::{Frames, Unwound};
+use crate::unwound::Unwound;
+use crate::waiting::{
+    behind_argument, behind_block, behind_body, behind_first_part, behind_left, behind_negation,
+    behind_receiver, behind_right, behind_statement, behind_test, behind_turn, create_later,
+    evaluate_later, execute_later, faulted, not_entered, test_later,
+};
 use class_defs::{
-    DEPTH_LIMIT, ExprType, Flow, Machine, Method, Operator, Receiver, STEP_LIMIT, Stop, combined,
-    number,
+    DEPTH_LIMIT, ExprType, Flow, Machine, Method, Operator, Receiver, STEP_LIMIT, combined, number,
 };
 use client_cache::Cache;
 use method_eval::{
-    Halt, Program, assign_local, bound, declare, holds, method_of, named_value, owners_at,
-    type_named,
+    Program, assign_local, bound, declare, holds, method_of, named_value, owners_at, type_named,
 };
-use paused_defs::{
-    Doing, ExprNode, ExprNodes, Frame, Shared, SharedBlock, SharedExpr, SharedExprs, SharedStmt,
-    StmtNode, StmtNodes,
-};
-use std::alloc::Global;
+use paused_defs::{ExprNode, ExprNodes, Shared, SharedBlock, SharedExprs, StmtNode, StmtNodes};
 use std::mem;
+use std::sync::ledger::Ledger;
 use thor_value::{Fault, NoMemory, Oref, Text, Value, Values};
-
-/// Small steps go on from here.
-fn later<T>(alloc: Global, doing: Doing) -> Result<T, Unwound>
-    ensures { result ≡ Err (Unwound.Later doing []) }
-{
-    Err(Unwound::Later {
-        doing,
-        frames: Frames::new(alloc),
-    })
-}
-
-fn faulted<T>(fault: Fault) -> Result<T, Unwound>
-    ensures { result ≡ Err (Unwound.Faulted fault) }
-{
-    Err(Unwound::Faulted { fault })
-}
-
-/// One frame more waits behind it.
-fn behind(unwound: Unwound, frame: Frame) -> Unwound
-    ensures { Waits frame unwound result }
-{
-    match unwound {
-        Unwound::Later { doing, mut frames } => match frames.push(frame) {
-            Ok(()) => Unwound::Later { doing, frames },
-            Err(NoMemory) => Unwound::NoMemory,
-        },
-        Unwound::Faulted { fault } => Unwound::Faulted { fault },
-        Unwound::NoMemory => Unwound::NoMemory,
-    }
-}
 
 /// The value of an expression whose nodes may be `nested` deep.
 #[cycle(direct)]
-#[tactic(auto, using(crate::proofs::Directly::at_depth))]
-pub fn value_of(
+#[tactic(auto, using(crate::proofs::Directly::at_depth, crate::proofs::Directly::left_later, crate::proofs::Counting::counted_step))]
+pub fn value_of<L: Ledger>(
     program: &Program<'_>,
     epoch: u32,
     cache: &mut Cache,
     progress: &mut Progress,
-    bodies: &mut Bodies,
+    bodies: &mut Bodies<L>,
     nested: u32,
     expr: &Shared<ExprNode>,
 ) -> Result<Value, Unwound>
@@ -85,17 +57,13 @@ pub fn value_of(
     ensures tied { Lasts result (Tied progress.new.written cache.new) }
     ensures kept { Lasts result (Keeps cache.old cache.new) }
     ensures known { AreOf program.now.schema.now.classes bodies.new.called }
+    ensures work { Lasts result (surplus bodies.new.work progress.new.machine.steps ≡ surplus bodies.old.work progress.old.machine.steps) }
 {
     if nested == 0 || progress.machine.steps >= STEP_LIMIT {
-        return later(
-            program.alloc,
-            Doing::Evaluate {
-                nested,
-                expr: SharedExpr::of(expr)?,
-            },
-        );
+        return evaluate_later(program.alloc, nested, expr);
     }
     progress.machine.steps += 1;
+    bodies.work.tick();
     node(
         program,
         epoch,
@@ -109,13 +77,13 @@ pub fn value_of(
 
 /// A node whose step is taken.
 #[cycle(direct)]
-#[tactic(auto, using(crate::proofs::Nodes::expr_nodes))]
-fn node(
+#[tactic(auto, using(crate::proofs::Nodes::expr_nodes, crate::proofs::Directly::left_later))]
+fn node<L: Ledger>(
     program: &Program<'_>,
     epoch: u32,
     cache: &mut Cache,
     progress: &mut Progress,
-    bodies: &mut Bodies,
+    bodies: &mut Bodies<L>,
     inner: u32,
     node: &ExprNode,
 ) -> Result<Value, Unwound>
@@ -125,6 +93,7 @@ fn node(
     ensures tied { Lasts result (Tied progress.new.written cache.new) }
     ensures kept { Lasts result (Keeps cache.old cache.new) }
     ensures known { AreOf program.now.schema.now.classes bodies.new.called }
+    ensures work { Lasts result (surplus bodies.new.work progress.new.machine.steps ≡ surplus bodies.old.work progress.old.machine.steps) }
 {
     match node {
         ExprNode::Int { value, line: _ } => Ok(Value::Int(*value)),
@@ -144,13 +113,7 @@ fn node(
             &progress.machine,
             name.get().as_slice(),
         )),
-        ExprNode::New { class, line: _, at } => later(
-            program.alloc,
-            Doing::Create {
-                class: class.share()?,
-                at: *at,
-            },
-        ),
+        ExprNode::New { class, line: _, at } => create_later(program.alloc, class, *at),
         ExprNode::Parens { inner: inside, .. } => {
             value_of(program, epoch, cache, progress, bodies, inner, inside)
         }
@@ -178,12 +141,12 @@ fn node(
 
 #[cycle(direct)]
 #[tactic(auto, using(crate::proofs::Directly::left_waiting))]
-fn negate(
+fn negate<L: Ledger>(
     program: &Program<'_>,
     epoch: u32,
     cache: &mut Cache,
     progress: &mut Progress,
-    bodies: &mut Bodies,
+    bodies: &mut Bodies<L>,
     inner: u32,
     operand: &Shared<ExprNode>,
 ) -> Result<Value, Unwound>
@@ -193,22 +156,23 @@ fn negate(
     ensures tied { Lasts result (Tied progress.new.written cache.new) }
     ensures kept { Lasts result (Keeps cache.old cache.new) }
     ensures known { AreOf program.now.schema.now.classes bodies.new.called }
+    ensures work { Lasts result (surplus bodies.new.work progress.new.machine.steps ≡ surplus bodies.old.work progress.old.machine.steps) }
 {
     match value_of(program, epoch, cache, progress, bodies, inner, operand) {
         Ok(value) => Ok(Value::Int(0i64.wrapping_sub(number(value)))),
-        Err(unwound) => Err(behind(unwound, Frame::Negate)),
+        Err(unwound) => Err(behind_negation(unwound)),
     }
 }
 
 /// The right operand, behind the value of the left one.
 #[cycle(direct)]
 #[tactic(auto, using(crate::proofs::Directly::left_waiting))]
-fn combine(
+fn combine<L: Ledger>(
     program: &Program<'_>,
     epoch: u32,
     cache: &mut Cache,
     progress: &mut Progress,
-    bodies: &mut Bodies,
+    bodies: &mut Bodies<L>,
     inner: u32,
     operator: Operator,
     first: Value,
@@ -220,27 +184,22 @@ fn combine(
     ensures tied { Lasts result (Tied progress.new.written cache.new) }
     ensures kept { Lasts result (Keeps cache.old cache.new) }
     ensures known { AreOf program.now.schema.now.classes bodies.new.called }
+    ensures work { Lasts result (surplus bodies.new.work progress.new.machine.steps ≡ surplus bodies.old.work progress.old.machine.steps) }
 {
     match value_of(program, epoch, cache, progress, bodies, inner, right) {
         Ok(second) => Ok(combined(operator, first, second)),
-        Err(unwound) => Err(behind(
-            unwound,
-            Frame::Combine {
-                operator,
-                left: first,
-            },
-        )),
+        Err(unwound) => Err(behind_left(unwound, operator, first)),
     }
 }
 
 #[cycle(direct)]
 #[tactic(auto, using(crate::proofs::Directly::left_waiting, crate::proofs::Directly::same_world))]
-fn binary(
+fn binary<L: Ledger>(
     program: &Program<'_>,
     epoch: u32,
     cache: &mut Cache,
     progress: &mut Progress,
-    bodies: &mut Bodies,
+    bodies: &mut Bodies<L>,
     inner: u32,
     operator: Operator,
     left: &Shared<ExprNode>,
@@ -252,30 +211,24 @@ fn binary(
     ensures tied { Lasts result (Tied progress.new.written cache.new) }
     ensures kept { Lasts result (Keeps cache.old cache.new) }
     ensures known { AreOf program.now.schema.now.classes bodies.new.called }
+    ensures work { Lasts result (surplus bodies.new.work progress.new.machine.steps ≡ surplus bodies.old.work progress.old.machine.steps) }
 {
     match value_of(program, epoch, cache, progress, bodies, inner, left) {
         Ok(first) => combine(
             program, epoch, cache, progress, bodies, inner, operator, first, right,
         ),
-        Err(unwound) => {
-            let frame = Frame::Right {
-                nested: inner,
-                operator,
-                right: SharedExpr::of(right)?,
-            };
-            Err(behind(unwound, frame))
-        }
+        Err(unwound) => Err(behind_right(unwound, inner, operator, right)),
     }
 }
 
 #[cycle(direct)]
 #[tactic(auto, using(crate::proofs::Directly::left_waiting, crate::proofs::Directly::same_world))]
-fn called(
+fn called<L: Ledger>(
     program: &Program<'_>,
     epoch: u32,
     cache: &mut Cache,
     progress: &mut Progress,
-    bodies: &mut Bodies,
+    bodies: &mut Bodies<L>,
     inner: u32,
     receiver: &Shared<ExprNode>,
     method: &Shared<Text>,
@@ -287,6 +240,7 @@ fn called(
     ensures tied { Lasts result (Tied progress.new.written cache.new) }
     ensures kept { Lasts result (Keeps cache.old cache.new) }
     ensures known { AreOf program.now.schema.now.classes bodies.new.called }
+    ensures work { Lasts result (surplus bodies.new.work progress.new.machine.steps ≡ surplus bodies.old.work progress.old.machine.steps) }
 {
     let kind = type_of(program, &progress.machine, receiver.get());
     match value_of(program, epoch, cache, progress, bodies, inner, receiver) {
@@ -297,27 +251,19 @@ fn called(
                 program, epoch, cache, progress, bodies, inner, kind, target, method, none, rest,
             )
         }
-        Err(unwound) => {
-            let frame = Frame::Callee {
-                nested: inner,
-                kind,
-                method: method.share()?,
-                arguments: SharedExprs::of(arguments)?,
-            };
-            Err(behind(unwound, frame))
-        }
+        Err(unwound) => Err(behind_receiver(unwound, inner, kind, method, arguments)),
     }
 }
 
 /// The arguments that are left, and then the call.
 #[cycle(direct)]
 #[tactic(auto, using(crate::proofs::Directly::left_waiting, crate::proofs::Directly::same_world))]
-fn collect(
+fn collect<L: Ledger>(
     program: &Program<'_>,
     epoch: u32,
     cache: &mut Cache,
     progress: &mut Progress,
-    bodies: &mut Bodies,
+    bodies: &mut Bodies<L>,
     inner: u32,
     kind: ExprType,
     target: Value,
@@ -331,6 +277,7 @@ fn collect(
     ensures tied { Lasts result (Tied progress.new.written cache.new) }
     ensures kept { Lasts result (Keeps cache.old cache.new) }
     ensures known { AreOf program.now.schema.now.classes bodies.new.called }
+    ensures work { Lasts result (surplus bodies.new.work progress.new.machine.steps ≡ surplus bodies.old.work progress.old.machine.steps) }
 {
     let mut done = none;
     let mut left = arguments;
@@ -356,15 +303,9 @@ fn collect(
                         left = rest;
                     }
                     Err(unwound) => {
-                        let frame = Frame::Arguments {
-                            nested: inner,
-                            kind,
-                            target,
-                            method: method.share()?,
-                            done,
-                            rest,
-                        };
-                        return Err(behind(unwound, frame));
+                        return Err(behind_argument(
+                            unwound, inner, kind, target, method, done, rest,
+                        ));
                     }
                 }
             }
@@ -375,12 +316,12 @@ fn collect(
 
 /// The parts of a call are there.
 #[cycle(direct)]
-fn ready(
+fn ready<L: Ledger>(
     program: &Program<'_>,
     epoch: u32,
     cache: &mut Cache,
     progress: &mut Progress,
-    bodies: &mut Bodies,
+    bodies: &mut Bodies<L>,
     inner: u32,
     kind: ExprType,
     target: Value,
@@ -393,6 +334,7 @@ fn ready(
     ensures tied { Lasts result (Tied progress.new.written cache.new) }
     ensures kept { Lasts result (Keeps cache.old cache.new) }
     ensures known { AreOf program.now.schema.now.classes bodies.new.called }
+    ensures work { Lasts result (surplus bodies.new.work progress.new.machine.steps ≡ surplus bodies.old.work progress.old.machine.steps) }
 {
     match (kind, target) {
         (ExprType::Class(class), Value::Ref(oref)) => call(
@@ -402,46 +344,15 @@ fn ready(
     }
 }
 
-/// What is left of a call whose object isn't at hand, or that is a fault.
-fn not_entered(
-    alloc: Global,
-    halt: Halt,
-    inner: u32,
-    class: u16,
-    oref: Oref,
-    method: &Shared<Text>,
-    arguments: Values,
-) -> Unwound
-    ensures { IsLeft (Doing.Enter inner class oref method.now arguments) halt result }
-{
-    match halt {
-        Halt::Stopped(Stop::Fault(fault)) => Unwound::Faulted { fault },
-        Halt::Stopped(_) => match method.share() {
-            Ok(method) => Unwound::Later {
-                doing: Doing::Enter {
-                    nested: inner,
-                    class,
-                    oref,
-                    method,
-                    arguments,
-                },
-                frames: Frames::new(alloc),
-            },
-            Err(NoMemory) => Unwound::NoMemory,
-        },
-        Halt::NoMemory => Unwound::NoMemory,
-    }
-}
-
 /// A call whose parts are evaluated.
 #[cycle(direct)]
 #[tactic(auto, using(crate::proofs::Directly::left_there, crate::proofs::Directly::same_world), unfolding(class_defs::specs::Calls::owners_at))]
-fn call(
+fn call<L: Ledger>(
     program: &Program<'_>,
     epoch: u32,
     cache: &mut Cache,
     progress: &mut Progress,
-    bodies: &mut Bodies,
+    bodies: &mut Bodies<L>,
     inner: u32,
     class: u16,
     oref: Oref,
@@ -454,6 +365,7 @@ fn call(
     ensures tied { Lasts result (Tied progress.new.written cache.new) }
     ensures kept { Lasts result (Keeps cache.old cache.new) }
     ensures known { AreOf program.now.schema.now.classes bodies.new.called }
+    ensures work { Lasts result (surplus bodies.new.work progress.new.machine.steps ≡ surplus bodies.old.work progress.old.machine.steps) }
 {
     if progress.machine.depth >= DEPTH_LIMIT {
         return faulted(Fault::Depth);
@@ -476,12 +388,12 @@ fn call(
 
 /// A method is called whose object was read.
 #[cycle(direct)]
-fn enter(
+fn enter<L: Ledger>(
     program: &Program<'_>,
     epoch: u32,
     cache: &mut Cache,
     progress: &mut Progress,
-    bodies: &mut Bodies,
+    bodies: &mut Bodies<L>,
     inner: u32,
     found: u16,
     this: Receiver,
@@ -495,6 +407,7 @@ fn enter(
     ensures tied { Lasts result (Tied progress.new.written cache.new) }
     ensures kept { Lasts result (Keeps cache.old cache.new) }
     ensures known { AreOf program.now.schema.now.classes bodies.new.called }
+    ensures work { Lasts result (surplus bodies.new.work progress.new.machine.steps ≡ surplus bodies.old.work progress.old.machine.steps) }
 {
     if found != this.class {
         return faulted(Fault::NullCall);
@@ -545,12 +458,12 @@ fn go_inside(
 /// Runs a body, and then gives back what held outside of it.
 #[cycle(direct)]
 #[tactic(auto, using(crate::proofs::Directly::left_waiting, crate::proofs::Directly::same_world))]
-fn run_body(
+fn run_body<L: Ledger>(
     program: &Program<'_>,
     epoch: u32,
     cache: &mut Cache,
     progress: &mut Progress,
-    bodies: &mut Bodies,
+    bodies: &mut Bodies<L>,
     inner: u32,
     this: Receiver,
     method: &Method,
@@ -565,6 +478,7 @@ fn run_body(
     ensures tied { Lasts result (Tied progress.new.written cache.new) }
     ensures kept { Lasts result (Keeps cache.old cache.new) }
     ensures known { AreOf program.now.schema.now.classes bodies.new.called }
+    ensures work { Lasts result (surplus bodies.new.work progress.new.machine.steps ≡ surplus bodies.old.work progress.old.machine.steps) }
 {
     let Outside {
         depth,
@@ -577,27 +491,19 @@ fn run_body(
             leave_body(&mut progress.machine, depth, this, locals);
             Ok(ended(kind, flow))
         }
-        Err(unwound) => {
-            let frame = Frame::BodyEnd {
-                depth,
-                this,
-                locals,
-                result: kind,
-            };
-            Err(behind(unwound, frame))
-        }
+        Err(unwound) => Err(behind_body(unwound, depth, this, locals, kind)),
     }
 }
 
 /// The statements of a block in order. A local ends with the block in which it was declared.
 #[cycle(direct)]
 #[tactic(auto, using(crate::proofs::Directly::left_waiting, crate::proofs::Directly::same_world))]
-fn block(
+fn block<L: Ledger>(
     program: &Program<'_>,
     epoch: u32,
     cache: &mut Cache,
     progress: &mut Progress,
-    bodies: &mut Bodies,
+    bodies: &mut Bodies<L>,
     inner: u32,
     stmts: SharedBlock,
 ) -> Result<Flow, Unwound>
@@ -607,6 +513,7 @@ fn block(
     ensures tied { Lasts result (Tied progress.new.written cache.new) }
     ensures kept { Lasts result (Keeps cache.old cache.new) }
     ensures known { AreOf program.now.schema.now.classes bodies.new.called }
+    ensures work { Lasts result (surplus bodies.new.work progress.new.machine.steps ≡ surplus bodies.old.work progress.old.machine.steps) }
 {
     let count = progress.machine.locals.len();
     match in_order(program, epoch, cache, progress, bodies, inner, stmts) {
@@ -614,19 +521,19 @@ fn block(
             progress.machine.locals.truncate(count);
             Ok(flow)
         }
-        Err(unwound) => Err(behind(unwound, Frame::BlockEnd { count })),
+        Err(unwound) => Err(behind_block(unwound, count)),
     }
 }
 
 /// Statements in order, until one returns.
 #[cycle(direct)]
 #[tactic(auto, using(crate::proofs::Directly::left_waiting, crate::proofs::Directly::same_world))]
-fn in_order(
+fn in_order<L: Ledger>(
     program: &Program<'_>,
     epoch: u32,
     cache: &mut Cache,
     progress: &mut Progress,
-    bodies: &mut Bodies,
+    bodies: &mut Bodies<L>,
     inner: u32,
     stmts: SharedBlock,
 ) -> Result<Flow, Unwound>
@@ -636,32 +543,20 @@ fn in_order(
     ensures tied { Lasts result (Tied progress.new.written cache.new) }
     ensures kept { Lasts result (Keeps cache.old cache.new) }
     ensures known { AreOf program.now.schema.now.classes bodies.new.called }
+    ensures work { Lasts result (surplus bodies.new.work progress.new.machine.steps ≡ surplus bodies.old.work progress.old.machine.steps) }
 {
     let mut left = stmts;
     for _ in 0..u64::MAX {
-        match left.split_first()? {
+        match left.first() {
             None => return Ok(Flow::Next),
-            Some((stmt, rest)) => {
-                match execute(
-                    program,
-                    epoch,
-                    cache,
-                    progress,
-                    bodies,
-                    inner,
-                    stmt.shared(),
-                ) {
-                    Ok(Flow::Next) => left = rest,
-                    Ok(Flow::Returned(value)) => return Ok(Flow::Returned(value)),
-                    Err(unwound) => {
-                        let frame = Frame::Rest {
-                            nested: inner,
-                            rest,
-                        };
-                        return Err(behind(unwound, frame));
-                    }
+            Some(stmt) => match execute(program, epoch, cache, progress, bodies, inner, stmt) {
+                Ok(Flow::Next) => left.drop_first(),
+                Ok(Flow::Returned(value)) => return Ok(Flow::Returned(value)),
+                Err(unwound) => {
+                    left.drop_first();
+                    return Err(behind_statement(unwound, inner, left));
                 }
-            }
+            },
         }
     }
     Err(Unwound::NoMemory)
@@ -669,13 +564,13 @@ fn in_order(
 
 /// A statement whose nodes may be `nested` deep.
 #[cycle(direct)]
-#[tactic(auto, using(crate::proofs::Directly::at_depth))]
-pub fn execute(
+#[tactic(auto, using(crate::proofs::Directly::at_depth, crate::proofs::Directly::left_later, crate::proofs::Counting::counted_step))]
+pub fn execute<L: Ledger>(
     program: &Program<'_>,
     epoch: u32,
     cache: &mut Cache,
     progress: &mut Progress,
-    bodies: &mut Bodies,
+    bodies: &mut Bodies<L>,
     nested: u32,
     stmt: &Shared<StmtNode>,
 ) -> Result<Flow, Unwound>
@@ -685,17 +580,13 @@ pub fn execute(
     ensures tied { Lasts result (Tied progress.new.written cache.new) }
     ensures kept { Lasts result (Keeps cache.old cache.new) }
     ensures known { AreOf program.now.schema.now.classes bodies.new.called }
+    ensures work { Lasts result (surplus bodies.new.work progress.new.machine.steps ≡ surplus bodies.old.work progress.old.machine.steps) }
 {
     if nested == 0 || progress.machine.steps >= STEP_LIMIT {
-        return later(
-            program.alloc,
-            Doing::Execute {
-                nested,
-                stmt: SharedStmt::of(stmt)?,
-            },
-        );
+        return execute_later(program.alloc, nested, stmt);
     }
     progress.machine.steps += 1;
+    bodies.work.tick();
     statement(
         program,
         epoch,
@@ -710,12 +601,12 @@ pub fn execute(
 /// A statement whose step is taken.
 #[cycle(direct)]
 #[tactic(auto, using(crate::proofs::Directly::left_waiting, crate::proofs::Directly::same_world))]
-fn statement(
+fn statement<L: Ledger>(
     program: &Program<'_>,
     epoch: u32,
     cache: &mut Cache,
     progress: &mut Progress,
-    bodies: &mut Bodies,
+    bodies: &mut Bodies<L>,
     inner: u32,
     node: &StmtNode,
 ) -> Result<Flow, Unwound>
@@ -725,6 +616,7 @@ fn statement(
     ensures tied { Lasts result (Tied progress.new.written cache.new) }
     ensures kept { Lasts result (Keeps cache.old cache.new) }
     ensures known { AreOf program.now.schema.now.classes bodies.new.called }
+    ensures work { Lasts result (surplus bodies.new.work progress.new.machine.steps ≡ surplus bodies.old.work progress.old.machine.steps) }
 {
     match value_of(
         program,
@@ -736,22 +628,19 @@ fn statement(
         first_part(node),
     ) {
         Ok(value) => effect(program, epoch, cache, progress, bodies, inner, node, value),
-        Err(unwound) => {
-            let frame = waiting_frame(program, inner, node)?;
-            Err(behind(unwound, frame))
-        }
+        Err(unwound) => Err(behind_first_part(program, unwound, inner, node)),
     }
 }
 
 /// What a statement does with the value of its first part.
 #[cycle(direct)]
 #[tactic(auto, using(crate::proofs::Nodes::stmt_nodes))]
-fn effect(
+fn effect<L: Ledger>(
     program: &Program<'_>,
     epoch: u32,
     cache: &mut Cache,
     progress: &mut Progress,
-    bodies: &mut Bodies,
+    bodies: &mut Bodies<L>,
     inner: u32,
     node: &StmtNode,
     value: Value,
@@ -762,6 +651,7 @@ fn effect(
     ensures tied { Lasts result (Tied progress.new.written cache.new) }
     ensures kept { Lasts result (Keeps cache.old cache.new) }
     ensures known { AreOf program.now.schema.now.classes bodies.new.called }
+    ensures work { Lasts result (surplus bodies.new.work progress.new.machine.steps ≡ surplus bodies.old.work progress.old.machine.steps) }
 {
     match node {
         StmtNode::Var {
@@ -823,58 +713,15 @@ fn effect(
     }
 }
 
-/// The frame in which a loop waits for the end of its body.
-fn again_frame(
-    inner: u32,
-    turns: u32,
-    condition: &Shared<ExprNode>,
-    body: &Shared<StmtNodes>,
-) -> Result<Frame, NoMemory>
-    ensures { IfOk result (λ frame. frame ≡ Frame.Again inner turns (plain condition.now) (map plain_stmt body.now)) }
-{
-    Ok(Frame::Again {
-        nested: inner,
-        turns,
-        condition: SharedExpr::of(condition)?,
-        body: SharedBlock::of(body)?,
-    })
-}
-
-/// The frame in which a loop waits for its condition.
-fn test_frame(
-    inner: u32,
-    turns: u32,
-    condition: &Shared<ExprNode>,
-    body: &Shared<StmtNodes>,
-) -> Result<Frame, NoMemory>
-    ensures { IfOk result (λ frame. frame ≡ Frame.Test inner turns (plain condition.now) (map plain_stmt body.now)) }
-{
-    Ok(Frame::Test {
-        nested: inner,
-        turns,
-        condition: SharedExpr::of(condition)?,
-        body: SharedBlock::of(body)?,
-    })
-}
-
-/// Small steps go on from here, with one frame behind.
-fn later_behind<T>(alloc: Global, doing: Doing, frame: Frame) -> Result<T, Unwound>
-    ensures { LaterBehind result doing frame }
-{
-    let mut frames = Frames::new(alloc);
-    frames.push(frame)?;
-    Err(Unwound::Later { doing, frames })
-}
-
 /// The body of a loop, whose condition holds.
 #[cycle(direct)]
 #[tactic(auto, using(crate::proofs::Directly::left_waiting))]
-fn turn_body(
+fn turn_body<L: Ledger>(
     program: &Program<'_>,
     epoch: u32,
     cache: &mut Cache,
     progress: &mut Progress,
-    bodies: &mut Bodies,
+    bodies: &mut Bodies<L>,
     inner: u32,
     turns: u32,
     condition: &Shared<ExprNode>,
@@ -882,30 +729,28 @@ fn turn_body(
 ) -> Result<Flow, Unwound>
     requires tied { Tied progress.old.written cache.old }
     requires known { AreOf program.now.schema.now.classes bodies.old.called }
-    ensures does { Directs result (state progress.new cache.new) (spec.part (spec.block (on program.now.schema.now cache.old) inner (directly (on program.now.schema.now cache.old) inner) (map plain_stmt body.now)) (Frame.Again inner turns (plain condition.now) (map plain_stmt body.now)) spec.done (state progress.old cache.old)) }
+    ensures does { Directs result (state progress.new cache.new) (spec.part (spec.block (on program.now.schema.now cache.old) inner (directly (on program.now.schema.now cache.old) inner) (map plain_stmt body.now)) (frame.Again inner turns (plain condition.now) (map plain_stmt body.now)) spec.done (state progress.old cache.old)) }
     ensures tied { Lasts result (Tied progress.new.written cache.new) }
     ensures kept { Lasts result (Keeps cache.old cache.new) }
     ensures known { AreOf program.now.schema.now.classes bodies.new.called }
+    ensures work { Lasts result (surplus bodies.new.work progress.new.machine.steps ≡ surplus bodies.old.work progress.old.machine.steps) }
 {
     let stmts = SharedBlock::of(body)?;
     match block(program, epoch, cache, progress, bodies, inner, stmts) {
         Ok(flow) => Ok(flow),
-        Err(unwound) => {
-            let frame = again_frame(inner, turns, condition, body)?;
-            Err(behind(unwound, frame))
-        }
+        Err(unwound) => Err(behind_turn(unwound, inner, turns, condition, body)),
     }
 }
 
 /// The next test of a loop, which takes a step.
 #[cycle(direct)]
-#[tactic(auto, using(crate::proofs::Directly::left_waiting, crate::proofs::Directly::at_turn))]
-fn test_again(
+#[tactic(auto, using(crate::proofs::Directly::left_waiting, crate::proofs::Directly::at_turn, crate::proofs::Counting::counted_step))]
+fn test_again<L: Ledger>(
     program: &Program<'_>,
     epoch: u32,
     cache: &mut Cache,
     progress: &mut Progress,
-    bodies: &mut Bodies,
+    bodies: &mut Bodies<L>,
     inner: u32,
     turns: u32,
     condition: &Shared<ExprNode>,
@@ -917,30 +762,28 @@ fn test_again(
     ensures tied { Lasts result (Tied progress.new.written cache.new) }
     ensures kept { Lasts result (Keeps cache.old cache.new) }
     ensures known { AreOf program.now.schema.now.classes bodies.new.called }
+    ensures work { Lasts result (surplus bodies.new.work progress.new.machine.steps ≡ surplus bodies.old.work progress.old.machine.steps) }
 {
     if turns == 0 || progress.machine.steps >= STEP_LIMIT {
-        let frame = again_frame(inner, turns, condition, body)?;
-        return later_behind(program.alloc, Doing::Give { flow: Flow::Next }, frame);
+        return test_later(program.alloc, inner, turns, condition, body);
     }
     progress.machine.steps += 1;
+    bodies.work.tick();
     match value_of(program, epoch, cache, progress, bodies, inner, condition) {
         Ok(value) => Ok(value),
-        Err(unwound) => {
-            let frame = test_frame(inner, turns - 1, condition, body)?;
-            Err(behind(unwound, frame))
-        }
+        Err(unwound) => Err(behind_test(unwound, inner, turns - 1, condition, body)),
     }
 }
 
 /// A loop whose first test has given this value.
 #[cycle(direct)]
 #[tactic(auto, using(crate::proofs::Directly::same_world))]
-fn turns(
+fn turns<L: Ledger>(
     program: &Program<'_>,
     epoch: u32,
     cache: &mut Cache,
     progress: &mut Progress,
-    bodies: &mut Bodies,
+    bodies: &mut Bodies<L>,
     inner: u32,
     condition: &Shared<ExprNode>,
     body: &Shared<StmtNodes>,
@@ -952,6 +795,7 @@ fn turns(
     ensures tied { Lasts result (Tied progress.new.written cache.new) }
     ensures kept { Lasts result (Keeps cache.old cache.new) }
     ensures known { AreOf program.now.schema.now.classes bodies.new.called }
+    ensures work { Lasts result (surplus bodies.new.work progress.new.machine.steps ≡ surplus bodies.old.work progress.old.machine.steps) }
 {
     let mut value = tested;
     for count in 0..100_001u32 {

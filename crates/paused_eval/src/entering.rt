@@ -6,6 +6,7 @@ ghost use Rattle.paused_defs.specs.Resume as spec;
 ghost use Rattle.class_defs.specs.Types.{method_of};
 ghost use Rattle.paused_eval.specs.Bodies.{AreOf};
 ghost use Rattle.paused_eval.specs.Copies.{Keeps, Tied, at_hand, state};
+ghost use Rattle.paused_eval.specs.Counted.{surplus};
 ghost use Rattle.paused_eval.specs.Does.{AtNeed, Goes, Holds, Moves};
 
 use crate::bodies::{Bodies, body_of};
@@ -17,6 +18,7 @@ use client_cache::Cache;
 use method_eval::{Halt, Program, bound, fault, method_of, owners_at, type_named};
 use paused_defs::{Doing, Frame, Shared, SharedBlock, Stack};
 use std::mem;
+use std::sync::ledger::Ledger;
 use thor_value::{Fault, Oref, Text, Values};
 
 /// A body begins, with `this` and its parameters.
@@ -32,7 +34,8 @@ fn open_body(
 ) -> Result<Doing, Halt>
     requires depth { machine.old.depth < 64 }
     requires body { body ≡ method.now.body }
-    ensures { (f : Oref → Option Object) → Moves result stack.new machine.old machine.new (spec.open_body (over program.now.schema.now f) inner this (Some method.now) arguments.now stack.old) }
+    ensures does { (f : Oref → Option Object) → Moves result stack.new machine.old machine.new (spec.open_body (over program.now.schema.now f) inner this (Some method.now) arguments.now stack.old) }
+    ensures steps { machine.new.steps ≡ machine.old.steps }
 {
     let locals = bound(program, &method.parameters, arguments)?;
     let depth = machine.depth;
@@ -49,10 +52,10 @@ fn open_body(
 }
 
 /// A method is called whose object was read.
-fn open_method(
+fn open_method<L: Ledger>(
     program: &Program<'_>,
     machine: &mut Machine,
-    bodies: &mut Bodies,
+    bodies: &mut Bodies<L>,
     stack: &mut Stack<Frame>,
     inner: u32,
     this: Receiver,
@@ -63,6 +66,8 @@ fn open_method(
     requires known { AreOf program.now.schema.now.classes bodies.old.called }
     ensures opens { (f : Oref → Option Object) → Moves result stack.new machine.old machine.new (spec.open_body (over program.now.schema.now f) inner this (method_of program.now.schema.now.classes this.class name.now) arguments.now stack.old) }
     ensures known { AreOf program.now.schema.now.classes bodies.new.called }
+    ensures steps { machine.new.steps ≡ machine.old.steps }
+    ensures work { bodies.new.work ≡ bodies.old.work }
 {
     match method_of(program, this.class, name.get().as_slice()) {
         Some(method) => {
@@ -77,11 +82,11 @@ fn open_method(
 
 /// A call whose parts are evaluated begins.
 #[tactic(auto, using(crate::proofs::Lifting::lifts, crate::proofs::Lifting::never_needs), unfolding(class_defs::specs::Calls::owners_at))]
-pub fn enter(
+pub fn enter<L: Ledger>(
     program: &Program<'_>,
     cache: &mut Cache,
     progress: &mut Progress,
-    bodies: &mut Bodies,
+    bodies: &mut Bodies<L>,
     stack: &mut Stack<Frame>,
     inner: u32,
     class: u16,
@@ -96,6 +101,7 @@ pub fn enter(
     ensures tied { Holds result (Tied progress.new.written cache.new) }
     ensures kept { Holds result (Keeps cache.old cache.new) }
     ensures known { AreOf program.now.schema.now.classes bodies.new.called }
+    ensures work { Holds result (surplus bodies.new.work progress.new.machine.steps ≡ surplus bodies.old.work progress.old.machine.steps) }
 {
     if progress.machine.depth >= DEPTH_LIMIT {
         return fault(Fault::Depth);

@@ -12,13 +12,16 @@ ghost use Rattle.paused_defs.specs.Resume as spec;
 ghost use Rattle.paused_defs.specs.Resume.{ended, given};
 ghost use Rattle.paused_defs.specs.declared.frames.Frame.{Frame};
 ghost use Rattle.paused_eval.specs.Begins.{first_part, waiting_frame};
-ghost use Rattle.paused_eval.specs.Does.{Moves, Stepped, tested};
+ghost use Rattle.paused_eval.specs.Counted.{surplus};
+ghost use Rattle.paused_eval.specs.Does.{Holds, Moves, Stepped, tested};
 
+use crate::work::Work;
 use class_defs::{ExprType, Flow, Machine, STEP_LIMIT, beginning};
 use method_eval::{Halt, Program, fault, holds, type_named};
 use paused_defs::{
     Doing, ExprNode, Frame, Shared, SharedBlock, SharedExpr, SharedExprs, Stack, StmtNode,
 };
+use std::sync::ledger::Ledger;
 use thor_value::{Fault, NoMemory, Text, Value, Values};
 
 /// The value that was given.
@@ -42,12 +45,14 @@ pub fn ended(kind: ExprType, flow: Flow) -> Value
 }
 
 /// Takes one step.
-#[tactic(auto, unfolding(class_defs::specs::Steps::step))]
-pub fn take_step(machine: &mut Machine) -> Result<(), Halt>
-    ensures { Stepped result machine.old machine.new }
+#[tactic(auto, using(crate::proofs::Counting::counted_step), unfolding(class_defs::specs::Steps::step))]
+pub fn take_step<L: Ledger>(machine: &mut Machine, work: &mut Work<L>) -> Result<(), Halt>
+    ensures step { Stepped result machine.old machine.new }
+    ensures work { surplus work.new machine.new.steps ≡ surplus work.old machine.old.steps }
 {
     if machine.steps < STEP_LIMIT {
         machine.steps += 1;
+        work.tick();
         Ok(())
     } else {
         fault(Fault::Steps)
@@ -173,16 +178,18 @@ pub fn waiting_frame(program: &Program<'_>, inner: u32, node: &StmtNode) -> Resu
 
 /// A statement begins, whose parts may be `inner` deep.
 #[tactic(auto, using(crate::proofs::Beginning::begins_by), unfolding(class_defs::specs::Steps::step))]
-pub fn begin(
+pub fn begin<L: Ledger>(
     program: &Program<'_>,
     machine: &mut Machine,
+    work: &mut Work<L>,
     stack: &mut Stack<Frame>,
     inner: u32,
     node: &StmtNode,
 ) -> Result<Doing, Halt>
-    ensures { (f : Oref → Option Object) → Moves result stack.new machine.old machine.new (steps.◌>>◌ step (spec.begin (over program.now.schema.now f) inner (out-Stmt (plain_stmt node.now)) stack.old)) }
+    ensures does { (f : Oref → Option Object) → Moves result stack.new machine.old machine.new (steps.◌>>◌ step (spec.begin (over program.now.schema.now f) inner (out-Stmt (plain_stmt node.now)) stack.old)) }
+    ensures work { Holds result (surplus work.new machine.new.steps ≡ surplus work.old machine.old.steps) }
 {
-    take_step(machine)?;
+    take_step(machine, work)?;
     let frame = waiting_frame(program, inner, node)?;
     Ok(go_into_for(stack, frame, inner, first_part(node))?)
 }
@@ -310,8 +317,9 @@ pub fn tested(
 
 /// The body of a loop has ended: its next test, which takes a step.
 #[tactic(auto, unfolding(class_defs::specs::Steps::step))]
-pub fn turned(
+pub fn turned<L: Ledger>(
     machine: &mut Machine,
+    work: &mut Work<L>,
     stack: &mut Stack<Frame>,
     inner: u32,
     turns: u32,
@@ -319,7 +327,8 @@ pub fn turned(
     body: SharedBlock,
     flow: Flow,
 ) -> Result<Doing, Halt>
-    ensures { Moves result stack.new machine.old machine.new (spec.turned inner turns condition body flow stack.old) }
+    ensures does { Moves result stack.new machine.old machine.new (spec.turned inner turns condition body flow stack.old) }
+    ensures work { Holds result (surplus work.new machine.new.steps ≡ surplus work.old machine.old.steps) }
 {
     match flow {
         Flow::Returned(value) => give(value),
@@ -327,7 +336,7 @@ pub fn turned(
             if turns == 0 {
                 return fault(Fault::Steps);
             }
-            take_step(machine)?;
+            take_step(machine, work)?;
             let expr = condition.share()?;
             let frame = Frame::Test {
                 nested: inner,

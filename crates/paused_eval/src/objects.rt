@@ -141,6 +141,7 @@ pub fn touch(
     ensures tied { Tied progress.new.written cache.new }
     ensures kept { Keeps cache.old cache.new }
     ensures depth { progress.new.machine.depth ≡ progress.old.machine.depth }
+    ensures steps { progress.new.machine.steps ≡ progress.old.machine.steps }
 {
     if is_known(&progress.machine, oref) {
         return class_found(seen_class(program, cache, progress, oref), oref, owners);
@@ -244,6 +245,7 @@ pub fn assign_field(
     ensures state { OnOk result (state progress.new cache.new ≡ spec.assign_field (over program.now.schema.now (at_hand program.now.schema.now cache.old)) name.now value (state progress.old cache.old)) }
     ensures tied { OnOk result (Tied progress.new.written cache.new) }
     ensures kept { OnOk result (Keeps cache.old cache.new) }
+    ensures steps { progress.new.machine.steps ≡ progress.old.machine.steps }
 {
     let (oref, class) = match &progress.machine.this {
         Some(this) => (this.oref, this.class),
@@ -277,6 +279,7 @@ pub fn create(
     ensures tied { Holds result (Tied progress.new.written cache.new) }
     ensures kept { Holds result (Keeps cache.old cache.new) }
     ensures names { FromPages names.new }
+    ensures steps { progress.new.machine.steps ≡ progress.old.machine.steps }
 {
     let repo = repo_for(&progress.machine, at);
     match class_named(&program.schema.classes, class) {
@@ -302,6 +305,7 @@ fn make(
     ensures tied { Holds result (Tied progress.new.written cache.new) }
     ensures kept { Holds result (Keeps cache.old cache.new) }
     ensures names { FromPages names.new }
+    ensures steps { progress.new.machine.steps ≡ progress.old.machine.steps }
 {
     if progress.machine.created.len() >= CREATE_LIMIT {
         return fault(Fault::Large);

@@ -1,4 +1,4 @@
-ghost use Rattle.std.specs.Prelude.{◌≡◌, ◌++◌, List, [], Option, Ok, IfOk, OnOk};
+ghost use Rattle.std.specs.Prelude.{◌≡◌, ◌<◌, ◌+◌, ◌++◌, List, [], Option, Ok, IfOk, OnOk};
 ghost use Rattle.thor_value.specs.FiniteMap.{empty, has};
 ghost use Rattle.thor_value.specs.declared.names.Oref.{Oref};
 ghost use Rattle.class_defs.specs.declared.statements.Stmt.{Stmt};
@@ -9,11 +9,14 @@ ghost use Rattle.client_cache.specs.Copies.{seen};
 ghost use Rattle.method_eval.specs.Answers.{ran_at, stored_at};
 ghost use Rattle.method_eval.specs.Names.{Names, supply};
 ghost use Rattle.paused_defs.specs.Resume.{Left};
+ghost use Rattle.paused_eval.specs.Bodies.{AreOf};
 ghost use Rattle.paused_eval.specs.Copies.{Keeps, at_hand, entries, entry, state_with, written_in};
-ghost use Rattle.paused_eval.specs.Standing.{AtStop, CameTo, Stands, answer_of};
+ghost use Rattle.paused_eval.specs.Counted.{surplus};
+ghost use Rattle.paused_eval.specs.Standing.{AtStop, CameTo, Stands, answer_of, outcome_of};
 ghost use Rattle.paused_eval.specs.declared.copies.Copies.{Copies};
 ghost use Rattle.paused_eval.specs.declared.granted_names.GrantedNames.{GrantedNames};
 
+use crate::bodies::Bodies;
 use crate::came::Came;
 use crate::copies::Copies;
 use crate::granted_names::GrantedNames;
@@ -21,12 +24,15 @@ use crate::kept_texts::KeptTexts;
 use crate::objects::found;
 use crate::progress::begun;
 use crate::running::run_over;
+use crate::work::Work;
 use class_defs::{Block, Flow, Machine, Schema};
 use client_cache::Cache;
 use method_eval::{Program, Ran};
 use paused_defs::{Doing, Frame, Stack};
 use std::alloc::Global;
+use std::marker::Brand;
 use std::mem;
+use std::sync::ledger::{Blank, Ledger};
 use thor_value::{Answer, NoMemory, Obj, Oref, Orefs, TryCopy, Writes};
 
 /// A transaction's evaluation, as far as it has come.
@@ -43,8 +49,8 @@ pub struct Paused {
 /// No schema has more classes: they are numbered by `u16`.
 const CLASS_LIMIT: usize = 65_536;
 
-/// How many frames a stack has room for from the beginning: most transactions need no more.
-const FRAMES: usize = 24;
+/// How many frames a stack has room for from the beginning: most transactions need no more between two stops.
+const FRAMES: usize = 8;
 
 /// An object of the cache comes behind the others.
 fn push_written(cache: &Cache, epoch: u32, oref: Oref, writes: &mut Writes) -> Result<(), NoMemory>
@@ -100,6 +106,7 @@ impl Paused {
     pub fn begin(alloc: Global, tx: &Block, kept: &mut KeptTexts) -> Result<Paused, NoMemory>
         ensures stands { IfOk result (λ paused. (s : Schema) → (copies : Copies) → (names : GrantedNames) → copies.written ≡ empty
             → Stands s (at_hand s copies.cache) tx.now (supply names.names).waiting (record { doing = paused.doing; stack = paused.stack }) (state_with paused.machine copies.written copies.cache names.names)) }
+        ensures begun { IfOk result (λ paused. paused.machine.steps ≡ 0) }
     {
         let mut stack = Stack::with_room(alloc, FRAMES)?;
         stack.push(Frame::BlockEnd { count: 0 })?;
@@ -154,6 +161,83 @@ impl Paused {
         ensures stands { (tx : List Stmt) → (given : List Oref) → Stands schema.now (at_hand schema.now copies.old.cache) tx given (record { doing = self.old.doing; stack = self.old.stack }) (state_with self.old.machine copies.old.written copies.old.cache names.old.names)
             → IfOk result (λ ran. AtStop ran (Stands schema.now (at_hand schema.now copies.new.cache) tx given (record { doing = self.new.doing; stack = self.new.stack }) (state_with self.new.machine copies.new.written copies.new.cache names.new.names))) }
         ensures kept { OnOk result (Keeps copies.old.cache copies.new.cache) }
+        ensures steps { (tx : List Stmt) → (given : List Oref) → Stands schema.now (at_hand schema.now copies.old.cache) tx given (record { doing = self.old.doing; stack = self.old.stack }) (state_with self.old.machine copies.old.written copies.old.cache names.old.names)
+            → OnOk result (self.new.machine.steps ≡ (outcome_of schema.now (at_hand schema.now copies.old.cache) tx given).1.steps) }
+    {
+        self.go_uncounted::<Brand>(schema, epoch, copies, names, kept, Blank::new(1))
+    }
+
+    /// The same with a count of its own.
+    fn go_uncounted<L: Ledger>(
+        &mut self,
+        schema: &Schema,
+        epoch: u32,
+        copies: &mut Copies,
+        names: &mut GrantedNames,
+        kept: &mut KeptTexts,
+        ledger: Blank,
+    ) -> Result<Ran, NoMemory>
+        requires name { ledger.name ≡ L.name }
+        requires parts { ledger.parts ≡ L.parts }
+        requires some { 0 < ledger.parts }
+        ensures answers { (tx : List Stmt) → (given : List Oref) → Stands schema.now (at_hand schema.now copies.old.cache) tx given (record { doing = self.old.doing; stack = self.old.stack }) (state_with self.old.machine copies.old.written copies.old.cache names.old.names)
+            → IfOk result (λ ran. ran ≡ answer_of epoch schema.now (at_hand schema.now copies.old.cache) tx given) }
+        ensures stands { (tx : List Stmt) → (given : List Oref) → Stands schema.now (at_hand schema.now copies.old.cache) tx given (record { doing = self.old.doing; stack = self.old.stack }) (state_with self.old.machine copies.old.written copies.old.cache names.old.names)
+            → IfOk result (λ ran. AtStop ran (Stands schema.now (at_hand schema.now copies.new.cache) tx given (record { doing = self.new.doing; stack = self.new.stack }) (state_with self.new.machine copies.new.written copies.new.cache names.new.names))) }
+        ensures kept { OnOk result (Keeps copies.old.cache copies.new.cache) }
+        ensures steps { (tx : List Stmt) → (given : List Oref) → Stands schema.now (at_hand schema.now copies.old.cache) tx given (record { doing = self.old.doing; stack = self.old.stack }) (state_with self.old.machine copies.old.written copies.old.cache names.old.names)
+            → OnOk result (self.new.machine.steps ≡ (outcome_of schema.now (at_hand schema.now copies.old.cache) tx given).1.steps) }
+    {
+        let work: Work<L> = Work::new(ledger);
+        let (ran, work) = self.go_counted(schema, epoch, copies, names, kept, work);
+        drop(work);
+        ran
+    }
+
+    /// The same for a caller that counts what is evaluated. The count comes on by as many nodes as the run takes steps
+    /// (`work`), and the steps that the run has taken in all are those that it takes from the start (`steps`): however
+    /// often it stops, no node is evaluated twice.
+    pub fn go_counted<L: Ledger>(
+        &mut self,
+        schema: &Schema,
+        epoch: u32,
+        copies: &mut Copies,
+        names: &mut GrantedNames,
+        kept: &mut KeptTexts,
+        work: Work<L>,
+    ) -> (Result<Ran, NoMemory>, Work<L>)
+        ensures answers { (tx : List Stmt) → (given : List Oref) → Stands schema.now (at_hand schema.now copies.old.cache) tx given (record { doing = self.old.doing; stack = self.old.stack }) (state_with self.old.machine copies.old.written copies.old.cache names.old.names)
+            → IfOk result.0 (λ ran. ran ≡ answer_of epoch schema.now (at_hand schema.now copies.old.cache) tx given) }
+        ensures stands { (tx : List Stmt) → (given : List Oref) → Stands schema.now (at_hand schema.now copies.old.cache) tx given (record { doing = self.old.doing; stack = self.old.stack }) (state_with self.old.machine copies.old.written copies.old.cache names.old.names)
+            → IfOk result.0 (λ ran. AtStop ran (Stands schema.now (at_hand schema.now copies.new.cache) tx given (record { doing = self.new.doing; stack = self.new.stack }) (state_with self.new.machine copies.new.written copies.new.cache names.new.names))) }
+        ensures kept { OnOk result.0 (Keeps copies.old.cache copies.new.cache) }
+        ensures steps { (tx : List Stmt) → (given : List Oref) → Stands schema.now (at_hand schema.now copies.old.cache) tx given (record { doing = self.old.doing; stack = self.old.stack }) (state_with self.old.machine copies.old.written copies.old.cache names.old.names)
+            → OnOk result.0 (self.new.machine.steps ≡ (outcome_of schema.now (at_hand schema.now copies.old.cache) tx given).1.steps) }
+        ensures work { OnOk result.0 (result.1 + self.old.machine.steps ≡ work + self.new.machine.steps) }
+    {
+        let mut bodies = Bodies::taken(self.alloc, &mut kept.bodies, work);
+        let ran = self.go_with(schema, epoch, copies, names, &mut bodies);
+        (ran, bodies.put_back(&mut kept.bodies))
+    }
+
+    /// The same with bodies of methods that are the schema's.
+    fn go_with<L: Ledger>(
+        &mut self,
+        schema: &Schema,
+        epoch: u32,
+        copies: &mut Copies,
+        names: &mut GrantedNames,
+        bodies: &mut Bodies<L>,
+    ) -> Result<Ran, NoMemory>
+        requires known { AreOf schema.now.classes bodies.old.called }
+        ensures answers { (tx : List Stmt) → (given : List Oref) → Stands schema.now (at_hand schema.now copies.old.cache) tx given (record { doing = self.old.doing; stack = self.old.stack }) (state_with self.old.machine copies.old.written copies.old.cache names.old.names)
+            → IfOk result (λ ran. ran ≡ answer_of epoch schema.now (at_hand schema.now copies.old.cache) tx given) }
+        ensures stands { (tx : List Stmt) → (given : List Oref) → Stands schema.now (at_hand schema.now copies.old.cache) tx given (record { doing = self.old.doing; stack = self.old.stack }) (state_with self.old.machine copies.old.written copies.old.cache names.old.names)
+            → IfOk result (λ ran. AtStop ran (Stands schema.now (at_hand schema.now copies.new.cache) tx given (record { doing = self.new.doing; stack = self.new.stack }) (state_with self.new.machine copies.new.written copies.new.cache names.new.names))) }
+        ensures kept { OnOk result (Keeps copies.old.cache copies.new.cache) }
+        ensures steps { (tx : List Stmt) → (given : List Oref) → Stands schema.now (at_hand schema.now copies.old.cache) tx given (record { doing = self.old.doing; stack = self.old.stack }) (state_with self.old.machine copies.old.written copies.old.cache names.old.names)
+            → OnOk result (self.new.machine.steps ≡ (outcome_of schema.now (at_hand schema.now copies.old.cache) tx given).1.steps) }
+        ensures work { OnOk result (surplus bodies.new.work self.new.machine.steps ≡ surplus bodies.old.work self.old.machine.steps) }
     {
         if schema.classes.len() > CLASS_LIMIT {
             return Err(NoMemory);
@@ -170,7 +254,7 @@ impl Paused {
             &mut copies.written,
             &mut names.names,
             &mut self.machine,
-            &mut kept.bodies,
+            bodies,
             &mut self.stack,
             doing,
         )?;

@@ -5,14 +5,17 @@ ghost use Rattle.class_defs.specs.declared.store.Object.{Object};
 ghost use Rattle.paused_defs.specs.Reaches.{over};
 ghost use Rattle.paused_defs.specs.Resume as spec;
 ghost use Rattle.paused_defs.specs.Resume.{taken};
-ghost use Rattle.paused_eval.specs.Does.{Moves, field_assigned};
+ghost use Rattle.paused_eval.specs.Counted.{surplus};
+ghost use Rattle.paused_eval.specs.Does.{Holds, Moves, field_assigned};
 
 use crate::moves::{
     collect, ended, evaluate_for, give, given, go_on, open_block, pass, tested, turned,
 };
+use crate::work::Work;
 use class_defs::{Flow, Locals, Machine, Receiver, combined, number};
 use method_eval::{Halt, Program, assign_local, declare, holds};
 use paused_defs::{Doing, Frame, Shared, Stack};
+use std::sync::ledger::Ledger;
 use thor_value::{NoMemory, Text, Value, Values};
 
 /// The name of the field that a frame assigns.
@@ -62,15 +65,17 @@ pub fn leave_body(machine: &mut Machine, depth: u32, this: Option<Receiver>, loc
 }
 
 /// Gives the frame that was on the top what it waits for. It assigns no field.
-pub fn pop(
+pub fn pop<L: Ledger>(
     program: &Program<'_>,
     machine: &mut Machine,
+    work: &mut Work<L>,
     stack: &mut Stack<Frame>,
     frame: Frame,
     flow: Flow,
 ) -> Result<Doing, Halt>
     requires { field_assigned frame ≡ None }
-    ensures { (f : Oref → Option Object) → Moves result stack.new machine.old machine.new (spec.pop (over program.now.schema.now f) frame flow stack.old) }
+    ensures does { (f : Oref → Option Object) → Moves result stack.new machine.old machine.new (spec.pop (over program.now.schema.now f) frame flow stack.old) }
+    ensures work { Holds result (surplus work.new machine.new.steps ≡ surplus work.old machine.old.steps) }
 {
     match frame {
         Frame::Negate => give(Value::Int(0i64.wrapping_sub(number(given(flow))))),
@@ -164,6 +169,6 @@ pub fn pop(
             turns,
             condition,
             body,
-        } => turned(machine, stack, nested, turns, condition, body, flow),
+        } => turned(machine, work, stack, nested, turns, condition, body, flow),
     }
 }

@@ -3,11 +3,12 @@ ghost use Rattle.thor_value.specs.declared.names.Oref.{Oref};
 ghost use Rattle.class_defs.specs.declared.statements.Stmt.{Stmt};
 ghost use Rattle.paused_eval.specs.Bodies.{AreOf};
 ghost use Rattle.paused_eval.specs.Copies.{Keeps, Tied, at_hand, state_with, whole_state};
+ghost use Rattle.paused_eval.specs.Counted.{surplus};
 ghost use Rattle.paused_eval.specs.FromPages.{FromPages};
 ghost use Rattle.paused_eval.specs.Standing.{CameTo, IsFault, Stands, is_done};
 
 use crate::ahead::ahead;
-use crate::bodies::{Bodies, CopiedBodies};
+use crate::bodies::Bodies;
 use crate::came::Came;
 use crate::moved::Moved;
 use crate::progress::{Progress, begun};
@@ -18,6 +19,7 @@ use client_cache::Cache;
 use method_eval::{Halt, Names, Program};
 use paused_defs::{Doing, Frame, Stack};
 use std::mem;
+use std::sync::ledger::Ledger;
 use thor_value::{Fault, NoMemory};
 
 /// More small steps than any run makes: each step pays for at most six.
@@ -44,13 +46,13 @@ fn faulted(halt: Halt) -> Result<Came, NoMemory>
 }
 
 /// Small steps up to an end, a fault, or what isn't at hand, and between them as much as plain recursion can do.
-fn run(
+fn run<L: Ledger>(
     program: &Program<'_>,
     epoch: u32,
     cache: &mut Cache,
     names: &mut Names,
     progress: &mut Progress,
-    bodies: &mut Bodies,
+    bodies: &mut Bodies<L>,
     stack: &mut Stack<Frame>,
     begun: Doing,
 ) -> Result<(Came, Doing), NoMemory>
@@ -63,6 +65,7 @@ fn run(
     ensures kept { OnOk result (Keeps cache.old cache.new) }
     ensures names { FromPages names.new }
     ensures known { AreOf program.now.schema.now.classes bodies.new.called }
+    ensures work { OnOk result (surplus bodies.new.work progress.new.machine.steps ≡ surplus bodies.old.work progress.old.machine.steps) }
 {
     let mut doing = begun;
     for _ in 0..SMALL_STEPS {
@@ -116,39 +119,30 @@ fn give_back(machine: &mut Machine, written: &mut WrittenNames, progress: Progre
     drop(mem::replace(written, names));
 }
 
-/// The bodies that were called before are kept for later runs.
-fn keep_bodies(place: &mut CopiedBodies, bodies: Bodies) {
-    let Bodies { called, kept } = bodies;
-    drop(called);
-    drop(mem::replace(place, kept));
-}
-
 /// The same over a client's copies and names. After `NoMemory` what the try has written is given up.
 #[tactic(auto, using(crate::proofs::Hands::none_written))]
-pub fn run_over(
+pub fn run_over<L: Ledger>(
     program: &Program<'_>,
     epoch: u32,
     cache: &mut Cache,
     written: &mut WrittenNames,
     names: &mut Names,
     machine: &mut Machine,
-    kept: &mut CopiedBodies,
+    bodies: &mut Bodies<L>,
     stack: &mut Stack<Frame>,
     begun_with: Doing,
 ) -> Result<(Came, Doing), NoMemory>
     requires tied { Tied written.old cache.old }
     requires names { FromPages names.old }
+    requires known { AreOf program.now.schema.now.classes bodies.old.called }
     ensures answers { (tx : List Stmt) → (given : List Oref) → Stands program.now.schema.now (at_hand program.now.schema.now cache.old) tx given (record { doing = begun_with; stack = stack.old }) (state_with machine.old written.old cache.old names.old)
         → IfOk result (λ ran. CameTo program.now.schema.now (at_hand program.now.schema.now cache.old) tx given ran.0 (record { doing = ran.1; stack = stack.new }) (state_with machine.new written.new cache.new names.new)) }
     ensures tied { Tied written.new cache.new }
     ensures kept { OnOk result (Keeps cache.old cache.new) }
     ensures names { FromPages names.new }
+    ensures work { OnOk result (surplus bodies.new.work machine.new.steps ≡ surplus bodies.old.work machine.old.steps) }
 {
     let alloc = program.alloc;
-    let mut bodies = Bodies {
-        called: CopiedBodies::new(alloc),
-        kept: mem::replace(kept, CopiedBodies::new(alloc)),
-    };
     let mut progress = Progress {
         machine: mem::replace(machine, begun(alloc)),
         written: mem::replace(written, WrittenNames::new(alloc)),
@@ -159,17 +153,15 @@ pub fn run_over(
         cache,
         names,
         &mut progress,
-        &mut bodies,
+        bodies,
         stack,
         begun_with,
     ) {
         Ok(ended) => {
-            keep_bodies(kept, bodies);
             give_back(machine, written, progress);
             Ok(ended)
         }
         Err(NoMemory) => {
-            drop(bodies);
             drop(progress);
             cache.undo();
             Err(NoMemory)

@@ -10,6 +10,7 @@ ghost use Rattle.paused_defs.specs.Resume.{move};
 ghost use Rattle.paused_defs.specs.declared.frames.Frame.{Frame};
 ghost use Rattle.paused_eval.specs.Bodies.{AreOf};
 ghost use Rattle.paused_eval.specs.Copies.{Keeps, Tied, at_hand, state, whole_state};
+ghost use Rattle.paused_eval.specs.Counted.{surplus};
 ghost use Rattle.paused_eval.specs.Does.{Holds, Moves, Stepped};
 ghost use Rattle.paused_eval.specs.FromPages.{FromPages};
 ghost use Rattle.paused_eval.specs.Standing.{Steps, moved_to};
@@ -22,44 +23,54 @@ use crate::objects::{assign_field, create, field_value};
 use crate::popping::{field_assigned, pop};
 use crate::progress::Progress;
 use crate::starting::{field_read, start};
+use crate::work::Work;
 use class_defs::{At, Flow, Machine, Stop};
 use client_cache::Cache;
 use method_eval::{Halt, Names, Program, fault};
 use paused_defs::{Doing, Frame, Shared, SharedExpr, SharedStmt, Stack};
+use std::sync::ledger::Ledger;
 use thor_value::{Fault, Oref, Text, Values};
 
 /// Takes one step.
 #[tactic(auto, using(crate::proofs::Lifting::lift_step))]
-fn take_step_over(progress: &mut Progress, cache: &Cache) -> Result<(), Halt>
+fn take_step_over<L: Ledger>(
+    progress: &mut Progress,
+    work: &mut Work<L>,
+    cache: &Cache,
+) -> Result<(), Halt>
     ensures step { Stepped result (state progress.old cache.now) (state progress.new cache.now) }
     ensures written { progress.new.written ≡ progress.old.written }
+    ensures work { surplus work.new progress.new.machine.steps ≡ surplus work.old progress.old.machine.steps }
 {
     let _ = cache;
-    take_step(&mut progress.machine)
+    take_step(&mut progress.machine, work)
 }
 
 /// The value of a field of `this`.
 #[tactic(auto, unfolding(class_defs::specs::Steps::step))]
-fn field(
+fn field<L: Ledger>(
     program: &Program<'_>,
     cache: &mut Cache,
     progress: &mut Progress,
+    work: &mut Work<L>,
     name: &[u8],
 ) -> Result<Doing, Halt>
     requires tied { Tied progress.old.written cache.old }
     ensures does { (fs : List Frame) → Moves result fs (state progress.old cache.old) (state progress.new cache.new) (steps.◌>>◌ step (spec.start (over program.now.schema.now (at_hand program.now.schema.now cache.old)) 0 (Expr-F.Field (record { text = name.now; line = 0 })) fs)) }
     ensures tied { Holds result (Tied progress.new.written cache.new) }
     ensures kept { Holds result (Keeps cache.old cache.new) }
+    ensures work { Holds result (surplus work.new progress.new.machine.steps ≡ surplus work.old progress.old.machine.steps) }
 {
-    take_step_over(progress, cache)?;
+    take_step_over(progress, work, cache)?;
     give(field_value(program, cache, progress, name))
 }
 
 #[tactic(auto, using(crate::proofs::Lifting::lifts, crate::proofs::Nested::nested))]
-fn evaluate(
+fn evaluate<L: Ledger>(
     program: &Program<'_>,
     cache: &mut Cache,
     progress: &mut Progress,
+    work: &mut Work<L>,
     stack: &mut Stack<Frame>,
     nested: u32,
     expr: &SharedExpr,
@@ -68,48 +79,60 @@ fn evaluate(
     ensures does { Moves result stack.new (state progress.old cache.old) (state progress.new cache.new) (move (over program.now.schema.now (at_hand program.now.schema.now cache.old)) (Doing.Evaluate nested expr.now) stack.old) }
     ensures tied { Holds result (Tied progress.new.written cache.new) }
     ensures kept { Holds result (Keeps cache.old cache.new) }
+    ensures work { Holds result (surplus work.new progress.new.machine.steps ≡ surplus work.old progress.old.machine.steps) }
 {
     if nested == 0 {
         return fault(Fault::Steps);
     }
     let node = expr.node();
     if let Some(name) = field_read(node) {
-        return field(program, cache, progress, name.get().as_slice());
+        return field(program, cache, progress, work, name.get().as_slice());
     }
-    start(program, &mut progress.machine, stack, nested - 1, node)
+    start(
+        program,
+        &mut progress.machine,
+        work,
+        stack,
+        nested - 1,
+        node,
+    )
 }
 
 #[tactic(auto, using(crate::proofs::Nested::nested))]
-fn execute(
+fn execute<L: Ledger>(
     program: &Program<'_>,
     machine: &mut Machine,
+    work: &mut Work<L>,
     stack: &mut Stack<Frame>,
     nested: u32,
     stmt: &SharedStmt,
 ) -> Result<Doing, Halt>
     ensures does { (f : Oref → Option Object) → Moves result stack.new machine.old machine.new (move (over program.now.schema.now f) (Doing.Execute nested stmt.now) stack.old) }
+    ensures work { Holds result (surplus work.new machine.new.steps ≡ surplus work.old machine.old.steps) }
 {
     if nested == 0 {
         return fault(Fault::Steps);
     }
-    begin(program, machine, stack, nested - 1, stmt.node())
+    begin(program, machine, work, stack, nested - 1, stmt.node())
 }
 
 /// A statement begins, wherever the objects lie that the run has written.
 #[tactic(auto, using(crate::proofs::Lifting::lifts))]
-fn execute_over(
+fn execute_over<L: Ledger>(
     program: &Program<'_>,
     cache: &Cache,
     progress: &mut Progress,
+    work: &mut Work<L>,
     stack: &mut Stack<Frame>,
     nested: u32,
     stmt: &SharedStmt,
 ) -> Result<Doing, Halt>
     ensures does { Moves result stack.new (state progress.old cache.now) (state progress.new cache.now) (move (over program.now.schema.now (at_hand program.now.schema.now cache.now)) (Doing.Execute nested stmt.now) stack.old) }
     ensures written { progress.new.written ≡ progress.old.written }
+    ensures work { Holds result (surplus work.new progress.new.machine.steps ≡ surplus work.old progress.old.machine.steps) }
 {
     let _ = cache;
-    execute(program, &mut progress.machine, stack, nested, stmt)
+    execute(program, &mut progress.machine, work, stack, nested, stmt)
 }
 
 /// A new object is made, where there is a name for it.
@@ -128,6 +151,7 @@ fn make(
     ensures tied { Holds result (Tied progress.new.written cache.new) }
     ensures kept { Holds result (Keeps cache.old cache.new) }
     ensures names { FromPages names.new }
+    ensures steps { progress.new.machine.steps ≡ progress.old.machine.steps }
 {
     match create(
         program,
@@ -152,11 +176,11 @@ fn make(
 }
 
 /// A call begins, where its object is at hand.
-fn call(
+fn call<L: Ledger>(
     program: &Program<'_>,
     cache: &mut Cache,
     progress: &mut Progress,
-    bodies: &mut Bodies,
+    bodies: &mut Bodies<L>,
     stack: &mut Stack<Frame>,
     nested: u32,
     class: u16,
@@ -170,6 +194,7 @@ fn call(
     ensures tied { Holds result (Tied progress.new.written cache.new) }
     ensures kept { Holds result (Keeps cache.old cache.new) }
     ensures known { AreOf program.now.schema.now.classes bodies.new.called }
+    ensures work { Holds result (surplus bodies.new.work progress.new.machine.steps ≡ surplus bodies.old.work progress.old.machine.steps) }
 {
     match enter(
         program, cache, progress, bodies, stack, nested, class, oref, &method, &arguments,
@@ -210,17 +235,19 @@ fn assign(
     ensures does { (fs : List Frame) → Moves result fs (state progress.old cache.old) (state progress.new cache.new) (spec.pop (over program.now.schema.now (at_hand program.now.schema.now cache.old)) (Frame.FieldAssign name.now) flow fs) }
     ensures tied { Holds result (Tied progress.new.written cache.new) }
     ensures kept { Holds result (Keeps cache.old cache.new) }
+    ensures steps { progress.new.machine.steps ≡ progress.old.machine.steps }
 {
     assign_field(program, epoch, cache, progress, name, moves::given(flow))?;
     pass()
 }
 
 #[tactic(auto, using(crate::proofs::Lifting::lifts))]
-fn given(
+fn given<L: Ledger>(
     program: &Program<'_>,
     epoch: u32,
     cache: &mut Cache,
     progress: &mut Progress,
+    work: &mut Work<L>,
     stack: &mut Stack<Frame>,
     flow: Flow,
 ) -> Result<Doing, Halt>
@@ -228,6 +255,7 @@ fn given(
     ensures does { Moves result stack.new (state progress.old cache.old) (state progress.new cache.new) (move (over program.now.schema.now (at_hand program.now.schema.now cache.old)) (Doing.Give flow) stack.old) }
     ensures tied { Holds result (Tied progress.new.written cache.new) }
     ensures kept { Holds result (Keeps cache.old cache.new) }
+    ensures work { Holds result (surplus work.new progress.new.machine.steps ≡ surplus work.old progress.old.machine.steps) }
 {
     match stack.pop() {
         None => Ok(Doing::Give { flow }),
@@ -238,7 +266,7 @@ fn given(
                 drop(frame);
                 return came;
             }
-            pop(program, &mut progress.machine, stack, frame, flow)
+            pop(program, &mut progress.machine, work, stack, frame, flow)
         }
     }
 }
@@ -254,13 +282,13 @@ fn moved_to(came: Result<Doing, Halt>) -> Result<Moved, Halt>
 }
 
 /// One small step.
-pub fn small(
+pub fn small<L: Ledger>(
     program: &Program<'_>,
     epoch: u32,
     cache: &mut Cache,
     names: &mut Names,
     progress: &mut Progress,
-    bodies: &mut Bodies,
+    bodies: &mut Bodies<L>,
     stack: &mut Stack<Frame>,
     doing: Doing,
 ) -> Result<Moved, Halt>
@@ -272,14 +300,17 @@ pub fn small(
     ensures kept { Holds result (Keeps cache.old cache.new) }
     ensures names { FromPages names.new }
     ensures known { AreOf program.now.schema.now.classes bodies.new.called }
+    ensures work { Holds result (surplus bodies.new.work progress.new.machine.steps ≡ surplus bodies.old.work progress.old.machine.steps) }
 {
     match doing {
         Doing::Evaluate { nested, expr } => {
-            moved_to(evaluate(program, cache, progress, stack, nested, &expr))
+            let work = &mut bodies.work;
+            moved_to(evaluate(program, cache, progress, work, stack, nested, &expr))
         }
-        Doing::Execute { nested, stmt } => moved_to(execute_over(
-            program, cache, progress, stack, nested, &stmt,
-        )),
+        Doing::Execute { nested, stmt } => {
+            let work = &mut bodies.work;
+            moved_to(execute_over(program, cache, progress, work, stack, nested, &stmt))
+        }
         Doing::Create { class, at } => make(program, epoch, cache, names, progress, class, at),
         Doing::Enter {
             nested,
@@ -290,6 +321,9 @@ pub fn small(
         } => call(
             program, cache, progress, bodies, stack, nested, class, oref, method, arguments,
         ),
-        Doing::Give { flow } => moved_to(given(program, epoch, cache, progress, stack, flow)),
+        Doing::Give { flow } => {
+            let work = &mut bodies.work;
+            moved_to(given(program, epoch, cache, progress, work, stack, flow))
+        }
     }
 }

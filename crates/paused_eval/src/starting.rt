@@ -8,13 +8,16 @@ ghost use Rattle.class_defs.specs.declared.store.Object.{Object};
 ghost use Rattle.paused_defs.specs.Plain.{plain};
 ghost use Rattle.paused_defs.specs.Reaches.{over};
 ghost use Rattle.paused_defs.specs.Resume as spec;
-ghost use Rattle.paused_eval.specs.Does.{Moves, field_read};
+ghost use Rattle.paused_eval.specs.Counted.{surplus};
+ghost use Rattle.paused_eval.specs.Does.{Holds, Moves, field_read};
 
 use crate::moves::{give, go_into, go_into_for, take_step};
 use crate::types::type_of;
+use crate::work::Work;
 use class_defs::{At, ExprType, Machine, Operator};
 use method_eval::{Halt, Program, named_value};
 use paused_defs::{Doing, ExprNode, ExprNodes, Frame, Shared, SharedExpr, SharedExprs, Stack};
+use std::sync::ledger::Ledger;
 use thor_value::{NoMemory, Text, Value};
 
 /// The name of the field that a node reads.
@@ -170,16 +173,18 @@ fn first(
 
 /// A node of an expression begins, whose parts may be `inner` deep. It isn't a field.
 #[tactic(auto, unfolding(class_defs::specs::Steps::step))]
-pub fn start(
+pub fn start<L: Ledger>(
     program: &Program<'_>,
     machine: &mut Machine,
+    work: &mut Work<L>,
     stack: &mut Stack<Frame>,
     inner: u32,
     node: &ExprNode,
 ) -> Result<Doing, Halt>
     requires { field_read (out-Expr (plain node.now)) ≡ None }
-    ensures { (f : Oref → Option Object) → Moves result stack.new machine.old machine.new (steps.◌>>◌ step (spec.start (over program.now.schema.now f) inner (out-Expr (plain node.now)) stack.old)) }
+    ensures does { (f : Oref → Option Object) → Moves result stack.new machine.old machine.new (steps.◌>>◌ step (spec.start (over program.now.schema.now f) inner (out-Expr (plain node.now)) stack.old)) }
+    ensures work { Holds result (surplus work.new machine.new.steps ≡ surplus work.old machine.old.steps) }
 {
-    take_step(machine)?;
+    take_step(machine, work)?;
     first(program, machine, stack, inner, node)
 }

@@ -1,7 +1,7 @@
 ghost use Rattle.std.specs.Prelude.{◌≡◌};
 
 use paused_defs::{Doing, Frame};
-use thor_value::{Fault, NoMemory, Sequence};
+use thor_value::{Boxed, Fault, NoMemory, Sequence};
 
 /// Frames, the innermost first.
 pub type Frames = Sequence<Frame>;
@@ -9,8 +9,9 @@ pub type Frames = Sequence<Frame>;
 /// Why an evaluation by plain recursion doesn't go on.
 #[derive(Drop)]
 pub enum Unwound {
-    /// This is done next, in small steps, and the frames wait behind it.
-    Later { doing: Doing, frames: Frames },
+    /// This is done next, in small steps, and the frames wait behind it. It lies in memory of its own, so that what comes
+    /// of an evaluation is small.
+    Later { doing: Boxed<Doing>, frames: Frames },
     Faulted { fault: Fault },
     NoMemory,
 }

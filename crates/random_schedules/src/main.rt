@@ -1,15 +1,18 @@
 //! 10,000 random schedules of two clients over two plain repositories, with stops and restarts. Behind each, the commits of
 //! the histories, in the order of their timestamps, print what the transactions print one after the other; each item has
 //! one commit at most, and its outcome tells whether it has; no participant was told another verdict than the
-//! coordinator's; and a last client reads what the commits made.
+//! coordinator's; a last client reads what the commits made; and each copy that a client holds is right, or about to be
+//! called invalid.
 #![tactic(auto)]
 
+mod copies;
 mod deeds;
 mod draws;
 mod judging;
 mod playing;
 mod world;
 
+use crate::copies::all_fit;
 use crate::deeds::{Deed, ROOTS, Values, draw_deed};
 use crate::draws::Draws;
 use crate::judging::{Commit, are_atomic, are_serial, commits_of, is_told};
@@ -128,7 +131,8 @@ fn play_in(
 ) -> Result<bool, NoMemory> {
     let ended = run(world, draws, counts)?;
     let right = judge(alloc, world, deeds, counts)?;
-    Ok(ended && right)
+    let fits = all_fit(alloc, world, counts)?;
+    Ok(ended && right && fits)
 }
 
 fn play(alloc: Global, seed: u64, counts: &mut Counts) -> Result<bool, NoMemory> {
@@ -146,6 +150,7 @@ fn play_all(alloc: Global) -> Counts {
         unknown: 0,
         stopped: 0,
         restarted: 0,
+        copies: 0,
         wrong: 0,
     };
     for seed in 0..SCHEDULES {
@@ -161,14 +166,15 @@ fn play_all(alloc: Global) -> Counts {
 fn main(rt: HostRuntime) -> ExitCode {
     let counts = play_all(rt.alloc());
     let told = println!(rt;
-        "{} schedules, {} wrong; items: {} committed, {} refused, {} unknown; {} entries pending at the end, {} restarts",
+        "{} schedules, {} wrong; items: {} committed, {} refused, {} unknown; {} entries pending at the end, {} restarts; {} copies compared",
         counts.schedules,
         counts.wrong,
         counts.committed,
         counts.refused,
         counts.unknown,
         counts.stopped,
-        counts.restarted
+        counts.restarted,
+        counts.copies
     );
     if told.is_err() || counts.wrong != 0 {
         return ExitCode::FAILURE;

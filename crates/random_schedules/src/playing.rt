@@ -18,6 +18,7 @@ pub(crate) struct Counts {
     pub unknown: u64,
     pub stopped: u64,
     pub restarted: u64,
+    pub copies: u64,
     pub wrong: u64,
 }
 

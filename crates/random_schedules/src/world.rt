@@ -1,5 +1,7 @@
 //! Two clients over two plain repositories, and one more that looks at the end.
 
+ghost use Rattle.std.specs.Prelude.{◌<◌};
+
 use crate::deeds::{Deed, put_text};
 use class_defs::{Declarations, Object, Plain, Schema, Schemas, UpgradedSchemas};
 use front_end::{FrontEnd, Items, Opened};
@@ -14,10 +16,15 @@ use trace_reading::Opening;
 /// How many repositories there are.
 pub(crate) const REPOS: u8 = 2;
 
-/// How many times an item is tried, and how many pages a client caches.
+/// How many times an item is tried.
 const TRIES: u32 = 4;
 
-const CACHE: u32 = 2;
+/// How many pages a client holds between tries, of the two that there are: the first one has to fetch pages again.
+fn cache(client: u8) -> u32
+    ensures { 0 < result }
+{
+    if client == 1 { 1 } else { 2 }
+}
 
 const SETUP: &str = "setup
 free class Box {
@@ -147,7 +154,7 @@ fn client(alloc: Global, number: u8, items: Items) -> Result<FrontEnd, NoMemory>
     if items.len() > 1_000 {
         return Err(NoMemory);
     }
-    FrontEnd::new(alloc, number, items, TRIES, CACHE)
+    FrontEnd::new(alloc, number, items, TRIES, cache(number))
 }
 
 fn clients_of(alloc: Global, items: Vec<Items>) -> Result<Vec<FrontEnd>, NoMemory> {

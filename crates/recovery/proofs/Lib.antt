@@ -1,3 +1,4 @@
 pub mod Read
 pub mod Replayed
 pub mod FoundLaws
+pub mod Lost

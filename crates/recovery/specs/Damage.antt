@@ -1,13 +1,23 @@
 -- What is damage of the logs of a repository.
 
+use Rattle.std.specs.List.{fold}
 use Rattle.std.specs.Option.{IfSome}
-use Rattle.std.specs.Prelude.{List, None, Some, length, min, slice_get, sum_by, take, ℕ, ◌+◌, ◌-◌, ◌<◌, ◌^◌, ◌≡◌, ◌≤◌, ◌⊎◌}
+use Rattle.std.specs.Prelude.{List, None, Some, false, length, map, min, slice_get, sum_by, take, ℕ, ◌+◌, ◌-◌, ◌<◌, ◌^◌, ◌≡◌, ◌≤◌, ◌⊎◌}
+use Rattle.commit_log.specs.declared.entry.Entry.{Entry}
+use Rattle.held_state.specs.Entering.{can_enter}
+use Rattle.held_state.specs.Keeps.{Keeps}
+use Rattle.held_state.specs.Said.{said}
+use Rattle.held_state.specs.Unfit.{IsUnfit}
+use Rattle.held_state.specs.declared.held.Held.{Held}
 use Rattle.log_bytes.specs.Checkpoint.{state_format}
 use Rattle.log_bytes.specs.Format.{value_of}
 use Rattle.log_bytes.specs.Grammar.{body_format}
+use Rattle.log_bytes.specs.declared.body.Body.TheVariants.{Entry as AnEntry}
+use Rattle.log_bytes.specs.declared.body.Body.{Body}
+use Rattle.log_bytes.specs.declared.state.State.{State}
 use Rattle.log_frame.specs.Log.{Opened, Stands}
 use Rattle.state_log.specs.Opening.{IsTorn}
-use Rattle.state_log.specs.Recovered.{sequence_end}
+use Rattle.state_log.specs.Recovered.{after, sequence_end, stands, state_in}
 
 -- the place of the gate behind some records of a log with this head
 abbrev pub gate_behind : ℕ → List (List ℕ) → ℕ
@@ -34,6 +44,25 @@ pub record IsNoBody (first : ℕ) (bodies : List (List ℕ)) (place : ℕ) : Typ
 abbrev pub Counted : List ℕ → ℕ → Type 0
 Counted head count = IfSome (value_of state_format head) (λ s. s.count ≡ count)
 
+-- A record can't be taken into memory behind a state: it is an entry that can't come next where those before it were taken.
+pub record CantPut (s : State) (bodies : List Body) : Type 0 where
+  pub at : ℕ
+  pub held : Held
+  pub entry : Entry
+  pub keeps : Keeps held
+  pub before : said held ≡ fold after s (take at bodies)
+  pub is : slice_get bodies at ≡ Some (AnEntry entry)
+  pub refused : can_enter held entry ≡ false
+
+-- An open log can't be taken into memory: its checkpoint is none that a repository leaves, or one of its records can't come
+-- behind those before it.
+pub record IsUnheld (o : Opened) : Type 0 where
+  pub state : State
+  pub head : value_of state_format o.head ≡ Some state
+  pub bodies : List Body
+  pub records : map (value_of body_format) o.bodies ≡ map Some bodies
+  pub unfit : IsUnfit state ⊎ CantPut state bodies
+
 -- What is wrong at a place of an open log.
 pub data Fault (o : Opened) (place : ℕ) : Type 0 where
   -- its sequence is too great
@@ -43,8 +72,16 @@ pub data Fault (o : Opened) (place : ℕ) : Type 0 where
   -- the body of a record is none
   NoBody : IsNoBody (told_place (first_gate o.head)) o.bodies place → Fault o place
   -- its records can't be taken into memory
-  CantHold : place ≡ 0 → Fault o place
+  CantHold : IsUnheld o → place ≡ 0 → Fault o place
 
 -- This log disk is damaged at a place: by its frame, or by what the log has that counts.
 abbrev pub IsDamaged : (ℕ → List ℕ) → ℕ → ℕ → Type 0
 IsDamaged images d place = IsTorn images d place ⊎ ((o : Opened) × (Stands (images d) o × Fault o place))
+
+-- the log that counts can't be taken into memory
+pub record StandsUnheld (images : ℕ → List ℕ) : Type 0 where
+  pub disk : ℕ
+  pub opened : Opened
+  pub on : Stands (images disk) opened
+  pub counts : stands images ≡ state_in opened
+  pub unheld : IsUnheld opened

@@ -1,17 +1,22 @@
 ghost use Rattle.std.specs.List.{AllByRecursion, fold};
 ghost use Rattle.std.specs.Option.{IfSome, IsSome, option_and_then, option_map};
-ghost use Rattle.std.specs.Prelude.{◌≡◌, ◌<◌, ◌^◌, ◌≤◌, IfOk, IsErrOf, List, None, Ok, OnOk, Some, ℕ};
+ghost use Rattle.std.specs.Prelude.{◌≡◌, ◌<◌, ◌^◌, ◌≤◌, ◌⊎◌, Err, IfOk, IsErrOf, List, None, Ok, OnOk, Some, false, ℕ};
 ghost use Rattle.disk_trait.specs.AllDisks.{AllSettled, LeavesAll, MayLeaveAll, ReadsAs, SameContent};
 ghost use Rattle.disk_trait.specs.Disks.{Disks, Rose};
+ghost use Rattle.commit_log.specs.declared.entry.Entry.{Entry as AnyEntry};
+ghost use Rattle.held_state.specs.Entering.{can_enter};
 ghost use Rattle.held_state.specs.Keeps.{IsUnread, Keeps};
 ghost use Rattle.held_state.specs.Said.{said};
+ghost use Rattle.held_state.specs.Unfit.{IsUnfit};
+ghost use Rattle.held_state.specs.declared.fault.HoldFault.TheVariants.{Unfit};
 ghost use Rattle.log_bytes.specs.Checkpoint.{StateFits};
 ghost use Rattle.log_bytes.specs.Grammar.{BodyFits};
+ghost use Rattle.log_bytes.specs.declared.body.Body.TheVariants.{Entry as AnEntry};
 ghost use Rattle.log_bytes.specs.declared.state.State.{State as AState};
 ghost use Rattle.log_frame.specs.Log.{Stands};
 ghost use Rattle.page_store.specs.Sides.{ReachesSides};
 ghost use Rattle.page_store.specs.Store.{Agrees};
-ghost use Rattle.recovery.specs.Damage.{Counted, Fault, IsDamaged};
+ghost use Rattle.recovery.specs.Damage.{CantPut, Counted, Fault, IsDamaged, StandsUnheld};
 ghost use Rattle.recovery.specs.Found.{IsRecovered};
 ghost use Rattle.recovery.specs.declared.fault.RecoverFault.TheVariants.{Damaged, Failed};
 ghost use Rattle.state_log.specs.Holds.{Holds};
@@ -54,6 +59,7 @@ pub fn recover<P: Parts>(
     ensures found { (images : ℕ → List ℕ) → ReadsAs (P.disks parts.old) images → IfOk result (λ found. stands images ≡ option_map (λ r. said r.state) found) }
     ensures fresh { (images : ℕ → List ℕ) → ReadsAs (P.disks parts.old) images → result ≡ Ok None → IsFresh images }
     ensures damaged { (images : ℕ → List ℕ) (d place : ℕ) → ReadsAs (P.disks parts.old) images → IsErrOf result (Damaged d place) → IsDamaged images d place }
+    ensures lost { (images : ℕ → List ℕ) (d place : ℕ) → ReadsAs (P.disks parts.old) images → IsErrOf result (Damaged d place) → (stands images ≡ None) ⊎ StandsUnheld images }
     ensures failed { (d : ℕ) → IsErrOf result (Failed d) → Rose ((P.disks parts.old).faults d) ((P.disks parts.new).faults d) }
 {
     match open_logs(alloc, parts) {
@@ -138,7 +144,7 @@ fn hold_on(
     ensures unread { IfOk result (λ held. IsUnread held.objects.pages) }
     ensures limit { IfOk result (λ held. held.objects.mob.limit ≡ mob_limit) }
     ensures said { IfOk result (λ held. said held ≡ fold after state bodies.now) }
-    ensures damaged { (d place : ℕ) → IsErrOf result (Damaged d place) → (d ≡ disk) × (place ≡ 0) }
+    ensures damaged { (d place : ℕ) → IsErrOf result (Damaged d place) → (d ≡ disk) × (place ≡ 0) × (IsUnfit state ⊎ CantPut state bodies.now) }
     ensures failed { (d : ℕ) → IsErrOf result (Failed d) → ⊥ }
 {
     match hold(alloc, state, bodies, mob_limit) {
@@ -161,6 +167,7 @@ fn hold(
     ensures unread { IfOk result (λ held. IsUnread held.objects.pages) }
     ensures limit { IfOk result (λ held. held.objects.mob.limit ≡ mob_limit) }
     ensures said { IfOk result (λ held. said held ≡ fold after state bodies.now) }
+    ensures unfit { result ≡ Err Unfit → IsUnfit state ⊎ CantPut state bodies.now }
 {
     let mut held = HeldState::of(alloc, state, mob_limit)?;
     put_all(&mut held, bodies.as_slice())?;
@@ -176,6 +183,7 @@ fn put_all(held: &mut HeldState, bodies: &[Body]) -> Result<(), HoldFault>
     ensures unread { OnOk result (IsUnread held.new.objects.pages) }
     ensures limit { OnOk result (held.new.objects.mob.limit ≡ held.old.objects.mob.limit) }
     ensures said { OnOk result (said held.new ≡ fold after (said held.old) bodies.now) }
+    ensures unfit { result ≡ Err Unfit → CantPut (said held.old) bodies.now }
 {
     for body in bodies {
         put_behind(held, body)?;
@@ -193,6 +201,7 @@ fn put_behind(held: &mut HeldState, body: &Body) -> Result<(), HoldFault>
     ensures unread { OnOk result (IsUnread held.new.objects.pages) }
     ensures limit { OnOk result (held.new.objects.mob.limit ≡ held.old.objects.mob.limit) }
     ensures said { OnOk result (said held.new ≡ after (said held.old) body.now) }
+    ensures unfit { result ≡ Err Unfit → (entry : AnyEntry) × (body.now ≡ AnEntry entry) × (can_enter held.old entry ≡ false) }
 {
     match body {
         Body::Entry(entry) => {

@@ -1,6 +1,7 @@
 pub mod Alike
 pub mod Asking
 pub mod Begun
+pub mod Causes
 pub mod Entered
 pub mod Falls
 pub mod Judged

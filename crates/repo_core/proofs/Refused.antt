@@ -13,14 +13,14 @@ use Rattle.validation_window.specs.declared.refusal.Refusal.{Refusal}
 use Rattle.volatile_state.proofs.Lasting.{lasts_itself, lasts_on, stayed}
 use Rattle.volatile_state.specs.Volatile.{Memory, Outlasts}
 
-no_fault : (b : Bool) → b ≡ false → b ≡ true → ⊥
+pub no_fault : (b : Bool) → b ≡ false → b ≡ true → ⊥
 no_fault b f t = cc
 
 no_torn : (b : Bool) → b ≡ true → b ≡ false → ⊥
 no_torn b t f = cc
 
 pub stays_itself : (x : Shown) → StaysAsWas x x
-stays_itself x = record { held = refl; memory = refl; pending = refl; torn = refl }
+stays_itself x = record { held = refl; memory = refl; pending = refl; torn = refl; logs = refl; pages = refl }
 
 pub leaves_so : (x y : Shown) (e : Option Entry) (r : Refusal) → is_fault r ≡ false → StaysAsWas x y → Leaves x y e r
 leaves_so x y e r is so = record { fault = λ f. absurd (no_fault (is_fault r) is f); other = λ f. so }
@@ -101,7 +101,7 @@ pub why_refused : (Q : Refusal → Type 0) (up : Bool) (r s : Refusal) → up �
 why_refused Q up r s is same q m = (is, subst Q (sym (same m)) q)
 
 pub stays_on : (x y z : Shown) → StaysAsWas x y → StaysAsWas y z → StaysAsWas x z
-stays_on x y z a b = record { held = b.held ∙ a.held; memory = b.memory ∙ a.memory; pending = b.pending ∙ a.pending; torn = b.torn ∙ a.torn }
+stays_on x y z a b = record { held = b.held ∙ a.held; memory = b.memory ∙ a.memory; pending = b.pending ∙ a.pending; torn = b.torn ∙ a.torn; logs = b.logs ∙ a.logs; pages = b.pages ∙ a.pages }
 
 -- a refusal behind what changed nothing
 pub leaves_on : (x y z : Shown) (e : Option Entry) (r : Refusal) → x.is_up ≡ true → StaysAsWas x y → Leaves y z e r → Leaves x z e r

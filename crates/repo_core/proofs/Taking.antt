@@ -5,17 +5,21 @@ use Rattle.held_state.specs.declared.held.Held.{Held}
 use Rattle.repo_core.proofs.Refused.{falls_behind, moved_none, moved_on}
 use Rattle.repo_core.specs.Behind.{MovesObjects}
 use Rattle.repo_core.specs.Refusing.{GoesDown, Moved}
-use Rattle.repo_core.specs.Restarting.{ComesUp, DropsEarlier, FailsBehind, Recovers, StaysDown, Takes, TakesNone, life_behind}
-use Rattle.repo_core.specs.Shown.{Shown}
+use Rattle.repo_core.specs.Restarting.{AllTold, ComesUp, DropsEarlier, FailsBehind, Recovers, StaysDown, Takes, TakesNone, content_of, life_behind}
+use Rattle.repo_core.specs.Shown.{Shown, shown}
 use Rattle.repository_laws.specs.Coming.{BeginsLife}
 use Rattle.repository_laws.specs.Running.{came_with}
-use Rattle.stable_store.specs.Kept.{is_torn_in, is_up_in, lowered, pending_in}
+use Rattle.disk_trait.specs.AllDisks.{TellsAll}
+use Rattle.disk_trait.specs.Disks.{Disks}
+use Rattle.stable_store.specs.Saying.{GivesUnheld}
+use Rattle.stable_store.specs.declared.stable.Stable.{Stable}
+use Rattle.stable_store.specs.Kept.{disks_of, is_torn_in, is_up_in, lowered, pending_in}
 use Rattle.stable_store.specs.declared.stable.Phase.TheVariants.{Down, Torn, Up}
 use Rattle.stable_store.specs.declared.stable.Phase.{Phase}
 use Rattle.stable_store.specs.Taking.{TakesFrom}
 use Rattle.stable_store.specs.declared.recovering.Taken.TheVariants as taken
 use Rattle.stable_store.specs.declared.recovering.Taken.{Taken}
-use Rattle.std.proofs.Common.{Bool, Err, Ok, OnOk, Option, Result, ap, false, inl, inr, refl, subst, sym, true, ◌∙◌, ◌≡◌}
+use Rattle.std.proofs.Common.{Bool, Err, List, Ok, OnOk, Option, Result, ap, arith, false, inl, inr, refl, subst, suc, sym, true, zero, ◌<◌, ◌∙◌, ◌≡◌, ℕ}
 use Rattle.std.specs.Prelude.{None, Some, ◌⊎◌}
 use Rattle.thor_value.specs.FiniteMap.{Set}
 use Rattle.thor_value.specs.Names.{ts_cmp}
@@ -135,3 +139,25 @@ pub takes_after : (x y z : Shown) (p : Phase) (t : Taken) (e : Entry) → x.is_t
 takes_after x y z p t e torn up pending whole from is moves limit trace memory held stays recorded requested sessions =
     let there : pending_in p ≡ Some e = taken_from (pending_in p) t e is from in
     takes_pending x y z e (torn ∙ whole) (up ∙ down_with_it p e there whole) (pending ∙ there) moves limit trace memory held stays recorded requested sessions
+
+-- ---- what is told of disks
+
+told_by : (P : ℕ → Option (List ℕ)) (Q : ℕ → Option (List ℕ)) → P 0 ≡ Q 0 → P 1 ≡ Q 1 → P 2 ≡ Q 2 → (d : ℕ) → d < 3 → P d ≡ Q d
+told_by P Q zeroth first second zero within = zeroth
+told_by P Q zeroth first second (suc zero) within = first
+told_by P Q zeroth first second (suc (suc zero)) within = second
+told_by P Q zeroth first second (suc (suc (suc n))) within = absurd (omega (arith, within))
+
+-- what is shown as told is told by the disks
+pub tells_shown : {P : Type 0} (disks : P → Disks) (store : Stable P) (M : Memory) (t : Recorded) (n : ℕ) (x : Shown) → shown disks store M t n ≡ x → AllTold x → TellsAll (disks_of disks store)
+tells_shown disks store M t n x is told = λ d within.
+    let there = subst AllTold (sym is) told d within in
+    (there.0, sym (told_by (content_of (shown disks store M t n)) (disks_of disks store).content refl refl refl d within) ∙ there.1)
+
+-- and the other way
+pub unheld_shown : {P : Type 0} (disks : P → Disks) (store : Stable P) (M : Memory) (t : Recorded) (n : ℕ) (x : Shown) → shown disks store M t n ≡ x → GivesUnheld (disks_of disks store).content → GivesUnheld (content_of x)
+unheld_shown disks store M t n x is gives = subst (λ (y : Shown). GivesUnheld (content_of y)) is (record {
+  bytes = gives.bytes;
+  told = λ d within. told_by (content_of (shown disks store M t n)) (disks_of disks store).content refl refl refl d within ∙ gives.told d within;
+  unheld = gives.unheld;
+})

@@ -88,3 +88,9 @@ pub record WasAsked (old new : Shown) (floor : ℕ) : Type 0 where
   pub now : ℕ
   pub clock : new.clock ≡ max old.clock now
   pub late : 2 ^ 62 ≤ drawn_time now old.memory.drawn floor
+
+-- the clock was asked once, and with what it gave this time is drawn above the floor
+pub record IsDrawn (old new : Shown) (floor time : ℕ) : Type 0 where
+  pub now : ℕ
+  pub clock : new.clock ≡ max old.clock now
+  pub drawn : time ≡ drawn_time now old.memory.drawn floor

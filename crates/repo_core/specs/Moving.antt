@@ -6,13 +6,21 @@ use Rattle.repo_core.specs.Behind.{MovesObjects}
 use Rattle.repo_core.specs.Shown.{Shown}
 use Rattle.stable_store.specs.Kept.{held_of, is_torn, pending}
 use Rattle.stable_store.specs.declared.stable.Stable.{Stable}
-use Rattle.std.specs.Prelude.{List, Some, false, ◌≡◌, ◌≤◌}
+use Rattle.std.specs.Option.{IfSome}
+use Rattle.std.specs.Prelude.{Bool, List, Some, false, true, ◌≡◌, ◌≤◌}
 use Rattle.thor_value.specs.declared.names.Oref.{Oref}
+use Rattle.thor_value.specs.declared.names.Ts.{Ts}
 use Rattle.thor_value.specs.declared.values.Obj.{Obj}
+use Rattle.two_phase.specs.Contents.{open_at}
 
 -- the buffer keeps its limit with these writes
 abbrev pub HasRoom : Held → List (Oref × Obj) → Type 0
 HasRoom h writes = bytes_of (with_all h.objects.mob.objects writes) ≤ h.objects.mob.limit
+
+-- the same with the writes of a transaction that is open, where it commits
+abbrev pub HasRoomFor : Held → Ts → Bool → Type 0
+HasRoomFor h t true = IfSome (open_at h.table t) (λ q. HasRoom h q.writes)
+HasRoomFor h t false = Unit {0}
 
 -- objects moved to their pages, and all else stays
 pub record MakesRoom (old new : Shown) : Type 0 where

@@ -1,11 +1,32 @@
--- What stands behind a refusal.
+-- Why a call is refused, and what stands behind a refusal.
 use Rattle.commit_log.specs.declared.entry.Entry.{Entry}
+use Rattle.live_sessions.specs.Sessions.{is_live}
+use Rattle.refusal_reasons.specs.declared.reason.Reason.TheVariants.{Gone}
+use Rattle.refusal_reasons.specs.declared.reason.Reason.{Reason}
 use Rattle.repo_core.specs.Behind.{MovesObjects}
 use Rattle.repo_core.specs.Shown.{Shown}
 use Rattle.stable_store.specs.Kept.{is_fault}
-use Rattle.std.specs.Prelude.{None, Option, Some, false, true, ◌≡◌, ◌⊎◌}
+use Rattle.std.specs.Prelude.{None, Option, Some, false, true, ℕ, ◌≡◌, ◌⊎◌}
+use Rattle.validation_window.specs.declared.refusal.Refusal.TheVariants as refused
 use Rattle.validation_window.specs.declared.refusal.Refusal.{Refusal}
-use Rattle.volatile_state.specs.Volatile.{Outlasts}
+use Rattle.volatile_state.specs.Volatile.{Memory, Outlasts}
+
+-- Why the repository x refuses a call: with `Down` where it is down; where it is up, with a reason that stands against the call,
+-- by a fault of a disk where the call comes to one, or for want of memory.
+pub record CanRefuse (x : Shown) (Against : Refusal → Type 0) (CallsDisks : Type 0) (r : Refusal) : Type 0 where
+  pub down : (n : ℕ) → r ≡ refused.Down n → (x.is_up ≡ false) × (n ≡ x.held.repo)
+  pub reason : (q : Reason) → r ≡ refused.Reason q → (x.is_up ≡ true) × Against r
+  pub stopped : (n : ℕ) → r ≡ refused.Stopped n → (x.is_up ≡ true) × CallsDisks × (n ≡ x.held.repo)
+  pub damaged : (n place : ℕ) → r ≡ refused.Damaged n place → (x.is_up ≡ true) × CallsDisks × (n ≡ x.held.repo)
+  pub memory : r ≡ refused.NoMemory → x.is_up ≡ true
+
+-- no reason stands against a call
+abbrev pub HasNoReason : Refusal → Type 0
+HasNoReason r = ⊥
+
+-- a call of a session is refused since it isn't live
+abbrev pub IsGone : Memory → ℕ → Refusal → Type 0
+IsGone M s r = (r ≡ refused.Reason (Gone s)) × (is_live M.sessions s ≡ false)
 
 -- objects moved, and the buffer's limit stays
 pub record Moved (old new : Shown) : Type 0 where
@@ -20,12 +41,14 @@ pub record GoesDown (old new : Shown) (entry : Option Entry) : Type 0 where
   pub memory : Outlasts old.memory new.memory
   pub pending : new.is_torn ≡ false → (new.pending ≡ None) ⊎ (new.pending ≡ entry)
 
--- nothing has changed but the trace
+-- nothing has changed but the trace and the clock, of which calls have clauses of their own
 pub record StaysAsWas (old new : Shown) : Type 0 where
   pub held : new.held ≡ old.held
   pub memory : new.memory ≡ old.memory
   pub pending : new.pending ≡ old.pending
   pub torn : new.is_torn ≡ old.is_torn
+  pub logs : new.logs ≡ old.logs
+  pub pages : new.pages ≡ old.pages
 
 -- What a refusal of a call leaves that may have been writing an entry. The trace has clauses of its own.
 pub record Leaves (old new : Shown) (entry : Option Entry) (r : Refusal) : Type 0 where

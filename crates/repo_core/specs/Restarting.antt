@@ -11,7 +11,7 @@ use Rattle.repo_core.specs.Shown.{Shown}
 use Rattle.repository_laws.specs.Coming.{BeginsLife}
 use Rattle.repository_laws.specs.Running.{held_with, recorded_with, requested_with}
 use Rattle.std.specs.Option.{IfSome}
-use Rattle.std.specs.Prelude.{None, Option, Some, false, ℕ, ◌+◌, ◌≡◌, ◌≤◌, ◌⊎◌}
+use Rattle.std.specs.Prelude.{List, None, Option, Some, false, suc, zero, ℕ, ◌+◌, ◌<◌, ◌≡◌, ◌≤◌, ◌⊎◌}
 use Rattle.store_format.specs.Fresh.{IsFresh}
 use Rattle.thor_value.specs.FiniteMap.{IsSorted, empty, get, has}
 use Rattle.thor_value.specs.declared.names.Ts.{Ts}
@@ -58,6 +58,16 @@ pub record Recovers (old new : Shown) : Type 0 where
 -- the Life that is written behind what was recovered
 abbrev pub life_behind : Shown → Entry
 life_behind x = Life (x.held.life + 1)
+
+-- the bytes of each disk, where they are told
+abbrev pub content_of : Shown → ℕ → Option (List ℕ)
+content_of x zero = x.logs.0
+content_of x (suc zero) = x.logs.1
+content_of x (suc (suc n)) = x.pages
+
+-- every disk tells its bytes
+abbrev pub AllTold : Shown → Type 0
+AllTold x = (d : ℕ) → d < 3 → (bytes : List ℕ) × (content_of x d ≡ Some bytes)
 
 -- It comes up: behind what was recovered a life begins.
 pub record ComesUp (old new : Shown) : Type 0 where

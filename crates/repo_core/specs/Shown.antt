@@ -1,6 +1,9 @@
 -- What contracts see of a repository.
 use Rattle.commit_log.specs.declared.entry.Entry.{Entry}
+use Rattle.disk_trait.specs.Disks.{Disks}
 use Rattle.held_state.specs.declared.held.Held.{Held}
+use Rattle.stable_store.specs.Kept.{disks_of, held_of, is_torn, is_up, pending}
+use Rattle.stable_store.specs.declared.stable.Stable.{Stable}
 use Rattle.std.specs.Prelude.{Bool, List, Option, ℕ}
 use Rattle.trace_record.specs.Recorded.{Recorded}
 use Rattle.volatile_state.specs.Volatile.{Memory}
@@ -19,7 +22,24 @@ pub record Shown : Type 0 where
   pub pending : Option Entry
   -- whether what is held is no state of its log, so that it doesn't come up again
   pub is_torn : Bool
+  -- the bytes of its two log disks, where they are told
+  pub logs : Option (List ℕ) × Option (List ℕ)
   -- the bytes of its disk of pages, where they are told
   pub pages : Option (List ℕ)
   -- the greatest number that its clock gave, 0 before the first
   pub clock : ℕ
+
+-- what is shown of these parts of a repository
+abbrev pub shown : {P : Type 0} → (P → Disks) → Stable P → Memory → Recorded → ℕ → Shown
+shown disks stable memory trace opened_in = record {
+  held = held_of stable;
+  is_up = is_up stable;
+  memory = memory;
+  trace = trace;
+  opened_in = opened_in;
+  pending = pending stable;
+  is_torn = is_torn stable;
+  logs = ((disks_of disks stable).content 0, (disks_of disks stable).content 1);
+  pages = (disks_of disks stable).content 2;
+  clock = (disks_of disks stable).clock;
+}

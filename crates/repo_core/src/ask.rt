@@ -1,7 +1,8 @@
 //! A coordinator is asked.
 
-ghost use Rattle.std.specs.Prelude.{◌≡◌, IfOk};
+ghost use Rattle.std.specs.Prelude.{◌≡◌, IfErr, IfOk, false};
 ghost use Rattle.repo_core.specs.Behind.{IsAsked, Stands};
+ghost use Rattle.validation_window.specs.declared.refusal.Refusal.TheVariants.{Down as IsDown};
 
 use crate::repo::Repo;
 use disk_trait::Parts;
@@ -18,6 +19,7 @@ impl<P: Parts> Repo<P> {
     pub fn ask(&mut self, tx: Ts) -> Result<Asked, Refusal>
         ensures same { self.new ≡ self.old }
         ensures stands { Stands self.old.is_up result self.new.is_up }
+        ensures why { IfErr result (λ r. (r ≡ IsDown self.old.held.repo) × (self.old.is_up ≡ false)) }
         ensures answer { IfOk result (IsAsked self.old.held tx) }
     {
         self.check_up()?;

@@ -2,7 +2,7 @@
 
 ghost use Rattle.std.specs.Prelude.{◌≡◌, IfErr};
 ghost use Rattle.repo_core.specs.Behind.{Stands};
-ghost use Rattle.repo_core.specs.Refusing.{Rests};
+ghost use Rattle.repo_core.specs.Refusing.{CanRefuse, HasNoReason, Rests};
 ghost use Rattle.repo_core.specs.Restarting.{DropsEarlier};
 
 use crate::repo::Repo;
@@ -12,13 +12,16 @@ use validation_window::Refusal;
 impl<P: Parts> Repo<P> {
     /// Begins a log on the other log disk with all that the present one stands for, but for decisions that are
     /// forgotten or of earlier openings.
-    #[tactic(auto, using(crate::proofs::Refused::rests_down, crate::proofs::Refused::rests_so))]
+    #[tactic(auto, using(crate::proofs::Refused::rests_down, crate::proofs::Refused::rests_so, crate::proofs::Causes::why_down, crate::proofs::Causes::stands_refused))]
     pub fn checkpoint(&mut self) -> Result<(), Refusal>
         ensures stands { Stands self.old.is_up result self.new.is_up }
         ensures memory { self.new.memory ≡ self.old.memory }
         ensures trace { self.new.trace ≡ self.old.trace }
         ensures held { DropsEarlier self.old self.new }
+        ensures why { IfErr result (CanRefuse self.old HasNoReason (Unit {0})) }
         ensures rests { IfErr result (Rests self.old self.new) }
+        ensures pages { self.new.pages ≡ self.old.pages }
+        ensures clock { self.new.clock ≡ self.old.clock }
         ensures opened { self.new.opened_in ≡ self.old.opened_in }
     {
         self.check_up()?;

@@ -8,7 +8,7 @@ ghost use Rattle.held_state.specs.Entering.{entered as entered_in};
 ghost use Rattle.repository_laws.specs.Coming.{Moves};
 ghost use Rattle.trace_record.specs.Recorded.{with_entry};
 ghost use Rattle.volatile_state.specs.Volatile.{verdict};
-ghost use Rattle.repo_core.specs.Refusing.{Leaves, made_of};
+ghost use Rattle.repo_core.specs.Refusing.{CanRefuse, Leaves, made_of};
 ghost use Rattle.repo_core.specs.Telling.{Tells};
 
 use crate::repo::Repo;
@@ -19,13 +19,14 @@ use validation_window::Refusal;
 impl<P: Parts> Repo<P> {
     /// Commits a transaction that has this one participant, and tells the other sessions. Answer and refusals
     /// are those of `prepare`.
-    #[tactic(auto, using(crate::proofs::Refused::leaves_down, crate::proofs::Refused::leaves_written, crate::proofs::Judged::accepted))]
+    #[tactic(auto, using(crate::proofs::Refused::leaves_down, crate::proofs::Refused::leaves_written, crate::proofs::Judged::accepted, crate::proofs::Causes::why_down, crate::proofs::Causes::why_fault, crate::proofs::Causes::why_marked, crate::proofs::Causes::has_fault))]
     pub fn commit_one(&mut self, session: u32, request: Request) -> Result<u64, Refusal>
         requires { MayRequest self.old.held self.old.memory request true }
         ensures stands { Stands self.old.is_up result self.new.is_up }
         ensures accepted { OnOk result (verdict self.old.memory (epoch_of self.old.held) session request ≡ None) }
         ensures judged { OnOk result (judged self.old.held self.old.memory session request ≡ None) }
         ensures why { IfErr result (λ r. is_marked r ≡ true → (self.old.is_up ≡ true) × (judged self.old.held self.old.memory session request ≡ Some r)) }
+        ensures only { IfErr result (CanRefuse self.old (λ r. judged self.old.held self.old.memory session request ≡ Some r) (judged self.old.held self.old.memory session request ≡ None)) }
         ensures place { IfOk result (λ place. place ≡ length self.old.trace.history) }
         ensures held { OnOk result (HasMoved self.old.held (alone_entry request.kind request) self.new.held) }
         ensures room { HasRoom self.old.held request.writes → OnOk result (self.new.held ≡ entered_in self.old.held (alone_entry request.kind request)) }
@@ -36,6 +37,7 @@ impl<P: Parts> Repo<P> {
         ensures trace { OnOk result (self.new.trace ≡ with_entry self.old.trace (alone_entry request.kind request)) }
         ensures refused { IfErr result (λ r. self.new.trace ≡ with_refusal self.old.trace session (Some request) r) }
         ensures left { IfErr result (Leaves self.old self.new (made_of (judged self.old.held self.old.memory session request) (alone_entry request.kind request))) }
+        ensures clock { self.new.clock ≡ self.old.clock }
         ensures opened { self.new.opened_in ≡ self.old.opened_in }
     {
         self.check_up()?;

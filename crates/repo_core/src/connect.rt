@@ -5,7 +5,7 @@ ghost use Rattle.live_sessions.specs.Sessions.{begun};
 ghost use Rattle.repo_core.specs.Behind.{Stands, epoch_of};
 ghost use Rattle.session_outbox.specs.declared.mark.Mark.TheVariants.{Connected as Connects};
 ghost use Rattle.trace_record.specs.Recorded.{with_mark};
-ghost use Rattle.repo_core.specs.Refusing.{Leaves};
+ghost use Rattle.repo_core.specs.Refusing.{CanRefuse, HasNoReason, Leaves};
 ghost use Rattle.volatile_state.specs.Volatile.{Outlasts};
 
 use crate::repo::Repo;
@@ -17,13 +17,16 @@ use validation_window::Refusal;
 
 impl<P: Parts> Repo<P> {
     /// Begins a session of the client, and ends its older one.
-    #[tactic(auto, using(crate::proofs::Refused::leaves_given_back, crate::proofs::Refused::leaves_down, crate::proofs::Refused::falls_with, crate::proofs::Refused::moved_none, volatile_state::proofs::Lasting::stayed))]
+    #[tactic(auto, using(crate::proofs::Refused::leaves_given_back, crate::proofs::Refused::leaves_down, crate::proofs::Refused::falls_with, crate::proofs::Refused::moved_none, volatile_state::proofs::Lasting::stayed, crate::proofs::Causes::why_down, crate::proofs::Causes::why_memory))]
     pub fn connect(&mut self, client: u8) -> Result<Welcome, Refusal>
         ensures stands { Stands self.old.is_up result self.new.is_up }
         ensures held { self.new.held ≡ self.old.held }
         ensures trace { IfOk result (λ w. self.new.trace ≡ with_mark self.old.trace (Connects w.session client)) }
         ensures refused { OnErr result (self.new.trace ≡ self.old.trace) }
         ensures left { IfErr result (Leaves self.old self.new None) }
+        ensures why { IfErr result (CanRefuse self.old HasNoReason ⊥) }
+        ensures pages { self.new.pages ≡ self.old.pages }
+        ensures clock { self.new.clock ≡ self.old.clock }
         ensures opened { self.new.opened_in ≡ self.old.opened_in }
         ensures begun { IfOk result (λ w. self.new.memory ≡ record self.old.memory { sessions = begun self.old.memory.sessions client w.session }) }
         ensures number { IfOk result (λ w. w.session ≡ self.old.memory.sessions.last + 1) }
@@ -66,6 +69,8 @@ impl<P: Parts> Repo<P> {
         ensures lasts { OnErr result (Outlasts self.old.memory self.new.memory) }
         ensures pending { self.new.pending ≡ self.old.pending }
         ensures torn { self.new.is_torn ≡ self.old.is_torn }
+        ensures pages { self.new.pages ≡ self.old.pages }
+        ensures clock { self.new.clock ≡ self.old.clock }
         ensures opened { self.new.opened_in ≡ self.old.opened_in }
     {
         let upgrades = self.stable.held().upgrades().copy()?;

@@ -5,10 +5,10 @@ ghost use Rattle.live_sessions.specs.Sessions.{is_live};
 ghost use Rattle.repo_core.specs.Behind.{Stands, is_marked, with_refusal};
 ghost use Rattle.session_outbox.specs.declared.mark.Mark.TheVariants.{Drew as Draws};
 ghost use Rattle.trace_record.specs.Recorded.{with_mark};
-ghost use Rattle.repo_core.specs.Refusing.{Leaves, StaysAsWas};
-ghost use Rattle.repo_core.specs.Calls.{DrawIsRefused, WasAsked};
+ghost use Rattle.repo_core.specs.Refusing.{CanRefuse, Leaves, StaysAsWas};
+ghost use Rattle.repo_core.specs.Calls.{DrawIsRefused, IsDrawn, WasAsked};
 ghost use Rattle.refusal_reasons.specs.declared.reason.Reason.TheVariants.{ClockEnd as IsClockEnd, Gone as IsGone};
-ghost use Rattle.validation_window.specs.declared.refusal.Refusal.TheVariants.{Reason as IsReason};
+ghost use Rattle.validation_window.specs.declared.refusal.Refusal.TheVariants.{Down as IsDown, NoMemory as IsNoMemory, Reason as IsReason};
 
 use crate::repo::Repo;
 use disk_trait::Parts;
@@ -23,7 +23,7 @@ const CLOCK_END: u64 = 1 << 62;
 impl<P: Parts> Repo<P> {
     /// Draws a timestamp: its time is above the floor and above all that were drawn before, and isn't below
     /// the clock's. Refusals: `Gone`; `ClockEnd`, behind which the clock was asked once.
-    #[tactic(auto, using(crate::proofs::Refused::leaves_down, crate::proofs::Refused::leaves_on, crate::proofs::Asking::asked_refused, crate::proofs::Asking::unasked_refused))]
+    #[tactic(auto, using(crate::proofs::Refused::leaves_down, crate::proofs::Refused::leaves_on, crate::proofs::Asking::asked_refused, crate::proofs::Asking::unasked_refused, crate::proofs::Causes::why_down, crate::proofs::Causes::why_marked, crate::proofs::Causes::lacks_memory))]
     pub fn draw(&mut self, session: u32, floor: u64) -> Result<Ts, Refusal>
         ensures stands { Stands self.old.is_up result self.new.is_up }
         ensures live { OnOk result (is_live self.old.memory.sessions session ≡ true) }
@@ -36,10 +36,14 @@ impl<P: Parts> Repo<P> {
         ensures drawn { IfOk result (λ ts. self.new.memory ≡ record self.old.memory { drawn = ts.time }) }
         ensures trace { IfOk result (λ ts. self.new.trace ≡ with_mark self.old.trace (Draws session ts)) }
         ensures why { IfErr result (λ r. is_marked r ≡ true → (self.old.is_up ≡ true) × DrawIsRefused self.old.memory session floor r) }
+        ensures only { IfErr result (CanRefuse self.old (DrawIsRefused self.old.memory session floor) ⊥) }
         ensures refused { IfErr result (λ r. self.new.trace ≡ with_refusal self.old.trace session None r) }
         ensures left { IfErr result (Leaves self.old self.new None) }
         ensures asked { IsErrOf result (IsReason IsClockEnd) → WasAsked self.old self.new floor }
         ensures unasked { IsErrOf result (IsReason (IsGone session)) → self.new.clock ≡ self.old.clock }
+        ensures idle { IfErr result (λ r. r ≡ IsDown self.old.held.repo → self.new.clock ≡ self.old.clock) }
+        ensures time { IfOk result (λ ts. IsDrawn self.old self.new floor ts.time) }
+        ensures pages { self.new.pages ≡ self.old.pages }
         ensures opened { self.new.opened_in ≡ self.old.opened_in }
     {
         self.check_up()?;
@@ -63,6 +67,7 @@ impl<P: Parts> Repo<P> {
         ensures rests { StaysAsWas self.old self.new }
         ensures asked { IsErrOf result (IsReason IsClockEnd) → WasAsked self.old self.new floor }
         ensures unasked { IsErrOf result (IsReason (IsGone session)) → self.new.clock ≡ self.old.clock }
+        ensures drawn { IfOk result (IsDrawn self.old self.new floor) }
         ensures opened { self.new.opened_in ≡ self.old.opened_in }
     {
         self.check_live(session)?;
@@ -86,6 +91,9 @@ impl<P: Parts> Repo<P> {
         ensures trace { IfOk result (λ ts. self.new.trace ≡ with_mark self.old.trace (Draws session ts)) }
         ensures refused { IfErr result (λ r. (is_marked r ≡ false) × (self.new.trace ≡ self.old.trace)) }
         ensures left { IfErr result (Leaves self.old self.new None) }
+        ensures refusal { IfErr result (λ r. r ≡ IsNoMemory) }
+        ensures pages { self.new.pages ≡ self.old.pages }
+        ensures clock { self.new.clock ≡ self.old.clock }
         ensures opened { self.new.opened_in ≡ self.old.opened_in }
     {
         let ts = Ts {

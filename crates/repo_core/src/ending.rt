@@ -68,6 +68,7 @@ impl<P: Parts> Repo<P> {
         ensures fault { IfErr result (λ r. (is_fault r ≡ true) × (is_marked r ≡ false)) }
         ensures falls { IfErr result (λ r. (is_fault r ≡ true) × ((e : Option AnEntry) → GoesDown self.old self.new e)) }
         ensures leaves { IfErr result (λ r. (e : Option AnEntry) → Leaves self.old self.new e r) }
+        ensures pages { self.new.pages ≡ self.old.pages }
         ensures clock { self.new.clock ≡ self.old.clock }
         ensures opened { self.new.opened_in ≡ self.old.opened_in }
     {

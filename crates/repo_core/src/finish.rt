@@ -8,7 +8,8 @@ ghost use Rattle.repository_laws.specs.Coming.{Moves};
 ghost use Rattle.thor_value.specs.FiniteMap.{has};
 ghost use Rattle.trace_record.specs.Recorded.{with_entry};
 ghost use Rattle.two_phase.specs.Contents.{open_at};
-ghost use Rattle.repo_core.specs.Refusing.{Leaves};
+ghost use Rattle.repo_core.specs.Moving.{HasRoomFor};
+ghost use Rattle.repo_core.specs.Refusing.{CanRefuse, HasNoReason, Leaves};
 ghost use Rattle.repo_core.specs.Telling.{Tells};
 
 use crate::repo::Repo;
@@ -21,7 +22,7 @@ use validation_window::Refusal;
 impl<P: Parts> Repo<P> {
     /// Finishes a transaction by the coordinator's verdict. The answer is the place of the entry; `None`
     /// exactly where it isn't prepared here.
-    #[tactic(auto, using(crate::proofs::Refused::leaves_down, crate::proofs::Refused::leaves_finished))]
+    #[tactic(auto, using(crate::proofs::Refused::leaves_down, crate::proofs::Refused::leaves_finished, crate::proofs::Causes::why_down, crate::proofs::Causes::why_fault))]
     pub fn finish(&mut self, verdict: &Verdict) -> Result<Option<u64>, Refusal>
         ensures stands { Stands self.old.is_up result self.new.is_up }
         ensures held { OnOk result (is_some (open_at self.old.held.table verdict.now.tx) ≡ true → HasMoved self.old.held (Finishes verdict.now.tx verdict.now.commit) self.new.held) }
@@ -32,7 +33,10 @@ impl<P: Parts> Repo<P> {
         ensures place { IfOk result (λ place. place ≡ cond (is_some (open_at self.old.held.table verdict.now.tx)) (Some (length self.old.trace.history)) None) }
         ensures trace { OnOk result (self.new.trace ≡ cond (is_some (open_at self.old.held.table verdict.now.tx)) (with_entry self.old.trace (Finishes verdict.now.tx verdict.now.commit)) self.old.trace) }
         ensures refused { OnErr result (self.new.trace ≡ self.old.trace) }
+        ensures why { IfErr result (CanRefuse self.old HasNoReason (is_some (open_at self.old.held.table verdict.now.tx) ≡ true)) }
         ensures left { IfErr result (Leaves self.old self.new (cond (is_some (open_at self.old.held.table verdict.now.tx)) (Some (Finishes verdict.now.tx verdict.now.commit)) None)) }
+        ensures pages { HasRoomFor self.old.held verdict.now.tx verdict.now.commit → self.new.pages ≡ self.old.pages }
+        ensures clock { self.new.clock ≡ self.old.clock }
         ensures opened { self.new.opened_in ≡ self.old.opened_in }
     {
         self.check_up()?;

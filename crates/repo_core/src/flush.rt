@@ -2,7 +2,7 @@
 
 ghost use Rattle.std.specs.Prelude.{◌≡◌, IfErr};
 ghost use Rattle.repo_core.specs.Behind.{MovesObjects, Stands};
-ghost use Rattle.repo_core.specs.Refusing.{Rests};
+ghost use Rattle.repo_core.specs.Refusing.{CanRefuse, HasNoReason, Rests};
 
 use crate::repo::Repo;
 use disk_trait::Parts;
@@ -12,14 +12,16 @@ use validation_window::Refusal;
 impl<P: Parts> Repo<P> {
     /// Writes the page of the oldest buffered object, with all its buffered objects, to the side of it that
     /// isn't in use, and has that side in use. No object changes.
-    #[tactic(auto, using(crate::proofs::Refused::rests_down, crate::proofs::Refused::rests_so))]
+    #[tactic(auto, using(crate::proofs::Refused::rests_down, crate::proofs::Refused::rests_so, crate::proofs::Causes::stands_refused))]
     pub fn flush(&mut self) -> Result<Flushed, Refusal>
         ensures stands { Stands self.old.is_up result self.new.is_up }
         ensures held { MovesObjects self.old.held self.new.held }
         ensures memory { self.new.memory ≡ self.old.memory }
         ensures limit { self.new.held.objects.mob.limit ≡ self.old.held.objects.mob.limit }
         ensures trace { self.new.trace ≡ self.old.trace }
+        ensures why { IfErr result (CanRefuse self.old HasNoReason (Unit {0})) }
         ensures rests { IfErr result (Rests self.old self.new) }
+        ensures clock { self.new.clock ≡ self.old.clock }
         ensures opened { self.new.opened_in ≡ self.old.opened_in }
     {
         self.stable.flush_page()

@@ -7,9 +7,10 @@ ghost use Rattle.repo_core.specs.Behind.{Stands, is_marked, with_refusal};
 ghost use Rattle.session_outbox.specs.declared.mark.Mark.TheVariants.{Granted as Grants};
 ghost use Rattle.trace_record.specs.Recorded.{with_mark};
 ghost use Rattle.commit_log.specs.declared.entry.Entry.{Entry as AnEntry};
-ghost use Rattle.repo_core.specs.Refusing.{GoesDown, Leaves};
+ghost use Rattle.repo_core.specs.Refusing.{CanRefuse, GoesDown, Leaves};
 ghost use Rattle.stable_store.specs.Kept.{is_fault};
 ghost use Rattle.repo_core.specs.Calls.{GrantIsRefused};
+ghost use Rattle.validation_window.specs.declared.refusal.Refusal.TheVariants.{NoMemory as IsNoMemory};
 
 use crate::repo::Repo;
 use disk_trait::Parts;
@@ -24,7 +25,7 @@ const PAGES: u32 = 65_536;
 impl<P: Parts> Repo<P> {
     /// Puts a page that was never granted into the session's outbox, for the names of new objects. Refusals:
     /// `Gone`, `Full`.
-    #[tactic(auto, using(crate::proofs::Refused::leaves_down, crate::proofs::Refused::leaves_same))]
+    #[tactic(auto, using(crate::proofs::Refused::leaves_down, crate::proofs::Refused::leaves_same, crate::proofs::Causes::why_down, crate::proofs::Causes::why_marked, crate::proofs::Causes::lacks_memory))]
     pub fn grant(&mut self, session: u32) -> Result<(), Refusal>
         ensures stands { Stands self.old.is_up result self.new.is_up }
         ensures live { OnOk result (is_live self.old.memory.sessions session ≡ true) }
@@ -33,8 +34,11 @@ impl<P: Parts> Repo<P> {
         ensures sent { OnOk result (self.new.memory ≡ record self.old.memory { sessions = sent self.old.memory.sessions session self.old.held.next_grant (AGrant self.old.held.next_grant (length self.old.trace.history)) }) }
         ensures trace { OnOk result (self.new.trace ≡ with_mark self.old.trace (Grants session self.old.held.next_grant)) }
         ensures why { IfErr result (λ r. is_marked r ≡ true → (self.old.is_up ≡ true) × GrantIsRefused self.old.held self.old.memory session r) }
+        ensures only { IfErr result (CanRefuse self.old (GrantIsRefused self.old.held self.old.memory session) ⊥) }
         ensures refused { IfErr result (λ r. self.new.trace ≡ with_refusal self.old.trace session None r) }
         ensures left { IfErr result (Leaves self.old self.new None) }
+        ensures pages { self.new.pages ≡ self.old.pages }
+        ensures clock { self.new.clock ≡ self.old.clock }
         ensures opened { self.new.opened_in ≡ self.old.opened_in }
     {
         self.check_up()?;
@@ -71,6 +75,9 @@ impl<P: Parts> Repo<P> {
         ensures trace { OnOk result (self.new.trace ≡ with_mark self.old.trace (Grants session page)) }
         ensures refused { IfErr result (λ r. (is_marked r ≡ false) × (self.new.trace ≡ self.old.trace)) }
         ensures left { IfErr result (Leaves self.old self.new None) }
+        ensures refusal { IfErr result (λ r. r ≡ IsNoMemory) }
+        ensures pages { self.new.pages ≡ self.old.pages }
+        ensures clock { self.new.clock ≡ self.old.clock }
         ensures opened { self.new.opened_in ≡ self.old.opened_in }
     {
         let place = self.trace.place();
@@ -95,6 +102,9 @@ impl<P: Parts> Repo<P> {
         ensures trace { OnOk result (self.new.trace ≡ with_mark self.old.trace (Grants session page)) }
         ensures refused { IfErr result (λ r. (is_marked r ≡ false) × (self.new.trace ≡ self.old.trace)) }
         ensures falls { IfErr result (λ r. (is_fault r ≡ true) × ((e : Option AnEntry) → GoesDown self.old self.new e)) }
+        ensures refusal { IfErr result (λ r. r ≡ IsNoMemory) }
+        ensures pages { self.new.pages ≡ self.old.pages }
+        ensures clock { self.new.clock ≡ self.old.clock }
         ensures opened { self.new.opened_in ≡ self.old.opened_in }
     {
         self.mark(sent, Mark::Granted { session, page })?;

@@ -1,13 +1,15 @@
 //! A client takes a message.
 
-ghost use Rattle.std.specs.Prelude.{◌≡◌, IfOk, OnErr, OnOk, Option, true, IfErr, None};
+ghost use Rattle.std.specs.Prelude.{◌≡◌, IfOk, OnErr, OnOk, Option, true, IfErr, None, IsErrOf, false};
 ghost use Rattle.live_sessions.specs.Sessions.{is_live, taken};
 ghost use Rattle.message_outbox.specs.Messages.{first};
 ghost use Rattle.message_outbox.specs.Outbox.{waiting};
 ghost use Rattle.repo_core.specs.Behind.{Stands, with_taken};
 ghost use Rattle.commit_log.specs.declared.entry.Entry.{Entry as AnEntry};
-ghost use Rattle.repo_core.specs.Refusing.{GoesDown, Leaves};
+ghost use Rattle.repo_core.specs.Refusing.{CanRefuse, GoesDown, IsGone, Leaves};
 ghost use Rattle.stable_store.specs.Kept.{is_fault};
+ghost use Rattle.validation_window.specs.declared.refusal.Refusal.TheVariants.{NoMemory as IsNoMemory, Reason as IsReason};
+ghost use Rattle.refusal_reasons.specs.declared.reason.Reason.TheVariants.{Gone as AGone};
 
 use crate::repo::Repo;
 use disk_trait::Parts;
@@ -17,7 +19,7 @@ use validation_window::Refusal;
 
 impl<P: Parts> Repo<P> {
     /// Takes the oldest message that waits for the session; `None` exactly where none does. Refusal: `Gone`.
-    #[tactic(auto, using(crate::proofs::Refused::leaves_read, crate::proofs::Refused::moved_none, volatile_state::proofs::Lasting::stayed))]
+    #[tactic(auto, using(crate::proofs::Refused::leaves_read, crate::proofs::Refused::moved_none, volatile_state::proofs::Lasting::stayed, crate::proofs::Causes::why_down, crate::proofs::Causes::why_reason, crate::proofs::Causes::lacks_memory))]
     pub fn receive(&mut self, session: u32) -> Result<Option<Message>, Refusal>
         ensures stands { Stands self.old.is_up result self.new.is_up }
         ensures live { OnOk result (is_live self.old.memory.sessions session ≡ true) }
@@ -26,7 +28,11 @@ impl<P: Parts> Repo<P> {
         ensures rest { OnOk result (self.new.memory ≡ record self.old.memory { sessions = taken self.old.memory.sessions session }) }
         ensures trace { IfOk result (λ message. self.new.trace ≡ with_taken self.old.trace session message) }
         ensures refused { OnErr result (self.new.trace ≡ self.old.trace) }
+        ensures why { IfErr result (CanRefuse self.old (IsGone self.old.memory session) ⊥) }
+        ensures gone { self.old.is_up ≡ true → is_live self.old.memory.sessions session ≡ false → IsErrOf result (IsReason (AGone session)) }
         ensures left { IfErr result (Leaves self.old self.new None) }
+        ensures pages { self.new.pages ≡ self.old.pages }
+        ensures clock { self.new.clock ≡ self.old.clock }
         ensures opened { self.new.opened_in ≡ self.old.opened_in }
     {
         self.check_up()?;
@@ -49,6 +55,9 @@ impl<P: Parts> Repo<P> {
         ensures trace { IfOk result (λ message. self.new.trace ≡ with_taken self.old.trace session message) }
         ensures refused { OnErr result (self.new.trace ≡ self.old.trace) }
         ensures falls { IfErr result (λ r. (is_fault r ≡ true) × ((e : Option AnEntry) → GoesDown self.old self.new e)) }
+        ensures refusal { IfErr result (λ r. r ≡ IsNoMemory) }
+        ensures pages { self.new.pages ≡ self.old.pages }
+        ensures clock { self.new.clock ≡ self.old.clock }
         ensures opened { self.new.opened_in ≡ self.old.opened_in }
     {
         match taken {

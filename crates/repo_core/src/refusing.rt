@@ -12,6 +12,7 @@ ghost use Rattle.validation_queue.specs.Names.{IsInOrder};
 ghost use Rattle.volatile_state.specs.Volatile.{transaction_of, verdict, answer};
 ghost use Rattle.repo_core.specs.Calls.{full_of, judged};
 ghost use Rattle.std.specs.Option.{option_or};
+ghost use Rattle.validation_window.specs.declared.refusal.Refusal.TheVariants.{NoMemory as IsNoMemory};
 ghost use Rattle.validation_window.specs.declared.refusal.Refusal.{Refusal as ARefusal};
 
 use crate::repo::Repo;
@@ -37,7 +38,9 @@ impl<P: Parts> Repo<P> {
         ensures memory { self.new.memory ≡ self.old.memory }
         ensures trace { self.new.trace ≡ with_refusal self.old.trace session request result }
         ensures same { is_marked result ≡ true → result ≡ refusal }
+        ensures other { is_marked result ≡ false → result ≡ IsNoMemory }
         ensures left { (e : Option AnEntry) → Leaves self.old self.new e result }
+        ensures pages { self.new.pages ≡ self.old.pages }
         ensures clock { self.new.clock ≡ self.old.clock }
         ensures opened { self.new.opened_in ≡ self.old.opened_in }
     {

@@ -25,13 +25,13 @@ pub struct Repo<P: Parts> {
 }
 
 impl<P: Parts> Model for Repo<P> {
-    ghost use Rattle.repo_core.specs.Shown.{Shown};
-    ghost use Rattle.stable_store.specs.Kept.{IsKept, disks_of, held_of, is_torn, is_up, pending};
+    ghost use Rattle.repo_core.specs.Shown.{Shown, shown};
+    ghost use Rattle.stable_store.specs.Kept.{IsKept};
     ghost use Rattle.stable_store.specs.Saying.{IsSaid};
 
     ghost Value = { Shown };
 
-    ghost view = { λ r. record { held = held_of r.stable; is_up = is_up r.stable; memory = r.memory; trace = r.trace; opened_in = r.opened_in; pending = pending r.stable; is_torn = is_torn r.stable; pages = (disks_of P.disks r.stable).content 2; clock = (disks_of P.disks r.stable).clock } };
+    ghost view = { λ r. shown P.disks r.stable r.memory r.trace r.opened_in };
 
     ghost invariant = { λ r. IsKept P.disks r.stable × IsSaid P.disks r.stable };
 }

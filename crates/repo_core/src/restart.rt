@@ -1,20 +1,21 @@
 //! A repository is restarted.
 
-ghost use Rattle.std.specs.Prelude.{◌≡◌, ◌+◌, ◌<◌, IfErr, OnErr, OnOk, false, true, Some};
+ghost use Rattle.std.specs.Prelude.{◌≡◌, ◌+◌, ◌<◌, IfErr, IsErrOf, OnErr, OnOk, false, true, Some, ℕ};
 ghost use Rattle.commit_log.specs.declared.entry.Entry.TheVariants.{Life as ALife};
 ghost use Rattle.live_sessions.specs.Sessions.{ended};
 ghost use Rattle.log_bytes.specs.Grammar.{BodyFits};
 ghost use Rattle.log_bytes.specs.declared.body.Body.TheVariants.{Entry as AnEntry};
 ghost use Rattle.repo_core.specs.Behind.{IsRecovered, IsRestarted, Stands, is_marked};
-ghost use Rattle.stable_store.specs.Kept.{IsKept, held_of, is_fault, is_up};
-ghost use Rattle.stable_store.specs.Saying.{IsAhead, IsSaid};
+ghost use Rattle.stable_store.specs.Kept.{IsKept, held_of, is_fault, is_up, parts_in};
+ghost use Rattle.stable_store.specs.Saying.{GivesUnheld, IsAhead, IsSaid};
 ghost use Rattle.trace_record.specs.Recorded.{with_entry};
-ghost use Rattle.repo_core.specs.Restarting.{ComesUp, DropsEarlier, LetsGo, StaysDown, Takes, TakesNone, life_behind};
+ghost use Rattle.repo_core.specs.Restarting.{AllTold, ComesUp, DropsEarlier, LetsGo, StaysDown, Takes, TakesNone, content_of, life_behind};
 ghost use Rattle.repo_core.specs.Moving.{Falls};
 ghost use Rattle.repo_core.specs.Refusing.{GoesDown};
 ghost use Rattle.repository_laws.specs.Running.{came_with};
 ghost use Rattle.repository_laws.specs.Coming.{BeginsLife};
 ghost use Rattle.held_state.specs.Entering.{entered};
+ghost use Rattle.validation_window.specs.declared.refusal.Refusal.TheVariants.{Damaged as IsDamaged, NoMemory as IsNoMemory};
 ghost use Rattle.volatile_state.specs.Volatile.{Outlasts};
 
 use crate::repo::Repo;
@@ -31,7 +32,8 @@ impl<P: Parts> Repo<P> {
     /// Takes the repository down where it is up, crashes its disks, recovers from them, and writes a Life.
     ///
     /// What is recovered has to agree with what is in memory, or with that and the entry that was being
-    /// written; else the answer is `Damaged`, as it is where a log disk has no log of this repository. All
+    /// written; else the answer is `Damaged`, as it is where a log disk has no log of this repository. It comes
+    /// only where some disk doesn't tell its bytes, or where the log that counts can't be taken into memory. All
     /// sessions end. Decisions of earlier openings are kept no longer. After a refusal the repository is
     /// down, with the entry pending that was so, or with the Life.
     #[tactic(auto, using(crate::proofs::Taking::comes_up_so, crate::proofs::Taking::fails_so))]
@@ -44,6 +46,7 @@ impl<P: Parts> Repo<P> {
         ensures refused { OnErr result (IsRecovered self.old.trace self.new.trace) }
         ensures comes_up { OnOk result (ComesUp self.old self.new) }
         ensures stays_down { OnErr result (StaysDown self.old self.new) }
+        ensures damaged { (n place : ℕ) → IsErrOf result (IsDamaged n place) → AllTold self.old → GivesUnheld (content_of self.new) }
         ensures opened { self.new.opened_in ≡ self.old.opened_in }
     {
         self.take_over(pick)?;
@@ -59,6 +62,7 @@ impl<P: Parts> Repo<P> {
         ensures fault { IfErr result (λ r. is_fault r ≡ true) }
         ensures takes { OnOk result (Takes self.old self.new) }
         ensures none { OnErr result (TakesNone self.old self.new) }
+        ensures damaged { (n place : ℕ) → IsErrOf result (IsDamaged n place) → AllTold self.old → GivesUnheld (content_of self.new) }
         ensures opened { self.new.opened_in ≡ self.old.opened_in }
     {
         match self.stable.restart(self.alloc, pick)? {
@@ -81,6 +85,7 @@ impl<P: Parts> Repo<P> {
         ensures held { OnOk result (self.new.held ≡ entered self.old.held (life_behind self.old)) }
         ensures begins { OnOk result (BeginsLife self.old.held self.old.memory self.new.memory) }
         ensures left { OnErr result (GoesDown self.old self.new (Some (life_behind self.old))) }
+        ensures damaged { (n place : ℕ) → IsErrOf result (IsDamaged n place) → ⊥ }
         ensures opened { self.new.opened_in ≡ self.old.opened_in }
     {
         match self.stable.held().life().checked_add(1) {
@@ -105,6 +110,8 @@ impl<P: Parts> Repo<P> {
         ensures held { DropsEarlier self.old self.new }
         ensures pending { self.new.pending ≡ self.old.pending }
         ensures torn { self.new.is_torn ≡ self.old.is_torn }
+        ensures pages { self.new.pages ≡ self.old.pages }
+        ensures clock { self.new.clock ≡ self.old.clock }
         ensures opened { self.new.opened_in ≡ self.old.opened_in }
     {
         forget_before(&mut self.stable, self.opened_in);
@@ -136,6 +143,7 @@ fn take_pending<P: Parts>(
     ensures held { OnOk result (held_of stable.new ≡ entered (held_of stable.old) entry) }
     ensures requested { OnOk result (memory.new.requested ≡ came_with memory.old.requested entry) }
     ensures left { OnErr result (Falls stable.old stable.new entry) }
+    ensures refusal { IfErr result (λ r. r ≡ IsNoMemory) }
 {
     if !stable.held().takes(&entry) {
         stable.pend(entry);
@@ -156,6 +164,7 @@ fn forget_before<P: Parts>(stable: &mut Stable<P>, life: u32)
     ensures up { is_up stable.new ≡ is_up stable.old }
     ensures life { (held_of stable.new).life ≡ (held_of stable.old).life }
     ensures phase { stable.new.phase ≡ stable.old.phase }
+    ensures parts { parts_in stable.new ≡ parts_in stable.old }
     ensures held { held_of stable.new ≡ record (held_of stable.old) { table = (held_of stable.new).table } }
     ensures go { LetsGo life (held_of stable.old).table (held_of stable.new).table }
 {
@@ -178,6 +187,7 @@ fn forget_earlier<P: Parts>(stable: &mut Stable<P>, tx: Ts, life: u32)
     ensures kept { IsKept P.disks stable.new }
     ensures says { IsSaid P.disks stable.new }
     ensures phase { stable.new.phase ≡ stable.old.phase }
+    ensures parts { parts_in stable.new ≡ parts_in stable.old }
     ensures held { held_of stable.new ≡ record (held_of stable.old) { table = (held_of stable.new).table } }
     ensures go { LetsGo life (held_of stable.old).table (held_of stable.new).table }
 {
@@ -196,6 +206,7 @@ fn forget_one<P: Parts>(stable: &mut Stable<P>, tx: Ts, life: u32)
     ensures kept { IsKept P.disks stable.new }
     ensures says { IsSaid P.disks stable.new }
     ensures phase { stable.new.phase ≡ stable.old.phase }
+    ensures parts { parts_in stable.new ≡ parts_in stable.old }
     ensures held { held_of stable.new ≡ record (held_of stable.old) { table = (held_of stable.new).table } }
     ensures go { LetsGo life (held_of stable.old).table (held_of stable.new).table }
 {

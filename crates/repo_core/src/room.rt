@@ -5,8 +5,8 @@ ghost use Rattle.std.specs.Prelude.{◌≡◌, IfErr, false, true, OnErr, Option
 ghost use Rattle.held_state.specs.Keeps.{Keeps};
 ghost use Rattle.mob_buffer.specs.Buffer.{CanStand, bytes_of};
 ghost use Rattle.repo_core.specs.Behind.{MovesObjects, Stands, is_marked};
-ghost use Rattle.repo_core.specs.Moving.{HasRoom, MakesRoom};
-ghost use Rattle.stable_store.specs.Kept.{IsKept, RestsWith, held_of, is_fault, is_up};
+ghost use Rattle.repo_core.specs.Moving.{HasRoom, HasRoomFor, MakesRoom};
+ghost use Rattle.stable_store.specs.Kept.{IsKept, RestsWith, disks_of, held_of, is_fault, is_up, repo_named};
 ghost use Rattle.stable_store.specs.Saying.{IsSaid};
 ghost use Rattle.commit_log.specs.declared.entry.Entry.{Entry as AnEntry};
 ghost use Rattle.repo_core.specs.Refusing.{Leaves};
@@ -49,6 +49,8 @@ impl<P: Parts> Repo<P> {
         ensures made { MakesRoom self.old self.new }
         ensures stays { HasRoom self.old.held writes.now → self.new ≡ self.old }
         ensures left { IfErr result (λ r. (e : Option AnEntry) → Leaves self.old self.new e r) }
+        ensures names { IfErr result (λ r. repo_named self.old.held.repo r ≡ self.old.held.repo) }
+        ensures clock { self.new.clock ≡ self.old.clock }
         ensures opened { self.new.opened_in ≡ self.old.opened_in }
     {
         make_room(&mut self.stable, writes)
@@ -61,7 +63,10 @@ impl<P: Parts> Repo<P> {
         ensures stands { Stands true result self.new.is_up }
         ensures fault { IfErr result (λ r. (is_fault r ≡ true) × (is_marked r ≡ false)) }
         ensures made { MakesRoom self.old self.new }
+        ensures stays { HasRoomFor self.old.held tx commit → self.new ≡ self.old }
         ensures left { IfErr result (λ r. (e : Option AnEntry) → Leaves self.old self.new e r) }
+        ensures names { IfErr result (λ r. repo_named self.old.held.repo r ≡ self.old.held.repo) }
+        ensures clock { self.new.clock ≡ self.old.clock }
         ensures opened { self.new.opened_in ≡ self.old.opened_in }
     {
         if commit {
@@ -85,6 +90,8 @@ fn make_room<P: Parts>(stable: &mut Stable<P>, writes: &Writes) -> Result<(), Re
     ensures limit { (held_of stable.new).objects.mob.limit ≡ (held_of stable.old).objects.mob.limit }
     ensures stays { HasRoom (held_of stable.old) writes.now → stable.new ≡ stable.old }
     ensures rests { OnErr result (RestsWith None stable.new) }
+    ensures names { IfErr result (λ r. repo_named (held_of stable.old).repo r ≡ (held_of stable.old).repo) }
+    ensures clock { (disks_of P.disks stable.new).clock ≡ (disks_of P.disks stable.old).clock }
 {
     if fits(stable.held(), writes) {
         return Ok(());
@@ -105,6 +112,8 @@ fn flush_for<P: Parts>(stable: &mut Stable<P>, writes: &Writes) -> Result<(), Re
     ensures held { MovesObjects (held_of stable.old) (held_of stable.new) }
     ensures limit { (held_of stable.new).objects.mob.limit ≡ (held_of stable.old).objects.mob.limit }
     ensures rests { OnErr result (RestsWith None stable.new) }
+    ensures names { IfErr result (λ r. repo_named (held_of stable.old).repo r ≡ (held_of stable.old).repo) }
+    ensures clock { (disks_of P.disks stable.new).clock ≡ (disks_of P.disks stable.old).clock }
 {
     for _ in 0..u32::MAX {
         if let Flushed::Nothing = stable.flush_page()? {
@@ -117,6 +126,7 @@ fn flush_for<P: Parts>(stable: &mut Stable<P>, writes: &Writes) -> Result<(), Re
     Ok(())
 }
 
+/// Flushes pages until the writes of a transaction that is open fit into the buffer, or it is empty.
 fn make_room_for<P: Parts>(stable: &mut Stable<P>, tx: Ts) -> Result<(), Refusal>
     requires kept { IsKept P.disks stable.old }
     requires says { IsSaid P.disks stable.old }
@@ -127,13 +137,36 @@ fn make_room_for<P: Parts>(stable: &mut Stable<P>, tx: Ts) -> Result<(), Refusal
     ensures fault { IfErr result (λ r. (is_fault r ≡ true) × (is_marked r ≡ false)) }
     ensures held { MovesObjects (held_of stable.old) (held_of stable.new) }
     ensures limit { (held_of stable.new).objects.mob.limit ≡ (held_of stable.old).objects.mob.limit }
+    ensures stays { HasRoomFor (held_of stable.old) tx true → stable.new ≡ stable.old }
     ensures rests { OnErr result (RestsWith None stable.new) }
+    ensures names { IfErr result (λ r. repo_named (held_of stable.old).repo r ≡ (held_of stable.old).repo) }
+    ensures clock { (disks_of P.disks stable.new).clock ≡ (disks_of P.disks stable.old).clock }
+{
+    if fits_open(stable.held(), tx) {
+        return Ok(());
+    }
+    flush_open(stable, tx)
+}
+
+fn flush_open<P: Parts>(stable: &mut Stable<P>, tx: Ts) -> Result<(), Refusal>
+    requires kept { IsKept P.disks stable.old }
+    requires says { IsSaid P.disks stable.old }
+    requires up { is_up stable.old ≡ true }
+    ensures kept { IsKept P.disks stable.new }
+    ensures says { IsSaid P.disks stable.new }
+    ensures stands { Stands true result (is_up stable.new) }
+    ensures fault { IfErr result (λ r. (is_fault r ≡ true) × (is_marked r ≡ false)) }
+    ensures held { MovesObjects (held_of stable.old) (held_of stable.new) }
+    ensures limit { (held_of stable.new).objects.mob.limit ≡ (held_of stable.old).objects.mob.limit }
+    ensures rests { OnErr result (RestsWith None stable.new) }
+    ensures names { IfErr result (λ r. repo_named (held_of stable.old).repo r ≡ (held_of stable.old).repo) }
+    ensures clock { (disks_of P.disks stable.new).clock ≡ (disks_of P.disks stable.old).clock }
 {
     for _ in 0..u32::MAX {
-        if fits_open(stable.held(), tx) {
+        if let Flushed::Nothing = stable.flush_page()? {
             return Ok(());
         }
-        if let Flushed::Nothing = stable.flush_page()? {
+        if fits_open(stable.held(), tx) {
             return Ok(());
         }
     }
@@ -149,8 +182,10 @@ fn fits(held: &HeldState, writes: &Writes) -> bool
     mob.bytes_with(writes) <= u64::from(mob.limit())
 }
 
+/// Whether it does so with those of a transaction that is open.
 fn fits_open(held: &HeldState, tx: Ts) -> bool
     requires { Keeps held.now }
+    ensures { HasRoomFor held.now tx true → result ≡ true }
 {
     match held.table().open_request(tx) {
         Some(request) => fits(held, &request.writes),

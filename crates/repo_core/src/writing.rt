@@ -1,6 +1,6 @@
 //! How an entry is written: into the log, then into what is held in memory, then into the trace.
 
-ghost use Rattle.std.specs.Prelude.{◌≡◌, IfErr, IfOk, IsTrue, Ok, OnErr, OnOk, cond, false, length, nat_eq, true, ℕ, Some};
+ghost use Rattle.std.specs.Prelude.{◌≡◌, IfErr, IfOk, IsErrOf, IsTrue, Ok, OnErr, OnOk, cond, false, length, nat_eq, true, ℕ, Some};
 ghost use Rattle.commit_log.specs.declared.request.Request.{Request as ARequest};
 ghost use Rattle.commit_log.specs.declared.entry.Entry.TheVariants.{Life as ALife, Prepared as Prepares};
 ghost use Rattle.held_state.specs.Entering.{can_enter, entered};
@@ -11,7 +11,7 @@ ghost use Rattle.log_bytes.specs.declared.body.Body.TheVariants.{Entry as AnEntr
 ghost use Rattle.repo_core.specs.Behind.{Stands, is_marked};
 ghost use Rattle.repo_core.specs.Calls.{CanWrite, Comes, ComesIn, IsTold};
 ghost use Rattle.repo_core.specs.Moving.{Falls};
-ghost use Rattle.stable_store.specs.Kept.{IsKept, disks_of, held_of, is_fault, is_up};
+ghost use Rattle.stable_store.specs.Kept.{IsKept, disks_of, held_of, is_fault, is_up, repo_named};
 ghost use Rattle.stable_store.specs.Saying.{IsAhead, IsSaid};
 ghost use Rattle.repository_laws.specs.Coming.{Becomes, BeginsLife, Moves, Reopens, alone_queue, decided_queue};
 ghost use Rattle.thor_value.specs.FiniteMap.{add, has};
@@ -24,6 +24,7 @@ ghost use Rattle.repo_core.specs.Refusing.{GoesDown};
 ghost use Rattle.repo_core.specs.Telling.{Tells, next_epoch};
 ghost use Rattle.volatile_state.specs.Telling.{CommitTold, TellsDecided};
 ghost use Rattle.repository_laws.specs.Running.{came_with};
+ghost use Rattle.validation_window.specs.declared.refusal.Refusal.TheVariants.{Damaged as IsDamaged, NoMemory as IsNoMemory};
 
 use crate::looks::epoch_of;
 use crate::repo::Repo;
@@ -57,7 +58,10 @@ impl<P: Parts> Repo<P> {
         ensures trace { OnOk result (self.new.trace ≡ with_entry self.old.trace entry) }
         ensures refused { OnErr result (self.new.trace ≡ self.old.trace) }
         ensures left { OnErr result (GoesDown self.old self.new (Some entry)) }
+        ensures names { IfErr result (λ r. repo_named self.old.held.repo r ≡ self.old.held.repo) }
+        ensures damaged { (n place : ℕ) → IsErrOf result (IsDamaged n place) → ⊥ }
         ensures pages { self.new.pages ≡ self.old.pages }
+        ensures clock { self.new.clock ≡ self.old.clock }
         ensures opened { self.new.opened_in ≡ self.old.opened_in }
     {
         if self.trace.reserve().is_err() {
@@ -100,7 +104,9 @@ pub(crate) fn record<P: Parts>(
     ensures trace { OnOk result (trace.new ≡ with_entry trace.old entry) }
     ensures refused { OnErr result (trace.new ≡ trace.old) }
     ensures left { OnErr result (Falls stable.old stable.new entry) }
+    ensures refusal { IfErr result (λ r. r ≡ IsNoMemory) }
     ensures pages { (disks_of P.disks stable.new).content 2 ≡ (disks_of P.disks stable.old).content 2 }
+    ensures clock { (disks_of P.disks stable.new).clock ≡ (disks_of P.disks stable.old).clock }
 {
     if told.is_err() {
         stable.pend(entry);

@@ -14,7 +14,7 @@ use Rattle.repo_core.specs.Restarting.{DropsEarlier, LetsGo}
 use Rattle.repo_core.specs.Shown.{Shown}
 use Rattle.repo_core.specs.Telling.{SendsPage}
 use Rattle.repository_events.proofs.Phases.{agreement, down_phase, made_of_parts, same_seen, up_phase, whole_up}
-use Rattle.repository_events.proofs.Stepping.{LimitStays, runs_answered, runs_mark, runs_none, runs_one, runs_refused, stays_so}
+use Rattle.repository_events.proofs.Stepping.{LimitStays, runs_answered, runs_mark, runs_none, runs_one, runs_refused, runs_still, stays_so}
 use Rattle.repository_events.specs.Seen.{IsRun, StandsRight, phase, seen}
 use Rattle.repository_events.specs.Vouching.{WasKept}
 use Rattle.repository_laws.specs.Running.{EarlierGo}
@@ -199,7 +199,7 @@ stop_runs b x y calls up pending none whole torn o held memory trace = by x.is_u
       opened = o;
       limit = λ w. (whole_up x u, stays_so x y held);
     }
-    by false u z at = runs_none b x y (record { held = held; memory = memory; pending = pending u; torn = torn }) trace (up ∙ (lowered z at ∙ sym u)) o
+    by false u z at = runs_still b x y held memory (pending u) torn trace (up ∙ (lowered z at ∙ sym u)) o
       where
         lowered : (z : Bool) → nat_eq calls 0 ≡ z → cond (nat_eq calls 0) false x.is_up ≡ false
         lowered true at = ap (λ (a : Bool). cond a false x.is_up) at

@@ -29,19 +29,22 @@ pub stays_so : (x y : Shown) → y.held ≡ x.held → LimitStays x y
 stays_so x y h = ap (λ (a : Held). a.objects.mob.limit) h
 
 -- nothing happens
-pub runs_none : (b : Base) (x y : Shown) → StaysAsWas x y → y.trace ≡ x.trace → y.is_up ≡ x.is_up → y.opened_in ≡ x.opened_in → IsRun b x y
-runs_none b x y s t u o = record {
+pub runs_still : (b : Base) (x y : Shown) → y.held ≡ x.held → y.memory ≡ x.memory → y.pending ≡ x.pending → y.is_torn ≡ x.is_torn → y.trace ≡ x.trace → y.is_up ≡ x.is_up → y.opened_in ≡ x.opened_in → IsRun b x y
+runs_still b x y held memory pending torn t u o = record {
   events = [];
-  run = (same_seen x y s.held s.memory t, same_phase x y u s.torn s.pending);
+  run = (same_seen x y held memory t, same_phase x y u torn pending);
   opened = o;
-  limit = λ w. (subst_whole w, stays_so x y s.held);
+  limit = λ w. (subst_whole w, stays_so x y held);
 }
   where
     subst_whole : IsWhole (phase y) → IsWhole (phase x)
-    subst_whole w = subst IsWhole (same_phase x y u s.torn s.pending) w
+    subst_whole w = subst IsWhole (same_phase x y u torn pending) w
+
+pub runs_none : (b : Base) (x y : Shown) → StaysAsWas x y → y.trace ≡ x.trace → y.is_up ≡ x.is_up → y.opened_in ≡ x.opened_in → IsRun b x y
+runs_none b x y s t u o = runs_still b x y s.held s.memory s.pending s.torn t u o
 
 pub runs_same : (b : Base) (x y : Shown) → y ≡ x → IsRun b x y
-runs_same b x y is = subst (IsRun b x) (sym is) (runs_none b x x (record { held = refl; memory = refl; pending = refl; torn = refl }) refl refl refl)
+runs_same b x y is = subst (IsRun b x) (sym is) (runs_still b x x refl refl refl refl refl refl refl)
 
 -- one event happens
 pub runs_one : (b : Base) (x y : Shown) (e : Event) → Does b (seen x) (phase x) e (seen y) (phase y) → y.opened_in ≡ x.opened_in → (IsWhole (phase y) → IsWhole (phase x) × LimitStays x y) → IsRun b x y

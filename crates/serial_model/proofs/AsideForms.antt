@@ -1,5 +1,5 @@
 -- Trees on line 1, by their form; and that two trees are the same where their parts are.
-use Rattle.std.proofs.Common.{◌≡◌, ◌⊎◌, Bool, true, false, inl, inr, IsTrue, ℕ, List, map, refl, ap, ap₂, sym, ◌∙◌}
+use Rattle.std.proofs.Common.{◌≡◌, Bool, true, false, IsTrue, ℕ, List, map, ap, sym, ◌∙◌}
 use Rattle.class_defs.specs.LinesAside.{expr_on_line_1, expr_step_on_line_1, name_on_line_1, stmt_on_line_1, stmt_step_on_line_1}
 use Rattle.class_defs.specs.UpgradeLinesAside.{tf_on_line_1, tf_step_on_line_1}
 use Rattle.class_defs.specs.declared.expressions.Expr.{Expr, out-Expr}
@@ -26,29 +26,20 @@ use Rattle.class_defs.specs.declared.upgrades.Tf.TheViews.{out-roll-Tf}
 abbrev pub Tells : Bool → Type 0 → Type 0
 Tells b E = (IsTrue b → E) × (E → IsTrue b)
 
--- The first two of three tests came out so: the first was passed and the second tells; or the first wasn't passed.
-abbrev pub Two : Bool → Type 0 → Type 0 → Type 0
-Two v A B = (A × Tells v B) ⊎ ((A → ⊥) × (v ≡ false))
-
 pub told_false : (b : Bool) (E : Type 0) → b ≡ false → Tells b E → E → ⊥
 told_false b E is t x = let is_true : b ≡ true = t.1 x in cc
 
--- where these passed, the third tells
-pub third : (A B C E : Type 0) (v r : Bool) → Two v A B → v ≡ true → Tells r C → (A → B → C → E) → (E → A × B × C) → Tells r E
-third A B C E v r (inl t) is told make parts = (λ h. make t.0 (t.1.0 is) (told.0 h), λ x. told.1 (parts x).2)
-third A B C E v r (inr f) is told make parts = absurd (let w : v ≡ false = f.1 in let bad : true ≡ false = sym is ∙ w in cc)
+-- a test wasn't passed that stands for a part
+pub refused : (A E : Type 0) (r : Bool) → Tells r A → r ≡ false → (E → A) → Tells false E
+refused A E r t is part = (λ h. cc, λ x. absurd (told_false r A is t (part x)))
 
--- and where they didn't, nothing holds
-pub no_third : (A B C E : Type 0) (v r : Bool) → Two v A B → v ≡ false → r ≡ false → (E → A × B × C) → Tells r E
-no_third A B C E v r (inl t) is low parts = (λ h. let up : r ≡ true = h in cc, λ x. absurd (let up : v ≡ true = t.1.1 (parts x).1 in cc))
-no_third A B C E v r (inr f) is low parts = (λ h. let up : r ≡ true = h in cc, λ x. absurd (f.0 (parts x).0))
+-- the first was passed, and the second tells
+pub second : (A B E : Type 0) (r : Bool) → A → Tells r B → (A → B → E) → (E → A × B) → Tells r E
+second A B E r a told make parts = (λ h. make a (told.0 h), λ x. told.1 (parts x).1)
 
--- two tests alone
-pub second : (A B E : Type 0) (a r : Bool) → Tells a A → a ≡ true → Tells r B → (A → B → E) → (E → A × B) → Tells r E
-second A B E a r t is told make parts = (λ h. make (t.0 is) (told.0 h), λ x. told.1 (parts x).1)
-
-pub no_second : (A B E : Type 0) (a r : Bool) → Tells a A → a ≡ false → r ≡ false → (E → A × B) → Tells r E
-no_second A B E a r t is low parts = (λ h. let up : r ≡ true = h in cc, λ x. absurd (told_false a A is t (parts x).0))
+-- the first two were passed, and the third tells
+pub third : (A B C E : Type 0) (r : Bool) → A → B → Tells r C → (A → B → C → E) → (E → A × B × C) → Tells r E
+third A B C E r a b told make parts = (λ h. make a b (told.0 h), λ x. told.1 (parts x).2)
 
 -- the same of other trees, which are these
 pub of_these : {X Y : Type 0} (f : X → Y) (x y a b : X) (r : Bool) → x ≡ a → y ≡ b → Tells r (f a ≡ f b) → Tells r (f x ≡ f y)

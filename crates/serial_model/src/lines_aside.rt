@@ -121,7 +121,12 @@ fn same_expr(some: &Expr, other: &Expr) -> bool
             Expr::New {
                 class: other,
                 at: place,
-            } => class.same_aside(other) && same_at(at, place),
+            } => {
+                if !class.same_aside(other) {
+                    return false;
+                }
+                same_at(at, place)
+            }
             _ => false,
         },
         Expr::Parens { inner, line: _ } => match other {
@@ -150,9 +155,13 @@ fn same_expr(some: &Expr, other: &Expr) -> bool
                 right: second,
                 line: _,
             } => {
-                operator.same(other)
-                    && same_expr(left.get(), first.get())
-                    && same_expr(right.get(), second.get())
+                if !operator.same(other) {
+                    return false;
+                }
+                if !same_expr(left.get(), first.get()) {
+                    return false;
+                }
+                same_expr(right.get(), second.get())
             }
             _ => false,
         },
@@ -166,9 +175,13 @@ fn same_expr(some: &Expr, other: &Expr) -> bool
                 method: name,
                 arguments: values,
             } => {
-                method.same_aside(name)
-                    && same_expr(receiver.get(), other.get())
-                    && same_exprs(arguments, values)
+                if !method.same_aside(name) {
+                    return false;
+                }
+                if !same_expr(receiver.get(), other.get()) {
+                    return false;
+                }
+                same_exprs(arguments, values)
             }
             _ => false,
         },
@@ -207,7 +220,15 @@ fn same_stmt(some: &Stmt, other: &Stmt) -> bool
                 name: other,
                 line: _,
                 value: second,
-            } => type_name.same_aside(kind) && name.same_aside(other) && same_expr(value, second),
+            } => {
+                if !type_name.same_aside(kind) {
+                    return false;
+                }
+                if !name.same_aside(other) {
+                    return false;
+                }
+                same_expr(value, second)
+            }
             _ => false,
         },
         Stmt::Assign {
@@ -219,7 +240,12 @@ fn same_stmt(some: &Stmt, other: &Stmt) -> bool
                 name: other,
                 line: _,
                 value: second,
-            } => name.same_aside(other) && same_expr(value, second),
+            } => {
+                if !name.same_aside(other) {
+                    return false;
+                }
+                same_expr(value, second)
+            }
             _ => false,
         },
         Stmt::FieldAssign {
@@ -231,7 +257,12 @@ fn same_stmt(some: &Stmt, other: &Stmt) -> bool
                 field: other,
                 line: _,
                 value: second,
-            } => field.same_aside(other) && same_expr(value, second),
+            } => {
+                if !field.same_aside(other) {
+                    return false;
+                }
+                same_expr(value, second)
+            }
             _ => false,
         },
         Stmt::Return { value } => match other {
@@ -242,7 +273,12 @@ fn same_stmt(some: &Stmt, other: &Stmt) -> bool
             Stmt::If {
                 condition: other,
                 then: block,
-            } => same_expr(condition, other) && same_block(then, block),
+            } => {
+                if !same_expr(condition, other) {
+                    return false;
+                }
+                same_block(then, block)
+            }
             _ => false,
         },
         Stmt::IfElse {
@@ -255,9 +291,13 @@ fn same_stmt(some: &Stmt, other: &Stmt) -> bool
                 then: first,
                 otherwise: second,
             } => {
-                same_expr(condition, other)
-                    && same_block(then, first)
-                    && same_block(otherwise, second)
+                if !same_expr(condition, other) {
+                    return false;
+                }
+                if !same_block(then, first) {
+                    return false;
+                }
+                same_block(otherwise, second)
             }
             _ => false,
         },
@@ -265,7 +305,12 @@ fn same_stmt(some: &Stmt, other: &Stmt) -> bool
             Stmt::While {
                 condition: other,
                 body: block,
-            } => same_expr(condition, other) && same_block(body, block),
+            } => {
+                if !same_expr(condition, other) {
+                    return false;
+                }
+                same_block(body, block)
+            }
             _ => false,
         },
         Stmt::Print { value } => match other {
@@ -328,9 +373,13 @@ fn same_tf(some: &Tf, other: &Tf) -> bool
                 right: second,
                 line: _,
             } => {
-                operator.same(other)
-                    && same_tf(left.get(), first.get())
-                    && same_tf(right.get(), second.get())
+                if !operator.same(other) {
+                    return false;
+                }
+                if !same_tf(left.get(), first.get()) {
+                    return false;
+                }
+                same_tf(right.get(), second.get())
             }
             _ => false,
         },

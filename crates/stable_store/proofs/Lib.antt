@@ -2,6 +2,7 @@ pub mod Forgetting
 pub mod Lowered
 pub mod Opened
 pub mod Openings
+pub mod Pages
 pub mod Reaching
 pub mod Remembering
 pub mod Returning

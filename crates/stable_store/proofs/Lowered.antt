@@ -23,3 +23,9 @@ pub none_pending : (p : Phase) → is_up_in p ≡ true → (pending_in (lowered 
 none_pending (Up l) up = (refl, refl)
 none_pending (Down e) up = absurd (cc)
 none_pending (Torn e) up = absurd (cc)
+
+-- what is pending where it was taken down
+pub pending_of : (p : Phase) (e : Option Entry) → lowered p ≡ Down e → pending_in p ≡ e
+pending_of (Up l) e is = cc
+pending_of (Down d) e is = cc
+pending_of (Torn d) e is = absurd (cc)

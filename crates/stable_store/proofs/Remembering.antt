@@ -81,7 +81,7 @@ sides_finished s false (Some q) = refl
 sides_finished s true (Some q) = refl
 
 -- an entry puts no side in use
-entry_sides : (s : State) (e : Entry) → (after s (AnEntry e)).installed ≡ s.installed
+pub entry_sides : (s : State) (e : Entry) → (after s (AnEntry e)).installed ≡ s.installed
 entry_sides s (Life l) = refl
 entry_sides s (One q) = refl
 entry_sides s (Prepared q) = refl

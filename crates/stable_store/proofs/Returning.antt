@@ -1,49 +1,62 @@
 -- What a restart finds is what is held, or that with the pending entry.
 use Rattle.commit_log.specs.declared.entry.Entry.{Entry}
-use Rattle.disk_trait.specs.AllDisks.{LeavesAll, MayLeaveAll, ReadsAs, TellsAll}
+use Rattle.commit_log.specs.declared.entry.Entry.TheVariants.{Decided, Finished, Life, One, Prepared, Upgraded}
+use Rattle.commit_log.specs.declared.request.Request.{Request}
+use Rattle.disk_trait.specs.AllDisks.{LeavesAll, MayLeaveAll, ReadsAs, SameContent, TellsAll}
 use Rattle.disk_trait.proofs.Several.{all_now}
-use Rattle.disk_trait.specs.Disks.{Disks, NoNewImage, OnDisk}
-use Rattle.disk_trait.specs.Fused.{fused_disks}
+use Rattle.disk_trait.specs.Disks.{Disks, NoNewImage, OnDisk, WhereTold}
+use Rattle.disk_trait.specs.Fused.{armed, fused_disks}
 use Rattle.disk_trait.specs.declared.fused.Fused.{Fused}
-use Rattle.held_state.specs.Entering.{entered}
+use Rattle.held_state.proofs.Tables.{request_open}
+use Rattle.held_state.specs.Entering.{decided_by, entered, finished_by}
+use Rattle.held_state.specs.Keeps.{Keeps}
 use Rattle.held_state.specs.Said.{said}
 use Rattle.held_state.specs.declared.held.Held.{Held}
 use Rattle.log_bytes.specs.declared.body.Body.TheVariants.{Entry as AnEntry, Installed}
 use Rattle.log_bytes.specs.declared.state.State.{State}
-use Rattle.log_frame.specs.Log.{Place}
+use Rattle.log_frame.specs.Log.{Opened, Place, read_log}
 use Rattle.mob_flusher.specs.Map.{Kept}
+use Rattle.page_store.specs.Sides.{ReachesSides}
+use Rattle.recovery.specs.Damage.{StandsUnheld}
 use Rattle.stable_store.proofs.Remembering.{comes_back, comes_behind, comes_installed}
-use Rattle.stable_store.proofs.Saying.{log_same, log_says, said_in_phase, tells_before}
+use Rattle.stable_store.proofs.Pages.{tells_before, tells_on}
+use Rattle.stable_store.proofs.Saying.{log_same, log_says, said_in_phase}
 use Rattle.stable_store.specs.Agreeing.{numbers_of}
-use Rattle.stable_store.specs.Kept.{disks_of, lowered}
+use Rattle.stable_store.specs.Kept.{disks_of, down, is_torn_in, lowered}
 use Rattle.stable_store.specs.Remembering.{Remembers}
-use Rattle.stable_store.specs.Saying.{FindsOneOf, ImagesSay, IsAhead, IsAheadIn, IsOneOf, IsSaid, LeavesNoMore, LogSays, SaysIn}
+use Rattle.stable_store.specs.Saying.{FindsOneOf, GivesUnheld, ImagesSay, IsAhead, IsAheadIn, IsOneOf, IsSaid, LeavesNoMore, LogSays, SaysIn}
 use Rattle.stable_store.specs.declared.agreement.Numbers.{Numbers}
 use Rattle.stable_store.specs.declared.stable.Phase.TheVariants.{Down, Torn, Up}
 use Rattle.stable_store.specs.declared.stable.Phase.{Phase}
 use Rattle.stable_store.specs.declared.stable.Stable.{Stable}
 use Rattle.state_log.specs.Holds.{Holds}
-use Rattle.state_log.specs.Recovered.{after, stands}
-use Rattle.std.proofs.Common.{Err, List, None, Ok, Option, Result, Some, ap, arith, inl, inr, refl, suc, zero, subst, sym, ◌+◌, ◌<◌, ◌∙◌, ◌≡◌, ◌≢◌, ◌≤◌, ℕ}
+use Rattle.state_log.specs.Opening.{IsFresh}
+use Rattle.state_log.specs.Recovered.{after, chosen, closed, decided, kept_by, opened_without, stands, state_in}
+use Rattle.std.proofs.Common.{Bool, Err, List, None, Ok, Option, Result, Some, ap, arith, false, inl, inr, length, refl, true, suc, zero, subst, sym, ◌+◌, ◌<◌, ◌∙◌, ◌≡◌, ◌≢◌, ◌≤◌, ◌⊎◌, ℕ}
 use Rattle.std.proofs.lemmas.Bool.{cases_eq}
-use Rattle.std.specs.Prelude.{IfOk, OnErr}
+use Rattle.std.specs.Option.{IfSome, IsSome, option_and_then}
+use Rattle.std.specs.Prelude.{IfOk, OnErr, OnOk}
 use Rattle.disk_trait.proofs.Several.{goes_one}
+use Rattle.thor_value.specs.declared.names.Ts.{Ts}
+use Rattle.two_phase.specs.Contents.{open_at}
 
 -- ---- what a crash leaves
 
 pub none_more : (disks : Disks) → LeavesNoMore disks disks
-none_more disks = record { images = λ images left. left; tells = λ tells. tells }
+none_more disks = record { images = λ images left. left; tells = λ tells. tells; goes_on = λ tells. tells }
 
 pub more_then : (old mid new : Disks) → LeavesNoMore old mid → LeavesNoMore mid new → LeavesNoMore old new
 more_then old mid new first then = record {
   images = λ images left. first.images images (then.images images left);
   tells = λ tells. first.tells (then.tells tells);
+  goes_on = λ tells. then.goes_on (first.goes_on tells);
 }
 
 pub more_run : (old new : Disks) → LeavesAll old new (MayLeaveAll old old.time) → LeavesNoMore old new
 more_run old new leaves = record {
   images = λ images left. all_now old new (MayLeaveAll old old.time) leaves images left;
   tells = λ tells. tells_before old new leaves.goes tells;
+  goes_on = λ tells. tells_on old new leaves.goes tells;
 }
 
 -- the disk of pages was read
@@ -54,6 +67,7 @@ more_read old new alone crash = record {
     | inr other ↦ alone.others_images new.time d (images d) other alone.later (omega arith) (left d within)
   ];
   tells = λ tells. tells_before old new (goes_one old new 2 alone) tells;
+  goes_on = λ tells. tells_on old new (goes_one old new 2 alone) tells;
 }
 
 pub images_more : (old new : Disks) (h : Held) (pending : Option Entry) → LeavesNoMore old new → ImagesSay old h pending → ImagesSay new h pending
@@ -87,6 +101,47 @@ finds_one old new log h s more holds left = λ pending says tells.
     let here : stands read.0 ≡ Some s = log_says new log s holds tells read.0 (λ d within. there d (omega (arith, within))) in
     subst (IsOneOf h pending) (one_state one.state s (stands read.0) one.stands here) one.says
 
+-- what was read is what was found: it is found by who goes on
+pub finds_then : (old read new : Disks) (h : Held) (s : State) → LeavesNoMore read new → FindsOneOf old read h s → FindsOneOf old new h s
+finds_then old read new h s more finds = λ pending says tells. finds pending says (more.tells tells)
+
+-- ---- what isn't taken
+
+fresh_none : (images : ℕ → List ℕ) → IsFresh images → stands images ≡ None
+fresh_none images is = ap (λ (o : Option (Result Opened ℕ)). option_and_then state_in (chosen o (read_log (images 1)))) is.0 ∙ ap (λ (o : Option (Result Opened ℕ)). option_and_then state_in (chosen None o)) is.1
+
+never_none : (s : State) (o : Option State) → o ≡ Some s → o ≡ None → ⊥
+never_none s o some none = cc
+
+reads_same : (old new : Disks) (bytes : ℕ → List ℕ) → SameContent old new → ReadsAs new bytes → ReadsAs old bytes
+reads_same old new bytes same reads = λ d within. sym (same d) ∙ reads d within
+
+-- where no log is found, or one is damaged, that log can't be taken into memory
+unheld : (old read : Disks) (h : Held) (pending : Option Entry) → LeavesNoMore old read → ((bytes : ℕ → List ℕ) → ReadsAs read bytes → MayLeaveAll read read.time bytes) → ((bytes : ℕ → List ℕ) → ReadsAs read bytes → (stands bytes ≡ None) ⊎ StandsUnheld bytes) → ImagesSay old h pending → TellsAll old → GivesUnheld read.content
+unheld old read h pending more left lost says tells =
+    let got = reads_of read (more.goes_on tells) in
+    let one = says.each tells got.0 (more.images got.0 (left got.0 got.1)) in
+    elim (lost got.0 got.1) [
+      | inl none ↦ absurd (never_none one.state (stands got.0) one.stands none)
+      | inr is ↦ record { bytes = got.0; told = got.1; unheld = is }
+    ]
+
+pub lost_unheld : (old mid read : Disks) (h : Held) (pending : Option Entry) → LeavesNoMore old read → SameContent mid read → ((bytes : ℕ → List ℕ) → ReadsAs read bytes → MayLeaveAll read read.time bytes) → ((bytes : ℕ → List ℕ) → ReadsAs mid bytes → (stands bytes ≡ None) ⊎ StandsUnheld bytes) → ImagesSay old h pending → TellsAll old → GivesUnheld read.content
+lost_unheld old mid read h pending more same left lost says tells = unheld old read h pending more left (λ bytes reads. lost bytes (reads_same mid read bytes same reads)) says tells
+
+pub fresh_unheld : (old mid read : Disks) (h : Held) (pending : Option Entry) → LeavesNoMore old read → SameContent mid read → ((bytes : ℕ → List ℕ) → ReadsAs read bytes → MayLeaveAll read read.time bytes) → ((bytes : ℕ → List ℕ) → ReadsAs mid bytes → IsFresh bytes) → ImagesSay old h pending → TellsAll old → GivesUnheld read.content
+fresh_unheld old mid read h pending more same left fresh says tells = unheld old read h pending more left (λ bytes reads. inl (fresh_none bytes (fresh bytes (reads_same mid read bytes same reads)))) says tells
+
+-- the disk of pages reaches the sides in use
+pub none_lacks : (old read : Disks) (log : Place) (h : Held) (s : State) (pending : Option Entry) → LeavesNoMore old read → Holds read log s → ((bytes : ℕ → List ℕ) → ReadsAs read bytes → MayLeaveAll read read.time bytes) → ImagesSay old h pending → TellsAll old → WhereTold read 2 (λ disk. ReachesSides s.installed disk → ⊥) → ⊥
+none_lacks old read log h s pending more holds left says tells lacks =
+    let on = more.goes_on tells in
+    let got = reads_of read on in
+    let there = left got.0 got.1 in
+    let one = says.each tells got.0 (more.images got.0 there) in
+    let here : stands got.0 ≡ Some s = log_says read log s holds on got.0 (λ d within. there d (omega (arith, within))) in
+    lacks (got.0 2) (got.1 2 (omega arith)) (subst (λ (t : State). ReachesSides t.installed (got.0 2)) (one_state one.state s (stands got.0) one.stands here) one.reaches)
+
 -- ---- which of the two it is
 
 count_of : (a b : Numbers) → a ≡ b → a.count ≡ b.count
@@ -116,6 +171,48 @@ back_with_pending found h objects e taken same is = subst (λ (k : Kept). Rememb
     by (inl r) = absurd (never_one_more found.count h.count (same_count (said found) (said h) r) (count_of (numbers_of found) (numbers_of (entered h e)) same))
     by (inr r) = comes_behind (said found) (said h) e r
 
+-- the numbers that a state says
+abbrev numbers_in : State → Numbers
+numbers_in s = record { repo = s.repo; repos = s.repos; life = s.life; count = s.count; threshold = s.threshold; epoch = length s.upgrades }
+
+same_numbers : (s a : State) → Remembers s a → numbers_in s ≡ numbers_in a
+same_numbers s a r = ap numbers_in r.rest
+
+decided_numbers : (h : Held) (t : Ts) (commit : Bool) (o : Option Request) → numbers_in (kept_by (record (decided (said h) commit o) { prepared = opened_without (said h).prepared t }) t commit) ≡ numbers_of (decided_by h t commit o)
+decided_numbers h t true None = refl
+decided_numbers h t true (Some q) = refl
+decided_numbers h t false None = refl
+decided_numbers h t false (Some q) = refl
+
+finished_numbers : (h : Held) (t : Ts) (commit : Bool) (o : Option Request) → numbers_in (record (decided (said h) commit o) { prepared = opened_without (said h).prepared t }) ≡ numbers_of (finished_by h t commit o)
+finished_numbers h t true None = refl
+finished_numbers h t true (Some q) = refl
+finished_numbers h t false None = refl
+finished_numbers h t false (Some q) = refl
+
+one_counted : (n : ℕ) (a b : Numbers) → a ≡ b → record a { count = n } ≡ record b { count = n }
+one_counted n a b is = ap (λ (c : Numbers). record c { count = n }) is
+
+-- those behind an entry are those of what is held behind it
+entered_numbers : (h : Held) (e : Entry) → Keeps h → numbers_in (after (said h) (AnEntry e)) ≡ numbers_of (entered h e)
+entered_numbers h (Life n) keeps = refl
+entered_numbers h (One q) keeps = refl
+entered_numbers h (Prepared q) keeps = refl
+entered_numbers h (Upgraded q) keeps = refl
+entered_numbers h (Decided t commit) keeps =
+    one_counted (h.count + 1) (numbers_in (kept_by (closed (said h) t commit) t commit)) (numbers_of (decided_by h t commit (open_at h.table t)))
+    (ap (λ (o : Option Request). numbers_in (kept_by (record (decided (said h) commit o) { prepared = opened_without (said h).prepared t }) t commit)) (request_open h.repo h.table keeps.table t) ∙ decided_numbers h t commit (open_at h.table t))
+entered_numbers h (Finished t commit) keeps =
+    one_counted (h.count + 1) (numbers_in (closed (said h) t commit)) (numbers_of (finished_by h t commit (open_at h.table t)))
+    (ap (λ (o : Option Request). numbers_in (record (decided (said h) commit o) { prepared = opened_without (said h).prepared t })) (request_open h.repo h.table keeps.table t) ∙ finished_numbers h t commit (open_at h.table t))
+
+-- where they are neither, it is none of what the disks may have said
+pub neither_of : (found h : Held) (pending : Option Entry) → Keeps h → (numbers_of found ≡ numbers_of h → ⊥) → IfSome pending (λ e. numbers_of found ≡ numbers_of (entered h e) → ⊥) → IsOneOf h pending (said found) → ⊥
+neither_of found h None keeps held behind (inl r) = held (same_numbers (said found) (said h) r)
+neither_of found h None keeps held behind (inr installing) = held (same_numbers (said found) (after (said h) (Installed installing.page installing.side)) installing.says)
+neither_of found h (Some e) keeps held behind (inl r) = held (same_numbers (said found) (said h) r)
+neither_of found h (Some e) keeps held behind (inr r) = behind (same_numbers (said found) (after (said h) (AnEntry e)) r ∙ entered_numbers h e keeps)
+
 -- ---- while it is down
 
 says_more : (old new : Disks) (h : Held) (p : Phase) → LeavesNoMore old new → SaysIn old h (lowered p) → SaysIn new h (lowered p)
@@ -141,6 +238,19 @@ restart_stays {P = P} disks old mid new pending is down more held parts same pha
     let images : ImagesSay (disks_of disks mid) old.held pending = images_more (disks_of disks old) (disks_of disks mid) old.held pending more (subst (SaysIn (disks_of disks old) old.held) down is.says) in
     let there : ImagesSay (disks_of disks mid) new.held pending = subst (λ (h : Held). ImagesSay (disks_of disks mid) h pending) (sym (same ∙ held)) images in
     said_in_phase disks new pending phase (subst (λ (p : Fused P). ImagesSay (fused_disks disks p) new.held pending) (sym parts) there)
+
+-- it isn't torn: then images of its disks said what it holds, or that with the pending entry
+pub restart_unheld : {P : Type 0} (disks : P → Disks) (old : Stable P) (now' : ℕ → Option (List ℕ)) (p : Phase) → IsSaid disks old → old.phase ≡ lowered p → is_torn_in old.phase ≡ false → ((pending : Option Entry) → ImagesSay (disks_of disks old) old.held pending → GivesUnheld now') → GivesUnheld now'
+restart_unheld disks old now' (Up log) is down whole unheld = unheld None (subst (SaysIn (disks_of disks old) old.held) down is.says)
+restart_unheld disks old now' (Down pending) is down whole unheld = unheld pending (subst (SaysIn (disks_of disks old) old.held) down is.says)
+restart_unheld disks old now' (Torn e) is down whole unheld = (let no : true ≡ false = sym (ap is_torn_in down) ∙ whole in cc)
+
+-- the stop is taken back
+pub tells_armed : {P : Type 0} (disks : P → Disks) (store : Stable P) (parts : Fused P) (calls : ℕ) → parts ≡ armed store.parts calls → TellsAll (disks_of disks store) → TellsAll (disks_of disks (record store { parts = parts }))
+tells_armed {P = P} disks store parts calls same tells = subst (λ (p : Fused P). TellsAll (fused_disks disks p)) (sym same) (λ d within. tells d within)
+
+pub tells_down : {P : Type 0} (disks : P → Disks) (old new : Stable P) → new ≡ down old → TellsAll (disks_of disks old) → TellsAll (disks_of disks new)
+tells_down {P = P} disks old new same tells = subst (λ (s : Stable P). TellsAll (disks_of disks s)) (sym same) tells
 
 -- what holds of an answer
 pub if_ok_on : {T E : Type 0} (r : Result T E) (A B : T → Type 0) → ((x : T) → A x → B x) → IfOk r A → IfOk r B
@@ -172,3 +282,14 @@ returned_pending {P = P} disks old new found log pending e was parts phase held 
 pub on_err_any : {T E : Type 0} (r : Result T E) (A : Type 0) → A → OnErr r A
 on_err_any (Ok x) A a = tt
 on_err_any (Err e) A a = a
+
+pub same_err : {T E : Type 0} (r : Result T E) (a b : E) → r ≡ Err a → r ≡ Err b → a ≡ b
+same_err r a b is e = cc
+
+pub none_pending : (pending : Option Entry) → IsSome pending → pending ≡ None → ⊥
+none_pending None some is = cc
+none_pending (Some e) some is = cc
+
+pub on_ok_any : {T E : Type 0} (r : Result T E) (A : Type 0) → A → OnOk r A
+on_ok_any (Ok x) A a = a
+on_ok_any (Err e) A a = tt

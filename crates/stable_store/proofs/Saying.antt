@@ -15,8 +15,10 @@ use Rattle.log_bytes.specs.declared.state.State.{State}
 use Rattle.log_frame.specs.Log.{Place, Stands}
 use Rattle.mob_flusher.specs.Images.{IsFlushed}
 use Rattle.stable_store.proofs.Opened.{holds_beside, holds_same}
-use Rattle.stable_store.proofs.Remembering.{remembers_after, remembers_itself}
-use Rattle.stable_store.specs.Kept.{disks_of, down, down_with, held_of, is_torn, is_torn_in, is_up_in, lowered, pending, pending_in}
+use Rattle.page_store.specs.Sides.{ReachesSides}
+use Rattle.stable_store.proofs.Pages.{Reach, reach_open, reach_still, tells_before}
+use Rattle.stable_store.proofs.Remembering.{entry_sides, remembers_after, remembers_itself}
+use Rattle.stable_store.specs.Kept.{IsKept, IsOpen, IsOpenIn, disks_of, down, down_with, held_of, is_torn, is_torn_in, is_up_in, lowered, pending, pending_in}
 use Rattle.stable_store.specs.Remembering.{Remembers}
 use Rattle.stable_store.specs.Saying.{FindsOneOf, ImagesSay, IsAhead, IsAheadIn, IsOneOf, IsSaid, LeavesNoMore, LogSays, SayOneOf, SaysIn}
 use Rattle.stable_store.specs.declared.stable.Phase.TheVariants.{Down, Torn, Up}
@@ -27,18 +29,11 @@ use Rattle.state_log.specs.Holds.{Holds, SaysEither, SaysOneOf, Under, beside}
 use Rattle.state_log.specs.Recovered.{after, stands}
 use Rattle.std.proofs.Common.{List, None, Option, Some, ap, arith, false, inl, inr, is_some, refl, subst, sym, true, ◌+◌, ◌<◌, ◌∙◌, ◌≡◌, ◌≢◌, ◌≤◌, ℕ}
 use Rattle.std.proofs.lemmas.Bool.{cases_eq}
+use Rattle.std.specs.BTreeMap.{insert_entry}
+use Rattle.std.specs.Ordering.{nat_cmp}
 use Rattle.log_frame.specs.Log.{read_log}
 
 -- ---- disks that tell
-
-some_of : (now then : Option (List ℕ)) → is_some now ≡ is_some then → (bytes : List ℕ) → then ≡ Some bytes → (bytes : List ℕ) × (now ≡ Some bytes)
-some_of (Some x) then same bytes told = (x, refl)
-some_of None (Some y) same bytes told = cc
-some_of None None same bytes told = cc
-
--- what tells behind calls told before
-pub tells_before : (old new : Disks) → GoesOn old new → TellsAll new → TellsAll old
-tells_before old new goes tells = λ d within. some_of (old.content d) (new.content d) (sym (goes.told d)) (tells d within).0 (tells d within).1
 
 tells_same : (old new : Disks) → SameDisks old new → TellsAll new → TellsAll old
 tells_same old new same tells = λ d within. ((tells d within).0, sym (same.content d) ∙ (tells d within).1)
@@ -68,40 +63,54 @@ not_pages d within = λ same. let no : 2 < 2 = omega (arith, same, within) in om
 logs_left : (old new : Disks) → OnDisk old new 2 → (images : ℕ → List ℕ) → MayLeaveAll new new.time images → (d : ℕ) → d < 2 → old.images old.time d (images d)
 logs_left old new alone images left d within = alone.others_images new.time d (images d) (not_pages d within) alone.later (omega arith) (left d (omega (arith, within)))
 
+-- what a state that says what is held has in use
+reach_said : (held : Held) (s : State) (image : List ℕ) → Remembers s (said held) → ReachesSides held.objects.pages.sides image → ReachesSides s.installed image
+reach_said held s image r reach = subst (λ (ps : List (ℕ × ℕ)). ReachesSides ps image) (sym r.installed) reach
+
+-- behind an entry
+reach_entered : (held : Held) (e : Entry) (s : State) (image : List ℕ) → Remembers s (after (said held) (AnEntry e)) → ReachesSides held.objects.pages.sides image → ReachesSides s.installed image
+reach_entered held e s image r reach = subst (λ (ps : List (ℕ × ℕ)). ReachesSides ps image) (sym (r.installed ∙ entry_sides (said held) e)) reach
+
+-- and behind a page that came into use
+reach_installed : (held : Held) (page side : ℕ) (s : State) (image : List ℕ) → Remembers s (said held) → ReachesSides (insert_entry nat_cmp held.objects.pages.sides page side) image → ReachesSides (after s (Installed page side)).installed image
+reach_installed held page side s image r reach = subst (λ (ps : List (ℕ × ℕ)). ReachesSides (insert_entry nat_cmp ps page side) image) (sym r.installed) reach
+
 same_said : (a b : State) (s : State) → b ≡ a → Remembers s a → Remembers s b
 same_said a b s is r = subst (Remembers s) (sym is) r
 
 -- the open log says what is held, and so does each image, where the disk of pages was called at most
-pub images_beside : (old new : Disks) (log : Place) (held now' : Held) → LogSays old log (said held) → OnDisk old new 2 → said now' ≡ said held → ImagesSay new now' None
-images_beside old new log held now' stood alone same = record {
+pub images_beside : (old new : Disks) (log : Place) (held now' : Held) → LogSays old log (said held) → OnDisk old new 2 → said now' ≡ said held → Reach new held.objects.pages.sides → ImagesSay new now' None
+images_beside old new log held now' stood alone same reach = record {
   each = λ tells images left.
       let told = tells_before old new (goes_one old new 2 alone) tells in
-      record { state = stood.state; stands = log_says old log stood.state stood.holds told images (logs_left old new alone images left); says = inl (same_said (said held) (said now') stood.state same (stood.says told)) };
+      record { state = stood.state; stands = log_says old log stood.state stood.holds told images (logs_left old new alone images left); says = inl (same_said (said held) (said now') stood.state same (stood.says told)); reaches = reach_said held stood.state (images 2) (stood.says told) (reach tells (images 2) (left 2 (omega arith))) };
 }
 
 -- where no disk was called
-pub images_of_log : (disks : Disks) (log : Place) (held now' : Held) → LogSays disks log (said held) → said now' ≡ said held → ImagesSay disks now' None
-images_of_log disks log held now' stood same = record {
+pub images_of_log : (disks : Disks) (log : Place) (held now' : Held) → LogSays disks log (said held) → said now' ≡ said held → Reach disks held.objects.pages.sides → ImagesSay disks now' None
+images_of_log disks log held now' stood same reach = record {
   each = λ tells images left.
-      record { state = stood.state; stands = log_says disks log stood.state stood.holds tells images (λ d within. left d (omega (arith, within))); says = inl (same_said (said held) (said now') stood.state same (stood.says tells)) };
+      record { state = stood.state; stands = log_says disks log stood.state stood.holds tells images (λ d within. left d (omega (arith, within))); says = inl (same_said (said held) (said now') stood.state same (stood.says tells)); reaches = reach_said held stood.state (images 2) (stood.says tells) (reach tells (images 2) (left 2 (omega arith))) };
 }
 
 -- where an entry is ahead
-pub images_ahead : (disks : Disks) (log : Place) (held : Held) (e : Entry) → LogSays disks log (after (said held) (AnEntry e)) → ImagesSay disks held (Some e)
-images_ahead disks log held e stood = record {
+pub images_ahead : (disks : Disks) (log : Place) (held : Held) (e : Entry) → LogSays disks log (after (said held) (AnEntry e)) → Reach disks held.objects.pages.sides → ImagesSay disks held (Some e)
+images_ahead disks log held e stood reach = record {
   each = λ tells images left.
-      record { state = stood.state; stands = log_says disks log stood.state stood.holds tells images (λ d within. left d (omega (arith, within))); says = inr (stood.says tells) };
+      record { state = stood.state; stands = log_says disks log stood.state stood.holds tells images (λ d within. left d (omega (arith, within))); says = inr (stood.says tells); reaches = reach_entered held e stood.state (images 2) (stood.says tells) (reach tells (images 2) (left 2 (omega arith))) };
 }
 
 -- ---- an entry
 
-pub images_written : (old new : Disks) (log : Place) (held : Held) (e : Entry) → LogSays old log (said held) → GoesOn old new → ((s : State) → Holds old log s → TellsAll old → LeavesAll old new (SaysOneOf s (AnEntry e))) → ImagesSay new held (Some e)
-images_written old new log held e stood goes any = record {
+pub images_written : (old new : Disks) (log : Place) (held : Held) (e : Entry) → LogSays old log (said held) → GoesOn old new → ((s : State) → Holds old log s → TellsAll old → LeavesAll old new (SaysOneOf s (AnEntry e))) → Reach new held.objects.pages.sides → ImagesSay new held (Some e)
+images_written old new log held e stood goes any reach = record {
   each = λ tells images left.
       let told = tells_before old new goes tells in
+      let there = reach tells (images 2) (left 2 (omega arith)) in
       elim (all_now old new (SaysOneOf stood.state (AnEntry e)) (any stood.state stood.holds told) images left) [
-        | inl before ↦ record { state = stood.state; stands = before; says = inl (stood.says told) }
-        | inr more ↦ record { state = after stood.state (AnEntry e); stands = more; says = inr (remembers_after stood.state (said held) (AnEntry e) (stood.says told)) }
+        | inl before ↦ record { state = stood.state; stands = before; says = inl (stood.says told); reaches = reach_said held stood.state (images 2) (stood.says told) there }
+        | inr more ↦ (let says = remembers_after stood.state (said held) (AnEntry e) (stood.says told) in
+            record { state = after stood.state (AnEntry e); stands = more; says = inr says; reaches = reach_entered held e (after stood.state (AnEntry e)) (images 2) says there })
       ];
 }
 
@@ -126,16 +135,17 @@ log_beside old new log a stood alone holds = record {
 }
 
 -- a page was being put in use
-pub images_installing : (old new : Disks) (log : Place) (held : Held) (page side repo : ℕ) → LogSays old log (said held) → IsFlushed held.objects repo page side → GoesOn old new → ((s : State) → Holds old log s → TellsAll old → LeavesAll old new (SaysOneOf s (Installed page side))) → ImagesSay new held None
-images_installing old new log held page side repo stood flushed goes any = record {
+pub images_installing : (old new : Disks) (log : Place) (held : Held) (page side repo : ℕ) → LogSays old log (said held) → IsFlushed held.objects repo page side → GoesOn old new → ((s : State) → Holds old log s → TellsAll old → LeavesAll old new (SaysOneOf s (Installed page side))) → Reach new held.objects.pages.sides → Reach new (insert_entry nat_cmp held.objects.pages.sides page side) → ImagesSay new held None
+images_installing old new log held page side repo stood flushed goes any reach more_reach = record {
   each = λ tells images left.
       let told = tells_before old new goes tells in
       elim (all_now old new (SaysOneOf stood.state (Installed page side)) (any stood.state stood.holds told) images left) [
-        | inl before ↦ record { state = stood.state; stands = before; says = inl (stood.says told) }
+        | inl before ↦ record { state = stood.state; stands = before; says = inl (stood.says told); reaches = reach_said held stood.state (images 2) (stood.says told) (reach tells (images 2) (left 2 (omega arith))) }
         | inr more ↦ record {
           state = after stood.state (Installed page side);
           stands = more;
           says = inr (record { page = page; side = side; repo = repo; flushed = flushed; says = remembers_after stood.state (said held) (Installed page side) (stood.says told) });
+          reaches = reach_installed held page side stood.state (images 2) (stood.says told) (more_reach tells (images 2) (left 2 (omega arith)));
         }
       ];
 }
@@ -149,13 +159,13 @@ remembers_spelled h keeps = record { rest = refl; next = keeps.next; kept = λ t
 remembers_spelt : (h : Held) (t : State) → t ≡ spelled h → Keeps h → Remembers t (said h)
 remembers_spelt h t is keeps = subst (λ (s : State). Remembers s (said h)) (sym is) (remembers_spelled h keeps)
 
-pub images_checkpointed : (old new : Disks) (log : Place) (held : Held) (t : State) → t ≡ spelled held → LogSays old log (said held) → Keeps held → GoesOn old new → ((s : State) → Holds old log s → TellsAll old → LeavesAll old new (SaysEither s t)) → ImagesSay new held None
-images_checkpointed old new log held t is stood keeps goes any = record {
+pub images_checkpointed : (old new : Disks) (log : Place) (held : Held) (t : State) → t ≡ spelled held → LogSays old log (said held) → Keeps held → GoesOn old new → ((s : State) → Holds old log s → TellsAll old → LeavesAll old new (SaysEither s t)) → Reach new held.objects.pages.sides → ImagesSay new held None
+images_checkpointed old new log held t is stood keeps goes any reach = record {
   each = λ tells images left.
       let told = tells_before old new goes tells in
       elim (all_now old new (SaysEither stood.state t) (any stood.state stood.holds told) images left) [
-        | inl before ↦ record { state = stood.state; stands = before; says = inl (stood.says told) }
-        | inr more ↦ record { state = t; stands = more; says = inl (remembers_spelt held t is keeps) }
+        | inl before ↦ record { state = stood.state; stands = before; says = inl (stood.says told); reaches = reach_said held stood.state (images 2) (stood.says told) (reach tells (images 2) (left 2 (omega arith))) }
+        | inr more ↦ record { state = t; stands = more; says = inl (remembers_spelt held t is keeps); reaches = reach_said held t (images 2) (remembers_spelt held t is keeps) (reach tells (images 2) (left 2 (omega arith))) }
       ];
 }
 
@@ -165,19 +175,19 @@ log_anew disks log held t is keeps holds = record { state = t; holds = holds; sa
 -- ---- by whether it is up
 
 -- it goes down
-pub says_lowered : (disks : Disks) (held : Held) (phase : Phase) → SaysIn disks held phase → SaysIn disks held (lowered phase)
-says_lowered disks held (Up log) says = images_of_log disks log held held says refl
-says_lowered disks held (Down pending) says = says
-says_lowered disks held (Torn e) says = tt
+pub says_lowered : (disks : Disks) (held : Held) (phase : Phase) → IsOpenIn disks held phase → SaysIn disks held phase → SaysIn disks held (lowered phase)
+says_lowered disks held (Up log) stood says = images_of_log disks log held held says refl (reach_open disks log held stood)
+says_lowered disks held (Down pending) stood says = says
+says_lowered disks held (Torn e) stood says = tt
 
-pub said_down : {P : Type 0} (disks : P → Disks) (store : Stable P) → IsSaid disks store → IsSaid disks (down store)
-said_down disks store is = record { says = says_lowered (disks_of disks store) store.held store.phase is.says }
+pub said_down : {P : Type 0} (disks : P → Disks) (store : Stable P) → IsKept disks store → IsSaid disks store → IsSaid disks (down store)
+said_down disks store kept is = record { says = says_lowered (disks_of disks store) store.held store.phase kept.stands is.says }
 
 -- with an entry that is ahead
-pub says_pending : (disks : Disks) (held : Held) (phase : Phase) (e : Entry) → IsAheadIn disks held e phase → ImagesSay disks held (Some e)
-says_pending disks held (Up log) e ahead = images_ahead disks log held e ahead
-says_pending disks held (Down pending) e ahead = absurd ahead
-says_pending disks held (Torn f) e ahead = absurd ahead
+pub says_pending : (disks : Disks) (held : Held) (phase : Phase) (e : Entry) → IsOpenIn disks held phase → IsAheadIn disks held e phase → ImagesSay disks held (Some e)
+says_pending disks held (Up log) e stood ahead = images_ahead disks log held e ahead (reach_open disks log held stood)
+says_pending disks held (Down pending) e stood ahead = absurd ahead
+says_pending disks held (Torn f) e stood ahead = absurd ahead
 
 -- the clock was asked
 pub says_same : (old new : Disks) (held : Held) (phase : Phase) → SaysIn old held phase → SameDisks old new → SaysIn new held phase
@@ -248,11 +258,11 @@ log_just disks log a holds = record { state = a; holds = holds; says = λ tells.
 pub said_same : {P : Type 0} (disks : P → Disks) (old new : Stable P) → new ≡ old → IsSaid disks old → IsSaid disks new
 said_same disks old new same is = subst (IsSaid disks) (sym same) is
 
-pub said_lowered : {P : Type 0} (disks : P → Disks) (old new : Stable P) → new ≡ down old → IsSaid disks old → IsSaid disks new
-said_lowered disks old new same is = subst (IsSaid disks) (sym same) (said_down disks old is)
+pub said_lowered : {P : Type 0} (disks : P → Disks) (old new : Stable P) → new ≡ down old → IsKept disks old → IsSaid disks old → IsSaid disks new
+said_lowered disks old new same kept is = subst (IsSaid disks) (sym same) (said_down disks old kept is)
 
-pub said_pending : {P : Type 0} (disks : P → Disks) (old new : Stable P) (e : Entry) → new ≡ down_with old (Some e) → IsAhead disks old e → IsSaid disks new
-said_pending disks old new e same ahead = said_resting disks old new (Some e) same (says_pending (disks_of disks old) old.held old.phase e ahead.ahead)
+pub said_pending : {P : Type 0} (disks : P → Disks) (old new : Stable P) (e : Entry) → new ≡ down_with old (Some e) → IsKept disks old → IsAhead disks old e → IsSaid disks new
+said_pending disks old new e same kept ahead = said_resting disks old new (Some e) same (says_pending (disks_of disks old) old.held old.phase e kept.stands ahead.ahead)
 
 -- one that is down
 abbrev pub phase_of : {P : Type 0} → Stable P → Phase
@@ -263,29 +273,30 @@ said_in_phase disks store pending is says = record { says = subst (SaysIn (disks
 
 -- ---- images
 
-says_images : (disks : Disks) (held : Held) (phase : Phase) → is_torn_in phase ≡ false → SaysIn disks held phase → ImagesSay disks held (pending_in phase)
-says_images disks held (Up log) whole says = images_of_log disks log held held says refl
-says_images disks held (Down pending) whole says = says
-says_images disks held (Torn e) whole says = cc
+says_images : (disks : Disks) (held : Held) (phase : Phase) → is_torn_in phase ≡ false → IsOpenIn disks held phase → SaysIn disks held phase → ImagesSay disks held (pending_in phase)
+says_images disks held (Up log) whole stood says = images_of_log disks log held held says refl (reach_open disks log held stood)
+says_images disks held (Down pending) whole stood says = says
+says_images disks held (Torn e) whole stood says = cc
 
 -- whether it is up or down, images say what it holds
-pub images_of : {P : Type 0} (disks : P → Disks) (store : Stable P) → is_torn store ≡ false → IsSaid disks store → ImagesSay (disks_of disks store) (held_of store) (pending store)
-images_of disks store whole is = says_images (disks_of disks store) store.held store.phase whole is.says
+pub images_of : {P : Type 0} (disks : P → Disks) (store : Stable P) → is_torn store ≡ false → IsKept disks store → IsSaid disks store → ImagesSay (disks_of disks store) (held_of store) (pending store)
+images_of disks store whole kept is = says_images (disks_of disks store) store.held store.phase whole kept.stands is.says
 
 -- the log was taken out, and is let go of
-pub said_out : {P : Type 0} (disks : P → Disks) (old mid : Stable P) (log : Place) → old.phase ≡ Up log → mid ≡ down_with old None → IsSaid disks old → IsSaid disks mid
-said_out disks old mid log is same said_old =
-    subst (IsSaid disks) (sym same) (record { says = images_of_log (disks_of disks old) log old.held old.held (log_of_up (disks_of disks old) old.held old.phase log said_old.says is) refl })
+pub said_out : {P : Type 0} (disks : P → Disks) (old mid : Stable P) (log : Place) → old.phase ≡ Up log → mid ≡ down_with old None → IsOpen (disks_of disks old) log old.held → IsSaid disks old → IsSaid disks mid
+said_out disks old mid log is same stood said_old =
+    subst (IsSaid disks) (sym same) (record { says = images_of_log (disks_of disks old) log old.held old.held (log_of_up (disks_of disks old) old.held old.phase log said_old.says is) refl (reach_open (disks_of disks old) log old.held stood) })
 
 keeps_out : {P : Type 0} (old mid : Stable P) → mid ≡ down_with old None → Keeps old.held → Keeps mid.held
 keeps_out {P = P} old mid same keeps = subst (λ (s : Stable P). Keeps s.held) (sym same) keeps
 
 -- a checkpoint failed
-pub said_begun : {P : Type 0} (disks : P → Disks) (old mid : Stable P) (parts : Fused P) (log : Place) (t : State) → old.phase ≡ Up log → mid ≡ down_with old None → IsSaid disks old → Keeps old.held → t ≡ spelled mid.held
-    → GoesOn (disks_of disks mid) (fused_disks disks parts) → ((s : State) → Holds (disks_of disks mid) log s → TellsAll (disks_of disks mid) → LeavesAll (disks_of disks mid) (fused_disks disks parts) (SaysEither s t)) → IsSaid disks (record mid { parts = parts })
-said_begun disks old mid parts log t is same said_old keeps spelt goes any =
+pub said_begun : {P : Type 0} (disks : P → Disks) (old mid : Stable P) (parts : Fused P) (log : Place) (t : State) → old.phase ≡ Up log → mid ≡ down_with old None → IsSaid disks old → IsOpen (disks_of disks mid) log mid.held → t ≡ spelled mid.held
+    → NoNewImage (disks_of disks mid) (fused_disks disks parts) 2 → GoesOn (disks_of disks mid) (fused_disks disks parts) → ((s : State) → Holds (disks_of disks mid) log s → TellsAll (disks_of disks mid) → LeavesAll (disks_of disks mid) (fused_disks disks parts) (SaysEither s t)) → IsSaid disks (record mid { parts = parts })
+said_begun disks old mid parts log t is same said_old stood spelt still goes any =
     said_in_phase disks (record mid { parts = parts }) None (ap phase_of same)
-    (images_checkpointed (disks_of disks mid) (fused_disks disks parts) log mid.held t spelt (taken_says disks old mid log is same said_old) (keeps_out old mid same keeps) goes any)
+    (images_checkpointed (disks_of disks mid) (fused_disks disks parts) log mid.held t spelt (taken_says disks old mid log is same said_old) stood.keeps goes any
+    (reach_still (disks_of disks mid) (fused_disks disks parts) mid.held.objects.pages.sides goes still (reach_open (disks_of disks mid) log mid.held stood)))
 
 -- or began a log
 pub said_anew : {P : Type 0} (disks : P → Disks) (old mid new : Stable P) (parts : Fused P) (log : Place) (t : State) → mid ≡ down_with old None → Keeps old.held → t ≡ spelled mid.held → new ≡ record mid { parts = parts; phase = Up log } → Holds (fused_disks disks parts) log t → IsSaid disks new
@@ -293,7 +304,8 @@ said_anew disks old mid new parts log t same keeps spelt put holds =
     said_up disks (record mid { parts = parts }) new log put (log_anew (fused_disks disks parts) log mid.held t spelt (keeps_out old mid same keeps) holds)
 
 -- a page couldn't be read
-pub said_unread : {P : Type 0} (disks : P → Disks) (old mid : Stable P) (parts : Fused P) (held : Held) (log : Place) → old.phase ≡ Up log → mid ≡ down_with old None → IsSaid disks old → OnDisk (disks_of disks mid) (fused_disks disks parts) 2 → said held ≡ said mid.held → IsSaid disks (record mid { parts = parts; held = held })
-said_unread disks old mid parts held log is same said_old alone kept =
+pub said_unread : {P : Type 0} (disks : P → Disks) (old mid : Stable P) (parts : Fused P) (held : Held) (log : Place) → old.phase ≡ Up log → mid ≡ down_with old None → IsSaid disks old → IsOpen (disks_of disks mid) log mid.held → OnDisk (disks_of disks mid) (fused_disks disks parts) 2 → NoNewImage (disks_of disks mid) (fused_disks disks parts) 2 → said held ≡ said mid.held → IsSaid disks (record mid { parts = parts; held = held })
+said_unread disks old mid parts held log is same said_old stood alone still kept =
     said_in_phase disks (record mid { parts = parts; held = held }) None (ap phase_of same)
-    (images_beside (disks_of disks mid) (fused_disks disks parts) log mid.held held (taken_says disks old mid log is same said_old) alone kept)
+    (images_beside (disks_of disks mid) (fused_disks disks parts) log mid.held held (taken_says disks old mid log is same said_old) alone kept
+    (reach_still (disks_of disks mid) (fused_disks disks parts) mid.held.objects.pages.sides (goes_one (disks_of disks mid) (fused_disks disks parts) 2 alone) still (reach_open (disks_of disks mid) log mid.held stood)))

@@ -15,7 +15,7 @@ use Rattle.stable_store.specs.declared.stable.Phase.{Phase}
 use Rattle.stable_store.specs.declared.stable.Stable.{Stable}
 use Rattle.state_log.specs.Holds.{Holds}
 use Rattle.std.specs.Option.{IfSome}
-use Rattle.std.specs.Prelude.{Bool, None, Option, Some, false, true, ◌≡◌}
+use Rattle.std.specs.Prelude.{Bool, None, Option, Some, false, true, ℕ, ◌≡◌}
 use Rattle.validation_window.specs.declared.refusal.Refusal.TheVariants as refused
 use Rattle.validation_window.specs.declared.refusal.Refusal.{Refusal}
 
@@ -121,6 +121,14 @@ is_fault (refused.Damaged r k) = true
 is_fault refused.NoMemory = true
 is_fault (refused.Down r) = false
 is_fault (refused.Reason r) = false
+
+-- the repository that a refusal names; this one, where it names none
+abbrev pub repo_named : ℕ → Refusal → ℕ
+repo_named repo (refused.Down r) = r
+repo_named repo (refused.Stopped r) = r
+repo_named repo (refused.Damaged r k) = r
+repo_named repo refused.NoMemory = repo
+repo_named repo (refused.Reason r) = repo
 
 -- it was up and is so
 pub record GoesOnUp {P : Type 0} (old new : Stable P) : Type 0 where

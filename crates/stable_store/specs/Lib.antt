@@ -1,4 +1,5 @@
 pub mod Agreeing
+pub mod Causes
 pub mod Flushes
 pub mod Kept
 pub mod Reach

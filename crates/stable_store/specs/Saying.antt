@@ -8,6 +8,8 @@ use Rattle.log_bytes.specs.declared.body.Body.TheVariants.{Entry as AnEntry, Ins
 use Rattle.log_bytes.specs.declared.state.State.{State}
 use Rattle.log_frame.specs.Log.{Place}
 use Rattle.mob_flusher.specs.Images.{IsFlushed}
+use Rattle.page_store.specs.Sides.{ReachesSides}
+use Rattle.recovery.specs.Damage.{StandsUnheld}
 use Rattle.stable_store.specs.Kept.{disks_of}
 use Rattle.stable_store.specs.Remembering.{Remembers}
 use Rattle.stable_store.specs.declared.recovering.Taken.TheVariants as taken
@@ -17,7 +19,7 @@ use Rattle.stable_store.specs.declared.stable.Phase.{Phase}
 use Rattle.stable_store.specs.declared.stable.Stable.{Stable}
 use Rattle.state_log.specs.Holds.{Holds}
 use Rattle.state_log.specs.Recovered.{after, stands}
-use Rattle.std.specs.Prelude.{List, None, Option, Some, ℕ, ◌≡◌, ◌⊎◌}
+use Rattle.std.specs.Prelude.{List, None, Option, Some, ℕ, ◌<◌, ◌≡◌, ◌⊎◌}
 
 -- the state of a log says what is held, with that page in use which was flushed last: its other side has all its objects
 pub record IsInstalling (h : Held) (s : State) : Type 0 where
@@ -32,11 +34,12 @@ abbrev pub IsOneOf : Held → Option Entry → State → Type 0
 IsOneOf h None s = Remembers s (said h) ⊎ IsInstalling h s
 IsOneOf h (Some e) s = Remembers s (said h) ⊎ Remembers s (after (said h) (AnEntry e))
 
--- so does what images of the disks stand for
+-- So does what images of the disks stand for, and the image of the disk of pages reaches each side in use.
 pub record SayOneOf (h : Held) (pending : Option Entry) (images : ℕ → List ℕ) : Type 0 where
   pub state : State
   pub stands : stands images ≡ Some state
   pub says : IsOneOf h pending state
+  pub reaches : ReachesSides state.installed (images 2)
 
 -- each image that a crash of the disks now may leave says what is held, or that with the pending entry
 pub record ImagesSay (disks : Disks) (h : Held) (pending : Option Entry) : Type 0 where
@@ -75,7 +78,14 @@ SaysTaken disks store (taken.Pending e) = IsAhead disks store e
 pub record LeavesNoMore (old new : Disks) : Type 0 where
   pub images : (images : ℕ → List ℕ) → MayLeaveAll new new.time images → MayLeaveAll old old.time images
   pub tells : TellsAll new → TellsAll old
+  pub goes_on : TellsAll old → TellsAll new
 
 -- one of the states that the disks may have said is found
 abbrev pub FindsOneOf : Disks → Disks → Held → State → Type 0
 FindsOneOf old new h s = (pending : Option Entry) → ImagesSay old h pending → TellsAll new → IsOneOf h pending s
+
+-- The disks tell their bytes, and the log that counts there can't be taken into memory.
+pub record GivesUnheld (content : ℕ → Option (List ℕ)) : Type 0 where
+  pub bytes : ℕ → List ℕ
+  pub told : (d : ℕ) → d < 3 → content d ≡ Some (bytes d)
+  pub unheld : StandsUnheld bytes

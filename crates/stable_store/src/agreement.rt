@@ -1,7 +1,7 @@
 //! Whether what disks stand for agrees with what is in memory.
 
-ghost use Rattle.std.specs.Option.{IfSome};
-ghost use Rattle.std.specs.Prelude.{◌≡◌, List, length, ℕ};
+ghost use Rattle.std.specs.Option.{IfSome, IsSome};
+ghost use Rattle.std.specs.Prelude.{◌≡◌, ◌^◌, ◌≤◌, ◌⊎◌, List, None, length, ℕ};
 ghost use Rattle.held_state.specs.Entering.{entered};
 ghost use Rattle.stable_store.specs.Agreeing.{numbers_of};
 ghost use Rattle.stable_store.specs.declared.agreement.Agreement.TheVariants.{AsHeld, Neither, WithPending};
@@ -39,6 +39,8 @@ pub(crate) fn compare(held: &HeldState, pending: &Option<Entry>, recovered: &Hel
     ensures held { result ≡ AsHeld → numbers_of recovered.now ≡ numbers_of held.now }
     ensures pending { result ≡ WithPending → IfSome pending.now (λ e. numbers_of recovered.now ≡ numbers_of (entered held.now e)) }
     ensures neither { result ≡ Neither → numbers_of recovered.now ≡ numbers_of held.now → ⊥ }
+    ensures nor_pending { result ≡ Neither → IfSome pending.now (λ e. numbers_of recovered.now ≡ numbers_of (entered held.now e) → ⊥) }
+    ensures was_pending { result ≡ WithPending → IsSome pending.now }
 {
     let found = numbers_of(recovered);
     if found == numbers_of(held) {
@@ -53,6 +55,7 @@ pub(crate) fn compare(held: &HeldState, pending: &Option<Entry>, recovered: &Hel
 // Whether numbers are those behind an entry.
 fn compare_behind(found: Numbers, held: &HeldState, entry: &Entry) -> Agreement
     ensures pending { result ≡ WithPending → found ≡ numbers_of (entered held.now entry.now) }
+    ensures neither { result ≡ Neither → found ≡ numbers_of (entered held.now entry.now) → ⊥ }
     ensures held { result ≡ AsHeld → ⊥ }
 {
     match numbers_behind(held, entry) {
@@ -82,7 +85,8 @@ fn numbers_of(held: &HeldState) -> Numbers
 
 // The numbers of a state behind an entry; `None` where one of them would pass its type, which no run comes to.
 fn numbers_behind(held: &HeldState, entry: &Entry) -> Option<Numbers>
-    ensures { IfSome result (λ numbers. numbers ≡ numbers_of (entered held.now entry.now)) }
+    ensures some { IfSome result (λ numbers. numbers ≡ numbers_of (entered held.now entry.now)) }
+    ensures none { result ≡ None → (2 ^ 64 ≤ (numbers_of (entered held.now entry.now)).count) ⊎ (2 ^ 64 ≤ (numbers_of (entered held.now entry.now)).epoch) }
 {
     let numbers = numbers_of(held);
     let count = numbers.count.checked_add(1)?;
@@ -107,6 +111,7 @@ fn numbers_behind(held: &HeldState, entry: &Entry) -> Option<Numbers>
 fn committed(numbers: Numbers, request: &Request) -> Option<Numbers>
     ensures same { IfSome result (λ behind. behind ≡ record numbers { threshold = threshold_after numbers.threshold request.now.kind request.now.tx; epoch = behind.epoch }) }
     ensures epoch { IfSome result (λ behind. (texts : List (List ℕ)) → numbers.epoch ≡ length texts → behind.epoch ≡ length (texts_after texts request.now.kind)) }
+    ensures none { result ≡ None → (texts : List (List ℕ)) → numbers.epoch ≡ length texts → 2 ^ 64 ≤ length (texts_after texts request.now.kind) }
 {
     match &request.kind {
         Kind::App | Kind::Transform => Some(Numbers {

@@ -1,7 +1,12 @@
 //! Why a repository wasn't opened, and how faults of the layers below are told.
 
-ghost use Rattle.std.specs.Prelude.{◌≡◌, true};
-ghost use Rattle.stable_store.specs.Kept.{is_fault};
+ghost use Rattle.std.specs.Prelude.{◌≡◌, true, ℕ};
+ghost use Rattle.log_frame.specs.declared.fault.LogFault.TheVariants.{Damaged as AtLog};
+ghost use Rattle.recovery.specs.declared.fault.RecoverFault.TheVariants.{Damaged as AtRecovery};
+ghost use Rattle.stable_store.specs.Causes.{cause_of_log, cause_of_outage, cause_of_store};
+ghost use Rattle.stable_store.specs.Kept.{is_fault, repo_named};
+ghost use Rattle.stable_store.specs.declared.fault.OpenCause.TheVariants.{NoMemory as OutOfMemory};
+ghost use Rattle.validation_window.specs.declared.refusal.Refusal.TheVariants.{Damaged as IsDamaged};
 
 use disk_trait::Outage;
 use log_frame::LogFault;
@@ -20,12 +25,16 @@ pub enum OpenCause {
 }
 
 impl From<NoMemory> for OpenCause {
+    ghost from_gives = { λ _ cause. cause ≡ OutOfMemory };
+
     fn from(_refused: NoMemory) -> OpenCause {
         OpenCause::NoMemory
     }
 }
 
 impl From<Outage> for OpenCause {
+    ghost from_gives = { λ outage cause. cause ≡ cause_of_outage outage };
+
     fn from(outage: Outage) -> OpenCause {
         match outage {
             Outage::Failed => OpenCause::Failed,
@@ -35,6 +44,8 @@ impl From<Outage> for OpenCause {
 }
 
 impl From<StoreFault> for OpenCause {
+    ghost from_gives = { λ fault cause. cause ≡ cause_of_store fault };
+
     fn from(fault: StoreFault) -> OpenCause {
         match fault {
             StoreFault::NoMemory => OpenCause::NoMemory,
@@ -44,6 +55,8 @@ impl From<StoreFault> for OpenCause {
 }
 
 impl From<LogFault> for OpenCause {
+    ghost from_gives = { λ fault cause. cause ≡ cause_of_log fault };
+
     fn from(fault: LogFault) -> OpenCause {
         match fault {
             LogFault::NoMemory => OpenCause::NoMemory,
@@ -61,7 +74,9 @@ pub struct OpenFault<P> {
 
 /// The refusal of a call of the repository in which its log had a fault.
 pub(crate) fn of_log(repo: u8, fault: LogFault) -> Refusal
-    ensures { is_fault result ≡ true }
+    ensures fault { is_fault result ≡ true }
+    ensures names { repo_named repo result ≡ repo }
+    ensures damaged { (r place : ℕ) → result ≡ IsDamaged r place → (at : ℕ) × (fault ≡ AtLog at) }
 {
     match fault {
         LogFault::Failed => Refusal::Stopped { repo },
@@ -72,7 +87,8 @@ pub(crate) fn of_log(repo: u8, fault: LogFault) -> Refusal
 
 /// The refusal of a call in which its pages had a fault.
 pub(crate) fn of_store(repo: u8, fault: StoreFault) -> Refusal
-    ensures { is_fault result ≡ true }
+    ensures fault { is_fault result ≡ true }
+    ensures names { repo_named repo result ≡ repo }
 {
     match fault {
         StoreFault::Failed => Refusal::Stopped { repo },
@@ -83,7 +99,9 @@ pub(crate) fn of_store(repo: u8, fault: StoreFault) -> Refusal
 
 /// The refusal of a restart in which a disk had an outage.
 pub(crate) fn of_outage(repo: u8, outage: Outage) -> Refusal
-    ensures { is_fault result ≡ true }
+    ensures fault { is_fault result ≡ true }
+    ensures names { repo_named repo result ≡ repo }
+    ensures damaged { (r place : ℕ) → result ≡ IsDamaged r place → ⊥ }
 {
     match outage {
         Outage::Failed => Refusal::Stopped { repo },
@@ -93,7 +111,9 @@ pub(crate) fn of_outage(repo: u8, outage: Outage) -> Refusal
 
 /// The refusal of a restart that couldn't recover.
 pub(crate) fn of_recovery(repo: u8, fault: RecoverFault) -> Refusal
-    ensures { is_fault result ≡ true }
+    ensures fault { is_fault result ≡ true }
+    ensures names { repo_named repo result ≡ repo }
+    ensures damaged { (r place : ℕ) → result ≡ IsDamaged r place → (d at : ℕ) × (fault ≡ AtRecovery d at) }
 {
     match fault {
         RecoverFault::Failed { disk: _ } => Refusal::Stopped { repo },

@@ -1,7 +1,8 @@
 //! Whether the disk of pages has room for the installed sides.
 
-ghost use Rattle.std.specs.Prelude.{◌≡◌, IfOk, length};
+ghost use Rattle.std.specs.Prelude.{◌≡◌, IfOk, Ok, false, length};
 ghost use Rattle.disk_trait.specs.Disks.{Disks, NoNewImage, OnDisk, WhereTold};
+ghost use Rattle.page_store.specs.Sides.{ReachesSides};
 ghost use Rattle.stable_store.specs.Reach.{are_within, end_of, is_within};
 
 use disk_trait::{Outage, Parts};
@@ -19,6 +20,7 @@ pub(crate) fn reaches<P: Parts>(parts: &mut P, sides: &Sides) -> Result<bool, Ou
     ensures content { (P.disks parts.new).content 2 ≡ (P.disks parts.old).content 2 }
     ensures crash { NoNewImage (P.disks parts.old) (P.disks parts.new) 2 }
     ensures answer { IfOk result (λ answer. WhereTold (P.disks parts.old) 2 (λ disk. answer ≡ are_within (length disk) sides.now)) }
+    ensures lacks { result ≡ Ok false → WhereTold (P.disks parts.old) 2 (λ disk. ReachesSides sides.now disk → ⊥) }
 {
     let length = parts.len(PAGES)?;
     Ok(are_within(sides.as_slice(), length))

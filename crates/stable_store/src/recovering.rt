@@ -1,16 +1,20 @@
 //! How a repository that is down comes up.
 
-ghost use Rattle.std.specs.Prelude.{◌≡◌, IfErr, IfOk, OnErr, OnOk, false, true};
+ghost use Rattle.std.specs.Prelude.{◌≡◌, IfErr, IfOk, IsErrOf, OnErr, OnOk, Option, false, true, ℕ};
+ghost use Rattle.commit_log.specs.declared.entry.Entry.{Entry as AnyEntry};
 ghost use Rattle.disk_trait.specs.AllDisks.{TellsAll};
+ghost use Rattle.disk_trait.specs.Disks.{WhereTold};
 ghost use Rattle.held_state.specs.Keeps.{Keeps};
 ghost use Rattle.held_state.specs.Said.{said};
+ghost use Rattle.page_store.specs.Sides.{ReachesSides};
 ghost use Rattle.stable_store.specs.Agreeing.{IsTaken};
 ghost use Rattle.log_bytes.specs.declared.state.State.{State};
 ghost use Rattle.stable_store.specs.Kept.{IsKept, IsOpen, IsResting, disks_of, held_of, is_fault, is_torn, is_up, lowered, pending};
-ghost use Rattle.stable_store.specs.Saying.{FindsOneOf, IsOneOf, IsSaid, LeavesNoMore, SaysTaken};
+ghost use Rattle.stable_store.specs.Saying.{FindsOneOf, GivesUnheld, ImagesSay, IsOneOf, IsSaid, LeavesNoMore, SaysTaken};
 ghost use Rattle.stable_store.specs.declared.stable.Phase.TheVariants.{Down as IsDown, Up as IsUp};
 ghost use Rattle.stable_store.specs.Taking.{AgreesWhere, CanTake, TakesFrom};
 ghost use Rattle.state_log.specs.Holds.{Holds};
+ghost use Rattle.validation_window.specs.declared.refusal.Refusal.TheVariants.{Damaged as IsDamaged};
 
 use crate::agreement::{Agreement, compare};
 use crate::fault::{OpenCause, OpenFault, of_outage, of_recovery};
@@ -70,8 +74,9 @@ impl<P: Parts> Stable<P> {
 
     /// Takes the repository down where it is up, crashes its disks, and takes over their log and objects,
     /// where what they stand for agrees with what is held, or with that and the pending entry. Otherwise it
-    /// stays down, with the entry pending that was so. Want of memory, too, where there was none for an entry
-    /// that its log has.
+    /// stays down, with the entry pending that was so. `Damaged` only where some disk doesn't tell its bytes,
+    /// or where the log that counts can't be taken into memory. Want of memory, too, where there was none for
+    /// an entry that its log has: then no disk is called.
     pub fn restart(&mut self, alloc: Global, pick: u64) -> Result<Taken, Refusal>
         requires kept { IsKept P.disks self.old }
         ensures kept { IsKept P.disks self.new }
@@ -88,9 +93,13 @@ impl<P: Parts> Stable<P> {
         ensures whole { OnOk result (is_torn self.old ≡ false) }
         ensures says { IsSaid P.disks self.old → IfOk result (SaysTaken P.disks self.new) }
         ensures stays_said { IsSaid P.disks self.old → OnErr result (IsSaid P.disks self.new) }
+        ensures damaged { (r place : ℕ) → IsErrOf result (IsDamaged r place) → IsSaid P.disks self.old → TellsAll (disks_of P.disks self.old) → GivesUnheld (disks_of P.disks self.new).content }
     {
         self.parts.disarm();
         self.take_down();
+        if self.is_torn() {
+            return Err(Refusal::NoMemory);
+        }
         let recovered = self.recover(alloc, pick)?;
         match mem::replace(&mut self.phase, Phase::Down { pending: None }) {
             Phase::Up { log } => {
@@ -107,6 +116,16 @@ impl<P: Parts> Stable<P> {
         }
     }
 
+    /// Whether what is held is no state of its log.
+    fn is_torn(&self) -> bool
+        ensures { result ≡ is_torn self.now }
+    {
+        match &self.phase {
+            Phase::Torn { .. } => true,
+            Phase::Up { .. } | Phase::Down { .. } => false,
+        }
+    }
+
     /// Crashes the disks and reads what they stand for.
     #[tactic(auto, using(crate::proofs::Returning::more_run, crate::proofs::Returning::more_then))]
     fn recover(&mut self, alloc: Global, pick: u64) -> Result<Recovered, Refusal>
@@ -118,18 +137,17 @@ impl<P: Parts> Stable<P> {
         ensures stands { IfOk result (λ r. Holds (disks_of P.disks self.new) r.log (said r.state)) }
         ensures crash { LeavesNoMore (disks_of P.disks self.old) (disks_of P.disks self.new) }
         ensures found { IfOk result (λ r. FindsOneOf (disks_of P.disks self.old) (disks_of P.disks self.new) (held_of self.old) (said r.state)) }
+        ensures damaged { (r place : ℕ) → IsErrOf result (IsDamaged r place) → (pending : Option AnyEntry) → ImagesSay (disks_of P.disks self.old) (held_of self.old) pending → TellsAll (disks_of P.disks self.old) → GivesUnheld (disks_of P.disks self.new).content }
     {
         let repo = self.repo();
         let mob_limit = self.held.objects().mob().limit();
         if let Err(outage) = restart_all(&mut self.parts, pick) {
             return Err(of_outage(repo, outage));
         }
-        match recover(alloc, &mut self.parts, mob_limit) {
-            Ok(Some(recovered)) => {
-                let reached = self.reached(recovered);
-                content_is_left(&self.parts);
-                reached
-            }
+        let found = recover(alloc, &mut self.parts, mob_limit);
+        content_is_left(&self.parts);
+        match found {
+            Ok(Some(recovered)) => self.reached(recovered),
             Ok(None) => Err(Refusal::Damaged { repo, place: 0 }),
             Err(fault) => Err(of_recovery(repo, fault)),
         }
@@ -150,6 +168,7 @@ impl<P: Parts> Stable<P> {
         ensures stands { IfOk result (λ r. Holds (disks_of P.disks self.new) r.log (said r.state)) }
         ensures crash { LeavesNoMore (disks_of P.disks self.old) (disks_of P.disks self.new) }
         ensures same { IfOk result (λ r. r.state ≡ recovered.state) }
+        ensures damaged { (r place : ℕ) → IsErrOf result (IsDamaged r place) → WhereTold (disks_of P.disks self.old) 2 (λ disk. ReachesSides recovered.state.objects.pages.sides disk → ⊥) }
     {
         let repo = self.repo();
         match reaches(&mut self.parts, recovered.state.objects().pages().sides()) {
@@ -184,6 +203,7 @@ impl<P: Parts> Stable<P> {
         ensures stays { OnErr result (self.new.phase ≡ IsDown pending) }
         ensures says { (TellsAll (disks_of P.disks self.old) → IsOneOf (held_of self.old) pending (said recovered.state)) → IfOk result (SaysTaken P.disks self.new) }
         ensures parts { self.new.parts ≡ self.old.parts }
+        ensures damaged { (r place : ℕ) → IsErrOf result (IsDamaged r place) → IsOneOf (held_of self.old) pending (said recovered.state) → ⊥ }
     {
         let Recovered { state, log, .. } = recovered;
         let agrees = compare(&self.held, &pending, &state);

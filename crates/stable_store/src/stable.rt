@@ -1,19 +1,21 @@
 //! What of a repository outlives a crash, and what is held in memory of it.
 
 ghost use Rattle.std.specs.Option.{IfSome, IsNone};
-ghost use Rattle.std.specs.Prelude.{◌≡◌, ◌≤◌, IfErr, IfOk, IsTrue, None, OnErr, OnOk, Some, cond, false, max, nat_eq, true};
+ghost use Rattle.std.specs.Prelude.{◌≡◌, ◌≤◌, IfErr, IfOk, IsErrOf, IsTrue, None, OnErr, OnOk, Some, cond, false, max, nat_eq, true, ℕ};
 ghost use Rattle.disk_trait.specs.Disks.{Disks, SameDisks};
+ghost use Rattle.disk_trait.specs.Fused.{armed, parts_of};
 ghost use Rattle.held_state.specs.Entering.{can_enter, entered};
 ghost use Rattle.held_state.specs.Keeps.{Keeps};
 ghost use Rattle.held_state.specs.Said.{said};
 ghost use Rattle.log_bytes.specs.Grammar.{BodyFits};
 ghost use Rattle.log_bytes.specs.declared.body.Body.TheVariants.{Entry as AnEntry};
-ghost use Rattle.stable_store.specs.Kept.{GoesOnUp, IsKept, IsOpen, RestsWith, StandsAfter, disks_of, down, down_with, held_of, is_fault, is_up, lowered, parts_in, torn};
+ghost use Rattle.stable_store.specs.Kept.{GoesOnUp, IsKept, IsOpen, RestsWith, StandsAfter, disks_of, down, down_with, held_of, is_fault, is_up, lowered, parts_in, repo_named, torn};
 ghost use Rattle.stable_store.specs.Flushes.{IsLastFlush};
 ghost use Rattle.stable_store.specs.Saying.{ImagesSay, IsAhead, IsSaid, LogSays};
 ghost use Rattle.stable_store.specs.declared.stable.Phase.TheVariants.{Torn as IsTorn, Up as IsUp};
 ghost use Rattle.thor_value.specs.FiniteMap.{get};
 ghost use Rattle.two_phase.specs.Contents.{keeps, without};
+ghost use Rattle.validation_window.specs.declared.refusal.Refusal.TheVariants.{Damaged as IsDamaged};
 
 use crate::fault::{of_log, of_store};
 use commit_log::Entry;
@@ -110,7 +112,9 @@ impl<P: Parts> Stable<P> {
     }
 
     /// The parts.
-    pub fn into_parts(self) -> P {
+    pub fn into_parts(self) -> P
+        ensures { result ≡ parts_of (parts_in self) }
+    {
         let Stable { parts, phase, held } = self;
         drop(phase);
         drop(held);
@@ -172,6 +176,7 @@ impl<P: Parts> Stable<P> {
         ensures up { is_up self.new ≡ cond (nat_eq calls 0) false (is_up self.old) }
         ensures phase { self.new.phase ≡ cond (nat_eq calls 0) (lowered self.old.phase) self.old.phase }
         ensures says { IsSaid P.disks self.old → IsSaid P.disks self.new }
+        ensures parts { parts_in self.new ≡ armed (parts_in self.old) calls }
     {
         if calls == 0 {
             self.parts.disarm();
@@ -189,6 +194,7 @@ impl<P: Parts> Stable<P> {
         ensures held { held_of self.new ≡ held_of self.old }
         ensures phase { self.new.phase ≡ self.old.phase }
         ensures says { IsSaid P.disks self.old → IsSaid P.disks self.new }
+        ensures parts { parts_in self.new ≡ armed (parts_in self.old) 0 }
     {
         self.parts.disarm();
     }
@@ -202,6 +208,7 @@ impl<P: Parts> Stable<P> {
         ensures held { held_of self.new ≡ held_of self.old }
         ensures phase { self.new.phase ≡ self.old.phase }
         ensures says { IsSaid P.disks self.old → IsSaid P.disks self.new }
+        ensures asked { P.asked (parts_of (parts_in self.old)) result (parts_of (parts_in self.new)) }
     {
         self.parts.now()
     }
@@ -240,6 +247,9 @@ impl<P: Parts> Stable<P> {
         ensures ahead { IsSaid P.disks self.old → OnOk result (IsAhead P.disks self.new entry) }
         ensures says { IsSaid P.disks self.old → OnErr result (IsSaid P.disks self.new) }
         ensures pages { (disks_of P.disks self.new).content 2 ≡ (disks_of P.disks self.old).content 2 }
+        ensures clock { (disks_of P.disks self.new).clock ≡ (disks_of P.disks self.old).clock }
+        ensures names { IfErr result (λ r. repo_named (held_of self.old).repo r ≡ (held_of self.old).repo) }
+        ensures damaged { (r place : ℕ) → IsErrOf result (IsDamaged r place) → ⊥ }
     {
         let Some(mut log) = self.take_log() else {
             drop(entry);
@@ -292,6 +302,7 @@ impl<P: Parts> Stable<P> {
         ensures held { held_of self.new ≡ record (held_of self.old) { table = cond (keeps (get (held_of self.old).table.transactions tx)) (without (held_of self.old).table tx) (held_of self.old).table } }
         ensures phase { self.new.phase ≡ self.old.phase }
         ensures says { is_up self.old ≡ true → IsSaid P.disks self.old → IsSaid P.disks self.new }
+        ensures parts { parts_in self.new ≡ parts_in self.old }
     {
         self.held.forget(tx);
     }
@@ -304,6 +315,7 @@ impl<P: Parts> Stable<P> {
         ensures held { held_of self.new ≡ record (held_of self.old) { next_grant = max (held_of self.old).next_grant page } }
         ensures phase { self.new.phase ≡ self.old.phase }
         ensures says { is_up self.old ≡ true → IsSaid P.disks self.old → IsSaid P.disks self.new }
+        ensures parts { parts_in self.new ≡ parts_in self.old }
     {
         self.held.grant_from(page);
     }
@@ -320,6 +332,9 @@ impl<P: Parts> Stable<P> {
         ensures held { held_of self.new ≡ record (held_of self.old) { objects = (held_of self.new).objects } }
         ensures limit { (held_of self.new).objects.mob.limit ≡ (held_of self.old).objects.mob.limit }
         ensures says { IsSaid P.disks self.old → IsSaid P.disks self.new }
+        ensures pages { (disks_of P.disks self.new).content 2 ≡ (disks_of P.disks self.old).content 2 }
+        ensures clock { (disks_of P.disks self.new).clock ≡ (disks_of P.disks self.old).clock }
+        ensures names { IfErr result (λ r. repo_named (held_of self.old).repo r ≡ (held_of self.old).repo) }
     {
         let Some(log) = self.take_log() else {
             return Err(Refusal::Down { repo: self.repo() });
@@ -347,6 +362,8 @@ impl<P: Parts> Stable<P> {
         ensures held { held_of self.new ≡ record (held_of self.old) { objects = (held_of self.new).objects } }
         ensures limit { (held_of self.new).objects.mob.limit ≡ (held_of self.old).objects.mob.limit }
         ensures says { IsSaid P.disks self.old → IsSaid P.disks self.new }
+        ensures clock { (disks_of P.disks self.new).clock ≡ (disks_of P.disks self.old).clock }
+        ensures names { IfErr result (λ r. repo_named (held_of self.old).repo r ≡ (held_of self.old).repo) }
     {
         let Some(mut log) = self.take_log() else {
             return Err(Refusal::Down { repo: self.repo() });
@@ -374,6 +391,8 @@ impl<P: Parts> Stable<P> {
         ensures fault { IfErr result (λ r. is_fault r ≡ true) }
         ensures log { LogSays (disks_of P.disks self.old) log.old (said (held_of self.old)) → OnOk result (LogSays (disks_of P.disks self.new) log.new (said (held_of self.new))) }
         ensures images { LogSays (disks_of P.disks self.old) log.old (said (held_of self.old)) → OnErr result (ImagesSay (disks_of P.disks self.new) (held_of self.new) None) }
+        ensures clock { (disks_of P.disks self.new).clock ≡ (disks_of P.disks self.old).clock }
+        ensures names { IfErr result (λ r. repo_named (held_of self.old).repo r ≡ (held_of self.old).repo) }
     {
         match self.held.flush_one(&mut self.parts) {
             Ok(flushed) => self.put_flushed(log, flushed),
@@ -394,6 +413,8 @@ impl<P: Parts> Stable<P> {
         ensures fault { IfErr result (λ r. is_fault r ≡ true) }
         ensures log { LogSays (disks_of P.disks self.old) log.old (said (held_of self.old)) → OnOk result (LogSays (disks_of P.disks self.new) log.new (said (held_of self.new))) }
         ensures images { LogSays (disks_of P.disks self.old) log.old (said (held_of self.old)) → OnErr result (ImagesSay (disks_of P.disks self.new) (held_of self.new) None) }
+        ensures clock { (disks_of P.disks self.new).clock ≡ (disks_of P.disks self.old).clock }
+        ensures names { IfErr result (λ r. repo_named (held_of self.old).repo r ≡ (held_of self.old).repo) }
     {
         let Flushed::Installed { page, side } = flushed else {
             return Ok(flushed);
@@ -419,6 +440,9 @@ impl<P: Parts> Stable<P> {
         ensures rests { is_up self.old ≡ true → OnErr result (RestsWith None self.new) }
         ensures held { held_of self.new ≡ held_of self.old }
         ensures says { IsSaid P.disks self.old → IsSaid P.disks self.new }
+        ensures pages { (disks_of P.disks self.new).content 2 ≡ (disks_of P.disks self.old).content 2 }
+        ensures clock { (disks_of P.disks self.new).clock ≡ (disks_of P.disks self.old).clock }
+        ensures names { IfErr result (λ r. repo_named (held_of self.old).repo r ≡ (held_of self.old).repo) }
     {
         let Some(mut log) = self.take_log() else {
             return Err(Refusal::Down { repo: self.repo() });

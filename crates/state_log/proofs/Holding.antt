@@ -4,7 +4,7 @@ use Rattle.std.proofs.lemmas.Bool.Decides.{nat_tests}
 use Rattle.std.proofs.lemmas.Bool.{lt-ltb}
 use Rattle.std.proofs.lemmas.List.Sums.{fold-append}
 use Rattle.std.specs.Option.{option_and_then, option_map}
-use Rattle.disk_trait.specs.Disks.{Disks, OnDisk, Leaves, IsSettled, WhereTold}
+use Rattle.disk_trait.specs.Disks.{Disks, NoNewImage, OnDisk, Leaves, IsSettled, WhereTold}
 use Rattle.log_frame.specs.Log.{Opened, Place, Stands, Agrees, read_log, new_log, with_body, IsBeforeOrAfter}
 use Rattle.log_frame.proofs.LogAppends.{same_log, told_on}
 use Rattle.log_bytes.specs.Checkpoint.{state_format}
@@ -139,3 +139,7 @@ ok_of_three (Err e) leads a b c = a
 -- calls on a log disk leave the disk of pages
 pub pages_stay : (old new : Disks) (at disk : ℕ) → disk ≡ at → at < 2 → OnDisk old new disk → new.content 2 ≡ old.content 2
 pages_stay old new at disk is within alone = alone.others 2 (λ same. let no : 2 < 2 = omega (arith, same, is, within) in omega (arith, no))
+
+-- and what a crash may leave of it
+pub pages_still : (old new : Disks) (at disk : ℕ) → disk ≡ at → at < 2 → OnDisk old new disk → NoNewImage old new 2
+pages_still old new at disk is within alone = λ image left. alone.others_images new.time 2 image (λ same. let no : 2 < 2 = omega (arith, same, is, within) in omega (arith, no)) alone.later (omega arith) left

@@ -1,6 +1,6 @@
 ghost use Rattle.std.specs.Prelude.{◌≡◌, ◌+◌, ◌<◌, ◌^◌, ℕ, None, IfOk, OnOk, IsErrOf};
 ghost use Rattle.disk_trait.specs.AllDisks.{AllSettled, GoesOn, LeavesAll, TellsAll};
-ghost use Rattle.disk_trait.specs.Disks.{Disks, Rose, WhereTold};
+ghost use Rattle.disk_trait.specs.Disks.{Disks, NoNewImage, Rose, WhereTold};
 ghost use Rattle.log_frame.specs.Log.{read_log};
 ghost use Rattle.log_frame.specs.declared.fault.LogFault.TheVariants.{Damaged, Failed};
 ghost use Rattle.log_bytes.specs.Checkpoint.{StateFits};
@@ -93,6 +93,8 @@ impl CommitLog {
         ensures any_moment { (s : AState) → Holds (P.disks parts.old) self.old s → TellsAll (P.disks parts.old) → LeavesAll (P.disks parts.old) (P.disks parts.new) (SaysOneOf s (AnEntry entry.now)) }
         ensures appended { OnOk result ((s : AState) → Holds (P.disks parts.old) self.old s → Holds (P.disks parts.new) self.new (after s (AnEntry entry.now))) }
         ensures pages { (P.disks parts.new).content 2 ≡ (P.disks parts.old).content 2 }
+        ensures still { NoNewImage (P.disks parts.old) (P.disks parts.new) 2 }
+        ensures clock { (P.disks parts.new).clock ≡ (P.disks parts.old).clock }
         ensures damaged { (place : ℕ) → IsErrOf result (Damaged place) → ⊥ }
         ensures failed { IsErrOf result Failed → Rose ((P.disks parts.old).faults self.old.disk) ((P.disks parts.new).faults self.old.disk) }
     {
@@ -117,6 +119,8 @@ impl CommitLog {
         ensures any_moment { (s : AState) → Holds (P.disks parts.old) self.old s → TellsAll (P.disks parts.old) → LeavesAll (P.disks parts.old) (P.disks parts.new) (SaysOneOf s (AnInstalled page side)) }
         ensures appended { OnOk result ((s : AState) → Holds (P.disks parts.old) self.old s → Holds (P.disks parts.new) self.new (after s (AnInstalled page side))) }
         ensures pages { (P.disks parts.new).content 2 ≡ (P.disks parts.old).content 2 }
+        ensures still { NoNewImage (P.disks parts.old) (P.disks parts.new) 2 }
+        ensures clock { (P.disks parts.new).clock ≡ (P.disks parts.old).clock }
         ensures damaged { (place : ℕ) → IsErrOf result (Damaged place) → ⊥ }
         ensures failed { IsErrOf result Failed → Rose ((P.disks parts.old).faults self.old.disk) ((P.disks parts.new).faults self.old.disk) }
     {
@@ -139,6 +143,8 @@ impl CommitLog {
         ensures next { OnOk result (self.new.sequence ≡ self.old.sequence + 1) }
         ensures other { OnOk result (self.new.disk ≡ beside self.old.disk) }
         ensures pages { (P.disks parts.new).content 2 ≡ (P.disks parts.old).content 2 }
+        ensures still { NoNewImage (P.disks parts.old) (P.disks parts.new) 2 }
+        ensures clock { (P.disks parts.new).clock ≡ (P.disks parts.old).clock }
         ensures damaged { (place : ℕ) → IsErrOf result (Damaged place) → ⊥ }
         ensures failed { IsErrOf result Failed → Rose ((P.disks parts.old).faults (beside self.old.disk)) ((P.disks parts.new).faults (beside self.old.disk)) }
     {

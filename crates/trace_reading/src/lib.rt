@@ -5,6 +5,7 @@
 mod against;
 mod bytes;
 mod calls;
+mod copies;
 mod finding;
 mod forgotten;
 mod item;

@@ -1,4 +1,4 @@
-use Rattle.client_laws.proofs.Telling.{decide_nothing}
+use Rattle.client_laws.proofs.Uncommitted.{decide_nothing}
 use Rattle.client_laws.proofs.outcomes.others_decide_nothing.Goals as goal
 
 pub returns : goal.returns

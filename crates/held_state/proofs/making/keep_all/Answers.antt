@@ -1,9 +1,10 @@
 use Rattle.std.proofs.lemmas.Grind.{common_steps}
-use Rattle.std.proofs.Common.{arith, ◌≡◌, [], ◌∷◌, List, false, rules, subst, sym}
+use Rattle.std.proofs.Common.{arith, ◌≡◌, [], ◌∷◌, List, false, rules, subst, sym, true}
 use Rattle.std.specs.Vec.Iter.{into_iter_items}
 use Rattle.thor_value.specs.FiniteMap.{has}
 use Rattle.two_phase.specs.Contents.{Contents}
 use Rattle.held_state.proofs.Filled.{keep_new, keep_next}
+use Rattle.held_state.proofs.Unfit.{none_keeps}
 use Rattle.held_state.specs.Making.{KeepsTo}
 use Rattle.held_state.proofs.making.keep_all.Goals as goal
 
@@ -14,7 +15,13 @@ loop-tx-preserved c = λ prepared to.
     subst (λ (d : Contents). KeepsTo c.args.repo prepared c.args.kept d (into_iter_items c.next.new.self)) (sym c.in_ok-keep.ensures.ok)
     (keep_next c.args.repo prepared c.args.kept c.requires.rise c.loop-tx.table c.in-Some.tx (into_iter_items c.next.new.self) new (subst (KeepsTo c.args.repo prepared c.args.kept c.loop-tx.table) step (c.loop-tx.invariant prepared to)))
 
-pub returns : goal.returns
-returns c = λ prepared to.
+pub returns-clause-all : goal.returns-clause-all
+returns-clause-all c = λ prepared to.
     let done : into_iter_items c.loop-tx.tx-iterator ≡ [] = grind (arith, common_steps, c.in-None.ensures.steps, c.next.ensures.steps) in
     subst (KeepsTo c.args.repo prepared c.args.kept c.loop-tx.table) done (c.loop-tx.invariant prepared to)
+
+pub returns-then-knows-clause-unfit : goal.returns-then-knows-clause-unfit
+returns-then-knows-clause-unfit c = λ prepared to is.
+    let step : into_iter_items c.loop-tx.tx-iterator ≡ c.in-Some.tx ∷ into_iter_items c.next.new.self = search rules in
+    let there : has c.loop-tx.table.transactions c.in-Some.tx ≡ true = search rules in
+    none_keeps c.args.repo prepared c.args.kept c.requires.rise c.loop-tx.table c.in-Some.tx (into_iter_items c.next.new.self) (subst (KeepsTo c.args.repo prepared c.args.kept c.loop-tx.table) step (c.loop-tx.invariant prepared to)) there

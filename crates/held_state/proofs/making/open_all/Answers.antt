@@ -1,8 +1,9 @@
-use Rattle.std.proofs.Common.{◌≡◌, [], ◌∷◌, List, rules, subst, sym, true}
+use Rattle.std.proofs.Common.{◌≡◌, [], ◌∷◌, List, false, rules, subst, sym, true}
 use Rattle.std.specs.Vec.Iter.{into_iter_items}
 use Rattle.commit_log.specs.declared.request.Request.{Request}
 use Rattle.two_phase.specs.Contents.{Contents}
 use Rattle.held_state.proofs.Filled.{open_new, open_next}
+use Rattle.held_state.proofs.Unfit.{none_opens}
 use Rattle.held_state.specs.Entering.{are_of}
 use Rattle.held_state.specs.Making.{OpensTo}
 use Rattle.held_state.proofs.making.open_all.Goals as goal
@@ -18,3 +19,9 @@ loop-request-preserved c =
     let all : are_of c.args.repo c.in-Some.request.writes ≡ true = search rules in
     subst (λ (d : Contents). OpensTo c.args.repo c.args.prepared d (into_iter_items c.next.new.self)) (sym c.in_ok-open.ensures.ok)
     (open_next c.args.repo c.args.prepared c.requires.rise c.loop-request.table c.in-Some.request (into_iter_items c.next.new.self) (subst (OpensTo c.args.repo c.args.prepared c.loop-request.table) step c.loop-request.invariant) all)
+
+pub returns-then-not-are_of-clause-unfit : goal.returns-then-not-are_of-clause-unfit
+returns-then-not-are_of-clause-unfit c = λ is.
+    let step : into_iter_items c.loop-request.request-iterator ≡ c.in-Some.request ∷ into_iter_items c.next.new.self = search rules in
+    let isnt : are_of c.args.repo c.in-Some.request.writes ≡ false = search rules in
+    none_opens c.args.repo c.args.prepared c.loop-request.table c.in-Some.request (into_iter_items c.next.new.self) (subst (OpensTo c.args.repo c.args.prepared c.loop-request.table) step c.loop-request.invariant) isnt

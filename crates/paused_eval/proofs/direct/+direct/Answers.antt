@@ -1,17 +1,17 @@
-use Rattle.std.proofs.Common.{◌≡◌, ◌-◌, ◌∷◌, map, ap, sym, ◌∙◌}
+use Rattle.std.proofs.Common.{◌≡◌, ◌-◌, ◌∷◌, map, ap, refl, sym, ◌∙◌}
 use Rattle.class_defs.specs.declared.expressions.Expr.{Expr, out-Expr}
-use Rattle.class_defs.specs.declared.statements.Stmt.{Stmt, out-Stmt}
+use Rattle.class_defs.specs.declared.statements.Stmt.{out-Stmt}
 use Rattle.paused_defs.specs.Plain.{plain, plain_stmt}
 use Rattle.paused_defs.specs.declared.nodes.ExprNode.{ExprNode}
 use Rattle.paused_eval.proofs.Nodes.{out_variable}
-use Rattle.paused_eval.proofs.Unwinding.{called_does, called_left, collect_left, in_order_left, kind_there, node_variable, one_less, statement_does, turn_left, turned, value_there}
+use Rattle.paused_eval.proofs.Unwinding.{called_does, called_left, collect_left, kind_there, node_variable, one_less, statement_does, turn_left, turned, value_there}
 use Rattle.paused_eval.specs.Copies.{state}
 use Rattle.paused_eval.specs.Direct as spec
 use Rattle.paused_eval.specs.Direct.{directly, on}
 use Rattle.paused_eval.proofs.direct.+direct.Goals as goal
 
 pub called-returns-in_ok-rest-in-Ok-clause-does : goal.called-returns-in_ok-rest-in-Ok-clause-does
-called-returns-in_ok-rest-in-Ok-clause-does t c =
+called-returns-in_ok-rest-in-Ok-clause-does g t c =
     let s = c.args.program.now.schema.now in
     called_does s c.args.cache.now c.value_of.new.cache c.args.inner (plain c.args.receiver.now) c.args.method.now (map plain c.args.arguments.now) c.in_ok-rest-in-Ok.rest
     c.type_of-kind.result c.in-Ok.target c.new-none.result
@@ -20,58 +20,48 @@ called-returns-in_ok-rest-in-Ok-clause-does t c =
     (kind_there s c.args.progress.now c.args.cache.now c.type_of-kind.result c.args.receiver.now c.get.result.now c.type_of-kind.ensures c.get.ensures)
     c.new-none.ensures c.in_ok-rest-in-Ok.ensures c.in-Ok.ensures.does c.collect.ensures.does
 
-pub called-returns-in_ok-of-in-Err-clause-does : goal.called-returns-in_ok-of-in-Err-clause-does
-called-returns-in_ok-of-in-Err-clause-does t c =
+pub called-returns-in-Err-clause-does : goal.called-returns-in-Err-clause-does
+called-returns-in-Err-clause-does g t c =
     let s = c.args.program.now.schema.now in
-    called_left (on s c.args.cache.now) c.args.inner (plain c.args.receiver.now) c.args.method.now c.in_ok-share-in-Err.field-0 (map plain c.args.arguments.now) c.in_ok-of-in-Err.field-0
-    c.type_of-kind.result c.in-Err.unwound c.behind.result (state c.args.progress.now c.args.cache.now) (state c.value_of.new.progress c.value_of.new.cache)
+    called_left (on s c.args.cache.now) c.args.inner (plain c.args.receiver.now) c.args.method.now c.args.method.now (map plain c.args.arguments.now) (map plain c.args.arguments.now)
+    c.type_of-kind.result c.in-Err.unwound c.behind_receiver.result (state c.args.progress.now c.args.cache.now) (state c.value_of.new.progress c.value_of.new.cache)
     (kind_there s c.args.progress.now c.args.cache.now c.type_of-kind.result c.args.receiver.now c.get.result.now c.type_of-kind.ensures c.get.ensures)
-    c.in_ok-share-in-Err.ensures c.in_ok-of-in-Err.ensures c.in-Err.ensures.does c.behind.ensures
+    refl refl c.in-Err.ensures.does c.behind_receiver.ensures
 
 pub collect-returns-in-Err-clause-does : goal.collect-returns-in-Err-clause-does
-collect-returns-in-Err-clause-does t c =
+collect-returns-in-Err-clause-does g t c =
     let s = c.args.program.now.schema.now in
     let w = on s c.args.cache.now in
     let first : c.loop.left ≡ c.in-Some.expr ∷ c.in-Some.rest = rw c.in-Some.is at c.in_ok-split_first.ensures in
-    collect_left s c.args.cache.now c.loop.cache c.args.inner c.args.kind c.args.target c.args.method.now c.in_ok-share-in-Err.field-0 c.loop.done c.loop.left (plain c.shared.result.now) c.in-Some.rest
-    c.in-Err.unwound c.behind.result (state c.loop.progress c.loop.cache) (state c.value_of.new.progress c.value_of.new.cache)
+    collect_left s c.args.cache.now c.loop.cache c.args.inner c.args.kind c.args.target c.args.method.now c.args.method.now c.loop.done c.loop.left (plain c.shared.result.now) c.in-Some.rest
+    c.in-Err.unwound c.behind_argument.result (state c.loop.progress c.loop.cache) (state c.value_of.new.progress c.value_of.new.cache)
     (spec.collect w c.args.inner (directly w c.args.inner) c.args.kind c.args.target c.args.method.now c.args.none c.args.arguments (state c.args.progress.now c.args.cache.now))
-    c.loop.invariant.1.0 c.loop.invariant.1.1.1 (first ∙ ap (λ (e : Expr). e ∷ c.in-Some.rest) (sym c.shared.ensures)) c.in_ok-share-in-Err.ensures c.in-Err.ensures.does c.behind.ensures
-
-pub in_order-returns-in-Err-clause-does : goal.in_order-returns-in-Err-clause-does
-in_order-returns-in-Err-clause-does t c =
-    let s = c.args.program.now.schema.now in
-    let w = on s c.args.cache.now in
-    let first : c.loop.left ≡ c.in-Some.stmt ∷ c.in-Some.rest = rw c.in-Some.is at c.in_ok-split_first.ensures in
-    in_order_left s c.args.cache.now c.loop.cache c.args.inner c.loop.left (plain_stmt c.shared.result.now) c.in-Some.rest
-    c.in-Err.unwound c.behind.result (state c.loop.progress c.loop.cache) (state c.execute.new.progress c.execute.new.cache)
-    (spec.in_order w c.args.inner (directly w c.args.inner) c.args.stmts (state c.args.progress.now c.args.cache.now))
-    c.loop.invariant.1.0 c.loop.invariant.1.1.1 (first ∙ ap (λ (x : Stmt). x ∷ c.in-Some.rest) (sym c.shared.ensures)) c.in-Err.ensures.does c.behind.ensures
+    c.loop.invariant.1.0 c.loop.invariant.1.1.1.1 (first ∙ ap (λ (e : Expr). e ∷ c.in-Some.rest) (sym c.shared.ensures)) refl c.in-Err.ensures.does c.behind_argument.ensures
 
 pub node-returns-in-Variable-clause-does : goal.node-returns-in-Variable-clause-does
-node-returns-in-Variable-clause-does t c =
+node-returns-in-Variable-clause-does g t c =
     let s = c.args.program.now.schema.now in
     node_variable (on s c.args.cache.now) c.args.inner _ _ _ _ _ _ (ap (λ (e : ExprNode). out-Expr (plain e)) c.in-Variable.is ∙ out_variable _ _)
     (value_there s c.args.progress.now c.args.cache.now c.named_value.result _ _ c.named_value.ensures (c.as_slice-in-Variable.ensures ∙ c.get-in-Variable.ensures))
 
 pub statement-returns-in-Ok-clause-does : goal.statement-returns-in-Ok-clause-does
-statement-returns-in-Ok-clause-does t c =
+statement-returns-in-Ok-clause-does g t c =
     statement_does c.args.program.now.schema.now c.args.cache.now c.value_of.new.cache c.args.inner (out-Stmt (plain_stmt c.args.node.now)) (plain c.first_part.result.now) c.in-Ok.value
     (state c.args.progress.now c.args.cache.now) (state c.value_of.new.progress c.value_of.new.cache) (state c.effect.new.progress c.effect.new.cache) c.effect.result
     c.in-Ok.ensures.kept c.first_part.ensures c.in-Ok.ensures.does c.effect.ensures.does
 
 pub turns-returns-in-Err-clause-does : goal.turns-returns-in-Err-clause-does
-turns-returns-in-Err-clause-does t c =
+turns-returns-in-Err-clause-does g t c =
     let s = c.args.program.now.schema.now in
     let w = on s c.args.cache.now in
     turn_left s c.args.cache.now c.loop-count.cache c.turn_body.new.cache c.args.inner (100000 - c.loop-count.count) (plain c.args.condition.now) (map plain_stmt c.args.body.now)
     c.loop-count.value (state c.loop-count.progress c.loop-count.cache) (state c.turn_body.new.progress c.turn_body.new.cache) (state c.test_again.new.progress c.test_again.new.cache)
     (spec.turn w c.args.inner (directly w c.args.inner) 100000 (plain c.args.condition.now) (map plain_stmt c.args.body.now) c.args.tested (state c.args.progress.now c.args.cache.now))
-    c.in_ok-turn_body.field-0 c.loop-count.invariant.1.0 c.in_ok-turn_body.ensures.kept (sym c.holds.ensures ∙ c.if-not-holds.false) c.loop-count.invariant.1.1.1 c.in_ok-turn_body.ensures.does c.in-Next.is
+    c.in_ok-turn_body.field-0 c.loop-count.invariant.1.0 c.in_ok-turn_body.ensures.kept (sym c.holds.ensures ∙ c.if-not-holds.false) c.loop-count.invariant.1.1.1.1 c.in_ok-turn_body.ensures.does c.in-Next.is
     c.in-Err.unwound c.in-Err.ensures.does
 
 pub turns-loop-count-preserved : goal.turns-loop-count-preserved
-turns-loop-count-preserved t c =
+turns-loop-count-preserved g t c =
     let s = c.args.program.now.schema.now in
     let w = on s c.args.cache.now in (
       c.in-Ok.ensures.tied,
@@ -79,12 +69,15 @@ turns-loop-count-preserved t c =
         (λ x. c.in-Ok.ensures.kept x ∙ c.in_ok-turn_body.ensures.kept x ∙ c.loop-count.invariant.1.0 x),
         (
           c.test_again.ensures.known,
-          turned s c.args.cache.now c.loop-count.cache c.turn_body.new.cache c.args.inner (100000 - c.loop-count.count) (plain c.args.condition.now) (map plain_stmt c.args.body.now)
-              c.loop-count.value (state c.loop-count.progress c.loop-count.cache) (state c.turn_body.new.progress c.turn_body.new.cache) (state c.test_again.new.progress c.test_again.new.cache)
-              (spec.turn w c.args.inner (directly w c.args.inner) 100000 (plain c.args.condition.now) (map plain_stmt c.args.body.now) c.args.tested (state c.args.progress.now c.args.cache.now))
-              c.in_ok-turn_body.field-0 c.loop-count.invariant.1.0 c.in_ok-turn_body.ensures.kept (sym c.holds.ensures ∙ c.if-not-holds.false) c.loop-count.invariant.1.1.1 c.in_ok-turn_body.ensures.does c.in-Next.is
-              c.in-Ok.next c.in-Ok.ensures.does
-              ∙ ap (λ k. spec.turn w c.args.inner (directly w c.args.inner) k (plain c.args.condition.now) (map plain_stmt c.args.body.now) c.in-Ok.next (state c.test_again.new.progress c.test_again.new.cache)) (one_less 100000 c.loop-count.count),
+          (
+            c.in-Ok.ensures.work ∙ c.in_ok-turn_body.ensures.work ∙ c.loop-count.invariant.1.1.1.0,
+            turned s c.args.cache.now c.loop-count.cache c.turn_body.new.cache c.args.inner (100000 - c.loop-count.count) (plain c.args.condition.now) (map plain_stmt c.args.body.now)
+                c.loop-count.value (state c.loop-count.progress c.loop-count.cache) (state c.turn_body.new.progress c.turn_body.new.cache) (state c.test_again.new.progress c.test_again.new.cache)
+                (spec.turn w c.args.inner (directly w c.args.inner) 100000 (plain c.args.condition.now) (map plain_stmt c.args.body.now) c.args.tested (state c.args.progress.now c.args.cache.now))
+                c.in_ok-turn_body.field-0 c.loop-count.invariant.1.0 c.in_ok-turn_body.ensures.kept (sym c.holds.ensures ∙ c.if-not-holds.false) c.loop-count.invariant.1.1.1.1 c.in_ok-turn_body.ensures.does c.in-Next.is
+                c.in-Ok.next c.in-Ok.ensures.does
+                ∙ ap (λ k. spec.turn w c.args.inner (directly w c.args.inner) k (plain c.args.condition.now) (map plain_stmt c.args.body.now) c.in-Ok.next (state c.test_again.new.progress c.test_again.new.cache)) (one_less 100000 c.loop-count.count),
+          ),
         ),
       ),
     )

@@ -1,7 +1,9 @@
 use Rattle.std.proofs.Common.{◌≡◌, Err, Result, ap, inl, refl, sym, ℕ, ◌∙◌}
 use Rattle.recovery.proofs.FoundLaws.{if_ok, inner_damaged, recovered_holds, recovered_keeps, recovered_pages, recovered_stands}
+use Rattle.recovery.proofs.Lost.{inner_lost}
 use Rattle.recovery.specs.Faults.{found_fault}
 use Rattle.recovery.specs.declared.fault.RecoverFault.TheVariants as recovered
+use Rattle.state_log.proofs.Opened.{torn_none}
 use Rattle.state_log.specs.declared.fault.FindFault.TheVariants as found
 use Rattle.state_log.specs.declared.fault.FindFault.{FindFault}
 use Rattle.recovery.proofs.recovering.recover.Goals as goal
@@ -25,6 +27,16 @@ returns-in-Err-clause-damaged g c = λ images d place reads damaged.
     let e : c.found_fault.result ≡ recovered.Damaged d place = same_err _ c.found_fault.result (recovered.Damaged d place) refl damaged in
     let at = found_damaged c.in-Err.fault d place (sym c.found_fault.ensures ∙ e) in
     inl (c.open_logs.ensures.damaged images d place reads (c.in-Err.is ∙ ap (λ (f : FindFault). Err f) at))
+
+pub returns-in-Err-clause-lost : goal.returns-in-Err-clause-lost
+returns-in-Err-clause-lost g c = λ images d place reads damaged.
+    let e : c.found_fault.result ≡ recovered.Damaged d place = same_err _ c.found_fault.result (recovered.Damaged d place) refl damaged in
+    let at = found_damaged c.in-Err.fault d place (sym c.found_fault.ensures ∙ e) in
+    inl (torn_none images d place (c.open_logs.ensures.damaged images d place reads (c.in-Err.is ∙ ap (λ (f : FindFault). Err f) at)))
+
+pub returns-in-Ok-clause-lost : goal.returns-in-Ok-clause-lost
+returns-in-Ok-clause-lost g c = λ images d place reads is.
+    inner_lost images c.in-Ok.found d place (c.replay_found.ensures.damaged d place is) (c.replay_found.ensures.damaged_some d place is) (c.in-Ok.ensures.log images reads) (c.in-Ok.ensures.found images reads)
 
 pub returns-in-Ok-clause-keeps : goal.returns-in-Ok-clause-keeps
 returns-in-Ok-clause-keeps g c = if_ok _ _ c.replay_found.result (λ r is. recovered_keeps c.in-Ok.found r is) c.replay_found.ensures.recovered

@@ -35,4 +35,5 @@ pub returns-in_err-held-clause-damaged : goal.returns-in_err-held-clause-damaged
 returns-in_err-held-clause-damaged c = λ d place is.
     let wrong : IsErrOf c.hold_on.result (Damaged d place) = search rules in
     let f = c.hold_on.ensures.damaged d place wrong in
-    (f.0 ∙ c.in_ok-disk.ensures.disk, CantHold f.1)
+    let records = subst (λ (rs : List (List ℕ)). map (value_of body_format) rs ≡ map Some c.in_ok-bodies.bodies) c.as_slice.ensures c.in_ok-bodies.ensures.bodies in
+    (f.0 ∙ c.in_ok-disk.ensures.disk, CantHold (record { state = c.in_ok-state.state; head = c.in_ok-state.ensures.state; bodies = c.in_ok-bodies.bodies; records = records; unfit = f.2 }) f.1)

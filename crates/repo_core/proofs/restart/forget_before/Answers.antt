@@ -4,7 +4,7 @@ use Rattle.stable_store.specs.Kept.{held_of, is_up_in}
 use Rattle.repo_core.proofs.restart.forget_before.Goals as goal
 
 pub loop-init : goal.loop-init
-loop-init g c = record { kept = c.requires.kept; up = c.requires.up; says = c.requires.says; phase = refl; held = refl; go = goes_itself c.args.life (held_of c.args.stable.now).table }
+loop-init g c = record { kept = c.requires.kept; up = c.requires.up; says = c.requires.says; phase = refl; parts = refl; held = refl; go = goes_itself c.args.life (held_of c.args.stable.now).table }
 
 pub loop-preserved : goal.loop-preserved
 loop-preserved g c = record {
@@ -12,6 +12,7 @@ loop-preserved g c = record {
   up = ap is_up_in c.forget_earlier.ensures.phase ∙ c.loop.invariant.up;
   says = c.forget_earlier.ensures.says;
   phase = c.forget_earlier.ensures.phase ∙ c.loop.invariant.phase;
+  parts = c.forget_earlier.ensures.parts ∙ c.loop.invariant.parts;
   held = table_on (held_of c.args.stable.now) (held_of c.loop.stable) (held_of c.forget_earlier.new.stable) c.loop.invariant.held c.forget_earlier.ensures.held;
   go = goes_on c.args.life (held_of c.args.stable.now).table (held_of c.loop.stable).table (held_of c.forget_earlier.new.stable).table c.loop.invariant.go c.forget_earlier.ensures.go;
 }

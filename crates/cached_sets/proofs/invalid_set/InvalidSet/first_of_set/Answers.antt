@@ -9,16 +9,16 @@ use Rattle.std.specs.Prelude.{None, Some}
 use Rattle.thor_value.specs.Names.{oref_cmp}
 use Rattle.validation_queue.specs.Names.{is_among}
 
-pub returns-then-is_one_of : goal.returns-then-is_one_of
-returns-then-is_one_of c =
+pub returns-then-is_one_of-clause-value : goal.returns-then-is_one_of-clause-value
+returns-then-is_one_of-clause-value g c =
     let le : nat_le c.args.upto c.in-Some.place.now ≡ true = grind (arith, nat_tests) in
     let among : is_among c.args.names.now c.in-Some.oref.now ≡ true = sym c.is_one_of.ensures ∙ c.if-is_one_of.true in
     let here : found c.args.names.now c.args.upto c.loop-oref.oref-iterator ≡ Some (c.in-Some.oref.now, c.in-Some.place.now) = rw (c.in-Some.ensures.steps, le, among) refl in
     let sorted = subst (λ (m : Invalid). IsStrictlySortedBy oref_cmp (keys_of m.pairs)) c.self.view_is c.iter-oref-items.ensures.ordered in
-    sym here ∙ c.loop-oref.invariant ∙ found_in_set c.args.self.now c.args.upto c.args.names.now c.requires sorted
+    sym here ∙ c.loop-oref.invariant.left ∙ found_in_set c.args.self.now c.args.upto c.args.names.now c.requires sorted
 
-pub returns : goal.returns
-returns c =
+pub returns-clause-value : goal.returns-clause-value
+returns-clause-value g c =
     let here : found c.args.names.now c.args.upto c.loop-oref.oref-iterator ≡ None = rw c.in-None.ensures.steps.0 refl in
     let sorted = subst (λ (m : Invalid). IsStrictlySortedBy oref_cmp (keys_of m.pairs)) c.self.view_is c.iter-oref-items.ensures.ordered in
-    sym here ∙ c.loop-oref.invariant ∙ found_in_set c.args.self.now c.args.upto c.args.names.now c.requires sorted
+    sym here ∙ c.loop-oref.invariant.left ∙ found_in_set c.args.self.now c.args.upto c.args.names.now c.requires sorted

@@ -1,4 +1,4 @@
-use Rattle.std.proofs.Common.{rules, ◌≡◌, ◌∷◌, []}
+use Rattle.std.proofs.Common.{rules, ◌≡◌, ◌∷◌, [], refl}
 use Rattle.paused_defs.specs.declared.frames.Frame.TheVariants as frame
 use Rattle.paused_eval.proofs.Standing.{begins_standing}
 use Rattle.paused_eval.proofs.paused.Paused.begin.Goals as goal
@@ -8,4 +8,5 @@ returns c = record {
   stands = λ s copies names e.
       let whole : c.push-2.new.self ≡ frame.Rest 100001 c.args.tx.now ∷ frame.BlockEnd 0 ∷ [] = search rules in
       rw (whole, c.begun.ensures) (begins_standing s c.args.tx.now copies.written copies.cache names.names e names.from_pages);
+  begun = rw c.begun.ensures refl;
 }

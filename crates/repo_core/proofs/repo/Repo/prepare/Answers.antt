@@ -1,4 +1,5 @@
-use Rattle.std.proofs.Common.{Some, sym, ◌∙◌, ◌≡◌}
+use Rattle.std.proofs.Common.{None, Some, sym, ◌∙◌, ◌≡◌}
+use Rattle.repo_core.proofs.Causes.{why_marked}
 use Rattle.repo_core.proofs.Judged.{refused_by}
 use Rattle.repo_core.proofs.Refused.{why_refused}
 use Rattle.repo_core.specs.Calls.{judged}
@@ -8,3 +9,8 @@ pub returns-in-Err-clause-why : goal.returns-in-Err-clause-why
 returns-in-Err-clause-why g c =
     why_refused (λ r. judged c.args.self.now.held c.args.self.now.memory c.args.session c.args.request ≡ Some r) c.args.self.now.is_up c.in-Err.refusal c.refuse.result c.in_ok-check_up.ensures.up c.refuse.ensures.same
     (refused_by (judged c.args.self.now.held c.args.self.now.memory c.args.session c.args.request) c.in-Err.refusal (sym c.judge.ensures.answer ∙ c.in-Err.is))
+
+pub returns-in-Err-clause-only : goal.returns-in-Err-clause-only
+returns-in-Err-clause-only g c =
+    let stands = judged c.args.self.now.held c.args.self.now.memory c.args.session c.args.request in
+    why_marked c.args.self.now (λ r. stands ≡ Some r) (stands ≡ None) c.refuse.result c.in-Err.refusal c.in_ok-check_up.ensures.up c.refuse.ensures.same c.refuse.ensures.other (refused_by stands c.in-Err.refusal (sym c.judge.ensures.answer ∙ c.in-Err.is))

@@ -4,8 +4,8 @@ use Rattle.live_sessions.specs.Sessions.{ended}
 use Rattle.repo_core.proofs.Entered.{goes_down, on_err1}
 use Rattle.repo_core.proofs.Moves.{told_then}
 use Rattle.repo_core.specs.Refusing.{GoesDown}
-use Rattle.repo_core.specs.Shown.{Shown}
-use Rattle.stable_store.specs.Kept.{disks_of, held_of, is_torn, is_up, pending}
+use Rattle.repo_core.specs.Shown.{Shown, shown}
+use Rattle.stable_store.specs.Kept.{is_up}
 use Rattle.std.proofs.Common.{Ok, OnOk, Some, ap, false, subst, refl, sym, true, ◌∙◌, ◌≡◌}
 use Rattle.std.specs.Prelude.{OnErr}
 use Rattle.volatile_state.specs.Volatile.{Memory, entered}
@@ -34,8 +34,8 @@ returns-clause-left g c =
     let n = c.record.new.stable in
     let e = c.in_ok-entry.entry in
     let same : e ≡ c.args.entry = c.in_ok-entry.ensures.ok.0 in
-    let x : Shown = record { held = held_of i.stable; is_up = is_up i.stable; memory = i.memory; trace = i.trace; opened_in = i.opened_in; pending = pending i.stable; is_torn = is_torn i.stable; pages = (disks_of g.P.Parts.disks i.stable).content 2; clock = (disks_of g.P.Parts.disks i.stable).clock } in
-    let y : Shown = record { held = held_of n; is_up = is_up n; memory = c.tell-told.new.memory; trace = c.record.new.trace; opened_in = i.opened_in; pending = pending n; is_torn = is_torn n; pages = (disks_of g.P.Parts.disks n).content 2; clock = (disks_of g.P.Parts.disks n).clock } in
+    let x : Shown = shown g.P.Parts.disks i.stable i.memory i.trace i.opened_in in
+    let y : Shown = shown g.P.Parts.disks n c.tell-told.new.memory c.record.new.trace i.opened_in in
     let up : is_up i.stable ≡ true = ap (λ (s : Shown). s.is_up) c.self.view_is ∙ c.requires.up in
     subst (λ (s : Shown). OnErr c.record.result (GoesDown s y (Some c.args.entry))) c.self.view_is
     (on_err1 c.record.result _ _ c.record.ensures.left

@@ -2,6 +2,7 @@ use Rattle.disk_trait.specs.Fused.{fused_disks}
 use Rattle.held_state.specs.Said.{said}
 use Rattle.log_bytes.specs.declared.body.Body.TheVariants.{Entry as AnEntry}
 use Rattle.stable_store.proofs.Opened.{opened_more}
+use Rattle.stable_store.proofs.Pages.{reach_open, reach_still}
 use Rattle.stable_store.proofs.Saying.{ahead_up, images_written, log_more, said_resting, taken_says}
 use Rattle.stable_store.proofs.Staying.{kept_up, taken_open}
 use Rattle.stable_store.specs.Kept.{disks_of}
@@ -31,5 +32,8 @@ returns-in-Err-clause-says g c = λ is.
     let mid = c.take_log.new.self in
     let says = taken_says g.P.Parts.disks c.args.self.now mid c.in-Some.log taken.0 taken.1 is in
     let now = fused_disks g.P.Parts.disks c.append.new.parts in
+    let stood = taken_open g.P.Parts.disks c.args.self.now mid c.in-Some.log taken.1 taken.2 in
+    let reach = reach_open (disks_of g.P.Parts.disks mid) c.in-Some.log mid.held stood in
     said_resting g.P.Parts.disks (record mid { parts = c.append.new.parts }) c.set_phase-in-Err.new.self (Some c.args.entry) c.set_phase-in-Err.ensures
-    (images_written (disks_of g.P.Parts.disks mid) now c.in-Some.log mid.held c.args.entry says c.append.ensures.goes c.append.ensures.any_moment)
+    (images_written (disks_of g.P.Parts.disks mid) now c.in-Some.log mid.held c.args.entry says c.append.ensures.goes c.append.ensures.any_moment
+    (reach_still (disks_of g.P.Parts.disks mid) now mid.held.objects.pages.sides c.append.ensures.goes c.append.ensures.still reach))

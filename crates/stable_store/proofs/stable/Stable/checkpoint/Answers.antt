@@ -1,20 +1,22 @@
 use Rattle.stable_store.proofs.Saying.{said_anew, said_begun, said_out}
+use Rattle.stable_store.proofs.Staying.{taken_open}
 use Rattle.stable_store.proofs.stable.Stable.checkpoint.Goals as goal
 
 pub returns-then-sequence-clause-says : goal.returns-then-sequence-clause-says
 returns-then-sequence-clause-says g c = λ is.
     let taken = c.in-Some.ensures.some in
-    said_out g.P.Parts.disks c.args.self.now c.take_log.new.self c.in-Some.log taken.0 taken.1 is
+    said_out g.P.Parts.disks c.args.self.now c.take_log.new.self c.in-Some.log taken.0 taken.1 taken.2 is
 
 pub returns-in-Err-clause-says : goal.returns-in-Err-clause-says
 returns-in-Err-clause-says g c = λ is.
     let taken = c.in-Some.ensures.some in
-    said_out g.P.Parts.disks c.args.self.now c.take_log.new.self c.in-Some.log taken.0 taken.1 is
+    said_out g.P.Parts.disks c.args.self.now c.take_log.new.self c.in-Some.log taken.0 taken.1 taken.2 is
 
 pub returns-in-Err-begun-clause-says : goal.returns-in-Err-begun-clause-says
 returns-in-Err-begun-clause-says g c = λ is.
     let taken = c.in-Some.ensures.some in
-    said_begun g.P.Parts.disks c.args.self.now c.take_log.new.self c.checkpoint-begun.new.parts c.in-Some.log c.in-Ok.state taken.0 taken.1 is taken.2.keeps c.in-Ok.ensures.spelled c.checkpoint-begun.ensures.goes c.checkpoint-begun.ensures.any_moment
+    let stood = taken_open g.P.Parts.disks c.args.self.now c.take_log.new.self c.in-Some.log taken.1 taken.2 in
+    said_begun g.P.Parts.disks c.args.self.now c.take_log.new.self c.checkpoint-begun.new.parts c.in-Some.log c.in-Ok.state taken.0 taken.1 is stood c.in-Ok.ensures.spelled c.checkpoint-begun.ensures.still c.checkpoint-begun.ensures.goes c.checkpoint-begun.ensures.any_moment
 
 pub returns-clause-says : goal.returns-clause-says
 returns-clause-says g c = λ is.

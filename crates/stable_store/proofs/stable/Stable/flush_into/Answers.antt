@@ -1,6 +1,7 @@
 use Rattle.disk_trait.specs.Fused.{fused_disks}
 use Rattle.held_state.specs.Said.{said}
 use Rattle.stable_store.proofs.Opened.{holds_beside, opened_beside}
+use Rattle.stable_store.proofs.Pages.{reach_written}
 use Rattle.stable_store.proofs.Saying.{images_beside, log_beside, log_same}
 use Rattle.stable_store.specs.Kept.{disks_of}
 use Rattle.stable_store.proofs.stable.Stable.flush_into.Goals as goal
@@ -28,3 +29,4 @@ returns-in-Ok-clause-images g c = λ says.
 pub returns-in-Err-clause-images : goal.returns-in-Err-clause-images
 returns-in-Err-clause-images g c = λ says.
     images_beside (disks_of g.P.Parts.disks c.args.self.now) (fused_disks g.P.Parts.disks c.flush_one.new.parts) c.args.log.now c.args.self.now.held c.flush_one.new.self says c.flush_one.ensures.alone c.flush_one.ensures.said
+    (reach_written (disks_of g.P.Parts.disks c.args.self.now) (fused_disks g.P.Parts.disks c.flush_one.new.parts) c.args.log.now c.args.self.now.held c.requires.opened c.flush_one.ensures.alone c.flush_one.ensures.any_moment)

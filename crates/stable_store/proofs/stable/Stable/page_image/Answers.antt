@@ -29,4 +29,5 @@ returns-in-Ok-clause-says g c = λ is.
 pub returns-in-Err-clause-says : goal.returns-in-Err-clause-says
 returns-in-Err-clause-says g c = λ is.
     let taken = c.in-Some.ensures.some in
-    said_unread g.P.Parts.disks c.args.self.now c.take_log.new.self c.page_image.new.parts c.page_image.new.self c.in-Some.log taken.0 taken.1 is c.page_image.ensures.alone c.page_image.ensures.said
+    let stood = taken_open g.P.Parts.disks c.args.self.now c.take_log.new.self c.in-Some.log taken.1 taken.2 in
+    said_unread g.P.Parts.disks c.args.self.now c.take_log.new.self c.page_image.new.parts c.page_image.new.self c.in-Some.log taken.0 taken.1 is stood c.page_image.ensures.alone c.page_image.ensures.crash c.page_image.ensures.said

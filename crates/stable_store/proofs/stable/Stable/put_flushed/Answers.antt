@@ -2,11 +2,14 @@ use Rattle.disk_trait.specs.Fused.{fused_disks}
 use Rattle.held_state.specs.Said.{said}
 use Rattle.log_bytes.specs.declared.body.Body.TheVariants.{Installed}
 use Rattle.stable_store.proofs.Opened.{opened_more, opened_moved}
+use Rattle.stable_store.proofs.Pages.{reach_flushed, reach_open, reach_still}
 use Rattle.stable_store.proofs.Saying.{images_installing, images_of_log, log_more, log_same}
 use Rattle.stable_store.specs.Flushes.{IsLastFlush}
 use Rattle.stable_store.specs.Kept.{disks_of}
 use Rattle.state_log.specs.Recovered.{after}
 use Rattle.std.proofs.Common.{refl, subst}
+use Rattle.std.specs.BTreeMap.{insert_entry}
+use Rattle.std.specs.Ordering.{nat_cmp}
 use Rattle.stable_store.proofs.stable.Stable.put_flushed.Goals as goal
 
 pub returns-clause-opened : goal.returns-clause-opened
@@ -29,6 +32,9 @@ returns-in-Err-clause-images g c = λ says.
     let old = disks_of g.P.Parts.disks c.args.self.now in
     let last = subst (IsLastFlush c.args.self.now.held) c.in-Installed.is c.requires.last in
     images_installing old now c.args.log.now c.args.self.now.held c.in-Installed.page c.in-Installed.side last.0 says last.1 c.installed.ensures.goes c.installed.ensures.any_moment
+    (reach_still old now c.args.self.now.held.objects.pages.sides c.installed.ensures.goes c.installed.ensures.still (reach_open old c.args.log.now c.args.self.now.held c.requires.opened))
+    (reach_still old now (insert_entry nat_cmp c.args.self.now.held.objects.pages.sides c.in-Installed.page c.in-Installed.side) c.installed.ensures.goes c.installed.ensures.still
+    (reach_flushed old c.args.log.now c.args.self.now.held last.0 c.in-Installed.page c.in-Installed.side c.requires.opened last.1))
 
 pub returns-then-side-ge-SIDES-clause-images : goal.returns-then-side-ge-SIDES-clause-images
-returns-then-side-ge-SIDES-clause-images g c = λ says. images_of_log (disks_of g.P.Parts.disks c.args.self.now) c.args.log.now c.args.self.now.held c.args.self.now.held says refl
+returns-then-side-ge-SIDES-clause-images g c = λ says. images_of_log (disks_of g.P.Parts.disks c.args.self.now) c.args.log.now c.args.self.now.held c.args.self.now.held says refl (reach_open (disks_of g.P.Parts.disks c.args.self.now) c.args.log.now c.args.self.now.held c.requires.opened)

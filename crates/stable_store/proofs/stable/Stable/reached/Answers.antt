@@ -3,8 +3,9 @@ use Rattle.mob_flusher.specs.Map.{Kept}
 use Rattle.page_store.specs.Store.{Store}
 use Rattle.held_state.specs.Said.{said}
 use Rattle.stable_store.proofs.Openings.{opened_where, stands_where}
+use Rattle.page_store.specs.Sides.{ReachesSides}
 use Rattle.stable_store.specs.Kept.{disks_of}
-use Rattle.std.proofs.Common.{ap, ◌∙◌}
+use Rattle.std.proofs.Common.{List, Ok, Bool, ap, subst, sym, ℕ, ◌∙◌}
 use Rattle.stable_store.proofs.stable.Stable.reached.Goals as goal
 
 pub returns-in-Ok-true-clause-opened : goal.returns-in-Ok-true-clause-opened
@@ -15,3 +16,8 @@ returns-in-Ok-true-clause-opened g c =
 pub returns-in-Ok-true-clause-stands : goal.returns-in-Ok-true-clause-stands
 returns-in-Ok-true-clause-stands g c =
     stands_where (disks_of g.P.Parts.disks c.args.self.now) (fused_disks g.P.Parts.disks c.reaches.new.parts) c.args.recovered.log (said c.args.recovered.state) c.requires.stands c.reaches.ensures.alone c.reaches.ensures.content c.reaches.ensures.crash
+
+pub returns-in-Ok-false-clause-damaged : goal.returns-in-Ok-false-clause-damaged
+returns-in-Ok-false-clause-damaged g c = λ r place wrong bytes told reaches.
+    let same = c.sides.ensures ∙ ap (λ (p : Store). p.sides) c.pages.ensures ∙ ap (λ (k : Kept). k.pages.sides) c.objects.ensures in
+    c.reaches.ensures.lacks (c.in-Ok-false.is ∙ ap (λ (b : Bool). Ok b) c.in-Ok-false.field-0-test) bytes told (subst (λ (ps : List (ℕ × ℕ)). ReachesSides ps bytes) (sym same) reaches)

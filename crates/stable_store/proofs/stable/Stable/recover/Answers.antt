@@ -1,39 +1,73 @@
 use Rattle.disk_trait.specs.Fused.{fused_disks}
 use Rattle.held_state.specs.Said.{said}
-use Rattle.stable_store.proofs.Returning.{finds_one, if_ok_on, more_run, more_then}
+use Rattle.held_state.specs.declared.held.Held.{Held}
+use Rattle.recovery.specs.declared.fault.RecoverFault.TheVariants.{Damaged as AtRecovery}
+use Rattle.recovery.specs.declared.fault.RecoverFault.{RecoverFault}
+use Rattle.recovery.specs.declared.recovered.Recovered.{Recovered}
+use Rattle.stable_store.proofs.Returning.{finds_one, finds_then, fresh_unheld, if_ok_on, lost_unheld, more_run, more_then, none_lacks, same_err}
+use Rattle.std.proofs.Common.{Err, IsErrOf, Ok, Option, ap, refl, subst, sym, ◌∙◌, ◌≡◌}
+use Rattle.validation_window.specs.declared.refusal.Refusal.TheVariants.{Damaged as IsDamaged}
 use Rattle.stable_store.specs.Kept.{disks_of, held_of}
 use Rattle.stable_store.specs.Saying.{FindsOneOf}
-use Rattle.state_log.specs.Holds.{Holds}
 use Rattle.stable_store.proofs.stable.Stable.recover.Goals as goal
 
 pub returns-in-Ok-Some-clause-crash : goal.returns-in-Ok-Some-clause-crash
 returns-in-Ok-Some-clause-crash g c =
     let old = disks_of g.P.Parts.disks c.args.self.now in
     let mid = fused_disks g.P.Parts.disks c.restart_all.new.parts in
-    let read = fused_disks g.P.Parts.disks c.recover.new.parts in
-    let now = disks_of g.P.Parts.disks c.reached-reached.new.self in
-    more_then old read now (more_then old mid read (more_run old mid c.restart_all.ensures.any_moment) (more_run mid read c.recover.ensures.any_moment)) c.reached-reached.ensures.crash
+    let read = fused_disks g.P.Parts.disks c.recover-found.new.parts in
+    let now = disks_of g.P.Parts.disks c.reached.new.self in
+    more_then old read now (more_then old mid read (more_run old mid c.restart_all.ensures.any_moment) (more_run mid read c.recover-found.ensures.any_moment)) c.reached.ensures.crash
 
 pub returns-in-Ok-Some-clause-found : goal.returns-in-Ok-Some-clause-found
 returns-in-Ok-Some-clause-found g c =
     let old = disks_of g.P.Parts.disks c.args.self.now in
     let mid = fused_disks g.P.Parts.disks c.restart_all.new.parts in
-    let read = fused_disks g.P.Parts.disks c.recover.new.parts in
-    let now = disks_of g.P.Parts.disks c.reached-reached.new.self in
+    let read = fused_disks g.P.Parts.disks c.recover-found.new.parts in
+    let now = disks_of g.P.Parts.disks c.reached.new.self in
     let held = held_of c.args.self.now in
-    let more = more_then old read now (more_then old mid read (more_run old mid c.restart_all.ensures.any_moment) (more_run mid read c.recover.ensures.any_moment)) c.reached-reached.ensures.crash in
-    if_ok_on c.reached-reached.result (λ r. Holds now r.log (said r.state)) (λ r. FindsOneOf old now held (said r.state)) (λ r holds. finds_one old now r.log held (said r.state) more holds c.content_is_left.ensures) c.reached-reached.ensures.stands
+    let more = more_then old mid read (more_run old mid c.restart_all.ensures.any_moment) (more_run mid read c.recover-found.ensures.any_moment) in
+    let holds = rw c.in-Ok-Some.field-0-is at c.in-Ok-Some.ensures.holds in
+    let finds = finds_one old read c.in-Ok-Some.recovered.log held (said c.in-Ok-Some.recovered.state) more holds c.content_is_left.ensures in
+    if_ok_on c.reached.result (λ r. r.state ≡ c.in-Ok-Some.recovered.state) (λ r. FindsOneOf old now held (said r.state)) (λ r same. subst (λ (s : Held). FindsOneOf old now held (said s)) (sym same) (finds_then old read now held (said c.in-Ok-Some.recovered.state) c.reached.ensures.crash finds)) c.reached.ensures.same
 
 pub returns-in-Ok-None-clause-crash : goal.returns-in-Ok-None-clause-crash
 returns-in-Ok-None-clause-crash g c =
     let old = disks_of g.P.Parts.disks c.args.self.now in
     let mid = fused_disks g.P.Parts.disks c.restart_all.new.parts in
-    let read = fused_disks g.P.Parts.disks c.recover.new.parts in
-    more_then old mid read (more_run old mid c.restart_all.ensures.any_moment) (more_run mid read c.recover.ensures.any_moment)
+    let read = fused_disks g.P.Parts.disks c.recover-found.new.parts in
+    more_then old mid read (more_run old mid c.restart_all.ensures.any_moment) (more_run mid read c.recover-found.ensures.any_moment)
 
-pub returns-in-Err-recover-clause-crash : goal.returns-in-Err-recover-clause-crash
-returns-in-Err-recover-clause-crash g c =
+pub returns-in-Err-found-clause-crash : goal.returns-in-Err-found-clause-crash
+returns-in-Err-found-clause-crash g c =
     let old = disks_of g.P.Parts.disks c.args.self.now in
     let mid = fused_disks g.P.Parts.disks c.restart_all.new.parts in
-    let read = fused_disks g.P.Parts.disks c.recover.new.parts in
-    more_then old mid read (more_run old mid c.restart_all.ensures.any_moment) (more_run mid read c.recover.ensures.any_moment)
+    let read = fused_disks g.P.Parts.disks c.recover-found.new.parts in
+    more_then old mid read (more_run old mid c.restart_all.ensures.any_moment) (more_run mid read c.recover-found.ensures.any_moment)
+
+pub returns-in-Ok-None-clause-damaged : goal.returns-in-Ok-None-clause-damaged
+returns-in-Ok-None-clause-damaged g c = λ r place wrong pending says tells.
+    let old = disks_of g.P.Parts.disks c.args.self.now in
+    let mid = fused_disks g.P.Parts.disks c.restart_all.new.parts in
+    let read = fused_disks g.P.Parts.disks c.recover-found.new.parts in
+    let more = more_then old mid read (more_run old mid c.restart_all.ensures.any_moment) (more_run mid read c.recover-found.ensures.any_moment) in
+    fresh_unheld old mid read (held_of c.args.self.now) pending more c.recover-found.ensures.content c.content_is_left.ensures (λ bytes reads. c.recover-found.ensures.fresh bytes reads (c.in-Ok-None.is ∙ ap (λ (o : Option Recovered). Ok o) c.in-Ok-None.field-0-is)) says tells
+
+pub returns-in-Err-found-clause-damaged : goal.returns-in-Err-found-clause-damaged
+returns-in-Err-found-clause-damaged g c = λ r place wrong pending says tells.
+    let old = disks_of g.P.Parts.disks c.args.self.now in
+    let mid = fused_disks g.P.Parts.disks c.restart_all.new.parts in
+    let read = fused_disks g.P.Parts.disks c.recover-found.new.parts in
+    let more = more_then old mid read (more_run old mid c.restart_all.ensures.any_moment) (more_run mid read c.recover-found.ensures.any_moment) in
+    let at = c.of_recovery.ensures.damaged r place (same_err _ c.of_recovery.result (IsDamaged r place) refl wrong) in
+    lost_unheld old mid read (held_of c.args.self.now) pending more c.recover-found.ensures.content c.content_is_left.ensures
+    (λ bytes reads. c.recover-found.ensures.lost bytes at.0 at.1 reads (c.in-Err-found.is ∙ ap (λ (f : RecoverFault). Err f) at.2)) says tells
+
+pub returns-in-Ok-Some-clause-damaged : goal.returns-in-Ok-Some-clause-damaged
+returns-in-Ok-Some-clause-damaged g c = λ r place wrong pending says tells.
+    let old = disks_of g.P.Parts.disks c.args.self.now in
+    let mid = fused_disks g.P.Parts.disks c.restart_all.new.parts in
+    let read = fused_disks g.P.Parts.disks c.recover-found.new.parts in
+    let more = more_then old mid read (more_run old mid c.restart_all.ensures.any_moment) (more_run mid read c.recover-found.ensures.any_moment) in
+    let holds = rw c.in-Ok-Some.field-0-is at c.in-Ok-Some.ensures.holds in
+    absurd (none_lacks old read c.in-Ok-Some.recovered.log (held_of c.args.self.now) (said c.in-Ok-Some.recovered.state) pending more holds c.content_is_left.ensures says tells (c.reached.ensures.damaged r place wrong))

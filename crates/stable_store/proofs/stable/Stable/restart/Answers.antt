@@ -1,7 +1,14 @@
 use Rattle.held_state.specs.Said.{said}
-use Rattle.stable_store.proofs.Returning.{fails_said, on_err_any, on_err_two, restart_finds, restart_stays}
+use Rattle.stable_store.proofs.Returning.{fails_said, on_err_any, on_err_two, on_ok_any, restart_finds, restart_stays, restart_unheld, tells_armed, tells_down}
 use Rattle.stable_store.proofs.Saying.{phase_of, said_armed}
-use Rattle.std.proofs.Common.{ap, sym, ◌∙◌}
+use Rattle.stable_store.proofs.Lowered.{none_torn, pending_of}
+use Rattle.stable_store.specs.Agreeing.{IsTaken}
+use Rattle.stable_store.specs.Kept.{disks_of, held_of}
+use Rattle.stable_store.specs.Taking.{TakesFrom}
+use Rattle.commit_log.specs.declared.entry.Entry.{Entry}
+use Rattle.held_state.specs.declared.held.Held.{Held}
+use Rattle.std.proofs.Common.{IfOk, IsErrOf, Option, ap, rules, subst, sym, ◌∙◌}
+use Rattle.validation_window.specs.declared.refusal.Refusal.TheVariants.{Damaged as IsDamaged}
 use Rattle.stable_store.proofs.stable.Stable.restart.Goals as goal
 
 pub returns-in_err-recovered-clause-stays_said : goal.returns-in_err-recovered-clause-stays_said
@@ -21,3 +28,32 @@ returns-in-Down-clause-stays_said g c = λ is.
     let down = sym c.recover.ensures.phase ∙ (sym c.replace.ensures.value ∙ c.in-Down.is) in
     on_err_two c.take_over.result _ _ _ c.take_over.ensures.rests c.take_over.ensures.stays
     (λ held phase. restart_stays g.P.Parts.disks c.take_down.new.self c.recover.new.self c.take_over.new.self c.in-Down.pending is_down down c.recover.ensures.crash c.recover.ensures.held c.take_over.ensures.parts held phase)
+
+pub returns-in_err-recovered-clause-damaged : goal.returns-in_err-recovered-clause-damaged
+returns-in_err-recovered-clause-damaged g c = λ r place is said_old tells.
+    let wrong : IsErrOf c.recover.result (IsDamaged r place) = search rules in
+    let is_down = c.take_down.ensures.says (said_armed g.P.Parts.disks c.args.self.now c.disarm.new.self 0 c.disarm.ensures said_old) in
+    let told = tells_down g.P.Parts.disks _ c.take_down.new.self c.take_down.ensures.new (tells_armed g.P.Parts.disks c.args.self.now c.disarm.new.self 0 c.disarm.ensures tells) in
+    restart_unheld g.P.Parts.disks c.take_down.new.self (disks_of g.P.Parts.disks c.recover.new.self).content c.args.self.now.phase is_down (ap phase_of c.take_down.ensures.new) (sym c.is_torn.ensures ∙ c.if-is_torn.false)
+    (λ pending says. c.recover.ensures.damaged r place wrong pending says told)
+
+pub returns-in-Down-clause-damaged : goal.returns-in-Down-clause-damaged
+returns-in-Down-clause-damaged g c = λ r place is said_old tells.
+    let is_down = c.take_down.ensures.says (said_armed g.P.Parts.disks c.args.self.now c.disarm.new.self 0 c.disarm.ensures said_old) in
+    let told = tells_down g.P.Parts.disks _ c.take_down.new.self c.take_down.ensures.new (tells_armed g.P.Parts.disks c.args.self.now c.disarm.new.self 0 c.disarm.ensures tells) in
+    let down = sym c.recover.ensures.phase ∙ (sym c.replace.ensures.value ∙ c.in-Down.is) in
+    absurd (c.take_over.ensures.damaged r place is (restart_finds g.P.Parts.disks c.take_down.new.self c.recover.new.self c.in-Down.pending (said c.in_ok-recovered.recovered.state) is_down down c.recover.ensures.held c.in_ok-recovered.ensures.found (c.recover.ensures.crash.goes_on told)))
+
+pub returns-in-Down-clause-pending : goal.returns-in-Down-clause-pending
+returns-in-Down-clause-pending g c =
+    let down = sym (ap phase_of c.take_down.ensures.new) ∙ (sym c.recover.ensures.phase ∙ (sym c.replace.ensures.value ∙ c.in-Down.is)) in
+    subst (λ (o : Option Entry). IfOk c.take_over.result (TakesFrom o)) (sym (pending_of c.args.self.now.phase c.in-Down.pending down)) c.take_over.ensures.pending
+
+pub returns-in-Down-clause-agrees : goal.returns-in-Down-clause-agrees
+returns-in-Down-clause-agrees g c =
+    subst (λ (h : Held). IfOk c.take_over.result (λ taken. IsTaken (disks_of g.P.Parts.disks c.take_over.new.self) h taken (held_of c.take_over.new.self).objects)) (c.recover.ensures.held ∙ ap held_of c.take_down.ensures.new) c.take_over.ensures.agrees
+
+pub returns-in-Down-clause-whole : goal.returns-in-Down-clause-whole
+returns-in-Down-clause-whole g c =
+    let down = sym (ap phase_of c.take_down.ensures.new) ∙ (sym c.recover.ensures.phase ∙ (sym c.replace.ensures.value ∙ c.in-Down.is)) in
+    on_ok_any c.take_over.result _ (none_torn c.args.self.now.phase c.in-Down.pending down)

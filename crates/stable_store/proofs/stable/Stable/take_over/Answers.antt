@@ -1,9 +1,11 @@
 use Rattle.commit_log.specs.declared.entry.Entry.{Entry}
 use Rattle.held_state.specs.Entering.{entered}
-use Rattle.stable_store.proofs.Returning.{returned_held, returned_pending}
+use Rattle.stable_store.proofs.Returning.{neither_of, none_pending, returned_held, returned_pending}
 use Rattle.stable_store.specs.Agreeing.{numbers_of}
-use Rattle.std.proofs.Common.{Option, subst, ◌≡◌}
+use Rattle.stable_store.specs.declared.agreement.Agreement.TheVariants.{Neither, WithPending}
+use Rattle.std.proofs.Common.{None, Option, rules, subst, ◌≡◌}
 use Rattle.std.specs.Option.{IfSome}
+use Rattle.stable_store.proofs.stable.Stable.take_over.Goals.{in_default-via-in-WithPending+in-None-1, in_default-via-in-Neither-1}
 use Rattle.stable_store.proofs.stable.Stable.take_over.Goals as goal
 
 pub returns-in-AsHeld-default-clause-says : goal.returns-in-AsHeld-default-clause-says
@@ -16,3 +18,14 @@ returns-in-WithPending-Some-clause-says g c = λ one.
     let up = c.come_up-in-WithPending-Some in
     let numbers = subst (λ (p : Option Entry). IfSome p (λ e. numbers_of c.args.recovered.state ≡ numbers_of (entered c.args.self.now.held e))) c.in-WithPending-Some.is-1 (c.compare-agrees.ensures.pending c.in-WithPending-Some.is-0) in
     returned_pending g.P.Parts.disks c.args.self.now up.new.self c.args.recovered.state c.args.recovered.log c.args.pending c.in-WithPending-Some.entry c.in-WithPending-Some.is-1 up.ensures.parts up.ensures.phase up.ensures.held up.ensures.objects numbers c.requires.stands one
+
+pub returns-in_default-clause-damaged : goal.returns-in_default-clause-damaged
+returns-in_default-clause-damaged g c = λ r place wrong one. elim c.in_default-1.branch [
+  | in_default-via-in-WithPending+in-None-1 w ↦
+      (let found : c.compare-agrees.result ≡ WithPending = search rules in
+      let none : c.args.pending ≡ None = search rules in
+      none_pending c.args.pending (c.compare-agrees.ensures.was_pending found) none)
+  | in_default-via-in-Neither-1 w ↦
+      (let found : c.compare-agrees.result ≡ Neither = search rules in
+      neither_of c.args.recovered.state c.args.self.now.held c.args.pending c.requires.rests.keeps (c.compare-agrees.ensures.neither found) (c.compare-agrees.ensures.nor_pending found) one)
+]

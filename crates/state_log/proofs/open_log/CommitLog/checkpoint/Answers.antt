@@ -3,7 +3,7 @@ use Rattle.log_bytes.specs.Checkpoint.{state_format}
 use Rattle.log_bytes.specs.Format.{value_of}
 use Rattle.state_log.specs.Holds.{beside}
 use Rattle.state_log.proofs.Checkpoints.{holds_at, none_keeps, says_at}
-use Rattle.state_log.proofs.Holding.{is_log, pages_stay}
+use Rattle.state_log.proofs.Holding.{is_log, pages_stay, pages_still}
 use Rattle.state_log.proofs.open_log.CommitLog.checkpoint.Goals as goal
 
 pub returns-in_err-head-clause-any_moment : goal.returns-in_err-head-clause-any_moment
@@ -35,3 +35,13 @@ pub returns-clause-pages : goal.returns-clause-pages
 returns-clause-pages g c =
     let holds = rw (← c.self.view_is) at c.requires.holds in
     pages_stay (g.P.Parts.disks c.args.parts.now) (g.P.Parts.disks c.format.new.parts) (beside c.self.inside.log.disk) (1 - c.disk-disk.result) (ap beside c.disk-disk.ensures.value) (is_log c.self.inside.log.disk holds.1.within) c.format.ensures.alone
+
+pub returns-in_err-self-inside-clause-still : goal.returns-in_err-self-inside-clause-still
+returns-in_err-self-inside-clause-still g c =
+    let holds = rw (← c.self.view_is) at c.requires.holds in
+    pages_still (g.P.Parts.disks c.args.parts.now) (g.P.Parts.disks c.format.new.parts) (beside c.self.inside.log.disk) (1 - c.disk-disk.result) (ap beside c.disk-disk.ensures.value) (is_log c.self.inside.log.disk holds.1.within) c.format.ensures.alone
+
+pub returns-clause-still : goal.returns-clause-still
+returns-clause-still g c =
+    let holds = rw (← c.self.view_is) at c.requires.holds in
+    pages_still (g.P.Parts.disks c.args.parts.now) (g.P.Parts.disks c.format.new.parts) (beside c.self.inside.log.disk) (1 - c.disk-disk.result) (ap beside c.disk-disk.ensures.value) (is_log c.self.inside.log.disk holds.1.within) c.format.ensures.alone

@@ -2,7 +2,7 @@ use Rattle.std.proofs.Common.{ap, refl, ◌∙◌}
 use Rattle.log_bytes.specs.Format.{value_of}
 use Rattle.log_bytes.specs.Grammar.{body_format}
 use Rattle.log_bytes.specs.declared.body.Body.TheVariants.{Installed as AnInstalled}
-use Rattle.state_log.proofs.Holding.{append_holds, append_says, none_says, ok_of_three, pages_stay}
+use Rattle.state_log.proofs.Holding.{append_holds, append_says, none_says, ok_of_three, pages_stay, pages_still}
 use Rattle.state_log.proofs.open_log.CommitLog.installed.Goals as goal
 
 pub returns-in_err-body-clause-any_moment : goal.returns-in_err-body-clause-any_moment
@@ -24,3 +24,8 @@ pub returns-clause-pages : goal.returns-clause-pages
 returns-clause-pages g c =
     let holds = rw (← c.self.view_is) at c.requires.holds in
     pages_stay (g.P.Parts.disks c.args.parts.now) (g.P.Parts.disks c.append.new.parts) c.self.inside.log.disk c.self.inside.log.disk refl holds.1.within c.append.ensures.alone
+
+pub returns-clause-still : goal.returns-clause-still
+returns-clause-still g c =
+    let holds = rw (← c.self.view_is) at c.requires.holds in
+    pages_still (g.P.Parts.disks c.args.parts.now) (g.P.Parts.disks c.append.new.parts) c.self.inside.log.disk c.self.inside.log.disk refl holds.1.within c.append.ensures.alone

@@ -1,24 +1,30 @@
-use Rattle.cached_sets.proofs.Touching.{on_ok, touches_from}
-use Rattle.cached_sets.proofs.sets.Sets.touch.Goals as goal
+use Rattle.cached_sets.proofs.Touching.{on_ok, steps_from, touches_from}
+use Rattle.cached_sets.proofs.sets.Sets.touch_counted.Goals as goal
 use Rattle.cached_sets.specs.Invalid.{Invalids}
 use Rattle.cached_sets.specs.Sets.{Sets, marked, touches}
-use Rattle.std.proofs.Common.{List, [], ap, drop, sym, ◌+◌, ◌∙◌, ◌∷◌, ℕ}
+use Rattle.link_table.specs.Pairs.{lefts}
+use Rattle.std.proofs.Common.{List, [], ap, arith, drop, length, sym, ◌+◌, ◌∙◌, ◌∷◌, ℕ}
 use Rattle.std.specs.Map.{keys_of}
 use Rattle.thor_value.specs.declared.names.Oref.{Oref}
 use Rattle.thor_value.specs.declared.values.Obj.{Obj}
 
 pub returns-then-is_err-clause-err : goal.returns-then-is_err-clause-err
-returns-then-is_err-clause-err c =
+returns-then-is_err-clause-err g c =
     let kept : Invalids → Sets = λ N. record { cached = c.self.inside.pages; invalid = N } in
-    rw (← c.self.view_is, c.loop-write.invariant.pages) (ap kept (c.undo.ensures ∙ c.mark_holders-touched.ensures.undone c.self.inside.invalid c.loop-write.invariant.undone))
+    rw (← c.self.view_is, c.loop-write.invariant.pages) (ap kept (c.undo.ensures.rest ∙ c.mark_holders-touched.ensures.undone c.self.inside.invalid c.loop-write.invariant.undone))
 
 pub loop-write-preserved : goal.loop-write-preserved
-loop-write-preserved c =
+loop-write-preserved g c =
     let ws : List (Oref × Obj) = c.as_slice-write-items.result.now in
     let i : ℕ = c.loop-write.write-index in
     let P : List (ℕ × ℕ) = c.self.inside.pages in
     let N : Invalids = c.loop-write.self-inside.invalid in
     let ok = on_ok c.mark_holders-touched.result (sym c.is_err.ensures.value ∙ c.if-is_err.false) c.mark_holders-touched.ensures.ok in
+    let cost =
+    on_ok c.mark_holders-touched.result (sym c.is_err.ensures.value ∙ c.if-is_err.false) c.mark_holders-touched.ensures.cost
+    ∙ ap (λ (ps : List (ℕ × ℕ)). c.tick.new.self + length (lefts ps c.write-item.result.0.page)) c.loop-write.invariant.pages
+    ∙ ap (λ (y : Oref × Obj). c.tick.new.self + length (lefts P y.0.page)) c.write-item.is in
+    let steps = steps_from P ws i c.write-item.result c.loop-write-test.true in
     record {
       pages = c.loop-write.invariant.pages;
       left =
@@ -29,4 +35,6 @@ loop-write-preserved c =
           ∙ sym (touches_from P c.args.writer ws i c.write-item.result N c.args.place c.loop-write-test.true)
           ∙ c.loop-write.invariant.left;
       undone = c.mark_holders-touched.ensures.undone c.self.inside.invalid c.loop-write.invariant.undone;
+      cost = omega (arith, steps, cost, c.tick.ensures, c.loop-write.invariant.cost);
+      few = omega (arith, c.mark_holders-touched.ensures.marks, c.tick.ensures, c.loop-write.invariant.few);
     }

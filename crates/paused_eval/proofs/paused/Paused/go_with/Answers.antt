@@ -1,15 +1,24 @@
+use Rattle.paused_eval.proofs.Ending.{always}
 use Rattle.paused_eval.proofs.Hands.{same_hands}
+use Rattle.paused_eval.proofs.Standing.{steps_are}
 use Rattle.paused_eval.specs.Copies.{at_hand}
-use Rattle.paused_eval.proofs.paused.Paused.go.Goals as goal
+use Rattle.paused_eval.proofs.paused.Paused.go_with.Goals as goal
 
 pub returns-clause-answers : goal.returns-clause-answers
-returns-clause-answers c = λ tx given stands.
+returns-clause-answers g c = λ tx given stands.
     c.answer.ensures.answers c.args.schema.now (at_hand c.args.schema.now c.args.copies.now.cache) tx given _ c.run_over.new.names
     (c.in_ok-came.ensures.answers tx given (rw c.replace-doing.ensures.value stands))
 
 pub returns-clause-stands : goal.returns-clause-stands
-returns-clause-stands c = λ tx given stands.
+returns-clause-stands g c = λ tx given stands.
     let s = c.args.schema.now in
     rw (same_hands s c.args.copies.now.cache c.run_over.new.cache c.in_ok-came.ensures.kept, c.set_doing.ensures)
     (c.answer.ensures.stands s (at_hand s c.args.copies.now.cache) tx given _ c.run_over.new.names
     (c.in_ok-came.ensures.answers tx given (rw c.replace-doing.ensures.value stands)))
+
+pub returns-clause-steps : goal.returns-clause-steps
+returns-clause-steps g c = λ tx given stands.
+    always c.answer.result _ (steps_are c.args.schema.now (at_hand c.args.schema.now c.args.copies.now.cache) tx given _ _ _ (c.in_ok-came.ensures.answers tx given (rw c.replace-doing.ensures.value stands)))
+
+pub returns-clause-work : goal.returns-clause-work
+returns-clause-work g c = always c.answer.result _ c.in_ok-came.ensures.work

@@ -1,0 +1,113 @@
+-- What can't be taken into memory is what no memory says.
+use Rattle.std.proofs.Common.{◌≡◌, Bool, List, None, Option, Some, [], ◌∷◌, ◌++◌, ap, arith, cond, false, map, nat_eq, refl, subst, sym, true, ℕ, ◌&&◌, ◌∙◌}
+use Rattle.std.proofs.lemmas.Bool.Decides.{nat_tests}
+use Rattle.std.proofs.lemmas.Cmp.{eq_by_cmp_equiv}
+use Rattle.std.specs.BTreeMap.{is_at}
+use Rattle.std.specs.List.{AllByRecursion}
+use Rattle.std.specs.List.Sorted.{IsStrictlySortedBy}
+use Rattle.std.specs.Map.{keys_of, lookup, values_of}
+use Rattle.std.specs.Option.{is_some, option_and_then}
+use Rattle.commit_log.specs.declared.request.Request.{Request}
+use Rattle.log_bytes.specs.declared.state.State.{State}
+use Rattle.mob_buffer.specs.Buffer.{AreOf, Objects}
+use Rattle.state_log.specs.Recovered.{request_at}
+use Rattle.thor_value.proofs.NameOrders.{ts_total}
+use Rattle.thor_value.specs.FiniteMap.{get, has}
+use Rattle.thor_value.specs.Names.{ts_cmp}
+use Rattle.thor_value.specs.declared.names.Oref.{Oref}
+use Rattle.thor_value.specs.declared.names.Ts.{Ts}
+use Rattle.thor_value.specs.declared.values.Obj.{Obj}
+use Rattle.two_phase.proofs.Lists.{lookup_those}
+use Rattle.two_phase.specs.Contents.{Contents, open_at, request_of}
+use Rattle.two_phase.specs.Lists.{decision_of, kept_decisions, open_requests, those}
+use Rattle.two_phase.specs.declared.transaction.Transaction.TheVariants as kept
+use Rattle.two_phase.specs.declared.transaction.Transaction.{Transaction}
+use Rattle.held_state.proofs.Filled.{none_yet, stamps_in_order}
+use Rattle.held_state.proofs.Tables.{request_open}
+use Rattle.held_state.specs.Entering.{are_of}
+use Rattle.held_state.specs.Keeps.{Keeps, Stands, TableFits}
+use Rattle.held_state.specs.Making.{KeepsTo, OpensTo, as_open, stamped}
+use Rattle.held_state.specs.Said.{said}
+use Rattle.held_state.specs.Unfit.{IsUnfit}
+use Rattle.held_state.specs.declared.held.Held.{Held}
+
+both : (a b : Bool) → a ≡ true → b ≡ true → a && b ≡ true
+both true b first second = second
+both false b first second = cc
+
+is_one : (a b : ℕ) → a ≡ b → nat_eq a b ≡ true
+is_one a b is = grind (arith, nat_tests, is)
+
+-- what is of one repository is found to be so
+pub writes_of : (repo : ℕ) (writes : List (Oref × Obj)) → AreOf repo writes → are_of repo writes ≡ true
+writes_of repo [] of = refl
+writes_of repo (w ∷ ws) of = both (nat_eq w.0.repo repo) (are_of repo ws) (is_one w.0.repo repo of.0.repo_is) (writes_of repo ws of.1)
+
+pub not_of : (repo : ℕ) (writes : List (Oref × Obj)) → are_of repo writes ≡ false → AreOf repo writes → ⊥
+not_of repo writes isnt of = let is = writes_of repo writes of in cc
+
+-- ---- requests
+
+requests_of : (repo : ℕ) (es : List (Ts × Transaction)) → AllByRecursion (Stands repo) es → AllByRecursion (λ q. AreOf repo q.writes) (values_of (those request_of es))
+requests_of repo [] h = tt
+requests_of repo ((t, kept.Open q) ∷ es) h = (h.0.1.1.1, requests_of repo es h.1)
+requests_of repo ((t, kept.Kept) ∷ es) h = requests_of repo es h.1
+
+abbrev OpenOf : ℕ → Ts × Transaction → Type 0
+OpenOf repo (t, kept.Open q) = AreOf repo q.writes
+OpenOf repo (t, kept.Kept) = Unit {0}
+
+opens_of : (repo : ℕ) (qs : List Request) → AllByRecursion (λ q. AreOf repo q.writes) qs → AllByRecursion (OpenOf repo) (map as_open qs)
+opens_of repo [] h = tt
+opens_of repo (q ∷ qs) h = (h.0, opens_of repo qs h.1)
+
+in_all : {X : Type 0} (P : X → Type 0) (es rest : List X) (x : X) → AllByRecursion P (es ++ x ∷ rest) → P x
+in_all P [] rest x h = h.0
+in_all P (e ∷ es) rest x h = in_all P es rest x h.1
+
+-- one that is still to be opened writes under names of another repository
+pub none_opens : (repo : ℕ) (prepared : List Request) (c : Contents) (q : Request) (rest : List Request) → OpensTo repo prepared c (q ∷ rest) → are_of repo q.writes ≡ false → (d : Contents) → TableFits repo d → open_requests d ≡ prepared → ⊥
+none_opens repo prepared c q rest to isnt d fits same =
+    let all : AllByRecursion (OpenOf repo) (map as_open prepared) = opens_of repo prepared (subst (AllByRecursion (λ p. AreOf repo p.writes)) same (requests_of repo d.transactions.pairs fits.each)) in
+    not_of repo q.writes isnt (in_all (OpenOf repo) c.transactions.pairs (map as_open rest) (as_open q) (subst (AllByRecursion (OpenOf repo)) (sym to.pairs) all))
+
+-- ---- decisions
+
+found_behind : {X : Type 0} (t : Ts) (es rest : List (Ts × X)) (x : X) → lookup (is_at (ts_cmp t)) es ≡ None → is_at (ts_cmp t) t ≡ true → lookup (is_at (ts_cmp t)) (es ++ (t, x) ∷ rest) ≡ Some x
+found_behind t [] rest x none here = rw here refl
+found_behind t (e ∷ es) rest x none here = by (is_at (ts_cmp t) e.0) none (found_behind t es rest x)
+  where
+    by : (b : Bool) → cond b (Some e.1) (lookup (is_at (ts_cmp t)) es) ≡ None → (lookup (is_at (ts_cmp t)) es ≡ None → is_at (ts_cmp t) t ≡ true → lookup (is_at (ts_cmp t)) (es ++ (t, x) ∷ rest) ≡ Some x) → cond b (Some e.1) (lookup (is_at (ts_cmp t)) (es ++ (t, x) ∷ rest)) ≡ Some x
+    by true is more = cc
+    by false is more = more is here
+
+stamped_keys : (es : List (Ts × Unit {0})) → map stamped (keys_of es) ≡ es
+stamped_keys [] = refl
+stamped_keys (e ∷ es) = ap (λ (r : List (Ts × Unit {0})). e ∷ r) (stamped_keys es)
+
+not_both : (a b : Option Transaction) → is_some a ≡ true → option_and_then decision_of a ≡ None → option_and_then decision_of b ≡ Some (tt {0}) → option_and_then request_of a ≡ option_and_then request_of b → ⊥
+not_both None b there none some same = cc
+not_both (Some kept.Kept) b there none some same = cc
+not_both (Some (kept.Open q)) None there none some same = cc
+not_both (Some (kept.Open q)) (Some (kept.Open p)) there none some same = cc
+not_both (Some (kept.Open q)) (Some kept.Kept) there none some same = cc
+
+-- one that is still to be kept is prepared
+pub none_keeps : (repo : ℕ) (prepared : List Request) (decisions : List Ts) → IsStrictlySortedBy ts_cmp decisions → (c : Contents) (t : Ts) (rest : List Ts) → KeepsTo repo prepared decisions c (t ∷ rest) → has c.transactions t ≡ true → (d : Contents) → TableFits repo d → open_requests d ≡ prepared → kept_decisions d ≡ decisions → ⊥
+none_keeps repo prepared decisions rise c t rest to there d fits opened decided =
+    let absent : lookup (is_at (ts_cmp t)) (those decision_of c.transactions.pairs) ≡ None = none_yet ts_total (those decision_of c.transactions.pairs) (map stamped rest) t (tt {0}) (stamps_in_order repo prepared decisions rise c (t ∷ rest) to) in
+    let all : those decision_of d.transactions.pairs ≡ those decision_of c.transactions.pairs ++ (t, tt {0}) ∷ map stamped rest = sym (stamped_keys (those decision_of d.transactions.pairs)) ∙ ap (map stamped) decided ∙ sym to.kept in
+    let kept_in_d = sym (lookup_those decision_of t d.transactions.pairs fits.sorted) ∙ ap (lookup (is_at (ts_cmp t))) all ∙ found_behind t (those decision_of c.transactions.pairs) (map stamped rest) (tt {0}) absent ((eq_by_cmp_equiv ts_total).refl t) in
+    let not_in_c = sym (lookup_those decision_of t c.transactions.pairs to.fits.sorted) ∙ absent in
+    let same = sym (request_open repo c to.fits t) ∙ ap (λ (qs : List Request). request_at qs t) (to.opened ∙ sym opened) ∙ request_open repo d fits t in
+    not_both (get c.transactions t) (get d.transactions t) there not_in_c kept_in_d same
+
+-- ---- the whole
+
+-- no table has these lists
+pub no_table : (s : State) → ((d : Contents) → TableFits s.repo d → open_requests d ≡ s.prepared → kept_decisions d ≡ s.kept → ⊥) → IsUnfit s
+no_table s none h keeps is = none h.table (subst (λ (n : ℕ). TableFits n h.table) (ap (λ (t : State). t.repo) is) keeps.table) (ap (λ (t : State). t.prepared) is) (ap (λ (t : State). t.kept) is)
+
+-- no buffer has these objects
+pub no_objects : (s : State) → (AreOf s.repo s.mob → ⊥) → IsUnfit s
+no_objects s none h keeps is = none (subst (λ (n : ℕ). AreOf n s.mob) (ap (λ (t : State). t.repo) is) (subst (AreOf h.repo) (ap (λ (t : State). t.mob) is) keeps.objects))
