@@ -12,6 +12,7 @@ pub mod Linked
 pub mod Other
 pub mod Passing
 pub mod Quiet
+mod Reasons
 pub mod Resting
 pub mod Sending
 pub mod Showing

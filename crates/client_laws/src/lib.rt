@@ -13,6 +13,7 @@ mod lent;
 mod lent_sending;
 mod links;
 mod outcomes;
+mod refusals;
 
 pub use acting::acting_links_fit;
 pub use calls::{
@@ -30,4 +31,5 @@ pub use growth::{others_act, outcomes_are_told};
 pub use lent::{asking_links_fit, connecting_links_fit, other_links_fit, taking_links_fit};
 pub use lent_sending::{deciding_links_fit, sending_links_fit, telling_links_fit};
 pub use links::{copies_become_what_messages_bring, links_outlive_others, links_tell_what_is_kept};
+pub use refusals::refusals_are_exact;
 pub use outcomes::{atomic_histories_agree, others_decide_nothing};
