@@ -11,6 +11,7 @@ pub mod Lending
 pub mod Linked
 pub mod Other
 pub mod Passing
+mod Places
 pub mod Quiet
 mod Reasons
 pub mod Resting

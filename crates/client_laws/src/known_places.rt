@@ -1,0 +1,32 @@
+//! That a client which has taken all messages isn't refused again for what it was told.
+
+ghost use Rattle.client_laws.specs.Fitting.{FitsAt, Kept};
+ghost use Rattle.commit_log.specs.declared.request.Request.{Request};
+ghost use Rattle.local_history.specs.History.{Base};
+ghost use Rattle.local_history.specs.Sound.{sound};
+ghost use Rattle.port.specs.Views.{Calm};
+ghost use Rattle.refusal_reasons.specs.declared.reason.Reason.TheVariants as reasons;
+ghost use Rattle.session_outbox.specs.Current.{IsTold};
+ghost use Rattle.session_outbox.specs.Notices.{lives};
+ghost use Rattle.session_outbox.specs.Session.{session, waiting};
+ghost use Rattle.session_outbox.specs.Trace.{Item, entries};
+ghost use Rattle.session_outbox.specs.Verdict.{verdict};
+ghost use Rattle.std.specs.Option.{IsSomeAnd};
+ghost use Rattle.std.specs.Prelude.{Bool, List, Some, [], true, ℕ, ◌<◌, ◌≡◌, ◌≤◌};
+ghost use Rattle.thor_value.specs.declared.names.Oref.{Oref};
+ghost use Rattle.thor_value.specs.declared.names.Ts.{Ts};
+ghost use Rattle.validation_window.specs.declared.refusal.Refusal.TheVariants as refused;
+
+/// A request is refused as stale only where its session was sent the message of the write, and where its `upto` isn't above
+/// that write's place.
+pub fn stale_writes_are_told()
+    ensures { (b : Base) (T : List Item) (s : ℕ) (q : Request) (x : Oref) (k : ℕ) → sound b (entries T) →
+        verdict b T s q ≡ Some (refused.Reason (reasons.Stale x k)) → (q.upto ≤ k) × IsSomeAnd (session b T s) (λ v. IsTold v.sent x k) }
+{}
+
+/// A client that fits, and for whose session no message waits, knows the place of each write that the session was told of.
+pub fn told_places_are_known()
+    ensures { (c : ℕ) (b : Base) (T : List Item) (committed : Ts → Bool) (kept : Kept) → FitsAt c b Calm T committed kept →
+        lives (session b T kept.session) ≡ true → IsSomeAnd (session b T kept.session) (λ v. waiting v ≡ []) →
+        IsSomeAnd (session b T kept.session) (λ v. (x : Oref) (k : ℕ) → IsTold v.sent x k → k < kept.upto) }
+{}
