@@ -8,20 +8,24 @@ use Rattle.local_history.specs.Requests.{is_upgrade}
 use Rattle.local_history.specs.Sound.{sound}
 use Rattle.port.specs.Views.{Calm}
 use Rattle.refusal_reasons.specs.declared.reason.Reason.TheVariants as reasons
-use Rattle.session_outbox.proofs.Sessions.{wait-by-place}
+use Rattle.session_outbox.proofs.Exactness.{exact-beginning, exact-owed, numbered}
+use Rattle.session_outbox.proofs.Sessions.{session-end, wait-by-place}
 use Rattle.session_outbox.proofs.Told.{all-both, all-told}
+use Rattle.session_outbox.specs.Calls.{last_session}
 use Rattle.session_outbox.specs.Current.{IsTold, WasToldOf}
+use Rattle.session_outbox.specs.Exact.{ItemIsExact, exact}
 use Rattle.session_outbox.specs.Messages.{WaitsByPlace}
 use Rattle.session_outbox.specs.Notices.{lives}
-use Rattle.session_outbox.specs.Session.{Invalid, Notice, Session, invalid, invalid_in, last_other, not_below, session, session_lives, upto_of, waiting}
-use Rattle.session_outbox.specs.Trace.{Item, entries}
+use Rattle.session_outbox.specs.Session.{Invalid, Notice, Session, begun, invalid, invalid_in, is_silent, last_other, meet, move, moved, not_below, notice, or_retired, push, rested, retired, session, session_lives, upto_of, waiting}
+use Rattle.session_outbox.specs.Trace.{E, Item, M, entries}
 use Rattle.session_outbox.specs.Verdict.{stale, stale_from, verdict, verdict_by}
-use Rattle.std.proofs.Common.{Bool, List, [], ap, arith, cond, false, inl, inr, length, refl, subst, sym, true, ◌+◌, ◌-◌, ◌<◌, ◌≡◌, ◌≤◌, ◌∙◌, ◌∷◌, ℕ}
+use Rattle.session_outbox.specs.declared.mark.Mark.TheVariants as the
+use Rattle.std.proofs.Common.{Bool, List, [], ap, append_assoc, arith, cond, false, inl, inr, length, refl, subst, suc, sym, true, zero, ◌+◌, ◌++◌, ◌-◌, ◌<◌, ◌≡◌, ◌≢◌, ◌≤◌, ◌∙◌, ◌∷◌, ℕ}
 use Rattle.std.proofs.lemmas.Bool.Decides.{nat_tests}
 use Rattle.std.proofs.lemmas.List.Elements.{All-head, All-tail}
-use Rattle.std.proofs.lemmas.List.{length-drop}
+use Rattle.std.proofs.lemmas.List.{append-nil, length-drop}
 use Rattle.std.proofs.lemmas.Option.{same_Some, slice_get_within}
-use Rattle.std.specs.List.{All, fold}
+use Rattle.std.specs.List.{All, fold, slice_get}
 use Rattle.std.specs.Option.{IsSomeAnd, option_and_then, option_map, option_or}
 use Rattle.std.specs.Prelude.{IfSome, None, Option, Some, is_none, nat_eq, nat_le, nat_lt, not, ◌&&◌, ◌||◌, ◌⊎◌}
 use Rattle.thor_value.specs.FiniteMap.{get, keys, len}
@@ -205,3 +209,94 @@ places_known c b T committed kept f alive none = subst (λ (o : Option Session).
         let below : k + 1 ≤ upto_of f.v = order.taken t.at (Invalid t.names k) t.message (omega (arith, within, all_taken)) in
         let same : kept.upto ≡ upto_of f.v = (f.keeps refl live).known in
         omega (arith, below, same)
+
+-- ---- what was told stays told
+
+told_more : (sent : List Notice) (o : Option Notice) (x : Oref) (k : ℕ) → IsTold sent x k → IsTold (push sent o) x k
+told_more sent None x k h = h
+told_more sent (Some m) x k h = record { at = h.at; names = h.names; message = get_more sent (m ∷ []) h.at (Invalid h.names k) h.message; named = h.named }
+  where
+    get_more : (xs ys : List Notice) (i : ℕ) (y : Notice) → slice_get xs i ≡ Some y → slice_get (xs ++ ys) i ≡ Some y
+    get_more [] ys i y e = cc
+    get_more (z ∷ xs) ys zero y e = e
+    get_more (z ∷ xs) ys (suc i) y e = get_more xs ys i y e
+
+module _ (b : Base) (s : ℕ) (x : Oref) (k : ℕ) where
+  abbrev Told : Session → Type 0
+  Told v = IsTold v.sent x k
+
+  told_moved : (S : State) (i : Item) (v : Session) → Told v → Told (move b s S i v)
+  told_moved S i v h = by (session_lives v)
+    where
+      silent : (t : Bool) → Told (cond t (record (moved b s S v i) { stage = retired (moved b s S v i).stage }) (moved b s S v i))
+      silent true = told_more v.sent (notice b s S v.pages i) x k h
+      silent false = told_more v.sent (notice b s S v.pages i) x k h
+
+      by : (t : Bool) → Told (cond t (or_retired b (moved b s S v i)) (rested v i))
+      by true = silent (is_silent b.silence (moved b s S v i))
+      by false = h
+
+  told_mapped : (S : State) (i : Item) (o : Option Session) → IsSomeAnd o Told → IsSomeAnd (option_map (move b s S i) o) Told
+  told_mapped S i None h = absurd h
+  told_mapped S i (Some v) h = told_moved S i v h
+
+  told_behind : (S : State) (i : Item) (o : Option Session) → ((n c : ℕ) → i ≡ M (the.Connected n c) → nat_eq n s ≡ false) → IsSomeAnd o Told → IsSomeAnd (meet b s S o i) Told
+  told_behind S (M (the.Connected n c)) o other h = subst (λ (t : Bool). IsSomeAnd (cond t (Some (begun c S.length)) (option_map (move b s S (M (the.Connected n c))) o)) Told) (sym (other n c refl)) (told_mapped S (M (the.Connected n c)) o h)
+  told_behind S (E e) o other h = told_mapped S (E e) o h
+  told_behind S (M (the.Took n p)) o other h = told_mapped S (M (the.Took n p)) o h
+  told_behind S (M (the.Fetched n page upto)) o other h = told_mapped S (M (the.Fetched n page upto)) o h
+  told_behind S (M (the.Granted n page)) o other h = told_mapped S (M (the.Granted n page)) o h
+  told_behind S (M (the.Entry p)) o other h = told_mapped S (M (the.Entry p)) o h
+  told_behind S (M (the.Drew n t)) o other h = told_mapped S (M (the.Drew n t)) o h
+  told_behind S (M (the.Forgot t)) o other h = told_mapped S (M (the.Forgot t)) o h
+  told_behind S (M (the.Refused n q r)) o other h = told_mapped S (M (the.Refused n q r)) o h
+
+  abbrev ToldAt : List Item → Type 0
+  ToldAt T = IsSomeAnd (session b T s) Told
+
+  apart : (n m : ℕ) → m ≤ n → (k' : ℕ) → n < k' → nat_eq k' m ≡ false
+  apart n m low k' high = grind (arith, nat_tests, low, high)
+
+  some_of : (o : Option Session) → IsSomeAnd o Told → (v : Session) × (o ≡ Some v)
+  some_of None h = absurd h
+  some_of (Some v) h = (v, refl)
+
+  told_next : (T : List Item) (i : Item) → exact b T → ItemIsExact b T i → ToldAt T → ToldAt (T ++ i ∷ [])
+  told_next T i h owed p = subst (λ (o : Option Session). IsSomeAnd o Told) (sym (session-end b T i s)) (told_behind (state b (entries T)) i (session b T s) other p)
+    where
+      there : (v : Session) × (session b T s ≡ Some v)
+      there = some_of (session b T s) p
+
+      old : s ≤ last_session T
+      old = (numbered b T h).known s there.0 there.1
+
+      other : (n c : ℕ) → i ≡ M (the.Connected n c) → nat_eq n s ≡ false
+      other n c is = apart (last_session T) s old n (subst (λ (j : Item). ItemIsExact b T j) is owed).0
+
+  pub told_stays : (T more : List Item) → exact b (T ++ more) → ToldAt T → ToldAt (T ++ more)
+  told_stays T [] h p = subst ToldAt (sym (append-nil T)) p
+  told_stays T (i ∷ more) h p =
+      let e : (T ++ i ∷ []) ++ more ≡ T ++ (i ∷ more) = append_assoc T (i ∷ []) more in
+      let all : exact b ((T ++ i ∷ []) ++ more) = subst (exact b) (sym e) h in
+      let next : exact b (T ++ i ∷ []) = exact-beginning b (T ++ i ∷ []) more all in
+      subst ToldAt e (told_stays (T ++ i ∷ []) more all (told_next T i (exact-beginning b T (i ∷ []) next) (exact-owed b T i next) p))
+
+both_there : {A : Type 0} (P Q R : A → Type 0) (o : Option A) → ((v : A) → P v → Q v → R v) → IsSomeAnd o P → IsSomeAnd o Q → IsSomeAnd o R
+both_there P Q R None f p q = absurd p
+both_there P Q R (Some v) f p q = f v p q
+
+some_so : {A : Type 0} (P : Type 0) (o : Option A) → IsSomeAnd o (λ v. P) → P
+some_so P None h = absurd h
+some_so P (Some v) h = h
+
+pub stale_is_passed : (c : ℕ) (b : Base) (T more : List Item) (committed : Ts → Bool) (kept : Kept) (q : Request) (x : Oref) (k : ℕ) → sound b (entries T) → exact b (T ++ more)
+    → verdict b T kept.session q ≡ Some (refused.Reason (reasons.Stale x k)) → FitsAt c b Calm (T ++ more) committed kept → lives (session b (T ++ more) kept.session) ≡ true
+    → IsSomeAnd (session b (T ++ more) kept.session) (λ v. waiting v ≡ []) → k < kept.upto
+stale_is_passed c b T more committed kept q x k sd ex was fits alive none =
+    let o : Option Session = session b (T ++ more) kept.session in
+    let told : IsSomeAnd o (λ v. IsTold v.sent x k) = told_stays b kept.session x k T more ex (stale_was_told b T kept.session q x k sd was).1 in
+    let known : IsSomeAnd o (λ v. (y : Oref) (n : ℕ) → IsTold v.sent y n → n < kept.upto) = places_known c b (T ++ more) committed kept fits alive none in
+    some_so (k < kept.upto) o (both_there (λ (v : Session). IsTold v.sent x k) (λ (v : Session). (y : Oref) (n : ℕ) → IsTold v.sent y n → n < kept.upto) (λ (v : Session). k < kept.upto) o (λ v t f. f x k t) told known)
+
+pub not_again : (b : Base) (T : List Item) (s : ℕ) (q : Request) (x : Oref) (k : ℕ) → sound b (entries T) → k < q.upto → verdict b T s q ≢ Some (refused.Reason (reasons.Stale x k))
+not_again b T s q x k sd above was = let low = (stale_was_told b T s q x k sd was).0 in omega (arith, above, low)

@@ -7,12 +7,13 @@ ghost use Rattle.local_history.specs.Sound.{sound};
 ghost use Rattle.port.specs.Views.{Calm};
 ghost use Rattle.refusal_reasons.specs.declared.reason.Reason.TheVariants as reasons;
 ghost use Rattle.session_outbox.specs.Current.{IsTold};
+ghost use Rattle.session_outbox.specs.Exact.{exact};
 ghost use Rattle.session_outbox.specs.Notices.{lives};
 ghost use Rattle.session_outbox.specs.Session.{session, waiting};
 ghost use Rattle.session_outbox.specs.Trace.{Item, entries};
 ghost use Rattle.session_outbox.specs.Verdict.{verdict};
 ghost use Rattle.std.specs.Option.{IsSomeAnd};
-ghost use Rattle.std.specs.Prelude.{Bool, List, Some, [], true, ℕ, ◌<◌, ◌≡◌, ◌≤◌};
+ghost use Rattle.std.specs.Prelude.{Bool, List, Some, [], true, ℕ, ◌++◌, ◌<◌, ◌≡◌, ◌≢◌, ◌≤◌};
 ghost use Rattle.thor_value.specs.declared.names.Oref.{Oref};
 ghost use Rattle.thor_value.specs.declared.names.Ts.{Ts};
 ghost use Rattle.validation_window.specs.declared.refusal.Refusal.TheVariants as refused;
@@ -29,4 +30,14 @@ pub fn told_places_are_known()
     ensures { (c : ℕ) (b : Base) (T : List Item) (committed : Ts → Bool) (kept : Kept) → FitsAt c b Calm T committed kept →
         lives (session b T kept.session) ≡ true → IsSomeAnd (session b T kept.session) (λ v. waiting v ≡ []) →
         IsSomeAnd (session b T kept.session) (λ v. (x : Oref) (k : ℕ) → IsTold v.sent x k → k < kept.upto) }
+{}
+
+/// So a client whose request was refused as stale, and that has taken all messages since, knows the place of the write: none of
+/// its requests is refused for that write again.
+pub fn stale_places_are_passed()
+    ensures passed { (c : ℕ) (b : Base) (T more : List Item) (committed : Ts → Bool) (kept : Kept) (q : Request) (x : Oref) (k : ℕ) → sound b (entries T) → exact b (T ++ more) →
+        verdict b T kept.session q ≡ Some (refused.Reason (reasons.Stale x k)) → FitsAt c b Calm (T ++ more) committed kept →
+        lives (session b (T ++ more) kept.session) ≡ true → IsSomeAnd (session b (T ++ more) kept.session) (λ v. waiting v ≡ []) → k < kept.upto }
+    ensures again { (b : Base) (T : List Item) (s : ℕ) (q : Request) (x : Oref) (k : ℕ) → sound b (entries T) → k < q.upto →
+        verdict b T s q ≢ Some (refused.Reason (reasons.Stale x k)) }
 {}
