@@ -1,6 +1,7 @@
 -- Stale refusals, and the places that a client knows.
 use Rattle.client_laws.proofs.Committing.{some_at}
 use Rattle.client_laws.specs.Fitting.{FitsAt, Kept}
+use Rattle.client_laws.specs.Refusing.{OthersWrote}
 use Rattle.commit_log.specs.declared.request.Request.{Request}
 use Rattle.local_history.proofs.Vouched.{plain}
 use Rattle.local_history.specs.History.{Base, State, state, writers}
@@ -22,10 +23,10 @@ use Rattle.session_outbox.specs.Verdict.{stale, stale_from, verdict, verdict_by}
 use Rattle.session_outbox.specs.declared.mark.Mark.TheVariants as the
 use Rattle.std.proofs.Common.{Bool, List, [], ap, append_assoc, arith, cond, false, inl, inr, length, refl, subst, suc, sym, true, zero, ◌+◌, ◌++◌, ◌-◌, ◌<◌, ◌≡◌, ◌≢◌, ◌≤◌, ◌∙◌, ◌∷◌, ℕ}
 use Rattle.std.proofs.lemmas.Bool.Decides.{nat_tests}
-use Rattle.std.proofs.lemmas.List.Elements.{All-head, All-tail}
+use Rattle.std.proofs.lemmas.List.Elements.{All-contains_itself, All-head, All-tail}
 use Rattle.std.proofs.lemmas.List.{append-nil, length-drop}
 use Rattle.std.proofs.lemmas.Option.{same_Some, slice_get_within}
-use Rattle.std.specs.List.{All, fold, slice_get}
+use Rattle.std.specs.List.{All, Contains, fold, slice_get}
 use Rattle.std.specs.Option.{IsSomeAnd, option_and_then, option_map, option_or}
 use Rattle.std.specs.Prelude.{IfSome, None, Option, Some, is_none, nat_eq, nat_le, nat_lt, not, ◌&&◌, ◌||◌, ◌⊎◌}
 use Rattle.thor_value.specs.FiniteMap.{get, keys, len}
@@ -137,11 +138,19 @@ module _ (b : Base) (T : List Item) (s : ℕ) (v : Session) (is : session b T s 
   abbrev WasTold : Oref → ℕ × Request → Type 0
   WasTold x c = WasToldOf s v x c × (is_upgrade c.1 ≡ false)
 
-  told_all : (x : Oref) → All (WasTold x) (writers b (entries T) x)
-  told_all x = all-both (WasToldOf s v x) (λ c. is_upgrade c.1 ≡ false) (WasTold x) (writers b (entries T) x) (λ c told small. (told, small)) (all-told b s T v is live x) (plain b (entries T) sd x)
+  abbrev IsThere : Oref → ℕ × Request → Type 0
+  IsThere x c = WasTold x c × Contains (writers b (entries T) x) c
 
-  -- the place that an invalid set has was told
-  invalid_told : (x : Oref) (k : ℕ) → invalid b (entries T) s v x ≡ Some k → IsTold v.sent x k
+  told_all : (x : Oref) → All (IsThere x) (writers b (entries T) x)
+  told_all x =
+      let told : All (WasTold x) (writers b (entries T) x) = all-both (WasToldOf s v x) (λ c. is_upgrade c.1 ≡ false) (WasTold x) (writers b (entries T) x) (λ c t small. (t, small)) (all-told b s T v is live x) (plain b (entries T) sd x) in
+      all-both (WasTold x) (Contains (writers b (entries T) x)) (IsThere x) (writers b (entries T) x) (λ c t here. (t, here)) told (All-contains_itself (writers b (entries T) x))
+
+  -- the place that an invalid set has was told, and another session's commit stands there
+  abbrev Both : Oref → ℕ → Type 0
+  Both x k = IsTold v.sent x k × OthersWrote b T s x k
+
+  invalid_told : (x : Oref) (k : ℕ) → invalid b (entries T) s v x ≡ Some k → Both x k
   invalid_told x k h = by (get v.pages x.page) refl (last_other s (writers b (entries T) x)) refl h
     where
       at_place : (p j : ℕ) (t u : Bool) → nat_le p j ≡ t → cond (t && u) (Some j) None ≡ Some k → (p ≤ j) × (j ≡ k)
@@ -149,42 +158,42 @@ module _ (b : Base) (T : List Item) (s : ℕ) (v : Session) (is : session b T s 
       at_place p j true false le e = cc
       at_place p j false u le e = cc
 
-      placed : (p : ℕ) → get v.pages x.page ≡ Some p → (l : Option ℕ) → last_other s (writers b (entries T) x) ≡ l → option_and_then (not_below p v.acked) l ≡ Some k → IsTold v.sent x k
+      placed : (p : ℕ) → get v.pages x.page ≡ Some p → (l : Option ℕ) → last_other s (writers b (entries T) x) ≡ l → option_and_then (not_below p v.acked) l ≡ Some k → Both x k
       placed p there None e n = cc
       placed p there (Some j) e n =
           let a = at_place p j (nat_le p j) (nat_le v.acked j) refl n in
-          elim (last_of (WasTold x) s (writers b (entries T) x) None j (told_all x) e) [
+          elim (last_of (IsThere x) s (writers b (entries T) x) None j (told_all x) e) [
             | inl never ↦ cc
-            | inr f ↦ subst (IsTold v.sent x) (f.2 ∙ a.1) (f.1.0 p there (subst (λ (m : ℕ). p ≤ m) (sym f.2) a.0) f.3 f.1.1)
+            | inr f ↦ (subst (IsTold v.sent x) (f.2 ∙ a.1) (f.1.0.0 p there (subst (λ (m : ℕ). p ≤ m) (sym f.2) a.0) f.3 f.1.0.1), record { commit = f.0; there = f.1.1; place = f.2 ∙ a.1; other = f.3 })
           ]
 
-      by : (o : Option ℕ) → get v.pages x.page ≡ o → (l : Option ℕ) → last_other s (writers b (entries T) x) ≡ l → invalid_in v o l ≡ Some k → IsTold v.sent x k
+      by : (o : Option ℕ) → get v.pages x.page ≡ o → (l : Option ℕ) → last_other s (writers b (entries T) x) ≡ l → invalid_in v o l ≡ Some k → Both x k
       by None there l e n = cc
       by (Some p) there l e n = placed p there l e (ap (λ (t : Bool). cond t (option_and_then (not_below p v.acked) l) None) (sym live) ∙ n)
 
-  stale_told : (q : Request) (x : Oref) (k : ℕ) → stale b (entries T) s v q ≡ Stale x k → (q.upto ≤ k) × IsTold v.sent x k
+  stale_told : (q : Request) (x : Oref) (k : ℕ) → stale b (entries T) s v q ≡ Stale x k → (q.upto ≤ k) × Both x k
   stale_told q x k h = let f = found (λ y. option_and_then (stale_from q.upto y) (invalid b (entries T) s v y)) (keys (set_of q.ros)) _ h in ended f.0 (invalid b (entries T) s v f.0) refl f.1
     where
-      by : (y : Oref) (j : ℕ) → invalid b (entries T) s v y ≡ Some j → (t : Bool) → nat_le q.upto j ≡ t → cond t (Some (refused.Reason (reasons.Stale y j))) None ≡ Stale x k → (q.upto ≤ k) × IsTold v.sent x k
+      by : (y : Oref) (j : ℕ) → invalid b (entries T) s v y ≡ Some j → (t : Bool) → nat_le q.upto j ≡ t → cond t (Some (refused.Reason (reasons.Stale y j))) None ≡ Stale x k → (q.upto ≤ k) × Both x k
       by y j e true le n =
           let one : y ≡ x = cc in
           let other : j ≡ k = cc in
-          (subst (λ (m : ℕ). q.upto ≤ m) other (le_so q.upto j le), subst (λ (z : Oref). IsTold v.sent z k) one (subst (λ (m : ℕ). IsTold v.sent y m) other (invalid_told y j e)))
+          (subst (λ (m : ℕ). q.upto ≤ m) other (le_so q.upto j le), subst (λ (z : Oref). Both z k) one (subst (λ (m : ℕ). Both y m) other (invalid_told y j e)))
       by y j e false le n = cc
 
-      ended : (y : Oref) (o : Option ℕ) → invalid b (entries T) s v y ≡ o → option_and_then (stale_from q.upto y) o ≡ Stale x k → (q.upto ≤ k) × IsTold v.sent x k
+      ended : (y : Oref) (o : Option ℕ) → invalid b (entries T) s v y ≡ o → option_and_then (stale_from q.upto y) o ≡ Stale x k → (q.upto ≤ k) × Both x k
       ended y None e n = cc
       ended y (Some j) e n = by y j e (nat_le q.upto j) refl n
 
 -- a stale refusal was told
-pub stale_was_told : (b : Base) (T : List Item) (s : ℕ) (q : Request) (x : Oref) (k : ℕ) → sound b (entries T) → verdict b T s q ≡ Some (refused.Reason (reasons.Stale x k)) → (q.upto ≤ k) × IsSomeAnd (session b T s) (λ v. IsTold v.sent x k)
+pub stale_was_told : (b : Base) (T : List Item) (s : ℕ) (q : Request) (x : Oref) (k : ℕ) → sound b (entries T) → verdict b T s q ≡ Some (refused.Reason (reasons.Stale x k)) → (q.upto ≤ k) × IsSomeAnd (session b T s) (λ v. IsTold v.sent x k) × OthersWrote b T s x k
 stale_was_told b T s q x k sd h = by (session b T s) refl h
   where
-    lived : (v : Session) → session b T s ≡ Some v → (t : Bool) → session_lives v ≡ t → cond t (first_refusal (state b (entries T)) (window b (entries T)) (stale b (entries T) s v q) (full b (window b (entries T)) q) q) (Some (refused.Reason (reasons.Gone s))) ≡ Stale x k → (q.upto ≤ k) × IsTold v.sent x k
-    lived v e true l n = stale_told b T s v e l sd q x k (only_stale b (state b (entries T)) (window b (entries T)) (stale b (entries T) s v q) q x k n)
+    lived : (v : Session) → session b T s ≡ Some v → (t : Bool) → session_lives v ≡ t → cond t (first_refusal (state b (entries T)) (window b (entries T)) (stale b (entries T) s v q) (full b (window b (entries T)) q) q) (Some (refused.Reason (reasons.Gone s))) ≡ Stale x k → (q.upto ≤ k) × IsTold v.sent x k × OthersWrote b T s x k
+    lived v e true l n = let y = stale_told b T s v e l sd q x k (only_stale b (state b (entries T)) (window b (entries T)) (stale b (entries T) s v q) q x k n) in (y.0, y.1.0, y.1.1)
     lived v e false l n = cc
 
-    by : (o : Option Session) → session b T s ≡ o → verdict_by b (entries T) s q o ≡ Stale x k → (q.upto ≤ k) × IsSomeAnd o (λ v. IsTold v.sent x k)
+    by : (o : Option Session) → session b T s ≡ o → verdict_by b (entries T) s q o ≡ Stale x k → (q.upto ≤ k) × IsSomeAnd o (λ v. IsTold v.sent x k) × OthersWrote b T s x k
     by None e n = cc
     by (Some v) e n = lived v e (session_lives v) refl n
 

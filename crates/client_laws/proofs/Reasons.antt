@@ -1,9 +1,11 @@
 -- A refusal's reason holds of the trace at the call.
 use Rattle.client_laws.specs.Refusing.{IsReasonAt, IsReasonSeen, Judged, Lost}
+use Rattle.client_state.specs.Calling.{DrawsAbove}
 use Rattle.commit_log.specs.declared.entry.Entry.{Entry}
 use Rattle.commit_log.specs.declared.request.Request.{Request}
 use Rattle.local_history.specs.History.{Base}
 use Rattle.message_outbox.specs.declared.answers.Asked as answer
+use Rattle.message_outbox.specs.declared.answers.At.{At}
 use Rattle.message_outbox.specs.declared.answers.Welcome.{Welcome}
 use Rattle.message_outbox.specs.declared.message.Message.{Message}
 use Rattle.port.specs.Acting.{Refuses, RefusesAsk, RefusesCommit, RefusesConnect, RefusesDraw, RefusesFetch, RefusesGrant, RefusesPrepare, RefusesReceive}
@@ -13,8 +15,8 @@ use Rattle.commit_log.specs.declared.entry.Entry.TheVariants.{Prepared}
 use Rattle.refusal_reasons.specs.declared.reason.Reason.TheVariants as reasons
 use Rattle.refusal_reasons.specs.declared.reason.Reason.{Reason}
 use Rattle.session_outbox.specs.Trace.{Item}
-use Rattle.std.proofs.Common.{List, ℕ}
-use Rattle.std.specs.Prelude.{Err, None, Option, Result, Some}
+use Rattle.std.proofs.Common.{List, arith, refl, subst, true, ◌<◌, ◌≡◌, ◌≤◌, ℕ}
+use Rattle.std.specs.Prelude.{Err, None, Ok, Option, Result, Some}
 use Rattle.thor_value.specs.declared.names.Ts.{Ts}
 use Rattle.validation_window.specs.declared.refusal.Refusal.TheVariants as refused
 use Rattle.validation_window.specs.declared.refusal.Refusal.{Refusal}
@@ -58,3 +60,21 @@ module _ (old new : View) (r : ℕ) (k : Reason) where
   reason_seen (RefusesPrepare s q d) = seen_so {X = ℕ} (PrepareWork s q (Err (refused.Reason k))) d (request b d.at after u k s (Prepared q) q)
   reason_seen (RefusesCommit s q d) = seen_so {X = ℕ} (CommitWork s q (Err (refused.Reason k))) d (request b d.at after u k s (alone_entry q) q)
   reason_seen (RefusesAsk t d) = seen_so {X = answer.Asked} (AskWork t (Err (refused.Reason k))) d (λ h. absurd h.0)
+
+-- ---- what is drawn
+
+module _ (old new : View) (r s floor : ℕ) (t : Ts) where
+  abbrev Draws : Result Ts Refusal → Type 0
+  Draws result = Does {X = Ts} old new r result (DrawWork s floor result)
+
+  drawn_by : (met : Unsettled) (at behind : List Item) (w : Unsettled) → Answered {X = Ts} r (Ok t) met at behind w (DrawWork s floor (Ok t) (old.opened.base r) at behind w) → floor < t.time
+  drawn_by Calm at behind w h = h.2
+  drawn_by (MayCome e) at behind w h = absurd h.0
+  drawn_by Came at behind w h = absurd h.0
+  drawn_by Halted at behind w h = absurd h.0
+
+  drawn : (result : Result Ts Refusal) → result ≡ Ok t → Draws result → floor < t.time
+  drawn result is d = let y : Draws (Ok t) = subst Draws is d in drawn_by y.met y.at (new.seen r) (new.unsettled r) y.answer
+
+pub drawn_above : (old new : View) (at : At) (least : ℕ) (d : DrawsAbove true old new at least) (t : Ts) → d.result ≡ Ok t → least < t.time
+drawn_above old new at least d t is = let above : d.floor < t.time = drawn old new at.repo at.session d.floor t d.result is (d.call refl) in let low : least ≤ d.floor = d.above in omega (arith, above, low)

@@ -1,6 +1,7 @@
 //! That a client which has taken all messages isn't refused again for what it was told.
 
 ghost use Rattle.client_laws.specs.Fitting.{FitsAt, Kept};
+ghost use Rattle.client_laws.specs.Refusing.{OthersWrote};
 ghost use Rattle.commit_log.specs.declared.request.Request.{Request};
 ghost use Rattle.local_history.specs.History.{Base};
 ghost use Rattle.local_history.specs.Sound.{sound};
@@ -18,11 +19,11 @@ ghost use Rattle.thor_value.specs.declared.names.Oref.{Oref};
 ghost use Rattle.thor_value.specs.declared.names.Ts.{Ts};
 ghost use Rattle.validation_window.specs.declared.refusal.Refusal.TheVariants as refused;
 
-/// A request is refused as stale only where its session was sent the message of the write, and where its `upto` isn't above
-/// that write's place.
+/// A request is refused as stale only where a commit of another session wrote the object at that place, its session was sent
+/// the message of that, and its `upto` isn't above the place.
 pub fn stale_writes_are_told()
     ensures { (b : Base) (T : List Item) (s : ℕ) (q : Request) (x : Oref) (k : ℕ) → sound b (entries T) →
-        verdict b T s q ≡ Some (refused.Reason (reasons.Stale x k)) → (q.upto ≤ k) × IsSomeAnd (session b T s) (λ v. IsTold v.sent x k) }
+        verdict b T s q ≡ Some (refused.Reason (reasons.Stale x k)) → (q.upto ≤ k) × IsSomeAnd (session b T s) (λ v. IsTold v.sent x k) × OthersWrote b T s x k }
 {}
 
 /// A client that fits, and for whose session no message waits, knows the place of each write that the session was told of.

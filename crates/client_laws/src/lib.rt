@@ -33,5 +33,5 @@ pub use known_places::{stale_places_are_passed, stale_writes_are_told, told_plac
 pub use lent::{asking_links_fit, connecting_links_fit, other_links_fit, taking_links_fit};
 pub use lent_sending::{deciding_links_fit, sending_links_fit, telling_links_fit};
 pub use links::{copies_become_what_messages_bring, links_outlive_others, links_tell_what_is_kept};
-pub use refusals::refusals_are_exact;
 pub use outcomes::{atomic_histories_agree, others_decide_nothing};
+pub use refusals::{drawn_timestamps_are_above, refusals_are_exact};
