@@ -35,7 +35,7 @@ use Rattle.thor_value.specs.declared.names.Ts.{Ts}
 use Rattle.validation_queue.specs.Clashes.{first_some, is_before}
 use Rattle.validation_queue.specs.Contents.{room_for}
 use Rattle.validation_window.specs.Refusals.{bar, behind, blocks, bytes_of, comes_earlier, comes_later, first_refusal, full, full_of_undecided, full_of_writes, least_name, reads_from, set_of, too_old, writes_over}
-use Rattle.validation_window.specs.Window.{Member, Window, first_decided, window}
+use Rattle.validation_window.specs.Window.{Window, first_decided, window}
 use Rattle.validation_window.specs.declared.refusal.Refusal.TheVariants as refused
 use Rattle.validation_window.specs.declared.refusal.Refusal.{Refusal}
 

@@ -12,7 +12,6 @@ use Rattle.port.specs.Acting.{Refuses, RefusesAsk, RefusesCommit, RefusesConnect
 use Rattle.port.specs.Views.{Calm, Came, Halted, MayCome, Unsettled, View}
 use Rattle.port.specs.Works.{Answered, AskWork, CommitWork, ConnectWork, Does, DrawWork, FetchWork, GrantWork, PrepareWork, ReceiveWork, RefusedMarked, RefusedUnmarked, RequestRefused, alone_entry}
 use Rattle.commit_log.specs.declared.entry.Entry.TheVariants.{Prepared}
-use Rattle.refusal_reasons.specs.declared.reason.Reason.TheVariants as reasons
 use Rattle.refusal_reasons.specs.declared.reason.Reason.{Reason}
 use Rattle.session_outbox.specs.Trace.{Item}
 use Rattle.std.proofs.Common.{List, arith, refl, subst, true, ◌<◌, ◌≡◌, ◌≤◌, ℕ}
