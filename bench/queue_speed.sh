@@ -9,7 +9,7 @@
 set -eu
 requests=${1:-20000}
 source "$(dirname "$0")/measuring.sh"
-begin queue_speed thor_value validation_queue
+begin queue_speed $(below validation_queue)
 cat > "$work/crates/queue_speed/src/main.rt" <<'RT'
 #![tactic(auto)]
 

@@ -4,12 +4,15 @@
 #   touch      a write of one object, of a page that all sessions have, comes into the sets of all but the writer's
 #   stale      a request that read 10 objects, of which none is in its session's set
 #   stale_all  one that read as many objects as the set has
-# sets_speed.sh [CALLS [MOST]], where MOST is the greatest number of earlier writes, 1,000,000 where it isn't named
+# The program takes the real time of each round of calls itself, behind the earlier writes. Rounds are short, so that most of
+# them aren't interrupted by other work on the machine: the least and the median are told.
+# sets_speed.sh [CALLS [MOST [ROUNDS]]]: calls in a round, the greatest number of earlier writes, rounds
 set -eu
-calls=${1:-20000}
+calls=${1:-20}
 most=${2:-1000000}
+rounds=${3:-500}
 source "$(dirname "$0")/measuring.sh"
-begin sets_speed thor_value validation_queue link_table cached_sets
+begin sets_speed $(below cached_sets)
 cat > "$work/crates/sets_speed/src/main.rt" <<'RT'
 #![tactic(auto)]
 
@@ -19,12 +22,15 @@ use cached_sets::Sets;
 use std::alloc::Global;
 use std::env;
 use std::test::Fail;
+use std::time::Instant;
 use thor_value::{NoMemory, Obj, Oref, Orefs, Sequence, Writes};
 use validation_queue::is_in_order;
 
 /// The sessions with copies, and how many pages and invalid objects each has.
 const SESSIONS: u32 = 64;
+
 const PAGES: u32 = 4096;
+
 const INVALID: u32 = 1000;
 
 fn name(page: u32, slot: u8) -> Oref {
@@ -58,9 +64,9 @@ fn filled(alloc: Global) -> Result<Sets, NoMemory> {
     Ok(sets)
 }
 
-/// So many writes, each of one of the objects that are invalid then.
-fn touch(alloc: Global, sets: &mut Sets, count: u64) -> Result<(), NoMemory> {
-    for place in 0..count {
+/// So many writes from a place on, each of one of the objects that are invalid then, in turn.
+fn touch(alloc: Global, sets: &mut Sets, from: u64, count: u64) -> Result<(), NoMemory> {
+    for place in from..from.saturating_add(count) {
         let writes = write(alloc, (place % u64::from(INVALID)) as u32)?;
         sets.touch(0, &writes, place)?;
     }
@@ -76,14 +82,56 @@ fn names(alloc: Global, slot: u8, count: u32) -> Result<Orefs, NoMemory> {
     Ok(names)
 }
 
-/// So many requests that read these names.
-fn ask(sets: &Sets, read: &Orefs, count: u64) -> Result<(), Fail>
+/// So many requests that read these names, of the sessions in turn.
+fn ask(sets: &Sets, read: &Orefs, from: u64, count: u64) -> Result<(), Fail>
     requires { Rises read.now }
 {
-    for asked in 0..count {
-        if sets.stale((asked % u64::from(SESSIONS)) as u32, read, 0).is_some() {
+    for asked in from..from.saturating_add(count) {
+        let session = (asked % u64::from(SESSIONS)) as u32 + 1;
+        if sets.stale(session, read, 0).is_some() {
             return Err("none is stale".into());
         }
+    }
+    Ok(())
+}
+
+/// So many calls of a kind.
+fn call(
+    alloc: Global,
+    sets: &mut Sets,
+    kind: &str,
+    read: &Orefs,
+    from: u64,
+    count: u64,
+) -> Result<(), Fail> {
+    if kind == "touch" {
+        touch(alloc, sets, from, count)?;
+        return Ok(());
+    }
+    if !is_in_order(read, &Sequence::new(alloc)) {
+        return Err("the names rise".into());
+    }
+    ask(sets, read, from, count)
+}
+
+/// So many rounds of calls, of which each prints its nanoseconds.
+fn measure(
+    rt: &HostRuntime,
+    sets: &mut Sets,
+    kind: &str,
+    before: u64,
+    count: u64,
+    rounds: u64,
+) -> Result<(), Fail> {
+    let alloc = rt.alloc();
+    let many = if kind == "stale" { 10 } else { INVALID };
+    let read = names(alloc, 1, many)?;
+    let mut from = before;
+    for _round in 0..rounds {
+        let start = Instant::now(rt)?;
+        call(alloc, sets, kind, &read, from, count)?;
+        from = from.saturating_add(count);
+        println!(rt; "{}", start.elapsed(rt)?.as_nanos())?;
     }
     Ok(())
 }
@@ -91,36 +139,24 @@ fn ask(sets: &Sets, read: &Orefs, count: u64) -> Result<(), Fail>
 fn main(rt: HostRuntime) -> Result<(), Fail> {
     let alloc = rt.alloc();
     let words = env::args(&rt)?.collect::<Vec<String>>(alloc)?;
-    if let [_, kind, before, count] = words.as_slice() {
+    if let [_, kind, before, count, rounds] = words.as_slice() {
         let before = before.as_str().parse::<u64>()?;
         let count = count.as_str().parse::<u64>()?;
+        let rounds = rounds.as_str().parse::<u64>()?;
         let mut sets = filled(alloc)?;
-        touch(alloc, &mut sets, before)?;
-        if kind.as_str() == "touch" {
-            touch(alloc, &mut sets, count)?;
-        } else {
-            let many = if kind.as_str() == "stale" { 10 } else { INVALID };
-            let read = names(alloc, 1, many)?;
-            if is_in_order(&read, &Sequence::new(alloc)) {
-                ask(&sets, &read, count)?;
-            }
-        }
+        touch(alloc, &mut sets, 0, before)?;
+        measure(&rt, &mut sets, kind.as_str(), before, count, rounds)?;
     }
     Ok(())
 }
 RT
 build
 
-# The seconds of the processor that a run takes.
-busy() { /usr/bin/time -f "%U %S" "$work/crates/sets_speed/out/sets_speed" "$@" 2>&1 > /dev/null | awk '{ print $1 + $2 }'; }
-
 echo "load: $(cut -d ' ' -f 1-3 /proc/loadavg)"
 for row in "touch 1000" "touch 10000" "touch 100000" "touch 1000000" "stale 1000" "stale 100000" "stale 1000000" "stale_all 1000" "stale_all 100000" "stale_all 1000000"; do
     read -r kind writes <<< "$row"
     [ "$writes" -le "$most" ] || continue
-    # The sets are filled before the first call: what that takes is taken off.
-    before=$(busy "$kind" "$writes" 0)
-    all=$(busy "$kind" "$writes" "$calls")
-    awk -v k="$kind" -v w="$writes" -v n="$calls" -v t="$all" -v b="$before" \
-        'BEGIN { t -= b; printf "%s, behind %d writes: %d calls in %.2f s of the processor, %.0f a second\n", k, w, n, t, n / t }'
+    "$work/crates/sets_speed/out/sets_speed" "$kind" "$writes" "$calls" "$rounds" | sort -n \
+        | awk -v k="$kind" -v w="$writes" -v n="$calls" \
+            '{ t[NR] = $1 } END { m = t[int((NR + 1) / 2)]; printf "%s, behind %d writes: %.0f a second in the median, %.0f at most: %.2f and %.2f microseconds\n", k, w, n * 1e9 / m, n * 1e9 / t[1], m / n / 1e3, t[1] / n / 1e3 }'
 done

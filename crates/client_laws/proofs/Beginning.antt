@@ -62,8 +62,8 @@ module _ (b : Base) where
       elim (came_end b (entries T) e before (owed-end b (entries T) e sd') t o (ap (λ (H : List Entry). known_by b H t) (sym (after_entry b T e)) ∙ is)) [
         | inl new ↦ (o.request.who.client, client_stays o.request.who.client b T (E e) o.request.session k (asked_in T e o.request new.1.0 k))
         | inr old ↦
-          let y = h before t old.0 old.1 in
-          (y.0, client_stays y.0 b T (E e) o.request.session k (ap (λ (r : Request). client_in b T r.session) old.2.1 ∙ y.1))
+            let y = h before t old.0 old.1 in
+            (y.0, client_stays y.0 b T (E e) o.request.session k (ap (λ (r : Request). client_in b T r.session) old.2.1 ∙ y.1))
       ]
 
   none_yet : (t : Ts) (o : Known) → known_by b [] t ≡ Some o → ⊥

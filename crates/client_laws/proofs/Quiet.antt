@@ -201,12 +201,12 @@ module _ (old new : View) (r s : ℕ) (running committed : Ts → Bool) (seen : 
       behind_call (concerns t) old new h r (WasOpen t)
       (λ grew now. grown_back c b s (old.seen r) (new.seen r) (old.unsettled r) (new.unsettled r) t grew right.kept right.owed q.own now)
       (λ grew left front now.
-        let k : exact b (h.at ++ front.0) = subst (exact b) front.1 right.kept in
-        let sd : sound b (entries h.at ++ entries front.0) = subst (sound b) (entries-append h.at front.0) (subst (λ (S : List Item). sound b (entries S)) front.1 right.owed) in
-        let k' : exact b h.at = exact-beginning b h.at front.0 k in
-        let mine : client_in b h.at s ≡ Some c = grown_client c b s (old.seen r) h.at (old.unsettled r) h.met grew k' q.own in
-        grown_back c b s (old.seen r) h.at (old.unsettled r) h.met t grew k' (sound-beginning b (entries h.at) (entries front.0) sd) q.own
-        (left_back c b s h.at (new.seen r) h.met (new.unsettled r) t left right.kept right.owed mine now))
+      let k : exact b (h.at ++ front.0) = subst (exact b) front.1 right.kept in
+      let sd : sound b (entries h.at ++ entries front.0) = subst (sound b) (entries-append h.at front.0) (subst (λ (S : List Item). sound b (entries S)) front.1 right.owed) in
+      let k' : exact b h.at = exact-beginning b h.at front.0 k in
+      let mine : client_in b h.at s ≡ Some c = grown_client c b s (old.seen r) h.at (old.unsettled r) h.met grew k' q.own in
+      grown_back c b s (old.seen r) h.at (old.unsettled r) h.met t grew k' (sound-beginning b (entries h.at) (entries front.0) sd) q.own
+      (left_back c b s h.at (new.seen r) h.met (new.unsettled r) t left right.kept right.owed mine now))
 
   mine : (h : HasCalled (λ e. false) old new) → client_in (old.opened.base r) (new.seen r) s ≡ Some old.opened.client
   mine h =
@@ -216,9 +216,9 @@ module _ (old new : View) (r s : ℕ) (running committed : Ts → Bool) (seen : 
       behind_call (λ e. false) old new h r (λ n. client_in (old.opened.base n) (new.seen n) s ≡ Some c)
       (λ grew. grown_client c b s (old.seen r) (new.seen r) (old.unsettled r) (new.unsettled r) grew right.kept q.own)
       (λ grew left front.
-        let k : exact b (h.at ++ front.0) = subst (exact b) front.1 right.kept in
-        let k' : exact b h.at = exact-beginning b h.at front.0 k in
-        subst (λ (S : List Item). client_in b S s ≡ Some c) (sym front.1) (clients_stay c b s h.at front.0 k (grown_client c b s (old.seen r) h.at (old.unsettled r) h.met grew k' q.own)))
+      let k : exact b (h.at ++ front.0) = subst (exact b) front.1 right.kept in
+      let k' : exact b h.at = exact-beginning b h.at front.0 k in
+      subst (λ (S : List Item). client_in b S s ≡ Some c) (sym front.1) (clients_stay c b s h.at front.0 k (grown_client c b s (old.seen r) h.at (old.unsettled r) h.met grew k' q.own)))
 
   abbrev AreDoomed : View → Type 0
   AreDoomed v = v.unsettled r ≡ Calm → lives (session (v.opened.base r) (v.seen r) s) ≡ true
@@ -229,14 +229,14 @@ module _ (old new : View) (r s : ℕ) (running committed : Ts → Bool) (seen : 
   are_doomed calm live t o there open' own not = elim (acts (concerns t) old new a (unconcerned t not)) [
     | inl same ↦ subst AreDoomed (sym same) q.doomed calm live t o there open' own not
     | inr h ↦
-      let same = h.called.same in
-      let now : Was old.opened.client (old.opened.base r) s (new.unsettled r) (new.seen r) t = (
-        calm,
-        subst (λ (d : Opened). lives (session (d.base r) (new.seen r) s) ≡ true) same live,
-        record { o = o; there = subst (λ (d : Opened). known_by (d.base r) (entries (new.seen r)) t ≡ Some o) same there; open' = open'; own = own },
-      ) in
-      let y = was t h now in
-      acted old new t committed (seen t.repo) (q.doomed y.0 y.1 t y.2.o y.2.there y.2.open' y.2.own not) a (λ e is. undecided t e (unconcerned t not e is))
+        let same = h.called.same in
+        let now : Was old.opened.client (old.opened.base r) s (new.unsettled r) (new.seen r) t = (
+          calm,
+          subst (λ (d : Opened). lives (session (d.base r) (new.seen r) s) ≡ true) same live,
+          record { o = o; there = subst (λ (d : Opened). known_by (d.base r) (entries (new.seen r)) t ≡ Some o) same there; open' = open'; own = own },
+        ) in
+        let y = was t h now in
+        acted old new t committed (seen t.repo) (q.doomed y.0 y.1 t y.2.o y.2.there y.2.open' y.2.own not) a (λ e is. undecided t e (unconcerned t not e is))
   ]
 
   pub stays_quiet : IsQuiet new r s running

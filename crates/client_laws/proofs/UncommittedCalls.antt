@@ -35,8 +35,8 @@ module _ (old new : View) (t : Ts) (committed : Ts → Bool) (seen : IsSeenRight
       let right = seen_right old new t.repo committed h.called.same seen in
       subst (λ (o : Opened). DoomedAt o.client (o.base t.repo) (new.unsettled t.repo) (new.seen t.repo) t) (sym h.called.same)
       (behind_call (decides t) old new h t.repo (λ n. DoomedAt old.opened.client (old.opened.base n) (new.unsettled n) (new.seen n) t)
-        (λ grew. grown_on old.opened.client (old.opened.base t.repo) (old.unsettled t.repo) (new.unsettled t.repo) (old.seen t.repo) (new.seen t.repo) t grew right.kept right.owed (sym right.numbered) d)
-        (λ grew l front. here right grew l front))
+      (λ grew. grown_on old.opened.client (old.opened.base t.repo) (old.unsettled t.repo) (new.unsettled t.repo) (old.seen t.repo) (new.seen t.repo) t grew right.kept right.owed (sym right.numbered) d)
+      (λ grew l front. here right grew l front))
     where
       here : SeenRight old new t.repo → Grew (old.opened.base t.repo) old.opened.client (old.unsettled t.repo) (old.seen t.repo) h.met h.at → Left (decides t) h.met h.at (new.seen t.repo) (new.unsettled t.repo) → Front h.at (new.seen t.repo)
           → DoomedAt old.opened.client (old.opened.base t.repo) (new.unsettled t.repo) (new.seen t.repo) t

@@ -16,22 +16,24 @@ use Rattle.message_outbox.specs.declared.answers.Asked as answer
 use Rattle.message_outbox.specs.declared.answers.Asked.TheVariants as answers
 use Rattle.message_outbox.specs.declared.answers.Verdict.{Verdict}
 use Rattle.message_outbox.specs.declared.message.Message.TheVariants.{Page}
-use Rattle.port.specs.Acting.{IsDecided, IsTaken}
+use Rattle.message_outbox.specs.declared.message.Message.{Message}
+use Rattle.port.specs.Acting.{ByAnswer, IsDecided, IsTaken, Takes}
 use Rattle.port.specs.Views.{Calm, Came, Halted, MayCome, Unsettled, View}
-use Rattle.port.specs.Works.{Answered, AskWork, Does}
+use Rattle.port.specs.Works.{Answered, AskWork, Does, ReceiveWork}
 use Rattle.serial_model.specs.declared.outcomes.Cause.TheVariants as cause
+use Rattle.serial_model.specs.declared.outcomes.Cause.{Cause}
 use Rattle.serial_model.specs.declared.outcomes.ItemOutcome.TheVariants.{Done, Faulted, Refused, Unknown, Upgraded}
 use Rattle.serial_model.specs.declared.outcomes.ItemOutcome.{ItemOutcome}
 use Rattle.std.proofs.Common.{Bool, List, ap, arith, cond, false, inl, inr, refl, subst, sym, true, ◌∙◌, ◌≡◌, ◌≤◌, ℕ}
 use Rattle.std.proofs.lemmas.Bool.Decides.{nat_tests}
 use Rattle.std.proofs.lemmas.Option.{same_Some}
-use Rattle.std.specs.Prelude.{None, Ok, Option, nat_eq, ◌&&◌}
+use Rattle.std.specs.Prelude.{None, Ok, Option, Some, nat_eq, ◌&&◌}
 use Rattle.thor_value.specs.declared.names.Oref.{Oref}
 use Rattle.thor_value.specs.declared.names.Ts.{Ts}
 use Rattle.thor_value.specs.declared.values.Obj.{Obj}
 
 module _ (old new : View) where
-  decided_so : (t u : Ts) (c d : Bool) → u ≡ t → d ≡ c → IsDecided old new t c → IsDecided old new u d
+  pub decided_so : (t u : Ts) (c d : Bool) → u ≡ t → d ≡ c → IsDecided old new t c → IsDecided old new u d
   decided_so t u c d e f h = subst (λ (x : Ts). IsDecided old new x d) (sym e) (subst (λ (x : Bool). IsDecided old new t x) (sym f) h)
 
   -- a transaction that is decided so lets its item end so
@@ -59,6 +61,29 @@ module _ (old new : View) where
 
     pub told_tx : v.tx ≡ t
     told_tx = told_by d.met d.answer
+
+-- ---- calls that were answered, on a port that may show nothing
+
+module _ (shows : Bool) (old new : View) (r : ℕ) where
+  -- a message was taken
+  pub taken_so : (s : ℕ) (o : Option Message) (m : Message) → o ≡ Some m → (shows ≡ true → Does {X = Option Message} old new r (Ok o) (ReceiveWork s (Ok o))) → shows ≡ true → IsTaken old new r m
+  taken_so s o m is call w = Takes s (subst (λ (x : Option Message). Does {X = Option Message} old new r (Ok x) (ReceiveWork s (Ok x))) is (call w))
+
+  module _ (t : Ts) (a : answer.Asked) (v : Verdict) (is : a ≡ answers.Settled v) (call : shows ≡ true → Does {X = answer.Asked} old new r (Ok a) (AskWork t (Ok a))) where
+    settled_so : shows ≡ true → Does {X = answer.Asked} old new r (Ok (answers.Settled v)) (AskWork t (Ok (answers.Settled v)))
+    settled_so w = subst (λ (x : answer.Asked). Does {X = answer.Asked} old new r (Ok x) (AskWork t (Ok x))) is (call w)
+
+    -- the verdict was asked for
+    pub asked_so : (u : Ts) (c : Bool) → u ≡ t → c ≡ v.commit → shows ≡ true → IsDecided old new u c
+    asked_so u c e f w = decided_so old new t u v.commit c e f (ByAnswer r v refl (settled_so w))
+
+    -- the verdict that was told is of the transaction that was asked for
+    pub learnt_so : (u : Ts) (c : Bool) → u ≡ v.tx → c ≡ v.commit → shows ≡ true → IsDecided old new u c
+    learnt_so u c e f w = asked_so u c (e ∙ told_tx old new r t v (settled_so w)) f w
+
+-- a try has ended
+pub try_shown : (old new : View) (repos : ℕ) (n : News) (c : Cause) → n ≡ news.TryEnded c → CauseShown old new repos c → NewsShown old new repos n
+try_shown old new repos n c is h = subst (λ (m : News). NewsShown old new repos m) (sym is) h
 
 -- ---- a page that came lacks an object
 
@@ -104,3 +129,7 @@ module _ (shows : Bool) (old new : View) (repos each calls : ℕ) where
 pub shown_counted : (shows : Bool) (old new : View) (repos : ℕ) (f m g : FrontEnd) → m.attempts.each ≡ f.attempts.each → course_of m ≡ course_of f
     → ((calls : ℕ) → GoesShown shows old new repos m.attempts.each calls (course_of m) (course_of g)) → ItemsShown shows old new repos f g
 shown_counted shows old new repos f m g each course h = subst (λ (n : ℕ). GoesShown shows old new repos n f.attempts.calls (course_of f) (course_of g)) each (subst (λ (c : Course). GoesShown shows old new repos m.attempts.each f.attempts.calls c (course_of g)) course (h f.attempts.calls))
+
+-- no call was left
+pub shown_used : (shows : Bool) (old new : View) (repos : ℕ) (f m g : FrontEnd) → m ≡ f → most_calls ≤ f.attempts.calls → ((r : ℕ) → most_calls ≤ m.attempts.calls → ItemsShown shows old new r m g) → ItemsShown shows old new repos f g
+shown_used shows old new repos f m g is most h = subst (λ (x : FrontEnd). ItemsShown shows old new repos x g) is (h repos (subst (λ (x : FrontEnd). most_calls ≤ x.attempts.calls) (sym is) most))

@@ -166,6 +166,7 @@ impl FrontEnd {
         ensures course { course_of self.new ≡ course_of self.old }
         ensures none { IsTrue (not result) → self.new ≡ self.old }
         ensures used_up { IsTrue (not result) → most_calls ≤ self.old.attempts.calls }
+        ensures held { held_of self.new ≡ held_of self.old }
     {
         self.attempts.count_call()
     }

@@ -2,7 +2,7 @@
 
 ghost use Rattle.client_state.specs.Learning.{Rises};
 ghost use Rattle.front_end.specs.Showing.{NewsShown, ShownIf, SomeShownIf};
-ghost use Rattle.port.specs.Acting.{ActsIf, IsTaken};
+ghost use Rattle.port.specs.Acting.{ActsIf, IsTaken, Refuses};
 ghost use Rattle.port.specs.Views.{View};
 ghost use Rattle.front_end.specs.Moving.{uncounted};
 ghost use Rattle.message_outbox.specs.declared.message.Message.TheVariants as message;
@@ -42,15 +42,21 @@ impl Client {
         match self.held.receive(port, at) {
             Ok(Some(message)) => Ok(Some(self.take(opened, at.repo, message)?)),
             Ok(None) => Ok(None),
-            Err(Refusal::Reason(Reason::Gone { session })) => {
-                self.lose_in_receive(at.repo, session);
-                Ok(Some(News::Nothing))
-            }
-            Err(refusal) => {
-                let cause = cause_of(refusal, at.repo)?;
-                Ok(Some(self.end_try(cause)))
-            }
+            Err(refusal) => Ok(Some(self.end_unless_gone(at.repo, refusal)?)),
         }
+    }
+
+    /// No message was taken: where the session is gone it is lost, else the try ends.
+    fn end_unless_gone(&mut self, repo: u8, refusal: Refusal) -> Result<News, NoMemory>
+        ensures shown { IfOk result (λ news. (old new : View) (repos : ℕ) → Refuses old new repo refusal → NewsShown old new repos news) }
+        ensures rises { Rises self.old.held self.new.held }
+    {
+        if let Refusal::Reason(Reason::Gone { session }) = refusal {
+            self.lose_in_receive(repo, session);
+            return Ok(News::Nothing);
+        }
+        let cause = cause_of(refusal, repo)?;
+        Ok(self.end_try(cause))
     }
 
     /// Takes a message by a delivery. A repository that is down changes nothing.

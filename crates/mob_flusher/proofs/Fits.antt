@@ -1,5 +1,5 @@
 -- Twelve objects always fit in a page.
-use Rattle.std.proofs.Common.{◌≡◌, ℕ, zero, suc, ◌+◌, ◌*◌, ◌^◌, ◌<◌, ◌≤◌, cond, List, [], ◌∷◌, ◌++◌, length, Option, Some, None, Result, Ok, Err, OnOk, OnErr, refl, ap, sym, subst, ◌∙◌, arith, inl, inr, ◌⊎◌, length-append, append-nil}
+use Rattle.std.proofs.Common.{◌≡◌, ℕ, suc, ◌+◌, ◌*◌, ◌^◌, ◌<◌, ◌≤◌, cond, List, [], ◌∷◌, ◌++◌, length, Option, Some, Result, Ok, Err, OnOk, OnErr, ap, sym, subst, ◌∙◌, arith, inl, inr, length-append, append-nil}
 use Rattle.std.specs.List.{AllByRecursion, flat_map}
 use Rattle.std.specs.Ordering.{nat_cmp, match_ordering, is_eq}
 use Rattle.std.specs.declared.cmp.Ordering.{Ordering}
@@ -14,7 +14,7 @@ use Rattle.thor_value.specs.declared.values.Value.TheVariants.{Int, Ref, Null}
 use Rattle.thor_value.specs.Spelling.{value_bytes}
 use Rattle.object_codec.specs.Spelling.{Answered, ObjFits, obj_bytes}
 use Rattle.object_codec.specs.declared.fault.ObjFault.{ObjFault}
-use Rattle.page_format.specs.Pages.{Contents, ObjectsFit, Passes, PageFits, Rises, entries, object_entry}
+use Rattle.page_format.specs.Pages.{Contents, ObjectsFit, Passes, Rises, entries, object_entry}
 use Rattle.page_format.specs.declared.fault.Full.{Full}
 use Rattle.page_format.proofs.Splices.{rises_put}
 use Rattle.page_store.specs.Objects.{HasObjects, IsObjectAt, SpellsObject}

@@ -1,13 +1,13 @@
 -- The map stays through a flush and its settling.
-use Rattle.std.proofs.Common.{◌≡◌, ℕ, zero, suc, ◌+◌, ◌-◌, ◌<◌, ◌≤◌, Bool, true, false, cond, not, ◌&&◌, ◌==◌, List, [], ◌∷◌, filter, Option, Some, None, Result, Ok, Err, IfOk, OnOk, slice_get, is_some, nat_eq, refl, ap, sym, subst, ◌∙◌, arith, inl, inr, ◌⊎◌}
+use Rattle.std.proofs.Common.{◌≡◌, ℕ, ◌<◌, Bool, true, false, cond, not, ◌&&◌, ◌==◌, List, [], ◌∷◌, Option, Some, None, Result, Ok, Err, IfOk, OnOk, slice_get, is_some, nat_eq, refl, ap, sym, subst, ◌∙◌, arith, inl, inr, ◌⊎◌}
 use Rattle.std.proofs.lemmas.Bool.Decides.{eqb_tells}
 use Rattle.std.specs.Option.{option_map, option_map_or, unwrap_or}
-use Rattle.std.specs.Ordering.{nat_cmp, is_eq, eq_by_cmp}
+use Rattle.std.specs.Ordering.{nat_cmp}
 use Rattle.std.specs.BTreeMap.{insert_entry}
 use Rattle.thor_value.specs.FiniteMap.{get}
 use Rattle.thor_value.specs.declared.names.Oref.{Oref}
 use Rattle.thor_value.specs.declared.values.Obj.{Obj}
-use Rattle.object_codec.specs.Spelling.{ObjFits, obj_bytes}
+use Rattle.object_codec.specs.Spelling.{obj_bytes}
 use Rattle.disk_trait.specs.Disks.{Disks, Leaves, MayLeave, IsSettled}
 use Rattle.disk_trait.proofs.Runs.{leaves_weaker}
 use Rattle.page_format.specs.Pages.{Contents}
@@ -15,13 +15,13 @@ use Rattle.page_format.specs.Sides.{side_in_use}
 use Rattle.page_format.proofs.Pages.{one_page}
 use Rattle.page_store.specs.Objects.{Spells}
 use Rattle.page_store.specs.Sides.{KeepsSides, Shows, next_side, side_bytes}
-use Rattle.page_store.specs.Store.{Store, Agrees, page_in, with_held, with_place}
+use Rattle.page_store.specs.Store.{Agrees, page_in, with_held, with_place}
 use Rattle.std.specs.Map.{lookup}
 use Rattle.page_store.proofs.Stores.{in_use_here, in_use_other}
-use Rattle.mob_buffer.specs.Buffer.{AreOf, Buffer, Objects, object_of, same_name, without_page}
+use Rattle.mob_buffer.specs.Buffer.{Buffer, Objects, object_of, same_name, without_page}
 use Rattle.mob_buffer.proofs.Sizes.{found_fits}
 use Rattle.mob_flusher.specs.Map.{DiskHas, Has, HasOver, Kept, PageHas, SameMap}
-use Rattle.mob_flusher.specs.Images.{IsFlushed, IsImage, name_of, over}
+use Rattle.mob_flusher.specs.Images.{IsFlushed, name_of}
 
 -- ---- the buffer without a page
 

@@ -4,7 +4,7 @@ use Rattle.thor_value.specs.declared.names.Oref.{Oref}
 use Rattle.thor_value.specs.declared.values.Obj.{Obj}
 use Rattle.mob_buffer.specs.Buffer.{Buffer, Objects, object_of, same_name, with_all, with_object}
 use Rattle.mob_buffer.proofs.Writes.{object_after}
-use Rattle.mob_flusher.specs.Map.{Has, HasBehind, HasOver, HasWrites, Kept, last_written, with_writes}
+use Rattle.mob_flusher.specs.Map.{HasBehind, HasOver, HasWrites, Kept, last_written, with_writes}
 
 abbrev or_else : Option Obj → Option Obj → Option Obj
 or_else (Some object) rest = Some object

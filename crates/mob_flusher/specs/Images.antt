@@ -52,3 +52,12 @@ pub record ShowsImage (disk : List ℕ) (kept : Kept) (page : ℕ) (image : Cont
   pub repo : ℕ
   pub one_repo : AreOf repo kept.mob.objects
   pub is_image : IsImage kept.mob.objects repo base image
+
+-- what a held page has with the buffer's objects in their slots, all of them being of one repository
+pub record IsHeldImage (kept : Kept) (page : ℕ) (image : Contents) : Type 0 where
+  pub base : Contents
+  pub number : base.number ≡ page
+  pub held : held_page kept.pages page ≡ Some base
+  pub repo : ℕ
+  pub one_repo : AreOf repo kept.mob.objects
+  pub is_image : IsImage kept.mob.objects repo base image

@@ -8,8 +8,8 @@ use Rattle.object_codec.specs.Spelling.{ObjFits, obj_bytes}
 use Rattle.page_format.specs.Pages.{Contents}
 use Rattle.page_format.specs.Sides.{side_in_use}
 use Rattle.page_store.specs.Sides.{Shows}
-use Rattle.page_store.specs.Store.{Store, Agrees, with_side}
-use Rattle.mob_buffer.specs.Buffer.{Buffer, Objects, object_of, with_all, without_page}
+use Rattle.page_store.specs.Store.{Store, with_side}
+use Rattle.mob_buffer.specs.Buffer.{Buffer, object_of, with_all, without_page}
 
 -- a store of objects: its pages, and the buffer over them
 pub record Kept : Type 0 where

@@ -11,7 +11,7 @@ ghost use Rattle.page_store.specs.Sides.{place_of};
 ghost use Rattle.mob_buffer.specs.Buffer.{AreOf, AreOneRepo, bytes_of, with_all, without_page};
 ghost use Rattle.mob_buffer.specs.declared.fault.MobFull.TheVariants.{Full};
 ghost use Rattle.mob_flusher.specs.Map.{DiskHas, Has, HasWrites, SameMap, with_installed, with_writes};
-ghost use Rattle.mob_flusher.specs.Images.{IsFlushed, ShowsImage};
+ghost use Rattle.mob_flusher.specs.Images.{IsFlushed, IsHeldImage, ShowsImage};
 ghost use Rattle.mob_flusher.specs.declared.store.Flushed.TheVariants.{Installed, Nothing};
 
 use crate::image::{image_of, object_in};
@@ -113,11 +113,20 @@ impl ObjectStore {
         ensures damaged { (place : ℕ) → IsErrOf result (Damaged place) → IsDamage (P.disks parts.old) self.old.pages.sides page place }
         ensures failed { IsErrOf result Failed → Rose ((P.disks parts.old).faults 2) ((P.disks parts.new).faults 2) }
     {
-        let repo = repo_of(&self.mob);
         self.pages.hold(parts, page)?;
+        let image = self.held_image(page)?;
+        Ok(image)
+    }
+
+    /// A page that is held, with all objects that the buffer has of it.
+    fn held_image(&self, page: u32) -> Result<Page, NoMemory>
+        ensures image { IfOk result (IsHeldImage self.now page) }
+        ensures objects { IfOk result HasObjects }
+    {
+        let repo = repo_of(&self.mob);
         match self.pages.held(page) {
-            Some(base) => Ok(image_of(self.alloc, base, &self.mob, repo)?),
-            None => Err(StoreFault::NoMemory),
+            Some(base) => image_of(self.alloc, base, &self.mob, repo),
+            None => Err(NoMemory),
         }
     }
 

@@ -83,12 +83,7 @@ fn compare_in_session(
 }
 
 /// How what a client holds of an object compares: without a session it holds none.
-fn compare(
-    alloc: Global,
-    world: &World,
-    held: &Held,
-    oref: Oref,
-) -> Result<Compared, NoMemory> {
+fn compare(alloc: Global, world: &World, held: &Held, oref: Oref) -> Result<Compared, NoMemory> {
     let repo = usize::from(oref.repo);
     let opening = world.port.reader.openings.get(repo);
     let site = world.port.sites.get(repo);
@@ -124,11 +119,7 @@ fn client_fits(
 }
 
 /// Whether all copies that the clients hold fit. No client has a try that is under way.
-pub(crate) fn all_fit(
-    alloc: Global,
-    world: &World,
-    counts: &mut Counts,
-) -> Result<bool, NoMemory> {
+pub(crate) fn all_fit(alloc: Global, world: &World, counts: &mut Counts) -> Result<bool, NoMemory> {
     let mut fits = true;
     for front in world.clients.as_slice() {
         fits = client_fits(alloc, world, front.held(), counts)? && fits;

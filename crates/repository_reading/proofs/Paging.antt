@@ -8,7 +8,7 @@ use Rattle.page_format.specs.Sides.{side_in_use}
 use Rattle.page_store.specs.Objects.{Spells}
 use Rattle.page_store.specs.Sides.{Shows, side_bytes}
 use Rattle.repository_reading.specs.Paged.{IsOnSide, IsPaged, PutsOne, PutsPaged, PutsSide, PutsSlots}
-use Rattle.std.proofs.Common.{Err, List, None, Ok, OnOk, Result, Some, [], arith, ap, cond, get_or, length, refl, slice_get, subst, suc, sym, take, zero, ◌++◌, ◌+◌, ◌<◌, ◌∙◌, ◌≡◌, ◌∷◌, ◌≤◌, ℕ}
+use Rattle.std.proofs.Common.{List, None, OnOk, Result, Some, [], arith, ap, cond, get_or, length, refl, slice_get, subst, suc, sym, take, zero, ◌++◌, ◌+◌, ◌<◌, ◌∙◌, ◌≡◌, ◌∷◌, ◌≤◌, ℕ}
 use Rattle.std.proofs.Math.Seq.{take-suc}
 use Rattle.std.proofs.lemmas.Grind.{flat_map-append}
 use Rattle.std.proofs.lemmas.List.Sums.{fold-append}

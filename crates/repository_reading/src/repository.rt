@@ -1,12 +1,12 @@
 //! One repository, as an opening finds it on its disks.
 
-ghost use Rattle.repository_reading.specs.Recovered.{Finds};
+ghost use Rattle.repository_reading.specs.Recovered.{Finds, IsRecovered};
 ghost use Rattle.repository_reading.specs.Same.{Same};
 ghost use Rattle.repository_reading.specs.Paged.{PutsStored};
 ghost use Rattle.disk_trait.specs.AllDisks.{AllSettled, ReadsAs};
 ghost use Rattle.disk_trait.specs.Disks.{IsSettled, OnDisk};
 ghost use Rattle.state_log.specs.Opening.{IsFresh};
-ghost use Rattle.std.specs.Prelude.{IfOk, List, None, Ok, OnOk, ◌<◌, ◌≡◌, ℕ};
+ghost use Rattle.std.specs.Prelude.{IfOk, IfSome, List, None, Ok, OnOk, ◌<◌, ◌≡◌, ℕ};
 
 use crate::pages::read_pages;
 use crate::unopened::{Unopened, fault_of, outage_of};
@@ -40,7 +40,7 @@ fn damaged(recovered: &Recovered, repo: u8) -> Unopened {
 
 /// Syncs the disks of a repository, and reads it. The answer is what was recovered, and the page behind the
 /// last one with objects; nothing where it is fresh. The objects of its pages are put into a map.
-#[tactic(auto, using(crate::proofs::Syncing::same_then, crate::proofs::Syncing::same_content, crate::proofs::Reading::same_on))]
+#[tactic(auto, using(crate::proofs::Syncing::same_then, crate::proofs::Reading::same_on))]
 pub fn read_repository<P: Parts>(
     alloc: Global,
     parts: &mut P,
@@ -55,6 +55,35 @@ pub fn read_repository<P: Parts>(
     ensures fresh { (images : ℕ → List ℕ) → ReadsAs (P.disks parts.old) images → result ≡ Ok None → IsFresh images }
 {
     sync(parts, repo)?;
+    let Some(recovered) = recover_one(alloc, parts, repo, repos, mob)? else {
+        return Ok(None);
+    };
+    let sides = recovered.state.objects().pages().sides();
+    let behind = match read_pages(alloc, parts, repo, sides, objects) {
+        Ok(behind) => behind,
+        Err(fault) => {
+            drop(recovered);
+            return Err(fault);
+        }
+    };
+    Ok(Some((recovered, behind)))
+}
+
+/// Recovers a repository from its disks, which are synced. Nothing is there where it is fresh.
+fn recover_one<P: Parts>(
+    alloc: Global,
+    parts: &mut P,
+    repo: u8,
+    repos: u8,
+    mob: u32,
+) -> Result<Option<Recovered>, Unopened>
+    requires { AllSettled (P.disks parts.old) }
+    ensures found { IfOk result (λ found. IfSome found (IsRecovered (P.disks parts.new))) }
+    ensures number { IfOk result (λ found. IfSome found (λ r. r.state.repo ≡ repo)) }
+    ensures settled { AllSettled (P.disks parts.new) }
+    ensures same { Same (P.disks parts.old) (P.disks parts.new) }
+    ensures fresh { (images : ℕ → List ℕ) → ReadsAs (P.disks parts.old) images → result ≡ Ok None → IsFresh images }
+{
     let recovered = match recover(alloc, parts, mob) {
         Ok(Some(recovered)) => recovered,
         Ok(None) => return Ok(None),
@@ -65,15 +94,7 @@ pub fn read_repository<P: Parts>(
         drop(recovered);
         return Err(fault);
     }
-    let sides = recovered.state.objects().pages().sides();
-    let behind = match read_pages(alloc, parts, repo, sides, objects) {
-        Ok(behind) => behind,
-        Err(fault) => {
-            drop(recovered);
-            return Err(fault);
-        }
-    };
-    Ok(Some((recovered, behind)))
+    Ok(Some(recovered))
 }
 
 /// Syncs the disks of a repository.

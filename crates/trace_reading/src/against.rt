@@ -156,7 +156,12 @@ fn last_other(commits: &[Commit], number: u32, oref: Oref) -> Option<u64>
 }
 
 /// Where an object stands in the invalid set of a session.
-pub(crate) fn invalid_at(commits: &[Commit], number: u32, session: &Session, oref: Oref) -> Option<u64>
+pub(crate) fn invalid_at(
+    commits: &[Commit],
+    number: u32,
+    session: &Session,
+    oref: Oref,
+) -> Option<u64>
     ensures { result ≡ invalid_by commits.now number session.now oref }
 {
     let first = session.first_at(oref.page)?;

@@ -1,7 +1,7 @@
 use Rattle.std.proofs.Common.{◌∙◌, ap, ℕ}
 use Rattle.mob_buffer.specs.Buffer.{object_of}
 use Rattle.mob_flusher.specs.Images.{name_of, overlaid}
-use Rattle.mob_flusher.proofs.Overlays.{image_none, image_more}
+use Rattle.mob_flusher.proofs.Overlays.{image_more}
 use Rattle.mob_flusher.proofs.image.image_of.Goals as goal
 
 pub loop-slot-preserved : goal.loop-slot-preserved

@@ -1,4 +1,4 @@
-use Rattle.std.proofs.Common.{◌≡◌, ◌<◌, ◌∙◌, sym, subst, ap, Some, ℕ, List}
+use Rattle.std.proofs.Common.{◌≡◌, ◌<◌, ◌∙◌, sym, subst, Some, ℕ, List}
 use Rattle.std.proofs.lemmas.Result.{IfOk-weaker}
 use Rattle.disk_trait.specs.Disks.{Leaves}
 use Rattle.disk_trait.proofs.Runs.{leaves_then}

@@ -1,5 +1,8 @@
 use Rattle.front_end.proofs.Acting.{by_commit}
 use Rattle.front_end.proofs.client.Client.commit_one.Goals as goal
+use Rattle.port.specs.Acting.{ByCommit, Refuses, RefusesCommit}
+use Rattle.std.proofs.Common.{refl, subst, sym}
+use Rattle.std.proofs.lemmas.Result.{IfOk-weaker}
 
 pub returns-in-Ok-clause-acts : goal.returns-in-Ok-clause-acts
 returns-in-Ok-clause-acts g c = by_commit _ _ _ _ _ c.args.sending.request _ c.commit_one.ensures.call
@@ -9,3 +12,9 @@ returns-in-Err-Stopped-clause-acts g c = by_commit _ _ _ _ _ c.args.sending.requ
 
 pub returns-in-Err-clause-acts : goal.returns-in-Err-clause-acts
 returns-in-Err-clause-acts g c = by_commit _ _ _ _ _ c.args.sending.request _ c.commit_one.ensures.call
+
+pub returns-in-Ok-clause-shown : goal.returns-in-Ok-clause-shown
+returns-in-Ok-clause-shown g c = λ tx s. c.end_committed.ensures.shown _ _ _ (ByCommit c.args.sending.at.repo c.args.sending.at.session c.in-Ok.field-0 c.args.sending.request tx refl (c.in-Ok.ensures.call s))
+
+pub returns-in-Err-clause-shown : goal.returns-in-Err-clause-shown
+returns-in-Err-clause-shown g c = λ tx. IfOk-weaker c.end_refused.result _ _ (λ n told s. told _ _ _ (subst (Refuses (g.Q.Port.view c.args.port.now) (g.Q.Port.view c.commit_one.new.self) c.args.sending.at.repo) (sym c.in-Err.refusal-is) (RefusesCommit c.args.sending.at.session c.args.sending.request (c.in-Err.ensures.call s)))) c.end_refused.ensures.shown

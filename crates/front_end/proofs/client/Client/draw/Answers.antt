@@ -1,5 +1,7 @@
+use Rattle.client_state.specs.Showing.{DrewShown}
 use Rattle.front_end.proofs.Acting.{by_draw}
 use Rattle.front_end.proofs.client.Client.draw.Goals as goal
+use Rattle.std.proofs.Common.{subst}
 
 pub returns-in_err-ts-clause-acts : goal.returns-in_err-ts-clause-acts
 returns-in_err-ts-clause-acts g c = by_draw _ _ _ _ _ _ _ _ _ c.draw.ensures.call
@@ -9,3 +11,6 @@ returns-in-Ts-clause-acts g c = by_draw _ _ _ _ _ _ _ _ _ c.draw.ensures.call
 
 pub returns-in-Refused-clause-acts : goal.returns-in-Refused-clause-acts
 returns-in-Refused-clause-acts g c = by_draw _ _ _ _ _ _ _ _ _ c.draw.ensures.call
+
+pub returns-in-Refused-clause-shown : goal.returns-in-Refused-clause-shown
+returns-in-Refused-clause-shown g c = λ repos s. c.go_behind.ensures.shown _ _ repos (subst (DrewShown (g.Q.Port.view c.args.port.now) (g.Q.Port.view c.draw.new.port)) c.in-Refused.is (c.in_ok-ts.ensures.shown s))

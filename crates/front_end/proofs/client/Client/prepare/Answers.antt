@@ -1,5 +1,7 @@
 use Rattle.front_end.proofs.Acting.{by_prepare}
 use Rattle.front_end.proofs.client.Client.prepare.Goals as goal
+use Rattle.port.specs.Acting.{RefusesPrepare}
+use Rattle.std.proofs.lemmas.Result.{IfOk-weaker}
 
 pub returns-in_err-note_prepared-in-Ok-clause-acts : goal.returns-in_err-note_prepared-in-Ok-clause-acts
 returns-in_err-note_prepared-in-Ok-clause-acts g c = by_prepare _ _ _ _ _ c.args.sending.request _ c.prepare.ensures.call
@@ -9,3 +11,6 @@ returns-in_ok-note_prepared-in-Ok-clause-acts g c = by_prepare _ _ _ _ _ c.args.
 
 pub returns-in-Err-clause-acts : goal.returns-in-Err-clause-acts
 returns-in-Err-clause-acts g c = by_prepare _ _ _ _ _ c.args.sending.request _ c.prepare.ensures.call
+
+pub returns-in-Err-clause-shown : goal.returns-in-Err-clause-shown
+returns-in-Err-clause-shown g c = λ repos. IfOk-weaker c.end_refused.result _ _ (λ n told s. told _ _ _ (RefusesPrepare _ c.args.sending.request (c.in-Err.ensures.call s))) c.end_refused.ensures.shown

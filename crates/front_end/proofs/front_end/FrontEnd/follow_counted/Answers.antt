@@ -1,8 +1,20 @@
+use Rattle.front_end.proofs.Showing.{shown_counted, shown_used}
 use Rattle.front_end.proofs.front_end.FrontEnd.follow_counted.Goals as goal
-use Rattle.front_end.specs.Moving.{standing_of}
+use Rattle.client_state.specs.Learning.{Rises}
+use Rattle.client_state.specs.declared.held.Held.{Held}
+use Rattle.front_end.specs.Moving.{held_of, standing_of}
 use Rattle.item_progress.proofs.Falling.{then_never_rises}
-use Rattle.std.proofs.Common.{refl}
+use Rattle.std.proofs.Common.{refl, subst}
 use Rattle.std.proofs.lemmas.Result.{on_ok_weaker}
 
 pub returns-clause-falls : goal.returns-clause-falls
 returns-clause-falls g c = λ _. on_ok_weaker c.make_counted.result (λ never. (then_never_rises (standing_of c.args.self.now) (standing_of c.count_call.new.self) (standing_of c.make_counted.new.self) (c.if-not-count_call.ensures.counted refl) never).falls _ _) c.make_counted.ensures.left
+
+pub returns-then-not-count_call-clause-shown : goal.returns-then-not-count_call-clause-shown
+returns-then-not-count_call-clause-shown g c = shown_used _ _ _ _ c.args.self.now c.count_call.new.self c.run_out_of_calls.new.self (c.if-not-count_call.ensures.none refl) (c.if-not-count_call.ensures.used_up refl) c.run_out_of_calls.ensures.shown
+
+pub returns-clause-shown : goal.returns-clause-shown
+returns-clause-shown g c = shown_counted _ _ _ _ c.args.self.now c.count_call.new.self c.make_counted.new.self c.count_call.ensures.each c.count_call.ensures.course c.make_counted.ensures.shown
+
+pub returns-clause-rises : goal.returns-clause-rises
+returns-clause-rises g c = subst (λ (h : Held). Rises h (held_of c.make_counted.new.self)) c.count_call.ensures.held c.make_counted.ensures.rises

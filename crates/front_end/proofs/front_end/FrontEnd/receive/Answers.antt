@@ -1,6 +1,10 @@
 use Rattle.front_end.proofs.Moving.{keeps_behind}
+use Rattle.front_end.proofs.Showing.{goes_shown}
 use Rattle.front_end.proofs.front_end.FrontEnd.receive.Goals as goal
 use Rattle.std.proofs.lemmas.Result.{on_ok_weaker}
 
 pub returns-clause-keeps : goal.returns-clause-keeps
 returns-clause-keeps g c = on_ok_weaker c.take_down.result (λ never. keeps_behind c.args.self.now c.take_down.new.self c.receive_delivered.new.self never c.take_down.ensures.each c.take_down.ensures.uncounted c.in_ok-news.ensures.owed) c.take_down.ensures.left
+
+pub returns-clause-shown : goal.returns-clause-shown
+returns-clause-shown g c = goes_shown _ _ _ _ _ _ _ _ _ c.in_ok-news.ensures.shown c.take_down.ensures.told

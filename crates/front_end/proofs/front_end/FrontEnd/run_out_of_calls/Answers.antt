@@ -1,3 +1,4 @@
+use Rattle.front_end.proofs.Showing.{used_up}
 use Rattle.front_end.proofs.front_end.FrontEnd.run_out_of_calls.Goals as goal
 use Rattle.item_progress.specs.Ending.{ends_try}
 use Rattle.std.proofs.Common.{ap, refl}
@@ -5,3 +6,6 @@ use Rattle.std.proofs.lemmas.Result.{on_ok_weaker}
 
 pub returns-clause-falls : goal.returns-clause-falls
 returns-clause-falls g c = λ _. on_ok_weaker c.take_down.result (λ down. down.falls _ _) (c.take_down.ensures.tried (ap ends_try c.end_try-news.ensures.news) (c.if-has_ended.ensures.left refl))
+
+pub returns-clause-shown : goal.returns-clause-shown
+returns-clause-shown g c = λ repos most. used_up _ _ _ repos _ _ _ _ _ c.end_try-news.ensures.news most c.take_down.ensures.told

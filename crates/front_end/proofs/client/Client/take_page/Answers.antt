@@ -1,0 +1,7 @@
+use Rattle.front_end.proofs.Showing.{page_shown, try_shown}
+use Rattle.front_end.proofs.client.Client.take_page.Goals as goal
+use Rattle.std.proofs.Common.{Bool, ap}
+use Rattle.std.specs.Prelude.{not}
+
+pub returns-in-Some-clause-shown : goal.returns-in-Some-clause-shown
+returns-in-Some-clause-shown c = λ old new repos place taken. try_shown old new repos _ _ c.end_try.ensures.news (page_shown old new repos c.args.repo c.args.page place c.args.bytes.now c.in-Some.oref c.args.self.now.held.cache.cache c.place.new.self.cache.cache (c.is_on.ensures c.if-is_on.true).0 (c.is_on.ensures c.if-is_on.true).1 c.in_ok-place.ensures.kept (c.holds.ensures (ap (λ (b : Bool). not b) c.if-not-holds.true)) taken)

@@ -1,0 +1,30 @@
+use Rattle.repository_reading.specs.Recovered.{AgreesWhere}
+use Rattle.held_state.specs.Keeps.{Keeps}
+use Rattle.held_state.specs.Said.{said}
+use Rattle.state_log.specs.Holds.{Holds}
+use Rattle.std.proofs.Common.{arith, refl}
+use Rattle.repository_reading.proofs.Syncing.{same_content}
+use Rattle.repository_reading.proofs.repository.recover_one.Goals as goal
+
+pub returns-clause-found : goal.returns-clause-found
+returns-clause-found g c =
+    let r = c.in-Ok-Some.recovered in
+    let holds : Holds (g.P.Parts.disks c.recover.new.parts) r.log (said r.state) = rw c.in-Ok-Some.field-0-is at c.in-Ok-Some.ensures.holds in
+    let keeps : Keeps r.state = rw c.in-Ok-Some.field-0-is at c.in-Ok-Some.ensures.keeps in
+    let pages : AgreesWhere r.state.objects.pages = rw c.in-Ok-Some.field-0-is at c.in-Ok-Some.ensures.pages in
+    record { state = said r.state; said = refl; holds = holds; keeps = keeps; pages = pages }
+
+pub returns-clause-number : goal.returns-clause-number
+returns-clause-number g c = omega (arith, c.repo.ensures, c.if-repo.false)
+
+pub returns-then-repo-clause-same : goal.returns-then-repo-clause-same
+returns-then-repo-clause-same g c = same_content (g.P.Parts.disks c.args.parts.now) (g.P.Parts.disks c.recover.new.parts) c.recover.ensures.content c.recover.ensures.any_moment
+
+pub returns-clause-same : goal.returns-clause-same
+returns-clause-same g c = same_content (g.P.Parts.disks c.args.parts.now) (g.P.Parts.disks c.recover.new.parts) c.recover.ensures.content c.recover.ensures.any_moment
+
+pub returns-in-Ok-None-clause-same : goal.returns-in-Ok-None-clause-same
+returns-in-Ok-None-clause-same g c = same_content (g.P.Parts.disks c.args.parts.now) (g.P.Parts.disks c.recover.new.parts) c.recover.ensures.content c.recover.ensures.any_moment
+
+pub returns-in-Err-clause-same : goal.returns-in-Err-clause-same
+returns-in-Err-clause-same g c = same_content (g.P.Parts.disks c.args.parts.now) (g.P.Parts.disks c.recover.new.parts) c.recover.ensures.content c.recover.ensures.any_moment
