@@ -10,6 +10,7 @@ mod Learned
 pub mod Leaving
 pub mod Lending
 pub mod Linked
+mod Naming
 pub mod Other
 pub mod Passing
 mod Places

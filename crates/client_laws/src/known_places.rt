@@ -10,7 +10,7 @@ ghost use Rattle.refusal_reasons.specs.declared.reason.Reason.TheVariants as rea
 ghost use Rattle.session_outbox.specs.Current.{IsTold};
 ghost use Rattle.session_outbox.specs.Exact.{exact};
 ghost use Rattle.session_outbox.specs.Notices.{lives};
-ghost use Rattle.session_outbox.specs.Session.{session, waiting};
+ghost use Rattle.session_outbox.specs.Session.{Session, session, waiting};
 ghost use Rattle.session_outbox.specs.Trace.{Item, entries};
 ghost use Rattle.session_outbox.specs.Verdict.{verdict};
 ghost use Rattle.std.specs.Option.{IsSomeAnd};
@@ -41,4 +41,9 @@ pub fn stale_places_are_passed()
         lives (session b (T ++ more) kept.session) ≡ true → IsSomeAnd (session b (T ++ more) kept.session) (λ v. waiting v ≡ []) → k < kept.upto }
     ensures again { (b : Base) (T : List Item) (s : ℕ) (q : Request) (x : Oref) (k : ℕ) → sound b (entries T) → k < q.upto →
         verdict b T s q ≢ Some (refused.Reason (reasons.Stale x k)) }
+{}
+
+/// A message that names an object as invalid is sent only of a commit of another session that wrote it, at the message's place.
+pub fn named_objects_were_written()
+    ensures { (b : Base) (T : List Item) (s : ℕ) (v : Session) → session b T s ≡ Some v → (x : Oref) (k : ℕ) → IsTold v.sent x k → OthersWrote b T s x k }
 {}

@@ -30,7 +30,10 @@ pub use doomed::{
 pub use examples::{what_does_not_fit, what_fits};
 pub use falling::{falling_ends, owed_calls};
 pub use growth::{others_act, outcomes_are_told};
-pub use known_places::{stale_places_are_passed, stale_writes_are_told, told_places_are_known};
+pub use known_places::{
+    named_objects_were_written, stale_places_are_passed, stale_writes_are_told,
+    told_places_are_known,
+};
 pub use learning::{
     fewer_copies_fit, gone_sessions_are_own, learning_links_fit, refused_links_fit,
 };
