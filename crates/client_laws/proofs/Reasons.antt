@@ -1,5 +1,6 @@
 -- A refusal's reason holds of the trace at the call.
-use Rattle.client_laws.specs.Refusing.{IsReasonAt, IsReasonSeen, Judged, Lost}
+use Rattle.client_laws.proofs.Naming.{all_named}
+use Rattle.client_laws.specs.Refusing.{IsReasonAt, IsReasonSeen, IsWriteSeen, Judged, Lost, OthersWrote}
 use Rattle.client_state.specs.Calling.{DrawsAbove}
 use Rattle.commit_log.specs.declared.entry.Entry.{Entry}
 use Rattle.commit_log.specs.declared.request.Request.{Request}
@@ -8,14 +9,20 @@ use Rattle.message_outbox.specs.declared.answers.Asked as answer
 use Rattle.message_outbox.specs.declared.answers.At.{At}
 use Rattle.message_outbox.specs.declared.answers.Welcome.{Welcome}
 use Rattle.message_outbox.specs.declared.message.Message.{Message}
-use Rattle.port.specs.Acting.{Refuses, RefusesAsk, RefusesCommit, RefusesConnect, RefusesDraw, RefusesFetch, RefusesGrant, RefusesPrepare, RefusesReceive}
+use Rattle.message_outbox.specs.declared.message.Message.TheVariants as message
+use Rattle.port.specs.Acting.{IsTaken, Refuses, RefusesAsk, RefusesCommit, RefusesConnect, RefusesDraw, RefusesFetch, RefusesGrant, RefusesPrepare, RefusesReceive, Takes}
 use Rattle.port.specs.Views.{Calm, Came, Halted, MayCome, Unsettled, View}
 use Rattle.port.specs.Works.{Answered, AskWork, CommitWork, ConnectWork, Does, DrawWork, FetchWork, GrantWork, PrepareWork, ReceiveWork, RefusedMarked, RefusedUnmarked, RequestRefused, alone_entry}
 use Rattle.commit_log.specs.declared.entry.Entry.TheVariants.{Prepared}
 use Rattle.refusal_reasons.specs.declared.reason.Reason.{Reason}
+use Rattle.session_outbox.specs.Session.{Invalid, Session, session}
 use Rattle.session_outbox.specs.Trace.{Item}
 use Rattle.std.proofs.Common.{List, arith, refl, subst, true, ◌<◌, ◌≡◌, ◌≤◌, ℕ}
 use Rattle.std.specs.Prelude.{Err, None, Ok, Option, Result, Some}
+use Rattle.std.specs.List.{list_any, slice_get}
+use Rattle.std.specs.Option.{IsSomeAnd}
+use Rattle.thor_value.specs.Names.{same_oref}
+use Rattle.thor_value.specs.declared.names.Oref.{Oref}
 use Rattle.thor_value.specs.declared.names.Ts.{Ts}
 use Rattle.validation_window.specs.declared.refusal.Refusal.TheVariants as refused
 use Rattle.validation_window.specs.declared.refusal.Refusal.{Refusal}
@@ -77,3 +84,19 @@ module _ (old new : View) (r s floor : ℕ) (t : Ts) where
 
 pub drawn_above : (old new : View) (at : At) (least : ℕ) (d : DrawsAbove true old new at least) (t : Ts) → d.result ≡ Ok t → least < t.time
 drawn_above old new at least d t is = let above : d.floor < t.time = drawn old new at.repo at.session d.floor t d.result is (d.call refl) in let low : least ≤ d.floor = d.above in omega (arith, above, low)
+
+-- ---- what a message names
+
+named_by : (b : Base) (at : List Item) (s : ℕ) (names : List Oref) (k : ℕ) (x : Oref) → list_any (same_oref x) names ≡ true → (o : Option Session) → session b at s ≡ o → IsSomeAnd o (λ v. slice_get v.sent v.taken ≡ Some (Invalid names k)) → OthersWrote b at s x k
+named_by b at s names k x named None is h = absurd h
+named_by b at s names k x named (Some v) is h = all_named b s at v is v.taken names k h x named
+
+module _ (old new : View) (r s : ℕ) (names : List Oref) (k : ℕ) (x : Oref) (named : list_any (same_oref x) names ≡ true) where
+  took_by : (met : Unsettled) (at : List Item) (w : Unsettled) → Answered {X = Option Message} r (Ok (Some (message.Invalid names k))) met at (new.seen r) w (ReceiveWork s (Ok (Some (message.Invalid names k))) (old.opened.base r) at (new.seen r) w) → IsWriteSeen old new r x k
+  took_by Calm at w h = record { session_is = s; at = at; taken = h.2.0; wrote = named_by (old.opened.base r) at s names k x named (session (old.opened.base r) at s) refl h.0 }
+  took_by (MayCome e) at w h = absurd h.0
+  took_by Came at w h = absurd h.0
+  took_by Halted at w h = absurd h.0
+
+pub write_seen : (old new : View) (r : ℕ) (names : List Oref) (k : ℕ) → IsTaken old new r (message.Invalid names k) → (x : Oref) → list_any (same_oref x) names ≡ true → IsWriteSeen old new r x k
+write_seen old new r names k (Takes s d) x named = took_by old new r s names k x named d.met d.at (new.unsettled r) d.answer

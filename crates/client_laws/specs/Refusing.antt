@@ -29,3 +29,10 @@ pub record OthersWrote (b : Base) (T : List Item) (s : ℕ) (x : Oref) (k : ℕ)
   pub there : Contains (writers b (entries T) x) commit
   pub place : commit.0 ≡ k
   pub other : nat_eq commit.1.session s ≡ false
+
+-- The client has taken the message of a place from the repository r, by a session of which others have written x there.
+pub record IsWriteSeen (old new : View) (r : ℕ) (x : Oref) (k : ℕ) : Type 0 where
+  pub session_is : ℕ
+  pub at : List Item
+  pub taken : new.seen r ≡ at ++ M (the.Took session_is k) ∷ []
+  pub wrote : OthersWrote (old.opened.base r) at session_is x k

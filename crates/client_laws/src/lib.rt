@@ -41,4 +41,4 @@ pub use lent::{asking_links_fit, connecting_links_fit, other_links_fit, taking_l
 pub use lent_sending::{deciding_links_fit, sending_links_fit, telling_links_fit};
 pub use links::{copies_become_what_messages_bring, links_outlive_others, links_tell_what_is_kept};
 pub use outcomes::{atomic_histories_agree, others_decide_nothing};
-pub use refusals::{drawn_timestamps_are_above, refusals_are_exact};
+pub use refusals::{drawn_timestamps_are_above, refusals_are_exact, taken_names_were_written};

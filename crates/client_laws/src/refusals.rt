@@ -1,12 +1,16 @@
 //! What a refusal shows of the repository that gave it, and that what is drawn is above what a client was told.
 
-ghost use Rattle.client_laws.specs.Refusing.{IsReasonSeen};
+ghost use Rattle.client_laws.specs.Refusing.{IsReasonSeen, IsWriteSeen};
 ghost use Rattle.client_state.specs.Calling.{DrawsAbove};
 ghost use Rattle.message_outbox.specs.declared.answers.At.{At};
-ghost use Rattle.port.specs.Acting.{Refuses};
+ghost use Rattle.message_outbox.specs.declared.message.Message.TheVariants as message;
+ghost use Rattle.port.specs.Acting.{IsTaken, Refuses};
 ghost use Rattle.port.specs.Views.{View};
 ghost use Rattle.refusal_reasons.specs.declared.reason.Reason.{Reason};
-ghost use Rattle.std.specs.Prelude.{Ok, true, ℕ, ◌<◌, ◌≡◌};
+ghost use Rattle.std.specs.List.{list_any};
+ghost use Rattle.std.specs.Prelude.{List, Ok, true, ℕ, ◌<◌, ◌≡◌};
+ghost use Rattle.thor_value.specs.Names.{same_oref};
+ghost use Rattle.thor_value.specs.declared.names.Oref.{Oref};
 ghost use Rattle.thor_value.specs.declared.names.Ts.{Ts};
 ghost use Rattle.validation_window.specs.declared.refusal.Refusal.TheVariants as refused;
 
@@ -19,4 +23,9 @@ pub fn refusals_are_exact()
 /// told by a refusal (`learn` of `client_state` raises the floor, and nothing lets it fall).
 pub fn drawn_timestamps_are_above()
     ensures { (old new : View) (at : At) (least : ℕ) (d : DrawsAbove true old new at least) (t : Ts) → d.result ≡ Ok t → least < t.time }
+{}
+
+/// A message that names an object as invalid tells that a commit of another session wrote it at the message's place.
+pub fn taken_names_were_written()
+    ensures { (old new : View) (r : ℕ) (names : List Oref) (k : ℕ) → IsTaken old new r (message.Invalid names k) → (x : Oref) → list_any (same_oref x) names ≡ true → IsWriteSeen old new r x k }
 {}
