@@ -1,5 +1,5 @@
 -- What the code's functions do, said by the actions of a run.
-use Rattle.std.specs.Prelude.{◌≡◌, ℕ, if◌then◌else◌, List, ◌∷◌, Option, Some, None, Result, Ok, Err}
+use Rattle.std.specs.Prelude.{◌≡◌, ℕ, Bool, true, false, if◌then◌else◌, List, ◌∷◌, Option, Some, None, Result, Ok, Err}
 use Rattle.thor_value.specs.FiniteMap.{Map}
 use Rattle.thor_value.specs.Names.{oref_cmp}
 use Rattle.thor_value.specs.declared.values.Value.{Value}
@@ -61,6 +61,26 @@ field_read (Expr-F.Call receiver method arguments) = None
 abbrev pub field_assigned : Frame → Option (List ℕ)
 field_assigned (frame.FieldAssign name) = Some name
 field_assigned f = None
+
+-- whether a frame is of a block or a loop
+abbrev pub in_block : Frame → Bool
+in_block (frame.Rest n ss) = true
+in_block (frame.BlockEnd k) = true
+in_block (frame.Test n t c b) = true
+in_block (frame.Again n t c b) = true
+in_block f = false
+
+-- whether a frame waits for the first part of a statement
+abbrev pub in_statement : Frame → Bool
+in_statement (frame.Declare t name) = true
+in_statement (frame.Assign name) = true
+in_statement (frame.FieldAssign name) = true
+in_statement frame.Return = true
+in_statement (frame.Branch n b) = true
+in_statement (frame.Branches n b c) = true
+in_statement frame.Print = true
+in_statement frame.Discard = true
+in_statement f = false
 
 -- what holds unless memory ran out
 abbrev pub Holds : {A : Type 0} → Result A Halt → Type 0 → Type 0

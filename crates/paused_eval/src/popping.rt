@@ -1,4 +1,4 @@
-ghost use Rattle.std.specs.Prelude.{◌≡◌, Option, None, IfOk};
+ghost use Rattle.std.specs.Prelude.{◌≡◌, true, false, Option, None, IfOk};
 ghost use Rattle.std.specs.Option.{option_copied};
 ghost use Rattle.thor_value.specs.declared.names.Oref.{Oref};
 ghost use Rattle.class_defs.specs.declared.store.Object.{Object};
@@ -6,7 +6,7 @@ ghost use Rattle.paused_defs.specs.Reaches.{over};
 ghost use Rattle.paused_defs.specs.Resume as spec;
 ghost use Rattle.paused_defs.specs.Resume.{taken};
 ghost use Rattle.paused_eval.specs.Counted.{surplus};
-ghost use Rattle.paused_eval.specs.Does.{Holds, Moves, field_assigned};
+ghost use Rattle.paused_eval.specs.Does.{Holds, Moves, field_assigned, in_block, in_statement};
 
 use crate::moves::{
     collect, ended, evaluate_for, give, given, go_on, open_block, pass, tested, turned,
@@ -64,8 +64,35 @@ pub fn leave_body(machine: &mut Machine, depth: u32, this: Option<Receiver>, loc
     machine.locals = locals;
 }
 
-/// Gives the frame that was on the top what it waits for. It assigns no field.
-pub fn pop<L: Ledger>(
+/// Whether a frame is of a block or a loop.
+fn in_block(frame: &Frame) -> bool
+    ensures { result ≡ in_block frame.now }
+{
+    matches!(
+        frame,
+        Frame::Rest { .. } | Frame::BlockEnd { .. } | Frame::Test { .. } | Frame::Again { .. }
+    )
+}
+
+/// Whether a frame waits for the first part of a statement.
+fn in_statement(frame: &Frame) -> bool
+    ensures { result ≡ in_statement frame.now }
+{
+    matches!(
+        frame,
+        Frame::Declare { .. }
+            | Frame::Assign { .. }
+            | Frame::FieldAssign { .. }
+            | Frame::Return
+            | Frame::Branch { .. }
+            | Frame::Branches { .. }
+            | Frame::Print
+            | Frame::Discard
+    )
+}
+
+/// Gives the frame of a block or a loop what it waits for.
+fn pop_block<L: Ledger>(
     program: &Program<'_>,
     machine: &mut Machine,
     work: &mut Work<L>,
@@ -73,9 +100,96 @@ pub fn pop<L: Ledger>(
     frame: Frame,
     flow: Flow,
 ) -> Result<Doing, Halt>
-    requires { field_assigned frame ≡ None }
+    requires { in_block frame ≡ true }
     ensures does { (f : Oref → Option Object) → Moves result stack.new machine.old machine.new (spec.pop (over program.now.schema.now f) frame flow stack.old) }
     ensures work { Holds result (surplus work.new machine.new.steps ≡ surplus work.old machine.old.steps) }
+{
+    let _alloc = program.alloc;
+    match frame {
+        Frame::Rest { nested, rest } => go_on(stack, nested, rest, flow),
+        Frame::BlockEnd { count } => {
+            machine.locals.truncate(count);
+            Ok(Doing::Give { flow })
+        }
+        Frame::Test {
+            nested,
+            turns,
+            condition,
+            body,
+        } => tested(machine, stack, nested, turns, condition, body, given(flow)),
+        Frame::Again {
+            nested,
+            turns,
+            condition,
+            body,
+        } => turned(machine, work, stack, nested, turns, condition, body, flow),
+        _ => unreachable!(),
+    }
+}
+
+/// Gives the frame of a statement the value of its first part. It assigns no field.
+fn pop_statement(
+    program: &Program<'_>,
+    machine: &mut Machine,
+    stack: &mut Stack<Frame>,
+    frame: Frame,
+    flow: Flow,
+) -> Result<Doing, Halt>
+    requires statement { in_statement frame ≡ true }
+    requires no_field { field_assigned frame ≡ None }
+    ensures does { (f : Oref → Option Object) → Moves result stack.new machine.old machine.new (spec.pop (over program.now.schema.now f) frame flow stack.old) }
+    ensures steps { Holds result (machine.new.steps ≡ machine.old.steps) }
+{
+    let _alloc = program.alloc;
+    match frame {
+        Frame::Declare { kind, name } => {
+            declare(machine, kind, name.get(), given(flow))?;
+            pass()
+        }
+        Frame::Assign { name } => {
+            assign_local(&mut machine.locals, name.get().as_slice(), given(flow));
+            pass()
+        }
+        Frame::Return => give(given(flow)),
+        Frame::Branch { nested, then } => {
+            if holds(given(flow)) {
+                open_block(machine, stack, nested, then)
+            } else {
+                pass()
+            }
+        }
+        Frame::Branches {
+            nested,
+            then,
+            otherwise,
+        } => {
+            if holds(given(flow)) {
+                open_block(machine, stack, nested, then)
+            } else {
+                open_block(machine, stack, nested, otherwise)
+            }
+        }
+        Frame::Print => {
+            machine.printed.push(number(given(flow)))?;
+            pass()
+        }
+        Frame::Discard => pass(),
+        _ => unreachable!(),
+    }
+}
+
+/// Gives the frame of an expression the value of a part.
+fn pop_value(
+    program: &Program<'_>,
+    machine: &mut Machine,
+    stack: &mut Stack<Frame>,
+    frame: Frame,
+    flow: Flow,
+) -> Result<Doing, Halt>
+    requires block { in_block frame ≡ false }
+    requires statement { in_statement frame ≡ false }
+    ensures does { (f : Oref → Option Object) → Moves result stack.new machine.old machine.new (spec.pop (over program.now.schema.now f) frame flow stack.old) }
+    ensures steps { machine.new.steps ≡ machine.old.steps }
 {
     match frame {
         Frame::Negate => give(Value::Int(0i64.wrapping_sub(number(given(flow))))),
@@ -120,55 +234,28 @@ pub fn pop<L: Ledger>(
             leave_body(machine, depth, this, locals);
             give(ended(result, flow))
         }
-        Frame::Declare { kind, name } => {
-            declare(machine, kind, name.get(), given(flow))?;
-            pass()
-        }
-        Frame::Assign { name } => {
-            assign_local(&mut machine.locals, name.get().as_slice(), given(flow));
-            pass()
-        }
-        Frame::FieldAssign { field: _ } => unreachable!(),
-        Frame::Return => give(given(flow)),
-        Frame::Branch { nested, then } => {
-            if holds(given(flow)) {
-                open_block(machine, stack, nested, then)
-            } else {
-                pass()
-            }
-        }
-        Frame::Branches {
-            nested,
-            then,
-            otherwise,
-        } => {
-            if holds(given(flow)) {
-                open_block(machine, stack, nested, then)
-            } else {
-                open_block(machine, stack, nested, otherwise)
-            }
-        }
-        Frame::Print => {
-            machine.printed.push(number(given(flow)))?;
-            pass()
-        }
-        Frame::Discard => pass(),
-        Frame::Rest { nested, rest } => go_on(stack, nested, rest, flow),
-        Frame::BlockEnd { count } => {
-            machine.locals.truncate(count);
-            Ok(Doing::Give { flow })
-        }
-        Frame::Test {
-            nested,
-            turns,
-            condition,
-            body,
-        } => tested(machine, stack, nested, turns, condition, body, given(flow)),
-        Frame::Again {
-            nested,
-            turns,
-            condition,
-            body,
-        } => turned(machine, work, stack, nested, turns, condition, body, flow),
+        _ => unreachable!(),
     }
+}
+
+/// Gives the frame that was on the top what it waits for. It assigns no field.
+pub fn pop<L: Ledger>(
+    program: &Program<'_>,
+    machine: &mut Machine,
+    work: &mut Work<L>,
+    stack: &mut Stack<Frame>,
+    frame: Frame,
+    flow: Flow,
+) -> Result<Doing, Halt>
+    requires { field_assigned frame ≡ None }
+    ensures does { (f : Oref → Option Object) → Moves result stack.new machine.old machine.new (spec.pop (over program.now.schema.now f) frame flow stack.old) }
+    ensures work { Holds result (surplus work.new machine.new.steps ≡ surplus work.old machine.old.steps) }
+{
+    if in_block(&frame) {
+        return pop_block(program, machine, work, stack, frame, flow);
+    }
+    if in_statement(&frame) {
+        return pop_statement(program, machine, stack, frame, flow);
+    }
+    pop_value(program, machine, stack, frame, flow)
 }

@@ -4,6 +4,7 @@ use Rattle.repo_core.proofs.Refused.{if_err_on, no_fault}
 use Rattle.repo_core.specs.Behind.{is_marked}
 use Rattle.repo_core.specs.Refusing.{CanRefuse}
 use Rattle.repo_core.specs.Shown.{Shown}
+use Rattle.refusal_reasons.specs.declared.reason.Reason.TheVariants.{Gone}
 use Rattle.refusal_reasons.specs.declared.reason.Reason.{Reason}
 use Rattle.stable_store.specs.Kept.{StandsAfter, held_of, is_fault, is_up, repo_named}
 use Rattle.stable_store.specs.declared.stable.Stable.{Stable}
@@ -101,3 +102,23 @@ has_fault (Err r) x n A D fault names repo up calls = why_fault x A D r fault.0 
 pub stands_refused : {T P : Type 0} (result : Result T Refusal) (old new : Stable P) (x : Shown) (A : Refusal → Type 0) (D : Type 0) (e : Option Entry) → is_up old ≡ x.is_up → (held_of old).repo ≡ x.held.repo → IfErr result (StandsAfter old new e) → IfErr result (λ r. repo_named (held_of old).repo r ≡ (held_of old).repo) → D → IfErr result (CanRefuse x A D)
 stands_refused (Ok t) old new x A D e up repo stands names calls = tt
 stands_refused (Err r) old new x A D e up repo stands names calls = why_after old new x A D e r up repo stands names calls
+
+-- ---- what is damaged was read before an entry was written
+
+pub damaged_none : (r : Refusal) (n place k : ℕ) (G : Type 0) → r ≡ refused.Down k → r ≡ refused.Damaged n place → G
+damaged_none r n place k G is damaged = absurd (never (sym damaged ∙ is))
+  where
+    never : refused.Damaged n place ≡ refused.Down k → ⊥
+    never e = no_fault true (ap is_fault e) refl
+
+pub damaged_gone : (r : Refusal) (n place s : ℕ) (G : Type 0) → r ≡ refused.Reason (Gone s) → r ≡ refused.Damaged n place → G
+damaged_gone r n place s G is damaged = absurd (never (sym damaged ∙ is))
+  where
+    never : refused.Damaged n place ≡ refused.Reason (Gone s) → ⊥
+    never e = no_fault true (ap is_fault e) refl
+
+pub damaged_marked : (r s : Refusal) (n place : ℕ) (G : Type 0) → is_marked s ≡ true → (is_marked r ≡ true → r ≡ s) → (is_marked r ≡ false → r ≡ refused.NoMemory) → r ≡ refused.Damaged n place → G
+damaged_marked r s n place G marked same other is = absurd (never (sym is ∙ other (ap is_marked is)))
+  where
+    never : refused.Damaged n place ≡ refused.NoMemory → ⊥
+    never e = cc

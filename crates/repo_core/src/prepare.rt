@@ -1,6 +1,6 @@
 //! A transaction that has other participants, too, is prepared.
 
-ghost use Rattle.std.specs.Prelude.{◌≡◌, IfErr, IfOk, None, OnOk, Some, false, length, true};
+ghost use Rattle.std.specs.Prelude.{◌≡◌, IfErr, IfOk, None, OnOk, Some, false, length, true, IsErrOf, ℕ};
 ghost use Rattle.commit_log.specs.declared.entry.Entry.TheVariants.{Prepared as Prepares};
 ghost use Rattle.held_state.specs.Entering.{entered as entered_in, prepared_in};
 ghost use Rattle.repo_core.specs.Behind.{HasMoved, Stands, epoch_of, with_refusal, is_marked};
@@ -8,7 +8,8 @@ ghost use Rattle.repo_core.specs.Calls.{MayRequest, judged};
 ghost use Rattle.repo_core.specs.Moving.{HasRoom};
 ghost use Rattle.trace_record.specs.Recorded.{with_entry};
 ghost use Rattle.volatile_state.specs.Volatile.{entered, verdict};
-ghost use Rattle.repo_core.specs.Refusing.{CanRefuse, Leaves, made_of};
+ghost use Rattle.repo_core.specs.Refusing.{CanRefuse, GoesDown, Leaves, made_of};
+ghost use Rattle.validation_window.specs.declared.refusal.Refusal.TheVariants.{Damaged as IsDamaged};
 
 use crate::repo::Repo;
 use commit_log::{Entry, Request};
@@ -18,7 +19,7 @@ use validation_window::Refusal;
 impl<P: Parts> Repo<P> {
     /// Prepares a transaction that has other participants, too. The answer is the place of its entry.
     /// Refusals: `Gone`, `Blocked`, `Epoch`, `TooOld`, `Stale`, `Earlier`, `Later`, `Full`.
-    #[tactic(auto, using(crate::proofs::Refused::leaves_down, crate::proofs::Refused::leaves_written, crate::proofs::Judged::accepted, crate::proofs::Causes::why_down, crate::proofs::Causes::why_fault, crate::proofs::Causes::why_marked, crate::proofs::Causes::has_fault))]
+    #[tactic(auto, using(crate::proofs::Refused::leaves_down, crate::proofs::Refused::leaves_written, crate::proofs::Judged::accepted, crate::proofs::Causes::why_down, crate::proofs::Causes::why_fault, crate::proofs::Causes::why_marked, crate::proofs::Causes::has_fault, crate::proofs::Causes::damaged_none, crate::proofs::Causes::damaged_marked))]
     pub fn prepare(&mut self, session: u32, request: Request) -> Result<u64, Refusal>
         requires { MayRequest self.old.held self.old.memory request false }
         ensures stands { Stands self.old.is_up result self.new.is_up }
@@ -35,6 +36,7 @@ impl<P: Parts> Repo<P> {
         ensures trace { OnOk result (self.new.trace ≡ with_entry self.old.trace (Prepares request)) }
         ensures refused { IfErr result (λ r. self.new.trace ≡ with_refusal self.old.trace session (Some request) r) }
         ensures left { IfErr result (Leaves self.old self.new (made_of (judged self.old.held self.old.memory session request) (Prepares request))) }
+        ensures damaged { (n place : ℕ) → IsErrOf result (IsDamaged n place) → GoesDown self.old self.new None }
         ensures clock { self.new.clock ≡ self.old.clock }
         ensures opened { self.new.opened_in ≡ self.old.opened_in }
     {

@@ -1,4 +1,4 @@
-use Rattle.std.proofs.Common.{ap, subst, sym, true, ◌∙◌, ◌≡◌}
+use Rattle.std.proofs.Common.{None, ap, subst, sym, true, ◌∙◌, ◌≡◌}
 use Rattle.held_state.specs.Keeps.{Keeps}
 use Rattle.repo_core.proofs.Falls.{keeps_up}
 use Rattle.repo_core.proofs.Stamps.{prepared_stamp}
@@ -14,3 +14,6 @@ write-requires-clause-can g c =
     let keeps : Keeps c.args.self.now.held = subst Keeps (ap (λ (s : Shown). s.held) c.self.view_is) (keeps_up g.P.Parts.disks c.self.inside.stable c.self.invariant.0 up) in
     let prepared : has_prepared c.args.self.now.held c.args.session c.args.tx ≡ true = sym c.has_prepared.ensures ∙ c.if-not-has_prepared.false in
     can_decide c.make_room_for.new.self.held c.make_room_for.new.self.memory c.args.tx c.args.commit (prepared_stamp c.args.self.now.held c.args.session c.args.tx keeps prepared)
+
+pub returns-in_err-make_room_for-clause-damaged : goal.returns-in_err-make_room_for-clause-damaged
+returns-in_err-make_room_for-clause-damaged g c = λ n place is. (c.in_err-make_room_for.ensures.left None).fault c.in_err-make_room_for.ensures.fault.0

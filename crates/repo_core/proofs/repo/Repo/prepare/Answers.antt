@@ -14,3 +14,6 @@ pub returns-in-Err-clause-only : goal.returns-in-Err-clause-only
 returns-in-Err-clause-only g c =
     let stands = judged c.args.self.now.held c.args.self.now.memory c.args.session c.args.request in
     why_marked c.args.self.now (λ r. stands ≡ Some r) (stands ≡ None) c.refuse.result c.in-Err.refusal c.in_ok-check_up.ensures.up c.refuse.ensures.same c.refuse.ensures.other (refused_by stands c.in-Err.refusal (sym c.judge.ensures.answer ∙ c.in-Err.is))
+
+pub returns-in_err-make_room-in-Ok-clause-damaged : goal.returns-in_err-make_room-in-Ok-clause-damaged
+returns-in_err-make_room-in-Ok-clause-damaged g c = λ n place is. (c.in_err-make_room-in-Ok.ensures.left None).fault c.in_err-make_room-in-Ok.ensures.fault.0
