@@ -29,7 +29,7 @@ use Rattle.session_outbox.specs.Notices.{lives}
 use Rattle.session_outbox.specs.Session.{Session, begun, move, session}
 use Rattle.session_outbox.specs.Trace.{E, Item, M, entries}
 use Rattle.session_outbox.specs.declared.mark.Mark.TheVariants as the
-use Rattle.std.proofs.Common.{Bool, List, [], ap, arith, cond, false, inl, inr, refl, subst, sym, true, ◌+◌, ◌++◌, ◌<◌, ◌∙◌, ◌∷◌, ◌≡◌, ◌≤◌, ℕ}
+use Rattle.std.proofs.Common.{Bool, List, [], ap, arith, cond, false, inl, inr, refl, subst, sym, true, ◌++◌, ◌<◌, ◌∙◌, ◌∷◌, ◌≡◌, ◌≤◌, ℕ}
 use Rattle.std.specs.Option.{IsSomeAnd, option_map}
 use Rattle.std.specs.Prelude.{None, Ok, Option, Some}
 use Rattle.thor_value.specs.declared.names.Ts.{Ts}

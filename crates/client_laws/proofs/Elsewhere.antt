@@ -9,7 +9,7 @@ use Rattle.port.specs.Works.{Does}
 use Rattle.session_outbox.specs.Trace.{Item}
 use Rattle.local_history.specs.History.{Base}
 use Rattle.port.specs.Views.{Unsettled}
-use Rattle.std.proofs.Common.{Bool, List, ap, subst, sym, ◌≡◌, ◌≢◌, ℕ}
+use Rattle.std.proofs.Common.{Bool, List, ap, subst, sym, ◌≢◌, ℕ}
 use Rattle.std.specs.Prelude.{Result, Some}
 use Rattle.thor_value.specs.declared.names.Ts.{Ts}
 use Rattle.validation_window.specs.declared.refusal.Refusal.{Refusal}

@@ -9,8 +9,6 @@ use Rattle.port.specs.Acting.{Acts}
 use Rattle.client_laws.specs.Doomed.{NoneComes, entry_asked}
 use Rattle.client_laws.specs.Seen.{IsSeenRight}
 use Rattle.local_history.specs.History.{Base, known_by}
-use Rattle.local_history.specs.Requests.{is_upgrade}
-use Rattle.local_history.proofs.Growth.{sound-beginning}
 use Rattle.local_history.specs.Sound.{sound}
 use Rattle.message_outbox.specs.declared.answers.Asked as answer
 use Rattle.message_outbox.specs.declared.answers.Verdict.{Verdict}
@@ -20,18 +18,15 @@ use Rattle.port.specs.Growing.{Called, Grew}
 use Rattle.port.specs.Views.{Calm, Came, Halted, MayCome, Opened, Unsettled, View}
 use Rattle.port.specs.Works as works
 use Rattle.port.specs.Works.{Answered, AskWork, CommitWork, ConnectWork, DecideWork, Does, DrawWork, FetchWork, FinishWork, ForgetWork, GrantWork, IsAsMet, IsBehind, IsHalted, MayHaveLeft, OutageWith, PrepareWork, ReceiveWork, RefusedMarked, RefusedUnmarked, RequestRefused, alone_entry, is_prepared_by}
-use Rattle.session_outbox.proofs.Exactness.{exact-beginning, exact-owed}
-use Rattle.session_outbox.proofs.Traces.{entries-append}
 use Rattle.session_outbox.specs.Calls.{next_page}
 use Rattle.session_outbox.specs.Exact.{exact}
 use Rattle.session_outbox.specs.Notices.{notice_of}
 use Rattle.session_outbox.specs.Session.{place_of}
 use Rattle.session_outbox.specs.Trace.{E, Item, M, entries}
 use Rattle.session_outbox.specs.declared.mark.Mark.TheVariants as the
-use Rattle.std.proofs.Common.{Bool, List, [], ap, cond, false, inl, inr, refl, subst, sym, true, ◌++◌, ◌∙◌, ◌∷◌, ◌≡◌, ◌≢◌, ℕ}
+use Rattle.std.proofs.Common.{Bool, List, [], ap, false, inl, inr, refl, subst, sym, true, ◌++◌, ◌∙◌, ◌∷◌, ◌≡◌, ◌≢◌, ℕ}
 use Rattle.std.proofs.lemmas.Bool.{eqb-true}
-use Rattle.std.specs.Prelude.{Err, None, Ok, Option, Result, Some, nat_eq, ◌&&◌, ◌⊎◌}
-use Rattle.thor_value.specs.Names.{same_ts}
+use Rattle.std.specs.Prelude.{Err, None, Ok, Option, Result, Some, nat_eq, ◌⊎◌}
 use Rattle.thor_value.specs.declared.names.Ts.{Ts}
 use Rattle.validation_window.specs.declared.refusal.Refusal.TheVariants as refused
 use Rattle.validation_window.specs.declared.refusal.Refusal.{Refusal}

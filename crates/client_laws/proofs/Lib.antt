@@ -11,7 +11,9 @@ pub mod Lending
 pub mod Linked
 pub mod Other
 pub mod Passing
+mod Places
 pub mod Quiet
+mod Reasons
 pub mod Resting
 pub mod Sending
 pub mod Showing

@@ -3,7 +3,6 @@ use Rattle.commit_log.specs.declared.entry.Entry.TheVariants.{Decided, Finished,
 use Rattle.commit_log.specs.declared.entry.Entry.{Entry}
 use Rattle.commit_log.specs.declared.request.Request.{Request}
 use Rattle.client_laws.proofs.Leaving.{HasCalled, Left, acts, behind_call, is_such, seen_right}
-use Rattle.client_laws.proofs.Lending.{Front}
 use Rattle.client_laws.proofs.Other.{asked}
 use Rattle.client_laws.proofs.Passing.{after_entry, was_live, was_open}
 use Rattle.client_laws.proofs.Telling.{client_stays, of_client, unbegun}
@@ -13,7 +12,7 @@ use Rattle.client_laws.specs.Doomed.{ActsWithin, IsDoomed, IsQuiet, concerns, de
 use Rattle.client_laws.specs.Seen.{IsSeenRight}
 use Rattle.local_history.proofs.Growth.{owed-end, sound-beginning}
 use Rattle.local_history.proofs.Places.{came_end}
-use Rattle.local_history.specs.History.{Base, Known, Open, State, commit_of, known_by, state}
+use Rattle.local_history.specs.History.{Base, Known, Open, commit_of, known_by, state}
 use Rattle.local_history.specs.Laws.{Asks}
 use Rattle.local_history.specs.Sound.{sound}
 use Rattle.port.specs.Growing.{Gains, GainsAll, Grew, MayHalt}
@@ -29,7 +28,7 @@ use Rattle.session_outbox.specs.Trace.{E, Item, M, entries}
 use Rattle.std.proofs.Common.{Bool, List, [], ap, append_assoc, false, inl, inr, is_eq, length, refl, subst, sym, true, ◌++◌, ◌∙◌, ◌∷◌, ◌≡◌, ◌≢◌, ℕ}
 use Rattle.std.proofs.lemmas.Cmp.{tied_itself}
 use Rattle.std.proofs.lemmas.List.{append-nil}
-use Rattle.std.specs.Prelude.{None, Option, Some, ◌&&◌, ◌⊎◌}
+use Rattle.std.specs.Prelude.{Some}
 use Rattle.thor_value.proofs.NameOrders.{ts_total}
 use Rattle.thor_value.specs.Names.{same_ts}
 use Rattle.thor_value.specs.declared.names.Ts.{Ts}

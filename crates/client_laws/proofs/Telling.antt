@@ -1,34 +1,26 @@
 -- What is known of outcomes over several repositories.
 use Rattle.atomic_histories.proofs.Parts.{committed-from, part_lives, has-committed}
 use Rattle.atomic_histories.specs.Several.{IsAtomic, Several, committed}
-use Rattle.client_laws.proofs.Passing.{after_entry, behind, same_client}
+use Rattle.client_laws.proofs.Passing.{behind, same_client}
 use Rattle.client_laws.specs.Fitting.{Agrees}
 use Rattle.commit_log.specs.declared.entry.Entry.TheVariants.{Decided, Finished, Life, One, Prepared, Upgraded}
 use Rattle.commit_log.specs.declared.entry.Entry.{Entry}
 use Rattle.commit_log.specs.declared.request.Request.{Request}
-use Rattle.local_history.proofs.Growth.{by_growth, owed-end, sound-beginning, state-end}
-use Rattle.local_history.proofs.Places.{goes, placed, stays}
-use Rattle.local_history.proofs.Steps as steps
+use Rattle.local_history.proofs.Growth.{by_growth, state-end}
 use Rattle.local_history.proofs.Steps.{by_settling}
-use Rattle.local_history.proofs.Telling.{known-unleft}
-use Rattle.local_history.specs.History.{Aborted, Base, Committed, Fate, IsCommitted, Known, LeftOver, Open, State, commit_by, commit_of, is_open, known_by, known_in, put, settle, state}
-use Rattle.local_history.specs.Sound.{owes, sound}
-use Rattle.port.specs.Growing.{GainsAll, Grew}
-use Rattle.port.specs.Views.{Calm, Unsettled}
-use Rattle.session_outbox.proofs.Exactness.{exact-beginning, exact-owed, known}
+use Rattle.local_history.specs.History.{Base, Known, LeftOver, State, commit_by, is_open, known_in, put, settle, state}
+use Rattle.local_history.specs.Sound.{sound}
+use Rattle.session_outbox.proofs.Exactness.{known}
 use Rattle.session_outbox.proofs.Sessions.{session-end}
-use Rattle.session_outbox.proofs.Taken.{after-mark}
-use Rattle.session_outbox.proofs.Traces.{entries-append}
 use Rattle.session_outbox.specs.Calls.{last_session}
-use Rattle.session_outbox.specs.Exact.{ItemIsExact, exact}
-use Rattle.session_outbox.specs.Gaps.{client_in, maker}
+use Rattle.session_outbox.specs.Exact.{ItemIsExact}
+use Rattle.session_outbox.specs.Gaps.{client_in}
 use Rattle.session_outbox.specs.Session.{Session, meet, move, session}
 use Rattle.session_outbox.specs.Trace.{E, Item, M, entries}
 use Rattle.session_outbox.specs.declared.mark.Mark.TheVariants as the
-use Rattle.std.proofs.Common.{Bool, List, [], ap, append_assoc, arith, cond, false, inl, inr, refl, subst, sym, true, ◌++◌, ◌<◌, ◌∙◌, ◌∷◌, ◌≡◌, ◌≢◌, ℕ}
+use Rattle.std.proofs.Common.{Bool, List, [], ap, arith, cond, false, refl, subst, sym, true, ◌++◌, ◌<◌, ◌∙◌, ◌∷◌, ◌≡◌, ℕ}
 use Rattle.std.proofs.lemmas.Bool.{eqb-true}
-use Rattle.std.proofs.lemmas.List.{append-nil}
-use Rattle.std.specs.Option.{IsSomeAnd, option_and_then, option_map}
+use Rattle.std.specs.Option.{IsSomeAnd, option_map}
 use Rattle.std.specs.Prelude.{None, Option, Some, nat_eq, not, ◌&&◌}
 use Rattle.thor_value.proofs.FiniteMap.{get-keep}
 use Rattle.thor_value.proofs.NameOrders.{ts_exact}

@@ -10,7 +10,7 @@ use Rattle.local_history.proofs.Growth.{owed-end, sound-beginning, state-end}
 use Rattle.local_history.proofs.Places.{goes, placed}
 use Rattle.local_history.proofs.Steps as steps
 use Rattle.local_history.proofs.Telling.{known-unleft}
-use Rattle.local_history.specs.History.{Aborted, Base, Committed, Fate, IsCommitted, Known, Open, State, commit_by, commit_of, is_open, known_by, known_in, put, state}
+use Rattle.local_history.specs.History.{Aborted, Base, Committed, Fate, IsCommitted, Known, Open, State, commit_by, commit_of, known_by, known_in, state}
 use Rattle.local_history.specs.Sound.{owes, sound}
 use Rattle.port.specs.Growing.{Gains, GainsAll, Grew, MayHalt}
 use Rattle.port.specs.Views.{Calm, Came, Halted, MayCome, Unsettled}
@@ -20,7 +20,7 @@ use Rattle.session_outbox.proofs.Traces.{entries-append}
 use Rattle.session_outbox.specs.Exact.{ItemIsExact, exact}
 use Rattle.session_outbox.specs.Gaps.{client_in, maker}
 use Rattle.session_outbox.specs.Trace.{E, Item, M, entries}
-use Rattle.std.proofs.Common.{Bool, List, [], ap, append_assoc, cond, false, inl, inr, is_eq, refl, subst, sym, true, ◌++◌, ◌∙◌, ◌∷◌, ◌≡◌, ◌≢◌, ℕ}
+use Rattle.std.proofs.Common.{Bool, List, [], ap, append_assoc, false, inl, inr, is_eq, refl, subst, sym, true, ◌++◌, ◌∙◌, ◌∷◌, ◌≡◌, ◌≢◌, ℕ}
 use Rattle.std.proofs.lemmas.List.{append-nil}
 use Rattle.std.proofs.lemmas.Map.Views.{tells_apart}
 use Rattle.std.specs.Option.{option_and_then}

@@ -1,6 +1,5 @@
 -- What the client's own calls leave of a transaction that won't commit any more.
-use Rattle.commit_log.specs.declared.entry.Entry.{Entry}
-use Rattle.client_laws.proofs.Leaving.{Adds, HasCalled, Left, SeenRight, acts, behind_call, is_such, seen_right}
+use Rattle.client_laws.proofs.Leaving.{Adds, HasCalled, Left, SeenRight, acts, behind_call, seen_right}
 use Rattle.client_laws.proofs.Lending.{Front}
 use Rattle.client_laws.proofs.Uncommitted.{grown_on, item_on}
 use Rattle.port.specs.Acting.{Acts}
@@ -15,7 +14,7 @@ use Rattle.session_outbox.proofs.Exactness.{exact-beginning, exact-owed}
 use Rattle.session_outbox.proofs.Traces.{entries-append}
 use Rattle.session_outbox.specs.Exact.{exact}
 use Rattle.session_outbox.specs.Trace.{Item, entries}
-use Rattle.std.proofs.Common.{Bool, List, inl, inr, subst, sym, ◌++◌, ◌∷◌, ◌≡◌, ℕ}
+use Rattle.std.proofs.Common.{Bool, List, inl, inr, subst, sym, ◌++◌, ◌≡◌, ℕ}
 use Rattle.thor_value.specs.declared.names.Ts.{Ts}
 
 module _ (c : ℕ) (b : Base) (t : Ts) (home : t.repo ≡ b.repo) where

@@ -2,5 +2,6 @@ pub mod Doomed
 pub mod Examples
 pub mod Fitting
 pub mod Links
+pub mod Refusing
 pub mod Seen
 pub mod Steps

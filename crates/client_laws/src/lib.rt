@@ -9,10 +9,12 @@ mod doomed;
 mod examples;
 mod falling;
 mod growth;
+mod known_places;
 mod lent;
 mod lent_sending;
 mod links;
 mod outcomes;
+mod refusals;
 
 pub use acting::acting_links_fit;
 pub use calls::{
@@ -27,7 +29,9 @@ pub use doomed::{
 pub use examples::{what_does_not_fit, what_fits};
 pub use falling::{falling_ends, owed_calls};
 pub use growth::{others_act, outcomes_are_told};
+pub use known_places::{stale_places_are_passed, stale_writes_are_told, told_places_are_known};
 pub use lent::{asking_links_fit, connecting_links_fit, other_links_fit, taking_links_fit};
 pub use lent_sending::{deciding_links_fit, sending_links_fit, telling_links_fit};
 pub use links::{copies_become_what_messages_bring, links_outlive_others, links_tell_what_is_kept};
 pub use outcomes::{atomic_histories_agree, others_decide_nothing};
+pub use refusals::{drawn_timestamps_are_above, refusals_are_exact};

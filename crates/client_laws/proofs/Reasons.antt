@@ -1,0 +1,79 @@
+-- A refusal's reason holds of the trace at the call.
+use Rattle.client_laws.specs.Refusing.{IsReasonAt, IsReasonSeen, Judged, Lost}
+use Rattle.client_state.specs.Calling.{DrawsAbove}
+use Rattle.commit_log.specs.declared.entry.Entry.{Entry}
+use Rattle.commit_log.specs.declared.request.Request.{Request}
+use Rattle.local_history.specs.History.{Base}
+use Rattle.message_outbox.specs.declared.answers.Asked as answer
+use Rattle.message_outbox.specs.declared.answers.At.{At}
+use Rattle.message_outbox.specs.declared.answers.Welcome.{Welcome}
+use Rattle.message_outbox.specs.declared.message.Message.{Message}
+use Rattle.port.specs.Acting.{Refuses, RefusesAsk, RefusesCommit, RefusesConnect, RefusesDraw, RefusesFetch, RefusesGrant, RefusesPrepare, RefusesReceive}
+use Rattle.port.specs.Views.{Calm, Came, Halted, MayCome, Unsettled, View}
+use Rattle.port.specs.Works.{Answered, AskWork, CommitWork, ConnectWork, Does, DrawWork, FetchWork, GrantWork, PrepareWork, ReceiveWork, RefusedMarked, RefusedUnmarked, RequestRefused, alone_entry}
+use Rattle.commit_log.specs.declared.entry.Entry.TheVariants.{Prepared}
+use Rattle.refusal_reasons.specs.declared.reason.Reason.{Reason}
+use Rattle.session_outbox.specs.Trace.{Item}
+use Rattle.std.proofs.Common.{List, arith, refl, subst, true, ◌<◌, ◌≡◌, ◌≤◌, ℕ}
+use Rattle.std.specs.Prelude.{Err, None, Ok, Option, Result, Some}
+use Rattle.thor_value.specs.declared.names.Ts.{Ts}
+use Rattle.validation_window.specs.declared.refusal.Refusal.TheVariants as refused
+use Rattle.validation_window.specs.declared.refusal.Refusal.{Refusal}
+
+-- a call that answers a reason has met nothing unsettled, and has done its work
+was_calm : (X : Type 0) (r : ℕ) (k : Reason) (met : Unsettled) (at after : List Item) (u : Unsettled) (work : Type 0) → Answered {X = X} r (Err (refused.Reason k)) met at after u work → work
+was_calm X r k Calm at after u work h = h
+was_calm X r k (MayCome e) at after u work h = absurd h.0
+was_calm X r k Came at after u work h = absurd h.0
+was_calm X r k Halted at after u work h = absurd h.0
+
+module _ (b : Base) (at after : List Item) (u : Unsettled) (k : Reason) (s : ℕ) where
+  unmarked : RefusedUnmarked b at s (refused.Reason k) after u → IsReasonAt b at after k
+  unmarked h = Lost s h.0 h.1 h.2.0
+
+  marked : RefusedMarked b at s (refused.Reason k) after u → IsReasonAt b at after k
+  marked h = Judged s None h.0 h.1.0
+
+  request : (e : Entry) (q : Request) → RequestRefused e b at s q (refused.Reason k) after u → IsReasonAt b at after k
+  request e q h = Judged s (Some q) h.0 h.1.0
+
+module _ (old new : View) (r : ℕ) (k : Reason) where
+  abbrev b : Base
+  b = old.opened.base r
+
+  abbrev after : List Item
+  after = new.seen r
+
+  abbrev u : Unsettled
+  u = new.unsettled r
+
+  seen_so : {X : Type 0} (work : Base → List Item → List Item → Unsettled → Type 0) (d : Does {X = X} old new r (Err (refused.Reason k)) work) → (work b d.at after u → IsReasonAt b d.at after k) → IsReasonSeen old new r k
+  seen_so {X} work d f = record { at = d.at; holds = f (was_calm X r k d.met d.at after u (work b d.at after u) d.answer) }
+
+  pub reason_seen : Refuses old new r (refused.Reason k) → IsReasonSeen old new r k
+  reason_seen (RefusesConnect c d) = seen_so {X = Welcome} (ConnectWork c (Err (refused.Reason k))) d (λ h. absurd h.0)
+  reason_seen (RefusesFetch s page upto d) = seen_so {X = Unit {0}} (FetchWork s page upto (Err (refused.Reason k))) d (unmarked b d.at after u k s)
+  reason_seen (RefusesGrant s d) = seen_so {X = Unit {0}} (GrantWork s (Err (refused.Reason k))) d (marked b d.at after u k s)
+  reason_seen (RefusesReceive s d) = seen_so {X = Option Message} (ReceiveWork s (Err (refused.Reason k))) d (unmarked b d.at after u k s)
+  reason_seen (RefusesDraw s floor d) = seen_so {X = Ts} (DrawWork s floor (Err (refused.Reason k))) d (marked b d.at after u k s)
+  reason_seen (RefusesPrepare s q d) = seen_so {X = ℕ} (PrepareWork s q (Err (refused.Reason k))) d (request b d.at after u k s (Prepared q) q)
+  reason_seen (RefusesCommit s q d) = seen_so {X = ℕ} (CommitWork s q (Err (refused.Reason k))) d (request b d.at after u k s (alone_entry q) q)
+  reason_seen (RefusesAsk t d) = seen_so {X = answer.Asked} (AskWork t (Err (refused.Reason k))) d (λ h. absurd h.0)
+
+-- ---- what is drawn
+
+module _ (old new : View) (r s floor : ℕ) (t : Ts) where
+  abbrev Draws : Result Ts Refusal → Type 0
+  Draws result = Does {X = Ts} old new r result (DrawWork s floor result)
+
+  drawn_by : (met : Unsettled) (at behind : List Item) (w : Unsettled) → Answered {X = Ts} r (Ok t) met at behind w (DrawWork s floor (Ok t) (old.opened.base r) at behind w) → floor < t.time
+  drawn_by Calm at behind w h = h.2
+  drawn_by (MayCome e) at behind w h = absurd h.0
+  drawn_by Came at behind w h = absurd h.0
+  drawn_by Halted at behind w h = absurd h.0
+
+  drawn : (result : Result Ts Refusal) → result ≡ Ok t → Draws result → floor < t.time
+  drawn result is d = let y : Draws (Ok t) = subst Draws is d in drawn_by y.met y.at (new.seen r) (new.unsettled r) y.answer
+
+pub drawn_above : (old new : View) (at : At) (least : ℕ) (d : DrawsAbove true old new at least) (t : Ts) → d.result ≡ Ok t → least < t.time
+drawn_above old new at least d t is = let above : d.floor < t.time = drawn old new at.repo at.session d.floor t d.result is (d.call refl) in let low : least ≤ d.floor = d.above in omega (arith, above, low)
