@@ -56,7 +56,7 @@ set_here (x ∷ xs) zero old new e = refl
 set_here (x ∷ xs) (suc r) old new e = set_here xs r old new e
 
 -- a link that changes
-changes_here : (xs : List Link) (r : ℕ) (f : Link → Link) (old : Link) → slice_get xs r ≡ Some old → slice_get (at_repo xs r f) r ≡ Some (f old)
+pub changes_here : (xs : List Link) (r : ℕ) (f : Link → Link) (old : Link) → slice_get xs r ≡ Some old → slice_get (at_repo xs r f) r ≡ Some (f old)
 changes_here xs r f old e = ap (λ (o : Option Link). slice_get (changed_at xs r f o) r) e ∙ set_here xs r old (f old) e
 
 -- ---- what is seen

@@ -6,6 +6,7 @@ pub mod Falls
 pub mod Fits
 pub mod Growing
 pub mod Handing
+mod Learned
 pub mod Leaving
 pub mod Lending
 pub mod Linked

@@ -309,3 +309,82 @@ stale_is_passed c b T more committed kept q x k sd ex was fits alive none =
 
 pub not_again : (b : Base) (T : List Item) (s : ℕ) (q : Request) (x : Oref) (k : ℕ) → sound b (entries T) → k < q.upto → verdict b T s q ≢ Some (refused.Reason (reasons.Stale x k))
 not_again b T s q x k sd above was = let low = (stale_was_told b T s q x k sd was).0 in omega (arith, above, low)
+
+-- ---- a session that is gone
+
+abbrev Lost : ℕ → Option Refusal
+Lost n = Some (refused.Reason (reasons.Gone n))
+
+module _ (n : ℕ) {A : Type 0} where
+  not_blocked : (t : Bool) (tx : Ts) → cond t (Some (refused.Reason (reasons.Blocked tx))) None ≡ Lost n → A
+  not_blocked true tx h = cc
+  not_blocked false tx h = cc
+
+  not_epoch : (t : Bool) (k : ℕ) → cond t None (Some (refused.Reason (reasons.Epoch k))) ≡ Lost n → A
+  not_epoch true k h = cc
+  not_epoch false k h = cc
+
+  not_old : (t : Bool) (tx : Ts) → cond t None (Some (refused.Reason (reasons.TooOld tx))) ≡ Lost n → A
+  not_old true tx h = cc
+  not_old false tx h = cc
+
+  not_earlier : (t : Bool) (o : Option Oref) (tx : Ts) → cond t (option_map (λ y. refused.Reason (reasons.Earlier tx y)) o) None ≡ Lost n → A
+  not_earlier true None tx h = cc
+  not_earlier true (Some y) tx h = cc
+  not_earlier false o tx h = cc
+
+  not_later : (t : Bool) (o : Option Oref) (tx : Ts) → cond t (option_map (λ y. refused.Reason (reasons.Later tx y)) o) None ≡ Lost n → A
+  not_later true None tx h = cc
+  not_later true (Some y) tx h = cc
+  not_later false o tx h = cc
+
+  not_full : (t : Bool) (k : ℕ) → cond t (Some (refused.Reason (reasons.Full k))) None ≡ Lost n → A
+  not_full true k h = cc
+  not_full false k h = cc
+
+  not_stale : (upto : ℕ) (y : Oref) (o : Option ℕ) → option_and_then (stale_from upto y) o ≡ Lost n → A
+  not_stale upto y None h = cc
+  not_stale upto y (Some j) h = by (nat_le upto j) h
+    where
+      by : (t : Bool) → cond t (Some (refused.Reason (reasons.Stale y j))) None ≡ Lost n → A
+      by true e = cc
+      by false e = cc
+
+-- the first refusal of a request isn't that its session is gone
+none_lost : {A : Type 0} (b : Base) (S : State) (W : Window) (f : Oref → Option Refusal) (names : List Oref) (q : Request) (n : ℕ) → ((y : Oref) → f y ≡ Some (refused.Reason (reasons.Gone n)) → A) → first_refusal S W (first_some f names) (full b W q) q ≡ Some (refused.Reason (reasons.Gone n)) → A
+none_lost {A} b S W f names q n no_stale h = elim (one_of (first_some (blocks q) W.members.pairs) _ _ h) [
+  | inl e ↦ let k = found (blocks q) W.members.pairs _ e in not_blocked n (not k.0.1.decided && (is_upgrade q || is_upgrade k.0.1.request)) k.0.0 k.1
+  | inr g ↦ elim (one_of (behind S q) _ _ g) [
+    | inl e ↦ not_epoch n _ _ e
+    | inr g1 ↦ elim (one_of (too_old W q) _ _ g1) [
+      | inl e ↦ not_old n (is_before (bar W q) q.tx) (bar W q) e
+      | inr g2 ↦ elim (one_of (first_some f names) _ _ g2) [
+        | inl e ↦ let k = found f names _ e in no_stale k.0 k.1
+        | inr g3 ↦ elim (one_of (first_some (comes_earlier q) W.members.pairs) _ _ g3) [
+          | inl e ↦ let k = found (comes_earlier q) W.members.pairs _ e in not_earlier n (not k.0.1.decided && is_before k.0.0 q.tx) (least_name q (reads_from q k.0.1.request)) k.0.0 k.1
+          | inr g4 ↦ elim (one_of (first_some (comes_later q) W.members.pairs) _ _ g4) [
+            | inl e ↦ let k = found (comes_later q) W.members.pairs _ e in not_later n (is_before q.tx k.0.0) (least_name q (λ y. reads_from q k.0.1.request y || writes_over q k.0.1.request y)) k.0.0 k.1
+            | inr g5 ↦ elim (one_of (full_of_undecided W) (full_of_writes b q) _ g5) [
+              | inl e ↦ not_full n (nat_le room_for (len W.members) && is_none (first_decided W.members.pairs)) room_for e
+              | inr e ↦ not_full n (nat_lt b.limit (bytes_of q)) b.limit e
+            ]
+          ]
+        ]
+      ]
+    ]
+  ]
+]
+
+pub gone_is_own : (b : Base) (T : List Item) (s n : ℕ) (q : Request) → verdict b T s q ≡ Some (refused.Reason (reasons.Gone n)) → n ≡ s
+gone_is_own b T s n q h = by (session b T s) h
+  where
+    own : Some (refused.Reason (reasons.Gone s)) ≡ Some (refused.Reason (reasons.Gone n)) → n ≡ s
+    own e = let same : s ≡ n = cc in sym same
+
+    lived : (v : Session) (t : Bool) → cond t (first_refusal (state b (entries T)) (window b (entries T)) (stale b (entries T) s v q) (full b (window b (entries T)) q) q) (Some (refused.Reason (reasons.Gone s))) ≡ Some (refused.Reason (reasons.Gone n)) → n ≡ s
+    lived v true e = none_lost b (state b (entries T)) (window b (entries T)) (λ y. option_and_then (stale_from q.upto y) (invalid b (entries T) s v y)) (keys (set_of q.ros)) q n (λ y k. not_stale n q.upto y (invalid b (entries T) s v y) k) e
+    lived v false e = own e
+
+    by : (o : Option Session) → verdict_by b (entries T) s q o ≡ Some (refused.Reason (reasons.Gone n)) → n ≡ s
+    by None e = own e
+    by (Some v) e = lived v (session_lives v) e

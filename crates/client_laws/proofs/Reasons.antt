@@ -21,7 +21,7 @@ use Rattle.validation_window.specs.declared.refusal.Refusal.TheVariants as refus
 use Rattle.validation_window.specs.declared.refusal.Refusal.{Refusal}
 
 -- a call that answers a reason has met nothing unsettled, and has done its work
-was_calm : (X : Type 0) (r : ℕ) (k : Reason) (met : Unsettled) (at after : List Item) (u : Unsettled) (work : Type 0) → Answered {X = X} r (Err (refused.Reason k)) met at after u work → work
+pub was_calm : (X : Type 0) (r : ℕ) (k : Reason) (met : Unsettled) (at after : List Item) (u : Unsettled) (work : Type 0) → Answered {X = X} r (Err (refused.Reason k)) met at after u work → work
 was_calm X r k Calm at after u work h = h
 was_calm X r k (MayCome e) at after u work h = absurd h.0
 was_calm X r k Came at after u work h = absurd h.0

@@ -10,6 +10,7 @@ mod examples;
 mod falling;
 mod growth;
 mod known_places;
+mod learning;
 mod lent;
 mod lent_sending;
 mod links;
@@ -30,6 +31,9 @@ pub use examples::{what_does_not_fit, what_fits};
 pub use falling::{falling_ends, owed_calls};
 pub use growth::{others_act, outcomes_are_told};
 pub use known_places::{stale_places_are_passed, stale_writes_are_told, told_places_are_known};
+pub use learning::{
+    fewer_copies_fit, gone_sessions_are_own, learning_links_fit, refused_links_fit,
+};
 pub use lent::{asking_links_fit, connecting_links_fit, other_links_fit, taking_links_fit};
 pub use lent_sending::{deciding_links_fit, sending_links_fit, telling_links_fit};
 pub use links::{copies_become_what_messages_bring, links_outlive_others, links_tell_what_is_kept};
