@@ -24,4 +24,5 @@ pub mod Taking
 pub mod Telling
 pub mod Uncommitted
 pub mod UncommittedCalls
+mod Whole
 pub mod Working

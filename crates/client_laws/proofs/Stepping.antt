@@ -44,7 +44,7 @@ module _ (old new : View) (acts : Acts old new) (committed : Ts → Bool) (befor
     (there : (r : ℕ) → called_at old new acts ≡ Some r → LinkAt old r committed (slice_get before r) copies → LinkAt new r committed (slice_get after r) left) (fit : LinksFit old committed before copies) where
   elsewhere : (n : ℕ) → n < new.opened.repos → called_at old new acts ≢ Some n → (link : Option Link) → LinkAt old n committed link copies → LinkAt new n committed link left
   elsewhere n within other None h = h
-  elsewhere n within other (Some link) h = same_there new n committed link copies left (stay.copies_stay n other) (elsewhere_fit old new acts n committed link copies other (seen.each n within) h)
+  elsewhere n within other (Some link) h = same_there new n committed link copies left (stay.copies_stay n within other) (elsewhere_fit old new acts n committed link copies other (seen.each n within) h)
 
   abbrev within_old : (n : ℕ) → n < new.opened.repos → n < old.opened.repos
   within_old n within = subst (λ (o : Opened). n < o.repos) (opened_stays old new acts) within

@@ -16,10 +16,10 @@ pub record AllSeenRight (port : View) (committed : Ts → Bool) : Type 0 where
 pub record LinksFit (port : View) (committed : Ts → Bool) (links : List Link) (copies : Copies) : Type 0 where
   pub each : (r : ℕ) → r < port.opened.repos → LinkAt port r committed (slice_get links r) copies
 
--- The links and the copies of the repositories that weren't called stay.
+-- The links stay of the repositories that weren't called, and so do the copies of those that are there.
 pub record OthersStay (port : View) (called : Option ℕ) (before after : List Link) (copies left : Copies) : Type 0 where
   pub links : (n : ℕ) → called ≢ Some n → slice_get after n ≡ slice_get before n
-  pub copies_stay : (n : ℕ) → called ≢ Some n → SameCopies (port.opened.base n) left copies
+  pub copies_stay : (n : ℕ) → n < port.opened.repos → called ≢ Some n → SameCopies (port.opened.base n) left copies
 
 -- each copy of the second is one of the first
 abbrev pub AreAmong : Copies → Copies → Type 0

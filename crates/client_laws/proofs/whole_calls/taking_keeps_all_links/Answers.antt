@@ -1,0 +1,9 @@
+use Rattle.client_laws.proofs.Whole.{message_all, none_all, refused_all}
+use Rattle.client_laws.proofs.whole_calls.taking_keeps_all_links.Goals as goal
+
+pub returns : goal.returns
+returns c = record {
+  message = λ old new at upto waits committed links copies left m objects within d seen small brings becomes away there fit. message_all old new at upto waits links copies committed within seen there fit left away m objects d small brings becomes;
+  none = λ old new at upto waits committed links copies within d seen there fit. none_all old new at upto waits links copies committed within seen there fit d;
+  refused = λ old new at upto waits committed links copies k within d seen there fit. refused_all old new at upto waits links copies committed within seen there fit k d;
+}
