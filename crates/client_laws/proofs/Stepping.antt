@@ -1,6 +1,7 @@
 -- What a call leaves of a client's links.
 use Rattle.client_laws.proofs.Elsewhere.{elsewhere_fit}
-use Rattle.client_laws.proofs.Lending.{same_copies}
+use Rattle.client_laws.proofs.Lending.{agrees_now, exact_now, fits_now, same_copies, sound_now}
+use Rattle.client_laws.proofs.Linked.{outlives}
 use Rattle.client_laws.specs.Fitting.{Copies, SameCopies}
 use Rattle.client_laws.specs.Seen.{LinkAt, LinkIn, called_at}
 use Rattle.client_laws.specs.Steps.{AllSeenRight, LinksFit, OthersStay}
@@ -8,12 +9,14 @@ use Rattle.client_state.specs.declared.link.Link.TheVariants.{Apart, Joined, Uns
 use Rattle.client_state.specs.declared.link.Link.{Link}
 use Rattle.client_state.specs.Links.{is_reply}
 use Rattle.port.specs.Acting.{Acts, Asked, Committed, Connected, Decided, Drew, Fetched, Finished, Forgot, Granted, Prepared, Received, Rests}
+use Rattle.port.specs.Growing.{Grew}
 use Rattle.port.specs.Views.{Opened, View}
 use Rattle.std.proofs.Common.{Bool, List, ap, inl, inr, refl, subst, sym, ℕ, ◌∙◌, ◌≡◌, ◌≢◌}
 use Rattle.std.proofs.lemmas.Bool.{cases_eq}
 use Rattle.std.proofs.lemmas.Option.{same_Some}
 use Rattle.std.specs.List.{slice_get}
 use Rattle.std.specs.Prelude.{None, Option, Some, ◌<◌}
+use Rattle.thor_value.specs.declared.names.Oref.{Oref}
 use Rattle.thor_value.specs.declared.names.Ts.{Ts}
 
 -- no call changes what was opened
@@ -61,3 +64,26 @@ module _ (old new : View) (acts : Acts old new) (committed : Ts → Bool) (befor
 
   pub all_fit : LinksFit new committed after left
   all_fit = record { each = λ n within. by_called n within (called_at old new acts) refl }
+
+-- ---- a client that has called nothing yet, and one that waits
+
+pub new_fits : (port : View) (committed : Ts → Bool) (links : List Link) (copies : Copies) → ((n : ℕ) (link : Link) → slice_get links n ≡ Some link → link ≡ Apart) → ((x : Oref) → copies x ≡ None) → LinksFit port committed links copies
+new_fits port committed links copies apart none = record { each = λ r within. by r (slice_get links r) refl }
+  where
+    by : (r : ℕ) (o : Option Link) → slice_get links r ≡ o → LinkAt port r committed o copies
+    by r None e = tt
+    by r (Some link) e = subst (λ (l : Link). LinkIn port r committed l copies) (sym (apart r link e)) (λ x here. none x)
+
+pub waiting_fits : (old new : View) (committed : Ts → Bool) (links : List Link) (copies : Copies) → new.opened ≡ old.opened
+    → ((r : ℕ) → r < old.opened.repos → Grew (old.opened.base r) old.opened.client (old.unsettled r) (old.seen r) (new.unsettled r) (new.seen r)) → AllSeenRight new committed → LinksFit old committed links copies → LinksFit new committed links copies
+waiting_fits old new committed links copies same grew seen fit = record { each = λ r within. by r within (slice_get links r) (fit.each r (within_old r within)) }
+  where
+    within_old : (r : ℕ) → r < new.opened.repos → r < old.opened.repos
+    within_old r within = subst (λ (o : Opened). r < o.repos) same within
+
+    by : (r : ℕ) → r < new.opened.repos → (o : Option Link) → LinkAt old r committed o copies → LinkAt new r committed o copies
+    by r within None h = h
+    by r within (Some link) h =
+        let right = seen.each r within in
+        fits_now old new r committed same right (Some link) copies
+        (outlives old.opened.client (old.opened.base r) committed link copies (old.unsettled r) (new.unsettled r) (old.seen r) (new.seen r) (grew r (within_old r within)) (exact_now old new r committed same right) (sound_now old new r committed same right) (agrees_now old new r committed same right) h)

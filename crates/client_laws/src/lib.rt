@@ -18,7 +18,7 @@ mod outcomes;
 mod refusals;
 mod whole_calls;
 
-pub use acting::acting_links_fit;
+pub use acting::{acting_links_fit, new_clients_fit, waiting_clients_fit};
 pub use calls::{
     asked_clients_fit, commits_rest, deciding_clients_fit, joined_clients_fit,
     receiving_clients_fit, sending_clients_fit, telling_clients_fit,
