@@ -155,6 +155,21 @@ pub(crate) fn are_serial(
     Ok(done == commits.len())
 }
 
+/// Whether each client's commits have the order of its items.
+pub(crate) fn are_in_order(commits: &[Commit]) -> bool {
+    for one in commits {
+        for other in commits {
+            if one.who.client == other.who.client
+                && one.who.index < other.who.index
+                && other.ts < one.ts
+            {
+                return false;
+            }
+        }
+    }
+    true
+}
+
 /// How many commits are of an item.
 fn count_of(commits: &[Commit], who: Who) -> usize {
     let mut count = 0usize;

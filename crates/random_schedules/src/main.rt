@@ -1,8 +1,8 @@
 //! 10,000 random schedules of two clients over two plain repositories, with stops and restarts. Behind each, the commits of
 //! the histories, in the order of their timestamps, print what the transactions print one after the other; each item has
-//! one commit at most, and its outcome tells whether it has; no participant was told another verdict than the
-//! coordinator's; a last client reads what the commits made; and each copy that a client holds is right, or about to be
-//! called invalid.
+//! one commit at most, and its outcome tells whether it has; a client's commits have the order of its items; no participant
+//! was told another verdict than the coordinator's; a last client reads what the commits made; and each copy that a client
+//! holds is right, or about to be called invalid.
 #![tactic(auto)]
 
 mod copies;
@@ -15,7 +15,7 @@ mod world;
 use crate::copies::all_fit;
 use crate::deeds::{Deed, ROOTS, Values, draw_deed};
 use crate::draws::Draws;
-use crate::judging::{Commit, are_atomic, are_serial, commits_of, is_told};
+use crate::judging::{Commit, are_atomic, are_in_order, are_serial, commits_of, is_told};
 use crate::playing::Counts;
 use crate::world::{World, begin};
 use plain_repository::Site;
@@ -97,7 +97,7 @@ fn judge_commits(
     let atomic = are_all_atomic(world.port.sites.as_slice(), commits);
     let mut values: Values = [0; ROOTS];
     let serial = are_serial(alloc, &mut values, deeds, commits)?;
-    Ok(told && atomic && serial)
+    Ok(told && atomic && serial && are_in_order(commits))
 }
 
 /// Whether all is right behind a schedule.
