@@ -2,6 +2,8 @@
 use Rattle.client_laws.proofs.Naming.{all_named}
 use Rattle.client_laws.specs.Refusing.{IsReasonAt, IsReasonSeen, IsWriteSeen, Judged, Lost, OthersWrote}
 use Rattle.client_state.specs.Calling.{DrawsAbove}
+use Rattle.client_state.specs.declared.calls.Drew.{Drew}
+use Rattle.client_state.specs.declared.link.Link.{Link}
 use Rattle.commit_log.specs.declared.entry.Entry.{Entry}
 use Rattle.commit_log.specs.declared.request.Request.{Request}
 use Rattle.local_history.specs.History.{Base}
@@ -19,6 +21,7 @@ use Rattle.session_outbox.specs.Session.{Invalid, Session, session}
 use Rattle.session_outbox.specs.Trace.{Item}
 use Rattle.std.proofs.Common.{List, arith, refl, subst, true, ◌<◌, ◌≡◌, ◌≤◌, ℕ}
 use Rattle.std.specs.Prelude.{Err, None, Ok, Option, Result, Some}
+use Rattle.thor_value.specs.declared.memory.NoMemory.{NoMemory}
 use Rattle.std.specs.List.{list_any, slice_get}
 use Rattle.std.specs.Option.{IsSomeAnd}
 use Rattle.thor_value.specs.Names.{same_oref}
@@ -82,8 +85,8 @@ module _ (old new : View) (r s floor : ℕ) (t : Ts) where
   drawn : (result : Result Ts Refusal) → result ≡ Ok t → Draws result → floor < t.time
   drawn result is d = let y : Draws (Ok t) = subst Draws is d in drawn_by y.met y.at (new.seen r) (new.unsettled r) y.answer
 
-pub drawn_above : (old new : View) (at : At) (least : ℕ) (d : DrawsAbove true old new at least) (t : Ts) → d.result ≡ Ok t → least < t.time
-drawn_above old new at least d t is = let above : d.floor < t.time = drawn old new at.repo at.session d.floor t d.result is (d.call refl) in let low : least ≤ d.floor = d.above in omega (arith, above, low)
+pub drawn_above : (old new : View) (at : At) (least : ℕ) (links : List Link) (answer : Result Drew NoMemory) (d : DrawsAbove true old new at least links answer) (t : Ts) → d.result ≡ Ok t → least < t.time
+drawn_above old new at least links answer d t is = let above : d.floor < t.time = drawn old new at.repo at.session d.floor t d.result is (d.call refl) in let low : least ≤ d.floor = d.above in omega (arith, above, low)
 
 -- ---- what a message names
 

@@ -2,7 +2,7 @@
 
 ghost use Rattle.client_state.specs.Owing.{asking_in, calls_in, calls_of_abort};
 ghost use Rattle.client_state.specs.declared.phase.Phase.TheVariants as phase;
-ghost use Rattle.std.specs.Prelude.{IfSome, ℕ, ◌≡◌, ◌≤◌};
+ghost use Rattle.std.specs.Prelude.{Contains, IfSome, ℕ, ◌≡◌, ◌≤◌};
 
 use crate::duties::Abort;
 use crate::link::Link;
@@ -216,7 +216,9 @@ impl Phase {
     }
 
     /// The first of some objects that the running try has read.
-    pub fn first_read(&self, orefs: &Orefs) -> Option<Oref> {
+    pub fn first_read(&self, orefs: &Orefs) -> Option<Oref>
+        ensures { IfSome result (λ oref. Contains orefs.now oref) }
+    {
         for oref in orefs.as_slice() {
             if self.reads(*oref) {
                 return Some(*oref);

@@ -57,7 +57,9 @@ impl Share {
     }
 
     /// The session, as a call names it.
-    pub fn at(&self) -> At {
+    pub fn at(&self) -> At
+        ensures { result ≡ record { repo = self.now.repo; session = self.now.session } }
+    {
         At {
             repo: self.repo,
             session: self.session,

@@ -4,7 +4,7 @@ use Rattle.client_cache.specs.Pages.{on, page_of, same_page}
 use Rattle.client_cache.specs.Placing.{IsPageOf}
 use Rattle.client_state.specs.Taking.{BringsPage}
 use Rattle.front_end.specs.Moving.{course_of}
-use Rattle.front_end.specs.Showing.{ByAbort, ByPage, CauseShown, EndsSo, GoesShown, ItemsShown, LacksSlot, NewsShown, OutcomeShown, RefusedSo, SettlesSo, Stays, UsedUp}
+use Rattle.front_end.specs.Showing.{ByAbort, ByPage, CauseShown, EndsSo, GoesShown, IsToldBy, ItemsShown, LacksSlot, NewsShown, OutcomeShown, RefusedSo, SettlesSo, Stays, ToldByAnswer, ToldByDecision, UsedUp}
 use Rattle.front_end.specs.declared.front_end.FrontEnd.{FrontEnd}
 use Rattle.item_progress.specs.Courses.{Course, IsLateOutcome, is_committed}
 use Rattle.item_progress.specs.Ending.{GoesBy}
@@ -17,7 +17,7 @@ use Rattle.message_outbox.specs.declared.answers.Asked.TheVariants as answers
 use Rattle.message_outbox.specs.declared.answers.Verdict.{Verdict}
 use Rattle.message_outbox.specs.declared.message.Message.TheVariants.{Page}
 use Rattle.message_outbox.specs.declared.message.Message.{Message}
-use Rattle.port.specs.Acting.{ByAnswer, IsDecided, IsTaken, Takes}
+use Rattle.port.specs.Acting.{ByAnswer, ByDecision, IsDecided, IsTaken, Takes}
 use Rattle.port.specs.Views.{Calm, Came, Halted, MayCome, Unsettled, View}
 use Rattle.port.specs.Works.{Answered, AskWork, Does, ReceiveWork}
 use Rattle.serial_model.specs.declared.outcomes.Cause.TheVariants as cause
@@ -36,20 +36,22 @@ module _ (old new : View) where
   pub decided_so : (t u : Ts) (c d : Bool) → u ≡ t → d ≡ c → IsDecided old new t c → IsDecided old new u d
   decided_so t u c d e f h = subst (λ (x : Ts). IsDecided old new x d) (sym e) (subst (λ (x : Bool). IsDecided old new t x) (sym f) h)
 
-  -- a transaction that is decided so lets its item end so
-  pub outcome_shown : (repos : ℕ) (t : Ts) (commit : Bool) (o : ItemOutcome) → IsLateOutcome t o → is_committed o ≡ commit → IsDecided old new t commit → OutcomeShown old new repos o
-  outcome_shown repos t commit (Done ts values) late is h = decided_so t ts commit true (same_Some ts t late) is h
-  outcome_shown repos t commit (Upgraded ts number) late is h = decided_so t ts commit true (same_Some ts t late) is h
-  outcome_shown repos t commit (Faulted ts fault) late is h = decided_so t ts commit true (same_Some ts t late) is h
-  outcome_shown repos t commit (Refused (cause.Reason r)) late is h = cc
-  outcome_shown repos t commit (Refused (cause.Missing x)) late is h = cc
-  outcome_shown repos t commit (Refused (cause.Down r)) late is h = ByAbort t r (decided_so t t commit false refl is h) refl
-  outcome_shown repos t commit (Refused cause.Calls) late is h = cc
-  outcome_shown repos t commit (Unknown tx) late is h = tt
+  -- a transaction that has committed lets its item end so
+  pub outcome_shown : (t : Ts) (o : ItemOutcome) → IsLateOutcome t o → is_committed o ≡ true → IsDecided old new t true → OutcomeShown old new o
+  outcome_shown t (Done ts values) late is h = decided_so t ts true true (same_Some ts t late) refl h
+  outcome_shown t (Upgraded ts number) late is h = decided_so t ts true true (same_Some ts t late) refl h
+  outcome_shown t (Faulted ts fault) late is h = decided_so t ts true true (same_Some ts t late) refl h
+  outcome_shown t (Refused c) late is h = cc
+  outcome_shown t (Unknown tx) late is h = tt
+
+  -- what a repository has told is decided
+  pub told_decided : (r : ℕ) (t : Ts) (c : Bool) → IsToldBy old new r t c → IsDecided old new t c
+  told_decided r t c (ToldByDecision s asked v is d) = ByDecision r s asked v is d
+  told_decided r t c (ToldByAnswer v is d) = ByAnswer r v is d
 
   -- a try whose transaction was aborted ends so
-  pub abort_shown : (repos : ℕ) (t : Ts) (commit : Bool) (r : ℕ) → commit ≡ false → IsDecided old new t commit → CauseShown old new repos (cause.Down r)
-  abort_shown repos t commit r is h = ByAbort t r (decided_so t t commit false refl (sym is) h) refl
+  pub abort_shown : (repos : ℕ) (t : Ts) (commit : Bool) (r : ℕ) → commit ≡ false → IsToldBy old new r t commit → CauseShown old new repos (cause.Down r)
+  abort_shown repos t commit r is h = ByAbort t r (subst (IsToldBy old new r t) is h) refl
 
   -- what is answered of a transaction is of that one
   module _ (r : ℕ) (t : Ts) (v : Verdict) (d : Does {X = answer.Asked} old new r (Ok (answers.Settled v)) (AskWork t (Ok (answers.Settled v)))) where
@@ -72,6 +74,10 @@ module _ (shows : Bool) (old new : View) (r : ℕ) where
   module _ (t : Ts) (a : answer.Asked) (v : Verdict) (is : a ≡ answers.Settled v) (call : shows ≡ true → Does {X = answer.Asked} old new r (Ok a) (AskWork t (Ok a))) where
     settled_so : shows ≡ true → Does {X = answer.Asked} old new r (Ok (answers.Settled v)) (AskWork t (Ok (answers.Settled v)))
     settled_so w = subst (λ (x : answer.Asked). Does {X = answer.Asked} old new r (Ok x) (AskWork t (Ok x))) is (call w)
+
+    -- the repository has told it
+    pub asked_of : shows ≡ true → IsToldBy old new r t v.commit
+    asked_of w = ToldByAnswer v refl (settled_so w)
 
     -- the verdict was asked for
     pub asked_so : (u : Ts) (c : Bool) → u ≡ t → c ≡ v.commit → shows ≡ true → IsDecided old new u c
@@ -115,7 +121,7 @@ module _ (shows : Bool) (old new : View) (repos each calls : ℕ) where
   goes_shown (news.Ended outcome) before after h (inl same) = Stays same
   goes_shown (news.Ended outcome) before after h (inr g) = EndsSo outcome g h
   goes_shown (news.Settled settled) before after h (inl same) = Stays same
-  goes_shown (news.Settled settled) before after h (inr g) = SettlesSo settled.outcome g (λ s. outcome_shown old new repos settled.ts (is_committed settled.outcome) settled.outcome settled.late refl (h s))
+  goes_shown (news.Settled settled) before after h (inr g) = SettlesSo settled g h
 
   -- the calls of the try were used up
   pub used_up : (n : News) (before after : Course) → n ≡ news.TryEnded cause.Calls → most_calls ≤ calls → GoesBy each n before after → GoesShown shows old new repos each calls before after

@@ -8,15 +8,20 @@ use Rattle.item_progress.specs.Ending.{EndsAs, IsRefused, SettlesAs}
 use Rattle.item_progress.specs.Falling.{most_calls}
 use Rattle.item_progress.specs.declared.news.News.TheVariants as news
 use Rattle.item_progress.specs.declared.news.News.{News}
+use Rattle.item_progress.specs.declared.news.Settled.{Settled}
+use Rattle.message_outbox.specs.declared.answers.Asked as answer
+use Rattle.message_outbox.specs.declared.answers.Asked.TheVariants as answers
+use Rattle.message_outbox.specs.declared.answers.Verdict.{Verdict}
 use Rattle.message_outbox.specs.declared.message.Message.TheVariants.{Invalid, Page, Upgrade}
 use Rattle.port.specs.Acting.{IsDecided, IsTaken}
 use Rattle.port.specs.Views.{View}
+use Rattle.port.specs.Works.{AskWork, DecideWork, Does}
 use Rattle.refusal_reasons.specs.declared.reason.Reason.TheVariants as reasons
 use Rattle.serial_model.specs.declared.outcomes.Cause.TheVariants as cause
 use Rattle.serial_model.specs.declared.outcomes.Cause.{Cause}
 use Rattle.serial_model.specs.declared.outcomes.ItemOutcome.TheVariants.{Done, Faulted, Refused, Unknown, Upgraded}
 use Rattle.serial_model.specs.declared.outcomes.ItemOutcome.{ItemOutcome}
-use Rattle.std.specs.Prelude.{Bool, IfOk, IfSome, List, None, Option, Result, false, true, ℕ, ◌≡◌, ◌≤◌}
+use Rattle.std.specs.Prelude.{Bool, Contains, IfOk, IfSome, List, None, Ok, Option, Result, false, true, ℕ, ◌≡◌, ◌≤◌}
 use Rattle.thor_value.specs.declared.memory.NoMemory.{NoMemory}
 use Rattle.thor_value.specs.declared.names.Oref.{Oref}
 use Rattle.thor_value.specs.declared.names.Ts.{Ts}
@@ -26,34 +31,40 @@ use Rattle.thor_value.specs.declared.values.Obj.{Obj}
 abbrev pub LacksSlot : List ℕ → Oref → Type 0
 LacksSlot bytes oref = (objects : ℕ → Option Obj) → IsPageOf bytes oref.page objects → objects oref.slot ≡ None
 
+-- The client has called the repository r, which has decided so about t, or has told that it is decided so.
+pub data IsToldBy (old new : View) (r : ℕ) (t : Ts) (commit : Bool) : Type 0 where
+  ToldByDecision : (s : ℕ) (asked : Bool) (v : Verdict) → v.commit ≡ commit → Does {X = Verdict} old new r (Ok v) (DecideWork s t asked (Ok v)) → IsToldBy old new r t commit
+  ToldByAnswer : (v : Verdict) → v.commit ≡ commit → Does {X = answer.Asked} old new r (Ok (answers.Settled v)) (AskWork t (Ok (answers.Settled v))) → IsToldBy old new r t commit
+
 -- Why a try ends: by the answer of the call that was made, by a message that it took, or since there is no such repository.
 pub data CauseShown (old new : View) (repos : ℕ) (c : Cause) : Type 0 where
   -- a repository refused the call for it
   ByRefusal : RefusedFor old new c → CauseShown old new repos c
-  -- a message names what others wrote at its place
-  ByInvalid : (r place : ℕ) (names : List Oref) (oref : Oref) → IsTaken old new r (Invalid names place) → c ≡ cause.Reason (reasons.Stale oref place) → CauseShown old new repos c
+  -- a message names the object among those that others wrote at its place
+  ByInvalid : (r place : ℕ) (names : List Oref) (oref : Oref) → IsTaken old new r (Invalid names place) → Contains names oref → c ≡ cause.Reason (reasons.Stale oref place) → CauseShown old new repos c
   -- a message tells that an upgrade was installed
   ByUpgrade : (r number place : ℕ) (text : List ℕ) → IsTaken old new r (Upgrade number text place) → c ≡ cause.Reason (reasons.Epoch number) → CauseShown old new repos c
   -- the page that came lacks the object
   ByPage : (oref : Oref) (place : ℕ) (bytes : List ℕ) → IsTaken old new oref.repo (Page oref.page bytes place) → LacksSlot bytes oref → c ≡ cause.Missing oref → CauseShown old new repos c
   -- the object's repository isn't there
   ByNoRepository : (oref : Oref) → repos ≤ oref.repo → c ≡ cause.Missing oref → CauseShown old new repos c
-  -- the coordinator has told that the try's transaction was aborted
-  ByAbort : (t : Ts) (r : ℕ) → IsDecided old new t false → c ≡ cause.Down r → CauseShown old new repos c
+  -- the repository that was down has told that the try's transaction was aborted
+  ByAbort : (t : Ts) (r : ℕ) → IsToldBy old new r t false → c ≡ cause.Down r → CauseShown old new repos c
 
--- How an item has ended: where it has committed, the call that was made has committed it, or has told so.
-abbrev pub OutcomeShown : View → View → ℕ → ItemOutcome → Type 0
-OutcomeShown old new repos (Done ts answer) = IsDecided old new ts true
-OutcomeShown old new repos (Upgraded ts number) = IsDecided old new ts true
-OutcomeShown old new repos (Faulted ts fault) = IsDecided old new ts true
-OutcomeShown old new repos (Refused c) = CauseShown old new repos c
-OutcomeShown old new repos (Unknown tx) = Unit {0}
+-- How the present item has ended, which isn't the end of its last try: where it has committed, the call that was made has
+-- committed it, or has told so.
+abbrev pub OutcomeShown : View → View → ItemOutcome → Type 0
+OutcomeShown old new (Done ts values) = IsDecided old new ts true
+OutcomeShown old new (Upgraded ts number) = IsDecided old new ts true
+OutcomeShown old new (Faulted ts fault) = IsDecided old new ts true
+OutcomeShown old new (Refused c) = ⊥
+OutcomeShown old new (Unknown tx) = Unit {0}
 
 -- what a step has come to
 abbrev pub NewsShown : View → View → ℕ → News → Type 0
 NewsShown old new repos news.Nothing = Unit {0}
 NewsShown old new repos (news.TryEnded c) = CauseShown old new repos c
-NewsShown old new repos (news.Ended outcome) = OutcomeShown old new repos outcome
+NewsShown old new repos (news.Ended outcome) = OutcomeShown old new outcome
 NewsShown old new repos (news.Settled settled) = IsDecided old new settled.ts (is_committed settled.outcome)
 
 -- the same of a function over a port that may show nothing
@@ -64,13 +75,14 @@ abbrev pub SomeShownIf : Bool → View → View → ℕ → Result (Option News)
 SomeShownIf shows old new repos result = IfOk result (λ some. IfSome some (λ n. shows ≡ true → NewsShown old new repos n))
 
 -- What becomes of a client's items by a call, where there are so many repositories, an item has so many tries, and so many
--- calls of the try were counted before: nothing, or one ends as the call has shown, or the try's calls were used up.
+-- calls of the try were counted before: nothing, or one ends as the call has shown, or the try's calls were used up. One that is
+-- refused has had all its tries, or was Unknown and its transaction was aborted.
 pub data GoesShown (shows : Bool) (old new : View) (repos each calls : ℕ) (before after : Course) : Type 0 where
   Stays : after ≡ before → GoesShown shows old new repos each calls before after
-  EndsSo : (outcome : ItemOutcome) → EndsAs outcome before after → (shows ≡ true → OutcomeShown old new repos outcome) → GoesShown shows old new repos each calls before after
+  EndsSo : (outcome : ItemOutcome) → EndsAs outcome before after → (shows ≡ true → OutcomeShown old new outcome) → GoesShown shows old new repos each calls before after
   RefusedSo : (c : Cause) → IsRefused each c before after → (shows ≡ true → CauseShown old new repos c) → GoesShown shows old new repos each calls before after
   UsedUp : IsRefused each cause.Calls before after → most_calls ≤ calls → GoesShown shows old new repos each calls before after
-  SettlesSo : (outcome : ItemOutcome) → SettlesAs outcome before after → (shows ≡ true → OutcomeShown old new repos outcome) → GoesShown shows old new repos each calls before after
+  SettlesSo : (settled : Settled) → SettlesAs settled before after → (shows ≡ true → IsDecided old new settled.ts (is_committed settled.outcome)) → GoesShown shows old new repos each calls before after
 
 -- the same of a client
 abbrev pub ItemsShown : Bool → View → View → ℕ → FrontEnd → FrontEnd → Type 0
