@@ -1,6 +1,7 @@
 //! How far a try has come.
 
 ghost use Rattle.client_state.specs.Owing.{asking_in, calls_in, calls_of_abort};
+ghost use Rattle.client_state.specs.Sending.{DrawsPhase};
 ghost use Rattle.client_state.specs.declared.phase.Phase.TheVariants as phase;
 ghost use Rattle.std.specs.Prelude.{Contains, IfSome, ℕ, ◌≡◌, ◌≤◌};
 
@@ -115,7 +116,9 @@ impl Phase {
     }
 
     /// An evaluated transaction is drawn, with the sessions that there are. Any other phase stays.
-    pub fn drawn(self, ts: Ts, links: &[Link]) -> Phase {
+    pub fn drawn(self, ts: Ts, links: &[Link]) -> Phase
+        ensures { DrawsPhase ts links.now self result }
+    {
         match self {
             Phase::Evaluated { mut transaction } => {
                 transaction.carry_sessions(links);

@@ -1,7 +1,7 @@
 //! The requests by which a client has its transactions committed.
 
 ghost use Rattle.client_state.specs.Calling.{upto_in};
-ghost use Rattle.client_state.specs.Sending.{IsOfSession, upto_behind};
+ghost use Rattle.client_state.specs.Sending.{IsOfSession, IsOfShare, SendsFirst, upto_behind};
 ghost use Rattle.std.specs.Prelude.{IfOk, IfSome, slice_get, ◌≡◌};
 
 use crate::held::Held;
@@ -28,6 +28,7 @@ impl Held {
     ) -> Result<Option<Sending>, NoMemory>
         ensures tx { IfOk result (λ some. IfSome some (λ sending. sending.request.tx ≡ ts)) }
         ensures session { IfOk result (λ some. IfSome some (IsOfSession self.now.links.items)) }
+        ensures share { IfOk result (λ some. IfSome some (SendsFirst self.now.links.items transaction.old.shares.items)) }
     {
         match transaction.next_share() {
             Some(share) => Ok(Some(self.sending(who, ts, transaction, share)?)),
@@ -44,6 +45,7 @@ impl Held {
     ) -> Result<Sending, NoMemory>
         ensures tx { IfOk result (λ sending. sending.request.tx ≡ ts) }
         ensures session { IfOk result (IsOfSession self.now.links.items) }
+        ensures share { IfOk result (IsOfShare self.now.links.items share) }
     {
         let at = share.at();
         let request = self.request(who, ts, transaction, share)?;
