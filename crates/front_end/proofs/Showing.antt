@@ -2,11 +2,12 @@
 use Rattle.client_cache.specs.Copies.{Contents, kept}
 use Rattle.client_cache.specs.Pages.{on, page_of, same_page}
 use Rattle.client_cache.specs.Placing.{IsPageOf}
+use Rattle.client_state.specs.Showing.{IsLearnt, IsToldBy, ToldByAnswer, ToldByDecision}
 use Rattle.client_state.specs.Taking.{BringsPage}
 use Rattle.front_end.specs.Moving.{course_of}
-use Rattle.front_end.specs.Showing.{ByAbort, ByPage, CauseShown, EndsSo, GoesShown, IsToldBy, ItemsShown, LacksSlot, NewsShown, OutcomeShown, RefusedSo, SettlesSo, Stays, ToldByAnswer, ToldByDecision, UsedUp}
+use Rattle.front_end.specs.Showing.{ByAbort, ByPage, CauseShown, EndsSo, GoesShown, ItemsShown, LacksSlot, NewsShown, OutcomeShown, RefusedSo, SettlesSo, Stays, UsedUp}
 use Rattle.front_end.specs.declared.front_end.FrontEnd.{FrontEnd}
-use Rattle.item_progress.specs.Courses.{Course, IsLateOutcome, is_committed}
+use Rattle.item_progress.specs.Courses.{Course, IsDownAt, IsLateOutcome, is_committed}
 use Rattle.item_progress.specs.Ending.{GoesBy}
 use Rattle.item_progress.specs.Falling.{most_calls}
 use Rattle.item_progress.specs.declared.news.News.TheVariants as news
@@ -44,6 +45,9 @@ module _ (old new : View) where
   outcome_shown t (Refused c) late is h = cc
   outcome_shown t (Unknown tx) late is h = tt
 
+  told_as : (r : ℕ) (t u : Ts) (c d : Bool) → u ≡ t → d ≡ c → IsToldBy old new r t c → IsToldBy old new r u d
+  told_as r t u c d e f h = subst (λ (x : Ts). IsToldBy old new r x d) (sym e) (subst (λ (x : Bool). IsToldBy old new r t x) (sym f) h)
+
   -- what a repository has told is decided
   pub told_decided : (r : ℕ) (t : Ts) (c : Bool) → IsToldBy old new r t c → IsDecided old new t c
   told_decided r t c (ToldByDecision s asked v is d) = ByDecision r s asked v is d
@@ -79,13 +83,13 @@ module _ (shows : Bool) (old new : View) (r : ℕ) where
     pub asked_of : shows ≡ true → IsToldBy old new r t v.commit
     asked_of w = ToldByAnswer v refl (settled_so w)
 
-    -- the verdict was asked for
-    pub asked_so : (u : Ts) (c : Bool) → u ≡ t → c ≡ v.commit → shows ≡ true → IsDecided old new u c
-    asked_so u c e f w = decided_so old new t u v.commit c e f (ByAnswer r v refl (settled_so w))
+    -- an item that was Unknown has ended by the transaction that was asked for
+    pub settled_of : (s : Settled) → s.ts ≡ t → is_committed s.outcome ≡ v.commit → IsDownAt r s.outcome → shows ≡ true → IsLearnt old new s
+    settled_of s e f down w = record { repo = r; told = told_as old new r t s.ts v.commit (is_committed s.outcome) e f (asked_of w); down = down }
 
     -- the verdict that was told is of the transaction that was asked for
-    pub learnt_so : (u : Ts) (c : Bool) → u ≡ v.tx → c ≡ v.commit → shows ≡ true → IsDecided old new u c
-    learnt_so u c e f w = asked_so u c (e ∙ told_tx old new r t v (settled_so w)) f w
+    pub learnt_of : (s : Settled) → s.ts ≡ v.tx → is_committed s.outcome ≡ v.commit → IsDownAt r s.outcome → shows ≡ true → IsLearnt old new s
+    learnt_of s e f down w = settled_of s (e ∙ told_tx old new r t v (settled_so w)) f down w
 
 -- a try has ended
 pub try_shown : (old new : View) (repos : ℕ) (n : News) (c : Cause) → n ≡ news.TryEnded c → CauseShown old new repos c → NewsShown old new repos n

@@ -1,27 +1,23 @@
 -- That what a client's items come to is shown by the call that it has made (this project's).
 use Rattle.client_cache.specs.Placing.{IsPageOf}
-use Rattle.client_state.specs.Showing.{RefusedFor}
+use Rattle.client_state.specs.Showing.{IsLearnt, IsToldBy, RefusedFor}
 use Rattle.front_end.specs.Moving.{course_of}
 use Rattle.front_end.specs.declared.front_end.FrontEnd.{FrontEnd}
-use Rattle.item_progress.specs.Courses.{Course, is_committed}
+use Rattle.item_progress.specs.Courses.{Course}
 use Rattle.item_progress.specs.Ending.{EndsAs, IsRefused, SettlesAs}
 use Rattle.item_progress.specs.Falling.{most_calls}
 use Rattle.item_progress.specs.declared.news.News.TheVariants as news
 use Rattle.item_progress.specs.declared.news.News.{News}
 use Rattle.item_progress.specs.declared.news.Settled.{Settled}
-use Rattle.message_outbox.specs.declared.answers.Asked as answer
-use Rattle.message_outbox.specs.declared.answers.Asked.TheVariants as answers
-use Rattle.message_outbox.specs.declared.answers.Verdict.{Verdict}
 use Rattle.message_outbox.specs.declared.message.Message.TheVariants.{Invalid, Page, Upgrade}
 use Rattle.port.specs.Acting.{IsDecided, IsTaken}
 use Rattle.port.specs.Views.{View}
-use Rattle.port.specs.Works.{AskWork, DecideWork, Does}
 use Rattle.refusal_reasons.specs.declared.reason.Reason.TheVariants as reasons
 use Rattle.serial_model.specs.declared.outcomes.Cause.TheVariants as cause
 use Rattle.serial_model.specs.declared.outcomes.Cause.{Cause}
 use Rattle.serial_model.specs.declared.outcomes.ItemOutcome.TheVariants.{Done, Faulted, Refused, Unknown, Upgraded}
 use Rattle.serial_model.specs.declared.outcomes.ItemOutcome.{ItemOutcome}
-use Rattle.std.specs.Prelude.{Bool, Contains, IfOk, IfSome, List, None, Ok, Option, Result, false, true, ℕ, ◌≡◌, ◌≤◌}
+use Rattle.std.specs.Prelude.{Bool, Contains, IfOk, IfSome, List, None, Option, Result, false, true, ℕ, ◌≡◌, ◌≤◌}
 use Rattle.thor_value.specs.declared.memory.NoMemory.{NoMemory}
 use Rattle.thor_value.specs.declared.names.Oref.{Oref}
 use Rattle.thor_value.specs.declared.names.Ts.{Ts}
@@ -30,11 +26,6 @@ use Rattle.thor_value.specs.declared.values.Obj.{Obj}
 -- no object stands at the name's slot of the page that the bytes spell
 abbrev pub LacksSlot : List ℕ → Oref → Type 0
 LacksSlot bytes oref = (objects : ℕ → Option Obj) → IsPageOf bytes oref.page objects → objects oref.slot ≡ None
-
--- The client has called the repository r, which has decided so about t, or has told that it is decided so.
-pub data IsToldBy (old new : View) (r : ℕ) (t : Ts) (commit : Bool) : Type 0 where
-  ToldByDecision : (s : ℕ) (asked : Bool) (v : Verdict) → v.commit ≡ commit → Does {X = Verdict} old new r (Ok v) (DecideWork s t asked (Ok v)) → IsToldBy old new r t commit
-  ToldByAnswer : (v : Verdict) → v.commit ≡ commit → Does {X = answer.Asked} old new r (Ok (answers.Settled v)) (AskWork t (Ok (answers.Settled v))) → IsToldBy old new r t commit
 
 -- Why a try ends: by the answer of the call that was made, by a message that it took, or since there is no such repository.
 pub data CauseShown (old new : View) (repos : ℕ) (c : Cause) : Type 0 where
@@ -65,7 +56,7 @@ abbrev pub NewsShown : View → View → ℕ → News → Type 0
 NewsShown old new repos news.Nothing = Unit {0}
 NewsShown old new repos (news.TryEnded c) = CauseShown old new repos c
 NewsShown old new repos (news.Ended outcome) = OutcomeShown old new outcome
-NewsShown old new repos (news.Settled settled) = IsDecided old new settled.ts (is_committed settled.outcome)
+NewsShown old new repos (news.Settled settled) = IsLearnt old new settled
 
 -- the same of a function over a port that may show nothing
 abbrev pub ShownIf : Bool → View → View → ℕ → Result News NoMemory → Type 0
@@ -82,7 +73,7 @@ pub data GoesShown (shows : Bool) (old new : View) (repos each calls : ℕ) (bef
   EndsSo : (outcome : ItemOutcome) → EndsAs outcome before after → (shows ≡ true → OutcomeShown old new outcome) → GoesShown shows old new repos each calls before after
   RefusedSo : (c : Cause) → IsRefused each c before after → (shows ≡ true → CauseShown old new repos c) → GoesShown shows old new repos each calls before after
   UsedUp : IsRefused each cause.Calls before after → most_calls ≤ calls → GoesShown shows old new repos each calls before after
-  SettlesSo : (settled : Settled) → SettlesAs settled before after → (shows ≡ true → IsDecided old new settled.ts (is_committed settled.outcome)) → GoesShown shows old new repos each calls before after
+  SettlesSo : (settled : Settled) → SettlesAs settled before after → (shows ≡ true → IsLearnt old new settled) → GoesShown shows old new repos each calls before after
 
 -- the same of a client
 abbrev pub ItemsShown : Bool → View → View → ℕ → FrontEnd → FrontEnd → Type 0

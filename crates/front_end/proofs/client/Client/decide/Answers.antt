@@ -1,6 +1,6 @@
 use Rattle.front_end.proofs.Acting.{by_decide}
 use Rattle.front_end.proofs.client.Client.decide.Goals as goal
-use Rattle.front_end.specs.Showing.{ToldByDecision}
+use Rattle.client_state.specs.Showing.{ToldByDecision}
 use Rattle.std.proofs.Common.{refl, true}
 use Rattle.std.proofs.lemmas.Result.{IfOk-weaker}
 
