@@ -1,7 +1,6 @@
 -- That what a client's items come to is shown.
 use Rattle.client_cache.specs.Copies.{Contents, kept}
-use Rattle.client_cache.specs.Pages.{on, page_of, same_page}
-use Rattle.client_cache.specs.Placing.{IsPageOf}
+use Rattle.client_cache.specs.Pages.{on, same_page}
 use Rattle.client_state.specs.Showing.{IsLearnt, IsToldBy, ToldByAnswer, ToldByDecision}
 use Rattle.client_state.specs.Taking.{BringsPage}
 use Rattle.front_end.specs.Moving.{course_of}
@@ -31,7 +30,6 @@ use Rattle.std.proofs.lemmas.Option.{same_Some}
 use Rattle.std.specs.Prelude.{None, Ok, Option, Some, nat_eq, ◌&&◌}
 use Rattle.thor_value.specs.declared.names.Oref.{Oref}
 use Rattle.thor_value.specs.declared.names.Ts.{Ts}
-use Rattle.thor_value.specs.declared.values.Obj.{Obj}
 
 module _ (old new : View) where
   pub decided_so : (t u : Ts) (c d : Bool) → u ≡ t → d ≡ c → IsDecided old new t c → IsDecided old new u d
