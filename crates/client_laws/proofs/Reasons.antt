@@ -1,7 +1,11 @@
 -- A refusal's reason holds of the trace at the call.
 use Rattle.client_laws.proofs.Naming.{all_named}
 use Rattle.client_laws.specs.Refusing.{IsReasonAt, IsReasonSeen, IsWriteSeen, Judged, Lost, OthersWrote}
-use Rattle.client_state.specs.Calling.{DrawsAbove}
+use Rattle.client_state.specs.Calling.{DrawsAbove, IsDrawnSo}
+use Rattle.client_state.specs.Links.{unsettled_time}
+use Rattle.client_state.specs.declared.calls.Drew.TheVariants as drew
+use Rattle.client_state.specs.declared.calls.Drew.{Drew}
+use Rattle.client_state.specs.declared.link.Link.{Link}
 use Rattle.commit_log.specs.declared.entry.Entry.{Entry}
 use Rattle.commit_log.specs.declared.request.Request.{Request}
 use Rattle.local_history.specs.History.{Base}
@@ -17,8 +21,9 @@ use Rattle.commit_log.specs.declared.entry.Entry.TheVariants.{Prepared}
 use Rattle.refusal_reasons.specs.declared.reason.Reason.{Reason}
 use Rattle.session_outbox.specs.Session.{Invalid, Session, session}
 use Rattle.session_outbox.specs.Trace.{Item}
-use Rattle.std.proofs.Common.{List, arith, refl, subst, true, ◌<◌, ◌≡◌, ◌≤◌, ℕ}
-use Rattle.std.specs.Prelude.{Err, None, Ok, Option, Result, Some}
+use Rattle.std.proofs.Common.{List, ap, arith, refl, subst, true, ◌<◌, ◌≡◌, ◌≤◌, ℕ}
+use Rattle.std.specs.Prelude.{Err, IfOk, None, Ok, Option, Result, Some}
+use Rattle.thor_value.specs.declared.memory.NoMemory.{NoMemory}
 use Rattle.std.specs.List.{list_any, slice_get}
 use Rattle.std.specs.Option.{IsSomeAnd}
 use Rattle.thor_value.specs.Names.{same_oref}
@@ -82,8 +87,21 @@ module _ (old new : View) (r s floor : ℕ) (t : Ts) where
   drawn : (result : Result Ts Refusal) → result ≡ Ok t → Draws result → floor < t.time
   drawn result is d = let y : Draws (Ok t) = subst Draws is d in drawn_by y.met y.at (new.seen r) (new.unsettled r) y.answer
 
-pub drawn_above : (old new : View) (at : At) (least : ℕ) (d : DrawsAbove true old new at least) (t : Ts) → d.result ≡ Ok t → least < t.time
-drawn_above old new at least d t is = let above : d.floor < t.time = drawn old new at.repo at.session d.floor t d.result is (d.call refl) in let low : least ≤ d.floor = d.above in omega (arith, above, low)
+pub drawn_above : (old new : View) (at : At) (least : ℕ) (links : List Link) (answer : Result Drew NoMemory) (d : DrawsAbove true old new at least links answer) (t : Ts) → d.result ≡ Ok t → least < t.time
+drawn_above old new at least links answer d t is = let above : d.floor < t.time = drawn old new at.repo at.session d.floor t d.result is (d.call refl) in let low : least ≤ d.floor = d.above in omega (arith, above, low)
+
+told_result : (t : Ts) (result : Result Ts Refusal) → IsDrawnSo (drew.Ts t) result → result ≡ Ok t
+told_result t (Ok u) h = ap Ok h
+told_result t (Err r) h = absurd h
+
+drawn_told : (t : Ts) (answer : Result Drew NoMemory) (result : Result Ts Refusal) → answer ≡ Ok (drew.Ts t) → IfOk answer (λ d. IsDrawnSo d result) → result ≡ Ok t
+drawn_told t answer result is told = told_result t result (subst (λ (a : Result Drew NoMemory). IfOk a (λ d. IsDrawnSo d result)) is told)
+
+pub told_above : (old new : View) (at : At) (least : ℕ) (links : List Link) (answer : Result Drew NoMemory) (d : DrawsAbove true old new at least links answer) (t : Ts) → answer ≡ Ok (drew.Ts t) → least < t.time
+told_above old new at least links answer d t is = drawn_above old new at least links answer d t (drawn_told t answer d.result is d.told)
+
+pub unsettled_above : (old new : View) (at : At) (least : ℕ) (links : List Link) (answer : Result Drew NoMemory) (d : DrawsAbove true old new at least links answer) (t : Ts) → answer ≡ Ok (drew.Ts t) → (r : ℕ) (l : Link) → slice_get links r ≡ Some l → unsettled_time l < t.time
+unsettled_above old new at least links answer d t is r l there = let above : d.floor < t.time = drawn old new at.repo at.session d.floor t d.result (drawn_told t answer d.result is d.told) (d.call refl) in let low : unsettled_time l ≤ d.floor = d.counts r l there in omega (arith, above, low)
 
 -- ---- what a message names
 

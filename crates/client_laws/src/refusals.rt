@@ -2,13 +2,18 @@
 
 ghost use Rattle.client_laws.specs.Refusing.{IsReasonSeen, IsWriteSeen};
 ghost use Rattle.client_state.specs.Calling.{DrawsAbove};
+ghost use Rattle.client_state.specs.Links.{unsettled_time};
+ghost use Rattle.client_state.specs.declared.calls.Drew.TheVariants as drew;
+ghost use Rattle.client_state.specs.declared.calls.Drew.{Drew};
+ghost use Rattle.client_state.specs.declared.link.Link.{Link};
 ghost use Rattle.message_outbox.specs.declared.answers.At.{At};
 ghost use Rattle.message_outbox.specs.declared.message.Message.TheVariants as message;
 ghost use Rattle.port.specs.Acting.{IsTaken, Refuses};
 ghost use Rattle.port.specs.Views.{View};
 ghost use Rattle.refusal_reasons.specs.declared.reason.Reason.{Reason};
 ghost use Rattle.std.specs.List.{list_any};
-ghost use Rattle.std.specs.Prelude.{List, Ok, true, ℕ, ◌<◌, ◌≡◌};
+ghost use Rattle.std.specs.Prelude.{List, Ok, Result, Some, slice_get, true, ℕ, ◌<◌, ◌≡◌};
+ghost use Rattle.thor_value.specs.declared.memory.NoMemory.{NoMemory};
 ghost use Rattle.thor_value.specs.Names.{same_oref};
 ghost use Rattle.thor_value.specs.declared.names.Oref.{Oref};
 ghost use Rattle.thor_value.specs.declared.names.Ts.{Ts};
@@ -20,9 +25,12 @@ pub fn refusals_are_exact()
 {}
 
 /// A timestamp that a client draws is above the floor that it had, so above each threshold and each timestamp that it was
-/// told by a refusal (`learn` of `client_state` raises the floor, and nothing lets it fall).
+/// told by a refusal (`learn` of `client_state` raises the floor, and nothing lets it fall), and above each of its transactions
+/// whose verdict it has still to learn.
 pub fn drawn_timestamps_are_above()
-    ensures { (old new : View) (at : At) (least : ℕ) (d : DrawsAbove true old new at least) (t : Ts) → d.result ≡ Ok t → least < t.time }
+    ensures drawn { (old new : View) (at : At) (least : ℕ) (links : List Link) (answer : Result Drew NoMemory) (d : DrawsAbove true old new at least links answer) (t : Ts) → d.result ≡ Ok t → least < t.time }
+    ensures told { (old new : View) (at : At) (least : ℕ) (links : List Link) (answer : Result Drew NoMemory) (d : DrawsAbove true old new at least links answer) (t : Ts) → answer ≡ Ok (drew.Ts t) → least < t.time }
+    ensures unsettled { (old new : View) (at : At) (least : ℕ) (links : List Link) (answer : Result Drew NoMemory) (d : DrawsAbove true old new at least links answer) (t : Ts) → answer ≡ Ok (drew.Ts t) → (r : ℕ) (l : Link) → slice_get links r ≡ Some l → unsettled_time l < t.time }
 {}
 
 /// A message that names an object as invalid tells that a commit of another session wrote it at the message's place.

@@ -1,7 +1,7 @@
 -- What a client's call on a port makes of its links and its copies, by what the port answered (this project's).
 use Rattle.client_cache.specs.Copies.{Contents, kept}
 use Rattle.client_state.specs.Learning.{is_session, without_session}
-use Rattle.client_state.specs.Links.{at_repo, upto_of, waiting}
+use Rattle.client_state.specs.Links.{CountsUnsettled, at_repo, upto_of, waiting}
 use Rattle.client_state.specs.declared.calls.Drew.TheVariants as drew
 use Rattle.client_state.specs.declared.calls.Drew.{Drew}
 use Rattle.client_state.specs.declared.link.Link.{Link}
@@ -107,9 +107,12 @@ pub record Draws (shows : Bool) (old new : View) (at : At) (answer : Result Drew
   pub links : after ≡ links_drawn result at.repo before
   pub kept_so : CopiesBehind result at.repo before copies left
 
--- what is drawn is above the least that the client has to draw above
-pub record DrawsAbove (shows : Bool) (old new : View) (at : At) (least : ℕ) : Type 0 where
+-- What is drawn is above the least that a client with these links has to draw above, and above each transaction whose verdict
+-- it has still to learn. The client was told what the port answered to that.
+pub record DrawsAbove (shows : Bool) (old new : View) (at : At) (least : ℕ) (links : List Link) (answer : Result Drew NoMemory) : Type 0 where
   pub floor : ℕ
   pub above : least ≤ floor
+  pub counts : CountsUnsettled links floor
   pub result : Result Ts Refusal
   pub call : shows ≡ true → Does old new at.repo result (DrawWork at.session floor result)
+  pub told : IfOk answer (λ d. IsDrawnSo d result)

@@ -4,13 +4,23 @@ use Rattle.client_state.specs.declared.link.Link.TheVariants.{Apart, Joined, Uns
 use Rattle.client_state.specs.declared.link.Waits.{Waits}
 use Rattle.client_state.specs.declared.link.Waits.TheVariants.{Epoch, Idle, Past, Reply}
 use Rattle.message_outbox.specs.declared.answers.At.{At}
-use Rattle.std.specs.Prelude.{Bool, List, None, Option, Some, cond, false, nat_eq, nat_le, nat_lt, slice_get, slice_set, true, ℕ, ◌<◌, ◌≡◌}
+use Rattle.std.specs.Prelude.{Bool, List, None, Option, Some, false, nat_le, nat_lt, slice_get, slice_set, true, ℕ, ◌<◌, ◌≡◌, ◌≤◌}
 
 -- how far the messages of a repository were taken; 0 without a session
 abbrev pub upto_of : Link → ℕ
 upto_of Apart = 0
 upto_of (Joined s upto waits) = upto
 upto_of (Unsettled sent index) = 0
+
+-- the time of a transaction whose verdict is to be learnt there; 0 where there is none
+abbrev pub unsettled_time : Link → ℕ
+unsettled_time Apart = 0
+unsettled_time (Joined s upto waits) = 0
+unsettled_time (Unsettled sent index) = sent.ts.time
+
+-- The time of each transaction whose verdict is to be learnt is at most this.
+abbrev pub CountsUnsettled : List Link → ℕ → Type 0
+CountsUnsettled links time = (r : ℕ) (l : Link) → slice_get links r ≡ Some l → unsettled_time l ≤ time
 
 -- the messages below a place were taken
 abbrev pub acknowledged : ℕ → Link → Link

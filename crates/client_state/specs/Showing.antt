@@ -4,12 +4,18 @@ use Rattle.client_state.specs.declared.calls.Came.TheVariants as came
 use Rattle.client_state.specs.declared.calls.Came.{Came}
 use Rattle.client_state.specs.declared.calls.Drew.TheVariants as drew
 use Rattle.client_state.specs.declared.calls.Drew.{Drew}
-use Rattle.item_progress.specs.Courses.{is_committed}
-use Rattle.port.specs.Acting.{IsDecided, Refuses}
+use Rattle.item_progress.specs.Courses.{IsDownAt, is_committed}
+use Rattle.item_progress.specs.declared.news.Settled.{Settled}
+use Rattle.message_outbox.specs.declared.answers.Asked as answer
+use Rattle.message_outbox.specs.declared.answers.Asked.TheVariants as answers
+use Rattle.message_outbox.specs.declared.answers.Verdict.{Verdict}
+use Rattle.port.specs.Acting.{Refuses}
 use Rattle.port.specs.Views.{View}
+use Rattle.port.specs.Works.{AskWork, DecideWork, Does}
 use Rattle.serial_model.specs.declared.outcomes.Cause.{Cause}
-use Rattle.std.specs.Prelude.{Bool, IfOk, Option, Result, Some, true, ℕ, ◌≡◌}
+use Rattle.std.specs.Prelude.{Bool, IfOk, Ok, Option, Result, Some, true, ℕ, ◌≡◌}
 use Rattle.thor_value.specs.declared.memory.NoMemory.{NoMemory}
+use Rattle.thor_value.specs.declared.names.Ts.{Ts}
 use Rattle.validation_window.specs.declared.refusal.Refusal.{Refusal}
 
 -- a repository has refused the call for this
@@ -19,13 +25,24 @@ pub record RefusedFor (old new : View) (cause : Cause) : Type 0 where
   pub call : Refuses old new repo refusal
   pub cause_is : cause_behind refusal repo ≡ Some cause
 
+-- The client has called the repository r, which has decided so about t, or has told that it is decided so.
+pub data IsToldBy (old new : View) (r : ℕ) (t : Ts) (commit : Bool) : Type 0 where
+  ToldByDecision : (s : ℕ) (asked : Bool) (v : Verdict) → v.commit ≡ commit → Does {X = Verdict} old new r (Ok v) (DecideWork s t asked (Ok v)) → IsToldBy old new r t commit
+  ToldByAnswer : (v : Verdict) → v.commit ≡ commit → Does {X = answer.Asked} old new r (Ok (answers.Settled v)) (AskWork t (Ok (answers.Settled v))) → IsToldBy old new r t commit
+
+-- An item that was Unknown ends as a repository has told of its transaction, which was down where that was aborted.
+pub record IsLearnt (old new : View) (settled : Settled) : Type 0 where
+  pub repo : ℕ
+  pub told : IsToldBy old new repo settled.ts (is_committed settled.outcome)
+  pub down : IsDownAt repo settled.outcome
+
 -- A try ends by a call only where a repository has refused it for the cause. An Unknown item's verdict is learnt only
 -- where a repository has told it.
 abbrev pub CameShown : View → View → Came → Type 0
 CameShown old new came.Well = Unit {0}
 CameShown old new came.Anew = Unit {0}
 CameShown old new (came.Refused cause) = RefusedFor old new cause
-CameShown old new (came.Learnt learnt) = IsDecided old new learnt.settled.ts (is_committed learnt.settled.outcome)
+CameShown old new (came.Learnt learnt) = IsLearnt old new learnt.settled
 
 -- the same of a call, on a port that may show nothing
 abbrev pub CameIf : Bool → View → View → Result Came NoMemory → Type 0

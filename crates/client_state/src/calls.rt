@@ -124,7 +124,7 @@ impl Held {
     /// Draws a timestamp.
     pub fn draw<Q: Port>(&mut self, port: &mut Q, at: At) -> Result<Drew, NoMemory>
         ensures call { Draws Q.shows (Q.view port.old) (Q.view port.new) at result self.old.links.items self.new.links.items self.old.cache.cache self.new.cache.cache }
-        ensures above { DrawsAbove Q.shows (Q.view port.old) (Q.view port.new) at self.old.floor }
+        ensures above { DrawsAbove Q.shows (Q.view port.old) (Q.view port.new) at self.old.floor self.old.links.items result }
         ensures shown { DrewIf Q.shows (Q.view port.old) (Q.view port.new) result }
         ensures bounds { KeepsBounds self.old self.new }
     {

@@ -2,7 +2,7 @@
 
 ghost use Rattle.client_state.specs.Calling.{CopiesLost, CopiesStay, is_session_of, upto_in};
 ghost use Rattle.client_state.specs.Learning.{KeepsBounds, Rises, without_session};
-ghost use Rattle.client_state.specs.Links.{NoneAwaits, NoneIsBehind, at_repo, awaits_reply, is_behind, session_in, waiting};
+ghost use Rattle.client_state.specs.Links.{CountsUnsettled, NoneAwaits, NoneIsBehind, at_repo, awaits_reply, is_behind, session_in, waiting};
 ghost use Rattle.client_state.specs.Taking.{BringsPage};
 ghost use Rattle.client_state.specs.declared.link.Link.{Link};
 ghost use Rattle.client_cache.specs.Copies.{kept};
@@ -253,7 +253,8 @@ impl Held {
     /// The time above which the next transaction is drawn. A transaction whose verdict isn't learnt
     /// counts.
     pub fn floor(&self) -> u64
-        ensures { self.now.floor ≤ result }
+        ensures least { self.now.floor ≤ result }
+        ensures unsettled { CountsUnsettled self.now.links.items result }
     {
         let mut floor = self.floor;
         for link in &self.links {

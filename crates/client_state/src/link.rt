@@ -1,7 +1,7 @@
 //! What a client holds of one repository.
 
 ghost use Rattle.client_state.specs.Learning.{is_session, without_session};
-ghost use Rattle.client_state.specs.Links.{acknowledged, answered, is_behind, awaits_reply, is_behind_of, session_at, upto_of, waiting};
+ghost use Rattle.client_state.specs.Links.{acknowledged, answered, is_behind, awaits_reply, is_behind_of, session_at, unsettled_time, upto_of, waiting};
 ghost use Rattle.std.specs.Prelude.{◌≡◌};
 
 use crate::transaction::Sent;
@@ -106,7 +106,9 @@ impl Link {
     }
 
     /// The time of a transaction whose verdict is to be learnt here; else 0.
-    pub fn unsettled_time(&self) -> u64 {
+    pub fn unsettled_time(&self) -> u64
+        ensures { result ≡ unsettled_time self.now }
+    {
         match self {
             Link::Unsettled { sent, .. } => sent.ts.time,
             Link::Apart | Link::Joined { .. } => 0,
@@ -145,7 +147,8 @@ impl Link {
         true
     }
 
-    fn is_session(&self, number: u32) -> bool
+    /// Whether it is a session of this number.
+    pub fn is_session(&self, number: u32) -> bool
         ensures { result ≡ is_session number self.now }
     {
         match self {

@@ -1,8 +1,9 @@
 //! How far a try has come.
 
 ghost use Rattle.client_state.specs.Owing.{asking_in, calls_in, calls_of_abort};
+ghost use Rattle.client_state.specs.Sending.{DrawsPhase};
 ghost use Rattle.client_state.specs.declared.phase.Phase.TheVariants as phase;
-ghost use Rattle.std.specs.Prelude.{IfSome, ℕ, ◌≡◌, ◌≤◌};
+ghost use Rattle.std.specs.Prelude.{Contains, IfSome, ℕ, ◌≡◌, ◌≤◌};
 
 use crate::duties::Abort;
 use crate::link::Link;
@@ -115,7 +116,9 @@ impl Phase {
     }
 
     /// An evaluated transaction is drawn, with the sessions that there are. Any other phase stays.
-    pub fn drawn(self, ts: Ts, links: &[Link]) -> Phase {
+    pub fn drawn(self, ts: Ts, links: &[Link]) -> Phase
+        ensures { DrawsPhase ts links.now self result }
+    {
         match self {
             Phase::Evaluated { mut transaction } => {
                 transaction.carry_sessions(links);
@@ -216,7 +219,9 @@ impl Phase {
     }
 
     /// The first of some objects that the running try has read.
-    pub fn first_read(&self, orefs: &Orefs) -> Option<Oref> {
+    pub fn first_read(&self, orefs: &Orefs) -> Option<Oref>
+        ensures { IfSome result (λ oref. Contains orefs.now oref) }
+    {
         for oref in orefs.as_slice() {
             if self.reads(*oref) {
                 return Some(*oref);

@@ -1,6 +1,8 @@
 //! The requests by which a client has its transactions committed.
 
-ghost use Rattle.std.specs.Prelude.{IfOk, IfSome, ◌≡◌};
+ghost use Rattle.client_state.specs.Calling.{upto_in};
+ghost use Rattle.client_state.specs.Sending.{IsOfSession, IsOfShare, SendsFirst, upto_behind};
+ghost use Rattle.std.specs.Prelude.{IfOk, IfSome, slice_get, ◌≡◌};
 
 use crate::held::Held;
 use crate::transaction::{Share, Transaction};
@@ -24,7 +26,9 @@ impl Held {
         ts: Ts,
         transaction: &mut Transaction,
     ) -> Result<Option<Sending>, NoMemory>
-        ensures { IfOk result (λ some. IfSome some (λ sending. sending.request.tx ≡ ts)) }
+        ensures tx { IfOk result (λ some. IfSome some (λ sending. sending.request.tx ≡ ts)) }
+        ensures session { IfOk result (λ some. IfSome some (IsOfSession self.now.links.items)) }
+        ensures share { IfOk result (λ some. IfSome some (SendsFirst self.now.links.items transaction.old.shares.items)) }
     {
         match transaction.next_share() {
             Some(share) => Ok(Some(self.sending(who, ts, transaction, share)?)),
@@ -39,7 +43,9 @@ impl Held {
         transaction: &Transaction,
         share: Share,
     ) -> Result<Sending, NoMemory>
-        ensures { IfOk result (λ sending. sending.request.tx ≡ ts) }
+        ensures tx { IfOk result (λ sending. sending.request.tx ≡ ts) }
+        ensures session { IfOk result (IsOfSession self.now.links.items) }
+        ensures share { IfOk result (IsOfShare self.now.links.items share) }
     {
         let at = share.at();
         let request = self.request(who, ts, transaction, share)?;
@@ -52,7 +58,11 @@ impl Held {
         at: At,
         ts: Ts,
         becomes: Becomes,
-    ) -> Result<(Request, Obj), NoMemory> {
+    ) -> Result<(Request, Obj), NoMemory>
+        ensures tx { IfOk result (λ made. made.0.tx ≡ ts) }
+        ensures session { IfOk result (λ made. made.0.session ≡ at.session) }
+        ensures upto { IfOk result (λ made. made.0.upto ≡ upto_in (slice_get self.now.links.items at.repo)) }
+    {
         let upto = self.upto(at.repo);
         transform_request(self.alloc, self.client, at, upto, ts, becomes)
     }
@@ -66,7 +76,9 @@ impl Held {
         transaction: &Transaction,
         share: Share,
     ) -> Result<Request, NoMemory>
-        ensures { IfOk result (λ request. request.tx ≡ ts) }
+        ensures tx { IfOk result (λ request. request.tx ≡ ts) }
+        ensures session { IfOk result (λ request. request.session ≡ share.session) }
+        ensures upto { IfOk result (λ request. request.upto ≡ upto_behind (slice_get self.now.links.items share.repo) share.session share.upto) }
     {
         let Share {
             repo,
@@ -91,9 +103,11 @@ impl Held {
     }
 
     /// How far the messages of a session were taken: as it stands, or as it stood before it was lost.
-    fn upto_of(&self, repo: u8, session: u32, before: u64) -> u64 {
-        match self.at(repo) {
-            Some(at) if at.session == session => self.upto(repo),
+    fn upto_of(&self, repo: u8, session: u32, before: u64) -> u64
+        ensures { result ≡ upto_behind (slice_get self.now.links.items repo) session before }
+    {
+        match self.links.get(usize::from(repo)) {
+            Some(link) if link.is_session(session) => link.upto(),
             Some(_) | None => before,
         }
     }

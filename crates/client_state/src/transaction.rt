@@ -1,7 +1,8 @@
 //! A transaction that a try has made, and what is sent of it.
 
 ghost use Rattle.client_state.specs.Owing.{count_of};
-ghost use Rattle.std.specs.Prelude.{IfOk, length, ◌≡◌, ◌≤◌};
+ghost use Rattle.client_state.specs.Sending.{CarriesSessions, carried, carried_at};
+ghost use Rattle.std.specs.Prelude.{IfOk, MatchOption, [], length, ◌∷◌, ◌≡◌, ◌≤◌};
 
 use crate::link::Link;
 use item_progress::Meaning;
@@ -57,10 +58,25 @@ impl Share {
     }
 
     /// The session, as a call names it.
-    pub fn at(&self) -> At {
+    pub fn at(&self) -> At
+        ensures { result ≡ record { repo = self.now.repo; session = self.now.session } }
+    {
         At {
             repo: self.repo,
             session: self.session,
+        }
+    }
+
+    /// It carries the session that there is at its repository.
+    fn carry(&mut self, links: &[Link])
+        ensures { self.new ≡ carried links.now self.old }
+    {
+        match links.get(usize::from(self.repo)) {
+            Some(Link::Joined { session, upto, .. }) => {
+                self.session = *session;
+                self.upto = *upto;
+            }
+            Some(Link::Apart | Link::Unsettled { .. }) | None => {}
         }
     }
 
@@ -128,15 +144,22 @@ impl Transaction {
     }
 
     /// What is sent carries the sessions that there are at the participants.
-    pub fn carry_sessions(&mut self, links: &[Link]) {
+    pub fn carry_sessions(&mut self, links: &[Link])
+        ensures rest { self.new ≡ record self.old { shares = self.new.shares } }
+        ensures carries { CarriesSessions links.now self.old.shares.items self.new.shares.items }
+    {
         for place in 0..self.shares.len() {
             carry_session(&mut self.shares, place, links);
         }
     }
 
     /// Takes what is to be sent next.
-    pub fn next_share(&mut self) -> Option<Share> {
-        if self.shares.is_empty() {
+    #[tactic(auto, using(crate::proofs::Carrying::first_share))]
+    pub fn next_share(&mut self) -> Option<Share>
+        ensures first { MatchOption result (self.old.shares.items ≡ []) (λ share. self.old.shares.items ≡ share ∷ self.new.shares.items) }
+        ensures rest { self.new ≡ record self.old { shares = self.new.shares } }
+    {
+        if self.shares.len() == 0 {
             return None;
         }
         Some(self.shares.remove(0))
@@ -180,13 +203,11 @@ impl Sent {
 }
 
 /// The share at a place carries the session that there is at its repository.
-fn carry_session(shares: &mut Vec<Share>, place: usize, links: &[Link]) {
-    let Some(share) = shares.get_mut(place) else {
-        return;
-    };
-    if let Some(Link::Joined { session, upto, .. }) = links.get(usize::from(share.repo)) {
-        share.session = *session;
-        share.upto = *upto;
+fn carry_session(shares: &mut Vec<Share>, place: usize, links: &[Link])
+    ensures { shares.new.items ≡ carried_at links.now place shares.old.items }
+{
+    if let Some(share) = shares.get_mut(place) {
+        share.carry(links);
     }
 }
 

@@ -1,5 +1,7 @@
 //! A transform: a transaction of its own that brings one due object to the client's epoch.
 
+ghost use Rattle.std.specs.Prelude.{IfOk, ◌≡◌};
+
 use class_defs::Schemas;
 use commit_log::{Kind, Request};
 use lazy_transform::bring;
@@ -141,7 +143,11 @@ pub fn transform_request(
     upto: u64,
     ts: Ts,
     becomes: Becomes,
-) -> Result<(Request, Obj), NoMemory> {
+) -> Result<(Request, Obj), NoMemory>
+    ensures tx { IfOk result (λ made. made.0.tx ≡ ts) }
+    ensures session { IfOk result (λ made. made.0.session ≡ at.session) }
+    ensures upto { IfOk result (λ made. made.0.upto ≡ upto) }
+{
     let Becomes { oref, ros, made } = becomes;
     let mut writes = Sequence::new(alloc);
     writes.push((oref, made.copy()?))?;

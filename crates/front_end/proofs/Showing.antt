@@ -1,12 +1,12 @@
 -- That what a client's items come to is shown.
 use Rattle.client_cache.specs.Copies.{Contents, kept}
-use Rattle.client_cache.specs.Pages.{on, page_of, same_page}
-use Rattle.client_cache.specs.Placing.{IsPageOf}
+use Rattle.client_cache.specs.Pages.{on, same_page}
+use Rattle.client_state.specs.Showing.{IsLearnt, IsToldBy, ToldByAnswer, ToldByDecision}
 use Rattle.client_state.specs.Taking.{BringsPage}
 use Rattle.front_end.specs.Moving.{course_of}
 use Rattle.front_end.specs.Showing.{ByAbort, ByPage, CauseShown, EndsSo, GoesShown, ItemsShown, LacksSlot, NewsShown, OutcomeShown, RefusedSo, SettlesSo, Stays, UsedUp}
 use Rattle.front_end.specs.declared.front_end.FrontEnd.{FrontEnd}
-use Rattle.item_progress.specs.Courses.{Course, IsLateOutcome, is_committed}
+use Rattle.item_progress.specs.Courses.{Course, IsDownAt, IsLateOutcome, is_committed}
 use Rattle.item_progress.specs.Ending.{GoesBy}
 use Rattle.item_progress.specs.Falling.{most_calls}
 use Rattle.item_progress.specs.declared.news.News.TheVariants as news
@@ -17,7 +17,7 @@ use Rattle.message_outbox.specs.declared.answers.Asked.TheVariants as answers
 use Rattle.message_outbox.specs.declared.answers.Verdict.{Verdict}
 use Rattle.message_outbox.specs.declared.message.Message.TheVariants.{Page}
 use Rattle.message_outbox.specs.declared.message.Message.{Message}
-use Rattle.port.specs.Acting.{ByAnswer, IsDecided, IsTaken, Takes}
+use Rattle.port.specs.Acting.{ByAnswer, ByDecision, IsDecided, IsTaken, Takes}
 use Rattle.port.specs.Views.{Calm, Came, Halted, MayCome, Unsettled, View}
 use Rattle.port.specs.Works.{Answered, AskWork, Does, ReceiveWork}
 use Rattle.serial_model.specs.declared.outcomes.Cause.TheVariants as cause
@@ -30,26 +30,30 @@ use Rattle.std.proofs.lemmas.Option.{same_Some}
 use Rattle.std.specs.Prelude.{None, Ok, Option, Some, nat_eq, ◌&&◌}
 use Rattle.thor_value.specs.declared.names.Oref.{Oref}
 use Rattle.thor_value.specs.declared.names.Ts.{Ts}
-use Rattle.thor_value.specs.declared.values.Obj.{Obj}
 
 module _ (old new : View) where
   pub decided_so : (t u : Ts) (c d : Bool) → u ≡ t → d ≡ c → IsDecided old new t c → IsDecided old new u d
   decided_so t u c d e f h = subst (λ (x : Ts). IsDecided old new x d) (sym e) (subst (λ (x : Bool). IsDecided old new t x) (sym f) h)
 
-  -- a transaction that is decided so lets its item end so
-  pub outcome_shown : (repos : ℕ) (t : Ts) (commit : Bool) (o : ItemOutcome) → IsLateOutcome t o → is_committed o ≡ commit → IsDecided old new t commit → OutcomeShown old new repos o
-  outcome_shown repos t commit (Done ts values) late is h = decided_so t ts commit true (same_Some ts t late) is h
-  outcome_shown repos t commit (Upgraded ts number) late is h = decided_so t ts commit true (same_Some ts t late) is h
-  outcome_shown repos t commit (Faulted ts fault) late is h = decided_so t ts commit true (same_Some ts t late) is h
-  outcome_shown repos t commit (Refused (cause.Reason r)) late is h = cc
-  outcome_shown repos t commit (Refused (cause.Missing x)) late is h = cc
-  outcome_shown repos t commit (Refused (cause.Down r)) late is h = ByAbort t r (decided_so t t commit false refl is h) refl
-  outcome_shown repos t commit (Refused cause.Calls) late is h = cc
-  outcome_shown repos t commit (Unknown tx) late is h = tt
+  -- a transaction that has committed lets its item end so
+  pub outcome_shown : (t : Ts) (o : ItemOutcome) → IsLateOutcome t o → is_committed o ≡ true → IsDecided old new t true → OutcomeShown old new o
+  outcome_shown t (Done ts values) late is h = decided_so t ts true true (same_Some ts t late) refl h
+  outcome_shown t (Upgraded ts number) late is h = decided_so t ts true true (same_Some ts t late) refl h
+  outcome_shown t (Faulted ts fault) late is h = decided_so t ts true true (same_Some ts t late) refl h
+  outcome_shown t (Refused c) late is h = cc
+  outcome_shown t (Unknown tx) late is h = tt
+
+  told_as : (r : ℕ) (t u : Ts) (c d : Bool) → u ≡ t → d ≡ c → IsToldBy old new r t c → IsToldBy old new r u d
+  told_as r t u c d e f h = subst (λ (x : Ts). IsToldBy old new r x d) (sym e) (subst (λ (x : Bool). IsToldBy old new r t x) (sym f) h)
+
+  -- what a repository has told is decided
+  pub told_decided : (r : ℕ) (t : Ts) (c : Bool) → IsToldBy old new r t c → IsDecided old new t c
+  told_decided r t c (ToldByDecision s asked v is d) = ByDecision r s asked v is d
+  told_decided r t c (ToldByAnswer v is d) = ByAnswer r v is d
 
   -- a try whose transaction was aborted ends so
-  pub abort_shown : (repos : ℕ) (t : Ts) (commit : Bool) (r : ℕ) → commit ≡ false → IsDecided old new t commit → CauseShown old new repos (cause.Down r)
-  abort_shown repos t commit r is h = ByAbort t r (decided_so t t commit false refl (sym is) h) refl
+  pub abort_shown : (repos : ℕ) (t : Ts) (commit : Bool) (r : ℕ) → commit ≡ false → IsToldBy old new r t commit → CauseShown old new repos (cause.Down r)
+  abort_shown repos t commit r is h = ByAbort t r (subst (IsToldBy old new r t) is h) refl
 
   -- what is answered of a transaction is of that one
   module _ (r : ℕ) (t : Ts) (v : Verdict) (d : Does {X = answer.Asked} old new r (Ok (answers.Settled v)) (AskWork t (Ok (answers.Settled v)))) where
@@ -73,13 +77,17 @@ module _ (shows : Bool) (old new : View) (r : ℕ) where
     settled_so : shows ≡ true → Does {X = answer.Asked} old new r (Ok (answers.Settled v)) (AskWork t (Ok (answers.Settled v)))
     settled_so w = subst (λ (x : answer.Asked). Does {X = answer.Asked} old new r (Ok x) (AskWork t (Ok x))) is (call w)
 
-    -- the verdict was asked for
-    pub asked_so : (u : Ts) (c : Bool) → u ≡ t → c ≡ v.commit → shows ≡ true → IsDecided old new u c
-    asked_so u c e f w = decided_so old new t u v.commit c e f (ByAnswer r v refl (settled_so w))
+    -- the repository has told it
+    pub asked_of : shows ≡ true → IsToldBy old new r t v.commit
+    asked_of w = ToldByAnswer v refl (settled_so w)
+
+    -- an item that was Unknown has ended by the transaction that was asked for
+    pub settled_of : (s : Settled) → s.ts ≡ t → is_committed s.outcome ≡ v.commit → IsDownAt r s.outcome → shows ≡ true → IsLearnt old new s
+    settled_of s e f down w = record { repo = r; told = told_as old new r t s.ts v.commit (is_committed s.outcome) e f (asked_of w); down = down }
 
     -- the verdict that was told is of the transaction that was asked for
-    pub learnt_so : (u : Ts) (c : Bool) → u ≡ v.tx → c ≡ v.commit → shows ≡ true → IsDecided old new u c
-    learnt_so u c e f w = asked_so u c (e ∙ told_tx old new r t v (settled_so w)) f w
+    pub learnt_of : (s : Settled) → s.ts ≡ v.tx → is_committed s.outcome ≡ v.commit → IsDownAt r s.outcome → shows ≡ true → IsLearnt old new s
+    learnt_of s e f down w = settled_of s (e ∙ told_tx old new r t v (settled_so w)) f down w
 
 -- a try has ended
 pub try_shown : (old new : View) (repos : ℕ) (n : News) (c : Cause) → n ≡ news.TryEnded c → CauseShown old new repos c → NewsShown old new repos n
@@ -115,7 +123,7 @@ module _ (shows : Bool) (old new : View) (repos each calls : ℕ) where
   goes_shown (news.Ended outcome) before after h (inl same) = Stays same
   goes_shown (news.Ended outcome) before after h (inr g) = EndsSo outcome g h
   goes_shown (news.Settled settled) before after h (inl same) = Stays same
-  goes_shown (news.Settled settled) before after h (inr g) = SettlesSo settled.outcome g (λ s. outcome_shown old new repos settled.ts (is_committed settled.outcome) settled.outcome settled.late refl (h s))
+  goes_shown (news.Settled settled) before after h (inr g) = SettlesSo settled g h
 
   -- the calls of the try were used up
   pub used_up : (n : News) (before after : Course) → n ≡ news.TryEnded cause.Calls → most_calls ≤ calls → GoesBy each n before after → GoesShown shows old new repos each calls before after

@@ -3,8 +3,9 @@
 ghost use Rattle.client_state.specs.Learning.{Rises};
 ghost use Rattle.client_state.specs.Owing.{asking_in, calls_in, count_of};
 ghost use Rattle.client_state.specs.declared.phase.Phase.TheVariants as phase;
+ghost use Rattle.client_state.specs.Showing.{IsToldBy};
 ghost use Rattle.front_end.specs.Showing.{NewsShown, ShownIf};
-ghost use Rattle.port.specs.Acting.{ActsIf, IsDecided};
+ghost use Rattle.port.specs.Acting.{ActsIf};
 ghost use Rattle.port.specs.Views.{View};
 ghost use Rattle.front_end.specs.Moving.{uncounted};
 ghost use Rattle.std.specs.Prelude.{IfOk, IsSome, OnOk, ℕ, ◌+◌, ◌<◌, ◌≡◌, ◌≤◌};
@@ -50,8 +51,9 @@ impl Client {
         ensures shown { ShownIf Q.shows (Q.view port.old) (Q.view port.new) opened.now.repos result }
         ensures rises { Rises self.old.held self.new.held }
     {
-        match port.ask(sent.coordinator(), sent.ts) {
-            Ok(Asked::Settled(verdict)) => self.learn_own(opened, sent, verdict),
+        let coordinator = sent.coordinator();
+        match port.ask(coordinator, sent.ts) {
+            Ok(Asked::Settled(verdict)) => self.learn_own(opened, sent, coordinator, verdict),
             Err(Refusal::NoMemory) => Err(NoMemory),
             Ok(Asked::Undecided) | Err(_) => {
                 Ok(self.ask_again(task, sent, answers.saturating_add(1)))
@@ -59,18 +61,18 @@ impl Client {
         }
     }
 
-    /// The verdict on the client's own transaction is known.
+    /// Its coordinator has told the verdict on the client's own transaction.
     pub fn learn_own(
         &mut self,
         opened: &Opened,
         sent: Sent,
+        coordinator: u8,
         verdict: Verdict,
     ) -> Result<News, NoMemory>
         ensures owed { OnOk result ((tries : ℕ) → uncounted tries self.new ≤ uncounted tries self.old + (count_of sent.participants + 1)) }
-        ensures shown { IfOk result (λ news. (old new : View) (repos : ℕ) → IsDecided old new sent.ts verdict.commit → NewsShown old new repos news) }
+        ensures shown { IfOk result (λ news. (old new : View) (repos : ℕ) → IsToldBy old new coordinator sent.ts verdict.commit → NewsShown old new repos news) }
         ensures rises { Rises self.old.held self.new.held }
     {
-        let coordinator = sent.coordinator();
         self.duties.hand_on(verdict, sent.others()?)?;
         if verdict.commit() {
             return Ok(self.end_committed(opened, sent));

@@ -217,7 +217,7 @@ impl Client {
         ensures rises { Rises self.old.held self.new.held }
     {
         match port.decide(coordinator, sent.ts, true) {
-            Ok(verdict) => self.learn_own(opened, sent, verdict),
+            Ok(verdict) => self.learn_own(opened, sent, coordinator.repo, verdict),
             Err(Refusal::NoMemory) => Err(NoMemory),
             Err(Refusal::Reason(Reason::Gone { session })) => {
                 self.held.lose(coordinator.repo, session);

@@ -8,7 +8,7 @@ ghost use Rattle.port.specs.Acting.{ActsIf};
 ghost use Rattle.front_end.specs.Moving.{GoesOn, Keeps, MovesOn, course_of, held_of, left_of, standing_of, steps_left, tries_of, uncounted};
 ghost use Rattle.front_end.specs.declared.front_end.Step.TheVariants as step;
 ghost use Rattle.item_progress.specs.Courses.{Goes, IsInOrder};
-ghost use Rattle.item_progress.specs.Ending.{GoesBy, ends_try};
+ghost use Rattle.item_progress.specs.Ending.{EndsBy, GoesBy, ends_try};
 ghost use Rattle.item_progress.specs.Falling.{CountsDown, Falls, IsLeft, NeverRises, most_calls};
 ghost use Rattle.std.specs.Prelude.{◌≡◌, ◌<◌, ◌^◌, [], IfOk, IsSome, IsTrue, OnOk, length, not, Ok, true, ℕ, ◌≤◌};
 
@@ -232,6 +232,7 @@ impl FrontEnd {
         ensures tried { ends_try news ≡ true → IsLeft (course_of self.old) → OnOk result (CountsDown (standing_of self.old) (standing_of self.new)) }
         ensures uncounted { (tries : ℕ) → uncounted tries self.new.client ≡ uncounted tries self.old.client }
         ensures told { GoesBy (tries_of self.old) news (course_of self.old) (course_of self.new) }
+        ensures ends { OnOk result (EndsBy self.old.attempts news (course_of self.old) (course_of self.new)) }
         ensures rises { Rises (held_of self.old) (held_of self.new) }
     {
         self.stop_waiting_behind(&news);

@@ -4,7 +4,7 @@ ghost use Rattle.client_state.specs.Learning.{Rises};
 ghost use Rattle.front_end.specs.Showing.{NewsShown, ShownIf};
 ghost use Rattle.port.specs.Acting.{ActsIf, IsDecided};
 ghost use Rattle.port.specs.Views.{View};
-ghost use Rattle.item_progress.specs.Courses.{is_committed};
+ghost use Rattle.item_progress.specs.Courses.{IsDownAt, is_committed};
 ghost use Rattle.std.specs.Prelude.{◌≡◌, IfOk, IfSome, true, ℕ};
 
 use crate::client::Client;
@@ -53,12 +53,13 @@ impl Client {
     ) -> Result<Option<Learnt>, NoMemory>
         ensures stands { IfOk result (λ learnt. IfSome learnt (λ l. is_committed l.settled.outcome ≡ verdict.commit)) }
         ensures tx { IfOk result (λ learnt. IfSome learnt (λ l. l.settled.ts ≡ verdict.tx)) }
+        ensures down { IfOk result (λ learnt. IfSome learnt (λ l. IsDownAt repo l.settled.outcome)) }
         ensures rises { Rises self.old.held self.new.held }
     {
         match self.held.take_link(repo) {
             Link::Unsettled { sent, index } if sent.ts == verdict.tx() => {
                 self.duties.hand_on(verdict, sent.others()?)?;
-                Ok(Some(self.settle(opened, sent, index, verdict)))
+                Ok(Some(self.settle(opened, sent, index, repo, verdict)))
             }
             link => {
                 self.held.set_link(repo, link);
@@ -67,14 +68,21 @@ impl Client {
         }
     }
 
-    /// What becomes of an Unknown item by the verdict: its transaction stands exactly where that commits.
-    fn settle(&mut self, opened: &Opened, sent: Sent, index: u32, verdict: Verdict) -> Learnt
+    /// What becomes of an Unknown item by the verdict that a repository told: its transaction stands exactly where that commits.
+    fn settle(
+        &mut self,
+        opened: &Opened,
+        sent: Sent,
+        index: u32,
+        repo: u8,
+        verdict: Verdict,
+    ) -> Learnt
         ensures stands { is_committed result.settled.outcome ≡ verdict.commit }
         ensures tx { result.settled.ts ≡ sent.ts }
+        ensures down { IsDownAt repo result.settled.outcome }
         ensures rest { self.new ≡ record self.old { held = self.new.held } }
         ensures rises { Rises self.old.held self.new.held }
     {
-        let repo = sent.coordinator();
         let Sent { ts, meaning, .. } = sent;
         let rises = verdict.commit() && self.learn_commit(opened, ts, &meaning);
         let outcome = meaning.settled(ts, verdict.commit(), repo);
@@ -105,7 +113,7 @@ impl Client {
         };
         match port.ask(repo, sent.ts) {
             Ok(Asked::Settled(verdict)) => {
-                let Learnt { settled, .. } = self.settle(opened, sent, index, verdict);
+                let Learnt { settled, .. } = self.settle(opened, sent, index, repo, verdict);
                 Ok(News::Settled { settled })
             }
             Err(Refusal::NoMemory) => Err(NoMemory),

@@ -1,13 +1,12 @@
 //! How a try goes on behind a call, begins anew, and ends.
 
 ghost use Rattle.client_state.specs.Learning.{KeepsBounds, Rises, floor_learnt, links_learnt};
-ghost use Rattle.client_state.specs.Showing.{CameShown};
+ghost use Rattle.client_state.specs.Showing.{CameShown, IsLearnt};
 ghost use Rattle.client_state.specs.declared.phase.Phase.TheVariants as phase;
 ghost use Rattle.front_end.specs.Moving.{uncounted};
 ghost use Rattle.front_end.specs.Showing.{NewsShown};
-ghost use Rattle.item_progress.specs.Courses.{is_committed};
 ghost use Rattle.item_progress.specs.declared.news.News.TheVariants as news;
-ghost use Rattle.port.specs.Acting.{IsDecided, Refuses};
+ghost use Rattle.port.specs.Acting.{Refuses};
 ghost use Rattle.port.specs.Views.{View};
 ghost use Rattle.std.specs.Prelude.{IfOk, OnOk, ℕ, ◌≡◌, ◌≤◌};
 
@@ -65,7 +64,7 @@ impl Client {
     /// Behind a call by which a verdict was learnt late, the try goes on as it was, or its evaluation begins
     /// anew.
     fn take_learnt(&mut self, learnt: Learnt) -> News
-        ensures shown { (old new : View) (repos : ℕ) → IsDecided old new learnt.settled.ts (is_committed learnt.settled.outcome) → NewsShown old new repos result }
+        ensures shown { (old new : View) (repos : ℕ) → IsLearnt old new learnt.settled → NewsShown old new repos result }
         ensures rises { Rises self.old.held self.new.held }
     {
         let Learnt { settled, rises } = learnt;

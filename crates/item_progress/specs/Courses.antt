@@ -44,6 +44,17 @@ late_tx t (Unknown tx) = None
 abbrev pub IsLateOutcome : Ts → ItemOutcome → Type 0
 IsLateOutcome t o = late_tx t o ≡ Some t
 
+-- where the item is refused since a repository was down, it is this one
+abbrev pub IsDownAt : ℕ → ItemOutcome → Type 0
+IsDownAt r (Done ts answer) = Unit {0}
+IsDownAt r (Upgraded ts number) = Unit {0}
+IsDownAt r (Faulted ts fault) = Unit {0}
+IsDownAt r (Refused (cause.Down repo)) = repo ≡ r
+IsDownAt r (Refused (cause.Reason reason)) = Unit {0}
+IsDownAt r (Refused (cause.Missing oref)) = Unit {0}
+IsDownAt r (Refused cause.Calls) = Unit {0}
+IsDownAt r (Unknown tx) = Unit {0}
+
 -- the item's transaction stands
 abbrev pub is_committed : ItemOutcome → Bool
 is_committed (Done ts answer) = true

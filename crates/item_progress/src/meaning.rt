@@ -1,7 +1,7 @@
 //! What a transaction makes of its item.
 
-ghost use Rattle.item_progress.specs.Courses.{IsLateOutcome, is_committed};
-ghost use Rattle.std.specs.Prelude.{◌≡◌, true};
+ghost use Rattle.item_progress.specs.Courses.{IsDownAt, IsLateOutcome, is_committed};
+ghost use Rattle.std.specs.Prelude.{◌≡◌, true, ℕ};
 
 use commit_log::Kind;
 use serial_model::{Cause, ItemOutcome};
@@ -37,6 +37,7 @@ impl Meaning {
     pub fn committed(self, ts: Ts) -> ItemOutcome
         ensures late { IsLateOutcome ts result }
         ensures stands { is_committed result ≡ true }
+        ensures down { (repo : ℕ) → IsDownAt repo result }
     {
         match self {
             Meaning::Ran(Answer::Ints(answer)) => ItemOutcome::Done { ts, answer },
@@ -50,6 +51,7 @@ impl Meaning {
     pub fn settled(self, ts: Ts, commit: bool, coordinator: u8) -> ItemOutcome
         ensures late { IsLateOutcome ts result }
         ensures stands { is_committed result ≡ commit }
+        ensures down { IsDownAt coordinator result }
     {
         if commit {
             return self.committed(ts);

@@ -1,10 +1,10 @@
 //! How far a client has come in its items.
 
 ghost use Rattle.item_progress.specs.Courses.{Ends, Goes, IsInOrder, IsLateOutcome, Learns, who_behind};
-ghost use Rattle.item_progress.specs.Ending.{EndsIn, GoesBy, IsRefused, SettlesAs, ends_try};
+ghost use Rattle.item_progress.specs.Ending.{EndsAs, EndsBy, EndsIn, GoesBy, IsHeldSo, IsRefused, SettlesAs, ends_try};
 ghost use Rattle.item_progress.specs.Falling.{CountsDown, IsLeft, NeverRises};
 ghost use Rattle.serial_model.specs.declared.outcomes.ItemOutcome.TheVariants as outcomes;
-ghost use Rattle.std.specs.Prelude.{◌≡◌, ◌+◌, ◌<◌, ◌^◌, ◌⊎◌, [], IsSome, IsTrue, OnOk, length, not, true, ◌↔◌};
+ghost use Rattle.std.specs.Prelude.{◌≡◌, ◌+◌, ◌<◌, ◌≤◌, ◌^◌, ◌⊎◌, [], IsSome, IsTrue, OnOk, length, not, true, ◌↔◌};
 
 use crate::attempts::Attempts;
 use crate::news::{News, Settled, Task};
@@ -38,7 +38,8 @@ impl Model for Progress {
 
 /// Whether an item is held as Unknown by this transaction.
 fn is_unknown(outcome: &ItemOutcome, ts: Ts) -> bool
-    ensures { IsTrue result → outcome.now ≡ outcomes.Unknown ts }
+    ensures unknown { IsTrue result → outcome.now ≡ outcomes.Unknown ts }
+    ensures other { outcome.now ≡ outcomes.Unknown ts → IsTrue result }
 {
     match outcome {
         ItemOutcome::Unknown { tx } => *tx == ts,
@@ -125,6 +126,7 @@ impl Progress {
         ensures left { OnOk result (NeverRises (record { course = self.old; attempts = attempts.old }) (record { course = self.new; attempts = attempts.new })) }
         ensures tried { ends_try news ≡ true → IsLeft self.old → OnOk result (CountsDown (record { course = self.old; attempts = attempts.old }) (record { course = self.new; attempts = attempts.new })) }
         ensures told { GoesBy attempts.old.each news self.old self.new }
+        ensures ends { OnOk result (EndsBy attempts.old news self.old self.new) }
     {
         match news {
             News::Nothing => Ok(()),
@@ -148,6 +150,7 @@ impl Progress {
         ensures left { OnOk result (NeverRises (record { course = self.old; attempts = attempts.old }) (record { course = self.new; attempts = attempts.new })) }
         ensures tried { IsLeft self.old → OnOk result (CountsDown (record { course = self.old; attempts = attempts.old }) (record { course = self.new; attempts = attempts.new })) }
         ensures told { (self.new ≡ self.old) ⊎ IsRefused attempts.old.each cause self.old self.new }
+        ensures last { OnOk result (attempts.old.each ≤ attempts.old.tried + 1 → IsLeft self.old → IsRefused attempts.old.each cause self.old self.new) }
     {
         if self.has_ended() {
             return Ok(());
@@ -161,6 +164,7 @@ impl Progress {
         ensures each { attempts.new.each ≡ attempts.old.each }
         ensures tried { IsLeft self.old → OnOk result (CountsDown (record { course = self.old; attempts = attempts.old }) (record { course = self.new; attempts = attempts.new })) }
         ensures told { (self.new ≡ self.old) ⊎ IsRefused attempts.old.each cause self.old self.new }
+        ensures last { OnOk result (attempts.old.each ≤ attempts.old.tried + 1 → IsLeft self.old → IsRefused attempts.old.each cause self.old self.new) }
     {
         if attempts.begin_next_try() {
             return Ok(());
@@ -181,6 +185,7 @@ impl Progress {
         ensures left { OnOk result (((self.new ≡ self.old) × (attempts.new ≡ attempts.old)) ⊎ Ends self.old self.new) }
         ensures ended { IsLeft self.old → OnOk result (Ends self.old self.new) }
         ensures told { (self.new ≡ self.old) ⊎ EndsIn tries outcome self.old self.new }
+        ensures left_ends { IsLeft self.old → OnOk result (EndsIn tries outcome self.old self.new) }
     {
         let who = self.who();
         let upgrades = match self.item() {
@@ -201,7 +206,8 @@ impl Progress {
     /// An item that was Unknown has ended, in the try that was sent.
     fn settle(&mut self, settled: Settled)
         ensures goes { Learns self.old self.new }
-        ensures told { (self.new ≡ self.old) ⊎ SettlesAs settled.outcome self.old self.new }
+        ensures told { (self.new ≡ self.old) ⊎ SettlesAs settled self.old self.new }
+        ensures settles { IsHeldSo settled self.old → SettlesAs settled self.old self.new }
     {
         let Settled { index, ts, outcome } = settled;
         if index == 0 {

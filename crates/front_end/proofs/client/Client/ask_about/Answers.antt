@@ -1,7 +1,7 @@
 use Rattle.front_end.proofs.Acting.{by_ask}
-use Rattle.front_end.proofs.Showing.{learnt_so}
+use Rattle.front_end.proofs.Showing.{learnt_of}
 use Rattle.front_end.proofs.client.Client.ask_about.Goals as goal
-use Rattle.item_progress.specs.Courses.{is_committed}
+use Rattle.item_progress.specs.Courses.{IsDownAt, is_committed}
 use Rattle.item_progress.specs.declared.news.Learnt.{Learnt}
 use Rattle.std.proofs.Common.{subst, ◌≡◌}
 use Rattle.std.specs.Prelude.{IfSome, Option}
@@ -25,4 +25,4 @@ pub returns-in-Err-clause-acts : goal.returns-in-Err-clause-acts
 returns-in-Err-clause-acts g c = by_ask _ _ _ _ _ _ c.ask.ensures.call
 
 pub returns-in-Some-clause-shown : goal.returns-in-Some-clause-shown
-returns-in-Some-clause-shown g c = learnt_so _ _ _ _ c.args.ts c.in-Ok-Settled.field-0 c.in-Ok-Settled.verdict c.in-Ok-Settled.field-0-is c.in-Ok-Settled.ensures.call c.in-Some.field-0.settled.ts _ (subst (λ (o : Option Learnt). IfSome o (λ l. l.settled.ts ≡ c.in-Ok-Settled.verdict.tx)) c.in-Some.is c.in_ok-settled-in-Ok-Settled.ensures.tx) (subst (λ (o : Option Learnt). IfSome o (λ l. is_committed l.settled.outcome ≡ c.in-Ok-Settled.verdict.commit)) c.in-Some.is c.in_ok-settled-in-Ok-Settled.ensures.stands)
+returns-in-Some-clause-shown g c = learnt_of _ _ _ _ c.args.ts c.in-Ok-Settled.field-0 c.in-Ok-Settled.verdict c.in-Ok-Settled.field-0-is c.in-Ok-Settled.ensures.call c.in-Some.field-0.settled (subst (λ (o : Option Learnt). IfSome o (λ l. l.settled.ts ≡ c.in-Ok-Settled.verdict.tx)) c.in-Some.is c.in_ok-settled-in-Ok-Settled.ensures.tx) (subst (λ (o : Option Learnt). IfSome o (λ l. is_committed l.settled.outcome ≡ c.in-Ok-Settled.verdict.commit)) c.in-Some.is c.in_ok-settled-in-Ok-Settled.ensures.stands) (subst (λ (o : Option Learnt). IfSome o (λ l. IsDownAt c.args.ts.repo l.settled.outcome)) c.in-Some.is c.in_ok-settled-in-Ok-Settled.ensures.down)

@@ -1,8 +1,8 @@
 use Rattle.client_state.specs.Causes.{cause_behind}
 use Rattle.front_end.proofs.Acting.{by_ask}
-use Rattle.front_end.proofs.Showing.{learnt_so}
+use Rattle.front_end.proofs.Showing.{learnt_of}
 use Rattle.front_end.proofs.client.Client.ask_before.Goals as goal
-use Rattle.item_progress.specs.Courses.{is_committed}
+use Rattle.item_progress.specs.Courses.{IsDownAt, is_committed}
 use Rattle.item_progress.specs.declared.news.Learnt.{Learnt}
 use Rattle.port.specs.Acting.{RefusesAsk}
 use Rattle.std.proofs.Common.{subst, ◌≡◌}
@@ -28,7 +28,7 @@ pub returns-in_ok-cause_of-in-Err-clause-acts : goal.returns-in_ok-cause_of-in-E
 returns-in_ok-cause_of-in-Err-clause-acts g c = by_ask _ _ _ _ _ _ c.ask.ensures.call
 
 pub returns-in-Some-clause-shown : goal.returns-in-Some-clause-shown
-returns-in-Some-clause-shown g c = learnt_so _ _ _ _ c.args.ts c.in-Ok-Settled.field-0 c.in-Ok-Settled.verdict c.in-Ok-Settled.field-0-is c.in-Ok-Settled.ensures.call c.in-Some.learnt.settled.ts _ (subst (λ (o : Option Learnt). IfSome o (λ l. l.settled.ts ≡ c.in-Ok-Settled.verdict.tx)) c.in-Some.is c.in_ok-learnt-in-Ok-Settled.ensures.tx) (subst (λ (o : Option Learnt). IfSome o (λ l. is_committed l.settled.outcome ≡ c.in-Ok-Settled.verdict.commit)) c.in-Some.is c.in_ok-learnt-in-Ok-Settled.ensures.stands)
+returns-in-Some-clause-shown g c = learnt_of _ _ _ _ c.args.ts c.in-Ok-Settled.field-0 c.in-Ok-Settled.verdict c.in-Ok-Settled.field-0-is c.in-Ok-Settled.ensures.call c.in-Some.learnt.settled (subst (λ (o : Option Learnt). IfSome o (λ l. l.settled.ts ≡ c.in-Ok-Settled.verdict.tx)) c.in-Some.is c.in_ok-learnt-in-Ok-Settled.ensures.tx) (subst (λ (o : Option Learnt). IfSome o (λ l. is_committed l.settled.outcome ≡ c.in-Ok-Settled.verdict.commit)) c.in-Some.is c.in_ok-learnt-in-Ok-Settled.ensures.stands) (subst (λ (o : Option Learnt). IfSome o (λ l. IsDownAt c.args.repo l.settled.outcome)) c.in-Some.is c.in_ok-learnt-in-Ok-Settled.ensures.down)
 
 pub returns-in_ok-cause_of-in-Err-clause-shown : goal.returns-in_ok-cause_of-in-Err-clause-shown
 returns-in_ok-cause_of-in-Err-clause-shown g c = λ s. record { repo = c.args.repo; refusal = c.in-Err.refusal; call = RefusesAsk c.args.ts (c.in-Err.ensures.call s); cause_is = subst (λ (e : Refusal). cause_behind e c.args.repo ≡ Some c.in_ok-cause_of-in-Err.field-0) c.in-Err.refusal-is c.in_ok-cause_of-in-Err.ensures.cause }

@@ -1,7 +1,6 @@
 use Rattle.front_end.proofs.Acting.{by_ask}
-use Rattle.front_end.proofs.Showing.{asked_so}
+use Rattle.front_end.proofs.Showing.{asked_of}
 use Rattle.front_end.proofs.client.Client.ask_coordinator.Goals as goal
-use Rattle.std.proofs.Common.{refl}
 use Rattle.std.proofs.lemmas.Result.{IfOk-weaker}
 
 pub returns-in-Ok-Settled-clause-acts : goal.returns-in-Ok-Settled-clause-acts
@@ -14,7 +13,7 @@ pub returns-in-Ok-Undecided-clause-acts : goal.returns-in-Ok-Undecided-clause-ac
 returns-in-Ok-Undecided-clause-acts g c = by_ask _ _ _ _ _ _ c.ask.ensures.call
 
 pub returns-in-Ok-Settled-clause-shown : goal.returns-in-Ok-Settled-clause-shown
-returns-in-Ok-Settled-clause-shown g c = IfOk-weaker c.learn_own.result _ _ (λ n told s. told _ _ _ (asked_so _ _ _ _ c.args.sent.ts c.in-Ok-Settled.field-0 c.in-Ok-Settled.verdict c.in-Ok-Settled.field-0-is c.in-Ok-Settled.ensures.call c.args.sent.ts c.in-Ok-Settled.verdict.commit refl refl s)) c.learn_own.ensures.shown
+returns-in-Ok-Settled-clause-shown g c = IfOk-weaker c.learn_own.result _ _ (λ n told s. told _ _ _ (asked_of _ _ _ _ c.args.sent.ts c.in-Ok-Settled.field-0 c.in-Ok-Settled.verdict c.in-Ok-Settled.field-0-is c.in-Ok-Settled.ensures.call s)) c.learn_own.ensures.shown
 
 pub returns-in-Ok-Undecided-clause-shown : goal.returns-in-Ok-Undecided-clause-shown
 returns-in-Ok-Undecided-clause-shown g c = λ s. c.ask_again.ensures.shown _ _ _

@@ -1,6 +1,6 @@
 use Rattle.front_end.proofs.Acting.{by_decide}
 use Rattle.front_end.proofs.client.Client.decide.Goals as goal
-use Rattle.port.specs.Acting.{ByDecision}
+use Rattle.client_state.specs.Showing.{ToldByDecision}
 use Rattle.std.proofs.Common.{refl, true}
 use Rattle.std.proofs.lemmas.Result.{IfOk-weaker}
 
@@ -17,4 +17,4 @@ pub returns-in-Err-clause-acts : goal.returns-in-Err-clause-acts
 returns-in-Err-clause-acts g c = by_decide _ _ _ _ _ _ _ _ c.decide.ensures.call
 
 pub returns-in-Ok-clause-shown : goal.returns-in-Ok-clause-shown
-returns-in-Ok-clause-shown g c = IfOk-weaker c.learn_own.result _ _ (λ n told s. told _ _ _ (ByDecision c.args.coordinator.repo c.args.coordinator.session true c.in-Ok.verdict refl (c.in-Ok.ensures.call s))) c.learn_own.ensures.shown
+returns-in-Ok-clause-shown g c = IfOk-weaker c.learn_own.result _ _ (λ n told s. told _ _ _ (ToldByDecision c.args.coordinator.session true c.in-Ok.verdict refl (c.in-Ok.ensures.call s))) c.learn_own.ensures.shown

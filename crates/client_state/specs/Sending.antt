@@ -1,0 +1,75 @@
+-- What a participant is sent, and by which session (this project's).
+use Rattle.client_state.specs.Calling.{is_session_of, upto_in}
+use Rattle.client_state.specs.declared.link.Link.{Link}
+use Rattle.client_state.specs.declared.link.Link.TheVariants.{Apart, Joined, Unsettled}
+use Rattle.client_state.specs.declared.phase.Phase.{Phase}
+use Rattle.client_state.specs.declared.phase.Phase.TheVariants.{Asking, Beginning, Between, Drawn, Evaluated, Evaluating, Preparing, Transforming}
+use Rattle.client_state.specs.declared.requests.Sending.{Sending}
+use Rattle.client_state.specs.declared.transaction.Share.{Share}
+use Rattle.client_state.specs.declared.transaction.Transaction.{Transaction}
+use Rattle.std.specs.Option.{option_map}
+use Rattle.std.specs.Prelude.{List, None, Option, Some, cond, slice_get, slice_set, true, ℕ, ◌≡◌}
+use Rattle.thor_value.specs.declared.names.Ts.{Ts}
+
+-- how far the messages of a session were taken: as its link tells, and as it was before where it is no more
+abbrev pub upto_behind : Option Link → ℕ → ℕ → ℕ
+upto_behind link session before = cond (is_session_of session link) (upto_in link) before
+
+-- A request names the session by which it is sent. Where that is the one of its link, it acknowledges all messages that were
+-- taken.
+pub record IsOfSession (links : List Link) (s : Sending) : Type 0 where
+  pub session : s.request.session ≡ s.at.session
+  pub upto : is_session_of s.at.session (slice_get links s.at.repo) ≡ true → s.request.upto ≡ upto_in (slice_get links s.at.repo)
+
+-- What is sent of a share: it goes out by the session that the share names.
+pub record IsOfShare (links : List Link) (share : Share) (s : Sending) : Type 0 where
+  pub at_is : s.at ≡ record { repo = share.repo; session = share.session }
+  pub session : s.request.session ≡ share.session
+  pub upto : s.request.upto ≡ upto_behind (slice_get links share.repo) share.session share.upto
+
+-- The first of some shares is sent so.
+abbrev pub SendsFirst : List Link → List Share → Sending → Type 0
+SendsFirst links shares s = (share : Share) → slice_get shares 0 ≡ Some share → IsOfShare links share s
+
+-- ---- what is sent as the transaction is drawn
+
+-- a share names the session of a link, and how far the messages were taken in it
+abbrev pub in_session : Option Link → Share → Share
+in_session None share = share
+in_session (Some Apart) share = share
+in_session (Some (Joined s upto waits)) share = record share { session = s; upto = upto }
+in_session (Some (Unsettled sent index)) share = share
+
+-- the same of the link at its repository
+abbrev pub carried : List Link → Share → Share
+carried links share = in_session (slice_get links share.repo) share
+
+abbrev pub changed_share : List Link → ℕ → List Share → Option Share → List Share
+changed_share links place shares None = shares
+changed_share links place shares (Some share) = slice_set shares place (carried links share)
+
+-- the share at a place names the session at its repository
+abbrev pub carried_at : List Link → ℕ → List Share → List Share
+carried_at links place shares = changed_share links place shares (slice_get shares place)
+
+-- Each share names the session at its repository.
+abbrev pub CarriesSessions : List Link → List Share → List Share → Type 0
+CarriesSessions links old new = (n : ℕ) → slice_get new n ≡ option_map (carried links) (slice_get old n)
+
+-- A transaction is drawn: its shares name the sessions that there are.
+pub record BecomesDrawn (t : Ts) (links : List Link) (before : Transaction) (after : Phase) : Type 0 where
+  pub transaction : Transaction
+  pub phase_is : after ≡ Drawn t transaction
+  pub rest : transaction ≡ record before { shares = transaction.shares }
+  pub carries : CarriesSessions links before.shares.items transaction.shares.items
+
+-- The same of a phase: one in which no transaction was evaluated stays.
+abbrev pub DrawsPhase : Ts → List Link → Phase → Phase → Type 0
+DrawsPhase t links Between after = after ≡ Between
+DrawsPhase t links Beginning after = after ≡ Beginning
+DrawsPhase t links (Evaluating run awaited) after = after ≡ Evaluating run awaited
+DrawsPhase t links (Transforming run transform) after = after ≡ Transforming run transform
+DrawsPhase t links (Evaluated transaction) after = BecomesDrawn t links transaction after
+DrawsPhase t links (Drawn u transaction) after = after ≡ Drawn u transaction
+DrawsPhase t links (Preparing u transaction coordinator prepared) after = after ≡ Preparing u transaction coordinator prepared
+DrawsPhase t links (Asking sent answers) after = after ≡ Asking sent answers
