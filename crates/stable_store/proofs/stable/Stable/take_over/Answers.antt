@@ -22,10 +22,10 @@ returns-in-WithPending-Some-clause-says g c = λ one.
 pub returns-in_default-clause-damaged : goal.returns-in_default-clause-damaged
 returns-in_default-clause-damaged g c = λ r place wrong one. elim c.in_default-1.branch [
   | in_default-via-in-WithPending+in-None-1 w ↦
-    (let found : c.compare-agrees.result ≡ WithPending = search rules in
-    let none : c.args.pending ≡ None = search rules in
-    none_pending c.args.pending (c.compare-agrees.ensures.was_pending found) none)
+      (let found : c.compare-agrees.result ≡ WithPending = search rules in
+      let none : c.args.pending ≡ None = search rules in
+      none_pending c.args.pending (c.compare-agrees.ensures.was_pending found) none)
   | in_default-via-in-Neither-1 w ↦
-    (let found : c.compare-agrees.result ≡ Neither = search rules in
-    neither_of c.args.recovered.state c.args.self.now.held c.args.pending c.requires.rests.keeps (c.compare-agrees.ensures.neither found) (c.compare-agrees.ensures.nor_pending found) one)
+      (let found : c.compare-agrees.result ≡ Neither = search rules in
+      neither_of c.args.recovered.state c.args.self.now.held c.args.pending c.requires.rests.keeps (c.compare-agrees.ensures.neither found) (c.compare-agrees.ensures.nor_pending found) one)
 ]
