@@ -1,5 +1,5 @@
 -- The buffer of objects behind writes, in the words of what a log stands for.
-use Rattle.std.proofs.Common.{◌≡◌, Bool, List, None, Option, Some, [], ◌∷◌, ◌++◌, ap, append_assoc, cond, false, not, refl, subst, sym, true, ℕ, ◌&&◌, ◌∙◌}
+use Rattle.std.proofs.Common.{◌≡◌, Bool, List, Option, Some, [], ◌∷◌, ◌++◌, ap, append_assoc, cond, false, not, refl, subst, sym, true, ℕ, ◌&&◌, ◌∙◌}
 use Rattle.std.proofs.lemmas.Cmp.{tied_itself}
 use Rattle.std.proofs.lemmas.Map.Views.{tells_apart}
 use Rattle.std.specs.List.{AllByRecursion, IsDistinct, fold}

@@ -1,5 +1,5 @@
 -- What is kept in memory moves by an entry as its log does.
-use Rattle.std.proofs.Common.{◌≡◌, Bool, List, None, Option, Some, [], ◌∷◌, ap, arith, cond, false, max, not, refl, subst, sym, true, ℕ, ◌&&◌, ◌==◌, ◌+◌, ◌<◌, ◌^◌, ◌∙◌, ◌≤◌}
+use Rattle.std.proofs.Common.{◌≡◌, Bool, List, None, Option, Some, [], ◌∷◌, ap, arith, cond, false, max, not, refl, subst, sym, true, ℕ, ◌==◌, ◌+◌, ◌<◌, ◌^◌, ◌∙◌, ◌≤◌}
 use Rattle.std.proofs.lemmas.Bool.{not-true, and_parts}
 use Rattle.std.specs.List.{AllByRecursion, fold}
 use Rattle.std.specs.Ordering.{match_ordering}
@@ -12,14 +12,13 @@ use Rattle.commit_log.specs.declared.entry.Entry.{Entry}
 use Rattle.commit_log.specs.declared.request.Kind.TheVariants.{App, Transform, Upgrade}
 use Rattle.commit_log.specs.declared.request.Kind.{Kind}
 use Rattle.commit_log.specs.declared.request.Request.{Request}
-use Rattle.log_bytes.specs.Checkpoint.{RootFits}
 use Rattle.log_bytes.specs.Grammar.{BodyFits}
-use Rattle.log_bytes.specs.declared.body.Body.TheVariants.{Entry as AnEntry, Installed}
+use Rattle.log_bytes.specs.declared.body.Body.TheVariants.{Entry as AnEntry}
 use Rattle.log_bytes.specs.declared.state.State.{State}
 use Rattle.mob_buffer.proofs.Writes.{of_all}
 use Rattle.mob_buffer.specs.Buffer.{AreOf, IsOf, with_all, without_page}
 use Rattle.mob_flusher.specs.Map.{Kept as ObjectsKept}
-use Rattle.state_log.specs.Recovered.{after, buffered, changed, decided, kept_by, opened_without, page_above, request_at, threshold_after}
+use Rattle.state_log.specs.Recovered.{after, buffered, decided, kept_by, opened_without, page_above, threshold_after}
 use Rattle.state_log.specs.Values.{writes_if}
 use Rattle.page_format.specs.Pages.{Contents as PageContents}
 use Rattle.page_store.specs.Store.{Store, refreshed, with_side}
@@ -36,7 +35,7 @@ use Rattle.held_state.proofs.Buffers.{put_all_is}
 use Rattle.held_state.proofs.Kept.{each_filtered, fits_aborted, fits_alone, fits_keeping, fits_open, fits_without, of_writes, open_fits}
 use Rattle.held_state.proofs.Pages.{pages_within}
 use Rattle.held_state.proofs.Tables.{aborted_kept, aborted_open, absent_open, gone_kept, gone_open, is_new, keeping_kept, keeping_open, kept_is, more_kept, more_open, open_not_kept, opened_again, request_open}
-use Rattle.held_state.specs.Entering.{CanMove, IsNew, are_of, can_enter, committed_in, decided_by, entered, finished_by, installed_in, kept_in, loaded, moved, opened_in, prepared_in, reached}
+use Rattle.held_state.specs.Entering.{CanMove, IsNew, are_of, can_enter, committed_in, decided_by, entered, finished_by, installed_in, kept_in, loaded, opened_in, reached}
 use Rattle.held_state.specs.Keeps.{IsUnread, Keeps, TableFits}
 use Rattle.held_state.specs.Said.{said}
 use Rattle.held_state.specs.declared.held.Held.{Held}

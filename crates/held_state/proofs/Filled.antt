@@ -1,10 +1,10 @@
 -- A table made of a checkpoint's lists.
-use Rattle.std.proofs.Common.{◌≡◌, Bool, List, None, Option, Some, [], ◌∷◌, ◌++◌, ap, append_assoc, arith, cond, false, map, refl, subst, sym, true, ℕ, ◌<◌, ◌^◌, ◌∙◌, ◌≤◌}
+use Rattle.std.proofs.Common.{◌≡◌, List, None, Option, Some, [], ◌∷◌, ◌++◌, ap, append_assoc, arith, cond, false, map, refl, subst, sym, ℕ, ◌<◌, ◌^◌, ◌∙◌}
 use Rattle.std.specs.BTreeMap.{insert_entry, is_at}
 use Rattle.std.specs.Cmp.{IsTotalOrder, nat_cmp_total}
 use Rattle.std.specs.List.{AllByRecursion}
 use Rattle.std.specs.List.Sorted.{IsStrictlySortedBy}
-use Rattle.std.specs.Map.{keys_of, lookup, remove_entry, values_of}
+use Rattle.std.specs.Map.{keys_of, lookup, values_of}
 use Rattle.std.specs.Option.{is_some, option_and_then}
 use Rattle.std.specs.Ordering.{is_eq, match_ordering, nat_cmp, ordering_reverse}
 use Rattle.std.specs.Prelude.{IsTrue}
@@ -24,12 +24,12 @@ use Rattle.thor_value.specs.declared.names.Ts.{Ts}
 use Rattle.thor_value.specs.declared.values.Obj.{Obj}
 use Rattle.two_phase.proofs.Lists.{lookup_those, remove_absent, those_covered, those_put}
 use Rattle.two_phase.specs.Contents.{Contents, keeping, nothing, request_of}
-use Rattle.two_phase.specs.Lists.{decision_of, kept_decisions, open_requests, those}
+use Rattle.two_phase.specs.Lists.{decision_of, those}
 use Rattle.two_phase.specs.declared.transaction.Transaction.TheVariants as kept
 use Rattle.two_phase.specs.declared.transaction.Transaction.{Transaction}
 use Rattle.held_state.proofs.Kept.{each_put, fits_alone, fits_keeping, of_writes}
 use Rattle.held_state.specs.Entering.{are_of, opened_in}
-use Rattle.held_state.specs.Keeps.{Keeps, Stands, TableFits}
+use Rattle.held_state.specs.Keeps.{Keeps, Stands}
 use Rattle.held_state.specs.declared.held.Held.{Held}
 use Rattle.held_state.specs.Making.{AlonesTo, IsTableOf, KeepsTo, OpensTo, as_open, stamped}
 

@@ -1,5 +1,5 @@
 -- What holds of a table stays behind each change of it.
-use Rattle.std.proofs.Common.{◌≡◌, Bool, List, None, Option, Some, [], ◌∷◌, ap, cond, false, nat_eq, not, refl, subst, sym, true, ℕ, ◌&&◌, ◌∙◌}
+use Rattle.std.proofs.Common.{◌≡◌, Bool, List, Some, [], ◌∷◌, cond, false, nat_eq, refl, subst, true, ℕ}
 use Rattle.std.proofs.lemmas.Bool.{eqb-true, and_parts}
 use Rattle.std.proofs.lemmas.Map.Lookups.{CmpEqualImpliesEq, exact_unsigned}
 use Rattle.std.specs.BTreeMap.{insert_entry, is_at}
@@ -18,7 +18,7 @@ use Rattle.log_bytes.specs.Checkpoint.{StampFits}
 use Rattle.mob_buffer.specs.Buffer.{AreOf}
 use Rattle.thor_value.proofs.FiniteMap.{IsSorted-insert, IsSorted-remove}
 use Rattle.thor_value.proofs.NameOrders.{ts_exact, ts_total}
-use Rattle.thor_value.specs.FiniteMap.{get, insert}
+use Rattle.thor_value.specs.FiniteMap.{insert}
 use Rattle.thor_value.specs.Names.{ts_cmp}
 use Rattle.thor_value.specs.Spelling.{TsFits}
 use Rattle.thor_value.specs.declared.names.Oref.{Oref}

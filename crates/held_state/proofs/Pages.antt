@@ -1,5 +1,5 @@
 -- The page behind all that are written.
-use Rattle.std.proofs.Common.{◌≡◌, List, [], ◌∷◌, arith, max, ℕ, ◌+◌, ◌<◌, ◌≤◌}
+use Rattle.std.proofs.Common.{List, [], ◌∷◌, arith, max, ℕ, ◌+◌, ◌<◌, ◌≤◌}
 use Rattle.std.specs.List.{AllByRecursion, fold}
 use Rattle.commit_log.specs.RequestForm.{WriteFits}
 use Rattle.state_log.specs.Recovered.{page_above}

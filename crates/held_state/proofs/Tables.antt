@@ -8,16 +8,13 @@ use Rattle.std.specs.List.Sorted.{IsStrictlySortedBy}
 use Rattle.std.specs.Map.{keys_of, lookup, remove_entry, values_of}
 use Rattle.std.specs.Option.{is_some, option_and_then}
 use Rattle.std.specs.Ordering.{eq_by_cmp, is_eq}
-use Rattle.std.specs.declared.cmp.Ordering.TheVariants.{Equal, Less}
-use Rattle.commit_log.specs.RequestForm.{RequestFits}
+use Rattle.std.specs.declared.cmp.Ordering.TheVariants.{Less}
 use Rattle.commit_log.specs.declared.request.Request.{Request}
-use Rattle.mob_buffer.specs.Buffer.{AreOf}
 use Rattle.state_log.specs.Recovered.{kept_with, opened_with, opened_without, request_at}
 use Rattle.thor_value.proofs.FiniteMap.{IsSorted-insert, IsSorted-remove, get-insert, get-remove, same_map}
 use Rattle.thor_value.proofs.NameOrders.{ts_exact, ts_total}
-use Rattle.thor_value.specs.FiniteMap.{IsSorted, Map, get, has, insert, remove}
+use Rattle.thor_value.specs.FiniteMap.{Map, get, insert, remove}
 use Rattle.thor_value.specs.Names.{same_ts, ts_cmp}
-use Rattle.thor_value.specs.Spelling.{TsFits}
 use Rattle.thor_value.specs.declared.names.Ts.{Ts}
 use Rattle.two_phase.proofs.Lists.{lookup_those, remove_absent, sorted_those, those_covered, those_put, those_removed}
 use Rattle.two_phase.specs.Contents.{Contents, finished, keeping, keeps, open_at, request_of, without}
@@ -25,7 +22,7 @@ use Rattle.two_phase.specs.Lists.{aborted_of, decision_of, kept_decisions, open_
 use Rattle.two_phase.specs.declared.transaction.Transaction.TheVariants as kept
 use Rattle.two_phase.specs.declared.transaction.Transaction.{Transaction}
 use Rattle.held_state.specs.Entering.{kept_in, opened_in}
-use Rattle.held_state.specs.Keeps.{OpenFits, Stands, TableFits}
+use Rattle.held_state.specs.Keeps.{Stands, TableFits}
 
 -- ---- lists under keys
 

@@ -9,7 +9,7 @@ use Rattle.std.specs.Map.{keys_of, lookup, values_of}
 use Rattle.std.specs.Option.{is_some, option_and_then}
 use Rattle.commit_log.specs.declared.request.Request.{Request}
 use Rattle.log_bytes.specs.declared.state.State.{State}
-use Rattle.mob_buffer.specs.Buffer.{AreOf, Objects}
+use Rattle.mob_buffer.specs.Buffer.{AreOf}
 use Rattle.state_log.specs.Recovered.{request_at}
 use Rattle.thor_value.proofs.NameOrders.{ts_total}
 use Rattle.thor_value.specs.FiniteMap.{get, has}
@@ -18,18 +18,16 @@ use Rattle.thor_value.specs.declared.names.Oref.{Oref}
 use Rattle.thor_value.specs.declared.names.Ts.{Ts}
 use Rattle.thor_value.specs.declared.values.Obj.{Obj}
 use Rattle.two_phase.proofs.Lists.{lookup_those}
-use Rattle.two_phase.specs.Contents.{Contents, open_at, request_of}
+use Rattle.two_phase.specs.Contents.{Contents, request_of}
 use Rattle.two_phase.specs.Lists.{decision_of, kept_decisions, open_requests, those}
 use Rattle.two_phase.specs.declared.transaction.Transaction.TheVariants as kept
 use Rattle.two_phase.specs.declared.transaction.Transaction.{Transaction}
 use Rattle.held_state.proofs.Filled.{none_yet, stamps_in_order}
 use Rattle.held_state.proofs.Tables.{request_open}
 use Rattle.held_state.specs.Entering.{are_of}
-use Rattle.held_state.specs.Keeps.{Keeps, Stands, TableFits}
+use Rattle.held_state.specs.Keeps.{Stands, TableFits}
 use Rattle.held_state.specs.Making.{KeepsTo, OpensTo, as_open, stamped}
-use Rattle.held_state.specs.Said.{said}
 use Rattle.held_state.specs.Unfit.{IsUnfit}
-use Rattle.held_state.specs.declared.held.Held.{Held}
 
 both : (a b : Bool) → a ≡ true → b ≡ true → a && b ≡ true
 both true b first second = second

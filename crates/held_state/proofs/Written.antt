@@ -1,22 +1,19 @@
 -- What is kept has a spelling as a checkpoint.
-use Rattle.std.proofs.Common.{◌≡◌, List, Option, Some, [], ◌∷◌, ◌++◌, ap, arith, map, refl, subst, sym, take, ℕ, ◌+◌, ◌<◌, ◌^◌, ◌∙◌, ◌≤◌}
+use Rattle.std.proofs.Common.{◌≡◌, List, [], ◌∷◌, ap, map, refl, subst, sym, ℕ, ◌<◌, ◌^◌, ◌∙◌}
 use Rattle.std.specs.List.{AllByRecursion}
 use Rattle.std.specs.List.Sorted.{IsStrictlySortedBy}
 use Rattle.std.specs.Map.{keys_of, values_of}
 use Rattle.std.specs.Ordering.{nat_cmp}
 use Rattle.commit_log.specs.RequestForm.{RequestFits, WriteFits}
-use Rattle.commit_log.specs.declared.request.Request.{Request}
 use Rattle.log_bytes.specs.Checkpoint.{StateFits, client_of, tx_of}
 use Rattle.mob_buffer.specs.Buffer.{AreDistinct, AreOf, Objects}
 use Rattle.page_format.specs.Sides.{SidesFit}
 use Rattle.thor_value.specs.Names.{ts_cmp}
 use Rattle.thor_value.specs.Spelling.{TsFits}
-use Rattle.thor_value.specs.declared.names.Oref.{Oref}
 use Rattle.thor_value.specs.declared.names.Ts.{Ts}
-use Rattle.thor_value.specs.declared.values.Obj.{Obj}
 use Rattle.two_phase.proofs.Lists.{sorted_those}
-use Rattle.two_phase.specs.Contents.{Contents, request_of}
-use Rattle.two_phase.specs.Lists.{decision_of, open_requests, those}
+use Rattle.two_phase.specs.Contents.{request_of}
+use Rattle.two_phase.specs.Lists.{decision_of, those}
 use Rattle.two_phase.specs.declared.transaction.Transaction.TheVariants as kept
 use Rattle.two_phase.specs.declared.transaction.Transaction.{Transaction}
 use Rattle.held_state.proofs.Buffers.{distinct_new}

@@ -7,7 +7,7 @@ use Rattle.log_bytes.specs.Checkpoint.{StampFits}
 use Rattle.thor_value.specs.FiniteMap.{empty}
 use Rattle.thor_value.specs.Spelling.{TsFits}
 use Rattle.thor_value.specs.declared.names.Ts.{Ts}
-use Rattle.two_phase.specs.Contents.{Contents, request_of}
+use Rattle.two_phase.specs.Contents.{Contents}
 use Rattle.two_phase.specs.Lists.{decision_of, kept_decisions, open_requests, those}
 use Rattle.two_phase.specs.declared.transaction.Transaction.TheVariants as kept
 use Rattle.two_phase.specs.declared.transaction.Transaction.{Transaction}

@@ -1,5 +1,5 @@
 -- What is recovered, by the log that was found.
-use Rattle.std.proofs.Common.{◌≡◌, ◌⊎◌, [], List, None, Ok, Err, Option, Result, Some, ap, inl, inr, refl, subst, sym, IfOk, IfSome, ℕ, ◌∙◌}
+use Rattle.std.proofs.Common.{◌≡◌, [], List, None, Ok, Err, Option, Result, Some, inr, refl, subst, sym, IfOk, IfSome, ℕ, ◌∙◌}
 use Rattle.std.specs.Option.{IsSome, option_and_then, option_map}
 use Rattle.disk_trait.specs.Disks.{Disks}
 use Rattle.held_state.specs.Keeps.{IsUnread, Keeps}

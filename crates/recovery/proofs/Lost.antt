@@ -1,25 +1,17 @@
 -- What is damaged stands for no state, or can't be taken into memory.
-use Rattle.std.proofs.Common.{◌≡◌, ◌⊎◌, Bool, List, None, Option, Some, [], ◌∷◌, ap, arith, cond, false, get_or, inl, inr, length, map, nat_lt, refl, suc, sym, take, true, zero, ℕ, ◌<◌, ◌^◌, ◌∙◌, ◌≤◌}
+use Rattle.std.proofs.Common.{◌≡◌, ◌⊎◌, Bool, List, None, Option, Some, [], ◌∷◌, ap, arith, cond, false, inl, inr, nat_lt, refl, suc, true, zero, ℕ, ◌^◌, ◌∙◌, ◌≤◌}
 use Rattle.std.proofs.lemmas.Bool.Decides.{nat_tests}
-use Rattle.std.proofs.lemmas.Option.{slice_get-get_or}
 use Rattle.std.specs.List.{fold}
 use Rattle.std.specs.Option.{IfSome, IsSome, option_and_then, option_map}
 use Rattle.std.specs.Prelude.{slice_get}
-use Rattle.commit_log.specs.declared.entry.Entry.{Entry}
-use Rattle.held_state.specs.Entering.{can_enter}
-use Rattle.held_state.specs.Keeps.{Keeps}
-use Rattle.held_state.specs.Said.{said}
-use Rattle.held_state.specs.declared.held.Held.{Held}
 use Rattle.log_bytes.specs.Checkpoint.{state_format}
 use Rattle.log_bytes.specs.Format.{value_of}
 use Rattle.log_bytes.specs.Grammar.{body_format}
-use Rattle.log_bytes.specs.declared.body.Body.TheVariants.{Entry as AnEntry}
-use Rattle.log_bytes.specs.declared.body.Body.{Body}
 use Rattle.log_bytes.specs.declared.state.State.{State}
 use Rattle.log_frame.specs.Log.{Opened, Stands}
 use Rattle.state_log.specs.Opening.{Found, log_of}
 use Rattle.state_log.specs.Recovered.{after, behind, replayed, sequence_end, stands, state_in}
-use Rattle.recovery.specs.Damage.{CantHold, CantPut, Fault, IsNoBody, NoBody, NoCheckpoint, NoSequence, StandsUnheld}
+use Rattle.recovery.specs.Damage.{CantHold, Fault, IsNoBody, NoBody, NoCheckpoint, NoSequence, StandsUnheld}
 
 -- ---- a log that stands for nothing
 

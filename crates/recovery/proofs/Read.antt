@@ -4,7 +4,7 @@ use Rattle.std.proofs.Math.Seq.{take-suc}
 use Rattle.std.proofs.lemmas.List.Sums.{sum_by_push}
 use Rattle.std.proofs.lemmas.Option.{slice_get-get_or}
 use Rattle.std.specs.List.{AllByRecursion}
-use Rattle.std.specs.Prelude.{slice_get, sum_by}
+use Rattle.std.specs.Prelude.{sum_by}
 use Rattle.log_bytes.specs.Checkpoint.{StateFits, state_format}
 use Rattle.log_bytes.specs.Format.{IsSpelled, value_of}
 use Rattle.log_bytes.specs.Grammar.{BodyFits, body_format}

@@ -1,5 +1,5 @@
 -- The state of a log, by its checkpoint and its bodies.
-use Rattle.std.proofs.Common.{◌≡◌, List, None, Option, Some, [], ◌∷◌, ◌++◌, ap, arith, cond, false, length, map, nat_lt, refl, subst, sym, take, true, Bool, ℕ, ◌+◌, ◌<◌, ◌^◌, ◌∙◌, get_or}
+use Rattle.std.proofs.Common.{◌≡◌, List, None, Option, Some, [], ◌∷◌, ap, arith, cond, length, map, nat_lt, refl, sym, take, true, Bool, ℕ, ◌+◌, ◌<◌, ◌^◌, ◌∙◌, get_or}
 use Rattle.std.proofs.lemmas.Bool.Decides.{nat_tests}
 use Rattle.std.proofs.lemmas.List.Sums.{fold_push}
 use Rattle.std.specs.List.{fold}
@@ -10,7 +10,7 @@ use Rattle.log_bytes.specs.Grammar.{body_format}
 use Rattle.log_bytes.specs.declared.body.Body.{Body}
 use Rattle.log_bytes.specs.declared.state.State.{State}
 use Rattle.log_frame.specs.Log.{Opened}
-use Rattle.state_log.specs.Recovered.{after, behind, replayed, sequence_end, state_in}
+use Rattle.state_log.specs.Recovered.{after, behind, replayed, state_in}
 use Rattle.recovery.proofs.Read.{taken_next}
 
 some_head : {X : Type 0} (x y : X) (xs ys : List X) → x ∷ xs ≡ y ∷ ys → x ≡ y

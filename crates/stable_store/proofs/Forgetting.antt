@@ -18,7 +18,7 @@ use Rattle.thor_value.specs.FiniteMap.{Map, get}
 use Rattle.thor_value.specs.Names.{ts_cmp}
 use Rattle.thor_value.specs.declared.names.Ts.{Ts}
 use Rattle.two_phase.proofs.Lists.{sorted_those, those_removed}
-use Rattle.two_phase.specs.Contents.{Contents, keeps, open_at, request_of, without}
+use Rattle.two_phase.specs.Contents.{Contents, keeps, request_of, without}
 use Rattle.two_phase.specs.Lists.{decision_of, kept_decisions, open_requests, those}
 use Rattle.two_phase.specs.declared.transaction.Transaction.TheVariants as kept
 use Rattle.two_phase.specs.declared.transaction.Transaction.{Transaction}

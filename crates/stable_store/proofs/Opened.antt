@@ -1,22 +1,20 @@
 -- What is kept of an open log and of pages, while disks are called.
 use Rattle.commit_log.specs.declared.entry.Entry.{Entry}
-use Rattle.disk_trait.specs.AllDisks.{AllSettled}
-use Rattle.disk_trait.specs.Disks.{Disks, IsSettled, MayLeave, NoNewImage, OnDisk, SameDisks, WhereTold}
-use Rattle.disk_trait.proofs.Several.{all_settled, settled_still}
-use Rattle.held_state.specs.Entering.{entered}
+use Rattle.disk_trait.specs.Disks.{Disks, IsSettled, NoNewImage, OnDisk, SameDisks, WhereTold}
+use Rattle.disk_trait.proofs.Several.{all_settled}
 use Rattle.held_state.specs.declared.held.Held.{Held}
-use Rattle.log_frame.specs.Log.{Agrees as LogAgrees, Opened, Place, Stands}
+use Rattle.log_frame.specs.Log.{Place}
 use Rattle.held_state.specs.Keeps.{Keeps}
 use Rattle.log_bytes.specs.declared.body.Body.{Body}
 use Rattle.log_bytes.specs.declared.state.State.{State}
 use Rattle.state_log.specs.Recovered.{after}
 use Rattle.page_store.specs.Store.{Agrees, Store}
-use Rattle.stable_store.specs.Kept.{IsFallen, IsKept, IsOpen, IsOpenIn, StandsAfter, is_fault, is_up}
+use Rattle.stable_store.specs.Kept.{IsFallen, IsOpen, IsOpenIn, StandsAfter, is_fault}
 use Rattle.stable_store.specs.declared.stable.Phase.TheVariants.{Down, Torn, Up}
 use Rattle.stable_store.specs.declared.stable.Phase.{Phase}
 use Rattle.stable_store.specs.declared.stable.Stable.{Stable}
-use Rattle.state_log.specs.Holds.{Holding, Holds, beside}
-use Rattle.std.proofs.Common.{List, None, Option, Some, ap, arith, refl, subst, sym, true, ◌+◌, ◌<◌, ◌∙◌, ◌≡◌, ◌≢◌, ℕ}
+use Rattle.state_log.specs.Holds.{Holds, beside}
+use Rattle.std.proofs.Common.{List, Option, arith, subst, sym, true, ◌<◌, ◌∙◌, ◌≡◌, ◌≢◌, ℕ}
 use Rattle.validation_window.specs.declared.refusal.Refusal.TheVariants as refused
 use Rattle.validation_window.specs.declared.refusal.Refusal.{Refusal}
 

@@ -1,18 +1,15 @@
 -- What a crash leaves of the disk of pages reaches the sides in use.
 use Rattle.disk_trait.proofs.Several.{goes_one}
-use Rattle.disk_trait.specs.AllDisks.{GoesOn, MayLeaveAll, TellsAll}
+use Rattle.disk_trait.specs.AllDisks.{GoesOn, TellsAll}
 use Rattle.disk_trait.specs.Disks.{Disks, Leaves, MayLeave, NoNewImage, OnDisk, WhereTold}
-use Rattle.held_state.specs.Said.{said}
 use Rattle.held_state.specs.declared.held.Held.{Held}
-use Rattle.log_bytes.specs.declared.body.Body.TheVariants.{Entry as AnEntry}
-use Rattle.log_bytes.specs.declared.state.State.{State}
 use Rattle.log_frame.specs.Log.{Place}
 use Rattle.mob_flusher.specs.Images.{IsFlushed}
-use Rattle.page_format.specs.Pages.{Contents, page_size}
+use Rattle.page_format.specs.Pages.{page_size}
 use Rattle.page_store.proofs.Stores.{agrees_settled}
 use Rattle.page_store.specs.Sides.{KeepsSides, ReachesSides, place_of, side_bytes}
 use Rattle.stable_store.specs.Kept.{IsOpen}
-use Rattle.std.proofs.Common.{List, Option, Some, ap, arith, drop, is_some, length, refl, subst, sym, ◌+◌, ◌<◌, ◌∙◌, ◌≡◌, ◌≤◌, ℕ, None}
+use Rattle.std.proofs.Common.{List, Option, Some, ap, arith, drop, is_some, length, refl, subst, sym, ◌∙◌, ◌≡◌, ℕ, None}
 use Rattle.std.proofs.lemmas.List.{length-drop, length-take}
 use Rattle.std.specs.BTreeMap.{insert_entry}
 use Rattle.std.specs.Ordering.{nat_cmp}

@@ -1,9 +1,9 @@
 -- Sides that end within the length of a disk.
-use Rattle.page_format.specs.Pages.{Rises, page_size}
+use Rattle.page_format.specs.Pages.{Rises}
 use Rattle.page_format.specs.Sides.{SidesFit, side_in_use}
-use Rattle.page_store.specs.Sides.{ReachesSides, place_of}
+use Rattle.page_store.specs.Sides.{ReachesSides}
 use Rattle.stable_store.specs.Reach.{are_within, end_of, is_within}
-use Rattle.std.proofs.Common.{Bool, List, refl, None, Option, Some, [], ap, arith, cond, false, length, nat_le, subst, suc, sym, true, ◌&&◌, ◌*◌, ◌+◌, ◌∷◌, ◌≡◌, ◌≤◌, ℕ}
+use Rattle.std.proofs.Common.{Bool, List, refl, Option, Some, [], ap, arith, cond, false, length, subst, suc, sym, true, ◌&&◌, ◌∷◌, ◌≡◌, ◌≤◌, ℕ}
 use Rattle.std.proofs.lemmas.Bool.Decides.{nat_tests}
 use Rattle.std.specs.BTreeMap.{is_at}
 use Rattle.std.specs.Cmp.{nat_cmp_is}

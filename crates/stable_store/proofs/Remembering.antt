@@ -7,17 +7,17 @@ use Rattle.log_bytes.specs.declared.body.Body.{Body}
 use Rattle.log_bytes.specs.declared.state.State.{State}
 use Rattle.stable_store.specs.Remembering.{Remembers, is_kept}
 use Rattle.state_log.proofs.ValueLaws.{changed_mob, object_in-off, object_in-writes}
-use Rattle.state_log.specs.Recovered.{after, buffered, changed, decided, is_off, kept_by, kept_with, opened_without, page_above, request_at}
+use Rattle.state_log.specs.Recovered.{after, decided, kept_by, kept_with, opened_without, page_above, request_at}
 use Rattle.state_log.specs.Values.{object_in, writes_of, written_last}
-use Rattle.std.proofs.Common.{Bool, List, None, Option, Some, [], ◌∷◌, ap, arith, cond, false, inl, inr, map, max, nat_eq, refl, subst, sym, true, ℕ, ◌+◌, ◌∙◌, ◌≡◌, ◌≤◌, ◌⊎◌}
+use Rattle.std.proofs.Common.{Bool, List, None, Option, Some, [], ◌∷◌, ap, arith, cond, false, map, max, nat_eq, refl, subst, sym, true, ℕ, ◌+◌, ◌∙◌, ◌≡◌, ◌≤◌}
 use Rattle.std.specs.BTreeMap.{insert_entry, is_at}
-use Rattle.std.specs.List.{filter, fold}
+use Rattle.std.specs.List.{fold}
 use Rattle.std.specs.Map.{keys_of, lookup}
 use Rattle.std.specs.Option.{is_some}
 use Rattle.std.specs.Ordering.{eq_by_cmp, nat_cmp}
 use Rattle.thor_value.proofs.FiniteMap.{get-insert}
 use Rattle.thor_value.proofs.NameOrders.{ts_total}
-use Rattle.thor_value.specs.FiniteMap.{Map, get, insert}
+use Rattle.thor_value.specs.FiniteMap.{Map}
 use Rattle.thor_value.specs.Names.{same_oref, ts_cmp}
 use Rattle.thor_value.specs.declared.names.Oref.{Oref}
 use Rattle.thor_value.specs.declared.names.Ts.{Ts}

@@ -32,7 +32,7 @@ use Rattle.stable_store.specs.declared.stable.Stable.{Stable}
 use Rattle.state_log.specs.Holds.{Holds}
 use Rattle.state_log.specs.Opening.{IsFresh}
 use Rattle.state_log.specs.Recovered.{after, chosen, closed, decided, kept_by, opened_without, stands, state_in}
-use Rattle.std.proofs.Common.{Bool, Err, List, None, Ok, Option, Result, Some, ap, arith, false, inl, inr, length, refl, true, suc, zero, subst, sym, ◌+◌, ◌<◌, ◌∙◌, ◌≡◌, ◌≢◌, ◌≤◌, ◌⊎◌, ℕ}
+use Rattle.std.proofs.Common.{Bool, Err, List, None, Ok, Option, Result, Some, ap, arith, false, inl, inr, length, refl, true, suc, zero, subst, sym, ◌+◌, ◌<◌, ◌∙◌, ◌≡◌, ◌⊎◌, ℕ}
 use Rattle.std.proofs.lemmas.Bool.{cases_eq}
 use Rattle.std.specs.Option.{IfSome, IsSome, option_and_then}
 use Rattle.std.specs.Prelude.{IfOk, OnErr, OnOk}

@@ -1,7 +1,7 @@
 -- What the disks say stays so through each call.
 use Rattle.commit_log.specs.declared.entry.Entry.{Entry}
 use Rattle.disk_trait.proofs.Several.{all_now, goes_one}
-use Rattle.disk_trait.specs.AllDisks.{GoesOn, LeavesAll, MayLeaveAll, ReadsAs, TellsAll}
+use Rattle.disk_trait.specs.AllDisks.{GoesOn, LeavesAll, MayLeaveAll, TellsAll}
 use Rattle.disk_trait.specs.Disks.{Disks, NoNewImage, OnDisk, SameDisks}
 use Rattle.disk_trait.specs.Fuse.{with_falls}
 use Rattle.disk_trait.specs.Fused.{armed, fused_disks, parts_of}
@@ -14,21 +14,20 @@ use Rattle.log_bytes.specs.declared.body.Body.{Body}
 use Rattle.log_bytes.specs.declared.state.State.{State}
 use Rattle.log_frame.specs.Log.{Place, Stands}
 use Rattle.mob_flusher.specs.Images.{IsFlushed}
-use Rattle.stable_store.proofs.Opened.{holds_beside, holds_same}
+use Rattle.stable_store.proofs.Opened.{holds_same}
 use Rattle.page_store.specs.Sides.{ReachesSides}
 use Rattle.stable_store.proofs.Pages.{Reach, reach_open, reach_still, tells_before}
 use Rattle.stable_store.proofs.Remembering.{entry_sides, remembers_after, remembers_itself}
 use Rattle.stable_store.specs.Kept.{IsKept, IsOpen, IsOpenIn, disks_of, down, down_with, held_of, is_torn, is_torn_in, is_up_in, lowered, pending, pending_in}
 use Rattle.stable_store.specs.Remembering.{Remembers}
-use Rattle.stable_store.specs.Saying.{FindsOneOf, ImagesSay, IsAhead, IsAheadIn, IsOneOf, IsSaid, LeavesNoMore, LogSays, SayOneOf, SaysIn}
+use Rattle.stable_store.specs.Saying.{ImagesSay, IsAhead, IsAheadIn, IsSaid, LogSays, SaysIn}
 use Rattle.stable_store.specs.declared.stable.Phase.TheVariants.{Down, Torn, Up}
 use Rattle.stable_store.specs.declared.stable.Phase.{Phase}
 use Rattle.stable_store.specs.declared.stable.Stable.{Stable}
 use Rattle.state_log.proofs.Holding.{is_log, stands_of}
 use Rattle.state_log.specs.Holds.{Holds, SaysEither, SaysOneOf, Under, beside}
 use Rattle.state_log.specs.Recovered.{after, stands}
-use Rattle.std.proofs.Common.{List, None, Option, Some, ap, arith, false, inl, inr, is_some, refl, subst, sym, true, ◌+◌, ◌<◌, ◌∙◌, ◌≡◌, ◌≢◌, ◌≤◌, ℕ}
-use Rattle.std.proofs.lemmas.Bool.{cases_eq}
+use Rattle.std.proofs.Common.{List, None, Option, Some, ap, arith, false, inl, inr, refl, subst, sym, true, ◌<◌, ◌∙◌, ◌≡◌, ◌≢◌, ℕ}
 use Rattle.std.specs.BTreeMap.{insert_entry}
 use Rattle.std.specs.Ordering.{nat_cmp}
 use Rattle.log_frame.specs.Log.{read_log}

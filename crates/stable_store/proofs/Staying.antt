@@ -1,5 +1,4 @@
 -- What is kept stays so, by whether the repository is up.
-use Rattle.commit_log.specs.declared.entry.Entry.{Entry}
 use Rattle.disk_trait.specs.Disks.{Disks, SameDisks}
 use Rattle.disk_trait.specs.Fuse.{with_falls}
 use Rattle.disk_trait.specs.Fused.{armed, fused_disks, parts_of}
@@ -9,11 +8,11 @@ use Rattle.held_state.specs.declared.held.Held.{Held}
 use Rattle.log_frame.specs.Log.{Place}
 use Rattle.page_store.specs.Store.{Agrees}
 use Rattle.stable_store.proofs.Opened.{opened_moved, opened_same}
-use Rattle.stable_store.specs.Kept.{IsKept, IsOpen, IsOpenIn, IsResting, disks_of, down, down_with, is_up_in, lowered}
+use Rattle.stable_store.specs.Kept.{IsKept, IsOpen, IsOpenIn, disks_of, down, down_with, is_up_in, lowered}
 use Rattle.stable_store.specs.declared.stable.Phase.TheVariants.{Down, Torn, Up}
 use Rattle.stable_store.specs.declared.stable.Phase.{Phase}
 use Rattle.stable_store.specs.declared.stable.Stable.{Stable}
-use Rattle.std.proofs.Common.{List, None, Option, Some, ap, refl, subst, sym, true, ◌≡◌, ℕ}
+use Rattle.std.proofs.Common.{List, None, subst, sym, true, ◌≡◌, ℕ}
 
 -- the falls of a stop change nothing that is open
 opened_falls : (disks : Disks) (falls : List ℕ) (log : Place) (held : Held) → IsOpen disks log held → IsOpen (with_falls disks falls) log held

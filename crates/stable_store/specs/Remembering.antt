@@ -4,7 +4,7 @@ use Rattle.state_log.specs.Values.{object_in}
 use Rattle.std.specs.BTreeMap.{is_at}
 use Rattle.std.specs.Map.{lookup}
 use Rattle.std.specs.Option.{is_some}
-use Rattle.std.specs.Prelude.{Bool, List, map, true, ℕ, ◌≡◌, ◌≤◌}
+use Rattle.std.specs.Prelude.{Bool, List, map, true, ◌≡◌, ◌≤◌}
 use Rattle.thor_value.specs.Names.{ts_cmp}
 use Rattle.thor_value.specs.declared.names.Oref.{Oref}
 use Rattle.thor_value.specs.declared.names.Ts.{Ts}

@@ -1,9 +1,9 @@
 use Rattle.std.proofs.lemmas.Grind.{common_steps}
-use Rattle.std.proofs.Common.{arith, ◌≡◌, [], ◌∷◌, List, false, rules, subst, sym, true}
+use Rattle.std.proofs.Common.{arith, ◌≡◌, [], ◌∷◌, false, rules, subst, sym, true}
 use Rattle.std.specs.Vec.Iter.{into_iter_items}
 use Rattle.thor_value.specs.FiniteMap.{has}
 use Rattle.two_phase.specs.Contents.{Contents}
-use Rattle.held_state.proofs.Filled.{keep_new, keep_next}
+use Rattle.held_state.proofs.Filled.{keep_next}
 use Rattle.held_state.proofs.Unfit.{none_keeps}
 use Rattle.held_state.specs.Making.{KeepsTo}
 use Rattle.held_state.proofs.making.keep_all.Goals as goal

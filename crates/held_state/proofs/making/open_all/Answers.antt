@@ -1,6 +1,5 @@
-use Rattle.std.proofs.Common.{◌≡◌, [], ◌∷◌, List, false, rules, subst, sym, true}
+use Rattle.std.proofs.Common.{◌≡◌, ◌∷◌, false, rules, subst, sym, true}
 use Rattle.std.specs.Vec.Iter.{into_iter_items}
-use Rattle.commit_log.specs.declared.request.Request.{Request}
 use Rattle.two_phase.specs.Contents.{Contents}
 use Rattle.held_state.proofs.Filled.{open_new, open_next}
 use Rattle.held_state.proofs.Unfit.{none_opens}

@@ -1,4 +1,3 @@
-use Rattle.std.proofs.Common.{◌≡◌}
 use Rattle.std.specs.Vec.Iter.{into_iter_items}
 use Rattle.held_state.specs.Making.{OpensTo}
 use Rattle.held_state.proofs.making.open_all.Given as goal

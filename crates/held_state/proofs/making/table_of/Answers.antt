@@ -1,6 +1,5 @@
-use Rattle.std.proofs.Common.{◌≡◌, Err, Result, rules}
+use Rattle.std.proofs.Common.{◌≡◌, Err, rules}
 use Rattle.held_state.specs.declared.fault.HoldFault.TheVariants.{Unfit}
-use Rattle.held_state.specs.declared.fault.HoldFault.{HoldFault}
 use Rattle.held_state.proofs.Filled.{opens_all, then_alone, then_keeps}
 use Rattle.held_state.proofs.making.table_of.Goals as goal
 

@@ -1,4 +1,4 @@
-use Rattle.std.proofs.Common.{◌≡◌, IsErrOf, rules, subst, sym}
+use Rattle.std.proofs.Common.{IsErrOf, rules, subst, sym}
 use Rattle.std.specs.List.{AllByRecursion}
 use Rattle.log_bytes.specs.Grammar.{BodyFits}
 use Rattle.recovery.specs.Damage.{IsNoBody}

@@ -1,6 +1,6 @@
 use Rattle.log_bytes.specs.Format.{value_of}
 use Rattle.log_bytes.specs.Grammar.{body_format}
-use Rattle.std.proofs.Common.{◌≡◌, IsErrOf, List, Some, map, ℕ, rules, subst, sym, ◌∙◌}
+use Rattle.std.proofs.Common.{◌≡◌, IsErrOf, List, Some, map, ℕ, rules, subst, ◌∙◌}
 use Rattle.held_state.specs.Said.{said}
 use Rattle.recovery.specs.Damage.{CantHold, IsNoBody, NoBody, NoCheckpoint, NoSequence}
 use Rattle.recovery.specs.declared.fault.RecoverFault.TheVariants.{Damaged}

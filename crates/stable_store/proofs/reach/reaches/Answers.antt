@@ -1,6 +1,5 @@
 use Rattle.stable_store.proofs.Reaching.{not_reached}
-use Rattle.stable_store.specs.Reach.{are_within}
-use Rattle.std.proofs.Common.{Bool, Ok, Result, ap, false, length, refl, subst, sym, ◌∙◌, ◌≡◌}
+use Rattle.std.proofs.Common.{Bool, Ok, Result, false, refl, ◌≡◌}
 use Rattle.stable_store.proofs.reach.reaches.Goals as goal
 
 same_answer : {E : Type 0} (r : Result Bool E) (a b : Bool) → r ≡ Ok a → r ≡ Ok b → a ≡ b

@@ -1,8 +1,7 @@
 use Rattle.std.proofs.Common.{◌≡◌, ap, subst, sym, ◌∙◌}
-use Rattle.std.specs.Prelude.{IsTrue}
 use Rattle.held_state.proofs.Ends.{on_ok}
 use Rattle.held_state.proofs.Entries.{can_move, keeps_entered, pages_entered, said_entered}
-use Rattle.held_state.specs.Entering.{CanMove, can_enter, entered}
+use Rattle.held_state.specs.Entering.{CanMove, entered}
 use Rattle.held_state.specs.Keeps.{Keeps}
 use Rattle.held_state.specs.Said.{said}
 use Rattle.held_state.specs.declared.held.Held.{Held}

@@ -1,4 +1,4 @@
-use Rattle.std.proofs.Common.{◌≡◌, subst, sym}
+use Rattle.std.proofs.Common.{subst, sym}
 use Rattle.held_state.proofs.Entries.{keeps_forgotten}
 use Rattle.held_state.specs.Keeps.{Keeps}
 use Rattle.held_state.proofs.state.HeldState.forget.Goals as goal

@@ -1,4 +1,4 @@
-use Rattle.std.proofs.Common.{◌≡◌, subst, sym}
+use Rattle.std.proofs.Common.{subst, sym}
 use Rattle.held_state.proofs.Entries.{keeps_objects, of_without}
 use Rattle.held_state.specs.Keeps.{Keeps}
 use Rattle.held_state.specs.declared.held.Held.{Held}

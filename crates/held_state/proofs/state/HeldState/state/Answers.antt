@@ -7,7 +7,7 @@ use Rattle.log_bytes.specs.Checkpoint.{StateFits}
 use Rattle.log_bytes.specs.declared.state.State.{State}
 use Rattle.mob_buffer.specs.Buffer.{AreDistinct}
 use Rattle.page_format.specs.Sides.{SidesFit}
-use Rattle.std.specs.Prelude.{ℕ, ◌<◌, ◌^◌}
+use Rattle.std.specs.Prelude.{◌<◌, ◌^◌}
 use Rattle.held_state.proofs.state.HeldState.state.Goals as goal
 
 by_end : {E : Type 0} (r : Result State E) (h : Held) → Keeps h → h.count < 2 ^ 62 → IfOk r (λ s. s ≡ spelled h) → OnOk r (AreDistinct h.objects.mob.objects) → OnOk r (SidesFit h.objects.pages.sides) → IfOk r StateFits

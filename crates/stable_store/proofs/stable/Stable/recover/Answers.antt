@@ -1,11 +1,10 @@
 use Rattle.disk_trait.specs.Fused.{fused_disks}
 use Rattle.held_state.specs.Said.{said}
 use Rattle.held_state.specs.declared.held.Held.{Held}
-use Rattle.recovery.specs.declared.fault.RecoverFault.TheVariants.{Damaged as AtRecovery}
 use Rattle.recovery.specs.declared.fault.RecoverFault.{RecoverFault}
 use Rattle.recovery.specs.declared.recovered.Recovered.{Recovered}
 use Rattle.stable_store.proofs.Returning.{finds_one, finds_then, fresh_unheld, if_ok_on, lost_unheld, more_run, more_then, none_lacks, same_err}
-use Rattle.std.proofs.Common.{Err, IsErrOf, Ok, Option, ap, refl, subst, sym, ◌∙◌, ◌≡◌}
+use Rattle.std.proofs.Common.{Err, Ok, Option, ap, refl, subst, sym, ◌∙◌, ◌≡◌}
 use Rattle.validation_window.specs.declared.refusal.Refusal.TheVariants.{Damaged as IsDamaged}
 use Rattle.stable_store.specs.Kept.{disks_of, held_of}
 use Rattle.stable_store.specs.Saying.{FindsOneOf}
