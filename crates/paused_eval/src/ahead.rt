@@ -13,7 +13,8 @@ ghost use Rattle.paused_eval.specs.Standing.{Runs, Went};
 ghost use Rattle.thor_value.specs.declared.names.Oref.{Oref};
 
 use crate::bodies::Bodies;
-use crate::direct::{execute, value_of};
+use crate::direct::value_of;
+use crate::direct_statements::execute;
 use crate::progress::Progress;
 use crate::unwound::{Frames, Unwound};
 use class_defs::{Flow, Stop};

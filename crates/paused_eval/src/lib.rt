@@ -6,6 +6,7 @@ mod bodies;
 mod came;
 mod copies;
 mod direct;
+mod direct_statements;
 mod entering;
 mod granted_names;
 mod kept_texts;

@@ -5,7 +5,7 @@ use Rattle.paused_eval.specs.Copies.{Keeps, Tied, state}
 use Rattle.paused_eval.specs.Counted.{surplus}
 use Rattle.paused_eval.specs.Direct as spec
 use Rattle.paused_eval.specs.Direct.{directly, on}
-use Rattle.paused_eval.proofs.direct.+direct.Given as goal
+use Rattle.paused_eval.proofs.+direct.Given as goal
 
 -- the arguments that are left, behind those that are done, come to what all of them come to
 abbrev pub invariant-collect-loop : goal.invariant-collect-loop

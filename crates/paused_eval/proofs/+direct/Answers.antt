@@ -8,7 +8,7 @@ use Rattle.paused_eval.proofs.Unwinding.{called_does, called_left, collect_left,
 use Rattle.paused_eval.specs.Copies.{state}
 use Rattle.paused_eval.specs.Direct as spec
 use Rattle.paused_eval.specs.Direct.{directly, on}
-use Rattle.paused_eval.proofs.direct.+direct.Goals as goal
+use Rattle.paused_eval.proofs.+direct.Goals as goal
 
 pub called-returns-in_ok-rest-in-Ok-clause-does : goal.called-returns-in_ok-rest-in-Ok-clause-does
 called-returns-in_ok-rest-in-Ok-clause-does g t c =

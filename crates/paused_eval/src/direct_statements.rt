@@ -1,0 +1,352 @@
+//! Statements, blocks and loops by plain recursion, as far as the objects are at hand (`direct`).
+
+ghost use Rattle.std.specs.Prelude.{◌≡◌, map};
+ghost use Rattle.class_defs.specs.declared.statements.Stmt.{out-Stmt};
+ghost use Rattle.paused_defs.specs.Plain.{plain, plain_stmt};
+ghost use Rattle.paused_defs.specs.declared.frames.Frame.TheVariants as frame;
+ghost use Rattle.paused_eval.specs.Bodies.{AreOf};
+ghost use Rattle.paused_eval.specs.Copies.{Keeps, Tied, state};
+ghost use Rattle.paused_eval.specs.Counted.{surplus};
+ghost use Rattle.paused_eval.specs.Direct as spec;
+ghost use Rattle.paused_eval.specs.Direct.{Directs, Lasts, directly, on};
+
+use crate::bodies::Bodies;
+use crate::direct::value_of;
+use crate::moves::first_part;
+use crate::objects::assign_field;
+use crate::progress::Progress;
+use crate::unwound::Unwound;
+use crate::waiting::{
+    behind_block, behind_first_part, behind_statement, behind_test, behind_turn, execute_later,
+    test_later,
+};
+use class_defs::{Flow, STEP_LIMIT, number};
+use client_cache::Cache;
+use method_eval::{Program, assign_local, declare, holds, type_named};
+use paused_defs::{ExprNode, Shared, SharedBlock, StmtNode, StmtNodes};
+use std::sync::ledger::Ledger;
+use thor_value::{NoMemory, Value};
+
+/// The statements of a block in order. A local ends with the block in which it was declared.
+#[cycle(direct)]
+#[tactic(auto, using(crate::proofs::Directly::left_waiting, crate::proofs::Directly::same_world))]
+pub fn block<L: Ledger>(
+    program: &Program<'_>,
+    epoch: u32,
+    cache: &mut Cache,
+    progress: &mut Progress,
+    bodies: &mut Bodies<L>,
+    inner: u32,
+    stmts: SharedBlock,
+) -> Result<Flow, Unwound>
+    requires tied { Tied progress.old.written cache.old }
+    requires known { AreOf program.now.schema.now.classes bodies.old.called }
+    ensures does { Directs result (state progress.new cache.new) (spec.block (on program.now.schema.now cache.old) inner (directly (on program.now.schema.now cache.old) inner) stmts (state progress.old cache.old)) }
+    ensures tied { Lasts result (Tied progress.new.written cache.new) }
+    ensures kept { Lasts result (Keeps cache.old cache.new) }
+    ensures known { AreOf program.now.schema.now.classes bodies.new.called }
+    ensures work { Lasts result (surplus bodies.new.work progress.new.machine.steps ≡ surplus bodies.old.work progress.old.machine.steps) }
+{
+    let count = progress.machine.locals.len();
+    match in_order(program, epoch, cache, progress, bodies, inner, stmts) {
+        Ok(flow) => {
+            progress.machine.locals.truncate(count);
+            Ok(flow)
+        }
+        Err(unwound) => Err(behind_block(unwound, count)),
+    }
+}
+
+/// Statements in order, until one returns.
+#[cycle(direct)]
+#[tactic(auto, using(crate::proofs::Directly::left_waiting, crate::proofs::Directly::same_world))]
+fn in_order<L: Ledger>(
+    program: &Program<'_>,
+    epoch: u32,
+    cache: &mut Cache,
+    progress: &mut Progress,
+    bodies: &mut Bodies<L>,
+    inner: u32,
+    stmts: SharedBlock,
+) -> Result<Flow, Unwound>
+    requires tied { Tied progress.old.written cache.old }
+    requires known { AreOf program.now.schema.now.classes bodies.old.called }
+    ensures does { Directs result (state progress.new cache.new) (spec.in_order (on program.now.schema.now cache.old) inner (directly (on program.now.schema.now cache.old) inner) stmts (state progress.old cache.old)) }
+    ensures tied { Lasts result (Tied progress.new.written cache.new) }
+    ensures kept { Lasts result (Keeps cache.old cache.new) }
+    ensures known { AreOf program.now.schema.now.classes bodies.new.called }
+    ensures work { Lasts result (surplus bodies.new.work progress.new.machine.steps ≡ surplus bodies.old.work progress.old.machine.steps) }
+{
+    let mut left = stmts;
+    for _ in 0..u64::MAX {
+        match left.first() {
+            None => return Ok(Flow::Next),
+            Some(stmt) => match execute(program, epoch, cache, progress, bodies, inner, stmt) {
+                Ok(Flow::Next) => left.drop_first(),
+                Ok(Flow::Returned(value)) => return Ok(Flow::Returned(value)),
+                Err(unwound) => {
+                    left.drop_first();
+                    return Err(behind_statement(unwound, inner, left));
+                }
+            },
+        }
+    }
+    Err(Unwound::NoMemory)
+}
+
+/// A statement whose nodes may be `nested` deep.
+#[cycle(direct)]
+#[tactic(auto, using(crate::proofs::Directly::at_depth, crate::proofs::Directly::left_later, crate::proofs::Counting::counted_step))]
+pub fn execute<L: Ledger>(
+    program: &Program<'_>,
+    epoch: u32,
+    cache: &mut Cache,
+    progress: &mut Progress,
+    bodies: &mut Bodies<L>,
+    nested: u32,
+    stmt: &Shared<StmtNode>,
+) -> Result<Flow, Unwound>
+    requires tied { Tied progress.old.written cache.old }
+    requires known { AreOf program.now.schema.now.classes bodies.old.called }
+    ensures does { Directs result (state progress.new cache.new) ((directly (on program.now.schema.now cache.old) nested).execute (plain_stmt stmt.now) (state progress.old cache.old)) }
+    ensures tied { Lasts result (Tied progress.new.written cache.new) }
+    ensures kept { Lasts result (Keeps cache.old cache.new) }
+    ensures known { AreOf program.now.schema.now.classes bodies.new.called }
+    ensures work { Lasts result (surplus bodies.new.work progress.new.machine.steps ≡ surplus bodies.old.work progress.old.machine.steps) }
+{
+    if nested == 0 || progress.machine.steps >= STEP_LIMIT {
+        return execute_later(program.alloc, nested, stmt);
+    }
+    progress.machine.steps += 1;
+    bodies.work.tick();
+    statement(
+        program,
+        epoch,
+        cache,
+        progress,
+        bodies,
+        nested - 1,
+        stmt.get(),
+    )
+}
+
+/// A statement whose step is taken.
+#[cycle(direct)]
+#[tactic(auto, using(crate::proofs::Directly::left_waiting, crate::proofs::Directly::same_world))]
+fn statement<L: Ledger>(
+    program: &Program<'_>,
+    epoch: u32,
+    cache: &mut Cache,
+    progress: &mut Progress,
+    bodies: &mut Bodies<L>,
+    inner: u32,
+    node: &StmtNode,
+) -> Result<Flow, Unwound>
+    requires tied { Tied progress.old.written cache.old }
+    requires known { AreOf program.now.schema.now.classes bodies.old.called }
+    ensures does { Directs result (state progress.new cache.new) (spec.statement (on program.now.schema.now cache.old) inner (directly (on program.now.schema.now cache.old) inner) (out-Stmt (plain_stmt node.now)) (state progress.old cache.old)) }
+    ensures tied { Lasts result (Tied progress.new.written cache.new) }
+    ensures kept { Lasts result (Keeps cache.old cache.new) }
+    ensures known { AreOf program.now.schema.now.classes bodies.new.called }
+    ensures work { Lasts result (surplus bodies.new.work progress.new.machine.steps ≡ surplus bodies.old.work progress.old.machine.steps) }
+{
+    match value_of(
+        program,
+        epoch,
+        cache,
+        progress,
+        bodies,
+        inner,
+        first_part(node),
+    ) {
+        Ok(value) => effect(program, epoch, cache, progress, bodies, inner, node, value),
+        Err(unwound) => Err(behind_first_part(program, unwound, inner, node)),
+    }
+}
+
+/// What a statement does with the value of its first part.
+#[cycle(direct)]
+#[tactic(auto, using(crate::proofs::Nodes::stmt_nodes))]
+fn effect<L: Ledger>(
+    program: &Program<'_>,
+    epoch: u32,
+    cache: &mut Cache,
+    progress: &mut Progress,
+    bodies: &mut Bodies<L>,
+    inner: u32,
+    node: &StmtNode,
+    value: Value,
+) -> Result<Flow, Unwound>
+    requires tied { Tied progress.old.written cache.old }
+    requires known { AreOf program.now.schema.now.classes bodies.old.called }
+    ensures does { Directs result (state progress.new cache.new) (spec.effect (on program.now.schema.now cache.old) inner (directly (on program.now.schema.now cache.old) inner) (out-Stmt (plain_stmt node.now)) value (state progress.old cache.old)) }
+    ensures tied { Lasts result (Tied progress.new.written cache.new) }
+    ensures kept { Lasts result (Keeps cache.old cache.new) }
+    ensures known { AreOf program.now.schema.now.classes bodies.new.called }
+    ensures work { Lasts result (surplus bodies.new.work progress.new.machine.steps ≡ surplus bodies.old.work progress.old.machine.steps) }
+{
+    match node {
+        StmtNode::Var {
+            type_name,
+            name,
+            ..
+        } => {
+            let kind = type_named(program, type_name);
+            declare(&mut progress.machine, kind, name.get(), value)?;
+            Ok(Flow::Next)
+        }
+        StmtNode::Assign { name, .. } => {
+            assign_local(&mut progress.machine.locals, name.get().as_slice(), value);
+            Ok(Flow::Next)
+        }
+        StmtNode::FieldAssign { field, .. } => {
+            assign_field(
+                program,
+                epoch,
+                cache,
+                progress,
+                field.get().as_slice(),
+                value,
+            )?;
+            Ok(Flow::Next)
+        }
+        StmtNode::Return { .. } => Ok(Flow::Returned(value)),
+        StmtNode::If { then, .. } => {
+            if holds(value) {
+                let stmts = SharedBlock::of(then)?;
+                block(program, epoch, cache, progress, bodies, inner, stmts)
+            } else {
+                Ok(Flow::Next)
+            }
+        }
+        StmtNode::IfElse {
+            then,
+            otherwise,
+            ..
+        } => {
+            if holds(value) {
+                let stmts = SharedBlock::of(then)?;
+                block(program, epoch, cache, progress, bodies, inner, stmts)
+            } else {
+                let stmts = SharedBlock::of(otherwise)?;
+                block(program, epoch, cache, progress, bodies, inner, stmts)
+            }
+        }
+        StmtNode::While { condition, body } => {
+            turns(
+                program, epoch, cache, progress, bodies, inner, condition, body, value,
+            )
+        }
+        StmtNode::Print { .. } => {
+            progress.machine.printed.push(number(value))?;
+            Ok(Flow::Next)
+        }
+        StmtNode::Evaluate { .. } => Ok(Flow::Next),
+    }
+}
+
+/// The body of a loop, whose condition holds.
+#[cycle(direct)]
+#[tactic(auto, using(crate::proofs::Directly::left_waiting))]
+fn turn_body<L: Ledger>(
+    program: &Program<'_>,
+    epoch: u32,
+    cache: &mut Cache,
+    progress: &mut Progress,
+    bodies: &mut Bodies<L>,
+    inner: u32,
+    turns: u32,
+    condition: &Shared<ExprNode>,
+    body: &Shared<StmtNodes>,
+) -> Result<Flow, Unwound>
+    requires tied { Tied progress.old.written cache.old }
+    requires known { AreOf program.now.schema.now.classes bodies.old.called }
+    ensures does { Directs result (state progress.new cache.new) (spec.part (spec.block (on program.now.schema.now cache.old) inner (directly (on program.now.schema.now cache.old) inner) (map plain_stmt body.now)) (frame.Again inner turns (plain condition.now) (map plain_stmt body.now)) spec.done (state progress.old cache.old)) }
+    ensures tied { Lasts result (Tied progress.new.written cache.new) }
+    ensures kept { Lasts result (Keeps cache.old cache.new) }
+    ensures known { AreOf program.now.schema.now.classes bodies.new.called }
+    ensures work { Lasts result (surplus bodies.new.work progress.new.machine.steps ≡ surplus bodies.old.work progress.old.machine.steps) }
+{
+    let stmts = SharedBlock::of(body)?;
+    match block(program, epoch, cache, progress, bodies, inner, stmts) {
+        Ok(flow) => Ok(flow),
+        Err(unwound) => Err(behind_turn(unwound, inner, turns, condition, body)),
+    }
+}
+
+/// The next test of a loop, which takes a step.
+#[cycle(direct)]
+#[tactic(auto, using(crate::proofs::Directly::left_waiting, crate::proofs::Directly::at_turn, crate::proofs::Counting::counted_step))]
+fn test_again<L: Ledger>(
+    program: &Program<'_>,
+    epoch: u32,
+    cache: &mut Cache,
+    progress: &mut Progress,
+    bodies: &mut Bodies<L>,
+    inner: u32,
+    turns: u32,
+    condition: &Shared<ExprNode>,
+    body: &Shared<StmtNodes>,
+) -> Result<Value, Unwound>
+    requires tied { Tied progress.old.written cache.old }
+    requires known { AreOf program.now.schema.now.classes bodies.old.called }
+    ensures does { Directs result (state progress.new cache.new) (spec.tests (on program.now.schema.now cache.old) inner (directly (on program.now.schema.now cache.old) inner) turns (plain condition.now) (map plain_stmt body.now) (state progress.old cache.old)) }
+    ensures tied { Lasts result (Tied progress.new.written cache.new) }
+    ensures kept { Lasts result (Keeps cache.old cache.new) }
+    ensures known { AreOf program.now.schema.now.classes bodies.new.called }
+    ensures work { Lasts result (surplus bodies.new.work progress.new.machine.steps ≡ surplus bodies.old.work progress.old.machine.steps) }
+{
+    if turns == 0 || progress.machine.steps >= STEP_LIMIT {
+        return test_later(program.alloc, inner, turns, condition, body);
+    }
+    progress.machine.steps += 1;
+    bodies.work.tick();
+    match value_of(program, epoch, cache, progress, bodies, inner, condition) {
+        Ok(value) => Ok(value),
+        Err(unwound) => Err(behind_test(unwound, inner, turns - 1, condition, body)),
+    }
+}
+
+/// A loop whose first test has given this value.
+#[cycle(direct)]
+#[tactic(auto, using(crate::proofs::Directly::same_world))]
+fn turns<L: Ledger>(
+    program: &Program<'_>,
+    epoch: u32,
+    cache: &mut Cache,
+    progress: &mut Progress,
+    bodies: &mut Bodies<L>,
+    inner: u32,
+    condition: &Shared<ExprNode>,
+    body: &Shared<StmtNodes>,
+    tested: Value,
+) -> Result<Flow, Unwound>
+    requires tied { Tied progress.old.written cache.old }
+    requires known { AreOf program.now.schema.now.classes bodies.old.called }
+    ensures does { Directs result (state progress.new cache.new) (spec.turn (on program.now.schema.now cache.old) inner (directly (on program.now.schema.now cache.old) inner) 100000 (plain condition.now) (map plain_stmt body.now) tested (state progress.old cache.old)) }
+    ensures tied { Lasts result (Tied progress.new.written cache.new) }
+    ensures kept { Lasts result (Keeps cache.old cache.new) }
+    ensures known { AreOf program.now.schema.now.classes bodies.new.called }
+    ensures work { Lasts result (surplus bodies.new.work progress.new.machine.steps ≡ surplus bodies.old.work progress.old.machine.steps) }
+{
+    let mut value = tested;
+    for count in 0..100_001u32 {
+        if !holds(value) {
+            return Ok(Flow::Next);
+        }
+        let turns = 100_000 - count;
+        match turn_body(
+            program, epoch, cache, progress, bodies, inner, turns, condition, body,
+        )? {
+            Flow::Next => {}
+            Flow::Returned(value) => return Ok(Flow::Returned(value)),
+        }
+        match test_again(
+            program, epoch, cache, progress, bodies, inner, turns, condition, body,
+        ) {
+            Ok(next) => value = next,
+            Err(unwound) => return Err(unwound),
+        }
+    }
+    Err(Unwound::NoMemory)
+}
