@@ -30,15 +30,7 @@ impl<P: Parts> Cluster<P> {
         match event.kind {
             EventKind::Step { client } => self.client_turn(client, Turn::Step),
             EventKind::Deliver { client, repo } => self.deliver(client, repo),
-            EventKind::Flush { repo } => flush(self.seats.as_mut_slice(), repo),
-            EventKind::Checkpoint { repo } => checkpoint(self.seats.as_mut_slice(), repo),
-            EventKind::Stop { repo, calls } => {
-                stop(self.seats.as_mut_slice(), repo, calls);
-                Ok(())
-            }
-            EventKind::Restart { repo, pick } => restart(self.seats.as_mut_slice(), repo, pick),
-            EventKind::Settle { repo } => settle_next(self.seats.as_mut_slice(), repo),
-            EventKind::Unknown => Ok(()),
+            kind => happen(self.seats.as_mut_slice(), kind),
         }
     }
 
@@ -59,6 +51,21 @@ impl<P: Parts> Cluster<P> {
             Ok(repo) => self.client_turn(client, Turn::Deliver { repo }),
             Err(_) => Ok(()),
         }
+    }
+}
+
+/// Performs an event of a repository; any other does nothing.
+fn happen<P: Parts>(seats: &mut [Seat<P>], kind: EventKind) -> Result<(), NoMemory> {
+    match kind {
+        EventKind::Flush { repo } => flush(seats, repo),
+        EventKind::Checkpoint { repo } => checkpoint(seats, repo),
+        EventKind::Stop { repo, calls } => {
+            stop(seats, repo, calls);
+            Ok(())
+        }
+        EventKind::Restart { repo, pick } => restart(seats, repo, pick),
+        EventKind::Settle { repo } => settle_next(seats, repo),
+        EventKind::Step { .. } | EventKind::Deliver { .. } | EventKind::Unknown => Ok(()),
     }
 }
 

@@ -53,22 +53,48 @@ fn take_entries<'a>(
     commits: &mut BTreeMap<Ts, Line>,
 ) -> Result<(), NoMemory> {
     for entry in history {
-        match entry {
-            Entry::One { request } | Entry::Upgraded { request } => take_commit(request, commits)?,
-            Entry::Prepared { request } => {
-                if request.tx.repo == repo {
-                    prepared.insert(request.tx, request)?;
-                }
-            }
-            Entry::Decided { tx, commit: true } => {
-                if let Some(request) = prepared.remove(tx) {
-                    take_commit(request, commits)?;
-                }
-            }
-            Entry::Life { .. } | Entry::Decided { .. } | Entry::Finished { .. } => {}
-        }
+        take_entry(repo, entry, prepared, commits)?;
     }
     Ok(())
+}
+
+/// Takes what an entry says of a transaction that its repository coordinates.
+fn take_entry<'a>(
+    repo: u8,
+    entry: &'a Entry,
+    prepared: &mut BTreeMap<Ts, &'a Request>,
+    commits: &mut BTreeMap<Ts, Line>,
+) -> Result<(), NoMemory> {
+    match entry {
+        Entry::One { request } | Entry::Upgraded { request } => take_commit(request, commits),
+        Entry::Prepared { request } => keep(repo, request, prepared),
+        Entry::Decided { tx, commit: true } => take_prepared(tx, prepared, commits),
+        Entry::Life { .. } | Entry::Decided { .. } | Entry::Finished { .. } => Ok(()),
+    }
+}
+
+/// Keeps a prepared request that the repository coordinates.
+fn keep<'a>(
+    repo: u8,
+    request: &'a Request,
+    prepared: &mut BTreeMap<Ts, &'a Request>,
+) -> Result<(), NoMemory> {
+    if request.tx.repo == repo {
+        prepared.insert(request.tx, request)?;
+    }
+    Ok(())
+}
+
+/// Makes the line of a request that is decided to commit, where it was kept.
+fn take_prepared<'a>(
+    tx: &Ts,
+    prepared: &mut BTreeMap<Ts, &'a Request>,
+    commits: &mut BTreeMap<Ts, Line>,
+) -> Result<(), NoMemory> {
+    match prepared.remove(tx) {
+        Some(request) => take_commit(request, commits),
+        None => Ok(()),
+    }
 }
 
 /// Makes the line of a committed request, where it is an item's.
