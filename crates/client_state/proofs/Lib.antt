@@ -1,2 +1,3 @@
 mod Holding
+pub mod Moving
 pub mod Owing
