@@ -5,10 +5,13 @@ use Rattle.client_state.specs.Links.{session_in}
 use Rattle.client_state.specs.Moving.{CallsIdle, Connected, Drawn, Fetched, Granted, HoldsLess, IsApart, Moves, MovesIf, Rested}
 use Rattle.client_state.specs.declared.calls.Drew.{Drew}
 use Rattle.client_state.specs.declared.held.Held.{Held}
+use Rattle.client_state.specs.declared.link.Link.TheVariants.{Apart, Joined, Unsettled}
+use Rattle.client_state.specs.declared.link.Link.{Link}
 use Rattle.message_outbox.specs.declared.answers.At.{At}
 use Rattle.paused_eval.specs.Copies.{AreAmong}
 use Rattle.port.specs.Views.{View}
-use Rattle.std.proofs.Common.{Bool, inl, inr, refl, subst, true, ◌≡◌, ◌∙◌, ℕ}
+use Rattle.std.proofs.Common.{Bool, List, ap, inl, inr, refl, subst, true, ◌≡◌, ◌∙◌, ℕ}
+use Rattle.std.proofs.lemmas.Option.{same_Some}
 use Rattle.std.specs.Prelude.{None, Option, Result, Some, slice_get, ◌⊎◌}
 use Rattle.thor_value.specs.declared.memory.NoMemory.{NoMemory}
 use Rattle.thor_value.specs.declared.names.Oref.{Oref}
@@ -48,7 +51,22 @@ module _ (shows : Bool) (old new : View) (before after : Held) where
       → session_in at.repo (slice_get before.links.items at.repo) ≡ Some at → after.client ≡ before.client → MovesIf shows old new before after
   by_draw at answer k joined client = λ s. Drawn at answer after.cache.cache (record { floor = k.floor; result = k.result; call = λ t. k.call s; told = k.told; links = k.links; kept_so = k.kept_so }) joined client (λ x. inl refl)
 
+-- ---- sessions
+
+here : (r : ℕ) (at : At) (link : Option Link) → session_in r link ≡ Some at → r ≡ at.repo
+here r at None h = cc
+here r at (Some Apart) h = cc
+here r at (Some (Joined s upto waits)) h = ap (λ (a : At). a.repo) (same_Some (record { repo = r; session = s }) at h)
+here r at (Some (Unsettled sent index)) h = cc
+
+-- the session with a repository is one of that repository
+pub session_is_here : (links : List Link) (r : ℕ) (at : At) → session_in r (slice_get links r) ≡ Some at → session_in at.repo (slice_get links at.repo) ≡ Some at
+session_is_here links r at h = subst (λ (n : ℕ). session_in n (slice_get links n) ≡ Some at) (here r at (slice_get links r) h) h
+
 -- ---- what is dropped behind a call
+
+pub less_itself : (a : Held) → HoldsLess a a
+less_itself a = (refl , refl , λ x. inl refl)
 
 pub less_twice : (a b c : Held) → HoldsLess a b → HoldsLess b c → HoldsLess a c
 less_twice a b c f g = (g.0 ∙ f.0 , g.1 ∙ f.1 , fewer_among (kept a.cache.cache) (kept b.cache.cache) (kept c.cache.cache) f.2 g.2)

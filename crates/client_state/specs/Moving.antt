@@ -1,6 +1,7 @@
 -- What a client's step makes of what it holds: at most one call of its port, and behind it copies that it drops (this project's).
 use Rattle.client_cache.specs.Copies.{Contents, kept}
-use Rattle.client_state.specs.Calling.{Connects, Draws, Fetches, Grants, upto_in}
+use Rattle.client_state.specs.Calling.{Connects, CopiesRefused, Draws, Fetches, Grants, upto_in}
+use Rattle.client_state.specs.Learning.{links_learnt}
 use Rattle.client_state.specs.Links.{NoneAwaits, session_in}
 use Rattle.client_state.specs.declared.calls.Drew.{Drew}
 use Rattle.client_state.specs.declared.held.Held.{Held}
@@ -11,6 +12,7 @@ use Rattle.paused_eval.specs.Copies.{AreAmong}
 use Rattle.port.specs.Views.{View}
 use Rattle.std.specs.Prelude.{Bool, Result, Some, slice_get, true, ℕ, ◌≡◌}
 use Rattle.thor_value.specs.declared.memory.NoMemory.{NoMemory}
+use Rattle.validation_window.specs.declared.refusal.Refusal.{Refusal}
 
 -- The client and its links stay, and no copy comes.
 abbrev pub HoldsLess : Held → Held → Type 0
@@ -23,6 +25,13 @@ CallsIdle at held = (session_in at.repo (slice_get held.links.items at.repo) ≡
 -- Where there is a link with the repository, it is apart.
 abbrev pub IsApart : ℕ → Held → Type 0
 IsApart repo held = (link : Link) → slice_get held.links.items repo ≡ Some link → link ≡ Apart
+
+-- Behind the refusal of a request the client has learnt from it, and may have dropped copies then.
+pub record Learns (refusal : Refusal) (repo : ℕ) (before after : Held) : Type 0 where
+  pub left : Contents
+  pub links : after.links.items ≡ links_learnt refusal repo before.links.items
+  pub kept_so : CopiesRefused refusal repo before.links.items before.cache.cache left
+  pub fewer : AreAmong (kept left) (kept after.cache.cache)
 
 -- The client has called nothing, or one call, by which what it holds became what stands behind it; copies may have been dropped
 -- then.
