@@ -96,7 +96,8 @@ impl Held {
 
     /// The transaction of an Unknown item that a repository coordinates, if there is one.
     pub fn unsettled(&self, repo: u8) -> Option<Ts>
-        ensures { result ≡ None → session_in repo (slice_get self.now.links.items repo) ≡ None → IsApart repo self.now }
+        ensures apart { result ≡ None → session_in repo (slice_get self.now.links.items repo) ≡ None → IsApart repo self.now }
+        ensures none { IsApart repo self.now → result ≡ None }
     {
         match self.links.get(usize::from(repo)) {
             Some(link) => link.unsettled(),

@@ -116,7 +116,8 @@ impl Link {
 
     /// The transaction whose verdict is to be learnt here, if there is one.
     pub fn unsettled(&self) -> Option<Ts>
-        ensures { result ≡ None → (repo : ℕ) → session_at repo self.now ≡ None → self.now ≡ Apart }
+        ensures apart { result ≡ None → (repo : ℕ) → session_at repo self.now ≡ None → self.now ≡ Apart }
+        ensures none { self.now ≡ Apart → result ≡ None }
     {
         match self {
             Link::Unsettled { sent, .. } => Some(sent.ts),
