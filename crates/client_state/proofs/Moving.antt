@@ -66,10 +66,10 @@ session_is_here links r at h = subst (λ (n : ℕ). session_in n (slice_get link
 -- ---- what is dropped behind a call
 
 pub less_itself : (a : Held) → HoldsLess a a
-less_itself a = (refl , refl , λ x. inl refl)
+less_itself a = (refl, refl, λ x. inl refl)
 
 pub less_twice : (a b c : Held) → HoldsLess a b → HoldsLess b c → HoldsLess a c
-less_twice a b c f g = (g.0 ∙ f.0 , g.1 ∙ f.1 , fewer_among (kept a.cache.cache) (kept b.cache.cache) (kept c.cache.cache) f.2 g.2)
+less_twice a b c f g = (g.0 ∙ f.0, g.1 ∙ f.1, fewer_among (kept a.cache.cache) (kept b.cache.cache) (kept c.cache.cache) f.2 g.2)
 
 module _ (old new : View) (a b c : Held) (less : HoldsLess b c) where
   among : (copies : Oref → Option Obj) → AreAmong copies (kept b.cache.cache) → AreAmong copies (kept c.cache.cache)

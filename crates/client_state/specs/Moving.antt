@@ -38,13 +38,13 @@ pub record Learns (refusal : Refusal) (repo : ℕ) (before after : Held) : Type 
 pub data Moves (old new : View) (before after : Held) : Type 0 where
   Rested : new ≡ old → HoldsLess before after → Moves old new before after
   Connected : (repo : ℕ) → Connects true old new repo before.client before.links.items after.links.items → IsApart repo before
-    → after.client ≡ before.client → AreAmong (kept before.cache.cache) (kept after.cache.cache) → Moves old new before after
+      → after.client ≡ before.client → AreAmong (kept before.cache.cache) (kept after.cache.cache) → Moves old new before after
   Fetched : (at : At) (page : ℕ) (left : Contents) → Fetches true old new at page (upto_in (slice_get before.links.items at.repo)) before.links.items after.links.items before.cache.cache left
-    → CallsIdle at before → after.client ≡ before.client → AreAmong (kept left) (kept after.cache.cache) → Moves old new before after
+      → CallsIdle at before → after.client ≡ before.client → AreAmong (kept left) (kept after.cache.cache) → Moves old new before after
   Granted : (at : At) (left : Contents) → Grants true old new at before.links.items after.links.items before.cache.cache left
-    → CallsIdle at before → after.client ≡ before.client → AreAmong (kept left) (kept after.cache.cache) → Moves old new before after
+      → CallsIdle at before → after.client ≡ before.client → AreAmong (kept left) (kept after.cache.cache) → Moves old new before after
   Drawn : (at : At) (answer : Result Drew NoMemory) (left : Contents) → Draws true old new at answer before.links.items after.links.items before.cache.cache left
-    → session_in at.repo (slice_get before.links.items at.repo) ≡ Some at → after.client ≡ before.client → AreAmong (kept left) (kept after.cache.cache) → Moves old new before after
+      → session_in at.repo (slice_get before.links.items at.repo) ≡ Some at → after.client ≡ before.client → AreAmong (kept left) (kept after.cache.cache) → Moves old new before after
 
 -- the same of a port that may show nothing
 abbrev pub MovesIf : Bool → View → View → Held → Held → Type 0

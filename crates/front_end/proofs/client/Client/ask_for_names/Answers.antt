@@ -7,7 +7,7 @@ pub returns-in-Some-clause-acts : goal.returns-in-Some-clause-acts
 returns-in-Some-clause-acts g c = by_grant _ _ _ _ _ _ _ _ c.ask_for_names.ensures.call
 
 pub returns-in-Some-clause-moves : goal.returns-in-Some-clause-moves
-returns-in-Some-clause-moves g c = λ idle settled. c.ask_for_names.ensures.moves (session_is_here c.args.self.now.held.links.items c.args.repo c.in-Some.at (sym c.in-Some.ensures) , idle)
+returns-in-Some-clause-moves g c = λ idle settled. c.ask_for_names.ensures.moves (session_is_here c.args.self.now.held.links.items c.args.repo c.in-Some.at (sym c.in-Some.ensures), idle)
 
 pub returns-in-None-clause-moves : goal.returns-in-None-clause-moves
 returns-in-None-clause-moves g c = λ idle settled. c.join.ensures.moves (settled (sym c.in-None.ensures))
