@@ -7,7 +7,6 @@ use Rattle.client_laws.proofs.Places.{gone_is_own}
 use Rattle.client_laws.proofs.Reasons.{was_calm}
 use Rattle.client_laws.specs.Fitting.{Copies, FitsAt, HoldsNone, Kept}
 use Rattle.client_laws.specs.Seen.{IsSeenRight, LinkAt, LinkIn}
-use Rattle.client_laws.specs.Steps.{AreAmong}
 use Rattle.client_state.specs.Calling.{CopiesLost, CopiesRefused, CopiesStay, is_session_of}
 use Rattle.client_state.specs.Learning.{links_learnt, without_session}
 use Rattle.client_state.specs.Links.{at_repo, is_reply, waiting}
@@ -20,6 +19,7 @@ use Rattle.commit_log.specs.declared.entry.Entry.{Entry}
 use Rattle.commit_log.specs.declared.request.Request.{Request}
 use Rattle.local_history.specs.History.{Base}
 use Rattle.message_outbox.specs.declared.answers.At.{At}
+use Rattle.paused_eval.specs.Copies.{AreAmong}
 use Rattle.port.specs.Views as views
 use Rattle.port.specs.Views.{View}
 use Rattle.port.specs.Works.{Answered, CommitWork, Does, PrepareWork, RequestRefused, alone_entry}

@@ -4,8 +4,7 @@ use Rattle.client_laws.specs.Seen.{IsSeenRight, LinkAt}
 use Rattle.client_state.specs.declared.link.Link.{Link}
 use Rattle.port.specs.Views.{View}
 use Rattle.std.specs.List.{slice_get}
-use Rattle.std.specs.Prelude.{Bool, List, None, Option, Some, ℕ, ◌<◌, ◌≡◌, ◌≢◌, ◌⊎◌}
-use Rattle.thor_value.specs.declared.names.Oref.{Oref}
+use Rattle.std.specs.Prelude.{Bool, List, Option, Some, ℕ, ◌<◌, ◌≡◌, ◌≢◌}
 use Rattle.thor_value.specs.declared.names.Ts.{Ts}
 
 -- what is seen of each repository is right
@@ -20,7 +19,3 @@ pub record LinksFit (port : View) (committed : Ts → Bool) (links : List Link) 
 pub record OthersStay (port : View) (called : Option ℕ) (before after : List Link) (copies left : Copies) : Type 0 where
   pub links : (n : ℕ) → called ≢ Some n → slice_get after n ≡ slice_get before n
   pub copies_stay : (n : ℕ) → n < port.opened.repos → called ≢ Some n → SameCopies (port.opened.base n) left copies
-
--- each copy of the second is one of the first
-abbrev pub AreAmong : Copies → Copies → Type 0
-AreAmong copies left = (x : Oref) → (left x ≡ copies x) ⊎ (left x ≡ None)

@@ -3,7 +3,6 @@
 ghost use Rattle.client_cache.specs.Copies.{Contents, kept};
 ghost use Rattle.client_laws.specs.Fitting.{Copies};
 ghost use Rattle.client_laws.specs.Seen.{IsSeenRight, LinkAt, LinkIn};
-ghost use Rattle.client_laws.specs.Steps.{AreAmong};
 ghost use Rattle.client_state.specs.Calling.{CopiesRefused};
 ghost use Rattle.client_state.specs.Learning.{links_learnt};
 ghost use Rattle.client_state.specs.Links.{is_reply};
@@ -13,6 +12,7 @@ ghost use Rattle.client_state.specs.declared.link.Waits.{Waits};
 ghost use Rattle.commit_log.specs.declared.request.Request.{Request};
 ghost use Rattle.local_history.specs.History.{Base};
 ghost use Rattle.message_outbox.specs.declared.answers.At.{At};
+ghost use Rattle.paused_eval.specs.Copies.{AreAmong};
 ghost use Rattle.port.specs.Views.{View};
 ghost use Rattle.port.specs.Works.{CommitWork, Does, PrepareWork};
 ghost use Rattle.refusal_reasons.specs.declared.reason.Reason.TheVariants as reasons;

@@ -1,3 +1,4 @@
 pub mod Carrying
 mod Holding
+pub mod Moving
 pub mod Owing

@@ -2,6 +2,7 @@ pub mod Calling
 pub mod Causes
 pub mod Learning
 pub mod Links
+pub mod Moving
 pub mod Owing
 pub mod Sending
 pub mod Showing

@@ -2,13 +2,14 @@
 
 ghost use Rattle.client_state.specs.Calling.{Connects, CopiesRefused, Draws, DrawsAbove, Fetches, Grants, links_refused, upto_in};
 ghost use Rattle.client_state.specs.Learning.{KeepsBounds, Rises};
-ghost use Rattle.client_state.specs.Links.{at_repo};
+ghost use Rattle.client_state.specs.Links.{at_repo, session_in};
+ghost use Rattle.client_state.specs.Moving.{CallsIdle, IsApart, MovesIf};
 ghost use Rattle.client_state.specs.Showing.{CameIf, CameShown, DrewIf};
 ghost use Rattle.client_state.specs.declared.link.Link.TheVariants.{Joined};
 ghost use Rattle.client_state.specs.declared.link.Waits.TheVariants.{Idle};
 ghost use Rattle.port.specs.Acting.{Refuses};
 ghost use Rattle.port.specs.Views.{View};
-ghost use Rattle.std.specs.Prelude.{IfOk, slice_get, ◌≡◌};
+ghost use Rattle.std.specs.Prelude.{IfOk, Some, slice_get, ◌≡◌};
 
 use crate::causes::cause_of;
 use crate::held::Held;
@@ -54,6 +55,7 @@ impl Held {
     ) -> Result<Came, NoMemory>
         ensures call { Connects Q.shows (Q.view port.old) (Q.view port.new) repo self.old.client self.old.links.items self.new.links.items }
         ensures copies { self.new.cache ≡ self.old.cache }
+        ensures moves { IsApart repo self.old → MovesIf Q.shows (Q.view port.old) (Q.view port.new) self.old self.new }
         ensures shown { CameIf Q.shows (Q.view port.old) (Q.view port.new) result }
         ensures rises { Rises self.old self.new }
     {
@@ -66,6 +68,7 @@ impl Held {
     fn welcome(&mut self, opened: &Opened, repo: u8, welcome: Welcome) -> Came
         ensures links { self.new.links.items ≡ at_repo self.old.links.items repo (λ l. Joined welcome.session welcome.place Idle) }
         ensures copies { self.new.cache ≡ self.old.cache }
+        ensures client { self.new.client ≡ self.old.client }
         ensures shown { (old new : View) → CameShown old new result }
         ensures rises { Rises self.old self.new }
     {
@@ -94,6 +97,7 @@ impl Held {
     /// Asks for a page.
     pub fn fetch<Q: Port>(&mut self, port: &mut Q, at: At, page: u32) -> Result<Came, NoMemory>
         ensures call { Fetches Q.shows (Q.view port.old) (Q.view port.new) at page (upto_in (slice_get self.old.links.items at.repo)) self.old.links.items self.new.links.items self.old.cache.cache self.new.cache.cache }
+        ensures moves { CallsIdle at self.old → MovesIf Q.shows (Q.view port.old) (Q.view port.new) self.old self.new }
         ensures shown { CameIf Q.shows (Q.view port.old) (Q.view port.new) result }
         ensures bounds { KeepsBounds self.old self.new }
     {
@@ -109,6 +113,7 @@ impl Held {
     /// Asks for a page of names.
     pub fn ask_for_names<Q: Port>(&mut self, port: &mut Q, at: At) -> Result<Came, NoMemory>
         ensures call { Grants Q.shows (Q.view port.old) (Q.view port.new) at self.old.links.items self.new.links.items self.old.cache.cache self.new.cache.cache }
+        ensures moves { CallsIdle at self.old → MovesIf Q.shows (Q.view port.old) (Q.view port.new) self.old self.new }
         ensures shown { CameIf Q.shows (Q.view port.old) (Q.view port.new) result }
         ensures bounds { KeepsBounds self.old self.new }
     {
@@ -124,6 +129,7 @@ impl Held {
     /// Draws a timestamp.
     pub fn draw<Q: Port>(&mut self, port: &mut Q, at: At) -> Result<Drew, NoMemory>
         ensures call { Draws Q.shows (Q.view port.old) (Q.view port.new) at result self.old.links.items self.new.links.items self.old.cache.cache self.new.cache.cache }
+        ensures moves { session_in at.repo (slice_get self.old.links.items at.repo) ≡ Some at → MovesIf Q.shows (Q.view port.old) (Q.view port.new) self.old self.new }
         ensures above { DrawsAbove Q.shows (Q.view port.old) (Q.view port.new) at self.old.floor self.old.links.items result }
         ensures shown { DrewIf Q.shows (Q.view port.old) (Q.view port.new) result }
         ensures bounds { KeepsBounds self.old self.new }
@@ -139,6 +145,7 @@ impl Held {
     fn refused(&mut self, repo: u8, refusal: Refusal) -> Result<Came, NoMemory>
         ensures links { self.new.links.items ≡ links_refused refusal repo self.old.links.items }
         ensures copies { CopiesRefused refusal repo self.old.links.items self.old.cache.cache self.new.cache.cache }
+        ensures client { self.new.client ≡ self.old.client }
         ensures shown { IfOk result (λ came. (old new : View) → Refuses old new repo refusal → CameShown old new came) }
         ensures bounds { KeepsBounds self.old self.new }
     {
@@ -152,6 +159,7 @@ impl Held {
     fn lose_gone(&mut self, repo: u8, refusal: Refusal) -> bool
         ensures links { self.new.links.items ≡ links_refused refusal repo self.old.links.items }
         ensures copies { CopiesRefused refusal repo self.old.links.items self.old.cache.cache self.new.cache.cache }
+        ensures client { self.new.client ≡ self.old.client }
         ensures bounds { KeepsBounds self.old self.new }
     {
         match refusal {

@@ -3,6 +3,7 @@
 ghost use Rattle.client_state.specs.Calling.{CopiesLost, CopiesStay, is_session_of, upto_in};
 ghost use Rattle.client_state.specs.Learning.{KeepsBounds, Rises, without_session};
 ghost use Rattle.client_state.specs.Links.{CountsUnsettled, NoneAwaits, NoneIsBehind, at_repo, awaits_reply, is_behind, session_in, waiting};
+ghost use Rattle.client_state.specs.Moving.{HoldsLess, IsApart};
 ghost use Rattle.client_state.specs.Taking.{BringsPage};
 ghost use Rattle.client_state.specs.declared.link.Link.{Link};
 ghost use Rattle.client_cache.specs.Copies.{kept};
@@ -94,7 +95,10 @@ impl Held {
     }
 
     /// The transaction of an Unknown item that a repository coordinates, if there is one.
-    pub fn unsettled(&self, repo: u8) -> Option<Ts> {
+    pub fn unsettled(&self, repo: u8) -> Option<Ts>
+        ensures apart { result ≡ None → session_in repo (slice_get self.now.links.items repo) ≡ None → IsApart repo self.now }
+        ensures none { IsApart repo self.now → result ≡ None }
+    {
         match self.links.get(usize::from(repo)) {
             Some(link) => link.unsettled(),
             None => None,
@@ -211,6 +215,7 @@ impl Held {
         ensures copies { (x : Oref) → kept self.new.cache.cache x ≡ cond (nat_eq x.repo repo) None (kept self.old.cache.cache x) }
         ensures links { self.new.links ≡ self.old.links }
         ensures floor { self.new.floor ≡ self.old.floor }
+        ensures client { self.new.client ≡ self.old.client }
         ensures bounds { KeepsBounds self.old self.new }
     {
         self.cache.drop_repo(repo);
@@ -222,6 +227,7 @@ impl Held {
         ensures links { self.new.links.items ≡ at_repo self.old.links.items repo (without_session session) }
         ensures floor { self.new.floor ≡ self.old.floor }
         ensures copies { CopiesLost session repo self.old.links.items self.old.cache.cache self.new.cache.cache }
+        ensures client { self.new.client ≡ self.old.client }
         ensures bounds { KeepsBounds self.old self.new }
     {
         if self.end_session(repo, session) {
@@ -334,6 +340,7 @@ impl Held {
     pub fn undo(&mut self)
         ensures copies { CopiesStay self.old.cache.cache self.new.cache.cache }
         ensures links { self.new.links ≡ self.old.links }
+        ensures less { HoldsLess self.old self.new }
         ensures bounds { KeepsBounds self.old self.new }
     {
         self.cache.undo();
@@ -343,6 +350,7 @@ impl Held {
     /// What a try has changed is given up, and the try has ended.
     pub fn give_up(&mut self)
         ensures links { self.new.links ≡ self.old.links }
+        ensures less { HoldsLess self.old self.new }
         ensures bounds { KeepsBounds self.old self.new }
     {
         self.undo();

@@ -1,5 +1,6 @@
 //! What a client learns from a refusal.
 
+ghost use Rattle.client_state.specs.Calling.{CopiesRefused};
 ghost use Rattle.client_state.specs.Learning.{Rises, floor_learnt, links_learnt};
 ghost use Rattle.std.specs.Prelude.{◌≡◌};
 
@@ -13,6 +14,7 @@ impl Held {
     pub fn learn(&mut self, repo: u8, refusal: Refusal)
         ensures links { self.new.links.items ≡ links_learnt refusal repo self.old.links.items }
         ensures floor { self.new.floor ≡ floor_learnt refusal self.old.floor }
+        ensures copies { CopiesRefused refusal repo self.old.links.items self.old.cache.cache self.new.cache.cache }
         ensures rises { Rises self.old self.new }
     {
         match refusal {

@@ -2,7 +2,8 @@
 
 ghost use Rattle.client_state.specs.Learning.{is_session, without_session};
 ghost use Rattle.client_state.specs.Links.{acknowledged, answered, is_behind, awaits_reply, is_behind_of, session_at, unsettled_time, upto_of, waiting};
-ghost use Rattle.std.specs.Prelude.{◌≡◌};
+ghost use Rattle.client_state.specs.declared.link.Link.TheVariants.{Apart};
+ghost use Rattle.std.specs.Prelude.{None, ℕ, ◌≡◌};
 
 use crate::transaction::Sent;
 use message_outbox::At;
@@ -116,7 +117,10 @@ impl Link {
     }
 
     /// The transaction whose verdict is to be learnt here, if there is one.
-    pub fn unsettled(&self) -> Option<Ts> {
+    pub fn unsettled(&self) -> Option<Ts>
+        ensures apart { result ≡ None → (repo : ℕ) → session_at repo self.now ≡ None → self.now ≡ Apart }
+        ensures none { self.now ≡ Apart → result ≡ None }
+    {
         match self {
             Link::Unsettled { sent, .. } => Some(sent.ts),
             Link::Apart | Link::Joined { .. } => None,

@@ -1,6 +1,9 @@
 //! How the transaction of an item is evaluated.
 
 ghost use Rattle.client_state.specs.Learning.{Rises};
+ghost use Rattle.client_state.specs.Links.{NoneAwaits};
+ghost use Rattle.client_state.specs.Moving.{MovesIf};
+ghost use Rattle.front_end.specs.Moving.{NoneUnsettled};
 ghost use Rattle.front_end.specs.Showing.{ShownIf};
 ghost use Rattle.client_state.specs.Showing.{CameIf};
 ghost use Rattle.port.specs.Acting.{ActsIf};
@@ -85,6 +88,7 @@ impl Client {
     ) -> Result<News, NoMemory>
         ensures acts { ActsIf Q.shows (Q.view port.old) (Q.view port.new) }
         ensures shown { ShownIf Q.shows (Q.view port.old) (Q.view port.new) opened.now.repos result }
+        ensures moves { NoneAwaits 8 self.old.held.links.items → NoneUnsettled oref.repo self.old.held → MovesIf Q.shows (Q.view port.old) (Q.view port.new) self.old.held self.new.held }
         ensures rises { Rises self.old.held self.new.held }
     {
         if oref.repo >= opened.repos {
@@ -104,6 +108,7 @@ impl Client {
     ) -> Result<News, NoMemory>
         ensures acts { ActsIf Q.shows (Q.view port.old) (Q.view port.new) }
         ensures shown { ShownIf Q.shows (Q.view port.old) (Q.view port.new) opened.now.repos result }
+        ensures moves { NoneAwaits 8 self.old.held.links.items → NoneUnsettled repo self.old.held → MovesIf Q.shows (Q.view port.old) (Q.view port.new) self.old.held self.new.held }
         ensures rises { Rises self.old.held self.new.held }
     {
         if repo >= opened.repos {
@@ -127,12 +132,13 @@ impl Client {
     ) -> Result<Came, NoMemory>
         ensures acts { ActsIf Q.shows (Q.view port.old) (Q.view port.new) }
         ensures shown { CameIf Q.shows (Q.view port.old) (Q.view port.new) result }
+        ensures moves { NoneAwaits 8 self.old.held.links.items → NoneUnsettled oref.repo self.old.held → MovesIf Q.shows (Q.view port.old) (Q.view port.new) self.old.held self.new.held }
         ensures rises { Rises self.old.held self.new.held }
     {
-        let Some(at) = self.held.at(oref.repo) else {
-            return self.join(port, opened, oref.repo);
-        };
-        self.held.fetch(port, at, oref.page)
+        match self.held.at(oref.repo) {
+            Some(at) => self.held.fetch(port, at, oref.page),
+            None => self.join(port, opened, oref.repo),
+        }
     }
 
     /// Asks for a page of names, or begins a session at the repository.
@@ -144,11 +150,12 @@ impl Client {
     ) -> Result<Came, NoMemory>
         ensures acts { ActsIf Q.shows (Q.view port.old) (Q.view port.new) }
         ensures shown { CameIf Q.shows (Q.view port.old) (Q.view port.new) result }
+        ensures moves { NoneAwaits 8 self.old.held.links.items → NoneUnsettled repo self.old.held → MovesIf Q.shows (Q.view port.old) (Q.view port.new) self.old.held self.new.held }
         ensures rises { Rises self.old.held self.new.held }
     {
-        let Some(at) = self.held.at(repo) else {
-            return self.join(port, opened, repo);
-        };
-        self.held.ask_for_names(port, at)
+        match self.held.at(repo) {
+            Some(at) => self.held.ask_for_names(port, at),
+            None => self.join(port, opened, repo),
+        }
     }
 }

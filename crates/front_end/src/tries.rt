@@ -1,6 +1,7 @@
 //! How a try goes on behind a call, begins anew, and ends.
 
 ghost use Rattle.client_state.specs.Learning.{KeepsBounds, Rises, floor_learnt, links_learnt};
+ghost use Rattle.client_state.specs.Moving.{HoldsLess, Learns};
 ghost use Rattle.client_state.specs.Showing.{CameShown, IsLearnt};
 ghost use Rattle.client_state.specs.declared.phase.Phase.TheVariants as phase;
 ghost use Rattle.front_end.specs.Moving.{uncounted};
@@ -48,6 +49,7 @@ impl Client {
     /// Behind a call the try goes on as it is, begins anew, or ends.
     pub fn go_behind(&mut self, came: Came) -> News
         ensures shown { (old new : View) (repos : ℕ) → CameShown old new came → NewsShown old new repos result }
+        ensures less { HoldsLess self.old.held self.new.held }
         ensures rises { Rises self.old.held self.new.held }
     {
         match came {
@@ -65,6 +67,7 @@ impl Client {
     /// anew.
     fn take_learnt(&mut self, learnt: Learnt) -> News
         ensures shown { (old new : View) (repos : ℕ) → IsLearnt old new learnt.settled → NewsShown old new repos result }
+        ensures less { HoldsLess self.old.held self.new.held }
         ensures rises { Rises self.old.held self.new.held }
     {
         let Learnt { settled, rises } = learnt;
@@ -78,6 +81,7 @@ impl Client {
     pub fn begin_anew(&mut self)
         ensures phase { self.new.phase ≡ phase.Beginning }
         ensures duties { self.new.duties ≡ self.old.duties }
+        ensures less { HoldsLess self.old.held self.new.held }
         ensures rises { Rises self.old.held self.new.held }
     {
         self.held.undo();
@@ -89,6 +93,7 @@ impl Client {
     pub fn end_try(&mut self, cause: Cause) -> News
         ensures news { result ≡ news.TryEnded cause }
         ensures links { self.new.held.links ≡ self.old.held.links }
+        ensures less { HoldsLess self.old.held self.new.held }
         ensures bounds { KeepsBounds self.old.held self.new.held }
         ensures phase { self.new.phase ≡ phase.Between }
         ensures left { (tries : ℕ) → uncounted tries self.new ≤ uncounted tries self.old }
@@ -116,6 +121,7 @@ impl Client {
         ensures shown { IfOk result (λ news. (old new : View) (repos : ℕ) → Refuses old new repo refusal → NewsShown old new repos news) }
         ensures links { OnOk result (self.new.held.links.items ≡ links_learnt refusal repo self.old.held.links.items) }
         ensures floor { OnOk result (self.new.held.floor ≡ floor_learnt refusal self.old.held.floor) }
+        ensures learns { OnOk result (Learns refusal repo self.old.held self.new.held) }
         ensures rises { Rises self.old.held self.new.held }
     {
         let cause = cause_of(refusal, repo)?;

@@ -1,5 +1,5 @@
 -- What the code finds of an object is what the run sees of it, and what a write makes of that.
-use Rattle.std.proofs.Common.{◌≡◌, ◌<◌, ◌&&◌, zero, suc, take, Bool, true, false, cond, List, [], ◌∷◌, ℕ, Option, Some, None, refl, ap, sym, ◌∙◌, is_eq, Ordering, Less, Equal, Greater, arith}
+use Rattle.std.proofs.Common.{◌≡◌, ◌<◌, ◌&&◌, zero, suc, take, Bool, true, false, cond, List, [], ◌∷◌, ℕ, Option, Some, None, refl, ap, inl, inr, subst, sym, ◌∙◌, is_eq, Ordering, Less, Equal, Greater, arith}
 use Rattle.std.proofs.lemmas.Bool.Decides.{nat_tests}
 use Rattle.std.proofs.lemmas.Bool.{eqb-true}
 use Rattle.std.proofs.lemmas.Cmp.{tied_itself}
@@ -9,7 +9,7 @@ use Rattle.std.specs.List.Sorted.{IsStrictlySortedBy}
 use Rattle.std.specs.Map.{keys_of, lookup}
 use Rattle.std.specs.Option.{option_or}
 use Rattle.std.specs.Ordering.{eq_by_cmp}
-use Rattle.std.specs.Prelude.{nat_lt, is_some, not, nat_eq, option_map, option_and_then}
+use Rattle.std.specs.Prelude.{nat_lt, is_some, not, nat_eq, option_map, option_and_then, ◌⊎◌}
 use Rattle.thor_value.proofs.FiniteMap.{get-insert, get-keep, IsSorted-insert, IsSorted-keep, same_map}
 use Rattle.thor_value.proofs.NameOrders.{oref_exact, oref_total}
 use Rattle.thor_value.specs.FiniteMap.{Set, empty, get, has, insert, keep, keys}
@@ -29,7 +29,7 @@ use Rattle.client_cache.specs.Slots as slots
 use Rattle.client_cache.specs.declared.page_copies.Slot.{Slot}
 use Rattle.method_eval.specs.Viewed.{current}
 use Rattle.paused_defs.specs.Reaches.{over}
-use Rattle.paused_eval.specs.Copies.{Keeps, Tied, at_hand, entries, entry, seen_now, state, unless_due, written_in}
+use Rattle.paused_eval.specs.Copies.{AreAmong, Keeps, Tied, at_hand, entries, entry, seen_now, state, unless_due, written_in}
 use Rattle.paused_eval.specs.declared.progress.Progress.{Progress}
 
 -- ---- looks
@@ -152,6 +152,22 @@ fewer_written n c d e h = λ x. ap (λ (held : Held). told slots.written_in held
 
 pub fewer_tied : (n : ℕ) (c d : Contents) → d.held ≡ take n c.held → ((x : Oref) → changed c x ≡ None) → Tied empty d
 fewer_tied n c d e h = none_written d (fewer_written n c d e h)
+
+told_before : (n : ℕ) (held : Held) (x : Oref) → (told slots.kept_in (take n held) x ≡ told slots.kept_in held x) ⊎ (told slots.kept_in (take n held) x ≡ None)
+told_before zero held x = inr refl
+told_before (suc n) [] x = inl refl
+told_before (suc n) (e ∷ es) x = (elim (same_page (page_of x) e.0) as (λ b. same_page (page_of x) e.0 ≡ b → (told slots.kept_in (take (suc n) (e ∷ es)) x ≡ told slots.kept_in (e ∷ es) x) ⊎ (told slots.kept_in (take (suc n) (e ∷ es)) x ≡ None)) [
+  | true ↦ λ t. rw t (inl refl)
+  | false ↦ λ t. rw t (told_before n es x)
+]) refl
+
+-- copies that stayed, with fewer pages
+pub fewer_kept : (n : ℕ) (a c d : Contents) → Keeps a c → d.held ≡ take n c.held → AreAmong (kept a) (kept d)
+fewer_kept n a c d same e x = subst (λ (held : Held). (told slots.kept_in held x ≡ kept a x) ⊎ (told slots.kept_in held x ≡ None)) (sym e) (by (told_before n c.held x))
+  where
+    by : (told slots.kept_in (take n c.held) x ≡ kept c x) ⊎ (told slots.kept_in (take n c.held) x ≡ None) → (told slots.kept_in (take n c.held) x ≡ kept a x) ⊎ (told slots.kept_in (take n c.held) x ≡ None)
+    by (inl p) = inl (p ∙ same x)
+    by (inr p) = inr p
 
 others : (b : Bool) (ch : Option Obj) (u : Option (Unit {0})) → is_some ch ≡ is_some u → is_some (cond b None ch) ≡ is_some (cond (not b) u None)
 others true ch u h = refl

@@ -1,5 +1,5 @@
 -- What a run whose objects lie in a cache sees: copies as they were before the try, and what it has written.
-use Rattle.std.specs.Prelude.{◌≡◌, ◌<◌, ◌&&◌, Bool, true, not, if◌then◌else◌, nat_lt, List, [], ◌∷◌, Option, Some, None, is_some}
+use Rattle.std.specs.Prelude.{◌≡◌, ◌<◌, ◌&&◌, Bool, true, not, if◌then◌else◌, nat_lt, List, [], ◌∷◌, Option, Some, None, is_some, ◌⊎◌}
 use Rattle.thor_value.specs.FiniteMap.{IsSorted, Map, Set, has, keys}
 use Rattle.thor_value.specs.Names.{oref_cmp}
 use Rattle.thor_value.specs.declared.names.Oref.{Oref}
@@ -55,6 +55,10 @@ pub record Tied (written : Set oref_cmp) (c : Contents) : Type 0 where
 -- both hold the same copies as they were before the try
 abbrev pub Keeps : Contents → Contents → Type 0
 Keeps c d = (x : Oref) → kept d x ≡ kept c x
+
+-- each copy of the second is one of the first
+abbrev pub AreAmong : (Oref → Option Obj) → (Oref → Option Obj) → Type 0
+AreAmong copies left = (x : Oref) → (left x ≡ copies x) ⊎ (left x ≡ None)
 
 -- an object as the code finds it
 abbrev pub unless_due : Schema → Bool → Option Obj → Option Object

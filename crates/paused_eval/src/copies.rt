@@ -8,7 +8,7 @@ ghost use Rattle.client_cache.specs.Copies.{changed, kept, nothing, pages, seen}
 ghost use Rattle.client_cache.specs.Looks.{Tells};
 ghost use Rattle.client_cache.specs.Pages.{on, page_of, same_name, same_page};
 ghost use Rattle.client_cache.specs.Placing.{IsObjectPage, IsPageOf};
-ghost use Rattle.paused_eval.specs.Copies.{Keeps, Tied};
+ghost use Rattle.paused_eval.specs.Copies.{AreAmong, Keeps, Tied};
 
 use crate::written_names::WrittenNames;
 use client_cache::{Cache, Looked};
@@ -144,8 +144,9 @@ impl Copies {
 
     /// Drops whole pages, the least recently used ones first, until at most as many are left as were given to
     /// `new`. It is called between tries: what a try has written and not settled is given up.
-    #[tactic(auto, using(crate::proofs::Hands::fewer_written, crate::proofs::Hands::fewer_tied))]
+    #[tactic(auto, using(crate::proofs::Hands::fewer_written, crate::proofs::Hands::fewer_tied, crate::proofs::Hands::fewer_kept))]
     pub fn evict(&mut self)
+        ensures kept { AreAmong (kept self.old.cache) (kept self.new.cache) }
         ensures changed { (x : Oref) → changed self.new.cache x ≡ None }
         ensures names { self.new.cache.written ≡ [] }
         ensures written { self.new.written ≡ empty }

@@ -1,7 +1,8 @@
+use Rattle.client_state.proofs.Moving.{moves_then_drops, session_is_here}
 use Rattle.client_state.specs.Showing.{DrewShown}
 use Rattle.front_end.proofs.Acting.{by_draw}
 use Rattle.front_end.proofs.client.Client.draw.Goals as goal
-use Rattle.std.proofs.Common.{subst}
+use Rattle.std.proofs.Common.{subst, sym}
 
 pub returns-in_err-ts-clause-acts : goal.returns-in_err-ts-clause-acts
 returns-in_err-ts-clause-acts g c = by_draw _ _ _ _ _ _ _ _ _ c.draw.ensures.call
@@ -14,3 +15,12 @@ returns-in-Refused-clause-acts g c = by_draw _ _ _ _ _ _ _ _ _ c.draw.ensures.ca
 
 pub returns-in-Refused-clause-shown : goal.returns-in-Refused-clause-shown
 returns-in-Refused-clause-shown g c = λ repos s. c.go_behind.ensures.shown _ _ repos (subst (DrewShown (g.Q.Port.view c.args.port.now) (g.Q.Port.view c.draw.new.port)) c.in-Refused.is (c.in_ok-ts.ensures.shown s))
+
+pub returns-in_err-ts-clause-moves : goal.returns-in_err-ts-clause-moves
+returns-in_err-ts-clause-moves g c = λ s. (c.draw.ensures.moves (session_is_here c.args.self.now.held.links.items c.args.coordinator c.in-Some.at (sym c.in-Some.ensures)) s)
+
+pub returns-in-Ts-clause-moves : goal.returns-in-Ts-clause-moves
+returns-in-Ts-clause-moves g c = λ s. rw (c.set_phase.ensures, c.take_phase.ensures.rest) (c.draw.ensures.moves (session_is_here c.args.self.now.held.links.items c.args.coordinator c.in-Some.at (sym c.in-Some.ensures)) s)
+
+pub returns-in-Refused-clause-moves : goal.returns-in-Refused-clause-moves
+returns-in-Refused-clause-moves g c = λ s. moves_then_drops (g.Q.Port.view c.args.port.now) (g.Q.Port.view c.draw.new.port) c.args.self.now.held c.draw.new.self c.go_behind.new.self.held c.go_behind.ensures.less (c.draw.ensures.moves (session_is_here c.args.self.now.held.links.items c.args.coordinator c.in-Some.at (sym c.in-Some.ensures)) s)
