@@ -9,13 +9,12 @@ ghost use Rattle.std.specs.Prelude.{OnErr, OnOk, length, ◌+◌, ◌≡◌, ◌
 ghost use Rattle.thor_value.specs.FiniteMap.{empty, get, insert, len};
 ghost use Rattle.validation_queue.specs.Names.{Rises};
 
-use link_table::Steps;
 use std::alloc::Global;
 use std::collections::BTreeMap;
 use std::marker::Model;
 use std::ops::Bound;
 use std::sync::ledger::Ledger;
-use thor_value::{NoMemory, Oref};
+use thor_value::{NoMemory, Oref, StepCount};
 use validation_queue::is_one_of;
 
 /// The objects of which a client may have a copy that isn't current, each with the place of its last
@@ -105,7 +104,7 @@ impl InvalidSet {
         &self,
         names: &[Oref],
         upto: u64,
-        steps: &mut Steps<L>,
+        steps: &mut StepCount<L>,
     ) -> Option<(Oref, u64)>
         requires { Rises names.now }
         ensures value { result ≡ first_stale self.now upto names.now }
@@ -134,7 +133,7 @@ impl InvalidSet {
         &self,
         names: &[Oref],
         upto: u64,
-        steps: &mut Steps<L>,
+        steps: &mut StepCount<L>,
     ) -> Option<(Oref, u64)>
         ensures value { result ≡ first_stale self.now upto names.now }
         ensures cost { steps.new ≤ steps.old + length names.now }
@@ -152,7 +151,7 @@ impl InvalidSet {
         &self,
         names: &[Oref],
         upto: u64,
-        steps: &mut Steps<L>,
+        steps: &mut StepCount<L>,
     ) -> Option<(Oref, u64)>
         requires { Rises names.now }
         ensures value { result ≡ first_stale self.now upto names.now }

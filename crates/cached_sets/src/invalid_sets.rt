@@ -10,12 +10,11 @@ ghost use Rattle.validation_queue.specs.Names.{Rises};
 
 use crate::invalid_set::InvalidSet;
 use crate::marked::Marked;
-use link_table::Steps;
 use std::alloc::Global;
 use std::collections::BTreeMap;
 use std::marker::Model;
 use std::sync::ledger::Ledger;
-use thor_value::{NoMemory, Oref};
+use thor_value::{NoMemory, Oref, StepCount};
 
 /// The invalid sets of some sessions. Contracts see them as a finite map.
 #[derive(Drop)]
@@ -89,7 +88,7 @@ impl InvalidSets {
     }
 
     /// Takes marks back, the last one first, and counts a step for each.
-    pub fn undo<L: Ledger>(&mut self, mut done: Vec<Marked>, steps: &mut Steps<L>)
+    pub fn undo<L: Ledger>(&mut self, mut done: Vec<Marked>, steps: &mut StepCount<L>)
         ensures rest { self.new ≡ undo self.old done.items }
         ensures cost { steps.new ≡ steps.old + length done.items }
     {
@@ -124,7 +123,7 @@ impl InvalidSets {
         session: u32,
         names: &[Oref],
         upto: u64,
-        steps: &mut Steps<L>,
+        steps: &mut StepCount<L>,
     ) -> Option<(Oref, u64)>
         requires { Rises names.now }
         ensures value { result ≡ first_stale (set_of self.now session) upto names.now }

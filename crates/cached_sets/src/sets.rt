@@ -12,11 +12,11 @@ ghost use Rattle.validation_queue.specs.Names.{Rises};
 
 use crate::invalid_sets::InvalidSets;
 use crate::marked::Marked;
-use link_table::{Links, Steps};
+use link_table::Links;
 use std::alloc::Global;
 use std::marker::{Brand, Model};
 use std::sync::ledger::{Blank, Ledger};
-use thor_value::{NoMemory, Oref, Orefs, Writes};
+use thor_value::{NoMemory, Oref, Orefs, StepCount, Writes};
 
 /// For each session the pages that its client may have, and its invalid set: the objects on those
 /// pages that other sessions have written since, each with the place of its last such write (Adya and
@@ -94,7 +94,7 @@ impl Sets {
         ensures ok { OnOk result (self.new ≡ touch self.old writer (keys_of writes.now) place) }
         ensures err { OnErr result (self.new ≡ self.old) }
     {
-        let mut steps: Steps<L> = Steps::new(ledger);
+        let mut steps: StepCount<L> = StepCount::new(ledger);
         self.touch_counted(writer, writes, place, &mut steps)
     }
 
@@ -107,7 +107,7 @@ impl Sets {
         writer: u32,
         writes: &Writes,
         place: u64,
-        steps: &mut Steps<L>,
+        steps: &mut StepCount<L>,
     ) -> Result<(), NoMemory>
         ensures ok { OnOk result (self.new ≡ touch self.old writer (keys_of writes.now) place) }
         ensures err { OnErr result (self.new ≡ self.old) }
@@ -175,7 +175,7 @@ impl Sets {
         requires some { 0 < ledger.parts }
         ensures { result ≡ stale self.now session ros.now upto }
     {
-        let mut steps: Steps<L> = Steps::new(ledger);
+        let mut steps: StepCount<L> = StepCount::new(ledger);
         self.stale_counted(session, ros, upto, &mut steps)
     }
 
@@ -186,7 +186,7 @@ impl Sets {
         session: u32,
         ros: &Orefs,
         upto: u64,
-        steps: &mut Steps<L>,
+        steps: &mut StepCount<L>,
     ) -> Option<(Oref, u64)>
         requires { Rises ros.now }
         ensures value { result ≡ stale self.now session ros.now upto }
@@ -218,13 +218,13 @@ impl Sets {
         requires some { 0 < ledger.parts }
         ensures { self.new ≡ drop_session self.old session }
     {
-        let mut steps: Steps<L> = Steps::new(ledger);
+        let mut steps: StepCount<L> = StepCount::new(ledger);
         self.drop_counted(session, &mut steps);
     }
 
     /// `drop_session`, counted: one step for each page that the session has. Its invalid set goes as a
     /// whole.
-    pub fn drop_counted<L: Ledger>(&mut self, session: u32, steps: &mut Steps<L>)
+    pub fn drop_counted<L: Ledger>(&mut self, session: u32, steps: &mut StepCount<L>)
         ensures rest { self.new ≡ drop_session self.old session }
         ensures cost { steps.new ≡ steps.old + length (rights self.old.cached session) }
     {
@@ -242,7 +242,7 @@ fn mark_holders<L: Ledger>(
     oref: Oref,
     place: u64,
     done: &mut Vec<Marked>,
-    steps: &mut Steps<L>,
+    steps: &mut StepCount<L>,
 ) -> Result<(), NoMemory>
     ensures ok { OnOk result (invalid.new ≡ marked invalid.old (touches pages.now writer (oref ∷ [])) place) }
     ensures undone { (N : Invalids) → undo invalid.old done.old.items ≡ N → undo invalid.new done.new.items ≡ N }

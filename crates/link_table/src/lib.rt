@@ -5,8 +5,6 @@
 mod ends;
 mod links;
 mod node;
-mod steps;
 mod table;
 
 pub use links::Links;
-pub use steps::Steps;

@@ -5,12 +5,11 @@ ghost use Rattle.std.specs.List.{IsDistinct, last_or};
 ghost use Rattle.std.specs.Prelude.{IfOk, List, None, Ok, OnErr, OnOk, [], cond, length, nat_eq, not, ℕ, ◌++◌, ◌+◌, ◌<◌, ◌≡◌};
 
 use crate::ends::first_of;
-use crate::steps::Steps;
 use crate::table::Table;
 use std::alloc::Global;
 use std::marker::{Brand, Model};
 use std::sync::ledger::{Blank, Ledger};
-use thor_value::NoMemory;
+use thor_value::{NoMemory, StepCount};
 
 /// A relation of pairs of numbers, a left with a right. Contracts see it as the list of its pairs, in
 /// the order in which they were linked; the rights of a left and the lefts of a right are walked in
@@ -80,7 +79,7 @@ impl Links {
 
     /// Parts a left from all its rights. Each pair counts one step, and nothing else is done for the
     /// others.
-    pub fn unlink_left<L: Ledger>(&mut self, left: u32, steps: &mut Steps<L>)
+    pub fn unlink_left<L: Ledger>(&mut self, left: u32, steps: &mut StepCount<L>)
         ensures rest { self.new ≡ unlink_left self.old left }
         ensures cost { steps.new ≡ steps.old + length (rights self.old left) }
     {
@@ -102,7 +101,7 @@ impl Links {
         requires some { 0 < ledger.parts }
         ensures { self.new ≡ unlink_left self.old left }
     {
-        let mut steps: Steps<L> = Steps::new(ledger);
+        let mut steps: StepCount<L> = StepCount::new(ledger);
         self.unlink_left(left, &mut steps);
     }
 
@@ -134,7 +133,7 @@ impl Links {
     }
 
     /// Takes one pair out, and counts it.
-    fn take<L: Ledger>(&mut self, left: u32, right: u32, steps: &mut Steps<L>)
+    fn take<L: Ledger>(&mut self, left: u32, right: u32, steps: &mut StepCount<L>)
         ensures rest { self.new ≡ unlink self.old left right }
         ensures cost { steps.new ≡ steps.old + 1 }
     {

@@ -4,14 +4,13 @@ ghost use Rattle.std.specs.Str.{bytes_eq};
 ghost use Rattle.class_defs.specs.Types.{method_of};
 ghost use Rattle.paused_eval.specs.Bodies.{AreOf};
 
-use crate::work::Work;
 use class_defs::Method;
 use method_eval::Program;
 use paused_defs::{Shared, SharedBlock};
 use std::alloc::Global;
 use std::mem;
 use std::sync::ledger::Ledger;
-use thor_value::{NoMemory, Sequence, Text};
+use thor_value::{NoMemory, Sequence, StepCount, Text};
 
 /// The body of a method, copied.
 #[derive(Drop)]
@@ -35,12 +34,12 @@ pub struct Bodies<L: Ledger> {
     pub called: CopiedBodies,
     /// Those that were called before. The schema may have others by now.
     pub kept: CopiedBodies,
-    pub work: Work<L>,
+    pub work: StepCount<L>,
 }
 
 impl<L: Ledger> Bodies<L> {
     /// Before it goes on: what was called before is taken from where it is kept.
-    pub fn taken(alloc: Global, kept: &mut CopiedBodies, work: Work<L>) -> Bodies<L>
+    pub fn taken(alloc: Global, kept: &mut CopiedBodies, work: StepCount<L>) -> Bodies<L>
         ensures called { result.called ≡ [] }
         ensures work { result.work ≡ work }
     {
@@ -52,7 +51,7 @@ impl<L: Ledger> Bodies<L> {
     }
 
     /// Keeps for later runs what was called before, and gives the count back.
-    pub fn put_back(self, place: &mut CopiedBodies) -> Work<L>
+    pub fn put_back(self, place: &mut CopiedBodies) -> StepCount<L>
         ensures { result ≡ self.work }
     {
         let Bodies { called, kept, work } = self;

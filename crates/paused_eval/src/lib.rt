@@ -23,7 +23,6 @@ mod starting;
 mod types;
 mod unwound;
 mod waiting;
-mod work;
 mod written_names;
 
 pub use copies::Copies;
@@ -31,4 +30,3 @@ pub use granted_names::GrantedNames;
 pub use kept_texts::KeptTexts;
 pub use laws::what_stands_goes_on_later;
 pub use paused::Paused;
-pub use work::Work;

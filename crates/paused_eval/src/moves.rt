@@ -15,14 +15,13 @@ ghost use Rattle.paused_eval.specs.Begins.{first_part, waiting_frame};
 ghost use Rattle.paused_eval.specs.Counted.{surplus};
 ghost use Rattle.paused_eval.specs.Does.{Holds, Moves, Stepped, tested};
 
-use crate::work::Work;
 use class_defs::{ExprType, Flow, Machine, STEP_LIMIT, beginning};
 use method_eval::{Halt, Program, fault, holds, type_named};
 use paused_defs::{
     Doing, ExprNode, Frame, Shared, SharedBlock, SharedExpr, SharedExprs, Stack, StmtNode,
 };
 use std::sync::ledger::Ledger;
-use thor_value::{Fault, NoMemory, Text, Value, Values};
+use thor_value::{Fault, NoMemory, StepCount, Text, Value, Values};
 
 /// The value that was given.
 pub fn given(flow: Flow) -> Value
@@ -46,7 +45,7 @@ pub fn ended(kind: ExprType, flow: Flow) -> Value
 
 /// Takes one step.
 #[tactic(auto, using(crate::proofs::Counting::counted_step), unfolding(class_defs::specs::Steps::step))]
-pub fn take_step<L: Ledger>(machine: &mut Machine, work: &mut Work<L>) -> Result<(), Halt>
+pub fn take_step<L: Ledger>(machine: &mut Machine, work: &mut StepCount<L>) -> Result<(), Halt>
     ensures step { Stepped result machine.old machine.new }
     ensures work { surplus work.new machine.new.steps ≡ surplus work.old machine.old.steps }
 {
@@ -181,7 +180,7 @@ pub fn waiting_frame(program: &Program<'_>, inner: u32, node: &StmtNode) -> Resu
 pub fn begin<L: Ledger>(
     program: &Program<'_>,
     machine: &mut Machine,
-    work: &mut Work<L>,
+    work: &mut StepCount<L>,
     stack: &mut Stack<Frame>,
     inner: u32,
     node: &StmtNode,
@@ -319,7 +318,7 @@ pub fn tested(
 #[tactic(auto, unfolding(class_defs::specs::Steps::step))]
 pub fn turned<L: Ledger>(
     machine: &mut Machine,
-    work: &mut Work<L>,
+    work: &mut StepCount<L>,
     stack: &mut Stack<Frame>,
     inner: u32,
     turns: u32,

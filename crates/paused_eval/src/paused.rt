@@ -24,7 +24,6 @@ use crate::kept_texts::KeptTexts;
 use crate::objects::found;
 use crate::progress::begun;
 use crate::running::run_over;
-use crate::work::Work;
 use class_defs::{Block, Flow, Machine, Schema};
 use client_cache::Cache;
 use method_eval::{Program, Ran};
@@ -33,7 +32,7 @@ use std::alloc::Global;
 use std::marker::Brand;
 use std::mem;
 use std::sync::ledger::{Blank, Ledger};
-use thor_value::{Answer, NoMemory, Obj, Oref, Orefs, TryCopy, Writes};
+use thor_value::{Answer, NoMemory, Obj, Oref, Orefs, StepCount, TryCopy, Writes};
 
 /// A transaction's evaluation, as far as it has come.
 #[derive(Drop)]
@@ -188,7 +187,7 @@ impl Paused {
         ensures steps { (tx : List Stmt) → (given : List Oref) → Stands schema.now (at_hand schema.now copies.old.cache) tx given (record { doing = self.old.doing; stack = self.old.stack }) (state_with self.old.machine copies.old.written copies.old.cache names.old.names)
             → OnOk result (self.new.machine.steps ≡ (outcome_of schema.now (at_hand schema.now copies.old.cache) tx given).1.steps) }
     {
-        let work: Work<L> = Work::new(ledger);
+        let work: StepCount<L> = StepCount::new(ledger);
         let (ran, work) = self.go_counted(schema, epoch, copies, names, kept, work);
         drop(work);
         ran
@@ -204,8 +203,8 @@ impl Paused {
         copies: &mut Copies,
         names: &mut GrantedNames,
         kept: &mut KeptTexts,
-        work: Work<L>,
-    ) -> (Result<Ran, NoMemory>, Work<L>)
+        work: StepCount<L>,
+    ) -> (Result<Ran, NoMemory>, StepCount<L>)
         ensures answers { (tx : List Stmt) → (given : List Oref) → Stands schema.now (at_hand schema.now copies.old.cache) tx given (record { doing = self.old.doing; stack = self.old.stack }) (state_with self.old.machine copies.old.written copies.old.cache names.old.names)
             → IfOk result.0 (λ ran. ran ≡ answer_of epoch schema.now (at_hand schema.now copies.old.cache) tx given) }
         ensures stands { (tx : List Stmt) → (given : List Oref) → Stands schema.now (at_hand schema.now copies.old.cache) tx given (record { doing = self.old.doing; stack = self.old.stack }) (state_with self.old.machine copies.old.written copies.old.cache names.old.names)

@@ -11,12 +11,11 @@ ghost use Rattle.paused_eval.specs.Does.{Holds, Moves, field_assigned, in_block,
 use crate::moves::{
     collect, ended, evaluate_for, give, given, go_on, open_block, pass, tested, turned,
 };
-use crate::work::Work;
 use class_defs::{Flow, Locals, Machine, Receiver, combined, number};
 use method_eval::{Halt, Program, assign_local, declare, holds};
 use paused_defs::{Doing, Frame, Shared, Stack};
 use std::sync::ledger::Ledger;
-use thor_value::{NoMemory, Text, Value, Values};
+use thor_value::{NoMemory, StepCount, Text, Value, Values};
 
 /// The name of the field that a frame assigns.
 pub fn field_assigned(frame: &Frame) -> Option<&Shared<Text>>
@@ -95,7 +94,7 @@ fn in_statement(frame: &Frame) -> bool
 fn pop_block<L: Ledger>(
     program: &Program<'_>,
     machine: &mut Machine,
-    work: &mut Work<L>,
+    work: &mut StepCount<L>,
     stack: &mut Stack<Frame>,
     frame: Frame,
     flow: Flow,
@@ -242,7 +241,7 @@ fn pop_value(
 pub fn pop<L: Ledger>(
     program: &Program<'_>,
     machine: &mut Machine,
-    work: &mut Work<L>,
+    work: &mut StepCount<L>,
     stack: &mut Stack<Frame>,
     frame: Frame,
     flow: Flow,

@@ -23,19 +23,18 @@ use crate::objects::{assign_field, create, field_value};
 use crate::popping::{field_assigned, pop};
 use crate::progress::Progress;
 use crate::starting::{field_read, start};
-use crate::work::Work;
 use class_defs::{At, Flow, Machine, Stop};
 use client_cache::Cache;
 use method_eval::{Halt, Names, Program, fault};
 use paused_defs::{Doing, Frame, Shared, SharedExpr, SharedStmt, Stack};
 use std::sync::ledger::Ledger;
-use thor_value::{Fault, Oref, Text, Values};
+use thor_value::{Fault, Oref, StepCount, Text, Values};
 
 /// Takes one step.
 #[tactic(auto, using(crate::proofs::Lifting::lift_step))]
 fn take_step_over<L: Ledger>(
     progress: &mut Progress,
-    work: &mut Work<L>,
+    work: &mut StepCount<L>,
     cache: &Cache,
 ) -> Result<(), Halt>
     ensures step { Stepped result (state progress.old cache.now) (state progress.new cache.now) }
@@ -52,7 +51,7 @@ fn field<L: Ledger>(
     program: &Program<'_>,
     cache: &mut Cache,
     progress: &mut Progress,
-    work: &mut Work<L>,
+    work: &mut StepCount<L>,
     name: &[u8],
 ) -> Result<Doing, Halt>
     requires tied { Tied progress.old.written cache.old }
@@ -70,7 +69,7 @@ fn evaluate<L: Ledger>(
     program: &Program<'_>,
     cache: &mut Cache,
     progress: &mut Progress,
-    work: &mut Work<L>,
+    work: &mut StepCount<L>,
     stack: &mut Stack<Frame>,
     nested: u32,
     expr: &SharedExpr,
@@ -102,7 +101,7 @@ fn evaluate<L: Ledger>(
 fn execute<L: Ledger>(
     program: &Program<'_>,
     machine: &mut Machine,
-    work: &mut Work<L>,
+    work: &mut StepCount<L>,
     stack: &mut Stack<Frame>,
     nested: u32,
     stmt: &SharedStmt,
@@ -122,7 +121,7 @@ fn execute_over<L: Ledger>(
     program: &Program<'_>,
     cache: &Cache,
     progress: &mut Progress,
-    work: &mut Work<L>,
+    work: &mut StepCount<L>,
     stack: &mut Stack<Frame>,
     nested: u32,
     stmt: &SharedStmt,
@@ -247,7 +246,7 @@ fn given<L: Ledger>(
     epoch: u32,
     cache: &mut Cache,
     progress: &mut Progress,
-    work: &mut Work<L>,
+    work: &mut StepCount<L>,
     stack: &mut Stack<Frame>,
     flow: Flow,
 ) -> Result<Doing, Halt>

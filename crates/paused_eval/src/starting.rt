@@ -13,12 +13,11 @@ ghost use Rattle.paused_eval.specs.Does.{Holds, Moves, field_read};
 
 use crate::moves::{give, go_into, go_into_for, take_step};
 use crate::types::type_of;
-use crate::work::Work;
 use class_defs::{At, ExprType, Machine, Operator};
 use method_eval::{Halt, Program, named_value};
 use paused_defs::{Doing, ExprNode, ExprNodes, Frame, Shared, SharedExpr, SharedExprs, Stack};
 use std::sync::ledger::Ledger;
-use thor_value::{NoMemory, Text, Value};
+use thor_value::{NoMemory, StepCount, Text, Value};
 
 /// The name of the field that a node reads.
 #[tactic(auto, using(crate::proofs::Nodes::expr_nodes))]
@@ -176,7 +175,7 @@ fn first(
 pub fn start<L: Ledger>(
     program: &Program<'_>,
     machine: &mut Machine,
-    work: &mut Work<L>,
+    work: &mut StepCount<L>,
     stack: &mut Stack<Frame>,
     inner: u32,
     node: &ExprNode,

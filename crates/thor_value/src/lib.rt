@@ -11,6 +11,7 @@ mod names;
 mod oref_map;
 mod pairing;
 mod sequence;
+mod step_count;
 mod values;
 
 pub use boxed::Boxed;
@@ -24,4 +25,5 @@ pub use names::{Oref, Ts};
 pub use oref_map::OrefMap;
 pub use pairing::both;
 pub use sequence::Sequence;
+pub use step_count::StepCount;
 pub use values::{Answer, Fault, Obj, Value, Who};
