@@ -9,7 +9,7 @@ use Rattle.local_history.proofs.Growth.{length-state, owed-end, sound-beginning,
 use Rattle.local_history.proofs.LastWrite.{commit_here}
 use Rattle.local_history.proofs.Places.{came_end, placed}
 use Rattle.local_history.proofs.Steps as steps
-use Rattle.local_history.specs.History.{Aborted, Base, Committed, Fate, Known, Open, State, commit_of, known_by, known_in, state}
+use Rattle.local_history.specs.History.{Aborted, Base, Committed, Fate, Known, Open, State, commit_of, is_open, known_by, known_in, state}
 use Rattle.local_history.specs.Laws.{Asks}
 use Rattle.local_history.specs.Requests.{has_written, written}
 use Rattle.local_history.specs.Sound.{sound}
@@ -195,6 +195,42 @@ module _ (c : ℕ) (b : Base) (T : List Item) (committed : Ts → Bool) (kept : 
     keeps = λ _ live.
         let k = h.keeps refl (was_live b kept.session (state b (entries T)) (E e) h.v live) in
         keeps_on b T (E e) kept.session h.v committed h.there (unsettled k) sd kept refl live (told_plain kept.session (state b (entries T)) h.v (commit_of b (state b (entries T)) e)) none k;
+  }
+
+-- ---- an entry that commits what is known to have committed at its coordinator
+
+pub is_open_so : (f : Fate) → is_open f ≡ true → f ≡ Open
+is_open_so Open e = refl
+is_open_so (Committed at) e = cc
+is_open_so Aborted e = cc
+
+module _ (c : ℕ) (b : Base) (T : List Item) (committed : Ts → Bool) (kept : Kept) (e : Entry)
+    (sd : sound b (entries (T ++ E e ∷ []))) (none : NoneAborted b (entries (T ++ E e ∷ [])) committed) (h : FitsAt c b Calm T committed kept)
+    (t : Ts) (o : Known) (is : known_by b (entries T) t ≡ Some o) (open' : o.fate ≡ Open) (done : committed t ≡ true)
+    (n : ℕ) (commits : commit_of b (state b (entries T)) e ≡ (n, o.request) ∷ []) (asks : (r : Request) → Asks e r → ⊥)
+    (acked : InStep h.v → kept.upto ≡ upto_of h.v → acked_after kept.session h.v.acked (E e) ≤ upto_of h.v) where
+  finishing : KeepsUp b T committed h.v kept → IsPassive b T kept.session h.v committed (E e)
+  finishing k = record {
+    taking = refl;
+    acked = acked k.step k.known;
+    commits = subst (All (λ c. nat_eq c.1.session kept.session ≡ true → IsFinishing b (entries T) committed c.1)) (sym commits)
+        (All-cons (λ c. nat_eq c.1.session kept.session ≡ true → IsFinishing b (entries T) committed c.1) (n, o.request) [] (λ mine. record { t = t; o = o; there = is; open' = open'; request = refl; settled = done }) (All-nil (λ c. nat_eq c.1.session kept.session ≡ true → IsFinishing b (entries T) committed c.1)));
+    fresh = λ u w is' open'' own settled new.
+        let sd' : sound b (entries T ++ e ∷ []) = subst (sound b) (after_entry b T e) sd in
+        elim (came_end b (entries T) e (sound-beginning b (entries T) (e ∷ []) sd') (owed-end b (entries T) e sd') u w (ap (λ (H : List Entry). known_by b H u) (sym (after_entry b T e)) ∙ is')) [
+          | inl x ↦ asks w.request x.1.0
+          | inr old ↦ let f : None ≡ Some old.0 = sym new ∙ old.1 in cc
+        ];
+  }
+
+  pub fits_finishing : FitsAt c b Calm (T ++ E e ∷ []) committed kept
+  fits_finishing = record {
+    v = move b kept.session (state b (entries T)) (E e) h.v;
+    there = behind b T (E e) kept.session h.v h.there refl;
+    own = same_client b kept.session (state b (entries T)) (E e) h.v ∙ h.own;
+    keeps = λ _ live.
+        let k = h.keeps refl (was_live b kept.session (state b (entries T)) (E e) h.v live) in
+        keeps_on b T (E e) kept.session h.v committed h.there (finishing k) sd kept refl live (told_plain kept.session (state b (entries T)) h.v (commit_of b (state b (entries T)) e)) none k;
   }
 
 -- what a request acknowledges isn't more than is known, where it carries what is known

@@ -10,7 +10,7 @@ use Rattle.client_state.specs.declared.link.Waits.{Waits}
 use Rattle.commit_log.specs.declared.entry.Entry.TheVariants.{Decided, Finished, Prepared}
 use Rattle.commit_log.specs.declared.entry.Entry.{Entry}
 use Rattle.commit_log.specs.declared.request.Request.{Request}
-use Rattle.local_history.specs.History.{Base, Known, is_undecided, known_by}
+use Rattle.local_history.specs.History.{Base, is_undecided, known_by}
 use Rattle.local_history.specs.Sound.{sound}
 use Rattle.message_outbox.specs.declared.answers.Asked as answer
 use Rattle.message_outbox.specs.declared.answers.Verdict.{Verdict}
@@ -141,6 +141,46 @@ module _ (old new : View) (r s upto : ℕ) (waits : Waits) (committed : Ts → B
       let front : Front d.at after = answered_front r result d.met d.at after u work (prepare_front b d.at after u s q result) d.answer in
       then_so d.at d.met d.called copies (any_fits old new r committed seen d.at d.met d.called front (held copies) h result work d.met refl d.answer (λ w calm. prepare_done d.at d.met d.called q result up open' w calm))
 
+  -- by whatever session the call was made
+
+  pub prepared_by_any : (n : ℕ) (q : Request) (result : Result ℕ Refusal) → Does old new r result (PrepareWork n q result) → (q.session ≡ s → q.upto ≡ upto) → committed q.tx ≡ false → LinkIn new r committed (Joined s upto waits) copies
+  prepared_by_any n q result d up open' =
+      let work : Type 0 = PrepareWork n q result b d.at after u in
+      let front : Front d.at after = answered_front r result d.met d.at after u work (prepare_front b d.at after u n q result) d.answer in
+      then_so d.at d.met d.called copies (any_fits old new r committed seen d.at d.met d.called front (held copies) h result work d.met refl d.answer (λ w calm. by result d.at d.met d.called w calm))
+    where
+      by : (x : Result ℕ Refusal) (at : List Item) (met : Unsettled) (called : Called old new r at met) → PrepareWork n q x b at after u → FitsAt old.opened.client b Calm at committed (held copies) → FitsAt old.opened.client b u after committed (held copies)
+      by (Ok place) at met called w calm = works.prepared_any old.opened.client b committed at after u (held copies) (sd at met called) (agrees at met called).kept calm n q place up open' w
+      by (Err k) at met called w calm = works.request_any old.opened.client b committed at after u (held copies) (sd at met called) (agrees at met called).kept calm n (Prepared q) q k w
+
+  pub uncommitted_by_any : (n : ℕ) (q : Request) (k : Refusal) → Does {X = ℕ} old new r (Err k) (CommitWork n q (Err k)) → LinkIn new r committed (Joined s upto waits) copies
+  uncommitted_by_any n q k d =
+      let work : Type 0 = CommitWork n q (Err k) b d.at after u in
+      let front : Front d.at after = answered_front {X = ℕ} r (Err k) d.met d.at after u work (commit_front b d.at after u n q (Err k)) d.answer in
+      then_so d.at d.met d.called copies (any_fits old new r committed seen d.at d.met d.called front (held copies) h {X = ℕ} (Err k) work d.met refl d.answer
+      (λ w calm. works.request_any old.opened.client b committed d.at after u (held copies) (sd d.at d.met d.called) (agrees d.at d.met d.called).kept calm n (alone_entry q) q k w))
+
+  pub given_up_by_any : (n : ℕ) (t : Ts) (v : Verdict) → Does {X = Verdict} old new r (Ok v) (DecideWork n t false (Ok v)) → LinkIn new r committed (Joined s upto waits) copies
+  given_up_by_any n t v d =
+      let work : Type 0 = DecideWork n t false (Ok v) b d.at after u in
+      let front : Front d.at after = answered_front {X = Verdict} r (Ok v) d.met d.at after u work (decide_front b d.at after u n t false (Ok v)) d.answer in
+      then_so d.at d.met d.called copies (ok_fits old new r committed seen d.at d.met d.called front (held copies) h v work (held copies) d.met refl d.answer
+      (λ w calm. works.given_up_any old.opened.client b committed d.at after u (held copies) (sd d.at d.met d.called) (agrees d.at d.met d.called).kept calm n t v w))
+
+  pub undecided_by_any : (n : ℕ) (t : Ts) (k : Bool) (z : Refusal) → Does {X = Verdict} old new r (Err z) (DecideWork n t k (Err z)) → LinkIn new r committed (Joined s upto waits) copies
+  undecided_by_any n t k z d =
+      let work : Type 0 = DecideWork n t k (Err z) b d.at after u in
+      let front : Front d.at after = answered_front {X = Verdict} r (Err z) d.met d.at after u work (decide_front b d.at after u n t k (Err z)) d.answer in
+      then_so d.at d.met d.called copies (any_fits old new r committed seen d.at d.met d.called front (held copies) h {X = Verdict} (Err z) work d.met refl d.answer
+      (λ w calm. works.undecided_any old.opened.client b committed d.at after u (held copies) (sd d.at d.met d.called) (agrees d.at d.met d.called).kept calm n t k z w))
+
+  pub told_by_any : (n : ℕ) (t : Ts) (v : Verdict) → (v.commit ≡ true → committed t ≡ true) → Does {X = Verdict} old new r (Ok v) (DecideWork n t true (Ok v)) → LinkIn new r committed (Joined s upto waits) copies
+  told_by_any n t v told d =
+      let work : Type 0 = DecideWork n t true (Ok v) b d.at after u in
+      let front : Front d.at after = answered_front {X = Verdict} r (Ok v) d.met d.at after u work (decide_front b d.at after u n t true (Ok v)) d.answer in
+      then_so d.at d.met d.called copies (ok_fits old new r committed seen d.at d.met d.called front (held copies) h v work (held copies) d.met refl d.answer
+      (λ w calm. works.told_any old.opened.client b committed d.at after u (held copies) (sd d.at d.met d.called) (agrees d.at d.met d.called).kept calm n t v told w))
+
   pub link_committed : (q : Request) (place : ℕ) (left : Copies) (d : Does {X = ℕ} old new r (Ok place) (CommitWork s q (Ok place))) → q.upto ≡ upto → is_reply waits ≡ false → NoneToFinish b (entries d.at) s committed → WritesOnPages b d.at s q
       → (b.tells ≡ true → SameCopies b left (with_writes q copies)) → LinkIn new r committed (Joined s upto waits) left
   link_committed q place left d up idle settled pages become =
@@ -155,14 +195,6 @@ module _ (old new : View) (r s upto : ℕ) (waits : Waits) (committed : Ts → B
       let front : Front d.at after = answered_front {X = ℕ} r (Err k) d.met d.at after u work (commit_front b d.at after u s q (Err k)) d.answer in
       then_so d.at d.met d.called copies (any_fits old new r committed seen d.at d.met d.called front (held copies) h {X = ℕ} (Err k) work d.met refl d.answer
       (λ w calm. works.request_fits old.opened.client b committed d.at after u (held copies) (sd d.at d.met d.called) (agrees d.at d.met d.called).kept calm (alone_entry q) q k w))
-
-  pub link_decided : (t : Ts) (o : Known) (v : Verdict) (left : Copies) (d : Does {X = Verdict} old new r (Ok v) (DecideWork s t true (Ok v))) → is_reply waits ≡ false → known_by b (entries d.at) t ≡ Some o → is_prepared_by s (Some o) ≡ true
-      → NoneToFinish b (entries d.at) s committed → WritesOnPages b d.at s o.request → (b.tells ≡ true → SameCopies b left (with_writes o.request copies)) → LinkIn new r committed (Joined s upto waits) left
-  link_decided t o v left d idle is mine settled pages become =
-      let work : Type 0 = DecideWork s t true (Ok v) b d.at after u in
-      let front : Front d.at after = answered_front {X = Verdict} r (Ok v) d.met d.at after u work (decide_front b d.at after u s t true (Ok v)) d.answer in
-      then_so d.at d.met d.called left (ok_fits old new r committed seen d.at d.met d.called front (held copies) h v work (held left) d.met refl d.answer
-      (λ w calm. works.decided old.opened.client b committed d.at after u (held copies) (sd d.at d.met d.called) (agrees d.at d.met d.called).kept calm t o v left is mine idle settled pages become w))
 
   pub link_given_up : (t : Ts) (v : Verdict) → Does {X = Verdict} old new r (Ok v) (DecideWork s t false (Ok v)) → LinkIn new r committed (Joined s upto waits) copies
   link_given_up t v d =

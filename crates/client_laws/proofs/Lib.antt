@@ -1,3 +1,4 @@
+pub mod AnySession
 pub mod Asking
 pub mod Beginning
 pub mod Committing
@@ -6,12 +7,13 @@ pub mod Falls
 pub mod Fits
 pub mod Growing
 pub mod Handing
-mod Learned
+pub mod Learned
 pub mod Leaving
 pub mod Lending
 pub mod Linked
 mod Naming
 pub mod Other
+pub mod Outcomes
 pub mod Passing
 mod Places
 pub mod Quiet
@@ -19,10 +21,10 @@ mod Reasons
 pub mod Resting
 pub mod Sending
 pub mod Showing
-mod Stepping
+pub mod Stepping
 pub mod Taking
 pub mod Telling
 pub mod Uncommitted
 pub mod UncommittedCalls
-mod Whole
+pub mod Whole
 pub mod Working

@@ -44,7 +44,7 @@ same_there port n committed (Unsettled sent index) copies left same h = λ x her
 -- ---- all links
 
 module _ (old new : View) (acts : Acts old new) (committed : Ts → Bool) (before after : List Link) (copies left : Copies) (seen : AllSeenRight new committed) (stay : OthersStay new (called_at old new acts) before after copies left)
-    (there : (r : ℕ) → called_at old new acts ≡ Some r → LinkAt old r committed (slice_get before r) copies → LinkAt new r committed (slice_get after r) left) (fit : LinksFit old committed before copies) where
+    (there : (r : ℕ) → called_at old new acts ≡ Some r → r < new.opened.repos → LinkAt old r committed (slice_get before r) copies → LinkAt new r committed (slice_get after r) left) (fit : LinksFit old committed before copies) where
   elsewhere : (n : ℕ) → n < new.opened.repos → called_at old new acts ≢ Some n → (link : Option Link) → LinkAt old n committed link copies → LinkAt new n committed link left
   elsewhere n within other None h = h
   elsewhere n within other (Some link) h = same_there new n committed link copies left (stay.copies_stay n within other) (elsewhere_fit old new acts n committed link copies other (seen.each n within) h)
@@ -58,7 +58,7 @@ module _ (old new : View) (acts : Acts old new) (committed : Ts → Bool) (befor
   by_called : (n : ℕ) → n < new.opened.repos → (called : Option ℕ) → called_at old new acts ≡ called → LinkAt new n committed (slice_get after n) left
   by_called n within None is = stays n within (λ e. let no : None ≡ Some n = sym is ∙ e in cc)
   by_called n within (Some r) is = elim (cases_eq r n) [
-    | inl e ↦ there n (is ∙ ap Some e) (fit.each n (within_old n within))
+    | inl e ↦ there n (is ∙ ap Some e) within (fit.each n (within_old n within))
     | inr ne ↦ stays n within (λ e. ne (same_Some r n (sym is ∙ e)))
   ]
 

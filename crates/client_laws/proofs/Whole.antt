@@ -1,9 +1,9 @@
 -- All links behind a call.
 use Rattle.client_cache.specs.Copies.{Contents, kept}
-use Rattle.client_laws.proofs.Handing.{link_asked, link_committed, link_decided, link_finished, link_forgotten, link_given_up, link_prepared, link_undecided}
+use Rattle.client_laws.proofs.Handing.{link_asked, link_committed, link_finished, link_forgotten, link_given_up, link_prepared, link_undecided}
 use Rattle.client_laws.proofs.Learned.{commit_learned, prepare_learned}
 use Rattle.client_laws.proofs.Lending.{changes_here, connected, drew, fetched, granted, received_message, received_none, received_refused}
-use Rattle.client_laws.proofs.Stepping.{all_fit, opened_stays}
+use Rattle.client_laws.proofs.Stepping.{all_fit}
 use Rattle.client_laws.specs.Fitting.{Copies, NoneToFinish, SameCopies, WritesOnPages, with_writes}
 use Rattle.client_laws.specs.Links.{Becomes, BringsContent}
 use Rattle.client_laws.specs.Seen.{IsSeenRight, LinkAt, LinkIn, called_at}
@@ -21,12 +21,11 @@ use Rattle.commit_log.specs.declared.request.Request.{Request}
 use Rattle.message_outbox.specs.declared.answers.Asked as answer
 use Rattle.message_outbox.specs.declared.answers.At.{At}
 use Rattle.message_outbox.specs.declared.answers.Verdict.{Verdict}
-use Rattle.local_history.specs.History.{Known, known_by}
 use Rattle.message_outbox.specs.declared.answers.Welcome.{Welcome}
 use Rattle.message_outbox.specs.declared.message.Message.{Message}
 use Rattle.port.specs.Acting.{Acts, Asked, Committed, Connected, Decided, Drew as drew_so, Fetched, Finished, Forgot, Granted, Prepared, Received}
-use Rattle.port.specs.Views.{Opened, View}
-use Rattle.port.specs.Works.{AskWork, CommitWork, DecideWork, Does, FinishWork, ForgetWork, PrepareWork, ReceiveWork, is_prepared_by}
+use Rattle.port.specs.Views.{View}
+use Rattle.port.specs.Works.{AskWork, CommitWork, DecideWork, Does, FinishWork, ForgetWork, PrepareWork, ReceiveWork}
 use Rattle.refusal_reasons.specs.declared.reason.Reason.TheVariants as reasons
 use Rattle.session_outbox.specs.Notices.{notice_of}
 use Rattle.session_outbox.specs.Session.{place_of}
@@ -52,7 +51,7 @@ set_other (x ∷ xs) zero (suc n) l other = refl
 set_other (x ∷ xs) (suc r) zero l other = refl
 set_other (x ∷ xs) (suc r) (suc n) l other = set_other xs r n l (λ e. other (ap suc e))
 
-at_other : (xs : List Link) (r n : ℕ) (f : Link → Link) → n ≢ r → slice_get (at_repo xs r f) n ≡ slice_get xs n
+pub at_other : (xs : List Link) (r n : ℕ) (f : Link → Link) → n ≢ r → slice_get (at_repo xs r f) n ≡ slice_get xs n
 at_other xs r n f other = by (slice_get xs r)
   where
     by : (o : Option Link) → slice_get (changed_at xs r f o) n ≡ slice_get xs n
@@ -63,7 +62,7 @@ apart_test : (m r : ℕ) → m ≢ r → nat_eq m r ≡ false
 apart_test m r other = grind (arith, nat_tests, other)
 
 module _ (r : ℕ) (before : List Link) where
-  refused_other : (k : Refusal) (n : ℕ) → n ≢ r → slice_get (links_refused k r before) n ≡ slice_get before n
+  pub refused_other : (k : Refusal) (n : ℕ) → n ≢ r → slice_get (links_refused k r before) n ≡ slice_get before n
   refused_other (refused.Reason (reasons.Gone s)) n other = at_other before r n (without_session s) other
   refused_other (refused.Reason (reasons.Epoch m)) n other = refl
   refused_other (refused.Reason (reasons.Blocked t)) n other = refl
@@ -78,7 +77,7 @@ module _ (r : ℕ) (before : List Link) where
   refused_other (refused.Damaged m p) n other = refl
   refused_other refused.NoMemory n other = refl
 
-  learnt_other : (k : Refusal) (n : ℕ) → n ≢ r → slice_get (links_learnt k r before) n ≡ slice_get before n
+  pub learnt_other : (k : Refusal) (n : ℕ) → n ≢ r → slice_get (links_learnt k r before) n ≡ slice_get before n
   learnt_other (refused.Reason (reasons.Gone s)) n other = at_other before r n (without_session s) other
   learnt_other (refused.Reason (reasons.Epoch m)) n other = at_other before r n (waiting (Epoch m)) other
   learnt_other (refused.Reason (reasons.Blocked t)) n other = refl
@@ -101,7 +100,7 @@ module _ (r : ℕ) (before : List Link) where
         by true = refl
         by false = refl
 
-    copies_other : (k : Refusal) → CopiesRefused k r before copies left → kept left x ≡ kept copies x
+    pub copies_other : (k : Refusal) → CopiesRefused k r before copies left → kept left x ≡ kept copies x
     copies_other (refused.Reason (reasons.Gone s)) h = lost_other s h
     copies_other (refused.Reason (reasons.Epoch m)) h = h x
     copies_other (refused.Reason (reasons.Blocked t)) h = h x
@@ -116,26 +115,26 @@ module _ (r : ℕ) (before : List Link) where
     copies_other (refused.Damaged m p) h = h x
     copies_other refused.NoMemory h = h x
 
-    behind_other : {X : Type 0} (result : Result X Refusal) → CopiesBehind result r before copies left → kept left x ≡ kept copies x
+    pub behind_other : {X : Type 0} (result : Result X Refusal) → CopiesBehind result r before copies left → kept left x ≡ kept copies x
     behind_other (Ok y) h = h x
     behind_other (Err k) h = copies_other k h
 
-  asked_other : (result : Result (Unit {0}) Refusal) (n : ℕ) → n ≢ r → slice_get (links_asked result r before) n ≡ slice_get before n
+  pub asked_other : (result : Result (Unit {0}) Refusal) (n : ℕ) → n ≢ r → slice_get (links_asked result r before) n ≡ slice_get before n
   asked_other (Ok done) n other = at_other before r n (waiting Reply) other
   asked_other (Err k) n other = refused_other k n other
 
-  drawn_other : (result : Result Ts Refusal) (n : ℕ) → n ≢ r → slice_get (links_drawn result r before) n ≡ slice_get before n
+  pub drawn_other : (result : Result Ts Refusal) (n : ℕ) → n ≢ r → slice_get (links_drawn result r before) n ≡ slice_get before n
   drawn_other (Ok t) n other = refl
   drawn_other (Err k) n other = refused_other k n other
 
-  joined_other : (result : Result Welcome Refusal) (n : ℕ) → n ≢ r → slice_get (links_joined result r before) n ≡ slice_get before n
+  pub joined_other : (result : Result Welcome Refusal) (n : ℕ) → n ≢ r → slice_get (links_joined result r before) n ≡ slice_get before n
   joined_other (Ok w) n other = at_other before r n (λ l. Joined w.session w.place Idle) other
   joined_other (Err k) n other = refl
 
 -- ---- all links
 
 -- of a call of the repository r
-module _ (old new : View) (r : ℕ) (committed : Ts → Bool) (before after : List Link) (copies left : Copies) (within : r < old.opened.repos) (seen : AllSeenRight new committed)
+module _ (old new : View) (r : ℕ) (committed : Ts → Bool) (before after : List Link) (copies left : Copies) (seen : AllSeenRight new committed)
     (links : (n : ℕ) → n ≢ r → slice_get after n ≡ slice_get before n) (same : (x : Oref) → x.repo ≢ r → left x ≡ copies x) (fit : LinksFit old committed before copies) where
   others : OthersStay new (Some r) before after copies left
   others = record {
@@ -143,60 +142,70 @@ module _ (old new : View) (r : ℕ) (committed : Ts → Bool) (before after : Li
     copies_stay = λ n inside other x here. same x (λ e. other (ap Some (sym e ∙ here ∙ (seen.each n inside).numbered)));
   }
 
-  all_behind : (acts : Acts old new) → called_at old new acts ≡ Some r → (IsSeenRight new r committed → LinkAt old r committed (slice_get before r) copies → LinkAt new r committed (slice_get after r) left) → LinksFit new committed after left
-  all_behind acts is there =
-      let here : r < new.opened.repos = subst (λ (o : Opened). r < o.repos) (sym (opened_stays old new acts)) within in
+  pub all_inside : (acts : Acts old new) → called_at old new acts ≡ Some r → (r < new.opened.repos → IsSeenRight new r committed → LinkAt old r committed (slice_get before r) copies → LinkAt new r committed (slice_get after r) left) → LinksFit new committed after left
+  all_inside acts is there =
       all_fit old new acts committed before after copies left seen (subst (λ (c : Option ℕ). OthersStay new c before after copies left) (sym is) others)
-      (λ n e h. let m : r ≡ n = same_Some r n (sym is ∙ e) in subst (λ (k : ℕ). LinkAt old k committed (slice_get before k) copies → LinkAt new k committed (slice_get after k) left) m (there (seen.each r here)) h) fit
+      (λ n e inside h. let m : n ≡ r = same_Some n r (sym e ∙ is) in subst (λ (k : ℕ). k < new.opened.repos → IsSeenRight new k committed → LinkAt old k committed (slice_get before k) copies → LinkAt new k committed (slice_get after k) left) (sym m) there inside (seen.each n inside) h) fit
+
+  pub all_behind : (acts : Acts old new) → called_at old new acts ≡ Some r → (IsSeenRight new r committed → LinkAt old r committed (slice_get before r) copies → LinkAt new r committed (slice_get after r) left) → LinksFit new committed after left
+  all_behind acts is there = all_inside acts is (λ inside right h. there right h)
 
 -- a link that is there
 link_there : (port : View) (r : ℕ) (committed : Ts → Bool) (links : List Link) (copies : Copies) (link : Link) → slice_get links r ≡ Some link → LinkAt port r committed (slice_get links r) copies → LinkIn port r committed link copies
 link_there port r committed links copies link is h = subst (λ (o : Option Link). LinkAt port r committed o copies) is h
 
-pub connect_all : (old new : View) (repo : ℕ) (before after : List Link) (copies : Copies) (committed : Ts → Bool) → repo < old.opened.repos → Connects true old new repo old.opened.client before after → AllSeenRight new committed → slice_get before repo ≡ Some Apart
+pub connect_all : (old new : View) (repo : ℕ) (before after : List Link) (copies : Copies) (committed : Ts → Bool) → Connects true old new repo old.opened.client before after → AllSeenRight new committed → slice_get before repo ≡ Some Apart
     → LinksFit old committed before copies → LinksFit new committed after copies
-connect_all old new repo before after copies committed within f seen there fit =
-    all_behind old new repo committed before after copies copies within seen (λ n other. ap (λ (ls : List Link). slice_get ls n) f.links ∙ joined_other repo before f.result n other) (λ x away. refl) fit
+connect_all old new repo before after copies committed f seen there fit =
+    all_behind old new repo committed before after copies copies seen (λ n other. ap (λ (ls : List Link). slice_get ls n) f.links ∙ joined_other repo before f.result n other) (λ x away. refl) fit
     (Connected repo old.opened.client f.result (f.call refl)) refl (λ right h. connected old new repo before after copies committed f right there (link_there old repo committed before copies Apart there h))
 
-pub fetch_all : (old new : View) (at : At) (page upto : ℕ) (before after : List Link) (copies left : Contents) (waits : Waits) (committed : Ts → Bool) → at.repo < old.opened.repos → Fetches true old new at page upto before after copies left → AllSeenRight new committed
+pub fetch_inside : (old new : View) (at : At) (page upto : ℕ) (before after : List Link) (copies left : Contents) (waits : Waits) (committed : Ts → Bool) → Fetches true old new at page upto before after copies left → AllSeenRight new committed
+    → slice_get before at.repo ≡ Some (Joined at.session upto waits) → (at.repo < new.opened.repos → is_reply waits ≡ false) → NoneToFinish (new.opened.base at.repo) (entries (new.seen at.repo)) at.session committed → LinksFit old committed before (kept copies) → LinksFit new committed after (kept left)
+fetch_inside old new at page upto before after copies left waits committed f seen there idle settled fit =
+    all_inside old new at.repo committed before after (kept copies) (kept left) seen (λ n other. ap (λ (ls : List Link). slice_get ls n) f.links ∙ asked_other at.repo before f.result n other) (λ x away. behind_other at.repo before copies left x away f.result f.kept_so) fit
+    (Fetched at.repo at.session page upto f.result (f.call refl)) refl (λ inside right h. fetched old new at upto before after copies left waits committed page f right there (idle inside) settled (link_there old at.repo committed before (kept copies) (Joined at.session upto waits) there h))
+
+pub fetch_all : (old new : View) (at : At) (page upto : ℕ) (before after : List Link) (copies left : Contents) (waits : Waits) (committed : Ts → Bool) → Fetches true old new at page upto before after copies left → AllSeenRight new committed
     → slice_get before at.repo ≡ Some (Joined at.session upto waits) → is_reply waits ≡ false → NoneToFinish (new.opened.base at.repo) (entries (new.seen at.repo)) at.session committed → LinksFit old committed before (kept copies) → LinksFit new committed after (kept left)
-fetch_all old new at page upto before after copies left waits committed within f seen there idle settled fit =
-    all_behind old new at.repo committed before after (kept copies) (kept left) within seen (λ n other. ap (λ (ls : List Link). slice_get ls n) f.links ∙ asked_other at.repo before f.result n other) (λ x away. behind_other at.repo before copies left x away f.result f.kept_so) fit
-    (Fetched at.repo at.session page upto f.result (f.call refl)) refl (λ right h. fetched old new at upto before after copies left waits committed page f right there idle settled (link_there old at.repo committed before (kept copies) (Joined at.session upto waits) there h))
+fetch_all old new at page upto before after copies left waits committed f seen there idle settled fit = fetch_inside old new at page upto before after copies left waits committed f seen there (λ inside. idle) settled fit
 
-pub grant_all : (old new : View) (at : At) (upto : ℕ) (before after : List Link) (copies left : Contents) (waits : Waits) (committed : Ts → Bool) → at.repo < old.opened.repos → Grants true old new at before after copies left → AllSeenRight new committed
+pub grant_inside : (old new : View) (at : At) (upto : ℕ) (before after : List Link) (copies left : Contents) (waits : Waits) (committed : Ts → Bool) → Grants true old new at before after copies left → AllSeenRight new committed
+    → slice_get before at.repo ≡ Some (Joined at.session upto waits) → (at.repo < new.opened.repos → is_reply waits ≡ false) → LinksFit old committed before (kept copies) → LinksFit new committed after (kept left)
+grant_inside old new at upto before after copies left waits committed f seen there idle fit =
+    all_inside old new at.repo committed before after (kept copies) (kept left) seen (λ n other. ap (λ (ls : List Link). slice_get ls n) f.links ∙ asked_other at.repo before f.result n other) (λ x away. behind_other at.repo before copies left x away f.result f.kept_so) fit
+    (Granted at.repo at.session f.result (f.call refl)) refl (λ inside right h. granted old new at upto before after copies left waits committed f right there (idle inside) (link_there old at.repo committed before (kept copies) (Joined at.session upto waits) there h))
+
+pub grant_all : (old new : View) (at : At) (upto : ℕ) (before after : List Link) (copies left : Contents) (waits : Waits) (committed : Ts → Bool) → Grants true old new at before after copies left → AllSeenRight new committed
     → slice_get before at.repo ≡ Some (Joined at.session upto waits) → is_reply waits ≡ false → LinksFit old committed before (kept copies) → LinksFit new committed after (kept left)
-grant_all old new at upto before after copies left waits committed within f seen there idle fit =
-    all_behind old new at.repo committed before after (kept copies) (kept left) within seen (λ n other. ap (λ (ls : List Link). slice_get ls n) f.links ∙ asked_other at.repo before f.result n other) (λ x away. behind_other at.repo before copies left x away f.result f.kept_so) fit
-    (Granted at.repo at.session f.result (f.call refl)) refl (λ right h. granted old new at upto before after copies left waits committed f right there idle (link_there old at.repo committed before (kept copies) (Joined at.session upto waits) there h))
+grant_all old new at upto before after copies left waits committed f seen there idle fit = grant_inside old new at upto before after copies left waits committed f seen there (λ inside. idle) fit
 
-pub draw_all : (old new : View) (at : At) (upto : ℕ) (answer : Result Drew NoMemory) (before after : List Link) (copies left : Contents) (waits : Waits) (committed : Ts → Bool) → at.repo < old.opened.repos → Draws true old new at answer before after copies left → AllSeenRight new committed
+pub draw_all : (old new : View) (at : At) (upto : ℕ) (answer : Result Drew NoMemory) (before after : List Link) (copies left : Contents) (waits : Waits) (committed : Ts → Bool) → Draws true old new at answer before after copies left → AllSeenRight new committed
     → slice_get before at.repo ≡ Some (Joined at.session upto waits) → LinksFit old committed before (kept copies) → LinksFit new committed after (kept left)
-draw_all old new at upto answer before after copies left waits committed within f seen there fit =
-    all_behind old new at.repo committed before after (kept copies) (kept left) within seen (λ n other. ap (λ (ls : List Link). slice_get ls n) f.links ∙ drawn_other at.repo before f.result n other) (λ x away. behind_other at.repo before copies left x away f.result f.kept_so) fit
+draw_all old new at upto answer before after copies left waits committed f seen there fit =
+    all_behind old new at.repo committed before after (kept copies) (kept left) seen (λ n other. ap (λ (ls : List Link). slice_get ls n) f.links ∙ drawn_other at.repo before f.result n other) (λ x away. behind_other at.repo before copies left x away f.result f.kept_so) fit
     (drew_so at.repo at.session f.floor f.result (f.call refl)) refl (λ right h. drew old new at upto before after copies left waits committed answer f right there (link_there old at.repo committed before (kept copies) (Joined at.session upto waits) there h))
 
 -- ---- requests that are refused
 
-module _ (old new : View) (at : At) (upto : ℕ) (waits : Waits) (committed : Ts → Bool) (before : List Link) (copies left : Contents) (q : Request) (k : Refusal) (within : at.repo < old.opened.repos) where
+module _ (old new : View) (at : At) (upto : ℕ) (waits : Waits) (committed : Ts → Bool) (before : List Link) (copies left : Contents) (q : Request) (k : Refusal) where
   pub commit_all : Does {X = ℕ} old new at.repo (Err k) (CommitWork at.session q (Err k)) → AllSeenRight new committed → slice_get before at.repo ≡ Some (Joined at.session upto waits) → is_reply waits ≡ false → CopiesRefused k at.repo before copies left
       → LinksFit old committed before (kept copies) → LinksFit new committed (links_learnt k at.repo before) (kept left)
   commit_all d seen there idle lost fit =
-      all_behind old new at.repo committed before (links_learnt k at.repo before) (kept copies) (kept left) within seen (λ n other. learnt_other at.repo before k n other) (λ x away. copies_other at.repo before copies left x away k lost) fit
+      all_behind old new at.repo committed before (links_learnt k at.repo before) (kept copies) (kept left) seen (λ n other. learnt_other at.repo before k n other) (λ x away. copies_other at.repo before copies left x away k lost) fit
       (Committed at.repo at.session q (Err k) d) refl (λ right h. commit_learned old new at upto waits committed before copies left q k d right there idle lost (link_there old at.repo committed before (kept copies) (Joined at.session upto waits) there h))
 
   pub prepare_all : Does {X = ℕ} old new at.repo (Err k) (PrepareWork at.session q (Err k)) → AllSeenRight new committed → q.upto ≡ upto → committed q.tx ≡ false → slice_get before at.repo ≡ Some (Joined at.session upto waits) → is_reply waits ≡ false → CopiesRefused k at.repo before copies left
       → LinksFit old committed before (kept copies) → LinksFit new committed (links_learnt k at.repo before) (kept left)
   prepare_all d seen up open' there idle lost fit =
-      all_behind old new at.repo committed before (links_learnt k at.repo before) (kept copies) (kept left) within seen (λ n other. learnt_other at.repo before k n other) (λ x away. copies_other at.repo before copies left x away k lost) fit
+      all_behind old new at.repo committed before (links_learnt k at.repo before) (kept copies) (kept left) seen (λ n other. learnt_other at.repo before k n other) (λ x away. copies_other at.repo before copies left x away k lost) fit
       (Prepared at.repo at.session q (Err k) d) refl (λ right h. prepare_learned old new at upto waits committed before copies left q k d right up open' there idle lost (link_there old at.repo committed before (kept copies) (Joined at.session upto waits) there h))
 
 -- ---- calls that leave links and copies as they are
 
-module _ (old new : View) (r : ℕ) (links : List Link) (copies : Copies) (committed : Ts → Bool) (within : r < old.opened.repos) (seen : AllSeenRight new committed) (fit : LinksFit old committed links copies) where
-  as_it_is : (acts : Acts old new) → called_at old new acts ≡ Some r → ((link : Link) → slice_get links r ≡ Some link → IsSeenRight new r committed → LinkIn old r committed link copies → LinkIn new r committed link copies) → LinksFit new committed links copies
-  as_it_is acts is stays = all_behind old new r committed links links copies copies within seen (λ n other. refl) (λ x away. refl) fit acts is (λ right h. by (slice_get links r) refl right h)
+module _ (old new : View) (r : ℕ) (links : List Link) (copies : Copies) (committed : Ts → Bool) (seen : AllSeenRight new committed) (fit : LinksFit old committed links copies) where
+  pub as_it_is : (acts : Acts old new) → called_at old new acts ≡ Some r → ((link : Link) → slice_get links r ≡ Some link → IsSeenRight new r committed → LinkIn old r committed link copies → LinkIn new r committed link copies) → LinksFit new committed links copies
+  as_it_is acts is stays = all_behind old new r committed links links copies copies seen (λ n other. refl) (λ x away. refl) fit acts is (λ right h. by (slice_get links r) refl right h)
     where
       by : (o : Option Link) → slice_get links r ≡ o → IsSeenRight new r committed → LinkAt old r committed o copies → LinkAt new r committed o copies
       by None e right h = h
@@ -211,9 +220,9 @@ module _ (old new : View) (r : ℕ) (links : List Link) (copies : Copies) (commi
   pub ask_all : (t : Ts) (result : Result answer.Asked Refusal) → Does old new r result (AskWork t result) → LinksFit new committed links copies
   ask_all t result d = as_it_is (Asked r t result d) refl (λ link e right h. link_asked old new r committed copies t result link d right h)
 
-module _ (old new : View) (at : At) (upto : ℕ) (waits : Waits) (links : List Link) (copies : Copies) (committed : Ts → Bool) (within : at.repo < old.opened.repos) (seen : AllSeenRight new committed) (there : slice_get links at.repo ≡ Some (Joined at.session upto waits)) (fit : LinksFit old committed links copies) where
+module _ (old new : View) (at : At) (upto : ℕ) (waits : Waits) (links : List Link) (copies : Copies) (committed : Ts → Bool) (seen : AllSeenRight new committed) (there : slice_get links at.repo ≡ Some (Joined at.session upto waits)) (fit : LinksFit old committed links copies) where
   in_session : (acts : Acts old new) → called_at old new acts ≡ Some at.repo → (IsSeenRight new at.repo committed → LinkIn old at.repo committed (Joined at.session upto waits) copies → LinkIn new at.repo committed (Joined at.session upto waits) copies) → LinksFit new committed links copies
-  in_session acts is stays = as_it_is old new at.repo links copies committed within seen fit acts is (λ link e right h.
+  in_session acts is stays = as_it_is old new at.repo links copies committed seen fit acts is (λ link e right h.
       let same : Joined at.session upto waits ≡ link = same_Some (Joined at.session upto waits) link (sym there ∙ e) in
       subst (λ (l : Link). LinkIn old at.repo committed l copies → LinkIn new at.repo committed l copies) same (stays right) h)
 
@@ -238,20 +247,20 @@ module _ (old new : View) (at : At) (upto : ℕ) (waits : Waits) (links : List L
     pub message_all : (m : Message) (objects : ℕ → Option Obj) → Does {X = Option Message} old new at.repo (Ok (Some m)) (ReceiveWork at.session (Ok (Some m))) → place_of (notice_of m) + 1 < 2 ^ 64
         → BringsContent (new.opened.base at.repo) (entries (new.seen at.repo)) objects m → Becomes at.repo objects m copies left → LinksFit new committed (at_repo links at.repo (took m)) left
     message_all m objects d small brings becomes =
-        all_behind old new at.repo committed links (at_repo links at.repo (took m)) copies left within seen (λ n other. at_other links at.repo n (took m) other) away fit
+        all_behind old new at.repo committed links (at_repo links at.repo (took m)) copies left seen (λ n other. at_other links at.repo n (took m) other) away fit
         (Received at.repo at.session (Ok (Some m)) d) refl
         (λ right h. subst (λ (o : Option Link). LinkAt new at.repo committed o left) (sym (changes_here links at.repo (took m) (Joined at.session upto waits) there))
         (received_message old new at upto waits committed copies m objects left d right small brings becomes (link_there old at.repo committed links copies (Joined at.session upto waits) there h)))
 
-    joined_so : (acts : Acts old new) → called_at old new acts ≡ Some at.repo → (IsSeenRight new at.repo committed → LinkIn old at.repo committed (Joined at.session upto waits) copies → LinkIn new at.repo committed (Joined at.session upto waits) left) → LinksFit new committed links left
+    joined_so : (acts : Acts old new) → called_at old new acts ≡ Some at.repo → (at.repo < new.opened.repos → IsSeenRight new at.repo committed → LinkIn old at.repo committed (Joined at.session upto waits) copies → LinkIn new at.repo committed (Joined at.session upto waits) left) → LinksFit new committed links left
     joined_so acts is keeps =
-        all_behind old new at.repo committed links links copies left within seen (λ n other. refl) away fit acts is
-        (λ right h. subst (λ (o : Option Link). LinkAt new at.repo committed o left) (sym there) (keeps right (link_there old at.repo committed links copies (Joined at.session upto waits) there h)))
+        all_inside old new at.repo committed links links copies left seen (λ n other. refl) away fit acts is
+        (λ inside right h. subst (λ (o : Option Link). LinkAt new at.repo committed o left) (sym there) (keeps inside right (link_there old at.repo committed links copies (Joined at.session upto waits) there h)))
+
+    pub committed_inside : (q : Request) (place : ℕ) (d : Does {X = ℕ} old new at.repo (Ok place) (CommitWork at.session q (Ok place))) → q.upto ≡ upto → (at.repo < new.opened.repos → is_reply waits ≡ false) → NoneToFinish (old.opened.base at.repo) (entries d.at) at.session committed
+        → WritesOnPages (old.opened.base at.repo) d.at at.session q → ((old.opened.base at.repo).tells ≡ true → SameCopies (old.opened.base at.repo) left (with_writes q copies)) → LinksFit new committed links left
+    committed_inside q place d up idle settled pages become = joined_so (Committed at.repo at.session q (Ok place) d) refl (λ inside right h. link_committed old new at.repo at.session upto waits committed copies right h q place left d up (idle inside) settled pages become)
 
     pub committed_all : (q : Request) (place : ℕ) (d : Does {X = ℕ} old new at.repo (Ok place) (CommitWork at.session q (Ok place))) → q.upto ≡ upto → is_reply waits ≡ false → NoneToFinish (old.opened.base at.repo) (entries d.at) at.session committed
         → WritesOnPages (old.opened.base at.repo) d.at at.session q → ((old.opened.base at.repo).tells ≡ true → SameCopies (old.opened.base at.repo) left (with_writes q copies)) → LinksFit new committed links left
-    committed_all q place d up idle settled pages become = joined_so (Committed at.repo at.session q (Ok place) d) refl (λ right h. link_committed old new at.repo at.session upto waits committed copies right h q place left d up idle settled pages become)
-
-    pub decided_all : (t : Ts) (o : Known) (v : Verdict) (d : Does {X = Verdict} old new at.repo (Ok v) (DecideWork at.session t true (Ok v))) → is_reply waits ≡ false → known_by (old.opened.base at.repo) (entries d.at) t ≡ Some o → is_prepared_by at.session (Some o) ≡ true
-        → NoneToFinish (old.opened.base at.repo) (entries d.at) at.session committed → WritesOnPages (old.opened.base at.repo) d.at at.session o.request → ((old.opened.base at.repo).tells ≡ true → SameCopies (old.opened.base at.repo) left (with_writes o.request copies)) → LinksFit new committed links left
-    decided_all t o v d idle is mine settled pages become = joined_so (Decided at.repo at.session t true (Ok v) d) refl (λ right h. link_decided old new at.repo at.session upto waits committed copies right h t o v left d idle is mine settled pages become)
+    committed_all q place d up idle settled pages become = committed_inside q place d up (λ inside. idle) settled pages become

@@ -1,6 +1,6 @@
 -- What each call's work makes of what a client keeps.
 use Rattle.client_laws.proofs.Asking.{fits_begun, fits_fetched, fits_granted, fits_marked}
-use Rattle.client_laws.proofs.Committing.{fits_committed, fits_undecided, request_acks, some_at}
+use Rattle.client_laws.proofs.Committing.{fits_committed, fits_finishing, fits_undecided, is_open_so, request_acks, some_at}
 use Rattle.client_laws.proofs.Growing.{grown_one}
 use Rattle.client_laws.proofs.Taking.{fits_taken}
 use Rattle.client_laws.specs.Fitting.{Agrees, Copies, FitsAt, HoldsNone, Kept, NoneToFinish, SameCopies, WritesOnPages, awaits_behind, behind_message, with_writes}
@@ -25,9 +25,10 @@ use Rattle.session_outbox.specs.Session.{acked_after, bound, place_of, session, 
 use Rattle.session_outbox.specs.Trace.{E, Item, M, entries}
 use Rattle.session_outbox.specs.declared.mark.Mark.TheVariants as the
 use Rattle.session_outbox.specs.declared.mark.Mark.{Mark}
-use Rattle.std.proofs.Common.{Bool, List, [], ap, cond, false, refl, subst, sym, true, ◌++◌, ◌∙◌, ◌∷◌, ◌≡◌, ◌≢◌, ◌≤◌, ℕ}
+use Rattle.std.proofs.Common.{Bool, List, [], ap, arith, cond, false, refl, subst, sym, true, ◌++◌, ◌∙◌, ◌∷◌, ◌≡◌, ◌≢◌, ◌≤◌, ℕ}
+use Rattle.std.proofs.lemmas.Bool.{eqb-true}
 use Rattle.std.specs.List.{slice_get}
-use Rattle.std.specs.Prelude.{Err, None, Ok, Option, Result, Some, nat_eq, ◌&&◌}
+use Rattle.std.specs.Prelude.{Err, None, Ok, Option, Result, Some, max, nat_eq, ◌&&◌}
 use Rattle.thor_value.specs.declared.names.Ts.{Ts}
 use Rattle.validation_window.specs.declared.refusal.Refusal.TheVariants as refused
 use Rattle.validation_window.specs.declared.refusal.Refusal.{Refusal}
@@ -35,7 +36,7 @@ use Rattle.validation_window.specs.declared.refusal.Refusal.{Refusal}
 module _ (c : ℕ) (b : Base) (committed : Ts → Bool) where
   -- ---- answers that change nothing
 
-  as_met : (at after : List Item) (u : Unsettled) (kept : Kept) → IsAsMet at after u → FitsAt c b Calm at committed kept → FitsAt c b u after committed kept
+  pub as_met : (at after : List Item) (u : Unsettled) (kept : Kept) → IsAsMet at after u → FitsAt c b Calm at committed kept → FitsAt c b u after committed kept
   as_met at after u kept w h = subst (λ (x : Unsettled). FitsAt c b x after committed kept) (sym w.1) (subst (λ (T : List Item). FitsAt c b Calm T committed kept) (sym w.0) h)
 
   -- nothing is said of copies while the repository is down
@@ -45,7 +46,7 @@ module _ (c : ℕ) (b : Base) (committed : Ts → Bool) where
   as_halted : (at after : List Item) (u : Unsettled) (kept : Kept) → IsHalted at after u → FitsAt c b Calm at committed kept → FitsAt c b u after committed kept
   as_halted at after u kept w h = subst (λ (x : Unsettled). FitsAt c b x after committed kept) (sym w.1) (subst (λ (T : List Item). FitsAt c b Halted T committed kept) (sym w.0) (halted at kept h))
 
-  then_fits : (at after : List Item) (u : Unsettled) (i : Item) (kept : Kept) → IsBehind at i after u → FitsAt c b Calm (at ++ i ∷ []) committed kept → FitsAt c b u after committed kept
+  pub then_fits : (at after : List Item) (u : Unsettled) (i : Item) (kept : Kept) → IsBehind at i after u → FitsAt c b Calm (at ++ i ∷ []) committed kept → FitsAt c b u after committed kept
   then_fits at after u i kept w h = subst (λ (x : Unsettled). FitsAt c b x after committed kept) (sym w.1) (subst (λ (T : List Item). FitsAt c b Calm T committed kept) (sym w.0) h)
 
   -- what holds behind the item holds of the trace behind it
@@ -62,19 +63,22 @@ module _ (c : ℕ) (b : Base) (committed : Ts → Bool) where
     none_at : (m : Mark) → IsBehind at (M m) after u → NoneAborted b (entries at) committed
     none_at m w = subst (λ H. NoneAborted b H committed) (after-mark b at m) (none_behind at after u (M m) w none)
 
-    -- a refusal's mark
-    refused_mark : (q : Option Request) (r : Refusal) → IsBehind at (M (the.Refused kept.session q r)) after u → FitsAt c b u after committed kept
-    refused_mark q r w = then_fits at after u (M (the.Refused kept.session q r)) kept w (fits_marked c b at committed kept (the.Refused kept.session q r) (sound_at (the.Refused kept.session q r) w) (none_at (the.Refused kept.session q r) w) h refl refl refl)
+    -- a refusal's mark, of whatever session
+    refused_mark : (s : ℕ) (q : Option Request) (r : Refusal) → IsBehind at (M (the.Refused s q r)) after u → FitsAt c b u after committed kept
+    refused_mark s q r w = then_fits at after u (M (the.Refused s q r)) kept w (fits_marked c b at committed kept (the.Refused s q r) (sound_at (the.Refused s q r) w) (none_at (the.Refused s q r) w) h refl refl refl)
+
+    pub unmarked_any : (s : ℕ) (r : Refusal) → RefusedUnmarked b at s r after u → FitsAt c b u after committed kept
+    unmarked_any s (refused.Reason r) w = as_met at after u kept w.2 h
+    unmarked_any s (refused.Down n) w = as_halted at after u kept w.1 h
+    unmarked_any s (refused.Stopped n) w = as_halted at after u kept w.1 h
+    unmarked_any s (refused.Damaged n k) w = as_halted at after u kept w.1 h
+    unmarked_any s refused.NoMemory w = as_halted at after u kept w.1 h
 
     pub unmarked_fits : (r : Refusal) → RefusedUnmarked b at kept.session r after u → FitsAt c b u after committed kept
-    unmarked_fits (refused.Reason r) w = as_met at after u kept w.2 h
-    unmarked_fits (refused.Down n) w = as_halted at after u kept w.1 h
-    unmarked_fits (refused.Stopped n) w = as_halted at after u kept w.1 h
-    unmarked_fits (refused.Damaged n k) w = as_halted at after u kept w.1 h
-    unmarked_fits refused.NoMemory w = as_halted at after u kept w.1 h
+    unmarked_fits r w = unmarked_any kept.session r w
 
     pub marked_fits : (r : Refusal) → RefusedMarked b at kept.session r after u → FitsAt c b u after committed kept
-    marked_fits (refused.Reason r) w = refused_mark None (refused.Reason r) w.1
+    marked_fits (refused.Reason r) w = refused_mark kept.session None (refused.Reason r) w.1
     marked_fits (refused.Down n) w = as_halted at after u kept w h
     marked_fits (refused.Stopped n) w = as_halted at after u kept w h
     marked_fits (refused.Damaged n k) w = as_halted at after u kept w h
@@ -90,12 +94,15 @@ module _ (c : ℕ) (b : Base) (committed : Ts → Bool) where
         by Came l = absurd l
         by Halted l = halted at kept h
 
+    pub request_any : (s : ℕ) (e : Entry) (q : Request) (r : Refusal) → RequestRefused e b at s q r after u → FitsAt c b u after committed kept
+    request_any s e q (refused.Reason r) w = refused_mark s (Some q) (refused.Reason r) w.1
+    request_any s e q (refused.Down n) w = as_halted at after u kept w h
+    request_any s e q (refused.Stopped n) w = stopped e _ w
+    request_any s e q (refused.Damaged n k) w = as_halted at after u kept w h
+    request_any s e q refused.NoMemory w = stopped e _ w
+
     pub request_fits : (e : Entry) (q : Request) (r : Refusal) → RequestRefused e b at kept.session q r after u → FitsAt c b u after committed kept
-    request_fits e q (refused.Reason r) w = refused_mark (Some q) (refused.Reason r) w.1
-    request_fits e q (refused.Down n) w = as_halted at after u kept w h
-    request_fits e q (refused.Stopped n) w = stopped e _ w
-    request_fits e q (refused.Damaged n k) w = as_halted at after u kept w h
-    request_fits e q refused.NoMemory w = stopped e _ w
+    request_fits e q r w = request_any kept.session e q r w
 
     pub outage_fits : (e : Entry) (valid : Type 0) (r : Refusal) → OutageWith e valid at r after u → FitsAt c b u after committed kept
     outage_fits e valid (refused.Reason r) w = absurd w
@@ -136,6 +143,17 @@ module _ (c : ℕ) (b : Base) (committed : Ts → Bool) where
 
     -- ---- transactions
 
+    -- a request of whatever session, which acknowledges what is known where it is this one's
+    pub prepared_any : (s : ℕ) (q : Request) (place : ℕ) → (q.session ≡ kept.session → q.upto ≡ kept.upto) → committed q.tx ≡ false → PrepareWork s q (Ok place) b at after u → FitsAt c b u after committed kept
+    prepared_any s q place upto open' w =
+        then_fits at after u (E (Prepared q)) kept w.2
+        (fits_undecided c b at committed kept (Prepared q) (sound_behind at after u (E (Prepared q)) w.2 sd) (none_behind at after u (E (Prepared q)) w.2 none) h refl (λ r a. ap (λ (z : Request). committed z.tx) (sym a) ∙ open')
+        (λ step known. by (nat_eq q.session kept.session) refl step known))
+      where
+        by : (t : Bool) → nat_eq q.session kept.session ≡ t → InStep h.v → kept.upto ≡ upto_of h.v → cond t (max h.v.acked q.upto) h.v.acked ≤ upto_of h.v
+        by true e step known = let l : h.v.acked ≤ upto_of h.v = step.acked in let f : q.upto ≡ upto_of h.v = upto (eqb-true q.session kept.session e) ∙ known in omega arith
+        by false e step known = step.acked
+
     request_ack : (q : Request) → q.upto ≡ kept.upto → InStep h.v → kept.upto ≡ upto_of h.v → acked_after kept.session h.v.acked (E (Prepared q)) ≤ upto_of h.v
     request_ack q e step known = request_acks kept.session kept.upto h.v.acked (upto_of h.v) q e known step.acked
 
@@ -172,9 +190,9 @@ module _ (c : ℕ) (b : Base) (committed : Ts → Bool) where
         then_fits at after u (E (Decided t true)) (record kept { copies = copies }) x
         (fits_committed c b at committed kept (Decided t true) o.request (sound_behind at after u (E (Decided t true)) x sd) (none_behind at after u (E (Decided t true)) x none) h (commits ∙ ap (λ (n : ℕ). (n, o.request) ∷ []) (length-state b (entries at))) idle settled pages copies become (λ step known. step.acked))
 
-    -- a decision to abort
-    pub given_up : (t : Ts) (v : Verdict) → DecideWork kept.session t false (Ok v) b at after u → FitsAt c b u after committed kept
-    given_up t v w = by (is_prepared_by kept.session (known_by b (entries at) t)) w.2
+    -- a decision to abort, in whatever session
+    pub given_up_any : (s : ℕ) (t : Ts) (v : Verdict) → DecideWork s t false (Ok v) b at after u → FitsAt c b u after committed kept
+    given_up_any s t v w = by (is_prepared_by s (known_by b (entries at) t)) w.2
       where
         nothing : (o : Option Known) → commit_by (state b (entries at)) false o ≡ []
         nothing None = refl
@@ -186,12 +204,36 @@ module _ (c : ℕ) (b : Base) (committed : Ts → Bool) where
             (fits_undecided c b at committed kept (Decided t false) (sound_behind at after u (E (Decided t false)) x.1 sd) (none_behind at after u (E (Decided t false)) x.1 none) h (nothing (known_by b (entries at) t)) (λ r a. absurd a) (λ step known. step.acked))
         by false x = as_met at after u kept x.1 h
 
+    pub given_up : (t : Ts) (v : Verdict) → DecideWork kept.session t false (Ok v) b at after u → FitsAt c b u after committed kept
+    given_up t v w = given_up_any kept.session t v w
+
+    pub undecided_any : (s : ℕ) (t : Ts) (k : Bool) (r : Refusal) → DecideWork s t k (Err r) b at after u → FitsAt c b u after committed kept
+    undecided_any s t k (refused.Reason r) w = unmarked_any s (refused.Reason r) w
+    undecided_any s t k (refused.Down n) w = outage_fits (Decided t k) (is_prepared_by s (known_by b (entries at) t) ≡ true) (refused.Down n) w
+    undecided_any s t k (refused.Stopped n) w = outage_fits (Decided t k) (is_prepared_by s (known_by b (entries at) t) ≡ true) (refused.Stopped n) w
+    undecided_any s t k (refused.Damaged n p) w = outage_fits (Decided t k) (is_prepared_by s (known_by b (entries at) t) ≡ true) (refused.Damaged n p) w
+    undecided_any s t k refused.NoMemory w = outage_fits (Decided t k) (is_prepared_by s (known_by b (entries at) t) ≡ true) refused.NoMemory w
+
     pub undecided : (t : Ts) (k : Bool) (r : Refusal) → DecideWork kept.session t k (Err r) b at after u → FitsAt c b u after committed kept
-    undecided t k (refused.Reason r) w = unmarked_fits (refused.Reason r) w
-    undecided t k (refused.Down n) w = outage_fits (Decided t k) (is_prepared_by kept.session (known_by b (entries at) t) ≡ true) (refused.Down n) w
-    undecided t k (refused.Stopped n) w = outage_fits (Decided t k) (is_prepared_by kept.session (known_by b (entries at) t) ≡ true) (refused.Stopped n) w
-    undecided t k (refused.Damaged n p) w = outage_fits (Decided t k) (is_prepared_by kept.session (known_by b (entries at) t) ≡ true) (refused.Damaged n p) w
-    undecided t k refused.NoMemory w = outage_fits (Decided t k) (is_prepared_by kept.session (known_by b (entries at) t) ≡ true) refused.NoMemory w
+    undecided t k r w = undecided_any kept.session t k r w
+
+    -- a decision to commit what is known to have committed, in whatever session: what this one's commits wrote is held
+    pub told_any : (s : ℕ) (t : Ts) (v : Verdict) → (v.commit ≡ true → committed t ≡ true) → DecideWork s t true (Ok v) b at after u → FitsAt c b u after committed kept
+    told_any s t v told w = by (known_by b (entries at) t) refl w.2
+      where
+        commits : (o : Known) → known_by b (entries at) t ≡ Some o → is_open o.fate ≡ true → commit_of b (state b (entries at)) (Decided t true) ≡ ((state b (entries at)).length, o.request) ∷ []
+        commits o is open' = ap (λ (k : Option Known). commit_by (state b (entries at)) true k) is ∙ ap (λ (z : Bool). cond z (((state b (entries at)).length, o.request) ∷ []) []) open'
+
+        so : (o : Known) → known_by b (entries at) t ≡ Some o → (x : Bool) → is_prepared_by s (Some o) ≡ x → Decides x t true v b at after u → FitsAt c b u after committed kept
+        so o is true mine x =
+            let e = Decided t true in
+            let open' : is_open o.fate ≡ true = (both (nat_eq o.request.session s) (is_open o.fate) mine).1 in
+            then_fits at after u (E e) kept x.1 (fits_finishing c b at committed kept e (sound_behind at after u (E e) x.1 sd) (none_behind at after u (E e) x.1 none) h t o is (is_open_so o.fate open') (told x.0) (state b (entries at)).length (commits o is open') (λ r a. a) (λ step known. step.acked))
+        so o is false mine x = as_met at after u kept x.1 h
+
+        by : (k : Option Known) → known_by b (entries at) t ≡ k → Decides (is_prepared_by s (known_by b (entries at) t)) t true v b at after u → FitsAt c b u after committed kept
+        by None is x = as_met at after u kept (subst (λ (k : Option Known). Decides (is_prepared_by s k) t true v b at after u) is x).1 h
+        by (Some o) is x = so o is (is_prepared_by s (Some o)) refl (subst (λ (k : Option Known). Decides (is_prepared_by s k) t true v b at after u) is x)
 
     -- ---- calls that name no session
 

@@ -5,3 +5,4 @@ pub mod Links
 pub mod Refusing
 pub mod Seen
 pub mod Steps
+pub mod Verdicts

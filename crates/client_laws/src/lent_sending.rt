@@ -7,12 +7,11 @@ ghost use Rattle.client_state.specs.declared.link.Link.{Link};
 ghost use Rattle.client_state.specs.declared.link.Link.TheVariants.{Joined};
 ghost use Rattle.client_state.specs.declared.link.Waits.{Waits};
 ghost use Rattle.commit_log.specs.declared.request.Request.{Request};
-ghost use Rattle.local_history.specs.History.{Known, known_by};
 ghost use Rattle.message_outbox.specs.declared.answers.Asked as answer;
 ghost use Rattle.message_outbox.specs.declared.answers.At.{At};
 ghost use Rattle.message_outbox.specs.declared.answers.Verdict.{Verdict};
 ghost use Rattle.port.specs.Views.{View};
-ghost use Rattle.port.specs.Works.{AskWork, CommitWork, DecideWork, Does, FinishWork, ForgetWork, PrepareWork, is_prepared_by};
+ghost use Rattle.port.specs.Works.{AskWork, CommitWork, DecideWork, Does, FinishWork, ForgetWork, PrepareWork};
 ghost use Rattle.session_outbox.specs.Trace.{entries};
 ghost use Rattle.std.specs.Prelude.{Bool, Err, Ok, Option, Result, Some, false, true, ℕ, ◌≡◌};
 ghost use Rattle.thor_value.specs.declared.names.Ts.{Ts};
@@ -34,15 +33,9 @@ pub fn sending_links_fit()
         LinkIn old at.repo committed (Joined at.session upto waits) copies → LinkIn new at.repo committed (Joined at.session upto waits) copies }
 {}
 
-/// One that decides to commit what its session prepared, and that then holds what it wrote there, fits so. One that decides to
-/// abort, or whose decision is refused, fits as it is.
+/// One that decides to abort, or whose decision is refused, fits as it is. (Of one that decides to commit, and is told so, see
+/// `verdicts`.)
 pub fn deciding_links_fit()
-    ensures commit { (old new : View) (at : At) (upto : ℕ) (waits : Waits) (committed : Ts → Bool) (copies left : Copies) (t : Ts) (o : Known) (v : Verdict) →
-        (d : Does {X = Verdict} old new at.repo (Ok v) (DecideWork at.session t true (Ok v))) → IsSeenRight new at.repo committed → is_reply waits ≡ false →
-        known_by (old.opened.base at.repo) (entries d.at) t ≡ Some o → is_prepared_by at.session (Some o) ≡ true →
-        NoneToFinish (old.opened.base at.repo) (entries d.at) at.session committed → WritesOnPages (old.opened.base at.repo) d.at at.session o.request →
-        ((old.opened.base at.repo).tells ≡ true → SameCopies (old.opened.base at.repo) left (with_writes o.request copies)) →
-        LinkIn old at.repo committed (Joined at.session upto waits) copies → LinkIn new at.repo committed (Joined at.session upto waits) left }
     ensures abort { (old new : View) (at : At) (upto : ℕ) (waits : Waits) (committed : Ts → Bool) (copies : Copies) (t : Ts) (v : Verdict) →
         Does {X = Verdict} old new at.repo (Ok v) (DecideWork at.session t false (Ok v)) → IsSeenRight new at.repo committed →
         LinkIn old at.repo committed (Joined at.session upto waits) copies → LinkIn new at.repo committed (Joined at.session upto waits) copies }

@@ -16,6 +16,7 @@ mod lent_sending;
 mod links;
 mod outcomes;
 mod refusals;
+mod verdicts;
 mod whole_calls;
 
 pub use acting::{acting_links_fit, new_clients_fit, waiting_clients_fit};
@@ -43,6 +44,7 @@ pub use lent_sending::{deciding_links_fit, sending_links_fit, telling_links_fit}
 pub use links::{copies_become_what_messages_bring, links_outlive_others, links_tell_what_is_kept};
 pub use outcomes::{atomic_histories_agree, others_decide_nothing};
 pub use refusals::{drawn_timestamps_are_above, refusals_are_exact, taken_names_were_written};
+pub use verdicts::{decided_links_fit, verdicts_keep_all_links};
 pub use whole_calls::{
     asking_keeps_all_links, committing_keeps_all_links, deciding_keeps_all_links,
     refusals_keep_all_links, taking_keeps_all_links, telling_keeps_all_links,

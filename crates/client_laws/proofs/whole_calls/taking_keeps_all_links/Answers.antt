@@ -3,7 +3,7 @@ use Rattle.client_laws.proofs.whole_calls.taking_keeps_all_links.Goals as goal
 
 pub returns : goal.returns
 returns c = record {
-  message = λ old new at upto waits committed links copies left m objects within d seen small brings becomes away there fit. message_all old new at upto waits links copies committed within seen there fit left away m objects d small brings becomes;
-  none = λ old new at upto waits committed links copies within d seen there fit. none_all old new at upto waits links copies committed within seen there fit d;
-  refused = λ old new at upto waits committed links copies k within d seen there fit. refused_all old new at upto waits links copies committed within seen there fit k d;
+  message = λ old new at upto waits committed links copies left m objects d seen small brings becomes away there fit. message_all old new at upto waits links copies committed seen there fit left away m objects d small brings becomes;
+  none = λ old new at upto waits committed links copies d seen there fit. none_all old new at upto waits links copies committed seen there fit d;
+  refused = λ old new at upto waits committed links copies k d seen there fit. refused_all old new at upto waits links copies committed seen there fit k d;
 }
