@@ -13,7 +13,7 @@ pub mod Lending
 pub mod Linked
 mod Naming
 pub mod Other
-pub mod Outcomes
+pub mod OwnVerdicts
 pub mod Passing
 mod Places
 pub mod Quiet

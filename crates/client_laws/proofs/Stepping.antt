@@ -36,7 +36,7 @@ opened_stays old new (Asked r t result d) = d.called.same
 
 -- ---- copies that are the same of the repository's objects
 
-same_there : (port : View) (n : ℕ) (committed : Ts → Bool) (link : Link) (copies left : Copies) → SameCopies (port.opened.base n) left copies → LinkIn port n committed link copies → LinkIn port n committed link left
+pub same_there : (port : View) (n : ℕ) (committed : Ts → Bool) (link : Link) (copies left : Copies) → SameCopies (port.opened.base n) left copies → LinkIn port n committed link copies → LinkIn port n committed link left
 same_there port n committed Apart copies left same h = λ x here. same x here ∙ h x here
 same_there port n committed (Joined s upto waits) copies left same h = same_copies port.opened.client (port.opened.base n) (port.unsettled n) (port.seen n) committed (record { session = s; upto = upto; awaits = is_reply waits; copies = copies }) left same h
 same_there port n committed (Unsettled sent index) copies left same h = λ x here. same x here ∙ h x here

@@ -1,4 +1,4 @@
-use Rattle.client_laws.proofs.Outcomes.{others_told, own_told}
+use Rattle.client_laws.proofs.OwnVerdicts.{others_told, own_told}
 use Rattle.client_laws.proofs.verdicts.verdicts_keep_all_links.Goals as goal
 
 pub returns : goal.returns

@@ -1,0 +1,4 @@
+pub mod Moving
+pub mod Owed
+pub mod Runs
+pub mod Stopped

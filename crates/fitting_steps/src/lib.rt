@@ -1,0 +1,9 @@
+//! That a client fits what it has seen of its repositories behind each of its steps, whatever others do between. It is
+//! definitions and laws.
+#![tactic(auto)]
+
+mod runs;
+mod steps;
+
+pub use runs::{new_clients_fit_wholly, running_clients_fit};
+pub use steps::moving_clients_fit;
