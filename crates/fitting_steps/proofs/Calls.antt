@@ -66,10 +66,10 @@ off_page : (repo page : ℕ) (x : Oref) → x.repo ≢ repo → same_page (on re
 off_page repo page x away = ap (λ (t : Bool). t && nat_eq page x.page) (apart_test repo x.repo (λ e. away (sym e)))
 
 becomes : (repo : ℕ) (m : Message) (objects : ℕ → Option Obj) (old left : Contents) → IsSpelled repo m objects → CopiesTaken repo m old left → Becomes repo objects m (kept old) (kept left)
-becomes repo (Page page bytes place) objects old left spelled brought x = brought objects spelled x
-becomes repo (Grant page place) objects old left spelled brought x = brought x
-becomes repo (Invalid names place) objects old left spelled brought x = brought x
-becomes repo (Upgrade number text place) objects old left spelled brought x = brought x
+becomes repo (Page page bytes place) objects old left spelled brought = λ x. brought objects spelled x
+becomes repo (Grant page place) objects old left spelled brought = λ x. brought x
+becomes repo (Invalid names place) objects old left spelled brought = λ x. brought x
+becomes repo (Upgrade number text place) objects old left spelled brought = λ x. brought x
 
 others_stay : (repo : ℕ) (m : Message) (objects : ℕ → Option Obj) (old left : Contents) → IsSpelled repo m objects → CopiesTaken repo m old left → (x : Oref) → x.repo ≢ repo → kept left x ≡ kept old x
 others_stay repo (Page page bytes place) objects old left spelled brought x away = brought objects spelled x ∙ ap (λ (t : Bool). cond t (objects x.slot) (kept old x)) (off_page repo page x away)

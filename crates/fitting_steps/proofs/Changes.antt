@@ -20,7 +20,7 @@ use Rattle.paused_eval.specs.Copies.{AreAmong}
 use Rattle.port.specs.Views as views
 use Rattle.port.specs.Views.{Calm, View}
 use Rattle.refusal_reasons.specs.declared.reason.Reason.TheVariants as reasons
-use Rattle.std.proofs.Common.{Bool, List, ap, cond, false, inl, inr, refl, subst, sym, true, ◌∙◌, ◌≡◌, ◌≢◌, ℕ}
+use Rattle.std.proofs.Common.{Bool, List, ap, arith, cond, false, inl, inr, refl, subst, sym, true, ◌∙◌, ◌≡◌, ◌≢◌, ℕ}
 use Rattle.std.proofs.lemmas.Bool.Decides.{nat_tests}
 use Rattle.std.proofs.lemmas.Bool.{cases_eq}
 use Rattle.std.proofs.lemmas.Option.{same_Some}
