@@ -2,7 +2,7 @@
 use Rattle.client_cache.specs.Copies.{Contents, kept}
 use Rattle.client_state.specs.Calling.{Connects, CopiesStay, Draws, Fetches, Grants, upto_in}
 use Rattle.client_state.specs.Links.{session_in}
-use Rattle.client_state.specs.Moving.{CallsIdle, Connected, Drawn, Fetched, Granted, HoldsLess, IsApart, Moves, MovesIf, Rested}
+use Rattle.client_state.specs.Moving.{Asked, CallsIdle, Connected, Drawn, Fetched, Granted, HoldsLess, IsApart, Rested, SendsNothing, SendsNothingIf, Settled}
 use Rattle.client_state.specs.declared.calls.Drew.{Drew}
 use Rattle.client_state.specs.declared.held.Held.{Held}
 use Rattle.client_state.specs.declared.link.Link.TheVariants.{Apart, Joined, Unsettled}
@@ -36,19 +36,19 @@ stay_among a b stay x = inl (stay x)
 
 module _ (shows : Bool) (old new : View) (before after : Held) where
   pub by_connect : (repo : ℕ) → Connects shows old new repo before.client before.links.items after.links.items → IsApart repo before
-      → after.client ≡ before.client → CopiesStay before.cache.cache after.cache.cache → MovesIf shows old new before after
+      → after.client ≡ before.client → CopiesStay before.cache.cache after.cache.cache → SendsNothingIf shows old new before after
   by_connect repo k apart client stay = λ s. Connected repo (record { result = k.result; call = λ t. k.call s; links = k.links }) apart client (stay_among before.cache.cache after.cache.cache stay)
 
   pub by_fetch : (at : At) (page upto : ℕ) → upto ≡ upto_in (slice_get before.links.items at.repo) → Fetches shows old new at page upto before.links.items after.links.items before.cache.cache after.cache.cache
-      → CallsIdle at before → after.client ≡ before.client → MovesIf shows old new before after
+      → CallsIdle at before → after.client ≡ before.client → SendsNothingIf shows old new before after
   by_fetch at page upto is k idle client = λ s. Fetched at page after.cache.cache (subst (λ (n : ℕ). Fetches true old new at page n before.links.items after.links.items before.cache.cache after.cache.cache) is (record { result = k.result; call = λ t. k.call s; links = k.links; kept_so = k.kept_so })) idle client (λ x. inl refl)
 
   pub by_grant : (at : At) → Grants shows old new at before.links.items after.links.items before.cache.cache after.cache.cache
-      → CallsIdle at before → after.client ≡ before.client → MovesIf shows old new before after
+      → CallsIdle at before → after.client ≡ before.client → SendsNothingIf shows old new before after
   by_grant at k idle client = λ s. Granted at after.cache.cache (record { result = k.result; call = λ t. k.call s; links = k.links; kept_so = k.kept_so }) idle client (λ x. inl refl)
 
   pub by_draw : (at : At) (answer : Result Drew NoMemory) → Draws shows old new at answer before.links.items after.links.items before.cache.cache after.cache.cache
-      → session_in at.repo (slice_get before.links.items at.repo) ≡ Some at → after.client ≡ before.client → MovesIf shows old new before after
+      → session_in at.repo (slice_get before.links.items at.repo) ≡ Some at → after.client ≡ before.client → SendsNothingIf shows old new before after
   by_draw at answer k joined client = λ s. Drawn at answer after.cache.cache (record { floor = k.floor; result = k.result; call = λ t. k.call s; told = k.told; links = k.links; kept_so = k.kept_so }) joined client (λ x. inl refl)
 
 -- ---- sessions
@@ -75,9 +75,11 @@ module _ (old new : View) (a b c : Held) (less : HoldsLess b c) where
   among : (copies : Oref → Option Obj) → AreAmong copies (kept b.cache.cache) → AreAmong copies (kept c.cache.cache)
   among copies f = fewer_among copies (kept b.cache.cache) (kept c.cache.cache) f less.2
 
-  pub moves_then_drops : Moves old new a b → Moves old new a c
-  moves_then_drops (Rested same f) = Rested same (less_twice a b c f less)
-  moves_then_drops (Connected repo k apart client f) = Connected repo (record { result = k.result; call = k.call; links = less.1 ∙ k.links }) apart (less.0 ∙ client) (among (kept a.cache.cache) f)
-  moves_then_drops (Fetched at page left k idle client f) = Fetched at page left (record { result = k.result; call = k.call; links = less.1 ∙ k.links; kept_so = k.kept_so }) idle (less.0 ∙ client) (among (kept left) f)
-  moves_then_drops (Granted at left k idle client f) = Granted at left (record { result = k.result; call = k.call; links = less.1 ∙ k.links; kept_so = k.kept_so }) idle (less.0 ∙ client) (among (kept left) f)
-  moves_then_drops (Drawn at answer left k joined client f) = Drawn at answer left (record { floor = k.floor; result = k.result; call = k.call; told = k.told; links = less.1 ∙ k.links; kept_so = k.kept_so }) joined (less.0 ∙ client) (among (kept left) f)
+  pub sends_then_drops : SendsNothing old new a b → SendsNothing old new a c
+  sends_then_drops (Rested same f) = Rested same (less_twice a b c f less)
+  sends_then_drops (Connected repo k apart client f) = Connected repo (record { result = k.result; call = k.call; links = less.1 ∙ k.links }) apart (less.0 ∙ client) (among (kept a.cache.cache) f)
+  sends_then_drops (Fetched at page left k idle client f) = Fetched at page left (record { result = k.result; call = k.call; links = less.1 ∙ k.links; kept_so = k.kept_so }) idle (less.0 ∙ client) (among (kept left) f)
+  sends_then_drops (Granted at left k idle client f) = Granted at left (record { result = k.result; call = k.call; links = less.1 ∙ k.links; kept_so = k.kept_so }) idle (less.0 ∙ client) (among (kept left) f)
+  sends_then_drops (Drawn at answer left k joined client f) = Drawn at answer left (record { floor = k.floor; result = k.result; call = k.call; told = k.told; links = less.1 ∙ k.links; kept_so = k.kept_so }) joined (less.0 ∙ client) (among (kept left) f)
+  sends_then_drops (Asked r t result d f) = Asked r t result d (less_twice a b c f less)
+  sends_then_drops (Settled r t v sent index d there links client f) = Settled r t v sent index d there (less.1 ∙ links) (less.0 ∙ client) (among (kept a.cache.cache) f)

@@ -47,6 +47,19 @@ answered Apart = Apart
 answered (Joined s upto waits) = Joined s upto (without_reply waits)
 answered (Unsettled sent index) = Unsettled sent index
 
+-- what is waited for where no message has to be taken any more
+abbrev pub without_messages : Waits → Waits
+without_messages Idle = Idle
+without_messages Reply = Reply
+without_messages (Past place) = Idle
+without_messages (Epoch n) = Idle
+
+-- the client waits for a reply alone
+abbrev pub stopped : Link → Link
+stopped Apart = Apart
+stopped (Joined s upto waits) = Joined s upto (without_messages waits)
+stopped (Unsettled sent index) = Unsettled sent index
+
 -- whether a reply is outstanding
 abbrev pub is_reply : Waits → Bool
 is_reply Idle = false

@@ -1,7 +1,7 @@
 //! How a transaction is drawn, sent and decided.
 
 ghost use Rattle.client_state.specs.Learning.{Rises};
-ghost use Rattle.client_state.specs.Moving.{MovesIf};
+ghost use Rattle.client_state.specs.Moving.{SendsNothingIf};
 ghost use Rattle.front_end.specs.Showing.{ShownIf};
 ghost use Rattle.port.specs.Acting.{ActsIf};
 ghost use Rattle.std.specs.Prelude.{ℕ, ◌≡◌};
@@ -40,7 +40,7 @@ impl Client {
     fn draw<Q: Port>(&mut self, port: &mut Q, coordinator: u8) -> Result<News, NoMemory>
         ensures acts { ActsIf Q.shows (Q.view port.old) (Q.view port.new) }
         ensures shown { (repos : ℕ) → ShownIf Q.shows (Q.view port.old) (Q.view port.new) repos result }
-        ensures moves { MovesIf Q.shows (Q.view port.old) (Q.view port.new) self.old.held self.new.held }
+        ensures moves { SendsNothingIf Q.shows (Q.view port.old) (Q.view port.new) self.old.held self.new.held }
         ensures rises { Rises self.old.held self.new.held }
     {
         let Some(at) = self.held.at(coordinator) else {

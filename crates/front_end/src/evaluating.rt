@@ -2,7 +2,7 @@
 
 ghost use Rattle.client_state.specs.Learning.{Rises};
 ghost use Rattle.client_state.specs.Links.{NoneAwaits};
-ghost use Rattle.client_state.specs.Moving.{MovesIf};
+ghost use Rattle.client_state.specs.Moving.{SendsNothingIf};
 ghost use Rattle.front_end.specs.Moving.{NoneUnsettled};
 ghost use Rattle.front_end.specs.Showing.{ShownIf};
 ghost use Rattle.client_state.specs.Showing.{CameIf};
@@ -88,7 +88,7 @@ impl Client {
     ) -> Result<News, NoMemory>
         ensures acts { ActsIf Q.shows (Q.view port.old) (Q.view port.new) }
         ensures shown { ShownIf Q.shows (Q.view port.old) (Q.view port.new) opened.now.repos result }
-        ensures moves { NoneAwaits 8 self.old.held.links.items → NoneUnsettled oref.repo self.old.held → MovesIf Q.shows (Q.view port.old) (Q.view port.new) self.old.held self.new.held }
+        ensures moves { NoneAwaits 8 self.old.held.links.items → NoneUnsettled oref.repo self.old.held → SendsNothingIf Q.shows (Q.view port.old) (Q.view port.new) self.old.held self.new.held }
         ensures rises { Rises self.old.held self.new.held }
     {
         if oref.repo >= opened.repos {
@@ -108,7 +108,7 @@ impl Client {
     ) -> Result<News, NoMemory>
         ensures acts { ActsIf Q.shows (Q.view port.old) (Q.view port.new) }
         ensures shown { ShownIf Q.shows (Q.view port.old) (Q.view port.new) opened.now.repos result }
-        ensures moves { NoneAwaits 8 self.old.held.links.items → NoneUnsettled repo self.old.held → MovesIf Q.shows (Q.view port.old) (Q.view port.new) self.old.held self.new.held }
+        ensures moves { NoneAwaits 8 self.old.held.links.items → NoneUnsettled repo self.old.held → SendsNothingIf Q.shows (Q.view port.old) (Q.view port.new) self.old.held self.new.held }
         ensures rises { Rises self.old.held self.new.held }
     {
         if repo >= opened.repos {
@@ -132,7 +132,7 @@ impl Client {
     ) -> Result<Came, NoMemory>
         ensures acts { ActsIf Q.shows (Q.view port.old) (Q.view port.new) }
         ensures shown { CameIf Q.shows (Q.view port.old) (Q.view port.new) result }
-        ensures moves { NoneAwaits 8 self.old.held.links.items → NoneUnsettled oref.repo self.old.held → MovesIf Q.shows (Q.view port.old) (Q.view port.new) self.old.held self.new.held }
+        ensures moves { NoneAwaits 8 self.old.held.links.items → NoneUnsettled oref.repo self.old.held → SendsNothingIf Q.shows (Q.view port.old) (Q.view port.new) self.old.held self.new.held }
         ensures rises { Rises self.old.held self.new.held }
     {
         match self.held.at(oref.repo) {
@@ -150,7 +150,7 @@ impl Client {
     ) -> Result<Came, NoMemory>
         ensures acts { ActsIf Q.shows (Q.view port.old) (Q.view port.new) }
         ensures shown { CameIf Q.shows (Q.view port.old) (Q.view port.new) result }
-        ensures moves { NoneAwaits 8 self.old.held.links.items → NoneUnsettled repo self.old.held → MovesIf Q.shows (Q.view port.old) (Q.view port.new) self.old.held self.new.held }
+        ensures moves { NoneAwaits 8 self.old.held.links.items → NoneUnsettled repo self.old.held → SendsNothingIf Q.shows (Q.view port.old) (Q.view port.new) self.old.held self.new.held }
         ensures rises { Rises self.old.held self.new.held }
     {
         match self.held.at(repo) {

@@ -1,7 +1,7 @@
 //! How a session begins where a try needs one.
 
 ghost use Rattle.client_state.specs.Learning.{Rises};
-ghost use Rattle.client_state.specs.Moving.{IsApart, MovesIf};
+ghost use Rattle.client_state.specs.Moving.{IsApart, SendsNothingIf};
 ghost use Rattle.front_end.specs.Showing.{ShownIf};
 ghost use Rattle.client_state.specs.Showing.{CameIf};
 ghost use Rattle.port.specs.Acting.{ActsIf};
@@ -23,7 +23,7 @@ impl Client {
     ) -> Result<News, NoMemory>
         ensures acts { ActsIf Q.shows (Q.view port.old) (Q.view port.new) }
         ensures shown { ShownIf Q.shows (Q.view port.old) (Q.view port.new) opened.now.repos result }
-        ensures moves { IsApart repo self.old.held → MovesIf Q.shows (Q.view port.old) (Q.view port.new) self.old.held self.new.held }
+        ensures moves { IsApart repo self.old.held → SendsNothingIf Q.shows (Q.view port.old) (Q.view port.new) self.old.held self.new.held }
         ensures rises { Rises self.old.held self.new.held }
     {
         let came = self.join(port, opened, repo)?;
@@ -40,7 +40,7 @@ impl Client {
     ) -> Result<Came, NoMemory>
         ensures acts { ActsIf Q.shows (Q.view port.old) (Q.view port.new) }
         ensures shown { CameIf Q.shows (Q.view port.old) (Q.view port.new) result }
-        ensures moves { IsApart repo self.old.held → MovesIf Q.shows (Q.view port.old) (Q.view port.new) self.old.held self.new.held }
+        ensures moves { IsApart repo self.old.held → SendsNothingIf Q.shows (Q.view port.old) (Q.view port.new) self.old.held self.new.held }
         ensures rises { Rises self.old.held self.new.held }
     {
         match self.held.unsettled(repo) {
