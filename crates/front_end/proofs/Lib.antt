@@ -1,4 +1,6 @@
 pub mod Acting
 pub mod Moving
+pub mod Receiving
+pub mod Requesting
 pub mod Showing
 pub mod Steps

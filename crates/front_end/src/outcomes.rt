@@ -1,6 +1,7 @@
 //! What becomes of items whose verdict is known.
 
 ghost use Rattle.client_state.specs.Learning.{Rises};
+ghost use Rattle.client_state.specs.Moving.{KeepsTry};
 ghost use Rattle.front_end.specs.Showing.{NewsShown, ShownIf};
 ghost use Rattle.port.specs.Acting.{ActsIf, IsDecided};
 ghost use Rattle.port.specs.Views.{View};
@@ -20,6 +21,7 @@ impl Client {
     pub fn end_committed(&mut self, opened: &Opened, sent: Sent) -> News
         ensures shown { (old new : View) (repos : ℕ) → IsDecided old new sent.ts true → NewsShown old new repos result }
         ensures rest { self.new ≡ record self.old { held = self.new.held } }
+        ensures keeps { KeepsTry self.old.held self.new.held }
         ensures rises { Rises self.old.held self.new.held }
     {
         let Sent { ts, meaning, .. } = sent;
@@ -34,6 +36,7 @@ impl Client {
     /// whether the epoch rises.
     fn learn_commit(&mut self, opened: &Opened, ts: Ts, meaning: &Meaning) -> bool
         ensures rest { self.new ≡ record self.old { held = self.new.held } }
+        ensures held { self.new.held ≡ record self.old.held { floor = self.new.held.floor; learnt = self.new.held.learnt } }
         ensures rises { Rises self.old.held self.new.held }
     {
         self.held.raise_floor(ts);
