@@ -2,3 +2,4 @@ pub mod Carrying
 mod Holding
 pub mod Moving
 pub mod Owing
+pub mod Stopping

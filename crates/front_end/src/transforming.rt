@@ -3,12 +3,12 @@
 //! Lazy transforms are those of Boyapati and others (OOPSLA 2003).
 
 ghost use Rattle.client_state.specs.Learning.{Rises};
-ghost use Rattle.client_state.specs.Links.{session_in};
-ghost use Rattle.client_state.specs.Moving.{SendsNothingIf};
+ghost use Rattle.client_state.specs.Links.{NoneAwaits, session_in};
+ghost use Rattle.client_state.specs.Moving.{MovesIf, SendsNothingIf};
 ghost use Rattle.front_end.specs.Showing.{NewsShown, ShownIf};
 ghost use Rattle.port.specs.Acting.{ActsIf, Refuses};
 ghost use Rattle.port.specs.Views.{View};
-ghost use Rattle.std.specs.Prelude.{IfOk, Some, slice_get, ℕ, ◌≡◌};
+ghost use Rattle.std.specs.Prelude.{IfOk, OnOk, Some, slice_get, ℕ, ◌≡◌};
 
 use crate::client::Client;
 use client_state::{Becomes, Drew, Phase, Transform};
@@ -33,6 +33,7 @@ impl Client {
     ) -> Result<News, NoMemory>
         ensures acts { ActsIf Q.shows (Q.view port.old) (Q.view port.new) }
         ensures shown { ShownIf Q.shows (Q.view port.old) (Q.view port.new) opened.now.repos result }
+        ensures moves { NoneAwaits 8 self.old.held.links.items → OnOk result (SendsNothingIf Q.shows (Q.view port.old) (Q.view port.new) self.old.held self.new.held) }
         ensures rises { Rises self.old.held self.new.held }
     {
         self.held.undo();
@@ -52,6 +53,7 @@ impl Client {
     ) -> Result<News, NoMemory>
         ensures acts { ActsIf Q.shows (Q.view port.old) (Q.view port.new) }
         ensures shown { ShownIf Q.shows (Q.view port.old) (Q.view port.new) opened.now.repos result }
+        ensures moves { NoneAwaits 8 self.old.held.links.items → OnOk result (MovesIf Q.shows (Q.view port.old) (Q.view port.new) self.old.held self.new.held) }
         ensures rises { Rises self.old.held self.new.held }
     {
         let awaited = None;
@@ -72,6 +74,7 @@ impl Client {
     ) -> Result<News, NoMemory>
         ensures acts { ActsIf Q.shows (Q.view port.old) (Q.view port.new) }
         ensures shown { ShownIf Q.shows (Q.view port.old) (Q.view port.new) opened.now.repos result }
+        ensures moves { NoneAwaits 8 self.old.held.links.items → OnOk result (SendsNothingIf Q.shows (Q.view port.old) (Q.view port.new) self.old.held self.new.held) }
         ensures rises { Rises self.old.held self.new.held }
     {
         match self.held.collect(opened, &mut transform)? {
@@ -85,6 +88,7 @@ impl Client {
 
     /// The try goes on with this transform.
     fn go_on_with(&mut self, transform: Transform)
+        ensures held { self.new.held ≡ self.old.held }
         ensures rises { Rises self.old.held self.new.held }
     {
         let phase = self.take_phase().transforming(transform);
@@ -101,6 +105,7 @@ impl Client {
     ) -> Result<News, NoMemory>
         ensures acts { ActsIf Q.shows (Q.view port.old) (Q.view port.new) }
         ensures shown { ShownIf Q.shows (Q.view port.old) (Q.view port.new) opened.now.repos result }
+        ensures moves { NoneAwaits 8 self.old.held.links.items → OnOk result (SendsNothingIf Q.shows (Q.view port.old) (Q.view port.new) self.old.held self.new.held) }
         ensures rises { Rises self.old.held self.new.held }
     {
         let repo = transform.oref.repo;
