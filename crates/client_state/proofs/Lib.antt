@@ -4,3 +4,4 @@ pub mod Keeping
 pub mod Moving
 pub mod Owing
 pub mod Sessions
+pub mod Stopping

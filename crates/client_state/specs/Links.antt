@@ -105,6 +105,11 @@ NoneAwaits n links = (r : ℕ) (l : Link) → r < n → slice_get links r ≡ So
 abbrev pub NoneIsBehind : ℕ → ℕ → List Link → Type 0
 NoneIsBehind n epoch links = (r : ℕ) (l : Link) → r < n → slice_get links r ≡ Some l → is_behind epoch l ≡ false
 
+-- how a client stands with a repository, which is apart where there is no link
+abbrev pub link_in : Option Link → Link
+link_in None = Apart
+link_in (Some link) = link
+
 -- the link at a repository that has one becomes another
 abbrev pub changed_at : List Link → ℕ → (Link → Link) → Option Link → List Link
 changed_at links repo f None = links

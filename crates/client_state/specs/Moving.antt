@@ -96,6 +96,19 @@ pub record Takes (repo : ℕ) (m : Message) (before after : Held) : Type 0 where
   pub brought : CopiesTaken repo m before.cache.cache left
   pub fewer : AreAmong (kept left) (kept after.cache.cache)
 
+-- The verdict on the Unknown item of a repository was learnt: it is apart then.
+pub record IsSettled (repo : ℕ) (before after : Held) : Type 0 where
+  pub sent : Sent
+  pub index : ℕ
+  pub there : slice_get before.links.items repo ≡ Some (Unsettled sent index)
+  pub links : after.links.items ≡ at_repo before.links.items repo (λ l. Apart)
+  pub client : after.client ≡ before.client
+  pub fewer : AreAmong (kept before.cache.cache) (kept after.cache.cache)
+
+-- So it is, or all stays.
+abbrev pub MaySettle : ℕ → Held → Held → Type 0
+MaySettle repo before after = HoldsLess before after ⊎ IsSettled repo before after
+
 -- The client waits for nothing in its session with the repository, and with no other for messages that it had to take.
 pub record StopsWaiting (repo : ℕ) (before after : Held) : Type 0 where
   pub here : slice_get after.links.items repo ≡ option_map (waiting Idle) (slice_get before.links.items repo)
@@ -109,6 +122,10 @@ pub record HasLeft (repo : ℕ) (after : Held) : Type 0 where
 -- It stands with each repository as before, or has left it.
 abbrev pub LeavesSome : Held → Held → Type 0
 LeavesSome before after = (n : ℕ) → (slice_get after.links.items n ≡ slice_get before.links.items n) ⊎ HasLeft n after
+
+-- Nor does a copy come.
+abbrev pub LeavesLess : Held → Held → Type 0
+LeavesLess before after = (after.client ≡ before.client) × LeavesSome before after × AreAmong (kept before.cache.cache) (kept after.cache.cache)
 
 -- ---- a call and what it makes of what is held
 

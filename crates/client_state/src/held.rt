@@ -2,14 +2,16 @@
 
 ghost use Rattle.client_state.specs.Calling.{CopiesLost, CopiesStay, is_session_of, upto_in};
 ghost use Rattle.client_state.specs.Learning.{KeepsBounds, Rises, without_session};
-ghost use Rattle.client_state.specs.Links.{CountsUnsettled, NoneAwaits, NoneIsBehind, at_repo, awaits_reply, is_behind, session_in, waiting};
-ghost use Rattle.client_state.specs.Moving.{HoldsLess, InSession, IsApart, KeepsMade, KeepsTry};
+ghost use Rattle.client_state.specs.Links.{CountsUnsettled, NoneAwaits, NoneIsBehind, at_repo, awaits_reply, is_behind, link_in, session_in, stopped, waiting};
+ghost use Rattle.client_state.specs.Moving.{HoldsLess, InSession, IsApart, KeepsMade, KeepsTry, LeavesSome, StopsWaiting};
 ghost use Rattle.client_state.specs.Taking.{BringsPage};
 ghost use Rattle.client_state.specs.declared.link.Link.{Link};
+ghost use Rattle.client_state.specs.declared.link.Link.TheVariants.{Apart};
 ghost use Rattle.client_cache.specs.Copies.{changed, kept, seen};
 ghost use Rattle.client_cache.specs.Pages.{same_name};
 ghost use Rattle.paused_eval.specs.Copies.{AreAmong};
-ghost use Rattle.std.specs.Prelude.{false, ◌≡◌, ◌<◌, ◌≤◌, IfSome, IsTrue, None, OnOk, Some, cond, max, nat_eq, not, slice_get};
+ghost use Rattle.std.specs.Option.{option_map};
+ghost use Rattle.std.specs.Prelude.{false, ◌≡◌, ◌<◌, ◌≤◌, IfSome, IsTrue, None, OnOk, Some, cond, max, nat_eq, not, slice_get, ℕ};
 ghost use Rattle.thor_value.specs.declared.names.Oref.{Oref};
 
 use crate::link::{Link, Waits};
@@ -159,7 +161,9 @@ impl Held {
     }
 
     /// The first of some repositories where there is no session.
-    pub fn first_apart(&self, repos: &Repos) -> Option<u8> {
+    pub fn first_apart(&self, repos: &Repos) -> Option<u8>
+        ensures { IfSome result (λ repo. session_in repo (slice_get self.now.links.items repo) ≡ None) }
+    {
         for repo in repos.as_slice() {
             if self.at(*repo).is_none() {
                 return Some(*repo);
@@ -178,12 +182,32 @@ impl Held {
         }
     }
 
-    /// The client waits for nothing.
-    pub fn stop_waiting(&mut self)
-        ensures bounds { KeepsBounds self.old self.new }
+    /// Nothing is waited for in the session with a repository, and in no other one for messages that had to be taken.
+    pub fn stop_waiting(&mut self, repo: u8)
+        ensures stops { StopsWaiting repo self.old self.new }
+        ensures rest { self.new ≡ record self.old { links = self.new.links } }
     {
-        for repo in 0..REPOSITORIES {
-            self.wait(repo, Waits::Idle);
+        self.stop_all();
+        self.wait(repo, Waits::Idle);
+    }
+
+    /// Messages have to be taken in no session any more.
+    fn stop_all(&mut self)
+        ensures links { (n : ℕ) → slice_get self.new.links.items n ≡ option_map stopped (slice_get self.old.links.items n) }
+        ensures rest { self.new ≡ record self.old { links = self.new.links } }
+    {
+        for place in 0..self.links.len() {
+            self.stop_at(place);
+        }
+    }
+
+    /// The same at a place.
+    fn stop_at(&mut self, place: usize)
+        ensures links { self.new.links.items ≡ at_repo self.old.links.items place stopped }
+        ensures rest { self.new ≡ record self.old { links = self.new.links } }
+    {
+        if let Some(link) = self.links.get_mut(place) {
+            link.stop();
         }
     }
 
@@ -199,6 +223,9 @@ impl Held {
 
     /// Takes how the client stood with a repository; it is apart then.
     pub fn take_link(&mut self, repo: u8) -> Link
+        ensures taken { result ≡ link_in (slice_get self.old.links.items repo) }
+        ensures links { self.new.links.items ≡ at_repo self.old.links.items repo (λ l. Apart) }
+        ensures rest { self.new ≡ record self.old { links = self.new.links } }
         ensures bounds { KeepsBounds self.old self.new }
     {
         match self.links.get_mut(usize::from(repo)) {
@@ -210,6 +237,10 @@ impl Held {
     /// Drops the session, the copies and the names of a repository, and what was waited for there. A
     /// verdict that is still to be learnt there stays so.
     pub fn leave(&mut self, repo: u8)
+        ensures leaves { LeavesSome self.old self.new }
+        ensures none { (x : Oref) → x.repo ≡ repo → kept self.new.cache.cache x ≡ None }
+        ensures fewer { AreAmong (kept self.old.cache.cache) (kept self.new.cache.cache) }
+        ensures client { self.new.client ≡ self.old.client }
         ensures bounds { KeepsBounds self.old self.new }
     {
         if self.at(repo).is_some() {
