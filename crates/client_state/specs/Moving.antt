@@ -23,7 +23,7 @@ use Rattle.paused_eval.specs.Copies.{AreAmong}
 use Rattle.port.specs.Views.{View}
 use Rattle.port.specs.Works.{AskWork, CommitWork, DecideWork, Does, FinishWork, ForgetWork, IsOutage, PrepareWork, ReceiveWork}
 use Rattle.std.specs.Option.{option_map}
-use Rattle.std.specs.Prelude.{Bool, Err, None, Ok, Option, Result, Some, cond, false, slice_get, true, ℕ, ◌≡◌, ◌≢◌, ◌⊎◌}
+use Rattle.std.specs.Prelude.{Bool, Err, None, Ok, Option, Result, Some, [], cond, false, slice_get, true, ℕ, ◌∷◌, ◌≡◌, ◌≢◌, ◌⊎◌}
 use Rattle.thor_value.specs.declared.memory.NoMemory.{NoMemory}
 use Rattle.thor_value.specs.declared.names.Oref.{Oref}
 use Rattle.thor_value.specs.declared.names.Ts.{Ts}
@@ -169,9 +169,9 @@ pub data Moves (old new : View) (before after : Held) : Type 0 where
       → NoneAwaits 8 before.links.items → Learns k s.at.repo before after → after.client ≡ before.client → Moves old new before after
   Committed : (s : Sending) (place : ℕ) → Does {X = ℕ} old new s.at.repo (Ok place) (CommitWork s.at.session s.request (Ok place)) → IsOfSession before.links.items s
       → NoneAwaits 8 before.links.items → KeepsTry before after → Moves old new before after
-  -- the transaction was that of a transform
+  -- the transaction was that of a transform, which has written the object alone
   Transformed : (s : Sending) (place : ℕ) (oref : Oref) (made : Obj) → Does {X = ℕ} old new s.at.repo (Ok place) (CommitWork s.at.session s.request (Ok place)) → IsOfSession before.links.items s
-      → NoneAwaits 8 before.links.items → KeepsMade oref made before after → Moves old new before after
+      → s.request.writes ≡ (oref, made) ∷ [] → NoneAwaits 8 before.links.items → KeepsMade oref made before after → Moves old new before after
   CommitRefused : (s : Sending) (k : Refusal) → Does {X = ℕ} old new s.at.repo (Err k) (CommitWork s.at.session s.request (Err k)) → IsOfSession before.links.items s
       → NoneAwaits 8 before.links.items → Learns k s.at.repo before after → after.client ≡ before.client → Moves old new before after
   Decided : (at : At) (t : Ts) (v : Verdict) → Does {X = Verdict} old new at.repo (Ok v) (DecideWork at.session t true (Ok v))
