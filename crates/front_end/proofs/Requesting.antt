@@ -6,11 +6,12 @@ use Rattle.client_state.specs.Moving.{CommitRefused, Committed, DecideRefused, D
 use Rattle.client_state.specs.Sending.{IsOfSession}
 use Rattle.client_state.specs.declared.held.Held.{Held}
 use Rattle.client_state.specs.declared.requests.Sending.{Sending}
+use Rattle.commit_log.specs.declared.request.Request.{Request}
 use Rattle.message_outbox.specs.declared.answers.At.{At}
 use Rattle.message_outbox.specs.declared.answers.Verdict.{Verdict}
 use Rattle.port.specs.Views.{View}
 use Rattle.port.specs.Works.{CommitWork, DecideWork, Does, PrepareWork}
-use Rattle.std.proofs.Common.{Bool, List, [], inl, refl, true, ◌∷◌, ◌≡◌, ℕ}
+use Rattle.std.proofs.Common.{Bool, List, [], inl, refl, subst, sym, true, ◌∷◌, ◌≡◌, ℕ}
 use Rattle.std.specs.Prelude.{Err, None, Ok}
 use Rattle.thor_value.specs.declared.names.Oref.{Oref}
 use Rattle.thor_value.specs.declared.names.Ts.{Ts}
@@ -46,6 +47,11 @@ module _ (shows : Bool) (old new : View) (before after : Held) where
 
   pub by_decide_refused : (at : At) (t : Ts) (commit : Bool) (k : Refusal) → (shows ≡ true → Does {X = Verdict} old new at.repo (Err k) (DecideWork at.session t commit (Err k))) → Loses k at.repo before after → after.client ≡ before.client → MovesIf shows old new before after
   by_decide_refused at t commit k call loses client = λ w. DecideRefused at t commit k (call w) loses client
+
+-- the same refusal by another name
+pub commit_as : (shows : Bool) (old new : View) (at : At) (q : Request) (k e : Refusal) → k ≡ e → (shows ≡ true → Does {X = ℕ} old new at.repo (Err e) (CommitWork at.session q (Err e)))
+    → shows ≡ true → Does {X = ℕ} old new at.repo (Err k) (CommitWork at.session q (Err k))
+commit_as shows old new at q k e is call w = subst (λ (x : Refusal). Does {X = ℕ} old new at.repo (Err x) (CommitWork at.session q (Err x))) (sym is) (call w)
 
 -- ---- what nothing is learnt from
 
