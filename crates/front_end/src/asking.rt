@@ -1,7 +1,7 @@
 //! The fourth rule: the client asks for its own transaction, which was sent to be decided.
 
 ghost use Rattle.client_state.specs.Learning.{Rises};
-ghost use Rattle.client_state.specs.Moving.{LeavesLess, MovesIf};
+ghost use Rattle.client_state.specs.Moving.{EndsSo, LeavesLess, MovesIf};
 ghost use Rattle.client_state.specs.Owing.{asking_in, calls_in, count_of};
 ghost use Rattle.client_state.specs.declared.phase.Phase.TheVariants as phase;
 ghost use Rattle.client_state.specs.Showing.{IsToldBy};
@@ -74,6 +74,7 @@ impl Client {
     ) -> Result<News, NoMemory>
         ensures owed { OnOk result ((tries : ℕ) → uncounted tries self.new ≤ uncounted tries self.old + (count_of sent.participants + 1)) }
         ensures shown { IfOk result (λ news. (old new : View) (repos : ℕ) → IsToldBy old new coordinator sent.ts verdict.commit → NewsShown old new repos news) }
+        ensures ends { OnOk result (EndsSo verdict.commit self.old.held self.new.held) }
         ensures rises { Rises self.old.held self.new.held }
     {
         self.duties.hand_on(verdict, sent.others()?)?;

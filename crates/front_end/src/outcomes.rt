@@ -1,7 +1,7 @@
 //! What becomes of items whose verdict is known.
 
 ghost use Rattle.client_state.specs.Learning.{Rises};
-ghost use Rattle.client_state.specs.Moving.{MaySettle, SendsNothingIf};
+ghost use Rattle.client_state.specs.Moving.{KeepsTry, MaySettle, SendsNothingIf};
 ghost use Rattle.front_end.specs.Showing.{NewsShown, ShownIf};
 ghost use Rattle.port.specs.Acting.{ActsIf, IsDecided};
 ghost use Rattle.port.specs.Views.{View};
@@ -21,6 +21,7 @@ impl Client {
     pub fn end_committed(&mut self, opened: &Opened, sent: Sent) -> News
         ensures shown { (old new : View) (repos : ℕ) → IsDecided old new sent.ts true → NewsShown old new repos result }
         ensures rest { self.new ≡ record self.old { held = self.new.held } }
+        ensures keeps { KeepsTry self.old.held self.new.held }
         ensures rises { Rises self.old.held self.new.held }
     {
         let Sent { ts, meaning, .. } = sent;

@@ -121,7 +121,8 @@ impl Client {
         ensures shown { IfOk result (λ news. (old new : View) (repos : ℕ) → Refuses old new repo refusal → NewsShown old new repos news) }
         ensures links { OnOk result (self.new.held.links.items ≡ links_learnt refusal repo self.old.held.links.items) }
         ensures floor { OnOk result (self.new.held.floor ≡ floor_learnt refusal self.old.held.floor) }
-        ensures learns { OnOk result (Learns refusal repo self.old.held self.new.held) }
+        ensures learns { Learns refusal repo self.old.held self.new.held }
+        ensures client { self.new.held.client ≡ self.old.held.client }
         ensures rises { Rises self.old.held self.new.held }
     {
         let cause = cause_of(refusal, repo)?;
