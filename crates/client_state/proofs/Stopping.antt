@@ -121,7 +121,7 @@ stops_waiting repo a b c all then = record {
 
 -- ---- repositories that are left
 
-among_none : (a b : Option Obj) → (b ≡ a) ⊎ (b ≡ None) → a ≡ None → b ≡ None
+pub among_none : (a b : Option Obj) → (b ≡ a) ⊎ (b ≡ None) → a ≡ None → b ≡ None
 among_none a b (inl e) h = e ∙ h
 among_none a b (inr e) h = e
 
