@@ -1,9 +1,10 @@
 -- What is held behind a call that takes a message.
 use Rattle.client_cache.specs.Copies.{Contents, kept}
 use Rattle.client_cache.specs.Placing.{IsPageOf}
+use Rattle.client_state.proofs.Moving.{fewer_among}
 use Rattle.client_state.specs.Calling.{CopiesRefused, links_refused}
 use Rattle.client_state.specs.Links.{at_repo, waiting, stopped}
-use Rattle.client_state.specs.Moving.{CopiesTaken, HoldsLess, InSession, Loses, Moves, MovesIf, ReceiveRefused, ReceiveStopped, Received, ReceivedNone}
+use Rattle.client_state.specs.Moving.{CopiesTaken, HoldsLess, InSession, Loses, Moves, MovesIf, ReceiveRefused, ReceiveStopped, Received, ReceivedNone, StopsWaiting}
 use Rattle.client_state.specs.Receiving.{EndsReceive, IsNotGone, LosesThere, ReceivesNone, StopsThere, TakesCopies}
 use Rattle.client_state.specs.Taking.{BringsPage, links_behind, took}
 use Rattle.client_state.specs.declared.held.Held.{Held}
@@ -17,6 +18,7 @@ use Rattle.page_format.specs.Pages as page
 use Rattle.paused_eval.specs.Copies.{AreAmong}
 use Rattle.port.specs.Views.{Calm, Came, Halted, MayCome, Unsettled, View}
 use Rattle.port.specs.Works.{Answered, Does, IsOutage, ReceiveWork}
+use Rattle.refusal_reasons.specs.declared.reason.Reason.TheVariants as reasons
 use Rattle.refusal_reasons.specs.declared.reason.Reason.{Reason}
 use Rattle.session_outbox.specs.Trace.{Item}
 use Rattle.std.proofs.Common.{Bool, List, ap, inl, inr, refl, subst, sym, true, ◌≡◌, ◌∙◌, ℕ}
@@ -73,6 +75,41 @@ module _ (r s : ℕ) (b : Base) (at after : List Item) (u : Unsettled) where
   outage (refused.Damaged n place) m g h = tt
   outage refused.NoMemory m g h = tt
 
+-- Where no session is gone, none is lost.
+pub lost_nothing : (k : Refusal) (repo : ℕ) (before after : Held) → IsNotGone k → HoldsLess before after → Loses k repo before after
+lost_nothing (refused.Reason (reasons.Gone n)) repo before after gone less = absurd (gone n refl)
+lost_nothing (refused.Reason (reasons.Epoch n)) repo before after gone less = record { left = before.cache.cache; links = less.1; kept_so = λ x. refl; fewer = less.2 }
+lost_nothing (refused.Reason (reasons.Blocked tx)) repo before after gone less = record { left = before.cache.cache; links = less.1; kept_so = λ x. refl; fewer = less.2 }
+lost_nothing (refused.Reason (reasons.TooOld threshold)) repo before after gone less = record { left = before.cache.cache; links = less.1; kept_so = λ x. refl; fewer = less.2 }
+lost_nothing (refused.Reason (reasons.Stale oref place)) repo before after gone less = record { left = before.cache.cache; links = less.1; kept_so = λ x. refl; fewer = less.2 }
+lost_nothing (refused.Reason (reasons.Earlier tx oref)) repo before after gone less = record { left = before.cache.cache; links = less.1; kept_so = λ x. refl; fewer = less.2 }
+lost_nothing (refused.Reason (reasons.Later tx oref)) repo before after gone less = record { left = before.cache.cache; links = less.1; kept_so = λ x. refl; fewer = less.2 }
+lost_nothing (refused.Reason (reasons.Full limit)) repo before after gone less = record { left = before.cache.cache; links = less.1; kept_so = λ x. refl; fewer = less.2 }
+lost_nothing (refused.Reason reasons.ClockEnd) repo before after gone less = record { left = before.cache.cache; links = less.1; kept_so = λ x. refl; fewer = less.2 }
+lost_nothing (refused.Down n) repo before after gone less = record { left = before.cache.cache; links = less.1; kept_so = λ x. refl; fewer = less.2 }
+lost_nothing (refused.Stopped n) repo before after gone less = record { left = before.cache.cache; links = less.1; kept_so = λ x. refl; fewer = less.2 }
+lost_nothing (refused.Damaged n place) repo before after gone less = record { left = before.cache.cache; links = less.1; kept_so = λ x. refl; fewer = less.2 }
+lost_nothing refused.NoMemory repo before after gone less = record { left = before.cache.cache; links = less.1; kept_so = λ x. refl; fewer = less.2 }
+
+-- the client stops waiting behind what it drops
+pub stops_behind : (k : Refusal) (repo : ℕ) (before mid after : Held) → IsNotGone k → HoldsLess before mid → StopsWaiting repo mid after → after ≡ record mid { links = after.links } → EndsReceive k repo before after
+stops_behind k repo before mid after gone less stops rest = StopsThere gone (record {
+      here = stops.here ∙ ap (λ (ls : List Link). option_map (waiting Idle) (slice_get ls repo)) less.1;
+      others = λ n other. stops.others n other ∙ ap (λ (ls : List Link). option_map stopped (slice_get ls n)) less.1;
+    }) (ap (λ (h : Held). h.client) rest ∙ less.0) (fewer_among (kept before.cache.cache) (kept mid.cache.cache) (kept after.cache.cache) less.2 (λ x. inl (ap (λ (h : Held). kept h.cache.cache x) rest)))
+
+-- the links stay
+pub same_items : (a b : Held) → a.links ≡ b.links → a.links.items ≡ b.links.items
+same_items a b h = cc
+
+-- what is dropped behind a session that was lost
+pub loses_then_drops : (k : Refusal) (repo : ℕ) (before mid after : Held) → Loses k repo before mid → HoldsLess mid after → Loses k repo before after
+loses_then_drops k repo before mid after l less = record { left = l.left; links = less.1 ∙ l.links; kept_so = l.kept_so; fewer = fewer_among (kept l.left) (kept mid.cache.cache) (kept after.cache.cache) l.fewer less.2 }
+
+-- a session that was gone was lost
+pub loses_so : (k : Refusal) (repo : ℕ) (before after : Held) → after.links.items ≡ links_refused k repo before.links.items → CopiesRefused k repo before.links.items before.cache.cache after.cache.cache → Loses k repo before after
+loses_so k repo before after links copies = record { left = after.cache.cache; links = links; kept_so = copies; fewer = λ x. inl refl }
+
 -- ---- the call
 
 module _ (old new : View) (at : At) (before mid after : Held) (rest : mid ≡ record before { links = mid.links }) (joined : InSession at before) where
@@ -90,8 +127,8 @@ module _ (old new : View) (at : At) (before mid after : Held) (rest : mid ≡ re
       → mid.links.items ≡ links_behind (Ok o) at.repo before.links.items → TakesCopies at.repo m mid after → MovesIf shows old new before after
   by_message shows o m is call links t = λ s. taken m (subst (λ (x : Option Message). Does {X = Option Message} old new at.repo (Ok x) (ReceiveWork at.session (Ok x))) is (call s)) (subst (λ (x : Option Message). mid.links.items ≡ links_behind (Ok x) at.repo before.links.items) is links) t
 
-  loses_so : (k : Refusal) → mid.links.items ≡ before.links.items → Loses k at.repo mid after → Loses k at.repo before after
-  loses_so k links l = record {
+  loses_there : (k : Refusal) → mid.links.items ≡ before.links.items → Loses k at.repo mid after → Loses k at.repo before after
+  loses_there k links l = record {
       left = l.left;
       links = l.links ∙ ap (λ (ls : List Link). links_refused k at.repo ls) links;
       kept_so = subst (λ (c : Contents). CopiesRefused k at.repo before.links.items c l.left) same_copies (subst (λ (ls : List Link). CopiesRefused k at.repo ls mid.cache.cache l.left) links l.kept_so);
@@ -99,7 +136,7 @@ module _ (old new : View) (at : At) (before mid after : Held) (rest : mid ≡ re
     }
 
   refused_so : (k : Refusal) → Does {X = Option Message} old new at.repo (Err k) (ReceiveWork at.session (Err k)) → mid.links.items ≡ before.links.items → EndsReceive k at.repo mid after → Moves old new before after
-  refused_so k d links (LosesThere l client) = ReceiveRefused at k d joined (loses_so k links l) (client ∙ same_client)
+  refused_so k d links (LosesThere l client) = ReceiveRefused at k d joined (loses_there k links l) (client ∙ same_client)
   refused_so k d links (StopsThere g s client f) = ReceiveStopped at k d joined (outage at.repo at.session (old.opened.base at.repo) d.at (new.seen at.repo) (new.unsettled at.repo) k d.met g d.answer) (record {
       here = s.here ∙ ap (λ (ls : List Link). option_map (waiting Idle) (slice_get ls at.repo)) links;
       others = λ n other. s.others n other ∙ ap (λ (ls : List Link). option_map stopped (slice_get ls n)) links;

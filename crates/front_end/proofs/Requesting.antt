@@ -1,18 +1,24 @@
 -- What is held behind a call that sends a transaction, or has it decided.
-use Rattle.client_cache.specs.Copies.{Contents, kept}
+use Rattle.client_cache.specs.Copies.{Contents, kept, seen}
+use Rattle.client_cache.specs.Pages.{same_name}
+use Rattle.client_state.proofs.Moving.{fewer_among}
+use Rattle.client_state.specs.Calling.{CopiesRefused, upto_in}
 use Rattle.client_state.specs.Causes.{cause_behind}
+use Rattle.client_state.specs.Learning.{links_learnt}
 use Rattle.client_state.specs.Links.{NoneAwaits}
 use Rattle.client_state.specs.Moving.{CommitRefused, Committed, DecideRefused, Decided, EndsSo, HoldsLess, KeepsMade, KeepsTry, Learns, Loses, MovesIf, PrepareRefused, Prepared, Rested, Transformed, Unsent}
 use Rattle.client_state.specs.Sending.{IsOfSession}
 use Rattle.client_state.specs.declared.held.Held.{Held}
+use Rattle.client_state.specs.declared.link.Link.{Link}
 use Rattle.client_state.specs.declared.requests.Sending.{Sending}
 use Rattle.commit_log.specs.declared.request.Request.{Request}
 use Rattle.message_outbox.specs.declared.answers.At.{At}
 use Rattle.message_outbox.specs.declared.answers.Verdict.{Verdict}
+use Rattle.paused_eval.specs.Copies.{AreAmong}
 use Rattle.port.specs.Views.{View}
 use Rattle.port.specs.Works.{CommitWork, DecideWork, Does, PrepareWork}
-use Rattle.std.proofs.Common.{Bool, List, [], inl, refl, subst, sym, true, ◌∷◌, ◌≡◌, ℕ}
-use Rattle.std.specs.Prelude.{Err, None, Ok}
+use Rattle.std.proofs.Common.{Bool, List, [], ap, cond, inl, refl, subst, sym, true, ◌∷◌, ◌≡◌, ◌∙◌, ℕ}
+use Rattle.std.specs.Prelude.{Err, None, Ok, Some, slice_get}
 use Rattle.thor_value.specs.declared.names.Oref.{Oref}
 use Rattle.thor_value.specs.declared.names.Ts.{Ts}
 use Rattle.thor_value.specs.declared.values.Obj.{Obj}
@@ -70,3 +76,30 @@ no_cause_learns refused.NoMemory repo h none = record { left = h.cache.cache; li
 -- want of memory loses no session
 pub no_memory_loses : (repo : ℕ) (h : Held) → Loses refused.NoMemory repo h h
 no_memory_loses repo h = record { left = h.cache.cache; links = refl; kept_so = λ x. refl; fewer = λ x. inl refl }
+
+-- ---- what is kept
+
+pub keeps_then : (a b c : Held) → KeepsTry a b → c ≡ record b { floor = c.floor; learnt = c.learnt } → KeepsTry a c
+keeps_then a b c k rest = (ap (λ (h : Held). h.client) rest ∙ k.0, ap (λ (h : Held). h.links.items) rest ∙ k.1, subst (λ (d : Contents). AreAmong (seen a.cache.cache) (kept d)) (sym (ap (λ (h : Held). h.cache.cache) rest)) k.2)
+
+module _ (a b : Held) (rest : b ≡ record a { floor = b.floor }) where
+  pub made_then : (oref : Oref) (made : Obj) (c d : Held) → KeepsMade oref made b c → HoldsLess c d → KeepsMade oref made a d
+  made_then oref made c d k less = (
+      less.0 ∙ (k.0 ∙ ap (λ (h : Held). h.client) rest),
+      less.1 ∙ (k.1 ∙ ap (λ (h : Held). h.links.items) rest),
+      subst (λ (e : Contents). AreAmong (λ x. cond (same_name oref x) (Some made) (kept e x)) (kept d.cache.cache)) (ap (λ (h : Held). h.cache.cache) rest) (fewer_among (λ x. cond (same_name oref x) (Some made) (kept b.cache.cache x)) (kept c.cache.cache) (kept d.cache.cache) k.2 less.2),
+    )
+
+  pub learns_from : (k : Refusal) (repo : ℕ) (c : Held) → Learns k repo b c → Learns k repo a c
+  learns_from k repo c l = record {
+      left = l.left;
+      links = l.links ∙ ap (λ (h : Held). links_learnt k repo h.links.items) rest;
+      kept_so = subst (λ (d : Contents). CopiesRefused k repo a.links.items d l.left) (ap (λ (h : Held). h.cache.cache) rest) (subst (λ (ls : List Link). CopiesRefused k repo ls b.cache.cache l.left) (ap (λ (h : Held). h.links.items) rest) l.kept_so);
+      fewer = l.fewer;
+    }
+
+-- ---- sessions
+
+-- a request that names the session of a call, and acknowledges what was taken there
+pub of_call : (links : List Link) (at : At) (q : Request) → q.session ≡ at.session → q.upto ≡ upto_in (slice_get links at.repo) → IsOfSession links (record { at = at; request = q })
+of_call links at q session upto = record { session = session; upto = λ h. upto }
