@@ -1,13 +1,11 @@
 -- What is left for a client to do, which falls at each step by which it moves on (this project's).
-use Rattle.client_state.specs.Links.{session_in}
-use Rattle.client_state.specs.Moving.{IsApart}
 use Rattle.client_state.specs.Owing.{calls_in, owed}
 use Rattle.client_state.specs.declared.held.Held.{Held}
 use Rattle.front_end.specs.declared.client.Client.{Client}
 use Rattle.front_end.specs.declared.front_end.FrontEnd.{FrontEnd}
 use Rattle.item_progress.specs.Courses.{Course}
 use Rattle.item_progress.specs.Falling.{Falls, IsLeft, Left, Standing, left_by, most_calls}
-use Rattle.std.specs.Prelude.{None, length, slice_get, ℕ, ◌*◌, ◌+◌, ◌<◌, ◌^◌, ◌≡◌, ◌⊎◌}
+use Rattle.std.specs.Prelude.{None, length, ℕ, ◌*◌, ◌+◌, ◌<◌, ◌^◌, ◌≡◌, ◌⊎◌}
 
 -- how many calls a client may still make that aren't counted, where an item has so many tries
 abbrev pub uncounted : ℕ → Client → ℕ
@@ -56,7 +54,3 @@ GoesOn f = IsLeft (course_of f) ⊎ (0 < length f.client.duties.verdicts)
 -- the same where what is to be aborted comes first
 abbrev pub MovesOn : FrontEnd → Type 0
 MovesOn f = f.client.duties.abort ≡ None → GoesOn f
-
--- Where there is no session with the repository, it is apart: no verdict on an Unknown item is to be learnt there.
-abbrev pub NoneUnsettled : ℕ → Held → Type 0
-NoneUnsettled repo held = session_in repo (slice_get held.links.items repo) ≡ None → IsApart repo held

@@ -1,11 +1,12 @@
 //! What becomes of items whose verdict is known.
 
 ghost use Rattle.client_state.specs.Learning.{Rises};
+ghost use Rattle.client_state.specs.Moving.{KeepsTry, MaySettle, SendsNothingIf};
 ghost use Rattle.front_end.specs.Showing.{NewsShown, ShownIf};
 ghost use Rattle.port.specs.Acting.{ActsIf, IsDecided};
 ghost use Rattle.port.specs.Views.{View};
 ghost use Rattle.item_progress.specs.Courses.{IsDownAt, is_committed};
-ghost use Rattle.std.specs.Prelude.{◌≡◌, IfOk, IfSome, true, ℕ};
+ghost use Rattle.std.specs.Prelude.{◌≡◌, IfOk, IfSome, OnOk, true, ℕ};
 
 use crate::client::Client;
 use client_state::{Link, Sent};
@@ -20,6 +21,7 @@ impl Client {
     pub fn end_committed(&mut self, opened: &Opened, sent: Sent) -> News
         ensures shown { (old new : View) (repos : ℕ) → IsDecided old new sent.ts true → NewsShown old new repos result }
         ensures rest { self.new ≡ record self.old { held = self.new.held } }
+        ensures keeps { KeepsTry self.old.held self.new.held }
         ensures rises { Rises self.old.held self.new.held }
     {
         let Sent { ts, meaning, .. } = sent;
@@ -34,6 +36,7 @@ impl Client {
     /// whether the epoch rises.
     fn learn_commit(&mut self, opened: &Opened, ts: Ts, meaning: &Meaning) -> bool
         ensures rest { self.new ≡ record self.old { held = self.new.held } }
+        ensures held { self.new.held ≡ record self.old.held { floor = self.new.held.floor; learnt = self.new.held.learnt } }
         ensures rises { Rises self.old.held self.new.held }
     {
         self.held.raise_floor(ts);
@@ -54,6 +57,7 @@ impl Client {
         ensures stands { IfOk result (λ learnt. IfSome learnt (λ l. is_committed l.settled.outcome ≡ verdict.commit)) }
         ensures tx { IfOk result (λ learnt. IfSome learnt (λ l. l.settled.ts ≡ verdict.tx)) }
         ensures down { IfOk result (λ learnt. IfSome learnt (λ l. IsDownAt repo l.settled.outcome)) }
+        ensures settles { OnOk result (MaySettle repo self.old.held self.new.held) }
         ensures rises { Rises self.old.held self.new.held }
     {
         match self.held.take_link(repo) {
@@ -81,6 +85,7 @@ impl Client {
         ensures tx { result.settled.ts ≡ sent.ts }
         ensures down { IsDownAt repo result.settled.outcome }
         ensures rest { self.new ≡ record self.old { held = self.new.held } }
+        ensures held { self.new.held ≡ record self.old.held { floor = self.new.held.floor; learnt = self.new.held.learnt } }
         ensures rises { Rises self.old.held self.new.held }
     {
         let Sent { ts, meaning, .. } = sent;
@@ -102,6 +107,7 @@ impl Client {
         ensures rest { self.new ≡ record self.old { held = self.new.held } }
         ensures acts { ActsIf Q.shows (Q.view port.old) (Q.view port.new) }
         ensures shown { ShownIf Q.shows (Q.view port.old) (Q.view port.new) opened.now.repos result }
+        ensures moves { OnOk result (SendsNothingIf Q.shows (Q.view port.old) (Q.view port.new) self.old.held self.new.held) }
         ensures rises { Rises self.old.held self.new.held }
     {
         let (sent, index) = match self.held.take_link(repo) {

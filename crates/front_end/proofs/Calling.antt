@@ -1,0 +1,48 @@
+-- What a client's call makes of what it holds, as its functions hand it on.
+use Rattle.client_state.proofs.Moving.{less_itself, settles}
+use Rattle.client_state.specs.Moving.{Aborted, Asked, AskedInVain, AskedOwn, DecideRefused, EndsSo, Finished, Forgot, HoldsLess, LeavesLess, Loses, MaySettle, Moves, MovesIf, SendsNothing, SendsNothingIf, Unsent}
+use Rattle.client_state.specs.declared.held.Held.{Held}
+use Rattle.message_outbox.specs.declared.answers.Asked as answer
+use Rattle.message_outbox.specs.declared.answers.Asked.TheVariants as answers
+use Rattle.message_outbox.specs.declared.answers.At.{At}
+use Rattle.message_outbox.specs.declared.answers.Verdict.{Verdict}
+use Rattle.port.specs.Views.{View}
+use Rattle.port.specs.Works.{AskWork, DecideWork, Does, FinishWork, ForgetWork}
+use Rattle.std.proofs.Common.{Bool, false, subst, true, ℕ, ◌≡◌}
+use Rattle.std.specs.Prelude.{Ok, OnOk, Option, Result}
+use Rattle.thor_value.specs.declared.memory.NoMemory.{NoMemory}
+use Rattle.thor_value.specs.declared.names.Ts.{Ts}
+use Rattle.validation_window.specs.declared.refusal.Refusal.{Refusal}
+
+module _ (shows : Bool) (old new : View) where
+  pub unsent : {X : Type 0} (result : Result X NoMemory) (a b : Held) → OnOk result (SendsNothingIf shows old new a b) → OnOk result (MovesIf shows old new a b)
+  unsent (Ok x) a b f = λ s. Unsent (f s)
+  unsent (Err e) a b f = tt
+
+  -- ---- questions
+
+  module _ (r : ℕ) (t : Ts) where
+    pub asked_nothing : (result : Result answer.Asked Refusal) (a b : Held) → (shows ≡ true → Does old new r result (AskWork t result)) → HoldsLess a b → SendsNothingIf shows old new a b
+    asked_nothing result a b call less s = Asked r t result (call s) less
+
+    module _ (o : answer.Asked) (v : Verdict) (is : o ≡ answers.Settled v) (call : shows ≡ true → Does {X = answer.Asked} old new r (Ok o) (AskWork t (Ok o))) (a b : Held) where
+      told : shows ≡ true → Does {X = answer.Asked} old new r (Ok (answers.Settled v)) (AskWork t (Ok (answers.Settled v)))
+      told s = subst (λ (x : answer.Asked). Does {X = answer.Asked} old new r (Ok x) (AskWork t (Ok x))) is (call s)
+
+      pub asked_settled : MaySettle r a b → SendsNothingIf shows old new a b
+      asked_settled may s = settles old new a b r t v (told s) may
+
+      pub asked_own : {X : Type 0} (result : Result X NoMemory) → OnOk result (EndsSo v.commit a b) → OnOk result (MovesIf shows old new a b)
+      asked_own (Ok x) ends = λ s. AskedOwn r t v (told s) ends
+      asked_own (Err e) ends = tt
+
+    pub asked_in_vain : (result : Result answer.Asked Refusal) (a b : Held) → (shows ≡ true → Does old new r result (AskWork t result)) → LeavesLess a b → MovesIf shows old new a b
+    asked_in_vain result a b call leaves s = AskedInVain r t result (call s) leaves.1 leaves.0 leaves.2
+
+  -- ---- verdicts that are handed on
+
+  pub finished : (r : ℕ) (t : Ts) (commit : Bool) (result : Result (Option ℕ) Refusal) (a : Held) → (shows ≡ true → Does old new r result (FinishWork t commit result)) → MovesIf shows old new a a
+  finished r t commit result a call s = Finished r t commit result (call s) (less_itself a)
+
+  pub forgotten : (r : ℕ) (t : Ts) (result : Result (Unit {0}) Refusal) (a : Held) → (shows ≡ true → Does old new r result (ForgetWork t result)) → MovesIf shows old new a a
+  forgotten r t result a call s = Forgot r t result (call s) (less_itself a)
