@@ -4,5 +4,6 @@ pub mod Leaving
 pub mod Moving
 pub mod Receiving
 pub mod Requesting
+pub mod Settling
 pub mod Showing
 pub mod Steps
