@@ -22,13 +22,12 @@ use Rattle.state_log.specs.Values.{writes_if}
 use Rattle.page_format.specs.Pages.{Contents as PageContents}
 use Rattle.page_store.specs.Store.{Store, refreshed, with_side}
 use Rattle.thor_value.proofs.NameOrders.{oref_exact}
-use Rattle.thor_value.specs.FiniteMap.{get}
 use Rattle.thor_value.specs.Names.{later_of, oref_cmp, ts_cmp}
 use Rattle.thor_value.specs.Spelling.{TsFits}
 use Rattle.thor_value.specs.declared.names.Oref.{Oref}
 use Rattle.thor_value.specs.declared.names.Ts.{Ts}
 use Rattle.thor_value.specs.declared.values.Obj.{Obj}
-use Rattle.two_phase.specs.Contents.{Contents, keeping, keeps, open_at, without}
+use Rattle.two_phase.specs.Contents.{Contents, keeping, open_at, without}
 use Rattle.two_phase.specs.Lists.{aborted_of, kept_decisions, open_requests}
 use Rattle.held_state.proofs.Buffers.{put_all_is}
 use Rattle.held_state.proofs.Kept.{each_filtered, fits_aborted, fits_alone, fits_keeping, fits_open, fits_without, of_writes, open_fits}

@@ -10,7 +10,7 @@ use Rattle.state_log.specs.Recovered.{chosen, is_whole, sequence_end, stands, st
 use Rattle.std.specs.Option.{option_and_then}
 use Rattle.std.specs.Prelude.{IsTrue}
 use Rattle.disk_trait.specs.AllDisks.{AllSettled, LeavesAll, TellsAll}
-use Rattle.state_log.specs.Holds.{SaysNothingOr, Under, Holding, Holds, Says, SaysEither, beside}
+use Rattle.state_log.specs.Holds.{SaysNothingOr, Under, Holding, Holds, SaysEither, beside}
 use Rattle.disk_trait.proofs.Several.{all_of_one, all_settled, all_none}
 use Rattle.state_log.proofs.Holding.{stands_of, is_other, is_log, holds_says, state_begun}
 
