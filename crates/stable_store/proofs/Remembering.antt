@@ -10,14 +10,14 @@ use Rattle.state_log.proofs.ValueLaws.{changed_mob, object_in-off, object_in-wri
 use Rattle.state_log.specs.Recovered.{after, decided, kept_by, kept_with, kept_without, opened_without, page_above, request_at}
 use Rattle.state_log.specs.Values.{object_in, writes_of, written_last}
 use Rattle.std.proofs.Common.{Bool, List, None, Option, Some, [], ◌∷◌, ap, arith, cond, false, map, max, nat_eq, not, refl, subst, sym, true, ℕ, ◌+◌, ◌∙◌, ◌≡◌, ◌≤◌}
-use Rattle.std.proofs.lemmas.Cmp.{eq_by_cmp_equiv}
+use Rattle.std.proofs.lemmas.Map.Views.{tells_apart}
 use Rattle.std.specs.BTreeMap.{insert_entry, is_at}
 use Rattle.std.specs.List.{fold}
 use Rattle.std.specs.Map.{keys_of, lookup}
 use Rattle.std.specs.Option.{is_some}
 use Rattle.std.specs.Ordering.{eq_by_cmp, nat_cmp}
 use Rattle.thor_value.proofs.FiniteMap.{get-insert}
-use Rattle.thor_value.proofs.NameOrders.{ts_total}
+use Rattle.thor_value.proofs.NameOrders.{ts_exact, ts_total}
 use Rattle.thor_value.specs.FiniteMap.{Map}
 use Rattle.thor_value.specs.Names.{same_oref, same_ts, ts_cmp}
 use Rattle.thor_value.specs.declared.names.Oref.{Oref}
@@ -75,11 +75,11 @@ dropped_no t u (v ∷ vs) = by (same_ts t v) (is_at (ts_cmp u) v) (eq_by_cmp ts_
     by true false d here at key more = more
     by true true true here at key more = more
     by true true false here at key more =
-        let one : eq_by_cmp ts_cmp u t ≡ true = (eq_by_cmp_equiv ts_total).trans u v t at ((eq_by_cmp_equiv ts_total).symm v t ∙ here) in
+        let one : eq_by_cmp ts_cmp u t ≡ true = ap (λ (x : Ts). eq_by_cmp ts_cmp u x) (tells_apart ts_exact t v here) ∙ at in
         let clash : true ≡ false = sym one ∙ key in
         cc
     by false true true here at key more =
-        let one : same_ts t v ≡ true = (eq_by_cmp_equiv ts_total).trans t u v ((eq_by_cmp_equiv ts_total).symm t u ∙ key) at in
+        let one : same_ts t v ≡ true = ap (λ (x : Ts). eq_by_cmp ts_cmp x v) (sym (tells_apart ts_exact u t key)) ∙ at in
         let clash : true ≡ false = sym one ∙ here in
         cc
     by false true false here at key more = ap (λ (c : Bool). is_some (cond c (Some (tt {0})) (lookup (is_at (ts_cmp u)) (map stamp (kept_without vs t))))) at
