@@ -97,6 +97,7 @@ impl<P: Parts> Stable<P> {
         ensures says { IsSaid P.disks self.old → IfOk result (SaysTaken P.disks self.new) }
         ensures stays_said { IsSaid P.disks self.old → OnErr result (IsSaid P.disks self.new) }
         ensures goes { GoesOn (disks_of P.disks self.old) (disks_of P.disks self.new) }
+        ensures stopped { (r : ℕ) → IsErrOf result (IsStopped r) → HasFailed (disks_of P.disks self.old).faults (disks_of P.disks self.new).faults }
         ensures torn { is_torn self.old ≡ true → IsErrOf result IsNoMemory × (self.new ≡ record self.old { parts = armed (parts_in self.old) 0 }) }
         ensures damaged { (r place : ℕ) → IsErrOf result (IsDamaged r place) → IsSaid P.disks self.old → TellsAll (disks_of P.disks self.old) → GivesUnheld (disks_of P.disks self.new).content }
     {
@@ -143,6 +144,7 @@ impl<P: Parts> Stable<P> {
         ensures crash { LeavesNoMore (disks_of P.disks self.old) (disks_of P.disks self.new) }
         ensures found { IfOk result (λ r. FindsOneOf (disks_of P.disks self.old) (disks_of P.disks self.new) (held_of self.old) (said r.state)) }
         ensures goes { GoesOn (disks_of P.disks self.old) (disks_of P.disks self.new) }
+        ensures stopped { (r : ℕ) → IsErrOf result (IsStopped r) → HasFailed (disks_of P.disks self.old).faults (disks_of P.disks self.new).faults }
         ensures damaged { (r place : ℕ) → IsErrOf result (IsDamaged r place) → (pending : Option AnyEntry) → ImagesSay (disks_of P.disks self.old) (held_of self.old) pending → TellsAll (disks_of P.disks self.old) → GivesUnheld (disks_of P.disks self.new).content }
     {
         let repo = self.repo();
@@ -211,6 +213,7 @@ impl<P: Parts> Stable<P> {
         ensures stays { OnErr result (self.new.phase ≡ IsDown pending) }
         ensures says { (TellsAll (disks_of P.disks self.old) → IsOneOf (held_of self.old) pending (said recovered.state)) → IfOk result (SaysTaken P.disks self.new) }
         ensures parts { self.new.parts ≡ self.old.parts }
+        ensures stopped { (r : ℕ) → IsErrOf result (IsStopped r) → ⊥ }
         ensures damaged { (r place : ℕ) → IsErrOf result (IsDamaged r place) → IsOneOf (held_of self.old) pending (said recovered.state) → ⊥ }
     {
         let Recovered { state, log, .. } = recovered;

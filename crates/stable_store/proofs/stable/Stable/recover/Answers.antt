@@ -88,3 +88,20 @@ returns-in-Ok-None-clause-goes g c =
 pub returns-in-Err-found-clause-goes : goal.returns-in-Err-found-clause-goes
 returns-in-Err-found-clause-goes g c =
     goes_then (disks_of g.P.Parts.disks c.args.self.now) (fused_disks g.P.Parts.disks c.restart_all.new.parts) (fused_disks g.P.Parts.disks c.recover-found.new.parts) c.restart_all.ensures.any_moment.goes c.recover-found.ensures.any_moment.goes
+
+pub returns-in-Ok-Some-clause-stopped : goal.returns-in-Ok-Some-clause-stopped
+returns-in-Ok-Some-clause-stopped g c = λ r wrong.
+    let old = disks_of g.P.Parts.disks c.args.self.now in
+    let mid = fused_disks g.P.Parts.disks c.restart_all.new.parts in
+    let read = fused_disks g.P.Parts.disks c.recover-found.new.parts in
+    failed_behind old.faults read.faults (disks_of g.P.Parts.disks c.reached.new.self).faults (goes_then old mid read c.restart_all.ensures.any_moment.goes c.recover-found.ensures.any_moment.goes).faults (c.reached.ensures.stopped r wrong)
+
+pub returns-in-Err-found-clause-stopped : goal.returns-in-Err-found-clause-stopped
+returns-in-Err-found-clause-stopped g c = λ r wrong.
+    let old = disks_of g.P.Parts.disks c.args.self.now in
+    let mid = fused_disks g.P.Parts.disks c.restart_all.new.parts in
+    let read = fused_disks g.P.Parts.disks c.recover-found.new.parts in
+    let at = c.of_recovery.ensures.stopped r (same_err _ c.of_recovery.result (IsStopped r) refl wrong) in
+    let is = c.in-Err-found.is ∙ ap (λ (f : RecoverFault). Err f) at.1 in
+    let within = c.recover-found.ensures.disk at.0 is in
+    failed_behind old.faults mid.faults read.faults c.restart_all.ensures.any_moment.goes.faults (failed_on mid read at.0 (omega (arith, within)) (c.recover-found.ensures.failed at.0 is))

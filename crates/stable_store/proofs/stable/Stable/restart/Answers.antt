@@ -75,6 +75,14 @@ returns-in-Down-clause-goes g c =
     subst (λ (p : Fused _). GoesOn (disks_of g.P.Parts.disks c.args.self.now) (fused_disks g.P.Parts.disks p)) (sym c.take_over.ensures.parts)
     (before_down g.P.Parts.disks c.args.self.now c.take_down.new.self c.disarm.new.self (λ (d : Disks). GoesOn d (disks_of g.P.Parts.disks c.recover.new.self)) c.disarm.ensures c.take_down.ensures.new c.recover.ensures.goes)
 
+pub returns-in_err-recovered-clause-stopped : goal.returns-in_err-recovered-clause-stopped
+returns-in_err-recovered-clause-stopped g c = λ r wrong.
+    let is : IsErrOf c.recover.result (IsStopped r) = search rules in
+    before_down g.P.Parts.disks c.args.self.now c.take_down.new.self c.disarm.new.self (λ (d : Disks). HasFailed d.faults (disks_of g.P.Parts.disks c.recover.new.self).faults) c.disarm.ensures c.take_down.ensures.new (c.recover.ensures.stopped r is)
+
+pub returns-in-Down-clause-stopped : goal.returns-in-Down-clause-stopped
+returns-in-Down-clause-stopped g c = λ r wrong. absurd (c.take_over.ensures.stopped r wrong)
+
 pub returns-in_err-recovered-clause-torn : goal.returns-in_err-recovered-clause-torn
 returns-in_err-recovered-clause-torn g c = λ torn. absurd (not_torn c.args.self.now c.take_down.new.self c.disarm.new.self c.take_down.ensures.new (sym c.is_torn.ensures ∙ c.if-is_torn.false) torn)
 
