@@ -3,7 +3,7 @@ use Rattle.commit_log.specs.declared.entry.Entry.TheVariants.{Decided, Finished,
 use Rattle.commit_log.specs.declared.request.Kind.TheVariants.{App, Transform, Upgrade}
 use Rattle.commit_log.specs.declared.request.Kind.{Kind}
 use Rattle.commit_log.specs.declared.request.Request.{Request}
-use Rattle.held_state.specs.Entering.{are_of}
+use Rattle.state_log.specs.Recovered.{are_of}
 use Rattle.held_state.specs.declared.held.Held.{Held}
 use Rattle.repo_core.specs.Behind.{MovesObjects, alone_entry}
 use Rattle.repo_core.specs.Calls.{CanWrite, Comes, MayRequest}

@@ -8,11 +8,10 @@ ghost use Rattle.held_state.specs.Keeps.{Keeps};
 ghost use Rattle.held_state.specs.Said.{said};
 ghost use Rattle.page_store.specs.Sides.{ReachesSides};
 ghost use Rattle.stable_store.specs.Agreeing.{IsTaken};
-ghost use Rattle.log_bytes.specs.declared.state.State.{State};
 ghost use Rattle.disk_trait.specs.Fused.{armed};
 ghost use Rattle.stable_store.specs.Failing.{HasFailed};
 ghost use Rattle.stable_store.specs.Kept.{IsKept, IsOpen, IsResting, disks_of, held_of, is_fault, is_torn, is_up, lowered, parts_in, pending};
-ghost use Rattle.stable_store.specs.Saying.{FindsOneOf, GivesUnheld, ImagesSay, IsOneOf, IsSaid, LeavesNoMore, SaysTaken};
+ghost use Rattle.stable_store.specs.Saying.{FindsOneOf, ImagesSay, IsOneOf, IsSaid, LeavesNoMore, SaysTaken};
 ghost use Rattle.stable_store.specs.declared.stable.Phase.TheVariants.{Down as IsDown, Up as IsUp};
 ghost use Rattle.stable_store.specs.Taking.{AgreesWhere, CanTake, TakesFrom};
 ghost use Rattle.state_log.specs.Holds.{Holds};
@@ -44,7 +43,7 @@ impl<P: Parts> Stable<P> {
     /// A repository of what was recovered from its disks, which is up. `Failed`, too, where its disk of pages
     /// doesn't reach the installed sides.
     pub fn open(mut parts: P, recovered: Recovered) -> Result<Stable<P>, OpenFault<P>>
-        requires holds { (s : State) × Holds (P.disks parts) recovered.log s }
+        requires holds { Holds (P.disks parts) recovered.log (said recovered.state) }
         requires keeps { Keeps recovered.state }
         requires pages { AgreesWhere recovered.state.objects.pages }
         ensures kept { IfOk result (IsKept P.disks) }
@@ -77,9 +76,8 @@ impl<P: Parts> Stable<P> {
 
     /// Takes the repository down where it is up, crashes its disks, and takes over their log and objects,
     /// where what they stand for agrees with what is held, or with that and the pending entry. Otherwise it
-    /// stays down, with the entry pending that was so. `Damaged` only where some disk doesn't tell its bytes,
-    /// or where the log that counts can't be taken into memory. Want of memory, too, where there was none for
-    /// an entry that its log has: then no disk is called.
+    /// stays down, with the entry pending that was so. `Damaged` only where some disk doesn't tell its bytes.
+    /// Want of memory, too, where there was none for an entry that its log has: then no disk is called.
     pub fn restart(&mut self, alloc: Global, pick: u64) -> Result<Taken, Refusal>
         requires kept { IsKept P.disks self.old }
         ensures kept { IsKept P.disks self.new }
@@ -99,7 +97,7 @@ impl<P: Parts> Stable<P> {
         ensures goes { GoesOn (disks_of P.disks self.old) (disks_of P.disks self.new) }
         ensures stopped { (r : ℕ) → IsErrOf result (IsStopped r) → HasFailed (disks_of P.disks self.old).faults (disks_of P.disks self.new).faults }
         ensures torn { is_torn self.old ≡ true → IsErrOf result IsNoMemory × (self.new ≡ record self.old { parts = armed (parts_in self.old) 0 }) }
-        ensures damaged { (r place : ℕ) → IsErrOf result (IsDamaged r place) → IsSaid P.disks self.old → TellsAll (disks_of P.disks self.old) → GivesUnheld (disks_of P.disks self.new).content }
+        ensures damaged { (r place : ℕ) → IsErrOf result (IsDamaged r place) → IsSaid P.disks self.old → TellsAll (disks_of P.disks self.old) → ⊥ }
     {
         self.parts.disarm();
         self.take_down();
@@ -145,7 +143,7 @@ impl<P: Parts> Stable<P> {
         ensures found { IfOk result (λ r. FindsOneOf (disks_of P.disks self.old) (disks_of P.disks self.new) (held_of self.old) (said r.state)) }
         ensures goes { GoesOn (disks_of P.disks self.old) (disks_of P.disks self.new) }
         ensures stopped { (r : ℕ) → IsErrOf result (IsStopped r) → HasFailed (disks_of P.disks self.old).faults (disks_of P.disks self.new).faults }
-        ensures damaged { (r place : ℕ) → IsErrOf result (IsDamaged r place) → (pending : Option AnyEntry) → ImagesSay (disks_of P.disks self.old) (held_of self.old) pending → TellsAll (disks_of P.disks self.old) → GivesUnheld (disks_of P.disks self.new).content }
+        ensures damaged { (r place : ℕ) → IsErrOf result (IsDamaged r place) → (pending : Option AnyEntry) → ImagesSay (disks_of P.disks self.old) (held_of self.old) pending → TellsAll (disks_of P.disks self.old) → ⊥ }
     {
         let repo = self.repo();
         let mob_limit = self.held.objects().mob().limit();
@@ -164,7 +162,6 @@ impl<P: Parts> Stable<P> {
     /// What was recovered, where the disk of pages reaches the installed sides.
     #[tactic(auto, using(crate::proofs::Returning::more_read))]
     fn reached(&mut self, recovered: Recovered) -> Result<Recovered, Refusal>
-        requires holds { (s : State) × Holds (disks_of P.disks self.old) recovered.log s }
         requires stands { Holds (disks_of P.disks self.old) recovered.log (said recovered.state) }
         requires keeps { Keeps recovered.state }
         requires pages { AgreesWhere recovered.state.objects.pages }

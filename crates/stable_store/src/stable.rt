@@ -242,6 +242,7 @@ impl<P: Parts> Stable<P> {
     #[tactic(auto, using(crate::proofs::Saying::said_same))]
     pub fn append(&mut self, entry: Entry) -> Result<Entry, Refusal>
         requires fits { BodyFits (AnEntry entry) }
+        requires takes { IsTrue (can_enter (held_of self.old) entry) }
         requires kept { IsKept P.disks self.old }
         ensures kept { IsKept P.disks self.new }
         ensures ok { IfOk result (λ written. (written ≡ entry) × GoesOnUp self.old self.new) }

@@ -2,15 +2,16 @@ use Rattle.disk_trait.proofs.Several.{goes_one}
 use Rattle.disk_trait.specs.Fused.{fused_disks}
 use Rattle.held_state.specs.Said.{said}
 use Rattle.stable_store.proofs.Failing.{failed_behind}
-use Rattle.stable_store.proofs.Opened.{holds_beside, opened_beside}
+use Rattle.stable_store.proofs.Opened.{holds_beside, opened_beside, repo_of}
 use Rattle.stable_store.proofs.Pages.{reach_written}
 use Rattle.stable_store.proofs.Saying.{images_beside, log_beside, log_same}
 use Rattle.stable_store.specs.Kept.{disks_of}
+use Rattle.std.proofs.Common.{ap}
 use Rattle.stable_store.proofs.stable.Stable.flush_into.Goals as goal
 
 pub put_flushed-requires-clause-opened : goal.put_flushed-requires-clause-opened
 put_flushed-requires-clause-opened g c =
-    opened_beside (disks_of g.P.Parts.disks c.args.self.now) (fused_disks g.P.Parts.disks c.flush_one.new.parts) c.args.log.now c.args.self.now.held c.flush_one.new.self c.requires.opened c.flush_one.ensures.alone c.in-Ok.ensures.settled c.in-Ok.ensures.agrees c.flush_one.ensures.keeps
+    opened_beside (disks_of g.P.Parts.disks c.args.self.now) (fused_disks g.P.Parts.disks c.flush_one.new.parts) c.args.log.now c.args.self.now.held c.flush_one.new.self c.requires.opened c.flush_one.ensures.alone c.in-Ok.ensures.settled c.in-Ok.ensures.agrees (ap repo_of c.flush_one.ensures.held) c.flush_one.ensures.keeps
 
 pub returns-in-Ok-clause-log : goal.returns-in-Ok-clause-log
 returns-in-Ok-clause-log g c = λ says.

@@ -15,7 +15,7 @@ use Rattle.stable_store.proofs.stable.Stable.reached.Goals as goal
 pub returns-in-Ok-true-clause-opened : goal.returns-in-Ok-true-clause-opened
 returns-in-Ok-true-clause-opened g c =
     let same = c.sides.ensures ∙ ap (λ (p : Store). p.sides) c.pages.ensures ∙ ap (λ (k : Kept). k.pages.sides) c.objects.ensures in
-    opened_where (disks_of g.P.Parts.disks c.args.self.now) (fused_disks g.P.Parts.disks c.reaches.new.parts) c.args.recovered.log c.args.recovered.state c.sides.result.now c.in-Ok-true.field-0 c.requires.holds c.requires.keeps c.requires.pages c.reaches.ensures.alone c.reaches.ensures.content c.reaches.ensures.crash same c.in-Ok-true.ensures.answer c.in-Ok-true.field-0-test
+    opened_where (disks_of g.P.Parts.disks c.args.self.now) (fused_disks g.P.Parts.disks c.reaches.new.parts) c.args.recovered.log c.args.recovered.state c.sides.result.now c.in-Ok-true.field-0 c.requires.stands c.requires.keeps c.requires.pages c.reaches.ensures.alone c.reaches.ensures.content c.reaches.ensures.crash same c.in-Ok-true.ensures.answer c.in-Ok-true.field-0-test
 
 pub returns-in-Ok-true-clause-stands : goal.returns-in-Ok-true-clause-stands
 returns-in-Ok-true-clause-stands g c =

@@ -6,7 +6,7 @@ use Rattle.disk_trait.specs.declared.fused.Fused.{Fused}
 use Rattle.held_state.specs.Said.{said}
 use Rattle.stable_store.proofs.Failing.{before_down, not_torn, stays_torn}
 use Rattle.stable_store.specs.Failing.{HasFailed}
-use Rattle.stable_store.proofs.Returning.{fails_said, on_err_any, on_err_two, on_ok_any, restart_finds, restart_stays, restart_unheld, tells_armed, tells_down}
+use Rattle.stable_store.proofs.Returning.{fails_said, on_err_any, on_err_two, on_ok_any, restart_finds, restart_never, restart_stays, tells_armed, tells_down}
 use Rattle.stable_store.proofs.Saying.{phase_of, said_armed}
 use Rattle.stable_store.proofs.Lowered.{none_torn, pending_of}
 use Rattle.stable_store.specs.Agreeing.{IsTaken}
@@ -42,7 +42,7 @@ returns-in_err-recovered-clause-damaged g c = λ r place is said_old tells.
     let wrong : IsErrOf c.recover.result (IsDamaged r place) = search rules in
     let is_down = c.take_down.ensures.says (said_armed g.P.Parts.disks c.args.self.now c.disarm.new.self 0 c.disarm.ensures said_old) in
     let told = tells_down g.P.Parts.disks _ c.take_down.new.self c.take_down.ensures.new (tells_armed g.P.Parts.disks c.args.self.now c.disarm.new.self 0 c.disarm.ensures tells) in
-    restart_unheld g.P.Parts.disks c.take_down.new.self (disks_of g.P.Parts.disks c.recover.new.self).content c.args.self.now.phase is_down (ap phase_of c.take_down.ensures.new) (sym c.is_torn.ensures ∙ c.if-is_torn.false)
+    restart_never g.P.Parts.disks c.take_down.new.self c.args.self.now.phase is_down (ap phase_of c.take_down.ensures.new) (sym c.is_torn.ensures ∙ c.if-is_torn.false)
     (λ pending says. c.recover.ensures.damaged r place wrong pending says told)
 
 pub returns-in-Down-clause-damaged : goal.returns-in-Down-clause-damaged
@@ -50,7 +50,7 @@ returns-in-Down-clause-damaged g c = λ r place is said_old tells.
     let is_down = c.take_down.ensures.says (said_armed g.P.Parts.disks c.args.self.now c.disarm.new.self 0 c.disarm.ensures said_old) in
     let told = tells_down g.P.Parts.disks _ c.take_down.new.self c.take_down.ensures.new (tells_armed g.P.Parts.disks c.args.self.now c.disarm.new.self 0 c.disarm.ensures tells) in
     let down = sym c.recover.ensures.phase ∙ (sym c.replace.ensures.value ∙ c.in-Down.is) in
-    absurd (c.take_over.ensures.damaged r place is (restart_finds g.P.Parts.disks c.take_down.new.self c.recover.new.self c.in-Down.pending (said c.in_ok-recovered.recovered.state) is_down down c.recover.ensures.held c.in_ok-recovered.ensures.found (c.recover.ensures.crash.goes_on told)))
+    c.take_over.ensures.damaged r place is (restart_finds g.P.Parts.disks c.take_down.new.self c.recover.new.self c.in-Down.pending (said c.in_ok-recovered.recovered.state) is_down down c.recover.ensures.held c.in_ok-recovered.ensures.found (c.recover.ensures.crash.goes_on told))
 
 pub returns-in-Down-clause-pending : goal.returns-in-Down-clause-pending
 returns-in-Down-clause-pending g c =
