@@ -2,18 +2,20 @@
 
 ghost use Rattle.std.specs.Prelude.{◌≡◌, IfErr, IfOk, IsErrOf, OnErr, OnOk, Option, false, true, ℕ};
 ghost use Rattle.commit_log.specs.declared.entry.Entry.{Entry as AnyEntry};
-ghost use Rattle.disk_trait.specs.AllDisks.{TellsAll};
+ghost use Rattle.disk_trait.specs.AllDisks.{GoesOn, TellsAll};
 ghost use Rattle.disk_trait.specs.Disks.{WhereTold};
 ghost use Rattle.held_state.specs.Keeps.{Keeps};
 ghost use Rattle.held_state.specs.Said.{said};
 ghost use Rattle.page_store.specs.Sides.{ReachesSides};
 ghost use Rattle.stable_store.specs.Agreeing.{IsTaken};
-ghost use Rattle.stable_store.specs.Kept.{IsKept, IsOpen, IsResting, disks_of, held_of, is_fault, is_torn, is_up, lowered, pending};
+ghost use Rattle.disk_trait.specs.Fused.{armed};
+ghost use Rattle.stable_store.specs.Failing.{HasFailed};
+ghost use Rattle.stable_store.specs.Kept.{IsKept, IsOpen, IsResting, disks_of, held_of, is_fault, is_torn, is_up, lowered, parts_in, pending};
 ghost use Rattle.stable_store.specs.Saying.{FindsOneOf, ImagesSay, IsOneOf, IsSaid, LeavesNoMore, SaysTaken};
 ghost use Rattle.stable_store.specs.declared.stable.Phase.TheVariants.{Down as IsDown, Up as IsUp};
 ghost use Rattle.stable_store.specs.Taking.{AgreesWhere, CanTake, TakesFrom};
 ghost use Rattle.state_log.specs.Holds.{Holds};
-ghost use Rattle.validation_window.specs.declared.refusal.Refusal.TheVariants.{Damaged as IsDamaged};
+ghost use Rattle.validation_window.specs.declared.refusal.Refusal.TheVariants.{Damaged as IsDamaged, NoMemory as IsNoMemory, Stopped as IsStopped};
 
 use crate::agreement::{Agreement, compare};
 use crate::fault::{OpenCause, OpenFault, of_outage, of_recovery};
@@ -48,6 +50,7 @@ impl<P: Parts> Stable<P> {
         ensures up { IfOk result (λ stable. is_up stable ≡ true) }
         ensures held { IfOk result (λ stable. held_of stable ≡ recovered.state) }
         ensures says { Holds (P.disks parts) recovered.log (said recovered.state) → IfOk result (IsSaid P.disks) }
+        ensures clock { IfOk result (λ stable. (disks_of P.disks stable).clock ≡ (P.disks parts).clock) }
     {
         let Recovered { state, log, .. } = recovered;
         match reaches(&mut parts, state.objects().pages().sides()) {
@@ -91,6 +94,9 @@ impl<P: Parts> Stable<P> {
         ensures whole { OnOk result (is_torn self.old ≡ false) }
         ensures says { IsSaid P.disks self.old → IfOk result (SaysTaken P.disks self.new) }
         ensures stays_said { IsSaid P.disks self.old → OnErr result (IsSaid P.disks self.new) }
+        ensures goes { GoesOn (disks_of P.disks self.old) (disks_of P.disks self.new) }
+        ensures stopped { (r : ℕ) → IsErrOf result (IsStopped r) → HasFailed (disks_of P.disks self.old).faults (disks_of P.disks self.new).faults }
+        ensures torn { is_torn self.old ≡ true → IsErrOf result IsNoMemory × (self.new ≡ record self.old { parts = armed (parts_in self.old) 0 }) }
         ensures damaged { (r place : ℕ) → IsErrOf result (IsDamaged r place) → IsSaid P.disks self.old → TellsAll (disks_of P.disks self.old) → ⊥ }
     {
         self.parts.disarm();
@@ -135,6 +141,8 @@ impl<P: Parts> Stable<P> {
         ensures stands { IfOk result (λ r. Holds (disks_of P.disks self.new) r.log (said r.state)) }
         ensures crash { LeavesNoMore (disks_of P.disks self.old) (disks_of P.disks self.new) }
         ensures found { IfOk result (λ r. FindsOneOf (disks_of P.disks self.old) (disks_of P.disks self.new) (held_of self.old) (said r.state)) }
+        ensures goes { GoesOn (disks_of P.disks self.old) (disks_of P.disks self.new) }
+        ensures stopped { (r : ℕ) → IsErrOf result (IsStopped r) → HasFailed (disks_of P.disks self.old).faults (disks_of P.disks self.new).faults }
         ensures damaged { (r place : ℕ) → IsErrOf result (IsDamaged r place) → (pending : Option AnyEntry) → ImagesSay (disks_of P.disks self.old) (held_of self.old) pending → TellsAll (disks_of P.disks self.old) → ⊥ }
     {
         let repo = self.repo();
@@ -165,6 +173,8 @@ impl<P: Parts> Stable<P> {
         ensures stands { IfOk result (λ r. Holds (disks_of P.disks self.new) r.log (said r.state)) }
         ensures crash { LeavesNoMore (disks_of P.disks self.old) (disks_of P.disks self.new) }
         ensures same { IfOk result (λ r. r.state ≡ recovered.state) }
+        ensures goes { GoesOn (disks_of P.disks self.old) (disks_of P.disks self.new) }
+        ensures stopped { (r : ℕ) → IsErrOf result (IsStopped r) → HasFailed (disks_of P.disks self.old).faults (disks_of P.disks self.new).faults }
         ensures damaged { (r place : ℕ) → IsErrOf result (IsDamaged r place) → WhereTold (disks_of P.disks self.old) 2 (λ disk. ReachesSides recovered.state.objects.pages.sides disk → ⊥) }
     {
         let repo = self.repo();
@@ -200,6 +210,7 @@ impl<P: Parts> Stable<P> {
         ensures stays { OnErr result (self.new.phase ≡ IsDown pending) }
         ensures says { (TellsAll (disks_of P.disks self.old) → IsOneOf (held_of self.old) pending (said recovered.state)) → IfOk result (SaysTaken P.disks self.new) }
         ensures parts { self.new.parts ≡ self.old.parts }
+        ensures stopped { (r : ℕ) → IsErrOf result (IsStopped r) → ⊥ }
         ensures damaged { (r place : ℕ) → IsErrOf result (IsDamaged r place) → IsOneOf (held_of self.old) pending (said recovered.state) → ⊥ }
     {
         let Recovered { state, log, .. } = recovered;
