@@ -9,9 +9,9 @@ ghost use Rattle.repo_core.specs.Behind.{IsRecovered, IsRestarted, Stands, is_ma
 ghost use Rattle.repo_core.specs.Shown.{faults_of};
 ghost use Rattle.stable_store.specs.Failing.{HasFailed, NoFewer};
 ghost use Rattle.stable_store.specs.Kept.{IsKept, disks_of, held_of, is_fault, is_up, parts_in};
-ghost use Rattle.stable_store.specs.Saying.{GivesUnheld, IsAhead, IsSaid};
+ghost use Rattle.stable_store.specs.Saying.{IsAhead, IsSaid};
 ghost use Rattle.trace_record.specs.Recorded.{with_entry};
-ghost use Rattle.repo_core.specs.Restarting.{AllTold, ComesUp, DropsEarlier, LetsGo, StaysDown, Takes, TakesNone, content_of, life_behind};
+ghost use Rattle.repo_core.specs.Restarting.{AllTold, ComesUp, DropsEarlier, LetsGo, StaysDown, Takes, TakesNone, life_behind};
 ghost use Rattle.repo_core.specs.Moving.{Falls};
 ghost use Rattle.repo_core.specs.Refusing.{GoesDown};
 ghost use Rattle.repository_laws.specs.Running.{came_with};
@@ -35,9 +35,8 @@ impl<P: Parts> Repo<P> {
     ///
     /// What is recovered has to agree with what is in memory, or with that and the entry that was being
     /// written; else the answer is `Damaged`, as it is where a log disk has no log of this repository. It comes
-    /// only where some disk doesn't tell its bytes, or where the log that counts can't be taken into memory. All
-    /// sessions end. Decisions of earlier openings are kept no longer. After a refusal the repository is
-    /// down, with the entry pending that was so, or with the Life.
+    /// only where some disk doesn't tell its bytes. All sessions end. Decisions of earlier openings are kept no
+    /// longer. After a refusal the repository is down, with the entry pending that was so, or with the Life.
     #[tactic(auto, using(crate::proofs::Taking::comes_up_so, crate::proofs::Taking::fails_so))]
     pub fn restart(&mut self, pick: u64) -> Result<(), Refusal>
         ensures up { OnOk result (self.new.is_up ≡ true) }
@@ -51,7 +50,7 @@ impl<P: Parts> Repo<P> {
         ensures stopped { (n : ℕ) → IsErrOf result (IsStopped n) → HasFailed (faults_of self.old) (faults_of self.new) }
         ensures torn { self.old.is_torn ≡ true → IsErrOf result IsNoMemory × (self.new ≡ self.old) }
         ensures clock { self.old.clock ≤ self.new.clock }
-        ensures damaged { (n place : ℕ) → IsErrOf result (IsDamaged n place) → AllTold self.old → GivesUnheld (content_of self.new) }
+        ensures damaged { (n place : ℕ) → IsErrOf result (IsDamaged n place) → AllTold self.old → ⊥ }
         ensures opened { self.new.opened_in ≡ self.old.opened_in }
     {
         self.take_over(pick)?;
@@ -71,7 +70,7 @@ impl<P: Parts> Repo<P> {
         ensures torn { self.old.is_torn ≡ true → IsErrOf result IsNoMemory × (self.new ≡ self.old) }
         ensures clock { self.old.clock ≤ self.new.clock }
         ensures faults { NoFewer (faults_of self.old) (faults_of self.new) }
-        ensures damaged { (n place : ℕ) → IsErrOf result (IsDamaged n place) → AllTold self.old → GivesUnheld (content_of self.new) }
+        ensures damaged { (n place : ℕ) → IsErrOf result (IsDamaged n place) → AllTold self.old → ⊥ }
         ensures opened { self.new.opened_in ≡ self.old.opened_in }
     {
         match self.stable.restart(self.alloc, pick)? {
