@@ -5,11 +5,13 @@ use Rattle.disk_trait.specs.Disks.{Disks, Rose}
 use Rattle.disk_trait.specs.Fused.{armed, fused_disks}
 use Rattle.disk_trait.specs.declared.fused.Fused.{Fused}
 use Rattle.stable_store.specs.Failing.{HasFailed, NoFewer}
-use Rattle.stable_store.specs.Kept.{disks_of, down, is_torn_in, lowered}
+use Rattle.stable_store.specs.Kept.{disks_of, down, down_with, held_of, is_torn_in, lowered}
 use Rattle.stable_store.specs.declared.stable.Phase.TheVariants.{Down, Torn, Up}
 use Rattle.stable_store.specs.declared.stable.Phase.{Phase}
 use Rattle.stable_store.specs.declared.stable.Stable.{Stable}
-use Rattle.std.proofs.Common.{Bool, List, ap, arith, false, refl, subst, true, ℕ, ◌<◌, ◌≤◌, ◌∙◌, ◌≡◌}
+use Rattle.page_store.specs.Store.{IsDamage}
+use Rattle.std.specs.Prelude.{slice_get}
+use Rattle.std.proofs.Common.{Bool, IfSome, List, None, ap, arith, false, refl, subst, true, ℕ, ◌<◌, ◌≤◌, ◌∙◌, ◌≡◌}
 
 -- a disk failed behind calls
 pub failed_behind : (old mid new : ℕ → ℕ) → NoFewer old mid → HasFailed mid new → HasFailed old new
@@ -59,3 +61,9 @@ not_torn {P = P} old mid parts is whole torn = never (is_torn_in (lowered old.ph
   where
     never : (b : Bool) → b ≡ true → b ≡ false → ⊥
     never b t f = cc
+
+-- damage that stops a flush was damage before the log was taken out
+pub damage_taken : {P : Type 0} (disks : P → Disks) (old mid : Stable P) (place : ℕ) → mid ≡ down_with old None → IfSome (slice_get (held_of mid).objects.mob.objects 0) (λ q. IsDamage (disks_of disks mid) (held_of mid).objects.pages.sides q.0.page place)
+    → IfSome (slice_get (held_of old).objects.mob.objects 0) (λ q. IsDamage (disks_of disks old) (held_of old).objects.pages.sides q.0.page place)
+damage_taken {P = P} disks old mid place same damage =
+    subst (λ (s : Stable P). IfSome (slice_get (held_of s).objects.mob.objects 0) (λ q. IsDamage (disks_of disks s) (held_of s).objects.pages.sides q.0.page place)) same damage
