@@ -4,6 +4,9 @@ use Rattle.client_state.specs.Links.{NoneAwaits}
 use Rattle.client_state.specs.Moving.{Aborted, Asked, AskedInVain, AskedOwn, DecideRefused, EndsSo, Finished, Forgot, HoldsLess, HoldsSame, LeavesLess, Loses, MaySettle, Moves, MovesIf, SendsNothing, SendsNothingIf, Unsent}
 use Rattle.client_state.specs.declared.held.Held.{Held}
 use Rattle.client_state.specs.declared.link.Link.{Link}
+use Rattle.front_end.specs.Rules.{MayFollow}
+use Rattle.front_end.specs.declared.client.Client.{Client}
+use Rattle.front_end.specs.declared.rule.Counted.{Counted}
 use Rattle.message_outbox.specs.declared.answers.Asked as answer
 use Rattle.message_outbox.specs.declared.answers.Asked.TheVariants as answers
 use Rattle.message_outbox.specs.declared.answers.At.{At}
@@ -34,6 +37,18 @@ module _ (shows : Bool) (old new : View) where
 
     pub same_sends_idle : (result : Result X NoMemory) → (NoneAwaits 8 b.links.items → OnOk result (SendsNothingIf shows old new b c)) → NoneAwaits 8 a.links.items → OnOk result (SendsNothingIf shows old new a c)
     same_sends_idle result f idle = same_sends result (f (subst (λ (ls : List Link). NoneAwaits 8 ls) (sym same.1) idle))
+
+  -- ---- what stands before and behind a call
+
+  pub moves_down : {X : Type 0} (a : Held) (k m : Client) → m ≡ k → (result : Result X NoMemory) → MovesIf shows old new a k.held → OnOk result (MovesIf shows old new a m.held)
+  moves_down a k m same result f = on_any result (MovesIf shows old new a m.held) (subst (λ (n : Client). MovesIf shows old new a n.held) (sym same) f)
+
+  module _ (a b c : Held) (same : b ≡ a) {X : Type 0} where
+    pub moves_same : (result : Result X NoMemory) → OnOk result (MovesIf shows old new b c) → OnOk result (MovesIf shows old new a c)
+    moves_same result f = subst (λ (h : Held). OnOk result (MovesIf shows old new h c)) same f
+
+    pub moves_from : (rule : Counted) (result : Result X NoMemory) → (MayFollow rule b → OnOk result (MovesIf shows old new b c)) → MayFollow rule a → OnOk result (MovesIf shows old new a c)
+    moves_from rule result f = subst (λ (h : Held). MayFollow rule h → OnOk result (MovesIf shows old new h c)) same f
 
   -- ---- questions
 
