@@ -5,4 +5,5 @@ pub mod Moving
 pub mod Receiving
 pub mod Requesting
 pub mod Showing
+pub mod Spending
 pub mod Steps

@@ -62,8 +62,12 @@ commit_as shows old new at q k e is call w = subst (λ (x : Refusal). Does {X = 
 -- ---- what nothing is learnt from
 
 
-pub stopped_learns : (n repo : ℕ) (h : Held) → Learns (refused.Stopped n) repo h h
-stopped_learns n repo h = record { left = h.cache.cache; links = refl; kept_so = λ x. refl; fewer = λ x. inl refl }
+stopped_nothing : (n repo : ℕ) (h : Held) → Learns (refused.Stopped n) repo h h
+stopped_nothing n repo h = record { left = h.cache.cache; links = refl; kept_so = λ x. refl; fewer = λ x. inl refl }
+
+-- a call that stopped
+pub stopped_learns : (k : Refusal) (n repo : ℕ) (h : Held) → k ≡ refused.Stopped n → Learns k repo h h
+stopped_learns k n repo h is = subst (λ (e : Refusal). Learns e repo h h) (sym is) (stopped_nothing n repo h)
 
 -- a refusal that is no cause
 pub no_cause_learns : (k : Refusal) (repo : ℕ) (h : Held) → cause_behind k repo ≡ None → Learns k repo h h
