@@ -4,6 +4,7 @@ pub mod Leaving
 pub mod Moving
 pub mod Receiving
 pub mod Requesting
+pub mod Settling
 pub mod Showing
 pub mod Spending
 pub mod Steps

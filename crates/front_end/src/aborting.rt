@@ -6,7 +6,7 @@ ghost use Rattle.client_state.specs.Moving.{Loses, MovesIf};
 ghost use Rattle.client_state.specs.Owing.{count_of};
 ghost use Rattle.port.specs.Acting.{ActsIf};
 ghost use Rattle.front_end.specs.Moving.{uncounted};
-ghost use Rattle.std.specs.Prelude.{OnOk, ℕ, ◌+◌, ◌≤◌};
+ghost use Rattle.std.specs.Prelude.{OnOk, ℕ, ◌+◌, ◌≡◌, ◌≤◌};
 
 use crate::client::Client;
 use client_state::Abort;

@@ -155,7 +155,7 @@ impl FrontEnd {
         ensures falls { GoesOn self.old → OnOk result (Falls (left_of self.old) (left_of self.new)) }
         ensures acts { ActsIf Q.shows (Q.view port.old) (Q.view port.new) }
         ensures shown { ItemsShown Q.shows (Q.view port.old) (Q.view port.new) opened.now.repos self.old self.new }
-        ensures moves { MayFollow rule self.old.client → OnOk result (MovesIf Q.shows (Q.view port.old) (Q.view port.new) (held_of self.old) (held_of self.new)) }
+        ensures moves { MayFollow rule (held_of self.old) → OnOk result (MovesIf Q.shows (Q.view port.old) (Q.view port.new) (held_of self.old) (held_of self.new)) }
         ensures rises { Rises (held_of self.old) (held_of self.new) }
     {
         if !self.count_call() {
@@ -189,7 +189,7 @@ impl FrontEnd {
         ensures left { OnOk result (NeverRises (standing_of self.old) (standing_of self.new)) }
         ensures acts { ActsIf Q.shows (Q.view port.old) (Q.view port.new) }
         ensures shown { (calls : ℕ) → GoesShown Q.shows (Q.view port.old) (Q.view port.new) opened.now.repos (tries_of self.old) calls (course_of self.old) (course_of self.new) }
-        ensures moves { MayFollow rule self.old.client → OnOk result (MovesIf Q.shows (Q.view port.old) (Q.view port.new) (held_of self.old) (held_of self.new)) }
+        ensures moves { MayFollow rule (held_of self.old) → OnOk result (MovesIf Q.shows (Q.view port.old) (Q.view port.new) (held_of self.old) (held_of self.new)) }
         ensures rises { Rises (held_of self.old) (held_of self.new) }
     {
         let task = self.progress.task(opened, self.attempts.each);

@@ -1,6 +1,7 @@
 //! Which rule a step follows.
 
 ghost use Rattle.client_state.specs.Learning.{Rises};
+ghost use Rattle.client_state.specs.Links.{NoneAwaits};
 ghost use Rattle.client_state.specs.Moving.{MovesIf};
 ghost use Rattle.front_end.specs.Showing.{ShownIf};
 ghost use Rattle.port.specs.Acting.{ActsIf};
@@ -46,7 +47,7 @@ impl Client {
         ensures asks { asks result ≡ true → IsSome (asking_in self.now.phase) }
         ensures hands_on { hands_on result ≡ true → 0 < length self.now.duties.verdicts }
         ensures goes_on { goes_on result ≡ true → NothingHoldsBack (max opened.now.epoch self.now.held.learnt) self.now }
-        ensures follows { Follows result self.now }
+        ensures follows { Follows result self.now.held }
     {
         if let Some(at) = self.held.awaited() {
             let rule = Counted::Await { at };
@@ -67,6 +68,7 @@ impl Client {
     fn rule_behind(&self) -> Rule
         ensures asks { asks result ≡ true → IsSome (asking_in self.now.phase) }
         ensures hands_on { hands_on result ≡ true → 0 < length self.now.duties.verdicts }
+        ensures follows { NoneAwaits 8 self.now.held.links.items → Follows result self.now.held }
     {
         if let Phase::Asking { .. } = &self.phase {
             return Rule::Ask;
@@ -88,7 +90,7 @@ impl Client {
     ) -> Result<News, NoMemory>
         ensures acts { ActsIf Q.shows (Q.view port.old) (Q.view port.new) }
         ensures shown { ShownIf Q.shows (Q.view port.old) (Q.view port.new) opened.now.repos result }
-        ensures moves { MayFollow rule self.old → OnOk result (MovesIf Q.shows (Q.view port.old) (Q.view port.new) self.old.held self.new.held) }
+        ensures moves { MayFollow rule self.old.held → OnOk result (MovesIf Q.shows (Q.view port.old) (Q.view port.new) self.old.held self.new.held) }
         ensures rises { Rises self.old.held self.new.held }
     {
         match rule {
