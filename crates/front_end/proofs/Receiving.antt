@@ -48,12 +48,12 @@ no_objects s = None
 
 empty_page : (bytes : List ℕ) (number : ℕ) → page.PageFits (record { number = number; objects = empty }) → bytes ≡ page.page_bytes (record { number = number; objects = empty }) → IsPageOf bytes number no_objects
 empty_page bytes number fits spelled = record {
-    contents = record { number = number; objects = empty };
-    fits = fits;
-    spelled = spelled;
-    number_is = refl;
-    brings = record { slots = λ s. refl; fits = λ s o h. cc };
-  }
+  contents = record { number = number; objects = empty };
+  fits = fits;
+  spelled = spelled;
+  number_is = refl;
+  brings = record { slots = λ s. refl; fits = λ s o h. cc };
+}
 
 pub grants_none : (repo number place : ℕ) (bytes : List ℕ) (c : page.Contents) (before after : Contents) → c ≡ record { number = number; objects = empty } → page.PageFits c → bytes ≡ page.page_bytes c
     → BringsPage repo number bytes before after → CopiesTaken repo (Grant number place) before after
@@ -95,9 +95,9 @@ lost_nothing refused.NoMemory repo before after gone less = record { left = befo
 -- the client stops waiting behind what it drops
 pub stops_behind : (k : Refusal) (repo : ℕ) (before mid after : Held) → IsNotGone k → HoldsLess before mid → StopsWaiting repo mid after → after ≡ record mid { links = after.links } → EndsReceive k repo before after
 stops_behind k repo before mid after gone less stops rest = StopsThere gone (record {
-      here = stops.here ∙ ap (λ (ls : List Link). option_map (waiting Idle) (slice_get ls repo)) less.1;
-      others = λ n other. stops.others n other ∙ ap (λ (ls : List Link). option_map stopped (slice_get ls n)) less.1;
-    }) (ap (λ (h : Held). h.client) rest ∙ less.0) (fewer_among (kept before.cache.cache) (kept mid.cache.cache) (kept after.cache.cache) less.2 (λ x. inl (ap (λ (h : Held). kept h.cache.cache x) rest)))
+  here = stops.here ∙ ap (λ (ls : List Link). option_map (waiting Idle) (slice_get ls repo)) less.1;
+  others = λ n other. stops.others n other ∙ ap (λ (ls : List Link). option_map stopped (slice_get ls n)) less.1;
+}) (ap (λ (h : Held). h.client) rest ∙ less.0) (fewer_among (kept before.cache.cache) (kept mid.cache.cache) (kept after.cache.cache) less.2 (λ x. inl (ap (λ (h : Held). kept h.cache.cache x) rest)))
 
 -- the links stay
 pub same_items : (a b : Held) → a.links ≡ b.links → a.links.items ≡ b.links.items
@@ -130,18 +130,18 @@ module _ (old new : View) (at : At) (before mid after : Held) (rest : mid ≡ re
 
   loses_there : (k : Refusal) → mid.links.items ≡ before.links.items → Loses k at.repo mid after → Loses k at.repo before after
   loses_there k links l = record {
-      left = l.left;
-      links = l.links ∙ ap (λ (ls : List Link). links_refused k at.repo ls) links;
-      kept_so = subst (λ (c : Contents). CopiesRefused k at.repo before.links.items c l.left) same_copies (subst (λ (ls : List Link). CopiesRefused k at.repo ls mid.cache.cache l.left) links l.kept_so);
-      fewer = l.fewer;
-    }
+    left = l.left;
+    links = l.links ∙ ap (λ (ls : List Link). links_refused k at.repo ls) links;
+    kept_so = subst (λ (c : Contents). CopiesRefused k at.repo before.links.items c l.left) same_copies (subst (λ (ls : List Link). CopiesRefused k at.repo ls mid.cache.cache l.left) links l.kept_so);
+    fewer = l.fewer;
+  }
 
   refused_so : (k : Refusal) → Does {X = Option Message} old new at.repo (Err k) (ReceiveWork at.session (Err k)) → mid.links.items ≡ before.links.items → EndsReceive k at.repo mid after → Moves old new before after
   refused_so k d links (LosesThere l client) = ReceiveRefused at k d joined (loses_there k links l) (client ∙ same_client)
   refused_so k d links (StopsThere g s client f) = ReceiveStopped at k d joined (outage old new at.repo at.session k d g) (record {
-      here = s.here ∙ ap (λ (ls : List Link). option_map (waiting Idle) (slice_get ls at.repo)) links;
-      others = λ n other. s.others n other ∙ ap (λ (ls : List Link). option_map stopped (slice_get ls n)) links;
-    }) (client ∙ same_client) (subst (λ (c : Contents). AreAmong (kept c) (kept after.cache.cache)) same_copies f)
+    here = s.here ∙ ap (λ (ls : List Link). option_map (waiting Idle) (slice_get ls at.repo)) links;
+    others = λ n other. s.others n other ∙ ap (λ (ls : List Link). option_map stopped (slice_get ls n)) links;
+  }) (client ∙ same_client) (subst (λ (c : Contents). AreAmong (kept c) (kept after.cache.cache)) same_copies f)
 
   -- it was refused
   pub by_refusal : (shows : Bool) (k : Refusal) → (shows ≡ true → Does {X = Option Message} old new at.repo (Err k) (ReceiveWork at.session (Err k))) → mid.links.items ≡ before.links.items
@@ -152,11 +152,11 @@ module _ (old new : View) (at : At) (before mid after : Held) (rest : mid ≡ re
 pub no_message : (shows : Bool) (old new : View) (at : At) (before mid : Held) → mid ≡ record before { links = mid.links } → (o : Option Message) → o ≡ None
     → (shows ≡ true → Does {X = Option Message} old new at.repo (Ok o) (ReceiveWork at.session (Ok o))) → mid.links.items ≡ links_behind (Ok o) at.repo before.links.items → ReceivesNone shows old new at before mid
 no_message shows old new at before mid rest o is call links = record {
-    call = λ s. subst (λ (x : Option Message). Does {X = Option Message} old new at.repo (Ok x) (ReceiveWork at.session (Ok x))) is (call s);
-    client = ap (λ (h : Held). h.client) rest;
-    links = subst (λ (x : Option Message). mid.links.items ≡ links_behind (Ok x) at.repo before.links.items) is links;
-    copies = ap (λ (h : Held). h.cache.cache) rest;
-  }
+  call = λ s. subst (λ (x : Option Message). Does {X = Option Message} old new at.repo (Ok x) (ReceiveWork at.session (Ok x))) is (call s);
+  client = ap (λ (h : Held). h.client) rest;
+  links = subst (λ (x : Option Message). mid.links.items ≡ links_behind (Ok x) at.repo before.links.items) is links;
+  copies = ap (λ (h : Held). h.cache.cache) rest;
+}
 
 module _ (shows : Bool) (old new : View) (at : At) (before mid : Held) (k : ReceivesNone shows old new at before mid) (joined : InSession at before) where
   pub by_none : MovesIf shows old new before mid
