@@ -38,6 +38,7 @@ others_seen old new oref made none keeps drops x = by (dropped (nat_eq x.repo or
   where
     is : seen new x ≡ option_or None (cond (nat_eq x.repo oref.repo) None (kept old x))
     is = seen_split new x ∙ (ap (λ (o : Option Obj). option_or o (kept new x)) (drops x ∙ nothing_of (nat_eq x.repo oref.repo) (changed old x) (none x)) ∙ ap (λ (o : Option Obj). option_or None o) (keeps x))
+
     by : (option_or None (cond (nat_eq x.repo oref.repo) None (kept old x)) ≡ cond (same_name oref x) (Some made) (kept old x)) ⊎ (option_or None (cond (nat_eq x.repo oref.repo) None (kept old x)) ≡ None) → (seen new x ≡ cond (same_name oref x) (Some made) (kept old x)) ⊎ (seen new x ≡ None)
     by (inl h) = inl (is ∙ h)
     by (inr h) = inr (is ∙ h)

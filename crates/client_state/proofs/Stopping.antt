@@ -151,8 +151,8 @@ no_session n sent index (Some l) = refl
 pub leaves_unsettled : (repo : ℕ) (sent : Sent) (index : ℕ) (a b : Held) → ((x : Oref) → x.repo ≡ repo → kept b.cache.cache x ≡ None) → b.links.items ≡ at_repo a.links.items repo (λ l. Unsettled sent index) → LeavesSome a b
 leaves_unsettled repo sent index a b none set n = elim (cases_eq n repo) [
   | inl e ↦ inr (record {
-      apart = rw e (ap (λ (ls : List Link). session_in repo (slice_get ls repo)) set ∙ ap (session_in repo) (at_here (λ l. Unsettled sent index) a.links.items repo) ∙ no_session repo sent index (slice_get a.links.items repo));
-      none = λ x here. none x (here ∙ e);
-    })
+    apart = rw e (ap (λ (ls : List Link). session_in repo (slice_get ls repo)) set ∙ ap (session_in repo) (at_here (λ l. Unsettled sent index) a.links.items repo) ∙ no_session repo sent index (slice_get a.links.items repo));
+    none = λ x here. none x (here ∙ e);
+  })
   | inr away ↦ inl (ap (λ (ls : List Link). slice_get ls n) set ∙ at_other (λ l. Unsettled sent index) a.links.items repo n away)
 ]

@@ -47,6 +47,12 @@ module _ (shows : Bool) (old new : View) where
     pub moves_same : (result : Result X NoMemory) → OnOk result (MovesIf shows old new b c) → OnOk result (MovesIf shows old new a c)
     moves_same result f = subst (λ (h : Held). OnOk result (MovesIf shows old new h c)) same f
 
+    pub moves_idle : (result : Result X NoMemory) → (NoneAwaits 8 b.links.items → OnOk result (MovesIf shows old new b c)) → NoneAwaits 8 a.links.items → OnOk result (MovesIf shows old new a c)
+    moves_idle result f = subst (λ (h : Held). NoneAwaits 8 h.links.items → OnOk result (MovesIf shows old new h c)) same f
+
+    pub sends_idle : (result : Result X NoMemory) → (NoneAwaits 8 b.links.items → OnOk result (SendsNothingIf shows old new b c)) → NoneAwaits 8 a.links.items → OnOk result (MovesIf shows old new a c)
+    sends_idle result f = moves_idle result (λ idle. unsent result b c (f idle))
+
     pub moves_from : (rule : Counted) (result : Result X NoMemory) → (MayFollow rule b → OnOk result (MovesIf shows old new b c)) → MayFollow rule a → OnOk result (MovesIf shows old new a c)
     moves_from rule result f = subst (λ (h : Held). MayFollow rule h → OnOk result (MovesIf shows old new h c)) same f
 

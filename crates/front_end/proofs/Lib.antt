@@ -6,4 +6,5 @@ pub mod Receiving
 pub mod Requesting
 pub mod Settling
 pub mod Showing
+pub mod Spending
 pub mod Steps

@@ -10,7 +10,6 @@ use Rattle.client_state.specs.Taking.{BringsPage, links_behind, took}
 use Rattle.client_state.specs.declared.held.Held.{Held}
 use Rattle.client_state.specs.declared.link.Link.{Link}
 use Rattle.client_state.specs.declared.link.Waits.TheVariants.{Idle}
-use Rattle.local_history.specs.History.{Base}
 use Rattle.message_outbox.specs.declared.answers.At.{At}
 use Rattle.message_outbox.specs.declared.message.Message.TheVariants.{Grant}
 use Rattle.message_outbox.specs.declared.message.Message.{Message}
@@ -20,7 +19,6 @@ use Rattle.port.specs.Views.{Calm, Came, Halted, MayCome, Unsettled, View}
 use Rattle.port.specs.Works.{Answered, Does, IsOutage, ReceiveWork}
 use Rattle.refusal_reasons.specs.declared.reason.Reason.TheVariants as reasons
 use Rattle.refusal_reasons.specs.declared.reason.Reason.{Reason}
-use Rattle.session_outbox.specs.Trace.{Item}
 use Rattle.std.proofs.Common.{Bool, List, ap, inl, inr, refl, subst, sym, true, ◌≡◌, ◌∙◌, ℕ}
 use Rattle.std.specs.Option.{option_map}
 use Rattle.std.specs.Prelude.{Err, None, Ok, OnOk, Option, Result, Some, slice_get}
@@ -45,17 +43,17 @@ pub takes_so : (repo : ℕ) (m : Message) (before after : Held) → CopiesTaken 
 takes_so repo m before after taken client links = record { left = after.cache.cache; client = client; links = links; brought = taken; fewer = λ x. inl refl }
 
 -- a page that has no object brings none
-no_objects : ℕ → Option Obj
+abbrev no_objects : ℕ → Option Obj
 no_objects s = None
 
 empty_page : (bytes : List ℕ) (number : ℕ) → page.PageFits (record { number = number; objects = empty }) → bytes ≡ page.page_bytes (record { number = number; objects = empty }) → IsPageOf bytes number no_objects
 empty_page bytes number fits spelled = record {
-    contents = record { number = number; objects = empty };
-    fits = fits;
-    spelled = spelled;
-    number_is = refl;
-    brings = record { slots = λ s. refl; fits = λ s o h. cc };
-  }
+  contents = record { number = number; objects = empty };
+  fits = fits;
+  spelled = spelled;
+  number_is = refl;
+  brings = record { slots = λ s. refl; fits = λ s o h. cc };
+}
 
 pub grants_none : (repo number place : ℕ) (bytes : List ℕ) (c : page.Contents) (before after : Contents) → c ≡ record { number = number; objects = empty } → page.PageFits c → bytes ≡ page.page_bytes c
     → BringsPage repo number bytes before after → CopiesTaken repo (Grant number place) before after
@@ -63,17 +61,20 @@ grants_none repo number place bytes c before after is fits spelled brings = brin
 
 -- ---- refusals
 
-module _ (r s : ℕ) (b : Base) (at after : List Item) (u : Unsettled) where
+module _ (old new : View) (r s : ℕ) (k : Refusal) (d : Does {X = Option Message} old new r (Err k) (ReceiveWork s (Err k))) where
+  outage_by : (e : Refusal) (m : Unsettled) → IsNotGone e → Answered {X = Option Message} r (Err e) m d.at (new.seen r) (new.unsettled r) (ReceiveWork s (Err e) (old.opened.base r) d.at (new.seen r) (new.unsettled r)) → IsOutage e
+  outage_by (refused.Reason x) Calm g h = absurd (g s (ap (λ (y : Reason). refused.Reason y) h.0))
+  outage_by (refused.Reason x) (MayCome e) g h = absurd h.0
+  outage_by (refused.Reason x) Came g h = absurd h.0
+  outage_by (refused.Reason x) Halted g h = absurd h.0
+  outage_by (refused.Down n) m g h = tt
+  outage_by (refused.Stopped n) m g h = tt
+  outage_by (refused.Damaged n place) m g h = tt
+  outage_by refused.NoMemory m g h = tt
+
   -- a call that is refused, but not since its session is gone, met an outage
-  outage : (k : Refusal) (m : Unsettled) → IsNotGone k → Answered {X = Option Message} r (Err k) m at after u (ReceiveWork s (Err k) b at after u) → IsOutage k
-  outage (refused.Reason x) Calm g h = absurd (g s (ap (λ (y : Reason). refused.Reason y) h.0))
-  outage (refused.Reason x) (MayCome e) g h = absurd h.0
-  outage (refused.Reason x) Came g h = absurd h.0
-  outage (refused.Reason x) Halted g h = absurd h.0
-  outage (refused.Down n) m g h = tt
-  outage (refused.Stopped n) m g h = tt
-  outage (refused.Damaged n place) m g h = tt
-  outage refused.NoMemory m g h = tt
+  outage : IsNotGone k → IsOutage k
+  outage g = outage_by k d.met g d.answer
 
 -- Where no session is gone, none is lost.
 pub lost_nothing : (k : Refusal) (repo : ℕ) (before after : Held) → IsNotGone k → HoldsLess before after → Loses k repo before after
@@ -94,9 +95,9 @@ lost_nothing refused.NoMemory repo before after gone less = record { left = befo
 -- the client stops waiting behind what it drops
 pub stops_behind : (k : Refusal) (repo : ℕ) (before mid after : Held) → IsNotGone k → HoldsLess before mid → StopsWaiting repo mid after → after ≡ record mid { links = after.links } → EndsReceive k repo before after
 stops_behind k repo before mid after gone less stops rest = StopsThere gone (record {
-      here = stops.here ∙ ap (λ (ls : List Link). option_map (waiting Idle) (slice_get ls repo)) less.1;
-      others = λ n other. stops.others n other ∙ ap (λ (ls : List Link). option_map stopped (slice_get ls n)) less.1;
-    }) (ap (λ (h : Held). h.client) rest ∙ less.0) (fewer_among (kept before.cache.cache) (kept mid.cache.cache) (kept after.cache.cache) less.2 (λ x. inl (ap (λ (h : Held). kept h.cache.cache x) rest)))
+  here = stops.here ∙ ap (λ (ls : List Link). option_map (waiting Idle) (slice_get ls repo)) less.1;
+  others = λ n other. stops.others n other ∙ ap (λ (ls : List Link). option_map stopped (slice_get ls n)) less.1;
+}) (ap (λ (h : Held). h.client) rest ∙ less.0) (fewer_among (kept before.cache.cache) (kept mid.cache.cache) (kept after.cache.cache) less.2 (λ x. inl (ap (λ (h : Held). kept h.cache.cache x) rest)))
 
 -- the links stay
 pub same_items : (a b : Held) → a.links ≡ b.links → a.links.items ≡ b.links.items
@@ -129,27 +130,33 @@ module _ (old new : View) (at : At) (before mid after : Held) (rest : mid ≡ re
 
   loses_there : (k : Refusal) → mid.links.items ≡ before.links.items → Loses k at.repo mid after → Loses k at.repo before after
   loses_there k links l = record {
-      left = l.left;
-      links = l.links ∙ ap (λ (ls : List Link). links_refused k at.repo ls) links;
-      kept_so = subst (λ (c : Contents). CopiesRefused k at.repo before.links.items c l.left) same_copies (subst (λ (ls : List Link). CopiesRefused k at.repo ls mid.cache.cache l.left) links l.kept_so);
-      fewer = l.fewer;
-    }
+    left = l.left;
+    links = l.links ∙ ap (λ (ls : List Link). links_refused k at.repo ls) links;
+    kept_so = subst (λ (c : Contents). CopiesRefused k at.repo before.links.items c l.left) same_copies (subst (λ (ls : List Link). CopiesRefused k at.repo ls mid.cache.cache l.left) links l.kept_so);
+    fewer = l.fewer;
+  }
 
   refused_so : (k : Refusal) → Does {X = Option Message} old new at.repo (Err k) (ReceiveWork at.session (Err k)) → mid.links.items ≡ before.links.items → EndsReceive k at.repo mid after → Moves old new before after
   refused_so k d links (LosesThere l client) = ReceiveRefused at k d joined (loses_there k links l) (client ∙ same_client)
-  refused_so k d links (StopsThere g s client f) = ReceiveStopped at k d joined (outage at.repo at.session (old.opened.base at.repo) d.at (new.seen at.repo) (new.unsettled at.repo) k d.met g d.answer) (record {
-      here = s.here ∙ ap (λ (ls : List Link). option_map (waiting Idle) (slice_get ls at.repo)) links;
-      others = λ n other. s.others n other ∙ ap (λ (ls : List Link). option_map stopped (slice_get ls n)) links;
-    }) (client ∙ same_client) (subst (λ (c : Contents). AreAmong (kept c) (kept after.cache.cache)) same_copies f)
+  refused_so k d links (StopsThere g s client f) = ReceiveStopped at k d joined (outage old new at.repo at.session k d g) (record {
+    here = s.here ∙ ap (λ (ls : List Link). option_map (waiting Idle) (slice_get ls at.repo)) links;
+    others = λ n other. s.others n other ∙ ap (λ (ls : List Link). option_map stopped (slice_get ls n)) links;
+  }) (client ∙ same_client) (subst (λ (c : Contents). AreAmong (kept c) (kept after.cache.cache)) same_copies f)
 
   -- it was refused
   pub by_refusal : (shows : Bool) (k : Refusal) → (shows ≡ true → Does {X = Option Message} old new at.repo (Err k) (ReceiveWork at.session (Err k))) → mid.links.items ≡ before.links.items
       → EndsReceive k at.repo mid after → MovesIf shows old new before after
   by_refusal shows k call links e = λ s. refused_so k (call s) links e
 
-  -- none waits
-  pub no_message : (shows : Bool) → (shows ≡ true → Does {X = Option Message} old new at.repo (Ok None) (ReceiveWork at.session (Ok None))) → mid.links.items ≡ before.links.items → ReceivesNone shows old new at before mid
-  no_message shows call links = record { call = call; client = same_client; links = links; copies = same_copies }
+-- none waits
+pub no_message : (shows : Bool) (old new : View) (at : At) (before mid : Held) → mid ≡ record before { links = mid.links } → (o : Option Message) → o ≡ None
+    → (shows ≡ true → Does {X = Option Message} old new at.repo (Ok o) (ReceiveWork at.session (Ok o))) → mid.links.items ≡ links_behind (Ok o) at.repo before.links.items → ReceivesNone shows old new at before mid
+no_message shows old new at before mid rest o is call links = record {
+  call = λ s. subst (λ (x : Option Message). Does {X = Option Message} old new at.repo (Ok x) (ReceiveWork at.session (Ok x))) is (call s);
+  client = ap (λ (h : Held). h.client) rest;
+  links = subst (λ (x : Option Message). mid.links.items ≡ links_behind (Ok x) at.repo before.links.items) is links;
+  copies = ap (λ (h : Held). h.cache.cache) rest;
+}
 
 module _ (shows : Bool) (old new : View) (at : At) (before mid : Held) (k : ReceivesNone shows old new at before mid) (joined : InSession at before) where
   pub by_none : MovesIf shows old new before mid

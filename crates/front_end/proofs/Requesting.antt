@@ -61,9 +61,12 @@ commit_as shows old new at q k e is call w = subst (λ (x : Refusal). Does {X = 
 
 -- ---- what nothing is learnt from
 
+stopped_nothing : (n repo : ℕ) (h : Held) → Learns (refused.Stopped n) repo h h
+stopped_nothing n repo h = record { left = h.cache.cache; links = refl; kept_so = λ x. refl; fewer = λ x. inl refl }
 
-pub stopped_learns : (n repo : ℕ) (h : Held) → Learns (refused.Stopped n) repo h h
-stopped_learns n repo h = record { left = h.cache.cache; links = refl; kept_so = λ x. refl; fewer = λ x. inl refl }
+-- a call that stopped
+pub stopped_learns : (k : Refusal) (n repo : ℕ) (h : Held) → k ≡ refused.Stopped n → Learns k repo h h
+stopped_learns k n repo h is = subst (λ (e : Refusal). Learns e repo h h) (sym is) (stopped_nothing n repo h)
 
 -- a refusal that is no cause
 pub no_cause_learns : (k : Refusal) (repo : ℕ) (h : Held) → cause_behind k repo ≡ None → Learns k repo h h
@@ -85,18 +88,18 @@ keeps_then a b c k rest = (ap (λ (h : Held). h.client) rest ∙ k.0, ap (λ (h 
 module _ (a b : Held) (rest : b ≡ record a { floor = b.floor }) where
   pub made_then : (oref : Oref) (made : Obj) (c d : Held) → KeepsMade oref made b c → HoldsLess c d → KeepsMade oref made a d
   made_then oref made c d k less = (
-      less.0 ∙ (k.0 ∙ ap (λ (h : Held). h.client) rest),
-      less.1 ∙ (k.1 ∙ ap (λ (h : Held). h.links.items) rest),
-      subst (λ (e : Contents). AreAmong (λ x. cond (same_name oref x) (Some made) (kept e x)) (kept d.cache.cache)) (ap (λ (h : Held). h.cache.cache) rest) (fewer_among (λ x. cond (same_name oref x) (Some made) (kept b.cache.cache x)) (kept c.cache.cache) (kept d.cache.cache) k.2 less.2),
-    )
+    less.0 ∙ (k.0 ∙ ap (λ (h : Held). h.client) rest),
+    less.1 ∙ (k.1 ∙ ap (λ (h : Held). h.links.items) rest),
+    subst (λ (e : Contents). AreAmong (λ x. cond (same_name oref x) (Some made) (kept e x)) (kept d.cache.cache)) (ap (λ (h : Held). h.cache.cache) rest) (fewer_among (λ x. cond (same_name oref x) (Some made) (kept b.cache.cache x)) (kept c.cache.cache) (kept d.cache.cache) k.2 less.2),
+  )
 
   pub learns_from : (k : Refusal) (repo : ℕ) (c : Held) → Learns k repo b c → Learns k repo a c
   learns_from k repo c l = record {
-      left = l.left;
-      links = l.links ∙ ap (λ (h : Held). links_learnt k repo h.links.items) rest;
-      kept_so = subst (λ (d : Contents). CopiesRefused k repo a.links.items d l.left) (ap (λ (h : Held). h.cache.cache) rest) (subst (λ (ls : List Link). CopiesRefused k repo ls b.cache.cache l.left) (ap (λ (h : Held). h.links.items) rest) l.kept_so);
-      fewer = l.fewer;
-    }
+    left = l.left;
+    links = l.links ∙ ap (λ (h : Held). links_learnt k repo h.links.items) rest;
+    kept_so = subst (λ (d : Contents). CopiesRefused k repo a.links.items d l.left) (ap (λ (h : Held). h.cache.cache) rest) (subst (λ (ls : List Link). CopiesRefused k repo ls b.cache.cache l.left) (ap (λ (h : Held). h.links.items) rest) l.kept_so);
+    fewer = l.fewer;
+  }
 
 -- ---- sessions
 

@@ -24,7 +24,7 @@ pub returns-in-Ok-clause-moves : goal.returns-in-Ok-clause-moves
 returns-in-Ok-clause-moves g c = λ of idle. moves_by_commit _ _ _ c.args.self.now.held c.end_committed.new.self.held c.args.sending of idle c.in-Ok.field-0 c.in-Ok.ensures.call c.end_committed.ensures.keeps
 
 pub returns-in-Err-Stopped-clause-moves : goal.returns-in-Err-Stopped-clause-moves
-returns-in-Err-Stopped-clause-moves g c = λ of idle. rw (c.begin_asking.ensures.held) (by_commit_refused _ _ _ c.args.self.now.held c.args.self.now.held c.args.sending of idle _ c.in-Err-Stopped.ensures.call (stopped_learns _ _ c.args.self.now.held) refl)
+returns-in-Err-Stopped-clause-moves g c = λ of idle. rw (c.begin_asking.ensures.held) (by_commit_refused _ _ _ c.args.self.now.held c.args.self.now.held c.args.sending of idle _ c.in-Err-Stopped.ensures.call (stopped_learns _ _ _ c.args.self.now.held c.in-Err-Stopped.field-0-is) refl)
 
 pub returns-in-Err-clause-moves : goal.returns-in-Err-clause-moves
 returns-in-Err-clause-moves g c = λ of idle. by_commit_refused _ _ _ c.args.self.now.held c.end_refused.new.self.held c.args.sending of idle c.in-Err.refusal (commit_as _ _ _ c.args.sending.at c.args.sending.request c.in-Err.refusal _ c.in-Err.refusal-is c.in-Err.ensures.call) c.end_refused.ensures.learns c.end_refused.ensures.client

@@ -21,7 +21,7 @@ pub returns-in-Ok-Some-clause-moves : goal.returns-in-Ok-Some-clause-moves
 returns-in-Ok-Some-clause-moves g c = λ joined. on_ok_weaker c.take.result (λ takes. by_message _ _ c.args.at c.args.self.now.held c.receive.new.self c.take.new.self.held c.receive.ensures.rest joined _ c.in-Ok-Some.field-0 c.in-Ok-Some.message c.in-Ok-Some.field-0-is c.in-Ok-Some.ensures.call c.in-Ok-Some.ensures.links takes) c.take.ensures.takes
 
 pub returns-in-Ok-None-clause-moves : goal.returns-in-Ok-None-clause-moves
-returns-in-Ok-None-clause-moves g c = λ joined. by_none _ _ _ c.args.at c.args.self.now.held c.receive.new.self (no_message _ _ c.args.at c.args.self.now.held c.receive.new.self c.receive.new.self c.receive.ensures.rest joined _ c.in-Ok-None.ensures.call c.in-Ok-None.ensures.links) joined
+returns-in-Ok-None-clause-moves g c = λ joined. by_none _ _ _ c.args.at c.args.self.now.held c.receive.new.self (no_message _ _ _ c.args.at c.args.self.now.held c.receive.new.self c.receive.ensures.rest c.in-Ok-None.field-0 c.in-Ok-None.field-0-is c.in-Ok-None.ensures.call c.in-Ok-None.ensures.links) joined
 
 pub returns-in-Err-clause-moves : goal.returns-in-Err-clause-moves
 returns-in-Err-clause-moves g c = λ joined. whenever c.lose_delivered.result (by_refusal _ _ c.args.at c.args.self.now.held c.receive.new.self c.lose_delivered.new.self.held c.receive.ensures.rest joined _ c.in-Err.refusal c.in-Err.ensures.call c.in-Err.ensures.links (LosesThere c.lose_delivered.ensures.loses c.lose_delivered.ensures.client))

@@ -11,5 +11,5 @@ returns-in-Some-clause-shown c = λ old new repos place taken. try_shown old new
 pub returns-in-Some-clause-takes : goal.returns-in-Some-clause-takes
 returns-in-Some-clause-takes c = λ place. takes_then_less c.args.repo _ c.args.self.now.held c.place.new.self c.end_try.new.self.held c.in_ok-place.ensures.kept (ap (λ (h : Held). h.client) c.place.ensures.rest) (ap (λ (h : Held). h.links.items) c.place.ensures.rest) c.end_try.ensures.less
 
-pub returns-clause-takes : goal.returns-clause-takes
-returns-clause-takes c = λ place. takes_so c.args.repo _ c.args.self.now.held c.place.new.self c.in_ok-place.ensures.kept (ap (λ (h : Held). h.client) c.place.ensures.rest) (ap (λ (h : Held). h.links.items) c.place.ensures.rest)
+pub returns-in-Some-2-clause-takes : goal.returns-in-Some-2-clause-takes
+returns-in-Some-2-clause-takes c = λ place. takes_so c.args.repo _ c.args.self.now.held c.place.new.self c.in_ok-place.ensures.kept (ap (λ (h : Held). h.client) c.place.ensures.rest) (ap (λ (h : Held). h.links.items) c.place.ensures.rest)
