@@ -3,31 +3,50 @@ use Rattle.disk_trait.specs.Disks.{Disks, Rose}
 use Rattle.refusal_reasons.specs.declared.reason.Reason.TheVariants.{Gone}
 use Rattle.repo_core.proofs.Refused.{no_fault}
 use Rattle.repo_core.specs.Behind.{is_marked}
-use Rattle.repo_core.specs.Shown.{Shown, faults_of, shown}
+use Rattle.repo_core.specs.Shown.{Shown, count_at, faults_of}
+use Rattle.stable_store.proofs.Failing.{failed_behind, fewer_none}
 use Rattle.stable_store.specs.Failing.{HasFailed, NoFewer}
-use Rattle.stable_store.specs.Kept.{disks_of, is_fault}
-use Rattle.stable_store.specs.declared.stable.Stable.{Stable}
-use Rattle.std.proofs.Common.{Err, Ok, Result, ap, arith, refl, suc, sym, true, zero, ℕ, ◌<◌, ◌∙◌, ◌≡◌}
+use Rattle.stable_store.specs.Kept.{is_fault}
+use Rattle.std.proofs.Common.{Err, Ok, Result, ap, arith, refl, subst, suc, sym, true, zero, ℕ, ◌<◌, ◌∙◌, ◌≡◌}
 use Rattle.std.specs.Prelude.{IfErr, IsErrOf, false}
-use Rattle.trace_record.specs.Recorded.{Recorded}
 use Rattle.validation_window.specs.declared.refusal.Refusal.TheVariants as refused
 use Rattle.validation_window.specs.declared.refusal.Refusal.{Refusal}
-use Rattle.volatile_state.specs.Volatile.{Memory}
+
+abbrev pub counts_in : Disks → ℕ × ℕ × ℕ
+counts_in disks = (disks.faults 0, disks.faults 1, disks.faults 2)
+
+three_failed : (old new : Disks) (d : ℕ) → d < 3 → Rose (old.faults d) (new.faults d) → HasFailed (count_at (counts_in old)) (count_at (counts_in new))
+three_failed old new zero within rose = record { disk = 0; within = within; rose = rose }
+three_failed old new (suc zero) within rose = record { disk = 1; within = within; rose = rose }
+three_failed old new (suc (suc zero)) within rose = record { disk = 2; within = within; rose = rose }
+three_failed old new (suc (suc (suc d))) within rose = absurd (omega (arith, within))
+
+three_fewer : (old new : Disks) → NoFewer old.faults new.faults → NoFewer (count_at (counts_in old)) (count_at (counts_in new))
+three_fewer old new rises zero = rises 0
+three_fewer old new rises (suc zero) = rises 1
+three_fewer old new rises (suc (suc d)) = rises 2
 
 -- what is shown of the counts is that of the disks
-pub failed_shown : {P : Type 0} (disks : P → Disks) (old new : Stable P) (M N : Memory) (t u : Recorded) (o p : ℕ) → HasFailed (disks_of disks old).faults (disks_of disks new).faults → HasFailed (faults_of (shown disks old M t o)) (faults_of (shown disks new N u p))
-failed_shown disks old new M N t u o p failed = here failed.disk failed.within failed.rose
-  where
-    here : (d : ℕ) → d < 3 → Rose ((disks_of disks old).faults d) ((disks_of disks new).faults d) → HasFailed (faults_of (shown disks old M t o)) (faults_of (shown disks new N u p))
-    here zero within rose = record { disk = 0; within = within; rose = rose }
-    here (suc zero) within rose = record { disk = 1; within = within; rose = rose }
-    here (suc (suc zero)) within rose = record { disk = 2; within = within; rose = rose }
-    here (suc (suc (suc d))) within rose = absurd (omega (arith, within))
+pub failed_between : (old new : Disks) (x y : Shown) → counts_in old ≡ x.faults → counts_in new ≡ y.faults → HasFailed old.faults new.faults → HasFailed (faults_of x) (faults_of y)
+failed_between old new x y was is failed =
+    subst (λ (p : ℕ × ℕ × ℕ). HasFailed (count_at p) (count_at y.faults)) was
+    (subst (λ (p : ℕ × ℕ × ℕ). HasFailed (count_at (counts_in old)) (count_at p)) is (three_failed old new failed.disk failed.within failed.rose))
 
-pub fewer_shown : {P : Type 0} (disks : P → Disks) (old new : Stable P) (M N : Memory) (t u : Recorded) (o p : ℕ) → NoFewer (disks_of disks old).faults (disks_of disks new).faults → NoFewer (faults_of (shown disks old M t o)) (faults_of (shown disks new N u p))
-fewer_shown disks old new M N t u o p rises zero = rises 0
-fewer_shown disks old new M N t u o p rises (suc zero) = rises 1
-fewer_shown disks old new M N t u o p rises (suc (suc d)) = rises 2
+pub fewer_between : (old new : Disks) (x y : Shown) → counts_in old ≡ x.faults → counts_in new ≡ y.faults → NoFewer old.faults new.faults → NoFewer (faults_of x) (faults_of y)
+fewer_between old new x y was is rises =
+    subst (λ (p : ℕ × ℕ × ℕ). NoFewer (count_at p) (count_at y.faults)) was
+    (subst (λ (p : ℕ × ℕ × ℕ). NoFewer (count_at (counts_in old)) (count_at p)) is (three_fewer old new rises))
+
+-- calls behind those in which no count fell
+pub failed_shown : (x y z : Shown) → NoFewer (faults_of x) (faults_of y) → HasFailed (faults_of y) (faults_of z) → HasFailed (faults_of x) (faults_of z)
+failed_shown x y z rises failed = failed_behind (faults_of x) (faults_of y) (faults_of z) rises failed
+
+-- the counts stay
+pub failed_same : (x y z : Shown) → y.faults ≡ x.faults → HasFailed (faults_of y) (faults_of z) → HasFailed (faults_of x) (faults_of z)
+failed_same x y z same failed = subst (λ (p : ℕ × ℕ × ℕ). HasFailed (count_at p) (faults_of z)) same failed
+
+pub fewer_same : (x y : Shown) → y.faults ≡ x.faults → NoFewer (faults_of x) (faults_of y)
+fewer_same x y same = subst (λ (p : ℕ × ℕ × ℕ). NoFewer (faults_of x) (count_at p)) (sym same) (fewer_none (faults_of x) (faults_of x) (λ d. refl))
 
 -- ---- a call that is refused so didn't answer Stopped
 

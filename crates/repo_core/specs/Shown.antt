@@ -47,8 +47,12 @@ shown disks stable memory trace opened_in = record {
   faults = ((disks_of disks stable).faults 0, (disks_of disks stable).faults 1, (disks_of disks stable).faults 2);
 }
 
--- how often the disk of this number has failed
+-- of three counts that of the disk of this number
+abbrev pub count_at : ℕ × ℕ × ℕ → ℕ → ℕ
+count_at counts zero = counts.0
+count_at counts (suc zero) = counts.1
+count_at counts (suc (suc n)) = counts.2
+
+-- how often each disk has failed
 abbrev pub faults_of : Shown → ℕ → ℕ
-faults_of x zero = x.faults.0
-faults_of x (suc zero) = x.faults.1
-faults_of x (suc (suc n)) = x.faults.2
+faults_of x = count_at x.faults

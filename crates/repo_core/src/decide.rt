@@ -27,7 +27,7 @@ use validation_window::Refusal;
 impl<P: Parts> Repo<P> {
     /// Decides a transaction that the session prepared here and that this repository coordinates. Refusal:
     /// `Gone`. Where the session has nothing to decide, the answer is how the transaction stands.
-    #[tactic(auto, using(crate::proofs::Refused::leaves_down, crate::proofs::Refused::leaves_decided, crate::proofs::Causes::why_down, crate::proofs::Causes::why_reason, crate::proofs::Causes::why_fault, crate::proofs::Causes::damaged_none, crate::proofs::Causes::damaged_gone, crate::proofs::Failing::stopped_none, crate::proofs::Failing::stopped_gone, stable_store::proofs::Failing::failed_behind))]
+    #[tactic(auto, using(crate::proofs::Refused::leaves_down, crate::proofs::Refused::leaves_decided, crate::proofs::Causes::why_down, crate::proofs::Causes::why_reason, crate::proofs::Causes::why_fault, crate::proofs::Causes::damaged_none, crate::proofs::Causes::damaged_gone, crate::proofs::Failing::stopped_none, crate::proofs::Failing::stopped_gone, crate::proofs::Failing::failed_shown))]
     pub fn decide(&mut self, session: u32, tx: Ts, commit: bool) -> Result<Verdict, Refusal>
         ensures stands { Stands self.old.is_up result self.new.is_up }
         ensures live { OnOk result (is_live self.old.memory.sessions session ≡ true) }

@@ -25,7 +25,7 @@ use validation_window::Refusal;
 impl<P: Parts> Repo<P> {
     /// Finishes a transaction by the coordinator's verdict. The answer is the place of the entry; `None`
     /// exactly where it isn't prepared here.
-    #[tactic(auto, using(crate::proofs::Refused::leaves_down, crate::proofs::Refused::leaves_finished, crate::proofs::Causes::why_down, crate::proofs::Causes::why_fault, crate::proofs::Causes::damaged_none, crate::proofs::Failing::stopped_none, stable_store::proofs::Failing::failed_behind))]
+    #[tactic(auto, using(crate::proofs::Refused::leaves_down, crate::proofs::Refused::leaves_finished, crate::proofs::Causes::why_down, crate::proofs::Causes::why_fault, crate::proofs::Causes::damaged_none, crate::proofs::Failing::stopped_none, crate::proofs::Failing::failed_shown))]
     pub fn finish(&mut self, verdict: &Verdict) -> Result<Option<u64>, Refusal>
         ensures stands { Stands self.old.is_up result self.new.is_up }
         ensures held { OnOk result (is_some (open_at self.old.held.table verdict.now.tx) ≡ true → HasMoved self.old.held (Finishes verdict.now.tx verdict.now.commit) self.new.held) }
