@@ -3,7 +3,6 @@ pub mod Asking
 pub mod Begun
 pub mod Causes
 pub mod Entered
-pub mod Failing
 pub mod Falls
 pub mod Judged
 pub mod Letting
