@@ -10,8 +10,8 @@ use Rattle.paused_eval.specs.Direct as spec
 use Rattle.paused_eval.specs.Direct.{directly, on}
 use Rattle.paused_eval.proofs.+direct.Goals as goal
 
-pub called-returns-in_ok-rest-in-Ok-clause-does : goal.called-returns-in_ok-rest-in-Ok-clause-does
-called-returns-in_ok-rest-in-Ok-clause-does g t c =
+pub direct::called-returns-in_ok-rest-in-Ok-clause-does : goal.direct::called-returns-in_ok-rest-in-Ok-clause-does
+direct::called-returns-in_ok-rest-in-Ok-clause-does g t c =
     let s = c.args.program.now.schema.now in
     called_does s c.args.cache.now c.value_of.new.cache c.args.inner (plain c.args.receiver.now) c.args.method.now (map plain c.args.arguments.now) c.in_ok-rest-in-Ok.rest
     c.type_of-kind.result c.in-Ok.target c.new-none.result
@@ -20,16 +20,16 @@ called-returns-in_ok-rest-in-Ok-clause-does g t c =
     (kind_there s c.args.progress.now c.args.cache.now c.type_of-kind.result c.args.receiver.now c.get.result.now c.type_of-kind.ensures c.get.ensures)
     c.new-none.ensures c.in_ok-rest-in-Ok.ensures c.in-Ok.ensures.does c.collect.ensures.does
 
-pub called-returns-in-Err-clause-does : goal.called-returns-in-Err-clause-does
-called-returns-in-Err-clause-does g t c =
+pub direct::called-returns-in-Err-clause-does : goal.direct::called-returns-in-Err-clause-does
+direct::called-returns-in-Err-clause-does g t c =
     let s = c.args.program.now.schema.now in
     called_left (on s c.args.cache.now) c.args.inner (plain c.args.receiver.now) c.args.method.now c.args.method.now (map plain c.args.arguments.now) (map plain c.args.arguments.now)
     c.type_of-kind.result c.in-Err.unwound c.behind_receiver.result (state c.args.progress.now c.args.cache.now) (state c.value_of.new.progress c.value_of.new.cache)
     (kind_there s c.args.progress.now c.args.cache.now c.type_of-kind.result c.args.receiver.now c.get.result.now c.type_of-kind.ensures c.get.ensures)
     refl refl c.in-Err.ensures.does c.behind_receiver.ensures
 
-pub collect-returns-in-Err-clause-does : goal.collect-returns-in-Err-clause-does
-collect-returns-in-Err-clause-does g t c =
+pub direct::collect-returns-in-Err-clause-does : goal.direct::collect-returns-in-Err-clause-does
+direct::collect-returns-in-Err-clause-does g t c =
     let s = c.args.program.now.schema.now in
     let w = on s c.args.cache.now in
     let first : c.loop.left ≡ c.in-Some.expr ∷ c.in-Some.rest = rw c.in-Some.is at c.in_ok-split_first.ensures in
@@ -38,20 +38,20 @@ collect-returns-in-Err-clause-does g t c =
     (spec.collect w c.args.inner (directly w c.args.inner) c.args.kind c.args.target c.args.method.now c.args.none c.args.arguments (state c.args.progress.now c.args.cache.now))
     c.loop.invariant.1.0 c.loop.invariant.1.1.1.1 (first ∙ ap (λ (e : Expr). e ∷ c.in-Some.rest) (sym c.shared.ensures)) refl c.in-Err.ensures.does c.behind_argument.ensures
 
-pub node-returns-in-Variable-clause-does : goal.node-returns-in-Variable-clause-does
-node-returns-in-Variable-clause-does g t c =
+pub direct::node-returns-in-Variable-clause-does : goal.direct::node-returns-in-Variable-clause-does
+direct::node-returns-in-Variable-clause-does g t c =
     let s = c.args.program.now.schema.now in
     node_variable (on s c.args.cache.now) c.args.inner _ _ _ _ _ _ (ap (λ (e : ExprNode). out-Expr (plain e)) c.in-Variable.is ∙ out_variable _ _)
     (value_there s c.args.progress.now c.args.cache.now c.named_value.result _ _ c.named_value.ensures (c.as_slice-in-Variable.ensures ∙ c.get-in-Variable.ensures))
 
-pub statement-returns-in-Ok-clause-does : goal.statement-returns-in-Ok-clause-does
-statement-returns-in-Ok-clause-does g t c =
+pub direct_statements::statement-returns-in-Ok-clause-does : goal.direct_statements::statement-returns-in-Ok-clause-does
+direct_statements::statement-returns-in-Ok-clause-does g t c =
     statement_does c.args.program.now.schema.now c.args.cache.now c.value_of.new.cache c.args.inner (out-Stmt (plain_stmt c.args.node.now)) (plain c.first_part.result.now) c.in-Ok.value
     (state c.args.progress.now c.args.cache.now) (state c.value_of.new.progress c.value_of.new.cache) (state c.effect.new.progress c.effect.new.cache) c.effect.result
     c.in-Ok.ensures.kept c.first_part.ensures c.in-Ok.ensures.does c.effect.ensures.does
 
-pub turns-returns-in-Err-clause-does : goal.turns-returns-in-Err-clause-does
-turns-returns-in-Err-clause-does g t c =
+pub direct_statements::turns-returns-in-Err-clause-does : goal.direct_statements::turns-returns-in-Err-clause-does
+direct_statements::turns-returns-in-Err-clause-does g t c =
     let s = c.args.program.now.schema.now in
     let w = on s c.args.cache.now in
     turn_left s c.args.cache.now c.loop-count.cache c.turn_body.new.cache c.args.inner (100000 - c.loop-count.count) (plain c.args.condition.now) (map plain_stmt c.args.body.now)
@@ -60,8 +60,8 @@ turns-returns-in-Err-clause-does g t c =
     c.in_ok-turn_body.field-0 c.loop-count.invariant.1.0 c.in_ok-turn_body.ensures.kept (sym c.holds.ensures ∙ c.if-not-holds.false) c.loop-count.invariant.1.1.1.1 c.in_ok-turn_body.ensures.does c.in-Next.is
     c.in-Err.unwound c.in-Err.ensures.does
 
-pub turns-loop-count-preserved : goal.turns-loop-count-preserved
-turns-loop-count-preserved g t c =
+pub direct_statements::turns-loop-count-preserved : goal.direct_statements::turns-loop-count-preserved
+direct_statements::turns-loop-count-preserved g t c =
     let s = c.args.program.now.schema.now in
     let w = on s c.args.cache.now in (
       c.in-Ok.ensures.tied,
