@@ -5,7 +5,7 @@ ghost use Rattle.cached_sets.specs.Cost.{stale_steps};
 ghost use Rattle.cached_sets.specs.Undoing.{put_back};
 ghost use Rattle.cached_sets.specs.Bounds.{bound_behind};
 ghost use Rattle.std.specs.Option.{option_and_then};
-ghost use Rattle.std.specs.Prelude.{OnErr, OnOk, length, ◌+◌, ◌≡◌, ◌≤◌};
+ghost use Rattle.std.specs.Prelude.{None, OnErr, OnOk, OnSome, length, ◌+◌, ◌<◌, ◌≡◌, ◌≤◌};
 ghost use Rattle.thor_value.specs.FiniteMap.{empty, get, insert, len};
 ghost use Rattle.validation_queue.specs.Names.{Rises};
 
@@ -109,6 +109,8 @@ impl InvalidSet {
         requires { Rises names.now }
         ensures value { result ≡ first_stale self.now upto names.now }
         ensures cost { steps.new ≤ steps.old + stale_steps self.now names.now }
+        ensures all { result ≡ None → steps.new ≡ steps.old + stale_steps self.now names.now }
+        ensures some { OnSome result (steps.old < steps.new) }
     {
         if self.places.len() < names.len() {
             self.first_of_set(names, upto, steps)
@@ -137,6 +139,8 @@ impl InvalidSet {
     ) -> Option<(Oref, u64)>
         ensures value { result ≡ first_stale self.now upto names.now }
         ensures cost { steps.new ≤ steps.old + length names.now }
+        ensures all { result ≡ None → steps.new ≡ steps.old + length names.now }
+        ensures some { OnSome result (steps.old < steps.new) }
     {
         for name in names {
             steps.tick();
@@ -156,6 +160,8 @@ impl InvalidSet {
         requires { Rises names.now }
         ensures value { result ≡ first_stale self.now upto names.now }
         ensures cost { steps.new ≤ steps.old + len self.now }
+        ensures all { result ≡ None → steps.new ≡ steps.old + len self.now }
+        ensures some { OnSome result (steps.old < steps.new) }
     {
         for (oref, place) in self.places.iter() {
             steps.tick();

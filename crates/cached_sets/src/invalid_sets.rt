@@ -4,7 +4,7 @@ ghost use Rattle.cached_sets.specs.Cost.{stale_steps};
 ghost use Rattle.cached_sets.specs.Invalid.{Invalids, change, first_stale, from, mark, next_of, set_of};
 ghost use Rattle.cached_sets.specs.Sets.{opened};
 ghost use Rattle.cached_sets.specs.Undoing.{undo};
-ghost use Rattle.std.specs.Prelude.{IfOk, IsTrue, OnErr, OnOk, length, not, ◌+◌, ◌≡◌, ◌≤◌};
+ghost use Rattle.std.specs.Prelude.{IfOk, IsTrue, None, OnErr, OnOk, OnSome, length, not, ◌+◌, ◌<◌, ◌≡◌, ◌≤◌};
 ghost use Rattle.thor_value.specs.FiniteMap.{empty, has, remove};
 ghost use Rattle.validation_queue.specs.Names.{Rises};
 
@@ -128,6 +128,8 @@ impl InvalidSets {
         requires { Rises names.now }
         ensures value { result ≡ first_stale (set_of self.now session) upto names.now }
         ensures cost { steps.new ≤ steps.old + stale_steps (set_of self.now session) names.now }
+        ensures all { result ≡ None → steps.new ≡ steps.old + stale_steps (set_of self.now session) names.now }
+        ensures some { OnSome result (steps.old < steps.new) }
     {
         match self.sets.get(&session) {
             Some(set) => set.first_stale(names, upto, steps),

@@ -7,7 +7,7 @@ ghost use Rattle.cached_sets.specs.Undoing.{undo};
 ghost use Rattle.link_table.specs.Pairs.{first, lefts, next, rights};
 ghost use Rattle.std.specs.List.{IsDistinct, last_or};
 ghost use Rattle.std.specs.Map.{keys_of};
-ghost use Rattle.std.specs.Prelude.{List, None, Ok, OnErr, OnOk, [], length, nat_eq, ℕ, ◌*◌, ◌++◌, ◌+◌, ◌<◌, ◌∷◌, ◌≡◌, ◌≤◌};
+ghost use Rattle.std.specs.Prelude.{List, None, Ok, OnErr, OnOk, OnSome, [], length, nat_eq, ℕ, ◌*◌, ◌++◌, ◌+◌, ◌<◌, ◌∷◌, ◌≡◌, ◌≤◌};
 ghost use Rattle.validation_queue.specs.Names.{Rises};
 
 use crate::invalid_sets::InvalidSets;
@@ -180,7 +180,7 @@ impl Sets {
     }
 
     /// `stale`, counted: one step for each of the names, or for each object of the set, that it looks
-    /// at. Each step takes time in proportion to the logarithm of how many there are of the others.
+    /// at: all of them where it finds none, and one at least where it finds one. Each step takes time in proportion to the logarithm of how many there are of the others.
     pub fn stale_counted<L: Ledger>(
         &self,
         session: u32,
@@ -191,6 +191,8 @@ impl Sets {
         requires { Rises ros.now }
         ensures value { result ≡ stale self.now session ros.now upto }
         ensures cost { steps.new ≤ steps.old + stale_steps (set_of self.now.invalid session) ros.now }
+        ensures all { result ≡ None → steps.new ≡ steps.old + stale_steps (set_of self.now.invalid session) ros.now }
+        ensures some { OnSome result (steps.old < steps.new) }
     {
         self.invalid
             .first_stale(session, ros.as_slice(), upto, steps)

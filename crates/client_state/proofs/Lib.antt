@@ -1,4 +1,7 @@
 pub mod Carrying
 mod Holding
+pub mod Keeping
 pub mod Moving
 pub mod Owing
+pub mod Sessions
+pub mod Stopping

@@ -47,6 +47,19 @@ answered Apart = Apart
 answered (Joined s upto waits) = Joined s upto (without_reply waits)
 answered (Unsettled sent index) = Unsettled sent index
 
+-- what is waited for where no message has to be taken any more
+abbrev pub without_messages : Waits → Waits
+without_messages Idle = Idle
+without_messages Reply = Reply
+without_messages (Past place) = Idle
+without_messages (Epoch n) = Idle
+
+-- the client waits for a reply alone
+abbrev pub stopped : Link → Link
+stopped Apart = Apart
+stopped (Joined s upto waits) = Joined s upto (without_messages waits)
+stopped (Unsettled sent index) = Unsettled sent index
+
 -- whether a reply is outstanding
 abbrev pub is_reply : Waits → Bool
 is_reply Idle = false
@@ -91,6 +104,11 @@ NoneAwaits n links = (r : ℕ) (l : Link) → r < n → slice_get links r ≡ So
 -- A client of this epoch is behind none of the repositories below n.
 abbrev pub NoneIsBehind : ℕ → ℕ → List Link → Type 0
 NoneIsBehind n epoch links = (r : ℕ) (l : Link) → r < n → slice_get links r ≡ Some l → is_behind epoch l ≡ false
+
+-- how a client stands with a repository, which is apart where there is no link
+abbrev pub link_in : Option Link → Link
+link_in None = Apart
+link_in (Some link) = link
 
 -- the link at a repository that has one becomes another
 abbrev pub changed_at : List Link → ℕ → (Link → Link) → Option Link → List Link

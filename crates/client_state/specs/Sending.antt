@@ -21,11 +21,12 @@ pub record IsOfSession (links : List Link) (s : Sending) : Type 0 where
   pub session : s.request.session ≡ s.at.session
   pub upto : is_session_of s.at.session (slice_get links s.at.repo) ≡ true → s.request.upto ≡ upto_in (slice_get links s.at.repo)
 
--- What is sent of a share: it goes out by the session that the share names.
+-- What is sent of a share: it goes out by the session that the share names, with what the share has written.
 pub record IsOfShare (links : List Link) (share : Share) (s : Sending) : Type 0 where
   pub at_is : s.at ≡ record { repo = share.repo; session = share.session }
   pub session : s.request.session ≡ share.session
   pub upto : s.request.upto ≡ upto_behind (slice_get links share.repo) share.session share.upto
+  pub writes : s.request.writes ≡ share.writes
 
 -- The first of some shares is sent so.
 abbrev pub SendsFirst : List Link → List Share → Sending → Type 0

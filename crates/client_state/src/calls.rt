@@ -3,13 +3,14 @@
 ghost use Rattle.client_state.specs.Calling.{Connects, CopiesRefused, Draws, DrawsAbove, Fetches, Grants, links_refused, upto_in};
 ghost use Rattle.client_state.specs.Learning.{KeepsBounds, Rises};
 ghost use Rattle.client_state.specs.Links.{at_repo, session_in};
-ghost use Rattle.client_state.specs.Moving.{CallsIdle, IsApart, MovesIf};
+ghost use Rattle.client_state.specs.Moving.{CallsIdle, IsApart, SendsNothingIf};
+ghost use Rattle.client_state.specs.Receiving.{IsNotGone};
 ghost use Rattle.client_state.specs.Showing.{CameIf, CameShown, DrewIf};
 ghost use Rattle.client_state.specs.declared.link.Link.TheVariants.{Joined};
 ghost use Rattle.client_state.specs.declared.link.Waits.TheVariants.{Idle};
 ghost use Rattle.port.specs.Acting.{Refuses};
 ghost use Rattle.port.specs.Views.{View};
-ghost use Rattle.std.specs.Prelude.{IfOk, Some, slice_get, ◌≡◌};
+ghost use Rattle.std.specs.Prelude.{IfOk, IsTrue, Some, not, slice_get, ◌≡◌};
 
 use crate::causes::cause_of;
 use crate::held::Held;
@@ -55,7 +56,7 @@ impl Held {
     ) -> Result<Came, NoMemory>
         ensures call { Connects Q.shows (Q.view port.old) (Q.view port.new) repo self.old.client self.old.links.items self.new.links.items }
         ensures copies { self.new.cache ≡ self.old.cache }
-        ensures moves { IsApart repo self.old → MovesIf Q.shows (Q.view port.old) (Q.view port.new) self.old self.new }
+        ensures moves { IsApart repo self.old → SendsNothingIf Q.shows (Q.view port.old) (Q.view port.new) self.old self.new }
         ensures shown { CameIf Q.shows (Q.view port.old) (Q.view port.new) result }
         ensures rises { Rises self.old self.new }
     {
@@ -97,7 +98,7 @@ impl Held {
     /// Asks for a page.
     pub fn fetch<Q: Port>(&mut self, port: &mut Q, at: At, page: u32) -> Result<Came, NoMemory>
         ensures call { Fetches Q.shows (Q.view port.old) (Q.view port.new) at page (upto_in (slice_get self.old.links.items at.repo)) self.old.links.items self.new.links.items self.old.cache.cache self.new.cache.cache }
-        ensures moves { CallsIdle at self.old → MovesIf Q.shows (Q.view port.old) (Q.view port.new) self.old self.new }
+        ensures moves { CallsIdle at self.old → SendsNothingIf Q.shows (Q.view port.old) (Q.view port.new) self.old self.new }
         ensures shown { CameIf Q.shows (Q.view port.old) (Q.view port.new) result }
         ensures bounds { KeepsBounds self.old self.new }
     {
@@ -113,7 +114,7 @@ impl Held {
     /// Asks for a page of names.
     pub fn ask_for_names<Q: Port>(&mut self, port: &mut Q, at: At) -> Result<Came, NoMemory>
         ensures call { Grants Q.shows (Q.view port.old) (Q.view port.new) at self.old.links.items self.new.links.items self.old.cache.cache self.new.cache.cache }
-        ensures moves { CallsIdle at self.old → MovesIf Q.shows (Q.view port.old) (Q.view port.new) self.old self.new }
+        ensures moves { CallsIdle at self.old → SendsNothingIf Q.shows (Q.view port.old) (Q.view port.new) self.old self.new }
         ensures shown { CameIf Q.shows (Q.view port.old) (Q.view port.new) result }
         ensures bounds { KeepsBounds self.old self.new }
     {
@@ -129,7 +130,7 @@ impl Held {
     /// Draws a timestamp.
     pub fn draw<Q: Port>(&mut self, port: &mut Q, at: At) -> Result<Drew, NoMemory>
         ensures call { Draws Q.shows (Q.view port.old) (Q.view port.new) at result self.old.links.items self.new.links.items self.old.cache.cache self.new.cache.cache }
-        ensures moves { session_in at.repo (slice_get self.old.links.items at.repo) ≡ Some at → MovesIf Q.shows (Q.view port.old) (Q.view port.new) self.old self.new }
+        ensures moves { session_in at.repo (slice_get self.old.links.items at.repo) ≡ Some at → SendsNothingIf Q.shows (Q.view port.old) (Q.view port.new) self.old self.new }
         ensures above { DrawsAbove Q.shows (Q.view port.old) (Q.view port.new) at self.old.floor self.old.links.items result }
         ensures shown { DrewIf Q.shows (Q.view port.old) (Q.view port.new) result }
         ensures bounds { KeepsBounds self.old self.new }
@@ -156,10 +157,12 @@ impl Held {
     }
 
     /// A call was refused: a session that is gone is lost. It answers whether it is.
-    fn lose_gone(&mut self, repo: u8, refusal: Refusal) -> bool
+    pub fn lose_gone(&mut self, repo: u8, refusal: Refusal) -> bool
         ensures links { self.new.links.items ≡ links_refused refusal repo self.old.links.items }
         ensures copies { CopiesRefused refusal repo self.old.links.items self.old.cache.cache self.new.cache.cache }
         ensures client { self.new.client ≡ self.old.client }
+        ensures rest { IsTrue (not result) → self.new ≡ self.old }
+        ensures gone { IsTrue (not result) → IsNotGone refusal }
         ensures bounds { KeepsBounds self.old self.new }
     {
         match refusal {

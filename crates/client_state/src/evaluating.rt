@@ -1,6 +1,8 @@
 //! How an evaluation and a transform go on over what is held.
 
 ghost use Rattle.client_state.specs.Learning.{KeepsBounds};
+ghost use Rattle.client_state.specs.Moving.{HoldsSame};
+ghost use Rattle.std.specs.Prelude.{OnOk};
 
 use crate::held::Held;
 use crate::transaction::Transaction;
@@ -24,6 +26,7 @@ fn schema_of(opened: &Opened, epoch: u32) -> &Schema {
 impl Held {
     /// Evaluates as far as the copies allow.
     pub fn evaluate(&mut self, opened: &Opened, run: &mut Paused) -> Result<Ran, NoMemory>
+        ensures same { OnOk result (HoldsSame self.old self.new) }
         ensures bounds { KeepsBounds self.old self.new }
     {
         let epoch = self.epoch(opened);
@@ -39,6 +42,7 @@ impl Held {
 
     /// The evaluation of a transaction before its first step.
     pub fn begin(&mut self, tx: &Block) -> Result<Paused, NoMemory>
+        ensures same { HoldsSame self.old self.new }
         ensures bounds { KeepsBounds self.old self.new }
     {
         Paused::begin(self.alloc, tx, &mut self.texts)
@@ -53,6 +57,7 @@ impl Held {
         writes: Writes,
         fresh: Orefs,
     ) -> Result<Transaction, NoMemory>
+        ensures same { HoldsSame self.old self.new }
         ensures bounds { KeepsBounds self.old self.new }
     {
         if let Answer::Fault(_) = &answer {
@@ -68,6 +73,7 @@ impl Held {
         opened: &Opened,
         transform: &mut Transform,
     ) -> Result<Wanted, NoMemory>
+        ensures same { HoldsSame self.old self.new }
         ensures bounds { KeepsBounds self.old self.new }
     {
         for _ in 0..u64::MAX {
@@ -92,6 +98,7 @@ impl Held {
 
     /// Looks at a part, where it is held, and answers whether it is.
     fn look_at(&mut self, transform: &mut Transform, part: Oref) -> Result<bool, NoMemory>
+        ensures same { HoldsSame self.old self.new }
         ensures bounds { KeepsBounds self.old self.new }
     {
         match self.copy_of(part)? {

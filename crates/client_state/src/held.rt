@@ -2,12 +2,16 @@
 
 ghost use Rattle.client_state.specs.Calling.{CopiesLost, CopiesStay, is_session_of, upto_in};
 ghost use Rattle.client_state.specs.Learning.{KeepsBounds, Rises, without_session};
-ghost use Rattle.client_state.specs.Links.{CountsUnsettled, NoneAwaits, NoneIsBehind, at_repo, awaits_reply, is_behind, session_in, waiting};
-ghost use Rattle.client_state.specs.Moving.{HoldsLess, IsApart};
+ghost use Rattle.client_state.specs.Links.{CountsUnsettled, NoneAwaits, NoneIsBehind, at_repo, awaits_reply, is_behind, link_in, session_in, stopped, waiting};
+ghost use Rattle.client_state.specs.Moving.{HoldsLess, InSession, IsApart, KeepsMade, KeepsTry, LeavesSome, StopsWaiting};
 ghost use Rattle.client_state.specs.Taking.{BringsPage};
 ghost use Rattle.client_state.specs.declared.link.Link.{Link};
-ghost use Rattle.client_cache.specs.Copies.{kept};
-ghost use Rattle.std.specs.Prelude.{false, ◌≡◌, ◌<◌, ◌≤◌, IsTrue, None, OnOk, Some, cond, max, nat_eq, not, slice_get};
+ghost use Rattle.client_state.specs.declared.link.Link.TheVariants.{Apart};
+ghost use Rattle.client_cache.specs.Copies.{changed, kept, seen};
+ghost use Rattle.client_cache.specs.Pages.{same_name};
+ghost use Rattle.paused_eval.specs.Copies.{AreAmong};
+ghost use Rattle.std.specs.Option.{option_map};
+ghost use Rattle.std.specs.Prelude.{false, ◌≡◌, ◌<◌, ◌≤◌, IfSome, IsTrue, None, OnOk, Some, cond, max, nat_eq, not, slice_get, ℕ};
 ghost use Rattle.thor_value.specs.declared.names.Oref.{Oref};
 
 use crate::link::{Link, Waits};
@@ -107,7 +111,8 @@ impl Held {
 
     /// The repository of which a reply is outstanding. There is one at most.
     pub fn awaited(&self) -> Option<At>
-        ensures { result ≡ None → NoneAwaits 8 self.now.links.items }
+        ensures none { result ≡ None → NoneAwaits 8 self.now.links.items }
+        ensures session { IfSome result (λ at. InSession at self.now) }
     {
         for repo in 0..REPOSITORIES {
             if let Some(at) = self.awaited_at(repo) {
@@ -118,8 +123,10 @@ impl Held {
     }
 
     /// The session at a repository, where a reply of it is outstanding.
+    #[tactic(auto, using(crate::proofs::Sessions::in_session, crate::proofs::Sessions::none_in_session))]
     fn awaited_at(&self, repo: u8) -> Option<At>
-        ensures { result ≡ None → (l : Link) → slice_get self.now.links.items repo ≡ Some l → awaits_reply l ≡ false }
+        ensures none { result ≡ None → (l : Link) → slice_get self.now.links.items repo ≡ Some l → awaits_reply l ≡ false }
+        ensures session { IfSome result (λ at. InSession at self.now) }
     {
         match self.links.get(usize::from(repo)) {
             Some(link) if link.awaits_reply() => link.at(repo),
@@ -129,7 +136,8 @@ impl Held {
 
     /// The repository with which the client has to catch up. There is one at most.
     pub fn behind(&self, opened: &Opened) -> Option<At>
-        ensures { result ≡ None → NoneIsBehind 8 (max opened.now.epoch self.now.learnt) self.now.links.items }
+        ensures none { result ≡ None → NoneIsBehind 8 (max opened.now.epoch self.now.learnt) self.now.links.items }
+        ensures session { IfSome result (λ at. InSession at self.now) }
     {
         let epoch = self.epoch(opened);
         for repo in 0..REPOSITORIES {
@@ -141,8 +149,10 @@ impl Held {
     }
 
     /// The session at a repository, where a client of this epoch is behind it.
+    #[tactic(auto, using(crate::proofs::Sessions::in_session, crate::proofs::Sessions::none_in_session))]
     fn behind_at(&self, repo: u8, epoch: u32) -> Option<At>
-        ensures { result ≡ None → (l : Link) → slice_get self.now.links.items repo ≡ Some l → is_behind epoch l ≡ false }
+        ensures none { result ≡ None → (l : Link) → slice_get self.now.links.items repo ≡ Some l → is_behind epoch l ≡ false }
+        ensures session { IfSome result (λ at. InSession at self.now) }
     {
         match self.links.get(usize::from(repo)) {
             Some(link) if link.is_behind(epoch) => link.at(repo),
@@ -151,7 +161,9 @@ impl Held {
     }
 
     /// The first of some repositories where there is no session.
-    pub fn first_apart(&self, repos: &Repos) -> Option<u8> {
+    pub fn first_apart(&self, repos: &Repos) -> Option<u8>
+        ensures { IfSome result (λ repo. session_in repo (slice_get self.now.links.items repo) ≡ None) }
+    {
         for repo in repos.as_slice() {
             if self.at(*repo).is_none() {
                 return Some(*repo);
@@ -170,12 +182,32 @@ impl Held {
         }
     }
 
-    /// The client waits for nothing.
-    pub fn stop_waiting(&mut self)
-        ensures bounds { KeepsBounds self.old self.new }
+    /// Nothing is waited for in the session with a repository, and in no other one for messages that had to be taken.
+    pub fn stop_waiting(&mut self, repo: u8)
+        ensures stops { StopsWaiting repo self.old self.new }
+        ensures rest { self.new ≡ record self.old { links = self.new.links } }
     {
-        for repo in 0..REPOSITORIES {
-            self.wait(repo, Waits::Idle);
+        self.stop_all();
+        self.wait(repo, Waits::Idle);
+    }
+
+    /// Messages have to be taken in no session any more.
+    fn stop_all(&mut self)
+        ensures links { (n : ℕ) → slice_get self.new.links.items n ≡ option_map stopped (slice_get self.old.links.items n) }
+        ensures rest { self.new ≡ record self.old { links = self.new.links } }
+    {
+        for place in 0..self.links.len() {
+            self.stop_at(place);
+        }
+    }
+
+    /// The same at a place.
+    fn stop_at(&mut self, place: usize)
+        ensures links { self.new.links.items ≡ at_repo self.old.links.items place stopped }
+        ensures rest { self.new ≡ record self.old { links = self.new.links } }
+    {
+        if let Some(link) = self.links.get_mut(place) {
+            link.stop();
         }
     }
 
@@ -191,6 +223,9 @@ impl Held {
 
     /// Takes how the client stood with a repository; it is apart then.
     pub fn take_link(&mut self, repo: u8) -> Link
+        ensures taken { result ≡ link_in (slice_get self.old.links.items repo) }
+        ensures links { self.new.links.items ≡ at_repo self.old.links.items repo (λ l. Apart) }
+        ensures rest { self.new ≡ record self.old { links = self.new.links } }
         ensures bounds { KeepsBounds self.old self.new }
     {
         match self.links.get_mut(usize::from(repo)) {
@@ -202,6 +237,10 @@ impl Held {
     /// Drops the session, the copies and the names of a repository, and what was waited for there. A
     /// verdict that is still to be learnt there stays so.
     pub fn leave(&mut self, repo: u8)
+        ensures leaves { LeavesSome self.old self.new }
+        ensures none { (x : Oref) → x.repo ≡ repo → kept self.new.cache.cache x ≡ None }
+        ensures fewer { AreAmong (kept self.old.cache.cache) (kept self.new.cache.cache) }
+        ensures client { self.new.client ≡ self.old.client }
         ensures bounds { KeepsBounds self.old self.new }
     {
         if self.at(repo).is_some() {
@@ -325,14 +364,27 @@ impl Held {
         Ok(())
     }
 
-    /// Keeps an object as it was made by a transform.
+    /// Keeps an object as it was made by a transform. What a try has changed is given up.
     pub fn keep_made(&mut self, oref: Oref, made: Obj) -> Result<(), NoMemory>
-        ensures { self.new ≡ record self.old { cache = self.new.cache } }
+        ensures rest { self.new ≡ record self.old { cache = self.new.cache } }
+        ensures keeps { OnOk result (KeepsMade oref made self.old self.new) }
+    {
+        self.cache.undo();
+        self.note_made(oref, made)?;
+        self.cache.settle();
+        Ok(())
+    }
+
+    /// Notes an object as it was made, where it is named by a slot of a page; else its repository's copies are dropped.
+    #[tactic(auto, using(crate::proofs::Keeping::made_seen, crate::proofs::Keeping::others_seen))]
+    fn note_made(&mut self, oref: Oref, made: Obj) -> Result<(), NoMemory>
+        ensures rest { self.new ≡ record self.old { cache = self.new.cache } }
+        ensures notes { OnOk result (((x : Oref) → changed self.old.cache.cache x ≡ None) → AreAmong (λ x. cond (same_name oref x) (Some made) (kept self.old.cache.cache x)) (seen self.new.cache.cache)) }
     {
         if oref.slot < SLOTS {
-            self.cache.write(oref, made)?;
+            return self.cache.write(oref, made);
         }
-        self.cache.settle();
+        self.cache.drop_repo(oref.repo);
         Ok(())
     }
 
@@ -360,6 +412,7 @@ impl Held {
     /// What a try has changed is kept, and the try has ended.
     pub fn keep(&mut self)
         ensures links { self.new.links ≡ self.old.links }
+        ensures keeps { KeepsTry self.old self.new }
         ensures bounds { KeepsBounds self.old self.new }
     {
         self.cache.settle();

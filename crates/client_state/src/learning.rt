@@ -15,6 +15,7 @@ impl Held {
         ensures links { self.new.links.items ≡ links_learnt refusal repo self.old.links.items }
         ensures floor { self.new.floor ≡ floor_learnt refusal self.old.floor }
         ensures copies { CopiesRefused refusal repo self.old.links.items self.old.cache.cache self.new.cache.cache }
+        ensures client { self.new.client ≡ self.old.client }
         ensures rises { Rises self.old self.new }
     {
         match refusal {

@@ -1,7 +1,7 @@
 //! What a client holds of one repository.
 
 ghost use Rattle.client_state.specs.Learning.{is_session, without_session};
-ghost use Rattle.client_state.specs.Links.{acknowledged, answered, is_behind, awaits_reply, is_behind_of, session_at, unsettled_time, upto_of, waiting};
+ghost use Rattle.client_state.specs.Links.{acknowledged, answered, is_behind, awaits_reply, is_behind_of, session_at, stopped, unsettled_time, upto_of, waiting};
 ghost use Rattle.client_state.specs.declared.link.Link.TheVariants.{Apart};
 ghost use Rattle.std.specs.Prelude.{None, ℕ, ◌≡◌};
 
@@ -166,6 +166,15 @@ impl Link {
         ensures { self.new ≡ answered self.old }
     {
         if self.awaits_reply() {
+            self.wait(Waits::Idle);
+        }
+    }
+
+    /// Messages have to be taken no more.
+    pub fn stop(&mut self)
+        ensures { self.new ≡ stopped self.old }
+    {
+        if !self.awaits_reply() {
             self.wait(Waits::Idle);
         }
     }

@@ -69,6 +69,7 @@ impl Held {
     pub fn drop_copies(&mut self, orefs: &Orefs)
         ensures copies { Without orefs.now self.old.cache.cache self.new.cache.cache }
         ensures links { self.new.links ≡ self.old.links }
+        ensures client { self.new.client ≡ self.old.client }
         ensures bounds { KeepsBounds self.old self.new }
     {
         self.cache.invalidate(orefs);

@@ -2,7 +2,7 @@
 
 ghost use Rattle.client_state.specs.Calling.{upto_in};
 ghost use Rattle.client_state.specs.Sending.{IsOfSession, IsOfShare, SendsFirst, upto_behind};
-ghost use Rattle.std.specs.Prelude.{IfOk, IfSome, slice_get, ◌≡◌};
+ghost use Rattle.std.specs.Prelude.{IfOk, IfSome, [], slice_get, ◌∷◌, ◌≡◌};
 
 use crate::held::Held;
 use crate::transaction::{Share, Transaction};
@@ -62,6 +62,7 @@ impl Held {
         ensures tx { IfOk result (λ made. made.0.tx ≡ ts) }
         ensures session { IfOk result (λ made. made.0.session ≡ at.session) }
         ensures upto { IfOk result (λ made. made.0.upto ≡ upto_in (slice_get self.now.links.items at.repo)) }
+        ensures writes { IfOk result (λ made. made.0.writes ≡ (becomes.oref, made.1) ∷ []) }
     {
         let upto = self.upto(at.repo);
         transform_request(self.alloc, self.client, at, upto, ts, becomes)
@@ -79,6 +80,7 @@ impl Held {
         ensures tx { IfOk result (λ request. request.tx ≡ ts) }
         ensures session { IfOk result (λ request. request.session ≡ share.session) }
         ensures upto { IfOk result (λ request. request.upto ≡ upto_behind (slice_get self.now.links.items share.repo) share.session share.upto) }
+        ensures writes { IfOk result (λ request. request.writes ≡ share.writes) }
     {
         let Share {
             repo,

@@ -1,6 +1,6 @@
 //! A transform: a transaction of its own that brings one due object to the client's epoch.
 
-ghost use Rattle.std.specs.Prelude.{IfOk, ◌≡◌};
+ghost use Rattle.std.specs.Prelude.{IfOk, [], ◌∷◌, ◌≡◌};
 
 use class_defs::Schemas;
 use commit_log::{Kind, Request};
@@ -147,6 +147,7 @@ pub fn transform_request(
     ensures tx { IfOk result (λ made. made.0.tx ≡ ts) }
     ensures session { IfOk result (λ made. made.0.session ≡ at.session) }
     ensures upto { IfOk result (λ made. made.0.upto ≡ upto) }
+    ensures writes { IfOk result (λ made. made.0.writes ≡ (becomes.oref, made.1) ∷ []) }
 {
     let Becomes { oref, ros, made } = becomes;
     let mut writes = Sequence::new(alloc);

@@ -1,4 +1,10 @@
 pub mod Acting
+pub mod Calling
+pub mod Leaving
 pub mod Moving
+pub mod Receiving
+pub mod Requesting
+pub mod Settling
 pub mod Showing
+pub mod Spending
 pub mod Steps

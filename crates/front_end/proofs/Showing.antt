@@ -93,6 +93,10 @@ module _ (shows : Bool) (old new : View) (r : ℕ) where
 pub try_shown : (old new : View) (repos : ℕ) (n : News) (c : Cause) → n ≡ news.TryEnded c → CauseShown old new repos c → NewsShown old new repos n
 try_shown old new repos n c is h = subst (λ (m : News). NewsShown old new repos m) (sym is) h
 
+-- nothing is shown
+pub nothing_shown : (old new : View) (repos : ℕ) (n : News) → n ≡ news.Nothing → NewsShown old new repos n
+nothing_shown old new repos n is = subst (λ (m : News). NewsShown old new repos m) (sym is) tt
+
 -- ---- a page that came lacks an object
 
 same_number : (n : ℕ) → nat_eq n n ≡ true

@@ -1,13 +1,14 @@
 -- What is left for a client to do, which falls at each step by which it moves on (this project's).
-use Rattle.client_state.specs.Links.{session_in}
-use Rattle.client_state.specs.Moving.{IsApart}
+use Rattle.client_state.specs.Links.{at_repo}
 use Rattle.client_state.specs.Owing.{calls_in, owed}
 use Rattle.client_state.specs.declared.held.Held.{Held}
+use Rattle.client_state.specs.declared.link.Link.TheVariants.{Apart, Unsettled}
+use Rattle.client_state.specs.declared.transaction.Sent.{Sent}
 use Rattle.front_end.specs.declared.client.Client.{Client}
 use Rattle.front_end.specs.declared.front_end.FrontEnd.{FrontEnd}
 use Rattle.item_progress.specs.Courses.{Course}
 use Rattle.item_progress.specs.Falling.{Falls, IsLeft, Left, Standing, left_by, most_calls}
-use Rattle.std.specs.Prelude.{None, length, slice_get, ℕ, ◌*◌, ◌+◌, ◌<◌, ◌^◌, ◌≡◌, ◌⊎◌}
+use Rattle.std.specs.Prelude.{None, Some, length, slice_get, ℕ, ◌*◌, ◌+◌, ◌<◌, ◌^◌, ◌≡◌, ◌⊎◌}
 
 -- how many calls a client may still make that aren't counted, where an item has so many tries
 abbrev pub uncounted : ℕ → Client → ℕ
@@ -57,6 +58,8 @@ GoesOn f = IsLeft (course_of f) ⊎ (0 < length f.client.duties.verdicts)
 abbrev pub MovesOn : FrontEnd → Type 0
 MovesOn f = f.client.duties.abort ≡ None → GoesOn f
 
--- Where there is no session with the repository, it is apart: no verdict on an Unknown item is to be learnt there.
-abbrev pub NoneUnsettled : ℕ → Held → Type 0
-NoneUnsettled repo held = session_in repo (slice_get held.links.items repo) ≡ None → IsApart repo held
+-- What was sent of an Unknown item, and its index, were taken out of a link, which is apart then.
+pub record TakesUnsettled (repo : ℕ) (sent : Sent) (index : ℕ) (before after : Held) : Type 0 where
+  pub there : slice_get before.links.items repo ≡ Some (Unsettled sent index)
+  pub links : after.links.items ≡ at_repo before.links.items repo (λ l. Apart)
+  pub rest : after ≡ record before { links = after.links }

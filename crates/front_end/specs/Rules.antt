@@ -1,5 +1,7 @@
 -- Which of the rules of a step are not counted, and when the last one comes (this project's).
 use Rattle.client_state.specs.Links.{NoneAwaits, NoneIsBehind}
+use Rattle.client_state.specs.Moving.{InSession}
+use Rattle.client_state.specs.declared.held.Held.{Held}
 use Rattle.front_end.specs.declared.client.Client.{Client}
 use Rattle.front_end.specs.declared.rule.Counted.TheVariants as counted
 use Rattle.front_end.specs.declared.rule.Counted.{Counted}
@@ -31,6 +33,19 @@ abbrev pub goes_on : Rule → Bool
 goes_on (rules.Counted rule) = goes_on_by rule
 goes_on rules.Ask = false
 goes_on rules.HandOn = false
+
+-- A message is taken in a session that there is, and no reply is outstanding where the try goes on.
+abbrev pub MayFollow : Counted → Held → Type 0
+MayFollow (counted.Await at) held = InSession at held
+MayFollow (counted.CatchUp at) held = InSession at held
+MayFollow (counted.Help helping) held = Unit {0}
+MayFollow counted.GoOn held = NoneAwaits 8 held.links.items
+
+-- the same of any rule
+abbrev pub Follows : Rule → Held → Type 0
+Follows (rules.Counted rule) held = MayFollow rule held
+Follows rules.Ask held = Unit {0}
+Follows rules.HandOn held = Unit {0}
 
 -- Nothing holds the try of a client of this epoch back: no reply is outstanding, behind each refusal the messages were taken
 -- that it had to take, and no transaction of another's is to be helped on.

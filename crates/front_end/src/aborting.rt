@@ -2,15 +2,15 @@
 //! there.
 
 ghost use Rattle.client_state.specs.Learning.{Rises};
+ghost use Rattle.client_state.specs.Moving.{Loses, MovesIf};
 ghost use Rattle.client_state.specs.Owing.{count_of};
 ghost use Rattle.port.specs.Acting.{ActsIf};
 ghost use Rattle.front_end.specs.Moving.{uncounted};
-ghost use Rattle.std.specs.Prelude.{OnOk, ℕ, ◌+◌, ◌≤◌};
+ghost use Rattle.std.specs.Prelude.{OnOk, ℕ, ◌+◌, ◌≡◌, ◌≤◌};
 
 use crate::client::Client;
 use client_state::Abort;
 use port::Port;
-use refusal_reasons::Reason;
 use thor_value::NoMemory;
 use validation_window::Refusal;
 
@@ -20,6 +20,7 @@ impl Client {
     pub fn abort<Q: Port>(&mut self, port: &mut Q, abort: Abort) -> Result<(), NoMemory>
         ensures owed { OnOk result ((tries : ℕ) → uncounted tries self.new ≤ uncounted tries self.old + (count_of abort.prepared + 1)) }
         ensures acts { ActsIf Q.shows (Q.view port.old) (Q.view port.new) }
+        ensures moves { MovesIf Q.shows (Q.view port.old) (Q.view port.new) self.old.held self.new.held }
         ensures rises { Rises self.old.held self.new.held }
     {
         let Abort {
@@ -29,12 +30,21 @@ impl Client {
         } = abort;
         match port.decide(coordinator, ts, false) {
             Ok(verdict) => self.duties.hand_on(verdict, prepared),
-            Err(Refusal::NoMemory) => Err(NoMemory),
-            Err(Refusal::Reason(Reason::Gone { session })) => {
-                self.held.lose(coordinator.repo, session);
-                Ok(())
-            }
-            Err(_) => Ok(()),
+            Err(refusal) => self.leave_prepared(coordinator.repo, refusal),
         }
+    }
+
+    /// The coordinator has refused to abort: the transaction stays prepared. A session that is gone is lost.
+    fn leave_prepared(&mut self, repo: u8, refusal: Refusal) -> Result<(), NoMemory>
+        ensures loses { Loses refusal repo self.old.held self.new.held }
+        ensures client { self.new.held.client ≡ self.old.held.client }
+        ensures left { (tries : ℕ) → uncounted tries self.new ≤ uncounted tries self.old }
+        ensures rises { Rises self.old.held self.new.held }
+    {
+        if let Refusal::NoMemory = refusal {
+            return Err(NoMemory);
+        }
+        let _ = self.held.lose_gone(repo, refusal);
+        Ok(())
     }
 }

@@ -1,6 +1,7 @@
 //! The fourth rule: the client asks for its own transaction, which was sent to be decided.
 
 ghost use Rattle.client_state.specs.Learning.{Rises};
+ghost use Rattle.client_state.specs.Moving.{EndsSo, LeavesLess, MovesIf};
 ghost use Rattle.client_state.specs.Owing.{asking_in, calls_in, count_of};
 ghost use Rattle.client_state.specs.declared.phase.Phase.TheVariants as phase;
 ghost use Rattle.client_state.specs.Showing.{IsToldBy};
@@ -16,7 +17,7 @@ use item_progress::{News, Opened, Task};
 use message_outbox::{Asked, Verdict};
 use port::Port;
 use serial_model::{Cause, ItemOutcome};
-use thor_value::NoMemory;
+use thor_value::{NoMemory, Repos};
 use validation_window::Refusal;
 
 impl Client {
@@ -30,6 +31,7 @@ impl Client {
         ensures owed { IsSome (asking_in self.old.phase) → OnOk result (uncounted task.entry.tries self.new < uncounted task.entry.tries self.old) }
         ensures acts { ActsIf Q.shows (Q.view port.old) (Q.view port.new) }
         ensures shown { ShownIf Q.shows (Q.view port.old) (Q.view port.new) opened.now.repos result }
+        ensures moves { OnOk result (MovesIf Q.shows (Q.view port.old) (Q.view port.new) self.old.held self.new.held) }
         ensures rises { Rises self.old.held self.new.held }
     {
         match self.take_phase().into_asking() {
@@ -49,6 +51,7 @@ impl Client {
         ensures owed { OnOk result (uncounted task.entry.tries self.new < uncounted task.entry.tries self.old + calls_in task.entry.tries (phase.Asking sent answers)) }
         ensures acts { ActsIf Q.shows (Q.view port.old) (Q.view port.new) }
         ensures shown { ShownIf Q.shows (Q.view port.old) (Q.view port.new) opened.now.repos result }
+        ensures moves { OnOk result (MovesIf Q.shows (Q.view port.old) (Q.view port.new) self.old.held self.new.held) }
         ensures rises { Rises self.old.held self.new.held }
     {
         let coordinator = sent.coordinator();
@@ -71,6 +74,7 @@ impl Client {
     ) -> Result<News, NoMemory>
         ensures owed { OnOk result ((tries : ℕ) → uncounted tries self.new ≤ uncounted tries self.old + (count_of sent.participants + 1)) }
         ensures shown { IfOk result (λ news. (old new : View) (repos : ℕ) → IsToldBy old new coordinator sent.ts verdict.commit → NewsShown old new repos news) }
+        ensures ends { OnOk result (EndsSo verdict.commit self.old.held self.new.held) }
         ensures rises { Rises self.old.held self.new.held }
     {
         self.duties.hand_on(verdict, sent.others()?)?;
@@ -84,6 +88,7 @@ impl Client {
     fn ask_again(&mut self, task: Task<'_>, sent: Sent, answers: u32) -> News
         ensures owed { (before : ℕ) → (answers < task.entry.tries → before < answers) → uncounted task.entry.tries self.new < uncounted task.entry.tries self.old + calls_in task.entry.tries (phase.Asking sent before) }
         ensures shown { (old new : View) (repos : ℕ) → NewsShown old new repos result }
+        ensures leaves { LeavesLess self.old.held self.new.held }
         ensures rises { Rises self.old.held self.new.held }
     {
         if answers < task.tries {
@@ -98,18 +103,30 @@ impl Client {
     fn hold_as_unknown(&mut self, task: Task<'_>, sent: Sent) -> News
         ensures rest { self.new ≡ record self.old { held = self.new.held } }
         ensures shown { (old new : View) (repos : ℕ) → NewsShown old new repos result }
+        ensures leaves { LeavesLess self.old.held self.new.held }
         ensures rises { Rises self.old.held self.new.held }
     {
-        for repo in sent.participants.as_slice() {
-            self.held.leave(*repo);
-        }
+        let coordinator = sent.coordinator();
+        self.leave_all(&sent.participants);
+        self.held.leave(coordinator);
         self.held.give_up();
         let tx = sent.ts;
         let index = task.who.index;
         self.held
-            .set_link(sent.coordinator(), Link::Unsettled { sent, index });
+            .set_link(coordinator, Link::Unsettled { sent, index });
         News::Ended {
             outcome: ItemOutcome::Unknown { tx },
+        }
+    }
+
+    /// Nothing is held of these repositories any more.
+    fn leave_all(&mut self, repos: &Repos)
+        ensures rest { self.new ≡ record self.old { held = self.new.held } }
+        ensures leaves { LeavesLess self.old.held self.new.held }
+        ensures rises { Rises self.old.held self.new.held }
+    {
+        for repo in repos.as_slice() {
+            self.held.leave(*repo);
         }
     }
 }

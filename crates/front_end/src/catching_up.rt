@@ -1,8 +1,10 @@
 //! The second rule: the client catches up with a repository that refused it.
 
 ghost use Rattle.client_state.specs.Learning.{Rises};
+ghost use Rattle.client_state.specs.Moving.{InSession, MovesIf};
 ghost use Rattle.front_end.specs.Showing.{ShownIf};
 ghost use Rattle.port.specs.Acting.{ActsIf};
+ghost use Rattle.std.specs.Prelude.{OnOk};
 
 use crate::client::Client;
 use client_state::Waits;
@@ -18,12 +20,14 @@ impl Client {
         port: &mut Q,
         opened: &Opened,
         at: At,
+        left: bool,
     ) -> Result<News, NoMemory>
         ensures acts { ActsIf Q.shows (Q.view port.old) (Q.view port.new) }
         ensures shown { ShownIf Q.shows (Q.view port.old) (Q.view port.new) opened.now.repos result }
+        ensures moves { InSession at self.old.held → OnOk result (MovesIf Q.shows (Q.view port.old) (Q.view port.new) self.old.held self.new.held) }
         ensures rises { Rises self.old.held self.new.held }
     {
-        match self.receive(port, opened, at)? {
+        match self.receive(port, opened, at, left)? {
             Some(news) => Ok(news),
             None => {
                 self.held.wait(at.repo, Waits::Idle);

@@ -1,17 +1,19 @@
 //! How a transaction is drawn, sent and decided.
 
 ghost use Rattle.client_state.specs.Learning.{Rises};
-ghost use Rattle.client_state.specs.Moving.{MovesIf};
+ghost use Rattle.client_state.specs.Links.{NoneAwaits};
+ghost use Rattle.client_state.specs.Moving.{Loses, MovesIf, SendsNothingIf};
+ghost use Rattle.client_state.specs.Sending.{IsOfSession};
 ghost use Rattle.front_end.specs.Showing.{ShownIf};
 ghost use Rattle.port.specs.Acting.{ActsIf};
-ghost use Rattle.std.specs.Prelude.{ℕ, ◌≡◌};
+ghost use Rattle.item_progress.specs.declared.news.News.TheVariants as news;
+ghost use Rattle.std.specs.Prelude.{IfOk, OnOk, ℕ, ◌≡◌};
 
 use crate::client::Client;
 use client_state::{Drew, Phase, Sending, Sent, Transaction};
 use item_progress::{News, Opened};
 use message_outbox::At;
 use port::Port;
-use refusal_reasons::Reason;
 use thor_value::{NoMemory, Repos, Sequence, Ts, Who};
 use validation_window::Refusal;
 
@@ -25,6 +27,7 @@ impl Client {
     ) -> Result<News, NoMemory>
         ensures acts { ActsIf Q.shows (Q.view port.old) (Q.view port.new) }
         ensures shown { ShownIf Q.shows (Q.view port.old) (Q.view port.new) opened.now.repos result }
+        ensures moves { OnOk result (SendsNothingIf Q.shows (Q.view port.old) (Q.view port.new) self.old.held self.new.held) }
         ensures rises { Rises self.old.held self.new.held }
     {
         let apart = self.held.first_apart(&transaction.participants);
@@ -40,7 +43,7 @@ impl Client {
     fn draw<Q: Port>(&mut self, port: &mut Q, coordinator: u8) -> Result<News, NoMemory>
         ensures acts { ActsIf Q.shows (Q.view port.old) (Q.view port.new) }
         ensures shown { (repos : ℕ) → ShownIf Q.shows (Q.view port.old) (Q.view port.new) repos result }
-        ensures moves { MovesIf Q.shows (Q.view port.old) (Q.view port.new) self.old.held self.new.held }
+        ensures moves { SendsNothingIf Q.shows (Q.view port.old) (Q.view port.new) self.old.held self.new.held }
         ensures rises { Rises self.old.held self.new.held }
     {
         let Some(at) = self.held.at(coordinator) else {
@@ -67,6 +70,7 @@ impl Client {
     ) -> Result<News, NoMemory>
         ensures acts { ActsIf Q.shows (Q.view port.old) (Q.view port.new) }
         ensures shown { ShownIf Q.shows (Q.view port.old) (Q.view port.new) opened.now.repos result }
+        ensures moves { NoneAwaits 8 self.old.held.links.items → OnOk result (MovesIf Q.shows (Q.view port.old) (Q.view port.new) self.old.held self.new.held) }
         ensures rises { Rises self.old.held self.new.held }
     {
         self.held.names.spend();
@@ -86,6 +90,7 @@ impl Client {
     ) -> Result<News, NoMemory>
         ensures acts { ActsIf Q.shows (Q.view port.old) (Q.view port.new) }
         ensures shown { sending.request.tx ≡ ts → ShownIf Q.shows (Q.view port.old) (Q.view port.new) opened.now.repos result }
+        ensures moves { IsOfSession self.old.held.links.items sending → NoneAwaits 8 self.old.held.links.items → OnOk result (MovesIf Q.shows (Q.view port.old) (Q.view port.new) self.old.held self.new.held) }
         ensures rises { Rises self.old.held self.new.held }
     {
         if transaction.participants.len() == 1 {
@@ -103,6 +108,7 @@ impl Client {
     ) -> Result<News, NoMemory>
         ensures acts { ActsIf Q.shows (Q.view port.old) (Q.view port.new) }
         ensures shown { sending.request.tx ≡ sent.ts → ShownIf Q.shows (Q.view port.old) (Q.view port.new) opened.now.repos result }
+        ensures moves { IsOfSession self.old.held.links.items sending → NoneAwaits 8 self.old.held.links.items → MovesIf Q.shows (Q.view port.old) (Q.view port.new) self.old.held self.new.held }
         ensures rises { Rises self.old.held self.new.held }
     {
         let Sending { at, request } = sending;
@@ -125,6 +131,7 @@ impl Client {
     ) -> Result<News, NoMemory>
         ensures acts { ActsIf Q.shows (Q.view port.old) (Q.view port.new) }
         ensures shown { (repos : ℕ) → ShownIf Q.shows (Q.view port.old) (Q.view port.new) repos result }
+        ensures moves { IsOfSession self.old.held.links.items sending → NoneAwaits 8 self.old.held.links.items → MovesIf Q.shows (Q.view port.old) (Q.view port.new) self.old.held self.new.held }
         ensures rises { Rises self.old.held self.new.held }
     {
         let Sending { at, request } = sending;
@@ -156,6 +163,7 @@ impl Client {
     ) -> Result<News, NoMemory>
         ensures acts { ActsIf Q.shows (Q.view port.old) (Q.view port.new) }
         ensures shown { ShownIf Q.shows (Q.view port.old) (Q.view port.new) opened.now.repos result }
+        ensures moves { NoneAwaits 8 self.old.held.links.items → OnOk result (MovesIf Q.shows (Q.view port.old) (Q.view port.new) self.old.held self.new.held) }
         ensures rises { Rises self.old.held self.new.held }
     {
         if transaction.shares.is_empty() {
@@ -175,6 +183,7 @@ impl Client {
     ) -> Result<News, NoMemory>
         ensures acts { ActsIf Q.shows (Q.view port.old) (Q.view port.new) }
         ensures shown { (repos : ℕ) → ShownIf Q.shows (Q.view port.old) (Q.view port.new) repos result }
+        ensures moves { NoneAwaits 8 self.old.held.links.items → MovesIf Q.shows (Q.view port.old) (Q.view port.new) self.old.held self.new.held }
         ensures rises { Rises self.old.held self.new.held }
     {
         let sending = self.held.next_sending(who, ts, &mut transaction);
@@ -194,6 +203,7 @@ impl Client {
     fn prepare<Q: Port>(&mut self, port: &mut Q, sending: Sending) -> Result<News, NoMemory>
         ensures acts { ActsIf Q.shows (Q.view port.old) (Q.view port.new) }
         ensures shown { (repos : ℕ) → ShownIf Q.shows (Q.view port.old) (Q.view port.new) repos result }
+        ensures moves { IsOfSession self.old.held.links.items sending → NoneAwaits 8 self.old.held.links.items → MovesIf Q.shows (Q.view port.old) (Q.view port.new) self.old.held self.new.held }
         ensures rises { Rises self.old.held self.new.held }
     {
         let Sending { at, request } = sending;
@@ -216,24 +226,32 @@ impl Client {
     ) -> Result<News, NoMemory>
         ensures acts { ActsIf Q.shows (Q.view port.old) (Q.view port.new) }
         ensures shown { ShownIf Q.shows (Q.view port.old) (Q.view port.new) opened.now.repos result }
+        ensures moves { NoneAwaits 8 self.old.held.links.items → OnOk result (MovesIf Q.shows (Q.view port.old) (Q.view port.new) self.old.held self.new.held) }
         ensures rises { Rises self.old.held self.new.held }
     {
         match port.decide(coordinator, sent.ts, true) {
             Ok(verdict) => self.learn_own(opened, sent, coordinator.repo, verdict),
-            Err(Refusal::NoMemory) => Err(NoMemory),
-            Err(Refusal::Reason(Reason::Gone { session })) => {
-                self.held.lose(coordinator.repo, session);
-                self.begin_asking(sent);
-                Ok(News::Nothing)
-            }
-            Err(_) => {
-                self.begin_asking(sent);
-                Ok(News::Nothing)
-            }
+            Err(refusal) => self.ask_behind(coordinator.repo, sent, refusal),
         }
     }
 
+    /// The coordinator has refused to decide: it is asked for the verdict. A session that is gone is lost.
+    fn ask_behind(&mut self, repo: u8, sent: Sent, refusal: Refusal) -> Result<News, NoMemory>
+        ensures news { IfOk result (λ n. n ≡ news.Nothing) }
+        ensures loses { Loses refusal repo self.old.held self.new.held }
+        ensures client { self.new.held.client ≡ self.old.held.client }
+        ensures rises { Rises self.old.held self.new.held }
+    {
+        if let Refusal::NoMemory = refusal {
+            return Err(NoMemory);
+        }
+        let _ = self.held.lose_gone(repo, refusal);
+        self.begin_asking(sent);
+        Ok(News::Nothing)
+    }
+
     fn begin_asking(&mut self, sent: Sent)
+        ensures held { self.new.held ≡ self.old.held }
         ensures rises { Rises self.old.held self.new.held }
     {
         self.set_phase(Phase::Asking { sent, answers: 0 });

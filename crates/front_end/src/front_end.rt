@@ -2,10 +2,12 @@
 
 ghost use Rattle.client_state.specs.Learning.{};
 ghost use Rattle.client_state.specs.Learning.{Rises};
+ghost use Rattle.client_state.specs.Moving.{InSession, MovesIf};
 ghost use Rattle.client_state.specs.Owing.{asking_in};
 ghost use Rattle.front_end.specs.Showing.{GoesShown, ItemsShown};
 ghost use Rattle.port.specs.Acting.{ActsIf};
 ghost use Rattle.front_end.specs.Moving.{GoesOn, Keeps, MovesOn, course_of, held_of, left_of, standing_of, steps_left, tries_of, uncounted};
+ghost use Rattle.front_end.specs.Rules.{MayFollow};
 ghost use Rattle.front_end.specs.declared.front_end.Step.TheVariants as step;
 ghost use Rattle.item_progress.specs.Courses.{Goes, IsInOrder};
 ghost use Rattle.item_progress.specs.Ending.{EndsBy, GoesBy, ends_try};
@@ -87,6 +89,7 @@ impl FrontEnd {
         ensures steps { result ≡ Ok step.Moved → steps_left self.new < steps_left self.old }
         ensures acts { ActsIf Q.shows (Q.view port.old) (Q.view port.new) }
         ensures shown { ItemsShown Q.shows (Q.view port.old) (Q.view port.new) opened.now.repos self.old self.new }
+        ensures moves { OnOk result (MovesIf Q.shows (Q.view port.old) (Q.view port.new) (held_of self.old) (held_of self.new)) }
         ensures rises { Rises (held_of self.old) (held_of self.new) }
     {
         if self.has_ended() {
@@ -112,6 +115,7 @@ impl FrontEnd {
         ensures falls { MovesOn self.old → OnOk result (Falls (left_of self.old) (left_of self.new)) }
         ensures acts { ActsIf Q.shows (Q.view port.old) (Q.view port.new) }
         ensures shown { ItemsShown Q.shows (Q.view port.old) (Q.view port.new) opened.now.repos self.old self.new }
+        ensures moves { OnOk result (MovesIf Q.shows (Q.view port.old) (Q.view port.new) (held_of self.old) (held_of self.new)) }
         ensures rises { Rises (held_of self.old) (held_of self.new) }
     {
         match self.client.duties.abort.take() {
@@ -128,6 +132,7 @@ impl FrontEnd {
         ensures falls { GoesOn self.old → OnOk result (Falls (left_of self.old) (left_of self.new)) }
         ensures acts { ActsIf Q.shows (Q.view port.old) (Q.view port.new) }
         ensures shown { ItemsShown Q.shows (Q.view port.old) (Q.view port.new) opened.now.repos self.old self.new }
+        ensures moves { OnOk result (MovesIf Q.shows (Q.view port.old) (Q.view port.new) (held_of self.old) (held_of self.new)) }
         ensures rises { Rises (held_of self.old) (held_of self.new) }
     {
         match self.client.next_rule(opened) {
@@ -150,6 +155,7 @@ impl FrontEnd {
         ensures falls { GoesOn self.old → OnOk result (Falls (left_of self.old) (left_of self.new)) }
         ensures acts { ActsIf Q.shows (Q.view port.old) (Q.view port.new) }
         ensures shown { ItemsShown Q.shows (Q.view port.old) (Q.view port.new) opened.now.repos self.old self.new }
+        ensures moves { MayFollow rule (held_of self.old) → OnOk result (MovesIf Q.shows (Q.view port.old) (Q.view port.new) (held_of self.old) (held_of self.new)) }
         ensures rises { Rises (held_of self.old) (held_of self.new) }
     {
         if !self.count_call() {
@@ -183,6 +189,7 @@ impl FrontEnd {
         ensures left { OnOk result (NeverRises (standing_of self.old) (standing_of self.new)) }
         ensures acts { ActsIf Q.shows (Q.view port.old) (Q.view port.new) }
         ensures shown { (calls : ℕ) → GoesShown Q.shows (Q.view port.old) (Q.view port.new) opened.now.repos (tries_of self.old) calls (course_of self.old) (course_of self.new) }
+        ensures moves { MayFollow rule (held_of self.old) → OnOk result (MovesIf Q.shows (Q.view port.old) (Q.view port.new) (held_of self.old) (held_of self.new)) }
         ensures rises { Rises (held_of self.old) (held_of self.new) }
     {
         let task = self.progress.task(opened, self.attempts.each);
@@ -198,6 +205,7 @@ impl FrontEnd {
         ensures falls { IsSome (asking_in self.old.client.phase) → OnOk result (Falls (left_of self.old) (left_of self.new)) }
         ensures acts { ActsIf Q.shows (Q.view port.old) (Q.view port.new) }
         ensures shown { ItemsShown Q.shows (Q.view port.old) (Q.view port.new) opened.now.repos self.old self.new }
+        ensures moves { OnOk result (MovesIf Q.shows (Q.view port.old) (Q.view port.new) (held_of self.old) (held_of self.new)) }
         ensures rises { Rises (held_of self.old) (held_of self.new) }
     {
         let task = self.progress.task(opened, self.attempts.each);
@@ -214,6 +222,7 @@ impl FrontEnd {
         ensures falls { GoesOn self.old → OnOk result (Falls (left_of self.old) (left_of self.new)) }
         ensures acts { ActsIf Q.shows (Q.view port.old) (Q.view port.new) }
         ensures shown { (repos : ℕ) → most_calls ≤ self.old.attempts.calls → ItemsShown Q.shows (Q.view port.old) (Q.view port.new) repos self.old self.new }
+        ensures moves { OnOk result (MovesIf Q.shows (Q.view port.old) (Q.view port.new) (held_of self.old) (held_of self.new)) }
         ensures rises { Rises (held_of self.old) (held_of self.new) }
     {
         if self.progress.has_ended() {
@@ -223,31 +232,19 @@ impl FrontEnd {
         self.take_down(news)
     }
 
-    /// Takes down what a step has come to. Where it is the end of a try and no item is left, what held a next
-    /// try back is given up, since none begins.
+    /// Takes down what a step has come to.
     fn take_down(&mut self, news: News) -> Result<(), NoMemory>
         ensures goes { Goes (course_of self.old) (course_of self.new) }
         ensures each { tries_of self.new ≡ tries_of self.old }
         ensures left { OnOk result (NeverRises (standing_of self.old) (standing_of self.new)) }
         ensures tried { ends_try news ≡ true → IsLeft (course_of self.old) → OnOk result (CountsDown (standing_of self.old) (standing_of self.new)) }
         ensures uncounted { (tries : ℕ) → uncounted tries self.new.client ≡ uncounted tries self.old.client }
+        ensures client { self.new.client ≡ self.old.client }
         ensures told { GoesBy (tries_of self.old) news (course_of self.old) (course_of self.new) }
         ensures ends { OnOk result (EndsBy self.old.attempts news (course_of self.old) (course_of self.new)) }
         ensures rises { Rises (held_of self.old) (held_of self.new) }
     {
-        self.stop_waiting_behind(&news);
         self.progress.take_down(&mut self.attempts, news)
-    }
-
-    /// What held a next try back is given up, where a try has ended and no item is left.
-    fn stop_waiting_behind(&mut self, news: &News)
-        ensures rest { self.new ≡ record self.old { client = self.new.client } }
-        ensures uncounted { (tries : ℕ) → uncounted tries self.new.client ≡ uncounted tries self.old.client }
-        ensures rises { Rises (held_of self.old) (held_of self.new) }
-    {
-        if news.ends_try() && self.progress.has_ended() {
-            self.client.stop_waiting();
-        }
     }
 
     /// Takes one message of a repository, where there is a session. Nothing changes where none waits,
@@ -262,6 +259,7 @@ impl FrontEnd {
         ensures keeps { OnOk result (Keeps (left_of self.old) (left_of self.new)) }
         ensures acts { ActsIf Q.shows (Q.view port.old) (Q.view port.new) }
         ensures shown { ItemsShown Q.shows (Q.view port.old) (Q.view port.new) opened.now.repos self.old self.new }
+        ensures moves { OnOk result (MovesIf Q.shows (Q.view port.old) (Q.view port.new) (held_of self.old) (held_of self.new)) }
         ensures rises { Rises (held_of self.old) (held_of self.new) }
     {
         match self.client.held.at(repo) {
@@ -277,6 +275,7 @@ impl FrontEnd {
         ensures keeps { OnOk result (Keeps (left_of self.old) (left_of self.new)) }
         ensures acts { ActsIf Q.shows (Q.view port.old) (Q.view port.new) }
         ensures shown { ItemsShown Q.shows (Q.view port.old) (Q.view port.new) opened.now.repos self.old self.new }
+        ensures moves { InSession at (held_of self.old) → OnOk result (MovesIf Q.shows (Q.view port.old) (Q.view port.new) (held_of self.old) (held_of self.new)) }
         ensures rises { Rises (held_of self.old) (held_of self.new) }
     {
         let news = self.client.receive_delivered(port, opened, at)?;
@@ -301,6 +300,7 @@ impl FrontEnd {
         ensures keeps { OnOk result (Keeps (left_of self.old) (left_of self.new)) }
         ensures acts { ActsIf Q.shows (Q.view port.old) (Q.view port.new) }
         ensures shown { ItemsShown Q.shows (Q.view port.old) (Q.view port.new) opened.now.repos self.old self.new }
+        ensures moves { OnOk result (MovesIf Q.shows (Q.view port.old) (Q.view port.new) (held_of self.old) (held_of self.new)) }
         ensures rises { Rises (held_of self.old) (held_of self.new) }
     {
         let news = self.client.ask_last(port, opened, repo)?;

@@ -1,8 +1,11 @@
 //! The third rule: the client helps on a transaction that stood against its request.
 
 ghost use Rattle.client_state.specs.Learning.{Rises};
+ghost use Rattle.client_state.specs.Moving.{MovesIf};
+ghost use Rattle.client_state.specs.declared.held.Held.{Held};
 ghost use Rattle.front_end.specs.Showing.{ShownIf};
 ghost use Rattle.port.specs.Acting.{ActsIf};
+ghost use Rattle.std.specs.Prelude.{OnOk};
 
 use crate::client::Client;
 use client_state::Helping;
@@ -22,6 +25,7 @@ impl Client {
     ) -> Result<News, NoMemory>
         ensures acts { ActsIf Q.shows (Q.view port.old) (Q.view port.new) }
         ensures shown { ShownIf Q.shows (Q.view port.old) (Q.view port.new) opened.now.repos result }
+        ensures moves { OnOk result (MovesIf Q.shows (Q.view port.old) (Q.view port.new) self.old.held self.new.held) }
         ensures rises { Rises self.old.held self.new.held }
     {
         self.duties.helping = None;
@@ -45,6 +49,7 @@ impl Client {
     ) -> Result<News, NoMemory>
         ensures acts { ActsIf Q.shows (Q.view port.old) (Q.view port.new) }
         ensures shown { ShownIf Q.shows (Q.view port.old) (Q.view port.new) opened.now.repos result }
+        ensures moves { OnOk result (MovesIf Q.shows (Q.view port.old) (Q.view port.new) self.old.held self.new.held) }
         ensures rises { Rises self.old.held self.new.held }
     {
         if ts.repo >= opened.repos {
@@ -68,6 +73,7 @@ impl Client {
 /// Hands a verdict to a repository. A refusal leaves it to whoever asks later.
 fn finish<Q: Port>(port: &mut Q, verdict: Verdict, repo: u8) -> Result<(), NoMemory>
     ensures acts { ActsIf Q.shows (Q.view port.old) (Q.view port.new) }
+    ensures moves { (held : Held) → MovesIf Q.shows (Q.view port.old) (Q.view port.new) held held }
 {
     match port.finish(repo, &verdict) {
         Ok(_) => Ok(()),

@@ -1,10 +1,12 @@
 //! How a session begins where a try needs one.
 
 ghost use Rattle.client_state.specs.Learning.{Rises};
-ghost use Rattle.client_state.specs.Moving.{IsApart, MovesIf};
+ghost use Rattle.client_state.specs.Links.{session_in};
+ghost use Rattle.client_state.specs.Moving.{SendsNothingIf};
 ghost use Rattle.front_end.specs.Showing.{ShownIf};
 ghost use Rattle.client_state.specs.Showing.{CameIf};
 ghost use Rattle.port.specs.Acting.{ActsIf};
+ghost use Rattle.std.specs.Prelude.{None, OnOk, slice_get, ◌≡◌};
 
 use crate::client::Client;
 use client_state::{Came, cause_of};
@@ -23,7 +25,7 @@ impl Client {
     ) -> Result<News, NoMemory>
         ensures acts { ActsIf Q.shows (Q.view port.old) (Q.view port.new) }
         ensures shown { ShownIf Q.shows (Q.view port.old) (Q.view port.new) opened.now.repos result }
-        ensures moves { IsApart repo self.old.held → MovesIf Q.shows (Q.view port.old) (Q.view port.new) self.old.held self.new.held }
+        ensures moves { session_in repo (slice_get self.old.held.links.items repo) ≡ None → OnOk result (SendsNothingIf Q.shows (Q.view port.old) (Q.view port.new) self.old.held self.new.held) }
         ensures rises { Rises self.old.held self.new.held }
     {
         let came = self.join(port, opened, repo)?;
@@ -40,7 +42,7 @@ impl Client {
     ) -> Result<Came, NoMemory>
         ensures acts { ActsIf Q.shows (Q.view port.old) (Q.view port.new) }
         ensures shown { CameIf Q.shows (Q.view port.old) (Q.view port.new) result }
-        ensures moves { IsApart repo self.old.held → MovesIf Q.shows (Q.view port.old) (Q.view port.new) self.old.held self.new.held }
+        ensures moves { session_in repo (slice_get self.old.held.links.items repo) ≡ None → OnOk result (SendsNothingIf Q.shows (Q.view port.old) (Q.view port.new) self.old.held self.new.held) }
         ensures rises { Rises self.old.held self.new.held }
     {
         match self.held.unsettled(repo) {
@@ -60,6 +62,7 @@ impl Client {
     ) -> Result<Came, NoMemory>
         ensures acts { ActsIf Q.shows (Q.view port.old) (Q.view port.new) }
         ensures shown { CameIf Q.shows (Q.view port.old) (Q.view port.new) result }
+        ensures moves { OnOk result (SendsNothingIf Q.shows (Q.view port.old) (Q.view port.new) self.old.held self.new.held) }
         ensures rises { Rises self.old.held self.new.held }
     {
         match port.ask(repo, ts) {

@@ -1,12 +1,15 @@
 //! What a client does with the messages of a repository.
 
 ghost use Rattle.client_state.specs.Learning.{Rises};
+ghost use Rattle.client_state.specs.Moving.{InSession, Loses, MovesIf};
+ghost use Rattle.client_state.specs.Receiving.{EndsReceive, IsNotGone, ReceivesNone, TakesCopies};
 ghost use Rattle.front_end.specs.Showing.{NewsShown, ShownIf, SomeShownIf};
 ghost use Rattle.port.specs.Acting.{ActsIf, IsTaken, Refuses};
 ghost use Rattle.port.specs.Views.{View};
 ghost use Rattle.front_end.specs.Moving.{uncounted};
 ghost use Rattle.message_outbox.specs.declared.message.Message.TheVariants as message;
-ghost use Rattle.std.specs.Prelude.{IfOk, IsTrue, List, OnOk, ℕ, ◌≡◌, ◌≤◌};
+ghost use Rattle.item_progress.specs.declared.news.News.TheVariants as news;
+ghost use Rattle.std.specs.Prelude.{IfOk, IsTrue, List, None, OnOk, not, ℕ, ◌≡◌, ◌≤◌};
 
 use crate::client::Client;
 use client_state::cause_of;
@@ -34,29 +37,46 @@ impl Client {
         port: &mut Q,
         opened: &Opened,
         at: At,
+        left: bool,
     ) -> Result<Option<News>, NoMemory>
         ensures acts { ActsIf Q.shows (Q.view port.old) (Q.view port.new) }
         ensures shown { SomeShownIf Q.shows (Q.view port.old) (Q.view port.new) opened.now.repos result }
+        ensures moves { InSession at self.old.held → OnOk result (MovesIf Q.shows (Q.view port.old) (Q.view port.new) self.old.held self.new.held) }
+        ensures none { IfOk result (λ some. some ≡ None → ReceivesNone Q.shows (Q.view port.old) (Q.view port.new) at self.old.held self.new.held) }
         ensures rises { Rises self.old.held self.new.held }
     {
         match self.held.receive(port, at) {
             Ok(Some(message)) => Ok(Some(self.take(opened, at.repo, message)?)),
             Ok(None) => Ok(None),
-            Err(refusal) => Ok(Some(self.end_unless_gone(at.repo, refusal)?)),
+            Err(refusal) => Ok(Some(self.end_unless_gone(at.repo, refusal, left)?)),
         }
     }
 
     /// No message was taken: where the session is gone it is lost, else the try ends.
-    fn end_unless_gone(&mut self, repo: u8, refusal: Refusal) -> Result<News, NoMemory>
+    fn end_unless_gone(&mut self, repo: u8, refusal: Refusal, left: bool) -> Result<News, NoMemory>
         ensures shown { IfOk result (λ news. (old new : View) (repos : ℕ) → Refuses old new repo refusal → NewsShown old new repos news) }
+        ensures ends { OnOk result (EndsReceive refusal repo self.old.held self.new.held) }
         ensures rises { Rises self.old.held self.new.held }
     {
-        if let Refusal::Reason(Reason::Gone { session }) = refusal {
-            self.lose_in_receive(repo, session);
+        if self.lose_in_receive(repo, refusal) {
             return Ok(News::Nothing);
         }
         let cause = cause_of(refusal, repo)?;
-        Ok(self.end_try(cause))
+        Ok(self.end_in_outage(repo, cause, left))
+    }
+
+    /// No message could be taken, and the try ends. Where no item is left, none is waited for.
+    fn end_in_outage(&mut self, repo: u8, cause: Cause, left: bool) -> News
+        ensures news { result ≡ news.TryEnded cause }
+        ensures ends { (refusal : Refusal) → IsNotGone refusal → EndsReceive refusal repo self.old.held self.new.held }
+        ensures rises { Rises self.old.held self.new.held }
+    {
+        if left {
+            return self.end_try(cause);
+        }
+        let news = self.end_try(cause);
+        self.stop_waiting(repo);
+        news
     }
 
     /// Takes a message by a delivery. A repository that is down changes nothing.
@@ -69,35 +89,56 @@ impl Client {
         ensures owed { OnOk result ((tries : ℕ) → uncounted tries self.new ≤ uncounted tries self.old) }
         ensures acts { ActsIf Q.shows (Q.view port.old) (Q.view port.new) }
         ensures shown { ShownIf Q.shows (Q.view port.old) (Q.view port.new) opened.now.repos result }
+        ensures moves { InSession at self.old.held → OnOk result (MovesIf Q.shows (Q.view port.old) (Q.view port.new) self.old.held self.new.held) }
         ensures rises { Rises self.old.held self.new.held }
     {
         match self.held.receive(port, at) {
             Ok(Some(message)) => self.take(opened, at.repo, message),
             Ok(None) => Ok(News::Nothing),
-            Err(Refusal::Reason(Reason::Gone { session })) => {
-                self.lose_in_receive(at.repo, session);
-                Ok(News::Nothing)
-            }
-            Err(Refusal::NoMemory) => Err(NoMemory),
-            Err(_) => Ok(News::Nothing),
+            Err(refusal) => self.lose_delivered(at.repo, refusal),
         }
     }
 
-    /// The session was gone as a message was to be taken. A try that its coordinator has prepared goes on
-    /// as it is; any other begins its evaluation anew.
-    fn lose_in_receive(&mut self, repo: u8, session: u32)
+    /// No message was delivered: a session that is gone is lost, and nothing else changes.
+    fn lose_delivered(&mut self, repo: u8, refusal: Refusal) -> Result<News, NoMemory>
         ensures owed { (tries : ℕ) → uncounted tries self.new ≤ uncounted tries self.old }
+        ensures news { IfOk result (λ n. n ≡ news.Nothing) }
+        ensures loses { Loses refusal repo self.old.held self.new.held }
+        ensures client { self.new.held.client ≡ self.old.held.client }
         ensures rises { Rises self.old.held self.new.held }
     {
-        self.held.lose(repo, session);
+        if self.lose_in_receive(repo, refusal) {
+            return Ok(News::Nothing);
+        }
+        match refusal {
+            Refusal::NoMemory => Err(NoMemory),
+            _ => Ok(News::Nothing),
+        }
+    }
+
+    /// A session that was gone as a message was to be taken is lost. A try that its coordinator has prepared
+    /// goes on as it is; any other begins its evaluation anew. It answers whether the session was gone.
+    fn lose_in_receive(&mut self, repo: u8, refusal: Refusal) -> bool
+        ensures owed { (tries : ℕ) → uncounted tries self.new ≤ uncounted tries self.old }
+        ensures loses { Loses refusal repo self.old.held self.new.held }
+        ensures client { self.new.held.client ≡ self.old.held.client }
+        ensures rest { IsTrue (not result) → self.new.held ≡ self.old.held }
+        ensures gone { IsTrue (not result) → IsNotGone refusal }
+        ensures rises { Rises self.old.held self.new.held }
+    {
+        if !self.held.lose_gone(repo, refusal) {
+            return false;
+        }
         if self.phase.runs_unprepared() {
             self.begin_anew();
         }
+        true
     }
 
     fn take(&mut self, opened: &Opened, repo: u8, message: Message) -> Result<News, NoMemory>
         ensures owed { OnOk result ((tries : ℕ) → uncounted tries self.new ≤ uncounted tries self.old) }
         ensures shown { IfOk result (λ news. (old new : View) (repos : ℕ) → IsTaken old new repo message → NewsShown old new repos news) }
+        ensures takes { OnOk result (TakesCopies repo message self.old.held self.new.held) }
         ensures rises { Rises self.old.held self.new.held }
     {
         match message {
@@ -112,6 +153,7 @@ impl Client {
     fn take_page(&mut self, repo: u8, page: u32, bytes: &Text) -> Result<News, NoMemory>
         ensures owed { OnOk result ((tries : ℕ) → uncounted tries self.new ≤ uncounted tries self.old) }
         ensures shown { IfOk result (λ news. (old new : View) (repos : ℕ) → (place : ℕ) → IsTaken old new repo (message.Page page bytes.now place) → NewsShown old new repos news) }
+        ensures takes { (place : ℕ) → OnOk result (TakesCopies repo (message.Page page bytes.now place) self.old.held self.new.held) }
         ensures rises { Rises self.old.held self.new.held }
     {
         self.held.place(repo, page, bytes)?;
@@ -127,6 +169,7 @@ impl Client {
     fn take_grant(&mut self, repo: u8, page: u32) -> Result<News, NoMemory>
         ensures owed { OnOk result ((tries : ℕ) → uncounted tries self.new ≤ uncounted tries self.old) }
         ensures shown { IfOk result (λ news. (old new : View) (repos : ℕ) → NewsShown old new repos news) }
+        ensures takes { (place : ℕ) → OnOk result (TakesCopies repo (message.Grant page place) self.old.held self.new.held) }
         ensures rises { Rises self.old.held self.new.held }
     {
         let bytes = Page::empty(self.held.alloc, page)?.spell()?;
@@ -141,6 +184,7 @@ impl Client {
     fn take_invalid(&mut self, orefs: &Orefs, place: u64) -> News
         ensures owed { (tries : ℕ) → uncounted tries self.new ≤ uncounted tries self.old }
         ensures shown { (old new : View) (repos : ℕ) → (repo : ℕ) → IsTaken old new repo (message.Invalid orefs.now place) → NewsShown old new repos result }
+        ensures takes { (repo : ℕ) → TakesCopies repo (message.Invalid orefs.now place) self.old.held self.new.held }
         ensures rises { Rises self.old.held self.new.held }
     {
         self.held.drop_copies(orefs);
@@ -154,6 +198,7 @@ impl Client {
     fn take_upgrade(&mut self, opened: &Opened, number: u32) -> News
         ensures owed { (tries : ℕ) → uncounted tries self.new ≤ uncounted tries self.old }
         ensures shown { (old new : View) (repos : ℕ) → (repo place : ℕ) (text : List ℕ) → IsTaken old new repo (message.Upgrade number text place) → NewsShown old new repos result }
+        ensures takes { (repo place : ℕ) (text : List ℕ) → TakesCopies repo (message.Upgrade number text place) self.old.held self.new.held }
         ensures rises { Rises self.old.held self.new.held }
     {
         if self.held.learn_next_epoch(opened, number) && self.phase.runs() {

@@ -1,11 +1,14 @@
 //! What becomes of items whose verdict is known.
 
 ghost use Rattle.client_state.specs.Learning.{Rises};
+ghost use Rattle.client_state.specs.Moving.{HoldsLess, KeepsTry, MaySettle, SendsNothingIf};
+ghost use Rattle.client_state.specs.declared.held.Held.{Held};
+ghost use Rattle.front_end.specs.Moving.{TakesUnsettled};
 ghost use Rattle.front_end.specs.Showing.{NewsShown, ShownIf};
 ghost use Rattle.port.specs.Acting.{ActsIf, IsDecided};
 ghost use Rattle.port.specs.Views.{View};
 ghost use Rattle.item_progress.specs.Courses.{IsDownAt, is_committed};
-ghost use Rattle.std.specs.Prelude.{◌≡◌, IfOk, IfSome, true, ℕ};
+ghost use Rattle.std.specs.Prelude.{◌≡◌, IfOk, IfSome, None, OnOk, true, ℕ};
 
 use crate::client::Client;
 use client_state::{Link, Sent};
@@ -20,6 +23,7 @@ impl Client {
     pub fn end_committed(&mut self, opened: &Opened, sent: Sent) -> News
         ensures shown { (old new : View) (repos : ℕ) → IsDecided old new sent.ts true → NewsShown old new repos result }
         ensures rest { self.new ≡ record self.old { held = self.new.held } }
+        ensures keeps { KeepsTry self.old.held self.new.held }
         ensures rises { Rises self.old.held self.new.held }
     {
         let Sent { ts, meaning, .. } = sent;
@@ -34,6 +38,7 @@ impl Client {
     /// whether the epoch rises.
     fn learn_commit(&mut self, opened: &Opened, ts: Ts, meaning: &Meaning) -> bool
         ensures rest { self.new ≡ record self.old { held = self.new.held } }
+        ensures held { self.new.held ≡ record self.old.held { floor = self.new.held.floor; learnt = self.new.held.learnt } }
         ensures rises { Rises self.old.held self.new.held }
     {
         self.held.raise_floor(ts);
@@ -54,18 +59,54 @@ impl Client {
         ensures stands { IfOk result (λ learnt. IfSome learnt (λ l. is_committed l.settled.outcome ≡ verdict.commit)) }
         ensures tx { IfOk result (λ learnt. IfSome learnt (λ l. l.settled.ts ≡ verdict.tx)) }
         ensures down { IfOk result (λ learnt. IfSome learnt (λ l. IsDownAt repo l.settled.outcome)) }
+        ensures settles { OnOk result (MaySettle repo self.old.held self.new.held) }
+        ensures rises { Rises self.old.held self.new.held }
+    {
+        match self.take_unsettled(repo) {
+            Some((sent, index)) => self.learn_of(opened, repo, sent, index, verdict),
+            None => Ok(None),
+        }
+    }
+
+    /// Takes what was sent of an Unknown item, and its index, out of the link of the repository that coordinates it, if there
+    /// is one. The repository is apart then.
+    fn take_unsettled(&mut self, repo: u8) -> Option<(Sent, u32)>
+        ensures taken { IfSome result (λ some. TakesUnsettled repo some.0 some.1 self.old.held self.new.held) }
+        ensures none { result ≡ None → HoldsLess self.old.held self.new.held }
+        ensures rest { self.new ≡ record self.old { held = self.new.held } }
         ensures rises { Rises self.old.held self.new.held }
     {
         match self.held.take_link(repo) {
-            Link::Unsettled { sent, index } if sent.ts == verdict.tx() => {
-                self.duties.hand_on(verdict, sent.others()?)?;
-                Ok(Some(self.settle(opened, sent, index, repo, verdict)))
-            }
+            Link::Unsettled { sent, index } => Some((sent, index)),
             link => {
                 self.held.set_link(repo, link);
-                Ok(None)
+                None
             }
         }
+    }
+
+    /// The verdict on a transaction was told by the repository that coordinates an Unknown item. Where it is the item's,
+    /// that has ended; else the item stays Unknown.
+    fn learn_of(
+        &mut self,
+        opened: &Opened,
+        repo: u8,
+        sent: Sent,
+        index: u32,
+        verdict: Verdict,
+    ) -> Result<Option<Learnt>, NoMemory>
+        ensures stands { IfOk result (λ learnt. IfSome learnt (λ l. is_committed l.settled.outcome ≡ verdict.commit)) }
+        ensures tx { IfOk result (λ learnt. IfSome learnt (λ l. l.settled.ts ≡ verdict.tx)) }
+        ensures down { IfOk result (λ learnt. IfSome learnt (λ l. IsDownAt repo l.settled.outcome)) }
+        ensures settles { (before : Held) → TakesUnsettled repo sent index before self.old.held → OnOk result (MaySettle repo before self.new.held) }
+        ensures rises { Rises self.old.held self.new.held }
+    {
+        if sent.ts != verdict.tx() {
+            self.held.set_link(repo, Link::Unsettled { sent, index });
+            return Ok(None);
+        }
+        self.duties.hand_on(verdict, sent.others()?)?;
+        Ok(Some(self.settle(opened, sent, index, repo, verdict)))
     }
 
     /// What becomes of an Unknown item by the verdict that a repository told: its transaction stands exactly where that commits.
@@ -81,6 +122,7 @@ impl Client {
         ensures tx { result.settled.ts ≡ sent.ts }
         ensures down { IsDownAt repo result.settled.outcome }
         ensures rest { self.new ≡ record self.old { held = self.new.held } }
+        ensures held { self.new.held ≡ record self.old.held { floor = self.new.held.floor; learnt = self.new.held.learnt } }
         ensures rises { Rises self.old.held self.new.held }
     {
         let Sent { ts, meaning, .. } = sent;
@@ -102,15 +144,30 @@ impl Client {
         ensures rest { self.new ≡ record self.old { held = self.new.held } }
         ensures acts { ActsIf Q.shows (Q.view port.old) (Q.view port.new) }
         ensures shown { ShownIf Q.shows (Q.view port.old) (Q.view port.new) opened.now.repos result }
+        ensures moves { OnOk result (SendsNothingIf Q.shows (Q.view port.old) (Q.view port.new) self.old.held self.new.held) }
         ensures rises { Rises self.old.held self.new.held }
     {
-        let (sent, index) = match self.held.take_link(repo) {
-            Link::Unsettled { sent, index } => (sent, index),
-            link => {
-                self.held.set_link(repo, link);
-                return Ok(News::Nothing);
-            }
-        };
+        match self.take_unsettled(repo) {
+            Some((sent, index)) => self.ask_of(port, opened, repo, sent, index),
+            None => Ok(News::Nothing),
+        }
+    }
+
+    /// Asks about an Unknown item, which stays so where no verdict is told.
+    fn ask_of<Q: Port>(
+        &mut self,
+        port: &mut Q,
+        opened: &Opened,
+        repo: u8,
+        sent: Sent,
+        index: u32,
+    ) -> Result<News, NoMemory>
+        ensures rest { self.new ≡ record self.old { held = self.new.held } }
+        ensures acts { ActsIf Q.shows (Q.view port.old) (Q.view port.new) }
+        ensures shown { ShownIf Q.shows (Q.view port.old) (Q.view port.new) opened.now.repos result }
+        ensures moves { (before : Held) → TakesUnsettled repo sent index before self.old.held → OnOk result (SendsNothingIf Q.shows (Q.view port.old) (Q.view port.new) before self.new.held) }
+        ensures rises { Rises self.old.held self.new.held }
+    {
         match port.ask(repo, sent.ts) {
             Ok(Asked::Settled(verdict)) => {
                 let Learnt { settled, .. } = self.settle(opened, sent, index, repo, verdict);

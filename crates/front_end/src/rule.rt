@@ -1,11 +1,13 @@
 //! Which rule a step follows.
 
 ghost use Rattle.client_state.specs.Learning.{Rises};
+ghost use Rattle.client_state.specs.Links.{NoneAwaits};
+ghost use Rattle.client_state.specs.Moving.{MovesIf};
 ghost use Rattle.front_end.specs.Showing.{ShownIf};
 ghost use Rattle.port.specs.Acting.{ActsIf};
 ghost use Rattle.client_state.specs.Owing.{asking_in};
-ghost use Rattle.front_end.specs.Rules.{NothingHoldsBack, asks, goes_on, hands_on};
-ghost use Rattle.std.specs.Prelude.{IsSome, length, max, true, ◌<◌, ◌≡◌};
+ghost use Rattle.front_end.specs.Rules.{Follows, MayFollow, NothingHoldsBack, asks, goes_on, hands_on};
+ghost use Rattle.std.specs.Prelude.{IsSome, OnOk, length, max, true, ◌<◌, ◌≡◌};
 
 use crate::client::Client;
 use client_state::{Helping, Phase};
@@ -45,6 +47,7 @@ impl Client {
         ensures asks { asks result ≡ true → IsSome (asking_in self.now.phase) }
         ensures hands_on { hands_on result ≡ true → 0 < length self.now.duties.verdicts }
         ensures goes_on { goes_on result ≡ true → NothingHoldsBack (max opened.now.epoch self.now.held.learnt) self.now }
+        ensures follows { Follows result self.now.held }
     {
         if let Some(at) = self.held.awaited() {
             let rule = Counted::Await { at };
@@ -65,6 +68,7 @@ impl Client {
     fn rule_behind(&self) -> Rule
         ensures asks { asks result ≡ true → IsSome (asking_in self.now.phase) }
         ensures hands_on { hands_on result ≡ true → 0 < length self.now.duties.verdicts }
+        ensures follows { NoneAwaits 8 self.now.held.links.items → Follows result self.now.held }
     {
         if let Phase::Asking { .. } = &self.phase {
             return Rule::Ask;
@@ -86,11 +90,12 @@ impl Client {
     ) -> Result<News, NoMemory>
         ensures acts { ActsIf Q.shows (Q.view port.old) (Q.view port.new) }
         ensures shown { ShownIf Q.shows (Q.view port.old) (Q.view port.new) opened.now.repos result }
+        ensures moves { MayFollow rule self.old.held → OnOk result (MovesIf Q.shows (Q.view port.old) (Q.view port.new) self.old.held self.new.held) }
         ensures rises { Rises self.old.held self.new.held }
     {
         match rule {
-            Counted::Await { at } => self.await_reply(port, opened, at),
-            Counted::CatchUp { at } => self.catch_up(port, opened, at),
+            Counted::Await { at } => self.await_reply(port, opened, at, task.what.is_some()),
+            Counted::CatchUp { at } => self.catch_up(port, opened, at, task.what.is_some()),
             Counted::Help { helping } => self.help(port, opened, helping),
             Counted::GoOn => self.go_on(port, opened, task),
         }

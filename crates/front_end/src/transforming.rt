@@ -3,12 +3,13 @@
 //! Lazy transforms are those of Boyapati and others (OOPSLA 2003).
 
 ghost use Rattle.client_state.specs.Learning.{Rises};
-ghost use Rattle.client_state.specs.Links.{session_in};
-ghost use Rattle.client_state.specs.Moving.{MovesIf};
+ghost use Rattle.client_state.specs.Links.{NoneAwaits, session_in};
+ghost use Rattle.client_state.specs.Moving.{KeepsMade, Learns, MovesIf, SendsNothingIf};
+ghost use Rattle.client_state.specs.Sending.{IsOfSession};
 ghost use Rattle.front_end.specs.Showing.{NewsShown, ShownIf};
 ghost use Rattle.port.specs.Acting.{ActsIf, Refuses};
 ghost use Rattle.port.specs.Views.{View};
-ghost use Rattle.std.specs.Prelude.{IfOk, Some, slice_get, ℕ, ◌≡◌};
+ghost use Rattle.std.specs.Prelude.{IfOk, OnOk, Some, [], slice_get, ℕ, ◌∷◌, ◌≡◌};
 
 use crate::client::Client;
 use client_state::{Becomes, Drew, Phase, Transform};
@@ -33,6 +34,7 @@ impl Client {
     ) -> Result<News, NoMemory>
         ensures acts { ActsIf Q.shows (Q.view port.old) (Q.view port.new) }
         ensures shown { ShownIf Q.shows (Q.view port.old) (Q.view port.new) opened.now.repos result }
+        ensures moves { NoneAwaits 8 self.old.held.links.items → OnOk result (SendsNothingIf Q.shows (Q.view port.old) (Q.view port.new) self.old.held self.new.held) }
         ensures rises { Rises self.old.held self.new.held }
     {
         self.held.undo();
@@ -52,6 +54,7 @@ impl Client {
     ) -> Result<News, NoMemory>
         ensures acts { ActsIf Q.shows (Q.view port.old) (Q.view port.new) }
         ensures shown { ShownIf Q.shows (Q.view port.old) (Q.view port.new) opened.now.repos result }
+        ensures moves { NoneAwaits 8 self.old.held.links.items → OnOk result (MovesIf Q.shows (Q.view port.old) (Q.view port.new) self.old.held self.new.held) }
         ensures rises { Rises self.old.held self.new.held }
     {
         let awaited = None;
@@ -72,6 +75,7 @@ impl Client {
     ) -> Result<News, NoMemory>
         ensures acts { ActsIf Q.shows (Q.view port.old) (Q.view port.new) }
         ensures shown { ShownIf Q.shows (Q.view port.old) (Q.view port.new) opened.now.repos result }
+        ensures moves { NoneAwaits 8 self.old.held.links.items → OnOk result (SendsNothingIf Q.shows (Q.view port.old) (Q.view port.new) self.old.held self.new.held) }
         ensures rises { Rises self.old.held self.new.held }
     {
         match self.held.collect(opened, &mut transform)? {
@@ -85,6 +89,7 @@ impl Client {
 
     /// The try goes on with this transform.
     fn go_on_with(&mut self, transform: Transform)
+        ensures held { self.new.held ≡ self.old.held }
         ensures rises { Rises self.old.held self.new.held }
     {
         let phase = self.take_phase().transforming(transform);
@@ -101,6 +106,7 @@ impl Client {
     ) -> Result<News, NoMemory>
         ensures acts { ActsIf Q.shows (Q.view port.old) (Q.view port.new) }
         ensures shown { ShownIf Q.shows (Q.view port.old) (Q.view port.new) opened.now.repos result }
+        ensures moves { NoneAwaits 8 self.old.held.links.items → OnOk result (SendsNothingIf Q.shows (Q.view port.old) (Q.view port.new) self.old.held self.new.held) }
         ensures rises { Rises self.old.held self.new.held }
     {
         let repo = transform.oref.repo;
@@ -126,7 +132,7 @@ impl Client {
     ) -> Result<News, NoMemory>
         ensures acts { ActsIf Q.shows (Q.view port.old) (Q.view port.new) }
         ensures shown { (repos : ℕ) → ShownIf Q.shows (Q.view port.old) (Q.view port.new) repos result }
-        ensures moves { session_in at.repo (slice_get self.old.held.links.items at.repo) ≡ Some at → MovesIf Q.shows (Q.view port.old) (Q.view port.new) self.old.held self.new.held }
+        ensures moves { session_in at.repo (slice_get self.old.held.links.items at.repo) ≡ Some at → SendsNothingIf Q.shows (Q.view port.old) (Q.view port.new) self.old.held self.new.held }
         ensures rises { Rises self.old.held self.new.held }
     {
         match self.held.draw(port, at)? {
@@ -146,6 +152,7 @@ impl Client {
     ) -> Result<News, NoMemory>
         ensures acts { ActsIf Q.shows (Q.view port.old) (Q.view port.new) }
         ensures shown { (repos : ℕ) → ShownIf Q.shows (Q.view port.old) (Q.view port.new) repos result }
+        ensures moves { NoneAwaits 8 self.old.held.links.items → OnOk result (MovesIf Q.shows (Q.view port.old) (Q.view port.new) self.old.held self.new.held) }
         ensures rises { Rises self.old.held self.new.held }
     {
         let oref = becomes.oref;
@@ -172,6 +179,7 @@ impl Client {
     ) -> Result<News, NoMemory>
         ensures acts { ActsIf Q.shows (Q.view port.old) (Q.view port.new) }
         ensures shown { (repos : ℕ) → ShownIf Q.shows (Q.view port.old) (Q.view port.new) repos result }
+        ensures moves { IsOfSession self.old.held.links.items (record { at = at; request = request }) → request.writes ≡ (oref, made) ∷ [] → NoneAwaits 8 self.old.held.links.items → OnOk result (MovesIf Q.shows (Q.view port.old) (Q.view port.new) self.old.held self.new.held) }
         ensures rises { Rises self.old.held self.new.held }
     {
         match port.commit_one(at, request) {
@@ -183,6 +191,7 @@ impl Client {
     /// The object is written. The evaluation begins anew.
     fn end_transform(&mut self, ts: Ts, oref: Oref, made: Obj) -> Result<News, NoMemory>
         ensures shown { IfOk result (λ news. (old new : View) (repos : ℕ) → NewsShown old new repos news) }
+        ensures keeps { OnOk result (KeepsMade oref made self.old.held self.new.held) }
         ensures rises { Rises self.old.held self.new.held }
     {
         self.held.raise_floor(ts);
@@ -195,11 +204,21 @@ impl Client {
     /// nobody asks for it.
     fn refuse_transform(&mut self, at: At, ts: Ts, refusal: Refusal) -> Result<News, NoMemory>
         ensures shown { IfOk result (λ news. (old new : View) (repos : ℕ) → Refuses old new at.repo refusal → NewsShown old new repos news) }
+        ensures learns { Learns refusal at.repo self.old.held self.new.held }
+        ensures client { self.new.held.client ≡ self.old.held.client }
         ensures rises { Rises self.old.held self.new.held }
     {
-        if let Refusal::Stopped { .. } = &refusal {
+        self.count_if_stopped(ts, refusal);
+        self.end_refused(at.repo, refusal)
+    }
+
+    /// The timestamp of a call that stopped is counted.
+    fn count_if_stopped(&mut self, ts: Ts, refusal: Refusal)
+        ensures rest { self.new.held ≡ record self.old.held { floor = self.new.held.floor } }
+        ensures rises { Rises self.old.held self.new.held }
+    {
+        if let Refusal::Stopped { .. } = refusal {
             self.held.raise_floor(ts);
         }
-        self.end_refused(at.repo, refusal)
     }
 }

@@ -1,7 +1,7 @@
 //! How a try goes on behind a call, begins anew, and ends.
 
 ghost use Rattle.client_state.specs.Learning.{KeepsBounds, Rises, floor_learnt, links_learnt};
-ghost use Rattle.client_state.specs.Moving.{HoldsLess, Learns};
+ghost use Rattle.client_state.specs.Moving.{HoldsLess, Learns, StopsWaiting};
 ghost use Rattle.client_state.specs.Showing.{CameShown, IsLearnt};
 ghost use Rattle.client_state.specs.declared.phase.Phase.TheVariants as phase;
 ghost use Rattle.front_end.specs.Moving.{uncounted};
@@ -121,7 +121,8 @@ impl Client {
         ensures shown { IfOk result (λ news. (old new : View) (repos : ℕ) → Refuses old new repo refusal → NewsShown old new repos news) }
         ensures links { OnOk result (self.new.held.links.items ≡ links_learnt refusal repo self.old.held.links.items) }
         ensures floor { OnOk result (self.new.held.floor ≡ floor_learnt refusal self.old.held.floor) }
-        ensures learns { OnOk result (Learns refusal repo self.old.held self.new.held) }
+        ensures learns { Learns refusal repo self.old.held self.new.held }
+        ensures client { self.new.held.client ≡ self.old.held.client }
         ensures rises { Rises self.old.held self.new.held }
     {
         let cause = cause_of(refusal, repo)?;
@@ -132,12 +133,15 @@ impl Client {
         Ok(self.end_try(cause))
     }
 
-    /// What holds a next try back is given up, since none is left.
-    pub fn stop_waiting(&mut self)
+    /// What holds a next try back is given up, since none is left. The reply that is outstanding at a repository isn't waited for
+    /// any more.
+    pub fn stop_waiting(&mut self, repo: u8)
+        ensures stops { StopsWaiting repo self.old.held self.new.held }
+        ensures held { self.new.held ≡ record self.old.held { links = self.new.held.links } }
         ensures uncounted { (tries : ℕ) → uncounted tries self.new ≡ uncounted tries self.old }
         ensures rises { Rises self.old.held self.new.held }
     {
-        self.held.stop_waiting();
+        self.held.stop_waiting(repo);
         self.duties.helping = None;
     }
 }

@@ -1,6 +1,5 @@
 -- What is kept in memory moves by an entry as its log does.
 use Rattle.std.proofs.Common.{◌≡◌, Bool, List, None, Option, Some, [], ◌∷◌, ap, arith, cond, false, max, not, refl, subst, sym, true, ℕ, ◌==◌, ◌+◌, ◌<◌, ◌^◌, ◌∙◌, ◌≤◌}
-use Rattle.std.proofs.lemmas.Bool.{not-true, and_parts}
 use Rattle.std.specs.List.{AllByRecursion, fold}
 use Rattle.std.specs.Ordering.{match_ordering}
 use Rattle.std.specs.Prelude.{IsTrue}
@@ -23,19 +22,18 @@ use Rattle.state_log.specs.Values.{writes_if}
 use Rattle.page_format.specs.Pages.{Contents as PageContents}
 use Rattle.page_store.specs.Store.{Store, refreshed, with_side}
 use Rattle.thor_value.proofs.NameOrders.{oref_exact}
-use Rattle.thor_value.specs.FiniteMap.{get}
 use Rattle.thor_value.specs.Names.{later_of, oref_cmp, ts_cmp}
 use Rattle.thor_value.specs.Spelling.{TsFits}
 use Rattle.thor_value.specs.declared.names.Oref.{Oref}
 use Rattle.thor_value.specs.declared.names.Ts.{Ts}
 use Rattle.thor_value.specs.declared.values.Obj.{Obj}
-use Rattle.two_phase.specs.Contents.{Contents, keeping, keeps, open_at, without}
+use Rattle.two_phase.specs.Contents.{Contents, keeping, open_at, without}
 use Rattle.two_phase.specs.Lists.{aborted_of, kept_decisions, open_requests}
 use Rattle.held_state.proofs.Buffers.{put_all_is}
 use Rattle.held_state.proofs.Kept.{each_filtered, fits_aborted, fits_alone, fits_keeping, fits_open, fits_without, of_writes, open_fits}
 use Rattle.held_state.proofs.Pages.{pages_within}
-use Rattle.held_state.proofs.Tables.{aborted_kept, aborted_open, absent_open, gone_kept, gone_open, is_new, keeping_kept, keeping_open, kept_is, more_kept, more_open, open_not_kept, opened_again, request_open}
-use Rattle.held_state.specs.Entering.{CanMove, IsNew, are_of, can_enter, committed_in, decided_by, entered, finished_by, installed_in, kept_in, loaded, opened_in, reached}
+use Rattle.held_state.proofs.Tables.{aborted_kept, aborted_open, absent_open, can_open, gone_kept, gone_open, keeping_kept, keeping_open, kept_is, more_kept, more_open, open_not_kept, opened_again, request_open}
+use Rattle.held_state.specs.Entering.{CanMove, IsNew, can_enter, committed_in, decided_by, entered, finished_by, installed_in, kept_in, loaded, opened_in, reached}
 use Rattle.held_state.specs.Keeps.{IsUnread, Keeps, TableFits}
 use Rattle.held_state.specs.Said.{said}
 use Rattle.held_state.specs.declared.held.Held.{Held}
@@ -86,12 +84,12 @@ module _ (h : Held) (keeps_h : Keeps h) where
   alone_is q =
       same_three (after (said h) (AnEntry (One q))) (with_all h.objects.mob.objects q.writes) (fold buffered h.objects.mob.objects q.writes) (open_requests h.table) (open_requests h.table) (kept_decisions h.table) (kept_decisions h.table) (put_all_is h.objects.mob.objects q.writes) refl refl
 
-  prepared_is : (q : Request) → keeps (get h.table.transactions q.tx) ≡ false → said (entered h (Prepared q)) ≡ after (said h) (AnEntry (Prepared q))
-  prepared_is q isnt =
+  prepared_is : (q : Request) → said (entered h (Prepared q)) ≡ after (said h) (AnEntry (Prepared q))
+  prepared_is q =
       let s = after (said h) (AnEntry (Prepared q)) in
       ap (λ (c : Contents). said (record (reached h q) { table = c; count = h.count + 1 })) (opened_again h.repo h.table keeps_h.table q)
-      ∙ same_three s h.objects.mob.objects h.objects.mob.objects (open_requests (opened_in h.table q)) s.prepared (kept_decisions (opened_in h.table q)) (kept_decisions h.table) refl
-      (more_open h.repo h.table keeps_h.table q) (more_kept h.repo h.table keeps_h.table q isnt)
+      ∙ same_three s h.objects.mob.objects h.objects.mob.objects (open_requests (opened_in h.table q)) s.prepared (kept_decisions (opened_in h.table q)) s.kept refl
+      (more_open h.repo h.table keeps_h.table q) (more_kept h.repo h.table keeps_h.table q)
 
   -- each entry moves what is said as the log's record of it does
   pub said_entered : (e : Entry) → IsTrue (can_enter h e) → said (entered h e) ≡ after (said h) (AnEntry e)
@@ -100,7 +98,7 @@ module _ (h : Held) (keeps_h : Keeps h) where
       same_three s h.objects.mob.objects h.objects.mob.objects (open_requests (aborted_of h.table h.repo)) s.prepared (kept_decisions (aborted_of h.table h.repo)) (kept_decisions h.table) refl (aborted_open h.repo h.repo h.table keeps_h.table) (aborted_kept h.repo h.table)
   said_entered (One q) can = alone_is q
   said_entered (Upgraded q) can = alone_is q
-  said_entered (Prepared q) can = prepared_is q (not-true (keeps (get h.table.transactions q.tx)) ((and_parts (not (keeps (get h.table.transactions q.tx))) (are_of h.repo q.writes) can).0))
+  said_entered (Prepared q) can = prepared_is q
   said_entered (Decided t commit) can =
       decided_is t commit (open_at h.table t) refl
       ∙ ap (λ (o : Option Request). record (kept_by (record (decided (said h) commit o) { prepared = opened_without (open_requests h.table) t }) t commit) { count = h.count + 1 }) (sym (request_open h.repo h.table keeps_h.table t))
@@ -193,7 +191,7 @@ module _ (h : Held) (keeps_h : Keeps h) where
   keeps_entered (Life n) fit can = changes (aborted_of h.table h.repo) n (h.count + 1) (fits_aborted h.repo h.table keeps_h.table h.repo) fit
   keeps_entered (One q) fit can = alone_keeps q fit (of_writes h.repo q.writes can fit.writes)
   keeps_entered (Upgraded q) fit can = alone_keeps q fit (of_writes h.repo q.writes can fit.writes)
-  keeps_entered (Prepared q) fit can = prepared_keeps q fit (of_writes h.repo q.writes ((and_parts (not (keeps (get h.table.transactions q.tx))) (are_of h.repo q.writes) can).1) fit.writes)
+  keeps_entered (Prepared q) fit can = prepared_keeps q fit (of_writes h.repo q.writes can fit.writes)
   keeps_entered (Decided t commit) fit can = decided_keeps t commit (open_at h.table t) (h.count + 1) fit refl
   keeps_entered (Finished t commit) fit can = finished_keeps t commit (open_at h.table t) (h.count + 1) refl
 
@@ -212,16 +210,16 @@ module _ (h : Held) (keeps_h : Keeps h) where
   loads_of (Decided t commit) fit can = settles_of t commit (open_at h.table t) refl
   loads_of (Finished t commit) fit can = settles_of t commit (open_at h.table t) refl
 
-  new_of : (e : Entry) → IsTrue (can_enter h e) → IsNew h e
-  new_of (Life n) can = tt
-  new_of (One q) can = tt
-  new_of (Upgraded q) can = tt
-  new_of (Prepared q) can = is_new h.repo h.table keeps_h.table q.tx (not-true (keeps (get h.table.transactions q.tx)) ((and_parts (not (keeps (get h.table.transactions q.tx))) (are_of h.repo q.writes) can).0))
-  new_of (Decided t commit) can = tt
-  new_of (Finished t commit) can = tt
+  new_of : (e : Entry) → IsNew h e
+  new_of (Life n) = tt
+  new_of (One q) = tt
+  new_of (Upgraded q) = tt
+  new_of (Prepared q) = can_open h.repo h.table keeps_h.table (fits_without h.repo h.table keeps_h.table) q
+  new_of (Decided t commit) = tt
+  new_of (Finished t commit) = tt
 
   pub can_move : (e : Entry) → BodyFits (AnEntry e) → IsTrue (can_enter h e) → CanMove h e
-  can_move e fit can = record { one_repo = (h.repo, keeps_h.objects, loads_of e fit can); is_new = new_of e can; fits = fit }
+  can_move e fit can = record { one_repo = (h.repo, keeps_h.objects, loads_of e fit can); is_new = new_of e; fits = fit }
 
 -- a side of a page comes into use
 pub keeps_installed : (h : Held) (page side : ℕ) → Keeps h → Keeps (installed_in h page side)

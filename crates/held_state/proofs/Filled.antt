@@ -28,7 +28,8 @@ use Rattle.two_phase.specs.Lists.{decision_of, those}
 use Rattle.two_phase.specs.declared.transaction.Transaction.TheVariants as kept
 use Rattle.two_phase.specs.declared.transaction.Transaction.{Transaction}
 use Rattle.held_state.proofs.Kept.{each_put, fits_alone, fits_keeping, of_writes}
-use Rattle.held_state.specs.Entering.{are_of, opened_in}
+use Rattle.held_state.specs.Entering.{opened_in}
+use Rattle.state_log.specs.Recovered.{are_of}
 use Rattle.held_state.specs.Keeps.{Keeps, Stands}
 use Rattle.held_state.specs.declared.held.Held.{Held}
 use Rattle.held_state.specs.Making.{AlonesTo, IsTableOf, KeepsTo, OpensTo, as_open, stamped}

@@ -28,7 +28,8 @@ use Rattle.two_phase.specs.Contents.{Contents, keeping, open_at, request_of, wit
 use Rattle.two_phase.specs.Lists.{aborted_of, stays_without}
 use Rattle.two_phase.specs.declared.transaction.Transaction.TheVariants as kept
 use Rattle.two_phase.specs.declared.transaction.Transaction.{Transaction}
-use Rattle.held_state.specs.Entering.{are_of, opened_in}
+use Rattle.held_state.specs.Entering.{opened_in}
+use Rattle.state_log.specs.Recovered.{are_of}
 use Rattle.held_state.specs.Keeps.{Stands, TableFits}
 
 -- ---- lists

@@ -10,7 +10,7 @@ use Rattle.std.specs.Option.{is_some, option_and_then}
 use Rattle.std.specs.Ordering.{eq_by_cmp, is_eq}
 use Rattle.std.specs.declared.cmp.Ordering.TheVariants.{Less}
 use Rattle.commit_log.specs.declared.request.Request.{Request}
-use Rattle.state_log.specs.Recovered.{kept_with, opened_with, opened_without, request_at}
+use Rattle.state_log.specs.Recovered.{kept_with, kept_without, opened_with, opened_without, request_at}
 use Rattle.thor_value.proofs.FiniteMap.{IsSorted-insert, IsSorted-remove, get-insert, get-remove, same_map}
 use Rattle.thor_value.proofs.NameOrders.{ts_exact, ts_total}
 use Rattle.thor_value.specs.FiniteMap.{Map, get, insert, remove}
@@ -21,7 +21,7 @@ use Rattle.two_phase.specs.Contents.{Contents, finished, keeping, keeps, open_at
 use Rattle.two_phase.specs.Lists.{aborted_of, decision_of, kept_decisions, open_requests, stays_without, those}
 use Rattle.two_phase.specs.declared.transaction.Transaction.TheVariants as kept
 use Rattle.two_phase.specs.declared.transaction.Transaction.{Transaction}
-use Rattle.held_state.specs.Entering.{kept_in, opened_in}
+use Rattle.held_state.specs.Entering.{CanOpen, kept_in, opened_in, undecided}
 use Rattle.held_state.specs.Keeps.{Stands, TableFits}
 
 -- ---- lists under keys
@@ -70,6 +70,28 @@ without_one t (e ∷ es) h sorted = by (same_ts t e.1.tx) (is_at (ts_cmp t) e.0)
     by false false here same rest = ap (λ (qs : List Request). e.1 ∷ qs) rest
     by true false here same rest = cc
     by false true here same rest = cc
+
+-- the decisions on other transactions stay
+all_kept : (t : Ts) (es : List (Ts × Unit {0})) → AllByRecursion (λ y. ts_cmp t y ≡ Less) (keys_of es) → kept_without (keys_of es) t ≡ keys_of es
+all_kept t [] above = refl
+all_kept t (e ∷ es) above = by (same_ts t e.0) (ap is_eq above.0) (all_kept t es above.1)
+  where
+    by : (b : Bool) → b ≡ false → kept_without (keys_of es) t ≡ keys_of es → cond (not b) (e.0 ∷ kept_without (keys_of es) t) (kept_without (keys_of es) t) ≡ e.0 ∷ keys_of es
+    by true isnt rest = cc
+    by false isnt rest = ap (λ (ts : List Ts). e.0 ∷ ts) rest
+
+-- that on one transaction goes
+without_key : (t : Ts) (es : List (Ts × Unit {0})) → IsStrictlySortedBy ts_cmp (keys_of es) → kept_without (keys_of es) t ≡ keys_of (remove_entry (is_at (ts_cmp t)) es)
+unfolding IsStrictlySortedBy
+without_key t [] sorted = refl
+without_key t (e ∷ es) sorted = by (same_ts t e.0) refl (without_key t es sorted.1)
+  where
+    rest_stays : same_ts t e.0 ≡ true → kept_without (keys_of es) t ≡ keys_of es
+    rest_stays here = all_kept t es (subst (λ k. AllByRecursion (λ y. ts_cmp k y ≡ Less) (keys_of es)) (sym (tells_apart ts_exact t e.0 here)) sorted.0)
+
+    by : (b : Bool) → same_ts t e.0 ≡ b → kept_without (keys_of es) t ≡ keys_of (remove_entry (is_at (ts_cmp t)) es) → cond (not b) (e.0 ∷ kept_without (keys_of es) t) (kept_without (keys_of es) t) ≡ keys_of (cond b es (e ∷ remove_entry (is_at (ts_cmp t)) es))
+    by true here rest = rest_stays here
+    by false here rest = ap (λ (ts : List Ts). e.0 ∷ ts) rest
 
 -- ---- one table
 
@@ -126,9 +148,10 @@ module _ (repo : ℕ) (c : Contents) (h : TableFits repo c) where
       ap (λ (es : List (Ts × Request)). values_of es) (those_put request_of c.transactions q.tx (kept.Open q) q h.sorted refl)
       ∙ ap (λ (es : List (Ts × Request)). values_of (insert_entry ts_cmp es q.tx q)) (sym under_open)
 
-  pub more_kept : (q : Request) → keeps (get c.transactions q.tx) ≡ false → kept_decisions (opened_in c q) ≡ kept_decisions c
-  more_kept q isnt =
-      ap (λ (es : List (Ts × Unit {0})). keys_of es) (those_covered decision_of c.transactions q.tx (kept.Open q) h.sorted refl ∙ remove_absent q.tx (those decision_of c.transactions.pairs) (none_kept q.tx (get c.transactions q.tx) refl isnt))
+  pub more_kept : (q : Request) → kept_decisions (opened_in c q) ≡ kept_without (kept_decisions c) q.tx
+  more_kept q =
+      ap (λ (es : List (Ts × Unit {0})). keys_of es) (those_covered decision_of c.transactions q.tx (kept.Open q) h.sorted refl)
+      ∙ sym (without_key q.tx (those decision_of c.transactions.pairs) (sorted_those decision_of c.transactions.pairs h.sorted))
 
   -- it stands in the place of the one that was open
   same_opened : (q : Request) (o : Option Request) → opened_in (finished c q.tx o) q ≡ opened_in c q
@@ -187,6 +210,29 @@ is_new repo c h t isnt = by (get c.transactions t) refl isnt
     by None is isnt = is
     by (Some (kept.Open q)) is isnt = removed
     by (Some kept.Kept) is isnt = cc
+
+-- nothing is known of it once its decision was forgotten and its request is closed
+pub can_open : (repo : ℕ) (c : Contents) → TableFits repo c → ((t : Ts) → TableFits repo (without c t)) → (q : Request) → CanOpen c q
+can_open repo c h go q = by (keeps (get c.transactions q.tx)) refl
+  where
+    t : Ts
+    t = q.tx
+
+    removed : get (remove c.transactions t) t ≡ None
+    removed = get-remove ts_total c.transactions t t h.sorted ∙ ap (λ b. cond b None (get c.transactions t)) ((eq_by_cmp_equiv ts_total).refl t)
+
+    same_as : (d : Contents) → TableFits repo d → opened_in d q ≡ opened_in c q → opened_in (finished d t (open_at d t)) q ≡ opened_in (finished c t (open_at c t)) q
+    same_as d fits same = opened_again repo d fits q ∙ (same ∙ sym (opened_again repo c h q))
+
+    opens : (d : Contents) → undecided c t ≡ d → TableFits repo d → keeps (get d.transactions t) ≡ false → opened_in d q ≡ opened_in c q → CanOpen c q
+    opens d is fits isnt same = record {
+      none = subst (λ (x : Contents). get (finished x t (open_at x t)).transactions t ≡ None) (sym is) (is_new repo d fits t isnt);
+      same = subst (λ (x : Contents). opened_in (finished x t (open_at x t)) q ≡ opened_in (finished c t (open_at c t)) q) (sym is) (same_as d fits same);
+    }
+
+    by : (b : Bool) → keeps (get c.transactions t) ≡ b → CanOpen c q
+    by true is = opens (without c t) (ap (λ (b : Bool). cond b (without c t) c) is) (go t) (ap keeps removed) (same_opened repo c h q (Some q))
+    by false is = opens c (ap (λ (b : Bool). cond b (without c t) c) is) h is refl
 
 -- ---- a life begins
 

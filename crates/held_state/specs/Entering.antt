@@ -1,6 +1,6 @@
 -- What an entry changes of what is kept in memory.
-use Rattle.std.specs.List.{fold, list_all}
-use Rattle.std.specs.Prelude.{Bool, List, None, Option, Some, [], cond, false, max, nat_eq, not, true, ℕ, ◌&&◌, ◌+◌, ◌≡◌}
+use Rattle.std.specs.List.{fold}
+use Rattle.std.specs.Prelude.{Bool, List, None, Option, Some, [], cond, false, max, true, ℕ, ◌+◌, ◌≡◌}
 use Rattle.mob_buffer.specs.Buffer.{AreOneRepo}
 use Rattle.state_log.specs.Values.{writes_if}
 use Rattle.commit_log.specs.declared.entry.Entry.TheVariants.{Decided, Finished, Life, One, Prepared, Upgraded}
@@ -9,7 +9,7 @@ use Rattle.commit_log.specs.declared.request.Request.{Request}
 use Rattle.log_bytes.specs.Grammar.{BodyFits}
 use Rattle.log_bytes.specs.declared.body.Body.TheVariants.{Entry as AnEntry}
 use Rattle.mob_flusher.specs.Map.{with_installed, with_writes}
-use Rattle.state_log.specs.Recovered.{page_above, texts_after, threshold_after}
+use Rattle.state_log.specs.Recovered.{is_of, page_above, texts_after, threshold_after}
 use Rattle.thor_value.specs.FiniteMap.{get, has, insert}
 use Rattle.thor_value.specs.declared.names.Oref.{Oref}
 use Rattle.thor_value.specs.declared.names.Ts.{Ts}
@@ -18,10 +18,6 @@ use Rattle.two_phase.specs.Contents.{Contents, decided, finished, keeping, keeps
 use Rattle.two_phase.specs.Lists.{aborted_of}
 use Rattle.two_phase.specs.declared.transaction.Transaction.TheVariants.{Open}
 use Rattle.held_state.specs.declared.held.Held.{Held}
-
--- all names are of one repository
-abbrev pub are_of : ℕ → List (Oref × Obj) → Bool
-are_of repo writes = list_all (λ w. nat_eq w.0.repo repo) writes
 
 -- the pages that a request writes are below the next page, and below the page that is granted next
 abbrev pub reached : Held → Request → Held
@@ -35,12 +31,16 @@ committed_in h q = record h { objects = with_writes h.objects q.writes; threshol
 abbrev pub alone_in : Held → Request → Held
 alone_in h q = record (committed_in (reached h q) q) { table = record h.table { alone = insert h.table.alone q.who.client q.tx } }
 
--- a request is prepared, in the place of the one that its transaction had open
+-- a request is prepared, in the place of what was known of its transaction
 abbrev pub opened_in : Contents → Request → Contents
 opened_in c q = record c { transactions = insert c.transactions q.tx (Open q) }
 
 abbrev pub prepared_in : Held → Request → Held
 prepared_in h q = record (reached h q) { table = opened_in (finished h.table q.tx (open_at h.table q.tx)) q }
+
+-- the decision on a transaction isn't kept any more
+abbrev pub undecided : Contents → Ts → Contents
+undecided c t = cond (keeps (get c.transactions t)) (without c t) c
 
 -- the decision to commit what isn't open is kept
 abbrev pub kept_in : Contents → Ts → Contents
@@ -71,15 +71,9 @@ moved h (Finished t commit) = finished_by h t commit (open_at h.table t)
 abbrev pub entered : Held → Entry → Held
 entered h e = record (moved h e) { count = h.count + 1 }
 
--- Whether an entry can come next: what it writes is of this repository, and it prepares no transaction
--- whose decision to commit is kept.
+-- whether an entry can come next: what it writes is of this repository
 abbrev pub can_enter : Held → Entry → Bool
-can_enter h (One q) = are_of h.repo q.writes
-can_enter h (Upgraded q) = are_of h.repo q.writes
-can_enter h (Prepared q) = not (keeps (get h.table.transactions q.tx)) && are_of h.repo q.writes
-can_enter h (Life n) = true
-can_enter h (Decided t commit) = true
-can_enter h (Finished t commit) = true
+can_enter h e = is_of h.repo e
 
 -- a side of a page comes into use
 abbrev pub installed_in : Held → ℕ → ℕ → Held
@@ -96,9 +90,17 @@ loaded h (Decided t commit) = writes_if commit (open_at h.table t)
 loaded h (Finished t commit) = writes_if commit (open_at h.table t)
 loaded h (Upgraded q) = q.writes
 
--- nothing is known of a transaction that is prepared, but a request that it had open
+-- a table in which no decision on a transaction is kept, and none of its requests is open
+abbrev pub cleared : Contents → Ts → Contents
+cleared c t = finished (undecided c t) t (open_at (undecided c t) t)
+
+-- A request is opened where nothing is known of its transaction, and stands in the place of what was.
+pub record CanOpen (c : Contents) (q : Request) : Type 0 where
+  pub none : get (cleared c q.tx).transactions q.tx ≡ None
+  pub same : opened_in (cleared c q.tx) q ≡ opened_in (finished c q.tx (open_at c q.tx)) q
+
 abbrev pub IsNew : Held → Entry → Type 0
-IsNew h (Prepared q) = get (finished h.table q.tx (open_at h.table q.tx)).transactions q.tx ≡ None
+IsNew h (Prepared q) = CanOpen h.table q
 IsNew h (Life n) = Unit {0}
 IsNew h (One q) = Unit {0}
 IsNew h (Upgraded q) = Unit {0}

@@ -1,14 +1,13 @@
 //! All that is kept in memory, in parts.
 
-ghost use Rattle.std.specs.Prelude.{◌≡◌, ◌+◌, ◌<◌, IfOk, None, OnOk};
+ghost use Rattle.std.specs.Prelude.{◌≡◌, ◌+◌, ◌<◌, IfOk, OnOk};
 ghost use Rattle.commit_log.specs.RequestForm.{RequestFits};
-ghost use Rattle.held_state.specs.Entering.{CanMove, alone_in, can_enter, committed_in, decided_by, entered, finished_by, installed_in, kept_in, moved, prepared_in, reached};
+ghost use Rattle.held_state.specs.Entering.{CanMove, CanOpen, alone_in, can_enter, committed_in, decided_by, entered, finished_by, installed_in, kept_in, moved, prepared_in, reached};
 ghost use Rattle.held_state.specs.Said.{spelled};
 ghost use Rattle.mob_buffer.specs.Buffer.{AreDistinct, AreOneRepo};
 ghost use Rattle.page_format.specs.Sides.{SidesFit};
 ghost use Rattle.state_log.specs.Values.{writes_if};
-ghost use Rattle.thor_value.specs.FiniteMap.{get};
-ghost use Rattle.two_phase.specs.Contents.{finished, open_at};
+ghost use Rattle.two_phase.specs.Contents.{open_at};
 ghost use Rattle.two_phase.specs.Lists.{aborted_of, kept_decisions, open_requests};
 
 use crate::spelling::copy_of;
@@ -56,11 +55,8 @@ impl Held {
         ensures { result ≡ can_enter self.now entry.now }
     {
         match entry {
-            Entry::One { request } | Entry::Upgraded { request } => {
+            Entry::One { request } | Entry::Prepared { request } | Entry::Upgraded { request } => {
                 are_of(self.repo, request.writes.as_slice())
-            }
-            Entry::Prepared { request } => {
-                !self.table.keeps(request.tx) && are_of(self.repo, request.writes.as_slice())
             }
             Entry::Life { .. } | Entry::Decided { .. } | Entry::Finished { .. } => true,
         }
@@ -120,14 +116,15 @@ impl Held {
         self.table.alone(request.who.client, request.tx)
     }
 
-    // A request is prepared, in the place of the one that its transaction had open.
+    // A request is prepared, in the place of what was known of its transaction.
     fn prepare(&mut self, request: &Request) -> Result<(), NoMemory>
         requires fits { RequestFits request.now }
-        requires is_new { get (finished self.old.table request.now.tx (open_at self.old.table request.now.tx)).transactions request.now.tx ≡ None }
+        requires is_new { CanOpen self.old.table request.now }
         ensures { OnOk result (self.new ≡ prepared_in self.old request.now) }
     {
         self.reach_pages(request);
         let request = request.copy()?;
+        self.table.forget(request.tx);
         drop(self.table.finish(request.tx));
         self.table.open(request)
     }

@@ -1,13 +1,14 @@
 //! A checkpoint's state taken into memory.
 
-ghost use Rattle.std.specs.List.{AllByRecursion};
+ghost use Rattle.std.specs.List.{AllByRecursion, list_all};
 ghost use Rattle.std.specs.List.Sorted.{IsStrictlySortedBy};
 ghost use Rattle.std.specs.Map.{keys_of};
+ghost use Rattle.std.specs.Option.{is_some};
 ghost use Rattle.std.specs.Ordering.{nat_cmp};
-ghost use Rattle.std.specs.Prelude.{◌≡◌, Err, List, [], map, IfOk, IsTrue, None, OnOk, ℕ};
+ghost use Rattle.std.specs.Prelude.{◌≡◌, Err, List, [], map, not, IfOk, IsTrue, None, OnOk, ℕ};
 ghost use Rattle.commit_log.specs.RequestForm.{RequestFits, WriteFits};
 ghost use Rattle.commit_log.specs.declared.request.Request.{Request as ARequest};
-ghost use Rattle.held_state.specs.Entering.{are_of};
+ghost use Rattle.state_log.specs.Recovered.{are_of, request_at};
 ghost use Rattle.held_state.specs.Keeps.{IsUnread, TableFits};
 ghost use Rattle.held_state.specs.Making.{AlonesTo, IsTableOf, KeepsTo, OpensTo};
 ghost use Rattle.held_state.specs.declared.fault.HoldFault.TheVariants.{Unfit};
@@ -47,6 +48,7 @@ pub(crate) fn table_of(
     requires alone_rise { IsStrictlySortedBy nat_cmp (map client_of alone) }
     ensures made { IfOk result (IsTableOf repo prepared kept alone) }
     ensures unfit { result ≡ Err Unfit → (c : Contents) → TableFits repo c → open_requests c ≡ prepared → kept_decisions c ≡ kept → ⊥ }
+    ensures broken { result ≡ Err Unfit → IsTrue (list_all (λ q. are_of repo q.writes) prepared) → IsTrue (list_all (λ t. not (is_some (request_at prepared t))) kept) → ⊥ }
 {
     let mut table = Table::new(alloc)?;
     open_all(&mut table, repo, prepared)?;
@@ -61,6 +63,7 @@ fn open_all(table: &mut Table, repo: u8, prepared: Requests) -> Result<(), HoldF
     requires rise { IsStrictlySortedBy ts_cmp (map tx_of prepared) }
     ensures all { OnOk result (OpensTo repo prepared table.new []) }
     ensures unfit { result ≡ Err Unfit → (c : Contents) → TableFits repo c → open_requests c ≡ prepared → ⊥ }
+    ensures broken { result ≡ Err Unfit → IsTrue (list_all (λ q. are_of repo q.writes) prepared) → ⊥ }
 {
     for request in prepared.into_vec() {
         if !are_of(repo, request.writes.as_slice()) {
@@ -76,6 +79,7 @@ fn keep_all(table: &mut Table, repo: u8, kept: Stamps) -> Result<(), HoldFault>
     requires rise { IsStrictlySortedBy ts_cmp kept }
     ensures all { (prepared : List ARequest) → KeepsTo repo prepared kept table.old kept → OnOk result (KeepsTo repo prepared kept table.new []) }
     ensures unfit { (prepared : List ARequest) → KeepsTo repo prepared kept table.old kept → result ≡ Err Unfit → (c : Contents) → TableFits repo c → open_requests c ≡ prepared → kept_decisions c ≡ kept → ⊥ }
+    ensures broken { (prepared : List ARequest) → KeepsTo repo prepared kept table.old kept → result ≡ Err Unfit → IsTrue (list_all (λ t. not (is_some (request_at prepared t))) kept) → ⊥ }
 {
     for tx in kept.into_vec() {
         if table.knows(tx) {
@@ -115,6 +119,7 @@ pub(crate) fn objects_of(
     ensures mob { IfOk result (λ objects. objects.mob.objects ≡ mob) }
     ensures one_repo { IfOk result (λ objects. AreOf repo objects.mob.objects) }
     ensures unfit { result ≡ Err Unfit → AreOf repo mob → ⊥ }
+    ensures broken { result ≡ Err Unfit → IsTrue (are_of repo mob) → ⊥ }
 {
     if !are_of(repo, mob.as_slice()) {
         return Err(HoldFault::Unfit);

@@ -15,7 +15,7 @@ ghost use Rattle.page_store.specs.Objects.{HasObjects};
 ghost use Rattle.page_store.specs.Sides.{KeepsSides};
 ghost use Rattle.page_store.specs.Store.{Agrees, IsDamage};
 ghost use Rattle.page_store.specs.declared.fault.StoreFault.TheVariants.{Damaged, Failed};
-ghost use Rattle.state_log.specs.Recovered.{after};
+ghost use Rattle.state_log.specs.Recovered.{after, is_whole};
 ghost use Rattle.thor_value.specs.FiniteMap.{get};
 ghost use Rattle.two_phase.specs.Contents.{keeps, without};
 
@@ -64,7 +64,8 @@ impl Model for HeldState {
 
 impl HeldState {
     /// Takes a checkpoint's state in, with a buffer that is full at so many bytes. Objects and requests are
-    /// moved. `Unfit` only where no memory of a repository says the state.
+    /// moved. `Unfit` only where no memory of a repository says the state: a name is of another repository, or a
+    /// transaction is both prepared and decided.
     pub fn of(alloc: Global, state: State, mob_limit: u32) -> Result<HeldState, HoldFault>
         requires { StateFits state }
         ensures keeps { IfOk result Keeps }
@@ -73,6 +74,7 @@ impl HeldState {
         ensures unread { IfOk result (λ held. IsUnread held.objects.pages) }
         ensures limit { IfOk result (λ held. held.objects.mob.limit ≡ mob_limit) }
         ensures unfit { result ≡ Err Unfit → IsUnfit state }
+        ensures broken { result ≡ Err Unfit → IsTrue (is_whole state) → ⊥ }
     {
         let State {
             format: _,
@@ -110,8 +112,7 @@ impl HeldState {
         Ok(HeldState { alloc, held })
     }
 
-    /// Whether an entry can come next: what it writes is of this repository, and it prepares no transaction
-    /// whose decision to commit is kept.
+    /// Whether an entry can come next: what it writes is of this repository.
     pub fn takes(&self, entry: &Entry) -> bool
         ensures { result ≡ can_enter self.now entry.now }
     {
@@ -193,6 +194,7 @@ impl HeldState {
     pub fn state(&self) -> Result<State, NoMemory>
         ensures spelled { IfOk result (λ state. state ≡ spelled self.now) }
         ensures fits { Keeps self.now → self.now.count < 2 ^ 62 → IfOk result (λ state. StateFits state) }
+        ensures whole { Keeps self.now → IfOk result (λ state. IsTrue (is_whole state)) }
     {
         self.held.state(self.alloc)
     }

@@ -3,8 +3,7 @@
 ghost use Rattle.std.specs.List.{AllByRecursion, fold};
 ghost use Rattle.std.specs.Prelude.{◌≡◌};
 ghost use Rattle.commit_log.specs.RequestForm.{WriteFits};
-ghost use Rattle.held_state.specs.Entering.{are_of};
-ghost use Rattle.state_log.specs.Recovered.{page_above};
+ghost use Rattle.state_log.specs.Recovered.{are_of, page_above};
 ghost use Rattle.thor_value.specs.Names.{later_of};
 
 use std::cmp::Ordering;

@@ -1,6 +1,5 @@
 -- The objects that a run has written, as its answer lists them.
-use Rattle.std.proofs.Common.{◌≡◌, ◌<◌, ◌+◌, ℕ, Bool, true, false, cond, List, [], ◌∷◌, ◌++◌, Option, Some, None, refl, ap, sym, ◌∙◌, subst, length, get_or, drop, append_assoc}
-use Rattle.std.proofs.lemmas.List.{at_drop_more}
+use Rattle.std.proofs.Common.{◌≡◌, ℕ, Bool, true, false, cond, List, [], ◌∷◌, ◌++◌, Option, Some, None, refl, ap, sym, ◌∙◌, append_assoc}
 use Rattle.std.specs.BTreeMap.{is_at}
 use Rattle.std.specs.List.{AllByRecursion}
 use Rattle.std.specs.Map.{keys_of, lookup}
@@ -53,24 +52,14 @@ one : (epoch : ℕ) (x : Oref) (o : Option Obj) (rest : List (Oref × Object)) �
 one epoch x None rest = refl
 one epoch x (Some o) rest = refl
 
-one_more : (epoch : ℕ) (c : Contents) (names : List Oref) (i : ℕ) (d : Oref) (before after all : List (Oref × Obj)) → i < length names
-    → after ≡ before ++ stored_at epoch (entry (get_or names i d) (seen c (get_or names i d)) [])
-    → before ++ stored_at epoch (entries (seen c) (drop i names)) ≡ all
-    → after ++ stored_at epoch (entries (seen c) (drop (i + 1) names)) ≡ all
-one_more epoch c names i d before after all l e h =
-    let x : Oref = get_or names i d in
-    let rest : List (Oref × Object) = entries (seen c) (drop (i + 1) names) in
-    ap (λ (ws : List (Oref × Obj)). ws ++ stored_at epoch rest) e
-    ∙ append_assoc before (stored_at epoch (entry x (seen c x) [])) (stored_at epoch rest)
-    ∙ ap (λ (ws : List (Oref × Obj)). before ++ ws) (sym (one epoch x (seen c x) rest))
-    ∙ ap (λ (es : List (Oref × Object)). before ++ stored_at epoch es) (sym (at_drop_more (entries (seen c)) names i d l))
+-- what is left comes behind what is there
+pub one_of : (epoch : ℕ) (c : Contents) (x : Oref) (rest : List Oref) (before after all : List (Oref × Obj))
+    → after ≡ before ++ stored_at epoch (entry x (seen c x) [])
+    → before ++ stored_at epoch (entries (seen c) (x ∷ rest)) ≡ all
+    → after ++ stored_at epoch (entries (seen c) rest) ≡ all
+one_of epoch c x rest before after all e h =
+    let left : List (Oref × Object) = entries (seen c) rest in
+    ap (λ (ws : List (Oref × Obj)). ws ++ stored_at epoch left) e
+    ∙ append_assoc before (stored_at epoch (entry x (seen c x) [])) (stored_at epoch left)
+    ∙ ap (λ (ws : List (Oref × Obj)). before ++ ws) (sym (one epoch x (seen c x) left))
     ∙ h
-
--- the same where the items are those names
-pub one_more_of : (epoch : ℕ) (c : Contents) (items names : List Oref) (i : ℕ) (d : Oref) (before after all : List (Oref × Obj)) → items ≡ names → i < length items
-    → after ≡ before ++ stored_at epoch (entry (get_or items i d) (seen c (get_or items i d)) [])
-    → before ++ stored_at epoch (entries (seen c) (drop i names)) ≡ all
-    → after ++ stored_at epoch (entries (seen c) (drop (i + 1) names)) ≡ all
-one_more_of epoch c items names i d before after all same l e h =
-    one_more epoch c names i d before after all (subst (λ (xs : List Oref). i < length xs) same l)
-    (subst (λ (xs : List Oref). after ≡ before ++ stored_at epoch (entry (get_or xs i d) (seen c (get_or xs i d)) [])) same e) h

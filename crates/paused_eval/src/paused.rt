@@ -1,4 +1,5 @@
 ghost use Rattle.std.specs.Prelude.{◌≡◌, ◌<◌, ◌+◌, ◌++◌, List, [], Option, Ok, IfOk, OnOk};
+ghost use Rattle.std.specs.Map.{keys_of};
 ghost use Rattle.thor_value.specs.FiniteMap.{empty, has};
 ghost use Rattle.thor_value.specs.declared.names.Oref.{Oref};
 ghost use Rattle.class_defs.specs.declared.statements.Stmt.{Stmt};
@@ -29,6 +30,7 @@ use client_cache::Cache;
 use method_eval::{Program, Ran};
 use paused_defs::{Doing, Frame, Stack};
 use std::alloc::Global;
+use std::collections::BTreeMap;
 use std::marker::Brand;
 use std::mem;
 use std::sync::ledger::{Blank, Ledger};
@@ -73,11 +75,17 @@ fn push_written(cache: &Cache, epoch: u32, oref: Oref, writes: &mut Writes) -> R
 }
 
 /// The objects of these names, as they are written at an epoch.
-fn writes_of(alloc: Global, cache: &Cache, epoch: u32, names: &Orefs) -> Result<Writes, NoMemory>
-    ensures { IfOk result (λ writes. writes ≡ stored_at epoch (entries (seen cache.now) names.now)) }
+#[tactic(auto, using(crate::proofs::Writes::one_of))]
+fn writes_of(
+    alloc: Global,
+    cache: &Cache,
+    epoch: u32,
+    names: &BTreeMap<Oref, ()>,
+) -> Result<Writes, NoMemory>
+    ensures { IfOk result (λ writes. writes ≡ stored_at epoch (entries (seen cache.now) (keys_of names.now.entries))) }
 {
     let mut writes = Writes::new(alloc);
-    for oref in names.as_slice() {
+    for oref in names.keys() {
         push_written(cache, epoch, *oref, &mut writes)?;
     }
     Ok(writes)
@@ -88,8 +96,7 @@ fn writes_of(alloc: Global, cache: &Cache, epoch: u32, names: &Orefs) -> Result<
 fn writes(alloc: Global, copies: &Copies, epoch: u32) -> Result<Writes, NoMemory>
     ensures { IfOk result (λ writes. writes ≡ stored_at epoch (written_in copies.now.written copies.now.cache).pairs) }
 {
-    let names = copies.written.names(alloc)?;
-    writes_of(alloc, &copies.cache, epoch, &names)
+    writes_of(alloc, &copies.cache, epoch, copies.written.keys())
 }
 
 /// Says what is done next.

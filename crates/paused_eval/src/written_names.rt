@@ -1,10 +1,11 @@
-ghost use Rattle.std.specs.Prelude.{◌≡◌, IfOk, OnOk, OnErr, not, nat_eq, is_some};
+ghost use Rattle.std.specs.Map.{keys_of};
+ghost use Rattle.std.specs.Prelude.{◌≡◌, OnOk, OnErr, not, nat_eq, is_some};
 ghost use Rattle.thor_value.specs.FiniteMap.{IsSorted, empty, get, insert, keep, keys};
 
 use std::alloc::Global;
 use std::collections::BTreeMap;
 use std::marker::Model;
-use thor_value::{NoMemory, Oref, Orefs, Sequence};
+use thor_value::{NoMemory, Oref};
 
 /// The names of the objects that a try has written, which contracts see as a set.
 #[derive(Drop)]
@@ -41,12 +42,11 @@ impl WrittenNames {
         self.names.contains_key(&oref)
     }
 
-    /// The names, rising.
-    pub fn names(&self, alloc: Global) -> Result<Orefs, NoMemory>
-        ensures { IfOk result (λ names. names ≡ keys self.now) }
+    /// The names, rising, as keys.
+    pub fn keys(&self) -> &BTreeMap<Oref, ()>
+        ensures { keys_of result.now.entries ≡ keys self.now }
     {
-        let names: Vec<Oref> = self.names.keys().copied().collect(alloc)?;
-        Ok(Sequence::from_vec(names))
+        &self.names
     }
 
     /// Adds a name. After `NoMemory` nothing has changed.

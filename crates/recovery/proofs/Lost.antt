@@ -1,17 +1,21 @@
--- What is damaged stands for no state, or can't be taken into memory.
+-- What is damaged stands for no state.
 use Rattle.std.proofs.Common.{◌≡◌, ◌⊎◌, Bool, List, None, Option, Some, [], ◌∷◌, ap, arith, cond, false, inl, inr, nat_lt, refl, suc, true, zero, ℕ, ◌^◌, ◌∙◌, ◌≤◌}
 use Rattle.std.proofs.lemmas.Bool.Decides.{nat_tests}
 use Rattle.std.specs.List.{fold}
-use Rattle.std.specs.Option.{IfSome, IsSome, option_and_then, option_map}
-use Rattle.std.specs.Prelude.{slice_get}
+use Rattle.std.specs.Option.{IfSome, IsSome, option_and_then}
+use Rattle.std.specs.Prelude.{IsTrue, slice_get, take}
 use Rattle.log_bytes.specs.Checkpoint.{state_format}
 use Rattle.log_bytes.specs.Format.{value_of}
 use Rattle.log_bytes.specs.Grammar.{body_format}
+use Rattle.log_bytes.specs.declared.body.Body.TheVariants.{Entry as AnEntry}
+use Rattle.log_bytes.specs.declared.body.Body.{Body}
 use Rattle.log_bytes.specs.declared.state.State.{State}
-use Rattle.log_frame.specs.Log.{Opened, Stands}
+use Rattle.log_frame.specs.Log.{Opened}
+use Rattle.held_state.specs.Said.{said}
 use Rattle.state_log.specs.Opening.{Found, log_of}
-use Rattle.state_log.specs.Recovered.{after, behind, replayed, sequence_end, stands, state_in}
-use Rattle.recovery.specs.Damage.{CantHold, Fault, IsNoBody, NoBody, NoCheckpoint, NoSequence, StandsUnheld}
+use Rattle.state_log.specs.Recovered.{after, behind, can_follow, is_whole, next, replayed, sequence_end, stands, state_in, whole}
+use Rattle.recovery.proofs.Replayed.{replayed_is}
+use Rattle.recovery.specs.Damage.{CantHold, CantPut, Fault, IsBroken, IsNoBody, IsUnheld, NoBody, NoCheckpoint, NoSequence, put_on}
 
 -- ---- a log that stands for nothing
 
@@ -21,7 +25,7 @@ none_behind (b ∷ bs) = none_behind bs
 
 behind_none : (o : Option State) (body : List ℕ) → value_of body_format body ≡ None → behind o body ≡ None
 behind_none None body none = refl
-behind_none (Some s) body none = ap (option_map (after s)) none
+behind_none (Some s) body none = ap (λ (v : Option Body). option_and_then (next s) v) none
 
 none_within : (o : Option State) (bodies : List (List ℕ)) (at : ℕ) (body : List ℕ) → slice_get bodies at ≡ Some body → value_of body_format body ≡ None → fold behind o bodies ≡ None
 none_within o [] at body is none = cc
@@ -32,11 +36,11 @@ none_within o (b ∷ bs) (suc at) body is none = none_within (behind o b) bs at 
 
 no_head : (head : List ℕ) (bodies : List (List ℕ)) → value_of state_format head ≡ None → replayed head bodies ≡ None
 unfolding replayed
-no_head head bodies none = ap (λ (o : Option State). fold behind o bodies) none ∙ none_behind bodies
+no_head head bodies none = ap (λ (o : Option State). fold behind (option_and_then whole o) bodies) none ∙ none_behind bodies
 
 no_body_in : (head : List ℕ) (bodies : List (List ℕ)) (first place : ℕ) → IsNoBody first bodies place → replayed head bodies ≡ None
 unfolding replayed
-no_body_in head bodies first place wrong = none_within (value_of state_format head) bodies wrong.at wrong.body wrong.is wrong.none
+no_body_in head bodies first place wrong = none_within (option_and_then whole (value_of state_format head)) bodies wrong.at wrong.body wrong.is wrong.none
 
 no_state : (b : Bool) (o : Option State) → o ≡ None → cond b o None ≡ None
 no_state true o is = is
@@ -47,15 +51,41 @@ too_great o big =
     let test : nat_lt o.sequence (2 ^ 62) ≡ false = grind (arith, nat_tests, big) in
     ap (λ (b : Bool). cond b (replayed o.head o.bodies) None) test
 
+-- ---- a log that can't be taken into memory
+
+none_put : (bodies : List Body) → fold put_on None bodies ≡ None
+none_put [] = refl
+none_put (b ∷ bs) = none_put bs
+
+not_next : (s : State) (b : Body) → can_follow s b ≡ false → next s b ≡ None
+not_next s b isnt = ap (λ (c : Bool). cond c (Some (after s b)) None) isnt
+
+cant_follow : (o : Option State) (bodies : List Body) (at : ℕ) (s : State) (b : Body) → fold put_on o (take at bodies) ≡ Some s → slice_get bodies at ≡ Some b → can_follow s b ≡ false → fold put_on o bodies ≡ None
+cant_follow o [] at s b so_far is isnt = cc
+cant_follow o (c ∷ bs) zero s b so_far is isnt =
+    let same : c ≡ b = cc in
+    ap (λ (p : Option State). fold put_on p bs) (ap (λ (p : Option State). put_on p c) so_far ∙ ap (next s) same ∙ not_next s b isnt) ∙ none_put bs
+cant_follow o (c ∷ bs) (suc at) s b so_far is isnt = cant_follow (put_on o c) bs at s b so_far is isnt
+
+not_whole : (s : State) (b : Bool) → is_whole s ≡ b → (IsTrue (is_whole s) → ⊥) → whole s ≡ None
+not_whole s true is broken = absurd (broken is)
+not_whole s false is broken = ap (λ (b : Bool). cond b (Some s) None) is
+
+unheld_in : (s : State) (bodies : List Body) → IsBroken s ⊎ CantPut (whole s) bodies → fold put_on (whole s) bodies ≡ None
+unheld_in s bodies (inl broken) = ap (λ (o : Option State). fold put_on o bodies) (not_whole s (is_whole s) refl broken.not_whole) ∙ none_put bodies
+unheld_in s bodies (inr cant) = cant_follow (whole s) bodies cant.at (said cant.held) (AnEntry cant.entry) cant.so_far cant.is cant.refused
+
+unheld_none : (o : Opened) → IsUnheld o → replayed o.head o.bodies ≡ None
+unheld_none o unheld = replayed_is o.head o.bodies unheld.state unheld.bodies unheld.head unheld.records ∙ unheld_in unheld.state unheld.bodies unheld.unfit
+
 -- ---- by what is wrong
 
-by_fault : (images : ℕ → List ℕ) (disk place : ℕ) (o : Opened) → Stands (images disk) o → stands images ≡ state_in o → Fault o place → (stands images ≡ None) ⊎ StandsUnheld images
-by_fault images disk place o on counts (NoSequence big at) = inl (counts ∙ too_great o big)
-by_fault images disk place o on counts (NoCheckpoint none at) = inl (counts ∙ no_state (nat_lt o.sequence sequence_end) (replayed o.head o.bodies) (no_head o.head o.bodies none))
-by_fault images disk place o on counts (NoBody wrong) = inl (counts ∙ no_state (nat_lt o.sequence sequence_end) (replayed o.head o.bodies) (no_body_in o.head o.bodies _ place wrong))
-by_fault images disk place o on counts (CantHold unheld at) = inr (record { disk = disk; opened = o; on = on; counts = counts; unheld = unheld })
+by_fault : (place : ℕ) (o : Opened) → Fault o place → state_in o ≡ None
+by_fault place o (NoSequence big at) = too_great o big
+by_fault place o (NoCheckpoint none at) = no_state (nat_lt o.sequence sequence_end) (replayed o.head o.bodies) (no_head o.head o.bodies none)
+by_fault place o (NoBody wrong) = no_state (nat_lt o.sequence sequence_end) (replayed o.head o.bodies) (no_body_in o.head o.bodies _ place wrong)
+by_fault place o (CantHold unheld at) = no_state (nat_lt o.sequence sequence_end) (replayed o.head o.bodies) (unheld_none o unheld)
 
-pub inner_lost : (images : ℕ → List ℕ) (found : Option Found) (d place : ℕ) → IfSome found (λ f. (d ≡ f.0.disk) × Fault (log_of f) place) → IsSome found → IfSome found (λ f. Stands (images f.0.disk) (log_of f))
-    → stands images ≡ option_and_then (λ f. state_in (log_of f)) found → (stands images ≡ None) ⊎ StandsUnheld images
-inner_lost images None d place fault there stood counts = cc
-inner_lost images (Some f) d place fault there stood counts = by_fault images f.0.disk place (log_of f) stood counts fault.1
+pub inner_lost : (images : ℕ → List ℕ) (found : Option Found) (d place : ℕ) → IfSome found (λ f. (d ≡ f.0.disk) × Fault (log_of f) place) → IsSome found → stands images ≡ option_and_then (λ f. state_in (log_of f)) found → stands images ≡ None
+inner_lost images None d place fault there counts = cc
+inner_lost images (Some f) d place fault there counts = counts ∙ by_fault place (log_of f) fault.1

@@ -1,16 +1,22 @@
 -- The state of a log, by its checkpoint and its bodies.
-use Rattle.std.proofs.Common.{◌≡◌, List, None, Option, Some, [], ◌∷◌, ap, arith, cond, length, map, nat_lt, refl, sym, take, true, Bool, ℕ, ◌+◌, ◌<◌, ◌^◌, ◌∙◌, get_or}
+use Rattle.std.proofs.Common.{◌≡◌, List, None, Option, Some, [], ◌∷◌, ap, arith, cond, length, map, nat_lt, refl, subst, sym, take, true, Bool, ℕ, ◌+◌, ◌<◌, ◌^◌, ◌∙◌, get_or}
 use Rattle.std.proofs.lemmas.Bool.Decides.{nat_tests}
 use Rattle.std.proofs.lemmas.List.Sums.{fold_push}
 use Rattle.std.specs.List.{fold}
-use Rattle.std.specs.Option.{option_map}
+use Rattle.std.specs.Option.{option_and_then}
+use Rattle.std.specs.Prelude.{IsTrue}
+use Rattle.held_state.proofs.Unfit.{spelled_whole}
+use Rattle.held_state.specs.Keeps.{Keeps}
+use Rattle.held_state.specs.Said.{said}
+use Rattle.held_state.specs.declared.held.Held.{Held}
 use Rattle.log_bytes.specs.Checkpoint.{state_format}
 use Rattle.log_bytes.specs.Format.{value_of}
 use Rattle.log_bytes.specs.Grammar.{body_format}
 use Rattle.log_bytes.specs.declared.body.Body.{Body}
 use Rattle.log_bytes.specs.declared.state.State.{State}
 use Rattle.log_frame.specs.Log.{Opened}
-use Rattle.state_log.specs.Recovered.{after, behind, replayed, state_in}
+use Rattle.state_log.specs.Recovered.{after, behind, can_follow, next, replayed, state_in, whole}
+use Rattle.recovery.specs.Damage.{put_on}
 use Rattle.recovery.proofs.Read.{taken_next}
 
 some_head : {X : Type 0} (x y : X) (xs ys : List X) → x ∷ xs ≡ y ∷ ys → x ≡ y
@@ -19,25 +25,33 @@ some_head x y xs ys is = cc
 some_tail : {X : Type 0} (x y : X) (xs ys : List X) → x ∷ xs ≡ y ∷ ys → xs ≡ ys
 some_tail x y xs ys is = cc
 
-behind_all : (s : State) (records : List (List ℕ)) (bodies : List Body) → map (value_of body_format) records ≡ map Some bodies → fold behind (Some s) records ≡ Some (fold after s bodies)
-behind_all s [] [] is = refl
-behind_all s [] (b ∷ bs) is = cc
-behind_all s (r ∷ rs) [] is = cc
-behind_all s (r ∷ rs) (b ∷ bs) is =
+pub behind_all : (o : Option State) (records : List (List ℕ)) (bodies : List Body) → map (value_of body_format) records ≡ map Some bodies → fold behind o records ≡ fold put_on o bodies
+behind_all o [] [] is = refl
+behind_all o [] (b ∷ bs) is = cc
+behind_all o (r ∷ rs) [] is = cc
+behind_all o (r ∷ rs) (b ∷ bs) is =
     let one : value_of body_format r ≡ Some b = some_head (value_of body_format r) (Some b) (map (value_of body_format) rs) (map Some bs) is in
-    ap (λ (o : Option Body). fold behind (option_map (after s) o) rs) one ∙ behind_all (after s b) rs bs (some_tail (value_of body_format r) (Some b) (map (value_of body_format) rs) (map Some bs) is)
+    ap (λ (v : Option Body). fold behind (option_and_then (λ s. option_and_then (next s) v) o) rs) one ∙ behind_all (put_on o b) rs bs (some_tail (value_of body_format r) (Some b) (map (value_of body_format) rs) (map Some bs) is)
 
-replayed_is : (head : List ℕ) (records : List (List ℕ)) (s : State) (bodies : List Body) → value_of state_format head ≡ Some s → map (value_of body_format) records ≡ map Some bodies → replayed head records ≡ Some (fold after s bodies)
+pub replayed_is : (head : List ℕ) (records : List (List ℕ)) (s : State) (bodies : List Body) → value_of state_format head ≡ Some s → map (value_of body_format) records ≡ map Some bodies → replayed head records ≡ fold put_on (whole s) bodies
 unfolding replayed
-replayed_is head records s bodies first rest = ap (λ (o : Option State). fold behind o records) first ∙ behind_all s records bodies rest
+replayed_is head records s bodies first rest = ap (λ (o : Option State). fold behind (option_and_then whole o) records) first ∙ behind_all (whole s) records bodies rest
 
 -- a log stands for its checkpoint with its bodies behind it
-pub state_is : (o : Opened) (s t : State) (bodies : List Body) → o.sequence < 2 ^ 62 → value_of state_format o.head ≡ Some s → map (value_of body_format) o.bodies ≡ map Some bodies → t ≡ fold after s bodies → state_in o ≡ Some t
+pub state_is : (o : Opened) (s t : State) (bodies : List Body) → o.sequence < 2 ^ 62 → value_of state_format o.head ≡ Some s → map (value_of body_format) o.bodies ≡ map Some bodies → fold put_on (whole s) bodies ≡ Some t → state_in o ≡ Some t
 state_is o s t bodies small first rest is =
     let test : nat_lt o.sequence (2 ^ 62) ≡ true = grind (arith, nat_tests, small) in
-    ap (λ (b : Bool). cond b (replayed o.head o.bodies) None) test ∙ replayed_is o.head o.bodies s bodies first rest ∙ ap (λ (u : State). Some u) (sym is)
+    ap (λ (b : Bool). cond b (replayed o.head o.bodies) None) test ∙ replayed_is o.head o.bodies s bodies first rest ∙ is
 
 -- one body more is put
-pub put_next : (s t u : State) (bodies : List Body) (n : ℕ) (b : Body) → n < length bodies → b ≡ get_or bodies n b → t ≡ fold after s (take n bodies) → u ≡ after t b → u ≡ fold after s (take (n + 1) bodies)
-put_next s t u bodies n b within is so_far step =
-    step ∙ ap (λ (x : State). after x b) so_far ∙ sym (fold_push after s (take n bodies) b) ∙ ap (λ (bs : List Body). fold after s bs) (sym (taken_next bodies n b within is))
+pub put_next : (o : Option State) (t u : State) (bodies : List Body) (n : ℕ) (b : Body) → n < length bodies → b ≡ get_or bodies n b → fold put_on o (take n bodies) ≡ Some t → next t b ≡ Some u → fold put_on o (take (n + 1) bodies) ≡ Some u
+put_next o t u bodies n b within is so_far step =
+    ap (λ (bs : List Body). fold put_on o bs) (taken_next bodies n b within is) ∙ fold_push put_on o (take n bodies) b ∙ ap (λ (x : Option State). put_on x b) so_far ∙ step
+
+-- a record that can come next leads to the state behind it
+pub next_is : (s t : State) (b : Body) → IsTrue (can_follow s b) → t ≡ after s b → next s b ≡ Some t
+next_is s t b can is = ap (λ (c : Bool). cond c (Some (after s b)) None) can ∙ ap (λ (x : State). Some x) (sym is)
+
+-- what memory says is whole
+pub whole_said : (h : Held) (s : State) → Keeps h → said h ≡ s → whole s ≡ Some (said h)
+whole_said h s keeps is = subst (λ (x : State). whole x ≡ Some (said h)) is (ap (λ (b : Bool). cond b (Some (said h)) None) (spelled_whole h keeps))

@@ -1,8 +1,9 @@
 -- What is damage of the logs of a repository.
 
 use Rattle.std.specs.List.{fold}
-use Rattle.std.specs.Option.{IfSome}
-use Rattle.std.specs.Prelude.{List, None, Some, false, length, map, min, slice_get, sum_by, take, ℕ, ◌+◌, ◌-◌, ◌<◌, ◌^◌, ◌≡◌, ◌≤◌, ◌⊎◌}
+use Rattle.std.specs.Option.{IfSome, option_and_then}
+use Rattle.std.specs.Prelude.{Bool, IsTrue, List, None, Option, Some, false, length, map, min, slice_get, sum_by, take, ℕ, ◌+◌, ◌-◌, ◌<◌, ◌^◌, ◌≡◌, ◌≤◌, ◌⊎◌}
+use Rattle.commit_log.specs.declared.entry.Entry.TheVariants.{Decided, Finished, Life, One, Prepared, Upgraded}
 use Rattle.commit_log.specs.declared.entry.Entry.{Entry}
 use Rattle.held_state.specs.Entering.{can_enter}
 use Rattle.held_state.specs.Keeps.{Keeps}
@@ -12,12 +13,14 @@ use Rattle.held_state.specs.declared.held.Held.{Held}
 use Rattle.log_bytes.specs.Checkpoint.{state_format}
 use Rattle.log_bytes.specs.Format.{value_of}
 use Rattle.log_bytes.specs.Grammar.{body_format}
-use Rattle.log_bytes.specs.declared.body.Body.TheVariants.{Entry as AnEntry}
+use Rattle.log_bytes.specs.declared.body.Body.TheVariants.{Entry as AnEntry, Installed}
 use Rattle.log_bytes.specs.declared.body.Body.{Body}
 use Rattle.log_bytes.specs.declared.state.State.{State}
 use Rattle.log_frame.specs.Log.{Opened, Stands}
 use Rattle.state_log.specs.Opening.{IsTorn}
-use Rattle.state_log.specs.Recovered.{after, sequence_end, stands, state_in}
+use Rattle.state_log.specs.Recovered.{is_whole, next, sequence_end, whole}
+use Rattle.thor_value.specs.FiniteMap.{get}
+use Rattle.two_phase.specs.Contents.{keeps}
 
 -- the place of the gate behind some records of a log with this head
 abbrev pub gate_behind : ℕ → List (List ℕ) → ℕ
@@ -44,15 +47,37 @@ pub record IsNoBody (first : ℕ) (bodies : List (List ℕ)) (place : ℕ) : Typ
 abbrev pub Counted : List ℕ → ℕ → Type 0
 Counted head count = IfSome (value_of state_format head) (λ s. s.count ≡ count)
 
+-- the state behind one record more, where it can come next
+abbrev pub put_on : Option State → Body → Option State
+put_on before body = option_and_then (λ s. next s body) before
+
+abbrev pub prepares_kept_in : Held → Entry → Bool
+prepares_kept_in h (Prepared q) = keeps (get h.table.transactions q.tx)
+prepares_kept_in h (Life n) = false
+prepares_kept_in h (One q) = false
+prepares_kept_in h (Upgraded q) = false
+prepares_kept_in h (Decided t commit) = false
+prepares_kept_in h (Finished t commit) = false
+
+-- a record prepares a transaction on which a decision is kept
+abbrev pub prepares_kept : Held → Body → Bool
+prepares_kept h (AnEntry e) = prepares_kept_in h e
+prepares_kept h (Installed page side) = false
+
 -- A record can't be taken into memory behind a state: it is an entry that can't come next where those before it were taken.
-pub record CantPut (s : State) (bodies : List Body) : Type 0 where
+pub record CantPut (before : Option State) (bodies : List Body) : Type 0 where
   pub at : ℕ
   pub held : Held
   pub entry : Entry
   pub keeps : Keeps held
-  pub before : said held ≡ fold after s (take at bodies)
+  pub so_far : fold put_on before (take at bodies) ≡ Some (said held)
   pub is : slice_get bodies at ≡ Some (AnEntry entry)
   pub refused : can_enter held entry ≡ false
+
+-- a checkpoint that no repository leaves
+pub record IsBroken (s : State) : Type 0 where
+  pub unfit : IsUnfit s
+  pub not_whole : IsTrue (is_whole s) → ⊥
 
 -- An open log can't be taken into memory: its checkpoint is none that a repository leaves, or one of its records can't come
 -- behind those before it.
@@ -61,7 +86,7 @@ pub record IsUnheld (o : Opened) : Type 0 where
   pub head : value_of state_format o.head ≡ Some state
   pub bodies : List Body
   pub records : map (value_of body_format) o.bodies ≡ map Some bodies
-  pub unfit : IsUnfit state ⊎ CantPut state bodies
+  pub unfit : IsBroken state ⊎ CantPut (whole state) bodies
 
 -- What is wrong at a place of an open log.
 pub data Fault (o : Opened) (place : ℕ) : Type 0 where
@@ -77,11 +102,3 @@ pub data Fault (o : Opened) (place : ℕ) : Type 0 where
 -- This log disk is damaged at a place: by its frame, or by what the log has that counts.
 abbrev pub IsDamaged : (ℕ → List ℕ) → ℕ → ℕ → Type 0
 IsDamaged images d place = IsTorn images d place ⊎ ((o : Opened) × (Stands (images d) o × Fault o place))
-
--- the log that counts can't be taken into memory
-pub record StandsUnheld (images : ℕ → List ℕ) : Type 0 where
-  pub disk : ℕ
-  pub opened : Opened
-  pub on : Stands (images disk) opened
-  pub counts : stands images ≡ state_in opened
-  pub unheld : IsUnheld opened

@@ -7,7 +7,6 @@ ghost use Rattle.commit_log.specs.declared.entry.Entry.{Entry as AnyEntry};
 ghost use Rattle.held_state.specs.Entering.{can_enter};
 ghost use Rattle.held_state.specs.Keeps.{IsUnread, Keeps};
 ghost use Rattle.held_state.specs.Said.{said};
-ghost use Rattle.held_state.specs.Unfit.{IsUnfit};
 ghost use Rattle.held_state.specs.declared.fault.HoldFault.TheVariants.{Unfit};
 ghost use Rattle.log_bytes.specs.Checkpoint.{StateFits};
 ghost use Rattle.log_bytes.specs.Grammar.{BodyFits};
@@ -16,16 +15,17 @@ ghost use Rattle.log_bytes.specs.declared.state.State.{State as AState};
 ghost use Rattle.log_frame.specs.Log.{Stands};
 ghost use Rattle.page_store.specs.Sides.{ReachesSides};
 ghost use Rattle.page_store.specs.Store.{Agrees};
-ghost use Rattle.recovery.specs.Damage.{CantPut, Counted, Fault, IsDamaged, StandsUnheld};
+ghost use Rattle.recovery.specs.Damage.{CantPut, Counted, Fault, IsBroken, IsDamaged, prepares_kept, put_on};
 ghost use Rattle.recovery.specs.Found.{IsRecovered};
 ghost use Rattle.recovery.specs.declared.fault.RecoverFault.TheVariants.{Damaged, Failed};
 ghost use Rattle.state_log.specs.Holds.{Holds};
 ghost use Rattle.state_log.specs.Opening.{IsFresh, IsTorn, log_of};
-ghost use Rattle.state_log.specs.Recovered.{after, stands, state_in};
+ghost use Rattle.state_log.specs.Recovered.{next, stands, state_in, whole};
 
 use crate::bodies::{first_gate, read_bodies, read_head};
 use crate::fault::{RecoverFault, found_fault};
 use crate::recovered::Recovered;
+use commit_log::Entry;
 use disk_trait::Parts;
 use held_state::{HeldState, HoldFault};
 use log_bytes::{Body, State};
@@ -40,9 +40,9 @@ const SEQUENCE_END: u64 = 4_611_686_018_427_387_904;
 /// Reads a repository from its logs; `None` where neither log disk has an open header. The disks stay as
 /// they were.
 ///
-/// `Damaged` tells where the disks have no bytes of a repository: a log's place as `open_logs` tells it, a
-/// record's gate where its body is none, and 0 where a sequence or a checkpoint is none, or where a record
-/// can't stand in a log: it writes under a name of another repository, or prepares what is decided.
+/// `Damaged` tells where the disks have no bytes of a repository, and stand for no state: a log's place as
+/// `open_logs` tells it, a record's gate where its body is none, and 0 where a sequence or a checkpoint is none,
+/// or where a record can't stand in a log: it writes under a name of another repository.
 pub fn recover<P: Parts>(
     alloc: Global,
     parts: &mut P,
@@ -59,8 +59,9 @@ pub fn recover<P: Parts>(
     ensures found { (images : ℕ → List ℕ) → ReadsAs (P.disks parts.old) images → IfOk result (λ found. stands images ≡ option_map (λ r. said r.state) found) }
     ensures fresh { (images : ℕ → List ℕ) → ReadsAs (P.disks parts.old) images → result ≡ Ok None → IsFresh images }
     ensures damaged { (images : ℕ → List ℕ) (d place : ℕ) → ReadsAs (P.disks parts.old) images → IsErrOf result (Damaged d place) → IsDamaged images d place }
-    ensures lost { (images : ℕ → List ℕ) (d place : ℕ) → ReadsAs (P.disks parts.old) images → IsErrOf result (Damaged d place) → (stands images ≡ None) ⊎ StandsUnheld images }
+    ensures lost { (images : ℕ → List ℕ) (d place : ℕ) → ReadsAs (P.disks parts.old) images → IsErrOf result (Damaged d place) → stands images ≡ None }
     ensures failed { (d : ℕ) → IsErrOf result (Failed d) → Rose ((P.disks parts.old).faults d) ((P.disks parts.new).faults d) }
+    ensures disk { (d : ℕ) → IsErrOf result (Failed d) → d < 2 }
 {
     match open_logs(alloc, parts) {
         Ok(found) => replay_found(alloc, found, mob_limit),
@@ -84,20 +85,26 @@ fn replay_found(
         None => Ok(None),
         Some((log, head, records)) => {
             let replayed = replay(alloc, &log, &head, &records, mob_limit)?;
-            let (state, count) = replayed;
-            Ok(Some(Recovered { state, log, count }))
+            let (state, count, reopens) = replayed;
+            Ok(Some(Recovered {
+                state,
+                log,
+                count,
+                reopens,
+            }))
         }
     }
 }
 
-// The state of a log's checkpoint and its records, with the checkpoint's count.
+// The state of a log's checkpoint and its records, with the checkpoint's count, and whether a record prepares what
+// is decided.
 fn replay(
     alloc: Global,
     log: &CommitLog,
     head: &Text,
     records: &Records,
     mob_limit: u32,
-) -> Result<(HeldState, u64), RecoverFault>
+) -> Result<(HeldState, u64, bool), RecoverFault>
     ensures state { IfOk result (λ r. state_in (log_of (log.now, head.now, records.now)) ≡ Some (said r.0)) }
     ensures keeps { IfOk result (λ r. Keeps r.0) }
     ensures unread { IfOk result (λ r. IsUnread r.0.objects.pages) }
@@ -111,8 +118,9 @@ fn replay(
     let count = state.count;
     let first = first_gate(head);
     let bodies = read_bodies(alloc, disk, first, records.as_slice())?;
-    let held = hold_on(alloc, disk, state, &bodies, mob_limit)?;
-    Ok((held, count))
+    let mut reopens = false;
+    let held = hold_on(alloc, disk, state, &bodies, mob_limit, &mut reopens)?;
+    Ok((held, count, reopens))
 }
 
 // The disk of a log whose sequence is one that a log can have.
@@ -137,17 +145,18 @@ fn hold_on(
     state: State,
     bodies: &Sequence<Body>,
     mob_limit: u32,
+    reopens: &mut bool,
 ) -> Result<HeldState, RecoverFault>
     requires fits { StateFits state }
     requires fit { AllByRecursion BodyFits bodies.now }
     ensures keeps { IfOk result Keeps }
     ensures unread { IfOk result (λ held. IsUnread held.objects.pages) }
     ensures limit { IfOk result (λ held. held.objects.mob.limit ≡ mob_limit) }
-    ensures said { IfOk result (λ held. said held ≡ fold after state bodies.now) }
-    ensures damaged { (d place : ℕ) → IsErrOf result (Damaged d place) → (d ≡ disk) × (place ≡ 0) × (IsUnfit state ⊎ CantPut state bodies.now) }
+    ensures said { IfOk result (λ held. fold put_on (whole state) bodies.now ≡ Some (said held)) }
+    ensures damaged { (d place : ℕ) → IsErrOf result (Damaged d place) → (d ≡ disk) × (place ≡ 0) × (IsBroken state ⊎ CantPut (whole state) bodies.now) }
     ensures failed { (d : ℕ) → IsErrOf result (Failed d) → ⊥ }
 {
-    match hold(alloc, state, bodies, mob_limit) {
+    match hold(alloc, state, bodies, mob_limit, reopens) {
         Ok(held) => Ok(held),
         Err(HoldFault::Unfit) => Err(RecoverFault::Damaged { disk, place: 0 }),
         Err(HoldFault::NoMemory) => Err(RecoverFault::NoMemory),
@@ -160,39 +169,51 @@ fn hold(
     state: State,
     bodies: &Sequence<Body>,
     mob_limit: u32,
+    reopens: &mut bool,
 ) -> Result<HeldState, HoldFault>
     requires fits { StateFits state }
     requires fit { AllByRecursion BodyFits bodies.now }
     ensures keeps { IfOk result Keeps }
     ensures unread { IfOk result (λ held. IsUnread held.objects.pages) }
     ensures limit { IfOk result (λ held. held.objects.mob.limit ≡ mob_limit) }
-    ensures said { IfOk result (λ held. said held ≡ fold after state bodies.now) }
-    ensures unfit { result ≡ Err Unfit → IsUnfit state ⊎ CantPut state bodies.now }
+    ensures said { IfOk result (λ held. fold put_on (whole state) bodies.now ≡ Some (said held)) }
+    ensures unfit { result ≡ Err Unfit → IsBroken state ⊎ CantPut (whole state) bodies.now }
 {
     let mut held = HeldState::of(alloc, state, mob_limit)?;
-    put_all(&mut held, bodies.as_slice())?;
+    put_all(&mut held, bodies.as_slice(), reopens)?;
     Ok(held)
 }
 
-// Puts records behind a state.
-fn put_all(held: &mut HeldState, bodies: &[Body]) -> Result<(), HoldFault>
+// Puts records behind a state, and tells whether one prepares what is decided.
+fn put_all(held: &mut HeldState, bodies: &[Body], reopens: &mut bool) -> Result<(), HoldFault>
     requires fit { AllByRecursion BodyFits bodies.now }
     requires keeps { Keeps held.old }
     requires unread { IsUnread held.old.objects.pages }
     ensures keeps { OnOk result (Keeps held.new) }
     ensures unread { OnOk result (IsUnread held.new.objects.pages) }
     ensures limit { OnOk result (held.new.objects.mob.limit ≡ held.old.objects.mob.limit) }
-    ensures said { OnOk result (said held.new ≡ fold after (said held.old) bodies.now) }
-    ensures unfit { result ≡ Err Unfit → CantPut (said held.old) bodies.now }
+    ensures said { OnOk result (fold put_on (Some (said held.old)) bodies.now ≡ Some (said held.new)) }
+    ensures unfit { result ≡ Err Unfit → CantPut (Some (said held.old)) bodies.now }
 {
     for body in bodies {
+        *reopens = *reopens || prepares_kept(held, body);
         put_behind(held, body)?;
     }
     Ok(())
 }
 
+// Whether a record prepares a transaction on which a decision is kept.
+fn prepares_kept(held: &HeldState, body: &Body) -> bool
+    ensures { result ≡ prepares_kept held.now body.now }
+{
+    match body {
+        Body::Entry(Entry::Prepared { request }) => held.table().keeps(request.tx),
+        Body::Entry(_) | Body::Installed { .. } => false,
+    }
+}
+
 // Puts one record behind a state.
-#[tactic(auto, using(held_state::proofs::Limits::entered_limit))]
+#[tactic(auto, using(held_state::proofs::Limits::entered_limit, crate::proofs::Replayed::next_is))]
 fn put_behind(held: &mut HeldState, body: &Body) -> Result<(), HoldFault>
     requires fits { BodyFits body.now }
     requires keeps { Keeps held.old }
@@ -200,7 +221,7 @@ fn put_behind(held: &mut HeldState, body: &Body) -> Result<(), HoldFault>
     ensures keeps { OnOk result (Keeps held.new) }
     ensures unread { OnOk result (IsUnread held.new.objects.pages) }
     ensures limit { OnOk result (held.new.objects.mob.limit ≡ held.old.objects.mob.limit) }
-    ensures said { OnOk result (said held.new ≡ after (said held.old) body.now) }
+    ensures said { OnOk result (next (said held.old) body.now ≡ Some (said held.new)) }
     ensures unfit { result ≡ Err Unfit → (entry : AnyEntry) × (body.now ≡ AnEntry entry) × (can_enter held.old entry ≡ false) }
 {
     match body {

@@ -11,7 +11,6 @@ use Rattle.repository_laws.specs.Coming.{BeginsLife}
 use Rattle.repository_laws.specs.Running.{came_with}
 use Rattle.disk_trait.specs.AllDisks.{TellsAll}
 use Rattle.disk_trait.specs.Disks.{Disks}
-use Rattle.stable_store.specs.Saying.{GivesUnheld}
 use Rattle.stable_store.specs.declared.stable.Stable.{Stable}
 use Rattle.stable_store.specs.Kept.{disks_of, is_torn_in, is_up_in, lowered, pending_in}
 use Rattle.stable_store.specs.declared.stable.Phase.TheVariants.{Down, Torn, Up}
@@ -153,11 +152,3 @@ pub tells_shown : {P : Type 0} (disks : P → Disks) (store : Stable P) (M : Mem
 tells_shown disks store M t n x is told = λ d within.
     let there = subst AllTold (sym is) told d within in
     (there.0, sym (told_by (content_of (shown disks store M t n)) (disks_of disks store).content refl refl refl d within) ∙ there.1)
-
--- and the other way
-pub unheld_shown : {P : Type 0} (disks : P → Disks) (store : Stable P) (M : Memory) (t : Recorded) (n : ℕ) (x : Shown) → shown disks store M t n ≡ x → GivesUnheld (disks_of disks store).content → GivesUnheld (content_of x)
-unheld_shown disks store M t n x is gives = subst (λ (y : Shown). GivesUnheld (content_of y)) is (record {
-  bytes = gives.bytes;
-  told = λ d within. told_by (content_of (shown disks store M t n)) (disks_of disks store).content refl refl refl d within ∙ gives.told d within;
-  unheld = gives.unheld;
-})

@@ -3,31 +3,19 @@ use Rattle.commit_log.specs.declared.entry.Entry.TheVariants.{Decided, Finished,
 use Rattle.commit_log.specs.declared.request.Kind.TheVariants.{App, Transform, Upgrade}
 use Rattle.commit_log.specs.declared.request.Kind.{Kind}
 use Rattle.commit_log.specs.declared.request.Request.{Request}
-use Rattle.held_state.specs.Entering.{are_of}
 use Rattle.held_state.specs.declared.held.Held.{Held}
 use Rattle.repo_core.specs.Behind.{MovesObjects, alone_entry}
 use Rattle.repo_core.specs.Calls.{CanWrite, Comes, MayRequest}
-use Rattle.std.proofs.Common.{Bool, None, Option, Some, cond, false, is_some, not, refl, subst, sym, true, ℕ, ◌&&◌, ◌<◌, ◌^◌, ◌≡◌}
-use Rattle.std.specs.Prelude.{IsTrue}
-use Rattle.thor_value.specs.FiniteMap.{get, has}
+use Rattle.std.proofs.Common.{Bool, None, cond, false, refl, subst, sym, true, ℕ, ◌<◌, ◌^◌, ◌≡◌}
+use Rattle.thor_value.specs.FiniteMap.{has}
 use Rattle.thor_value.specs.Spelling.{TsFits}
 use Rattle.thor_value.specs.declared.names.Ts.{Ts}
-use Rattle.two_phase.specs.Contents.{keeps}
-use Rattle.two_phase.specs.declared.transaction.Transaction.{Transaction}
 use Rattle.validation_queue.specs.Clashes.{clash}
 use Rattle.volatile_state.specs.Volatile.{Memory, transaction_of}
-
-unkept : (o : Option Transaction) → is_some o ≡ false → keeps o ≡ false
-unkept None e = refl
-unkept (Some x) e = absurd (cc)
 
 second : (b c : Bool) → cond b true c ≡ false → c ≡ false
 second true c e = cc
 second false c e = e
-
-both : (a b : Bool) → a ≡ false → IsTrue b → IsTrue (not a && b)
-both true b e t = absurd (cc)
-both false b e t = t
 
 comes : (h : Held) (M : Memory) (q : Request) (alone : Bool) → MayRequest h M q alone → clash M.queue (transaction_of q) ≡ None → Comes M q
 comes h M q alone may accepted = record {
@@ -40,7 +28,7 @@ pub can_prepare : (h h' : Held) (M : Memory) (q : Request) → MayRequest h M q 
 can_prepare h h' M q may moves accepted =
     subst (λ (x : Held). CanWrite x M (Prepared q)) (sym moves) (record {
       fits = may.form.fits;
-      takes = both (keeps (get h.table.transactions q.tx)) (are_of h.repo q.writes) (unkept (get h.table.transactions q.tx) may.unkept) may.here;
+      takes = may.here;
       comes = comes h M q false may accepted;
     })
 

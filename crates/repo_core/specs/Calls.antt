@@ -3,7 +3,8 @@ use Rattle.commit_log.specs.RequestForm.{IsWellFormed}
 use Rattle.commit_log.specs.declared.entry.Entry.TheVariants.{Decided, Finished, Life, One, Prepared, Upgraded}
 use Rattle.commit_log.specs.declared.entry.Entry.{Entry}
 use Rattle.commit_log.specs.declared.request.Request.{Request}
-use Rattle.held_state.specs.Entering.{are_of, can_enter}
+use Rattle.held_state.specs.Entering.{can_enter}
+use Rattle.state_log.specs.Recovered.{are_of}
 use Rattle.held_state.specs.declared.held.Held.{Held}
 use Rattle.live_sessions.specs.Sessions.{is_live}
 use Rattle.log_bytes.specs.Grammar.{BodyFits}

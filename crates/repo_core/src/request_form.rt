@@ -5,7 +5,7 @@ ghost use Rattle.std.specs.Ordering.{nat_cmp};
 ghost use Rattle.std.specs.Prelude.{◌≡◌, ◌<◌, FitsSigned, IsTrue};
 ghost use Rattle.std.specs.List.{AllByRecursion};
 ghost use Rattle.commit_log.specs.RequestForm.{AnswerFits, IsWellFormed, RequestFits, WriteFits};
-ghost use Rattle.held_state.specs.Entering.{are_of};
+ghost use Rattle.state_log.specs.Recovered.{are_of};
 ghost use Rattle.log_bytes.specs.Grammar.{is_above, rise};
 ghost use Rattle.object_codec.specs.Spelling.{ObjFits};
 ghost use Rattle.repo_core.specs.Calls.{MayRequest};

@@ -7,9 +7,9 @@ ghost use Rattle.log_bytes.specs.Grammar.{BodyFits};
 ghost use Rattle.log_bytes.specs.declared.body.Body.TheVariants.{Entry as AnEntry};
 ghost use Rattle.repo_core.specs.Behind.{IsRecovered, IsRestarted, Stands, is_marked};
 ghost use Rattle.stable_store.specs.Kept.{IsKept, held_of, is_fault, is_up, parts_in};
-ghost use Rattle.stable_store.specs.Saying.{GivesUnheld, IsAhead, IsSaid};
+ghost use Rattle.stable_store.specs.Saying.{IsAhead, IsSaid};
 ghost use Rattle.trace_record.specs.Recorded.{with_entry};
-ghost use Rattle.repo_core.specs.Restarting.{AllTold, ComesUp, DropsEarlier, LetsGo, StaysDown, Takes, TakesNone, content_of, life_behind};
+ghost use Rattle.repo_core.specs.Restarting.{AllTold, ComesUp, DropsEarlier, LetsGo, StaysDown, Takes, TakesNone, life_behind};
 ghost use Rattle.repo_core.specs.Moving.{Falls};
 ghost use Rattle.repo_core.specs.Refusing.{GoesDown};
 ghost use Rattle.repository_laws.specs.Running.{came_with};
@@ -33,9 +33,8 @@ impl<P: Parts> Repo<P> {
     ///
     /// What is recovered has to agree with what is in memory, or with that and the entry that was being
     /// written; else the answer is `Damaged`, as it is where a log disk has no log of this repository. It comes
-    /// only where some disk doesn't tell its bytes, or where the log that counts can't be taken into memory. All
-    /// sessions end. Decisions of earlier openings are kept no longer. After a refusal the repository is
-    /// down, with the entry pending that was so, or with the Life.
+    /// only where some disk doesn't tell its bytes. All sessions end. Decisions of earlier openings are kept no
+    /// longer. After a refusal the repository is down, with the entry pending that was so, or with the Life.
     #[tactic(auto, using(crate::proofs::Taking::comes_up_so, crate::proofs::Taking::fails_so))]
     pub fn restart(&mut self, pick: u64) -> Result<(), Refusal>
         ensures up { OnOk result (self.new.is_up ≡ true) }
@@ -46,7 +45,7 @@ impl<P: Parts> Repo<P> {
         ensures refused { OnErr result (IsRecovered self.old.trace self.new.trace) }
         ensures comes_up { OnOk result (ComesUp self.old self.new) }
         ensures stays_down { OnErr result (StaysDown self.old self.new) }
-        ensures damaged { (n place : ℕ) → IsErrOf result (IsDamaged n place) → AllTold self.old → GivesUnheld (content_of self.new) }
+        ensures damaged { (n place : ℕ) → IsErrOf result (IsDamaged n place) → AllTold self.old → ⊥ }
         ensures opened { self.new.opened_in ≡ self.old.opened_in }
     {
         self.take_over(pick)?;
@@ -62,7 +61,7 @@ impl<P: Parts> Repo<P> {
         ensures fault { IfErr result (λ r. is_fault r ≡ true) }
         ensures takes { OnOk result (Takes self.old self.new) }
         ensures none { OnErr result (TakesNone self.old self.new) }
-        ensures damaged { (n place : ℕ) → IsErrOf result (IsDamaged n place) → AllTold self.old → GivesUnheld (content_of self.new) }
+        ensures damaged { (n place : ℕ) → IsErrOf result (IsDamaged n place) → AllTold self.old → ⊥ }
         ensures opened { self.new.opened_in ≡ self.old.opened_in }
     {
         match self.stable.restart(self.alloc, pick)? {

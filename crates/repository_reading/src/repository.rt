@@ -69,7 +69,8 @@ pub fn read_repository<P: Parts>(
     Ok(Some((recovered, behind)))
 }
 
-/// Recovers a repository from its disks, which are synced. Nothing is there where it is fresh.
+/// Recovers a repository from its disks, which are synced. Nothing is there where it is fresh. A log in which
+/// what was decided is prepared anew is none of a repository.
 fn recover_one<P: Parts>(
     alloc: Global,
     parts: &mut P,
@@ -89,7 +90,7 @@ fn recover_one<P: Parts>(
         Ok(None) => return Ok(None),
         Err(fault) => return Err(fault_of(repo, fault)),
     };
-    if recovered.state.repo() != repo || recovered.state.repos() != repos {
+    if recovered.state.repo() != repo || recovered.state.repos() != repos || recovered.reopens {
         let fault = damaged(&recovered, repo);
         drop(recovered);
         return Err(fault);

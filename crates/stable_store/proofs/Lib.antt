@@ -1,3 +1,4 @@
+pub mod Failing
 pub mod Forgetting
 pub mod Lowered
 pub mod Opened

@@ -1,6 +1,7 @@
 -- A log that was found is open, where the disk of pages reaches the installed sides.
 use Rattle.disk_trait.specs.Disks.{Disks, NoNewImage, OnDisk, WhereTold}
 use Rattle.held_state.specs.Keeps.{Keeps}
+use Rattle.held_state.specs.Said.{said}
 use Rattle.held_state.specs.declared.held.Held.{Held}
 use Rattle.log_bytes.specs.declared.state.State.{State}
 use Rattle.log_frame.specs.Log.{Place}
@@ -18,10 +19,11 @@ pub stands_where : (old new : Disks) (log : Place) (s : State) → Holds old log
 stands_where old new log s holds alone content crash =
     holds_beside old new log s holds alone (λ bytes told image left. holds.settled 2 (omega arith) bytes (sym content ∙ told) image (crash image left))
 
-pub opened_where : (old new : Disks) (log : Place) (held : Held) (sides : List (ℕ × ℕ)) (answer : Bool) → (s : State) × Holds old log s → Keeps held → AgreesWhere held.objects.pages → OnDisk old new 2 → new.content 2 ≡ old.content 2 → NoNewImage old new 2 → sides ≡ held.objects.pages.sides → WhereTold old 2 (λ disk. answer ≡ are_within (length disk) sides) → answer ≡ true → IsOpen new log held
-opened_where old new log held sides answer found keeps agrees alone content crash same answers is = record {
-  state = found.0;
-  holds = stands_where old new log found.0 found.1 alone content crash;
+pub opened_where : (old new : Disks) (log : Place) (held : Held) (sides : List (ℕ × ℕ)) (answer : Bool) → Holds old log (said held) → Keeps held → AgreesWhere held.objects.pages → OnDisk old new 2 → new.content 2 ≡ old.content 2 → NoNewImage old new 2 → sides ≡ held.objects.pages.sides → WhereTold old 2 (λ disk. answer ≡ are_within (length disk) sides) → answer ≡ true → IsOpen new log held
+opened_where old new log held sides answer holds keeps agrees alone content crash same answers is = record {
+  state = said held;
+  holds = stands_where old new log (said held) holds alone content crash;
+  repo = refl;
   pages = λ bytes told.
       let within : are_within (length bytes) sides ≡ true = sym (answers bytes (sym content ∙ told)) ∙ is in
       agrees bytes (subst (λ (ps : List (ℕ × ℕ)). ReachesSides ps bytes) same (reached sides bytes (length bytes) refl within));

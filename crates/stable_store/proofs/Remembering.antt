@@ -7,18 +7,19 @@ use Rattle.log_bytes.specs.declared.body.Body.{Body}
 use Rattle.log_bytes.specs.declared.state.State.{State}
 use Rattle.stable_store.specs.Remembering.{Remembers, is_kept}
 use Rattle.state_log.proofs.ValueLaws.{changed_mob, object_in-off, object_in-writes}
-use Rattle.state_log.specs.Recovered.{after, decided, kept_by, kept_with, opened_without, page_above, request_at}
+use Rattle.state_log.specs.Recovered.{after, decided, kept_by, kept_with, kept_without, opened_without, page_above, request_at}
 use Rattle.state_log.specs.Values.{object_in, writes_of, written_last}
-use Rattle.std.proofs.Common.{Bool, List, None, Option, Some, [], ◌∷◌, ap, arith, cond, false, map, max, nat_eq, refl, subst, sym, true, ℕ, ◌+◌, ◌∙◌, ◌≡◌, ◌≤◌}
+use Rattle.std.proofs.Common.{Bool, List, None, Option, Some, [], ◌∷◌, ap, arith, cond, false, map, max, nat_eq, not, refl, subst, sym, true, ℕ, ◌+◌, ◌∙◌, ◌≡◌, ◌≤◌}
+use Rattle.std.proofs.lemmas.Map.Views.{tells_apart}
 use Rattle.std.specs.BTreeMap.{insert_entry, is_at}
 use Rattle.std.specs.List.{fold}
 use Rattle.std.specs.Map.{keys_of, lookup}
 use Rattle.std.specs.Option.{is_some}
 use Rattle.std.specs.Ordering.{eq_by_cmp, nat_cmp}
 use Rattle.thor_value.proofs.FiniteMap.{get-insert}
-use Rattle.thor_value.proofs.NameOrders.{ts_total}
+use Rattle.thor_value.proofs.NameOrders.{ts_exact, ts_total}
 use Rattle.thor_value.specs.FiniteMap.{Map}
-use Rattle.thor_value.specs.Names.{same_oref, ts_cmp}
+use Rattle.thor_value.specs.Names.{same_oref, same_ts, ts_cmp}
 use Rattle.thor_value.specs.declared.names.Oref.{Oref}
 use Rattle.thor_value.specs.declared.names.Ts.{Ts}
 use Rattle.thor_value.specs.declared.values.Obj.{Obj}
@@ -57,6 +58,39 @@ by_test false o p more is = more is
 keeps_more : (j k : List Ts) (t : Ts) → ((u : Ts) → is_kept j u ≡ true → is_kept k u ≡ true) → (u : Ts) → is_kept (kept_with j t) u ≡ true → is_kept (kept_with k t) u ≡ true
 keeps_more j k t more u is =
     kept_more k t u ∙ by_test (eq_by_cmp ts_cmp u t) (lookup (is_at (ts_cmp u)) (map stamp j)) (lookup (is_at (ts_cmp u)) (map stamp k)) (more u) (sym (kept_more j t u) ∙ is)
+
+-- that on a transaction is kept by neither
+dropped_no : (t u : Ts) (ts : List Ts) → is_kept (kept_without ts t) u ≡ cond (eq_by_cmp ts_cmp u t) false (is_kept ts u)
+dropped_no t u [] = by (eq_by_cmp ts_cmp u t)
+  where
+    by : (b : Bool) → false ≡ cond b false false
+    by true = refl
+    by false = refl
+dropped_no t u (v ∷ vs) = by (same_ts t v) (is_at (ts_cmp u) v) (eq_by_cmp ts_cmp u t) refl refl refl (dropped_no t u vs)
+  where
+    rest : Option (Unit {0})
+    rest = lookup (is_at (ts_cmp u)) (map stamp vs)
+
+    by : (b c d : Bool) → same_ts t v ≡ b → is_at (ts_cmp u) v ≡ c → eq_by_cmp ts_cmp u t ≡ d → is_kept (kept_without vs t) u ≡ cond d false (is_some rest) → is_kept (cond (not b) (v ∷ kept_without vs t) (kept_without vs t)) u ≡ cond d false (is_some (cond c (Some (tt {0})) rest))
+    by true false d here at key more = more
+    by true true true here at key more = more
+    by true true false here at key more =
+        let one : eq_by_cmp ts_cmp u t ≡ true = ap (λ (x : Ts). eq_by_cmp ts_cmp u x) (tells_apart ts_exact t v here) ∙ at in
+        let clash : true ≡ false = sym one ∙ key in
+        cc
+    by false true true here at key more =
+        let one : same_ts t v ≡ true = ap (λ (x : Ts). eq_by_cmp ts_cmp x v) (sym (tells_apart ts_exact u t key)) ∙ at in
+        let clash : true ≡ false = sym one ∙ here in
+        cc
+    by false true false here at key more = ap (λ (c : Bool). is_some (cond c (Some (tt {0})) (lookup (is_at (ts_cmp u)) (map stamp (kept_without vs t))))) at
+    by false false d here at key more = ap (λ (c : Bool). is_some (cond c (Some (tt {0})) (lookup (is_at (ts_cmp u)) (map stamp (kept_without vs t))))) at ∙ more
+
+some_less : (b x y : Bool) → (x ≡ true → y ≡ true) → cond b false x ≡ true → cond b false y ≡ true
+some_less true x y more is = cc
+some_less false x y more is = more is
+
+keeps_less : (j k : List Ts) (t : Ts) → ((u : Ts) → is_kept j u ≡ true → is_kept k u ≡ true) → (u : Ts) → is_kept (kept_without j t) u ≡ true → is_kept (kept_without k t) u ≡ true
+keeps_less j k t more u is = dropped_no t u k ∙ some_less (eq_by_cmp ts_cmp u t) (is_kept j u) (is_kept k u) (more u) (sym (dropped_no t u j) ∙ is)
 
 -- ---- pages
 
@@ -155,7 +189,7 @@ module _ (a : State) (n : ℕ) (k : List Ts) (i : Sides) (m : Writes) where
   kept_after : (b : Body) → More a.kept k → More (after a b).kept (after (with_four a n k i m) b).kept
   kept_after (AnEntry (Life l)) more = more
   kept_after (AnEntry (One q)) more = more
-  kept_after (AnEntry (Prepared q)) more = more
+  kept_after (AnEntry (Prepared q)) more = keeps_less a.kept k q.tx more
   kept_after (AnEntry (Upgraded q)) more = more
   kept_after (AnEntry (Decided t c)) more = kept_decided t c (request_at a.prepared t) more
   kept_after (AnEntry (Finished t c)) more = kept_finished c (request_at a.prepared t) more

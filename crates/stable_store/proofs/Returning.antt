@@ -17,14 +17,13 @@ use Rattle.log_bytes.specs.declared.state.State.{State}
 use Rattle.log_frame.specs.Log.{Opened, Place, read_log}
 use Rattle.mob_flusher.specs.Map.{Kept}
 use Rattle.page_store.specs.Sides.{ReachesSides}
-use Rattle.recovery.specs.Damage.{StandsUnheld}
 use Rattle.stable_store.proofs.Remembering.{comes_back, comes_behind, comes_installed}
 use Rattle.stable_store.proofs.Pages.{tells_before, tells_on}
 use Rattle.stable_store.proofs.Saying.{log_same, log_says, said_in_phase}
 use Rattle.stable_store.specs.Agreeing.{numbers_of}
 use Rattle.stable_store.specs.Kept.{disks_of, down, is_torn_in, lowered}
 use Rattle.stable_store.specs.Remembering.{Remembers}
-use Rattle.stable_store.specs.Saying.{FindsOneOf, GivesUnheld, ImagesSay, IsAhead, IsAheadIn, IsOneOf, IsSaid, LeavesNoMore, LogSays, SaysIn}
+use Rattle.stable_store.specs.Saying.{FindsOneOf, ImagesSay, IsAhead, IsAheadIn, IsOneOf, IsSaid, LeavesNoMore, LogSays, SaysIn}
 use Rattle.stable_store.specs.declared.agreement.Numbers.{Numbers}
 use Rattle.stable_store.specs.declared.stable.Phase.TheVariants.{Down, Torn, Up}
 use Rattle.stable_store.specs.declared.stable.Phase.{Phase}
@@ -116,21 +115,18 @@ never_none s o some none = cc
 reads_same : (old new : Disks) (bytes : ℕ → List ℕ) → SameContent old new → ReadsAs new bytes → ReadsAs old bytes
 reads_same old new bytes same reads = λ d within. sym (same d) ∙ reads d within
 
--- where no log is found, or one is damaged, that log can't be taken into memory
-unheld : (old read : Disks) (h : Held) (pending : Option Entry) → LeavesNoMore old read → ((bytes : ℕ → List ℕ) → ReadsAs read bytes → MayLeaveAll read read.time bytes) → ((bytes : ℕ → List ℕ) → ReadsAs read bytes → (stands bytes ≡ None) ⊎ StandsUnheld bytes) → ImagesSay old h pending → TellsAll old → GivesUnheld read.content
-unheld old read h pending more left lost says tells =
+-- a log that stands for nothing is none of what the disks may have said
+never_lost : (old read : Disks) (h : Held) (pending : Option Entry) → LeavesNoMore old read → ((bytes : ℕ → List ℕ) → ReadsAs read bytes → MayLeaveAll read read.time bytes) → ((bytes : ℕ → List ℕ) → ReadsAs read bytes → stands bytes ≡ None) → ImagesSay old h pending → TellsAll old → ⊥
+never_lost old read h pending more left lost says tells =
     let got = reads_of read (more.goes_on tells) in
     let one = says.each tells got.0 (more.images got.0 (left got.0 got.1)) in
-    elim (lost got.0 got.1) [
-      | inl none ↦ absurd (never_none one.state (stands got.0) one.stands none)
-      | inr is ↦ record { bytes = got.0; told = got.1; unheld = is }
-    ]
+    never_none one.state (stands got.0) one.stands (lost got.0 got.1)
 
-pub lost_unheld : (old mid read : Disks) (h : Held) (pending : Option Entry) → LeavesNoMore old read → SameContent mid read → ((bytes : ℕ → List ℕ) → ReadsAs read bytes → MayLeaveAll read read.time bytes) → ((bytes : ℕ → List ℕ) → ReadsAs mid bytes → (stands bytes ≡ None) ⊎ StandsUnheld bytes) → ImagesSay old h pending → TellsAll old → GivesUnheld read.content
-lost_unheld old mid read h pending more same left lost says tells = unheld old read h pending more left (λ bytes reads. lost bytes (reads_same mid read bytes same reads)) says tells
+pub none_lost : (old mid read : Disks) (h : Held) (pending : Option Entry) → LeavesNoMore old read → SameContent mid read → ((bytes : ℕ → List ℕ) → ReadsAs read bytes → MayLeaveAll read read.time bytes) → ((bytes : ℕ → List ℕ) → ReadsAs mid bytes → stands bytes ≡ None) → ImagesSay old h pending → TellsAll old → ⊥
+none_lost old mid read h pending more same left lost says tells = never_lost old read h pending more left (λ bytes reads. lost bytes (reads_same mid read bytes same reads)) says tells
 
-pub fresh_unheld : (old mid read : Disks) (h : Held) (pending : Option Entry) → LeavesNoMore old read → SameContent mid read → ((bytes : ℕ → List ℕ) → ReadsAs read bytes → MayLeaveAll read read.time bytes) → ((bytes : ℕ → List ℕ) → ReadsAs mid bytes → IsFresh bytes) → ImagesSay old h pending → TellsAll old → GivesUnheld read.content
-fresh_unheld old mid read h pending more same left fresh says tells = unheld old read h pending more left (λ bytes reads. inl (fresh_none bytes (fresh bytes (reads_same mid read bytes same reads)))) says tells
+pub none_fresh : (old mid read : Disks) (h : Held) (pending : Option Entry) → LeavesNoMore old read → SameContent mid read → ((bytes : ℕ → List ℕ) → ReadsAs read bytes → MayLeaveAll read read.time bytes) → ((bytes : ℕ → List ℕ) → ReadsAs mid bytes → IsFresh bytes) → ImagesSay old h pending → TellsAll old → ⊥
+none_fresh old mid read h pending more same left fresh says tells = never_lost old read h pending more left (λ bytes reads. fresh_none bytes (fresh bytes (reads_same mid read bytes same reads))) says tells
 
 -- the disk of pages reaches the sides in use
 pub none_lacks : (old read : Disks) (log : Place) (h : Held) (s : State) (pending : Option Entry) → LeavesNoMore old read → Holds read log s → ((bytes : ℕ → List ℕ) → ReadsAs read bytes → MayLeaveAll read read.time bytes) → ImagesSay old h pending → TellsAll old → WhereTold read 2 (λ disk. ReachesSides s.installed disk → ⊥) → ⊥
@@ -240,10 +236,10 @@ restart_stays {P = P} disks old mid new pending is down more held parts same pha
     said_in_phase disks new pending phase (subst (λ (p : Fused P). ImagesSay (fused_disks disks p) new.held pending) (sym parts) there)
 
 -- it isn't torn: then images of its disks said what it holds, or that with the pending entry
-pub restart_unheld : {P : Type 0} (disks : P → Disks) (old : Stable P) (now' : ℕ → Option (List ℕ)) (p : Phase) → IsSaid disks old → old.phase ≡ lowered p → is_torn_in old.phase ≡ false → ((pending : Option Entry) → ImagesSay (disks_of disks old) old.held pending → GivesUnheld now') → GivesUnheld now'
-restart_unheld disks old now' (Up log) is down whole unheld = unheld None (subst (SaysIn (disks_of disks old) old.held) down is.says)
-restart_unheld disks old now' (Down pending) is down whole unheld = unheld pending (subst (SaysIn (disks_of disks old) old.held) down is.says)
-restart_unheld disks old now' (Torn e) is down whole unheld = (let no : true ≡ false = sym (ap is_torn_in down) ∙ whole in cc)
+pub restart_never : {P : Type 0} (disks : P → Disks) (old : Stable P) (p : Phase) → IsSaid disks old → old.phase ≡ lowered p → is_torn_in old.phase ≡ false → ((pending : Option Entry) → ImagesSay (disks_of disks old) old.held pending → ⊥) → ⊥
+restart_never disks old (Up log) is down whole never = never None (subst (SaysIn (disks_of disks old) old.held) down is.says)
+restart_never disks old (Down pending) is down whole never = never pending (subst (SaysIn (disks_of disks old) old.held) down is.says)
+restart_never disks old (Torn e) is down whole never = (let no : true ≡ false = sym (ap is_torn_in down) ∙ whole in cc)
 
 -- the stop is taken back
 pub tells_armed : {P : Type 0} (disks : P → Disks) (store : Stable P) (parts : Fused P) (calls : ℕ) → parts ≡ armed store.parts calls → TellsAll (disks_of disks store) → TellsAll (disks_of disks (record store { parts = parts }))

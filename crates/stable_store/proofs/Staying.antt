@@ -1,10 +1,13 @@
 -- What is kept stays so, by whether the repository is up.
+use Rattle.commit_log.specs.declared.entry.Entry.{Entry}
 use Rattle.disk_trait.specs.Disks.{Disks, SameDisks}
 use Rattle.disk_trait.specs.Fuse.{with_falls}
 use Rattle.disk_trait.specs.Fused.{armed, fused_disks, parts_of}
 use Rattle.disk_trait.specs.declared.fused.Fused.{Fused}
+use Rattle.held_state.specs.Entering.{can_enter}
 use Rattle.held_state.specs.Keeps.{Keeps}
 use Rattle.held_state.specs.declared.held.Held.{Held}
+use Rattle.log_bytes.specs.declared.state.State.{State}
 use Rattle.log_frame.specs.Log.{Place}
 use Rattle.page_store.specs.Store.{Agrees}
 use Rattle.stable_store.proofs.Opened.{opened_moved, opened_same}
@@ -12,6 +15,9 @@ use Rattle.stable_store.specs.Kept.{IsKept, IsOpen, IsOpenIn, disks_of, down, do
 use Rattle.stable_store.specs.declared.stable.Phase.TheVariants.{Down, Torn, Up}
 use Rattle.stable_store.specs.declared.stable.Phase.{Phase}
 use Rattle.stable_store.specs.declared.stable.Stable.{Stable}
+use Rattle.state_log.specs.Holds.{Holds}
+use Rattle.state_log.specs.Recovered.{is_of}
+use Rattle.std.specs.Prelude.{IsTrue}
 use Rattle.std.proofs.Common.{List, None, subst, sym, true, ◌≡◌, ℕ}
 
 -- the falls of a stop change nothing that is open
@@ -19,6 +25,7 @@ opened_falls : (disks : Disks) (falls : List ℕ) (log : Place) (held : Held) �
 opened_falls disks falls log held stood = record {
   state = stood.state;
   holds = record { within = stood.holds.within; settled = stood.holds.settled; agrees = stood.holds.agrees; told = stood.holds.told };
+  repo = stood.repo;
   pages = stood.pages;
   keeps = stood.keeps;
 }
@@ -54,14 +61,19 @@ stands_same old new held (Down pending) stood same = stood
 stands_same old new held (Torn entry) stood same = stood
 
 -- what is held moved, and its pages agree as before
-pub stands_moved : (disks : Disks) (held now' : Held) (phase : Phase) → IsOpenIn disks held phase → ((disk : List ℕ) → Agrees held.objects.pages disk → Agrees now'.objects.pages disk) → (Keeps held → Keeps now') → IsOpenIn disks now' phase
-stands_moved disks held now' (Up log) stood pages keeps = opened_moved disks log held now' stood pages keeps
-stands_moved disks held now' (Down pending) stood pages keeps = record { keeps = keeps stood.keeps; fits = stood.fits }
-stands_moved disks held now' (Torn entry) stood pages keeps = tt
+pub stands_moved : (disks : Disks) (held now' : Held) (phase : Phase) → IsOpenIn disks held phase → ((disk : List ℕ) → Agrees held.objects.pages disk → Agrees now'.objects.pages disk) → now'.repo ≡ held.repo → (Keeps held → Keeps now') → IsOpenIn disks now' phase
+stands_moved disks held now' (Up log) stood pages repo keeps = opened_moved disks log held now' stood pages repo keeps
+stands_moved disks held now' (Down pending) stood pages repo keeps = record { keeps = keeps stood.keeps; fits = stood.fits }
+stands_moved disks held now' (Torn entry) stood pages repo keeps = tt
 
 -- the log was taken out
 pub taken_open : {P : Type 0} (disks : P → Disks) (old now' : Stable P) (log : Place) → now' ≡ down_with old None → IsOpen (disks_of disks old) log old.held → IsOpen (disks_of disks now') log now'.held
 taken_open {P = P} disks old now' log same stood = subst (λ (s : Stable P). IsOpen (disks_of disks s) log s.held) (sym same) stood
+
+-- then an entry that is of this repository can come next in it
+pub taken_follows : {P : Type 0} (disks : P → Disks) (old now' : Stable P) (log : Place) (e : Entry) → now' ≡ down_with old None → IsOpen (disks_of disks old) log old.held → IsTrue (can_enter old.held e) → (s : State) × Holds (disks_of disks now') log s × IsTrue (is_of s.repo e)
+taken_follows {P = P} disks old now' log e same stood can =
+    subst (λ (m : Stable P). (s : State) × Holds (disks_of disks m) log s × IsTrue (is_of s.repo e)) (sym same) (stood.state, stood.holds, subst (λ (n : ℕ). IsTrue (is_of n e)) (sym stood.repo) can)
 
 -- a log is put back
 pub kept_up : {P : Type 0} (disks : P → Disks) (mid now' : Stable P) (log : Place) → now' ≡ record mid { phase = Up log } → IsOpen (disks_of disks mid) log mid.held → IsKept disks now'

@@ -19,10 +19,12 @@ use Rattle.std.specs.Prelude.{Bool, None, Option, Some, false, true, ℕ, ◌≡
 use Rattle.validation_window.specs.declared.refusal.Refusal.TheVariants as refused
 use Rattle.validation_window.specs.declared.refusal.Refusal.{Refusal}
 
--- The log of these disks holds a state, and the pages that are held in memory are those of the disk of pages.
+-- The log of these disks holds a state of this repository, and the pages that are held in memory are those of the disk of
+-- pages.
 pub record IsOpen (disks : Disks) (log : Place) (held : Held) : Type 0 where
   pub state : State
   pub holds : Holds disks log state
+  pub repo : state.repo ≡ held.repo
   pub pages : WhereTold disks 2 (Agrees held.objects.pages)
   pub keeps : Keeps held
 

@@ -1,5 +1,6 @@
 pub mod Agreeing
 pub mod Causes
+pub mod Failing
 pub mod Flushes
 pub mod Kept
 pub mod Reach

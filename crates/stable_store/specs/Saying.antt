@@ -9,7 +9,6 @@ use Rattle.log_bytes.specs.declared.state.State.{State}
 use Rattle.log_frame.specs.Log.{Place}
 use Rattle.mob_flusher.specs.Images.{IsFlushed}
 use Rattle.page_store.specs.Sides.{ReachesSides}
-use Rattle.recovery.specs.Damage.{StandsUnheld}
 use Rattle.stable_store.specs.Kept.{disks_of}
 use Rattle.stable_store.specs.Remembering.{Remembers}
 use Rattle.stable_store.specs.declared.recovering.Taken.TheVariants as taken
@@ -19,7 +18,7 @@ use Rattle.stable_store.specs.declared.stable.Phase.{Phase}
 use Rattle.stable_store.specs.declared.stable.Stable.{Stable}
 use Rattle.state_log.specs.Holds.{Holds}
 use Rattle.state_log.specs.Recovered.{after, stands}
-use Rattle.std.specs.Prelude.{List, None, Option, Some, ℕ, ◌<◌, ◌≡◌, ◌⊎◌}
+use Rattle.std.specs.Prelude.{List, None, Option, Some, ℕ, ◌≡◌, ◌⊎◌}
 
 -- the state of a log says what is held, with that page in use which was flushed last: its other side has all its objects
 pub record IsInstalling (h : Held) (s : State) : Type 0 where
@@ -83,9 +82,3 @@ pub record LeavesNoMore (old new : Disks) : Type 0 where
 -- one of the states that the disks may have said is found
 abbrev pub FindsOneOf : Disks → Disks → Held → State → Type 0
 FindsOneOf old new h s = (pending : Option Entry) → ImagesSay old h pending → TellsAll new → IsOneOf h pending s
-
--- The disks tell their bytes, and the log that counts there can't be taken into memory.
-pub record GivesUnheld (content : ℕ → Option (List ℕ)) : Type 0 where
-  pub bytes : ℕ → List ℕ
-  pub told : (d : ℕ) → d < 3 → content d ≡ Some (bytes d)
-  pub unheld : StandsUnheld bytes

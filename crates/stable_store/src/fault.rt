@@ -1,12 +1,14 @@
 //! Why a repository wasn't opened, and how faults of the layers below are told.
 
 ghost use Rattle.std.specs.Prelude.{◌≡◌, true, ℕ};
-ghost use Rattle.log_frame.specs.declared.fault.LogFault.TheVariants.{Damaged as AtLog};
-ghost use Rattle.recovery.specs.declared.fault.RecoverFault.TheVariants.{Damaged as AtRecovery};
+ghost use Rattle.disk_trait.specs.declared.parts.Outage.TheVariants.{Failed as DiskFailed};
+ghost use Rattle.log_frame.specs.declared.fault.LogFault.TheVariants.{Damaged as AtLog, Failed as LogFailed};
+ghost use Rattle.page_store.specs.declared.fault.StoreFault.TheVariants.{Damaged as AtPages, Failed as PagesFailed};
+ghost use Rattle.recovery.specs.declared.fault.RecoverFault.TheVariants.{Damaged as AtRecovery, Failed as RecoveryFailed};
 ghost use Rattle.stable_store.specs.Causes.{cause_of_log, cause_of_outage, cause_of_store};
 ghost use Rattle.stable_store.specs.Kept.{is_fault, repo_named};
 ghost use Rattle.stable_store.specs.declared.fault.OpenCause.TheVariants.{NoMemory as OutOfMemory};
-ghost use Rattle.validation_window.specs.declared.refusal.Refusal.TheVariants.{Damaged as IsDamaged};
+ghost use Rattle.validation_window.specs.declared.refusal.Refusal.TheVariants.{Damaged as IsDamaged, Stopped as IsStopped};
 
 use disk_trait::Outage;
 use log_frame::LogFault;
@@ -77,6 +79,7 @@ pub(crate) fn of_log(repo: u8, fault: LogFault) -> Refusal
     ensures fault { is_fault result ≡ true }
     ensures names { repo_named repo result ≡ repo }
     ensures damaged { (r place : ℕ) → result ≡ IsDamaged r place → (at : ℕ) × (fault ≡ AtLog at) }
+    ensures stopped { (r : ℕ) → result ≡ IsStopped r → fault ≡ LogFailed }
 {
     match fault {
         LogFault::Failed => Refusal::Stopped { repo },
@@ -89,6 +92,8 @@ pub(crate) fn of_log(repo: u8, fault: LogFault) -> Refusal
 pub(crate) fn of_store(repo: u8, fault: StoreFault) -> Refusal
     ensures fault { is_fault result ≡ true }
     ensures names { repo_named repo result ≡ repo }
+    ensures damaged { (r place : ℕ) → result ≡ IsDamaged r place → fault ≡ AtPages place }
+    ensures stopped { (r : ℕ) → result ≡ IsStopped r → fault ≡ PagesFailed }
 {
     match fault {
         StoreFault::Failed => Refusal::Stopped { repo },
@@ -102,6 +107,7 @@ pub(crate) fn of_outage(repo: u8, outage: Outage) -> Refusal
     ensures fault { is_fault result ≡ true }
     ensures names { repo_named repo result ≡ repo }
     ensures damaged { (r place : ℕ) → result ≡ IsDamaged r place → ⊥ }
+    ensures stopped { (r : ℕ) → result ≡ IsStopped r → outage ≡ DiskFailed }
 {
     match outage {
         Outage::Failed => Refusal::Stopped { repo },
@@ -114,6 +120,7 @@ pub(crate) fn of_recovery(repo: u8, fault: RecoverFault) -> Refusal
     ensures fault { is_fault result ≡ true }
     ensures names { repo_named repo result ≡ repo }
     ensures damaged { (r place : ℕ) → result ≡ IsDamaged r place → (d at : ℕ) × (fault ≡ AtRecovery d at) }
+    ensures stopped { (r : ℕ) → result ≡ IsStopped r → (d : ℕ) × (fault ≡ RecoveryFailed d) }
 {
     match fault {
         RecoverFault::Failed { disk: _ } => Refusal::Stopped { repo },

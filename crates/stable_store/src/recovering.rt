@@ -2,19 +2,20 @@
 
 ghost use Rattle.std.specs.Prelude.{◌≡◌, IfErr, IfOk, IsErrOf, OnErr, OnOk, Option, false, true, ℕ};
 ghost use Rattle.commit_log.specs.declared.entry.Entry.{Entry as AnyEntry};
-ghost use Rattle.disk_trait.specs.AllDisks.{TellsAll};
+ghost use Rattle.disk_trait.specs.AllDisks.{GoesOn, TellsAll};
 ghost use Rattle.disk_trait.specs.Disks.{WhereTold};
 ghost use Rattle.held_state.specs.Keeps.{Keeps};
 ghost use Rattle.held_state.specs.Said.{said};
 ghost use Rattle.page_store.specs.Sides.{ReachesSides};
 ghost use Rattle.stable_store.specs.Agreeing.{IsTaken};
-ghost use Rattle.log_bytes.specs.declared.state.State.{State};
-ghost use Rattle.stable_store.specs.Kept.{IsKept, IsOpen, IsResting, disks_of, held_of, is_fault, is_torn, is_up, lowered, pending};
-ghost use Rattle.stable_store.specs.Saying.{FindsOneOf, GivesUnheld, ImagesSay, IsOneOf, IsSaid, LeavesNoMore, SaysTaken};
+ghost use Rattle.disk_trait.specs.Fused.{armed};
+ghost use Rattle.stable_store.specs.Failing.{HasFailed};
+ghost use Rattle.stable_store.specs.Kept.{IsKept, IsOpen, IsResting, disks_of, held_of, is_fault, is_torn, is_up, lowered, parts_in, pending};
+ghost use Rattle.stable_store.specs.Saying.{FindsOneOf, ImagesSay, IsOneOf, IsSaid, LeavesNoMore, SaysTaken};
 ghost use Rattle.stable_store.specs.declared.stable.Phase.TheVariants.{Down as IsDown, Up as IsUp};
 ghost use Rattle.stable_store.specs.Taking.{AgreesWhere, CanTake, TakesFrom};
 ghost use Rattle.state_log.specs.Holds.{Holds};
-ghost use Rattle.validation_window.specs.declared.refusal.Refusal.TheVariants.{Damaged as IsDamaged};
+ghost use Rattle.validation_window.specs.declared.refusal.Refusal.TheVariants.{Damaged as IsDamaged, NoMemory as IsNoMemory, Stopped as IsStopped};
 
 use crate::agreement::{Agreement, compare};
 use crate::fault::{OpenCause, OpenFault, of_outage, of_recovery};
@@ -42,13 +43,14 @@ impl<P: Parts> Stable<P> {
     /// A repository of what was recovered from its disks, which is up. `Failed`, too, where its disk of pages
     /// doesn't reach the installed sides.
     pub fn open(mut parts: P, recovered: Recovered) -> Result<Stable<P>, OpenFault<P>>
-        requires holds { (s : State) × Holds (P.disks parts) recovered.log s }
+        requires holds { Holds (P.disks parts) recovered.log (said recovered.state) }
         requires keeps { Keeps recovered.state }
         requires pages { AgreesWhere recovered.state.objects.pages }
         ensures kept { IfOk result (IsKept P.disks) }
         ensures up { IfOk result (λ stable. is_up stable ≡ true) }
         ensures held { IfOk result (λ stable. held_of stable ≡ recovered.state) }
         ensures says { Holds (P.disks parts) recovered.log (said recovered.state) → IfOk result (IsSaid P.disks) }
+        ensures clock { IfOk result (λ stable. (disks_of P.disks stable).clock ≡ (P.disks parts).clock) }
     {
         let Recovered { state, log, .. } = recovered;
         match reaches(&mut parts, state.objects().pages().sides()) {
@@ -74,9 +76,8 @@ impl<P: Parts> Stable<P> {
 
     /// Takes the repository down where it is up, crashes its disks, and takes over their log and objects,
     /// where what they stand for agrees with what is held, or with that and the pending entry. Otherwise it
-    /// stays down, with the entry pending that was so. `Damaged` only where some disk doesn't tell its bytes,
-    /// or where the log that counts can't be taken into memory. Want of memory, too, where there was none for
-    /// an entry that its log has: then no disk is called.
+    /// stays down, with the entry pending that was so. `Damaged` only where some disk doesn't tell its bytes.
+    /// Want of memory, too, where there was none for an entry that its log has: then no disk is called.
     pub fn restart(&mut self, alloc: Global, pick: u64) -> Result<Taken, Refusal>
         requires kept { IsKept P.disks self.old }
         ensures kept { IsKept P.disks self.new }
@@ -93,7 +94,10 @@ impl<P: Parts> Stable<P> {
         ensures whole { OnOk result (is_torn self.old ≡ false) }
         ensures says { IsSaid P.disks self.old → IfOk result (SaysTaken P.disks self.new) }
         ensures stays_said { IsSaid P.disks self.old → OnErr result (IsSaid P.disks self.new) }
-        ensures damaged { (r place : ℕ) → IsErrOf result (IsDamaged r place) → IsSaid P.disks self.old → TellsAll (disks_of P.disks self.old) → GivesUnheld (disks_of P.disks self.new).content }
+        ensures goes { GoesOn (disks_of P.disks self.old) (disks_of P.disks self.new) }
+        ensures stopped { (r : ℕ) → IsErrOf result (IsStopped r) → HasFailed (disks_of P.disks self.old).faults (disks_of P.disks self.new).faults }
+        ensures torn { is_torn self.old ≡ true → IsErrOf result IsNoMemory × (self.new ≡ record self.old { parts = armed (parts_in self.old) 0 }) }
+        ensures damaged { (r place : ℕ) → IsErrOf result (IsDamaged r place) → IsSaid P.disks self.old → TellsAll (disks_of P.disks self.old) → ⊥ }
     {
         self.parts.disarm();
         self.take_down();
@@ -137,7 +141,9 @@ impl<P: Parts> Stable<P> {
         ensures stands { IfOk result (λ r. Holds (disks_of P.disks self.new) r.log (said r.state)) }
         ensures crash { LeavesNoMore (disks_of P.disks self.old) (disks_of P.disks self.new) }
         ensures found { IfOk result (λ r. FindsOneOf (disks_of P.disks self.old) (disks_of P.disks self.new) (held_of self.old) (said r.state)) }
-        ensures damaged { (r place : ℕ) → IsErrOf result (IsDamaged r place) → (pending : Option AnyEntry) → ImagesSay (disks_of P.disks self.old) (held_of self.old) pending → TellsAll (disks_of P.disks self.old) → GivesUnheld (disks_of P.disks self.new).content }
+        ensures goes { GoesOn (disks_of P.disks self.old) (disks_of P.disks self.new) }
+        ensures stopped { (r : ℕ) → IsErrOf result (IsStopped r) → HasFailed (disks_of P.disks self.old).faults (disks_of P.disks self.new).faults }
+        ensures damaged { (r place : ℕ) → IsErrOf result (IsDamaged r place) → (pending : Option AnyEntry) → ImagesSay (disks_of P.disks self.old) (held_of self.old) pending → TellsAll (disks_of P.disks self.old) → ⊥ }
     {
         let repo = self.repo();
         let mob_limit = self.held.objects().mob().limit();
@@ -156,7 +162,6 @@ impl<P: Parts> Stable<P> {
     /// What was recovered, where the disk of pages reaches the installed sides.
     #[tactic(auto, using(crate::proofs::Returning::more_read))]
     fn reached(&mut self, recovered: Recovered) -> Result<Recovered, Refusal>
-        requires holds { (s : State) × Holds (disks_of P.disks self.old) recovered.log s }
         requires stands { Holds (disks_of P.disks self.old) recovered.log (said recovered.state) }
         requires keeps { Keeps recovered.state }
         requires pages { AgreesWhere recovered.state.objects.pages }
@@ -168,6 +173,8 @@ impl<P: Parts> Stable<P> {
         ensures stands { IfOk result (λ r. Holds (disks_of P.disks self.new) r.log (said r.state)) }
         ensures crash { LeavesNoMore (disks_of P.disks self.old) (disks_of P.disks self.new) }
         ensures same { IfOk result (λ r. r.state ≡ recovered.state) }
+        ensures goes { GoesOn (disks_of P.disks self.old) (disks_of P.disks self.new) }
+        ensures stopped { (r : ℕ) → IsErrOf result (IsStopped r) → HasFailed (disks_of P.disks self.old).faults (disks_of P.disks self.new).faults }
         ensures damaged { (r place : ℕ) → IsErrOf result (IsDamaged r place) → WhereTold (disks_of P.disks self.old) 2 (λ disk. ReachesSides recovered.state.objects.pages.sides disk → ⊥) }
     {
         let repo = self.repo();
@@ -203,6 +210,7 @@ impl<P: Parts> Stable<P> {
         ensures stays { OnErr result (self.new.phase ≡ IsDown pending) }
         ensures says { (TellsAll (disks_of P.disks self.old) → IsOneOf (held_of self.old) pending (said recovered.state)) → IfOk result (SaysTaken P.disks self.new) }
         ensures parts { self.new.parts ≡ self.old.parts }
+        ensures stopped { (r : ℕ) → IsErrOf result (IsStopped r) → ⊥ }
         ensures damaged { (r place : ℕ) → IsErrOf result (IsDamaged r place) → IsOneOf (held_of self.old) pending (said recovered.state) → ⊥ }
     {
         let Recovered { state, log, .. } = recovered;

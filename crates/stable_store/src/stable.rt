@@ -1,7 +1,8 @@
 //! What of a repository outlives a crash, and what is held in memory of it.
 
 ghost use Rattle.std.specs.Option.{IfSome, IsNone};
-ghost use Rattle.std.specs.Prelude.{◌≡◌, ◌≤◌, IfErr, IfOk, IsErrOf, IsTrue, None, OnErr, OnOk, Some, cond, false, max, nat_eq, true, ℕ};
+ghost use Rattle.std.specs.Prelude.{◌≡◌, ◌≤◌, IfErr, IfOk, IsErrOf, IsTrue, None, OnErr, OnOk, Some, cond, false, max, nat_eq, slice_get, true, ℕ};
+ghost use Rattle.disk_trait.specs.AllDisks.{GoesOn};
 ghost use Rattle.disk_trait.specs.Disks.{Disks, SameDisks};
 ghost use Rattle.disk_trait.specs.Fused.{armed, parts_of};
 ghost use Rattle.held_state.specs.Entering.{can_enter, entered};
@@ -9,13 +10,15 @@ ghost use Rattle.held_state.specs.Keeps.{Keeps};
 ghost use Rattle.held_state.specs.Said.{said};
 ghost use Rattle.log_bytes.specs.Grammar.{BodyFits};
 ghost use Rattle.log_bytes.specs.declared.body.Body.TheVariants.{Entry as AnEntry};
+ghost use Rattle.page_store.specs.Store.{IsDamage};
 ghost use Rattle.stable_store.specs.Kept.{GoesOnUp, IsKept, IsOpen, RestsWith, StandsAfter, disks_of, down, down_with, held_of, is_fault, is_up, lowered, parts_in, repo_named, torn};
+ghost use Rattle.stable_store.specs.Failing.{HasFailed};
 ghost use Rattle.stable_store.specs.Flushes.{IsLastFlush};
 ghost use Rattle.stable_store.specs.Saying.{ImagesSay, IsAhead, IsSaid, LogSays};
 ghost use Rattle.stable_store.specs.declared.stable.Phase.TheVariants.{Torn as IsTorn, Up as IsUp};
 ghost use Rattle.thor_value.specs.FiniteMap.{get};
 ghost use Rattle.two_phase.specs.Contents.{keeps, without};
-ghost use Rattle.validation_window.specs.declared.refusal.Refusal.TheVariants.{Damaged as IsDamaged};
+ghost use Rattle.validation_window.specs.declared.refusal.Refusal.TheVariants.{Damaged as IsDamaged, Stopped as IsStopped};
 
 use crate::fault::{of_log, of_store};
 use commit_log::Entry;
@@ -72,6 +75,7 @@ impl<P: Parts> Stable<P> {
         ensures up { is_up result ≡ true }
         ensures held { held_of result ≡ held }
         ensures says { LogSays (P.disks parts) log (said held) → IsSaid P.disks result }
+        ensures clock { (disks_of P.disks result).clock ≡ (P.disks parts).clock }
     {
         Stable {
             parts: Fused::new(parts),
@@ -238,6 +242,7 @@ impl<P: Parts> Stable<P> {
     #[tactic(auto, using(crate::proofs::Saying::said_same))]
     pub fn append(&mut self, entry: Entry) -> Result<Entry, Refusal>
         requires fits { BodyFits (AnEntry entry) }
+        requires takes { IsTrue (can_enter (held_of self.old) entry) }
         requires kept { IsKept P.disks self.old }
         ensures kept { IsKept P.disks self.new }
         ensures ok { IfOk result (λ written. (written ≡ entry) × GoesOnUp self.old self.new) }
@@ -249,6 +254,7 @@ impl<P: Parts> Stable<P> {
         ensures pages { (disks_of P.disks self.new).content 2 ≡ (disks_of P.disks self.old).content 2 }
         ensures clock { (disks_of P.disks self.new).clock ≡ (disks_of P.disks self.old).clock }
         ensures names { IfErr result (λ r. repo_named (held_of self.old).repo r ≡ (held_of self.old).repo) }
+        ensures stopped { (r : ℕ) → IsErrOf result (IsStopped r) → HasFailed (disks_of P.disks self.old).faults (disks_of P.disks self.new).faults }
         ensures damaged { (r place : ℕ) → IsErrOf result (IsDamaged r place) → ⊥ }
     {
         let Some(mut log) = self.take_log() else {
@@ -335,6 +341,8 @@ impl<P: Parts> Stable<P> {
         ensures pages { (disks_of P.disks self.new).content 2 ≡ (disks_of P.disks self.old).content 2 }
         ensures clock { (disks_of P.disks self.new).clock ≡ (disks_of P.disks self.old).clock }
         ensures names { IfErr result (λ r. repo_named (held_of self.old).repo r ≡ (held_of self.old).repo) }
+        ensures stopped { (r : ℕ) → IsErrOf result (IsStopped r) → HasFailed (disks_of P.disks self.old).faults (disks_of P.disks self.new).faults }
+        ensures damaged { (r place : ℕ) → IsErrOf result (IsDamaged r place) → IsDamage (disks_of P.disks self.old) (held_of self.old).objects.pages.sides page place }
     {
         let Some(log) = self.take_log() else {
             return Err(Refusal::Down { repo: self.repo() });
@@ -364,6 +372,9 @@ impl<P: Parts> Stable<P> {
         ensures says { IsSaid P.disks self.old → IsSaid P.disks self.new }
         ensures clock { (disks_of P.disks self.new).clock ≡ (disks_of P.disks self.old).clock }
         ensures names { IfErr result (λ r. repo_named (held_of self.old).repo r ≡ (held_of self.old).repo) }
+        ensures goes { GoesOn (disks_of P.disks self.old) (disks_of P.disks self.new) }
+        ensures stopped { (r : ℕ) → IsErrOf result (IsStopped r) → HasFailed (disks_of P.disks self.old).faults (disks_of P.disks self.new).faults }
+        ensures damaged { (r place : ℕ) → IsErrOf result (IsDamaged r place) → IfSome (slice_get (held_of self.old).objects.mob.objects 0) (λ q. IsDamage (disks_of P.disks self.old) (held_of self.old).objects.pages.sides q.0.page place) }
     {
         let Some(mut log) = self.take_log() else {
             return Err(Refusal::Down { repo: self.repo() });
@@ -393,6 +404,9 @@ impl<P: Parts> Stable<P> {
         ensures images { LogSays (disks_of P.disks self.old) log.old (said (held_of self.old)) → OnErr result (ImagesSay (disks_of P.disks self.new) (held_of self.new) None) }
         ensures clock { (disks_of P.disks self.new).clock ≡ (disks_of P.disks self.old).clock }
         ensures names { IfErr result (λ r. repo_named (held_of self.old).repo r ≡ (held_of self.old).repo) }
+        ensures goes { GoesOn (disks_of P.disks self.old) (disks_of P.disks self.new) }
+        ensures stopped { (r : ℕ) → IsErrOf result (IsStopped r) → HasFailed (disks_of P.disks self.old).faults (disks_of P.disks self.new).faults }
+        ensures damaged { (r place : ℕ) → IsErrOf result (IsDamaged r place) → IfSome (slice_get (held_of self.old).objects.mob.objects 0) (λ q. IsDamage (disks_of P.disks self.old) (held_of self.old).objects.pages.sides q.0.page place) }
     {
         match self.held.flush_one(&mut self.parts) {
             Ok(flushed) => self.put_flushed(log, flushed),
@@ -415,6 +429,9 @@ impl<P: Parts> Stable<P> {
         ensures images { LogSays (disks_of P.disks self.old) log.old (said (held_of self.old)) → OnErr result (ImagesSay (disks_of P.disks self.new) (held_of self.new) None) }
         ensures clock { (disks_of P.disks self.new).clock ≡ (disks_of P.disks self.old).clock }
         ensures names { IfErr result (λ r. repo_named (held_of self.old).repo r ≡ (held_of self.old).repo) }
+        ensures goes { GoesOn (disks_of P.disks self.old) (disks_of P.disks self.new) }
+        ensures stopped { (r : ℕ) → IsErrOf result (IsStopped r) → HasFailed (disks_of P.disks self.old).faults (disks_of P.disks self.new).faults }
+        ensures damaged { (r place : ℕ) → IsErrOf result (IsDamaged r place) → ⊥ }
     {
         let Flushed::Installed { page, side } = flushed else {
             return Ok(flushed);
@@ -443,6 +460,8 @@ impl<P: Parts> Stable<P> {
         ensures pages { (disks_of P.disks self.new).content 2 ≡ (disks_of P.disks self.old).content 2 }
         ensures clock { (disks_of P.disks self.new).clock ≡ (disks_of P.disks self.old).clock }
         ensures names { IfErr result (λ r. repo_named (held_of self.old).repo r ≡ (held_of self.old).repo) }
+        ensures stopped { (r : ℕ) → IsErrOf result (IsStopped r) → HasFailed (disks_of P.disks self.old).faults (disks_of P.disks self.new).faults }
+        ensures damaged { (r place : ℕ) → IsErrOf result (IsDamaged r place) → ⊥ }
     {
         let Some(mut log) = self.take_log() else {
             return Err(Refusal::Down { repo: self.repo() });

@@ -1,5 +1,5 @@
 -- The objects behind records.
-use Rattle.std.proofs.Common.{◌≡◌, Bool, List, Option, Some, None, [], ◌∷◌, cond, false, true, ℕ, refl, sym, ap, ◌∙◌, arith}
+use Rattle.std.proofs.Common.{◌≡◌, Bool, List, Option, Some, None, [], ◌∷◌, cond, false, true, ℕ, refl, sym, ap, ◌∙◌}
 use Rattle.std.specs.BTreeMap.{insert_entry}
 use Rattle.std.specs.List.{filter, fold}
 use Rattle.std.specs.Option.{option_and_then, option_or}
@@ -8,7 +8,6 @@ use Rattle.std.specs.Prelude.{nat_eq, not}
 use Rattle.std.specs.declared.cmp.Ordering.{Ordering}
 use Rattle.std.specs.declared.cmp.Ordering.TheVariants.{Equal, Greater, Less}
 use Rattle.std.proofs.lemmas.Bool.{eqb-true}
-use Rattle.std.proofs.lemmas.Bool.Decides.{nat_tests}
 use Rattle.std.proofs.lemmas.Map.Lookups.{exact_unsigned}
 use Rattle.thor_value.proofs.FiniteMap.{get-insert}
 use Rattle.std.proofs.lemmas.Cmp.{nat_cmp_total, tied_itself, nat_eq_equiv}

@@ -2,11 +2,11 @@
 -- behind it. (That a log of redo records and a buffer of modified objects stand for a store is Thor's:
 -- Ghemawat, 1995; the records are this project's.)
 use Rattle.std.specs.BTreeMap.{insert_entry, is_at}
-use Rattle.std.specs.List.{filter, fold}
+use Rattle.std.specs.List.{filter, fold, list_all}
 use Rattle.std.specs.Map.{keys_of, lookup, values_of}
-use Rattle.std.specs.Option.{option_and_then, option_map}
+use Rattle.std.specs.Option.{is_some, option_and_then}
 use Rattle.std.specs.Ordering.{nat_cmp}
-use Rattle.std.specs.Prelude.{Bool, Err, List, None, Ok, Option, Result, Some, [], cond, false, map, max, nat_eq, nat_lt, not, true, ◌++◌, ◌+◌, ◌^◌, ◌∷◌, ℕ}
+use Rattle.std.specs.Prelude.{Bool, Err, List, None, Ok, Option, Result, Some, [], cond, false, map, max, nat_eq, nat_lt, not, true, ◌&&◌, ◌++◌, ◌+◌, ◌^◌, ◌∷◌, ℕ}
 use Rattle.thor_value.specs.Names.{later_of, same_oref, same_ts, ts_cmp}
 use Rattle.thor_value.specs.declared.names.Oref.{Oref}
 use Rattle.thor_value.specs.declared.names.Ts.{Ts}
@@ -53,7 +53,11 @@ opened_without qs t = filter (λ q. not (same_ts t q.tx)) qs
 abbrev pub request_at : List Request → Ts → Option Request
 request_at qs t = lookup (is_at (ts_cmp t)) (map (λ q. (q.tx, q)) qs)
 
--- the kept decisions with one more
+-- the kept decisions without that on a transaction
+abbrev pub kept_without : List Ts → Ts → List Ts
+kept_without ts t = filter (λ u. not (same_ts t u)) ts
+
+-- and with one more
 abbrev pub kept_with : List Ts → Ts → List Ts
 kept_with ts t = keys_of (insert_entry ts_cmp (map (λ u. (u, tt {0})) ts) t (tt {0}))
 
@@ -99,12 +103,13 @@ kept_by s t false = s
 
 -- ---- records
 
--- what an entry does to a state, its count aside
+-- What an entry does to a state, its count aside. A transaction that is prepared is undecided: no decision on it is kept
+-- any more.
 abbrev pub changed : State → Entry → State
 changed s (Life n) = record s { life = n; prepared = filter (λ q. not (nat_eq q.tx.repo s.repo)) s.prepared }
 changed s (One q) = committed_alone s q
 changed s (Upgraded q) = committed_alone s q
-changed s (Prepared q) = record (with_pages s q) { prepared = opened_with s.prepared q }
+changed s (Prepared q) = record (with_pages s q) { prepared = opened_with s.prepared q; kept = kept_without s.kept q.tx }
 changed s (Decided t commit) = kept_by (closed s t commit) t commit
 changed s (Finished t commit) = closed s t commit
 
@@ -113,11 +118,43 @@ abbrev pub after : State → Body → State
 after s (AnEntry e) = record (changed s e) { count = s.count + 1 }
 after s (Installed page side) = record s { installed = insert_entry nat_cmp s.installed page side; mob = filter (is_off page) s.mob }
 
+-- ---- what a repository's own log has
+
+-- all names are of one repository
+abbrev pub are_of : ℕ → List (Oref × Obj) → Bool
+are_of repo writes = list_all (λ w. nat_eq w.0.repo repo) writes
+
+-- what an entry writes is of one repository
+abbrev pub is_of : ℕ → Entry → Bool
+is_of repo (Life n) = true
+is_of repo (One q) = are_of repo q.writes
+is_of repo (Prepared q) = are_of repo q.writes
+is_of repo (Decided t commit) = true
+is_of repo (Finished t commit) = true
+is_of repo (Upgraded q) = are_of repo q.writes
+
+-- a record can come next: what it writes is of the repository
+abbrev pub can_follow : State → Body → Bool
+can_follow s (AnEntry e) = is_of s.repo e
+can_follow s (Installed page side) = true
+
+-- all names of a state are of its repository, and no transaction is both prepared and decided
+abbrev pub is_whole : State → Bool
+is_whole s = are_of s.repo s.mob && list_all (λ q. are_of s.repo q.writes) s.prepared && list_all (λ t. not (is_some (request_at s.prepared t))) s.kept
+
 -- ---- logs
 
--- the state behind one record more; none where the record's body is none of the format
+-- the state behind a record, where it can come next
+abbrev pub next : State → Body → Option State
+next s body = cond (can_follow s body) (Some (after s body)) None
+
+-- the state behind one record more; none where the record's body is none of the format, or can't come next
 abbrev pub behind : Option State → List ℕ → Option State
-behind before body = option_and_then (λ s. option_map (after s) (value_of body_format body)) before
+behind before body = option_and_then (λ s. option_and_then (next s) (value_of body_format body)) before
+
+-- a state that a log can begin with
+abbrev pub whole : State → Option State
+whole s = cond (is_whole s) (Some s) None
 
 -- the end of the sequences that a log can have
 abbrev pub sequence_end : ℕ
@@ -125,7 +162,7 @@ sequence_end = 2 ^ 62
 
 -- the state of a log's checkpoint and its records
 unfoldable pub replayed : List ℕ → List (List ℕ) → Option State
-replayed head bodies = fold behind (value_of state_format head) bodies
+replayed head bodies = fold behind (option_and_then whole (value_of state_format head)) bodies
 
 -- what an open log stands for
 abbrev pub state_in : Opened → Option State

@@ -20,7 +20,8 @@ pub fn commits_are_buffered()
 {}
 
 /// Prepared requests stand by rising timestamp and write nothing. A decision to commit writes and is kept;
-/// one without commit isn't; a participant keeps none. A Life takes those that this repository coordinates.
+/// one without commit isn't, nor one on a transaction that is prepared anew; a participant keeps none. A Life
+/// takes those that this repository coordinates.
 pub fn prepared_transactions_are_decided()
     ensures open { transactions (behind_all prepared_two).prepared ≡ at 4 1 ∷ at 5 0 ∷ [] }
     ensures nothing { (behind_all prepared_two).mob ≡ [] }
@@ -30,6 +31,7 @@ pub fn prepared_transactions_are_decided()
     ensures closed { transactions (behind_all (prepared_two ++ AnEntry (Decided (at 5 0) true) ∷ [])).prepared ≡ at 4 1 ∷ [] }
     ensures aborted { (behind_all (prepared_two ++ AnEntry (Decided (at 5 0) false) ∷ [])).mob ≡ [] }
     ensures not_kept { (behind_all (prepared_two ++ AnEntry (Decided (at 5 0) false) ∷ [])).kept ≡ [] }
+    ensures anew { (behind_all (prepared_two ++ AnEntry (Decided (at 5 0) true) ∷ prepared_two)).kept ≡ [] }
     ensures finished { (behind_all (prepared_two ++ AnEntry (Finished (at 4 1) true) ∷ [])).mob ≡ (name 0 1, number 4) ∷ [] }
     ensures kept_nowhere { (behind_all (prepared_two ++ AnEntry (Finished (at 4 1) true) ∷ [])).kept ≡ [] }
     ensures life { transactions (behind_all (prepared_two ++ AnEntry (Life 2) ∷ [])).prepared ≡ at 4 1 ∷ [] }

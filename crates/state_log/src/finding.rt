@@ -99,6 +99,7 @@ pub fn open_logs<P: Parts>(
     ensures fresh { (images : ℕ → List ℕ) → ReadsAs (P.disks parts.old) images → result ≡ Ok None → IsFresh images }
     ensures damaged { (images : ℕ → List ℕ) (d place : ℕ) → ReadsAs (P.disks parts.old) images → IsErrOf result (Damaged d place) → IsTorn images d place }
     ensures failed { (d : ℕ) → IsErrOf result (Failed d) → Rose ((P.disks parts.old).faults d) ((P.disks parts.new).faults d) }
+    ensures disk { (d : ℕ) → IsErrOf result (Failed d) → d < 2 }
 {
     let first = open_on(alloc, parts, 0)?;
     let second = open_on(alloc, parts, 1)?;

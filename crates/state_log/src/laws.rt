@@ -14,14 +14,14 @@ ghost use Rattle.log_bytes.specs.declared.body.Body.TheVariants.{Entry as AnEntr
 ghost use Rattle.log_bytes.specs.declared.state.State.{State};
 ghost use Rattle.log_frame.specs.Log.{Opened, new_log, with_body};
 ghost use Rattle.state_log.specs.Opening.{IsTorn};
-ghost use Rattle.state_log.specs.Recovered.{after, sequence_end, stands, state_in};
+ghost use Rattle.state_log.specs.Recovered.{after, next, sequence_end, stands, state_in, whole};
 ghost use Rattle.state_log.specs.Values.{Pages, last_write, object_in, on_page, value, writes_of, written_last};
 
-/// Behind one record more a log stands for the state with that record put behind it. A log that begins with
-/// a state, and has no record yet, stands for it.
+/// Behind one record more a log stands for the state with that record put behind it, where it can come next, and
+/// else for nothing. A log that begins with a state, and has no record yet, stands for it, where a log can begin so.
 pub fn logs_grow()
-    ensures step { (log : Opened) (body : List ℕ) (s : State) (b : Body) → state_in log ≡ Some s → value_of body_format body ≡ Some b → state_in (with_body log body) ≡ Some (after s b) }
-    ensures first { (sequence : ℕ) (head : List ℕ) (s : State) → sequence < sequence_end → value_of state_format head ≡ Some s → state_in (new_log sequence head) ≡ Some s }
+    ensures step { (log : Opened) (body : List ℕ) (s : State) (b : Body) → state_in log ≡ Some s → value_of body_format body ≡ Some b → state_in (with_body log body) ≡ next s b }
+    ensures first { (sequence : ℕ) (head : List ℕ) (s : State) → sequence < sequence_end → value_of state_format head ≡ Some s → state_in (new_log sequence head) ≡ whole s }
 {}
 
 /// The buffer behind records has the last write of each name behind the last install of its page; what was

@@ -1,4 +1,4 @@
-ghost use Rattle.std.specs.Prelude.{◌≡◌, ◌+◌, ◌<◌, ◌^◌, ℕ, None, IfOk, OnOk, IsErrOf};
+ghost use Rattle.std.specs.Prelude.{◌≡◌, ◌+◌, ◌<◌, ◌^◌, ℕ, None, IfOk, IsTrue, OnOk, IsErrOf};
 ghost use Rattle.disk_trait.specs.AllDisks.{AllSettled, GoesOn, LeavesAll, TellsAll};
 ghost use Rattle.disk_trait.specs.Disks.{Disks, NoNewImage, Rose, WhereTold};
 ghost use Rattle.log_frame.specs.Log.{read_log};
@@ -8,7 +8,7 @@ ghost use Rattle.log_bytes.specs.Grammar.{BodyFits};
 ghost use Rattle.log_bytes.specs.declared.body.Body.TheVariants.{Entry as AnEntry, Installed as AnInstalled};
 ghost use Rattle.log_bytes.specs.declared.state.State.{State as AState};
 ghost use Rattle.state_log.specs.Holds.{Holds, SaysEither, SaysNothingOr, SaysOneOf, beside};
-ghost use Rattle.state_log.specs.Recovered.{after, sequence_end};
+ghost use Rattle.state_log.specs.Recovered.{after, is_of, is_whole, sequence_end};
 
 use commit_log::Entry;
 use disk_trait::Parts;
@@ -42,7 +42,8 @@ impl CommitLog {
         CommitLog { alloc, log }
     }
 
-    /// Puts a first log, which begins with the state, on disk 0. Neither log disk may have an open log.
+    /// Puts a first log, which begins with the state, on disk 0. Neither log disk may have an open log. All names
+    /// of the state are of its repository.
     ///
     /// At each moment a crash leaves no open log, or the state.
     pub fn format<P: Parts>(
@@ -51,6 +52,7 @@ impl CommitLog {
         state: &State,
     ) -> Result<CommitLog, LogFault>
         requires fits { StateFits state.now }
+        requires whole { IsTrue (is_whole state.now) }
         requires settled { AllSettled (P.disks parts.old) }
         requires first { WhereTold (P.disks parts.old) 0 (λ bytes. read_log bytes ≡ None) }
         requires second { WhereTold (P.disks parts.old) 1 (λ bytes. read_log bytes ≡ None) }
@@ -82,13 +84,14 @@ impl CommitLog {
         self.log.disk()
     }
 
-    /// Adds an entry: four device calls, before which all memory is taken.
+    /// Adds an entry: four device calls, before which all memory is taken. What it writes is of the log's
+    /// repository.
     ///
     /// At each moment a crash leaves what was there, or that with this one entry. After `Ok` it leaves the
     /// entry. After a fault either of the two may be found.
     pub fn append<P: Parts>(&mut self, parts: &mut P, entry: &Entry) -> Result<(), LogFault>
         requires fits { BodyFits (AnEntry entry.now) }
-        requires holds { (s : AState) × Holds (P.disks parts.old) self.old s }
+        requires holds { (s : AState) × Holds (P.disks parts.old) self.old s × IsTrue (is_of s.repo entry.now) }
         ensures goes { GoesOn (P.disks parts.old) (P.disks parts.new) }
         ensures any_moment { (s : AState) → Holds (P.disks parts.old) self.old s → TellsAll (P.disks parts.old) → LeavesAll (P.disks parts.old) (P.disks parts.new) (SaysOneOf s (AnEntry entry.now)) }
         ensures appended { OnOk result ((s : AState) → Holds (P.disks parts.old) self.old s → Holds (P.disks parts.new) self.new (after s (AnEntry entry.now))) }
@@ -129,12 +132,13 @@ impl CommitLog {
     }
 
     /// Puts a log that begins with the state on the other log disk, with the next sequence. From then on it
-    /// counts.
+    /// counts. All names of the state are of its repository.
     ///
     /// At each moment a crash leaves what was there, or this state: it is the caller's that what it leaves out
     /// may be forgotten.
     pub fn checkpoint<P: Parts>(&mut self, parts: &mut P, state: &State) -> Result<(), LogFault>
         requires fits { StateFits state.now }
+        requires whole { IsTrue (is_whole state.now) }
         requires sequence { self.old.sequence + 1 < sequence_end }
         requires holds { (s : AState) × Holds (P.disks parts.old) self.old s }
         ensures goes { GoesOn (P.disks parts.old) (P.disks parts.new) }

@@ -102,6 +102,7 @@ fn begin_log<P: Parts>(
             state,
             log,
             count: 0,
+            reopens: false,
         }),
         Err(_) => Err(OpenCause::NoMemory),
     }

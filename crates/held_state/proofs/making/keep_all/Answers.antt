@@ -4,7 +4,7 @@ use Rattle.std.specs.Vec.Iter.{into_iter_items}
 use Rattle.thor_value.specs.FiniteMap.{has}
 use Rattle.two_phase.specs.Contents.{Contents}
 use Rattle.held_state.proofs.Filled.{keep_next}
-use Rattle.held_state.proofs.Unfit.{none_keeps}
+use Rattle.held_state.proofs.Unfit.{none_keeps, one_both}
 use Rattle.held_state.specs.Making.{KeepsTo}
 use Rattle.held_state.proofs.making.keep_all.Goals as goal
 
@@ -25,3 +25,9 @@ returns-then-knows-clause-unfit c = λ prepared to is.
     let step : into_iter_items c.loop-tx.tx-iterator ≡ c.in-Some.tx ∷ into_iter_items c.next.new.self = search rules in
     let there : has c.loop-tx.table.transactions c.in-Some.tx ≡ true = search rules in
     none_keeps c.args.repo prepared c.args.kept c.requires.rise c.loop-tx.table c.in-Some.tx (into_iter_items c.next.new.self) (subst (KeepsTo c.args.repo prepared c.args.kept c.loop-tx.table) step (c.loop-tx.invariant prepared to)) there
+
+pub returns-then-knows-clause-broken : goal.returns-then-knows-clause-broken
+returns-then-knows-clause-broken c = λ prepared to is all.
+    let step : into_iter_items c.loop-tx.tx-iterator ≡ c.in-Some.tx ∷ into_iter_items c.next.new.self = search rules in
+    let there : has c.loop-tx.table.transactions c.in-Some.tx ≡ true = search rules in
+    one_both c.args.repo prepared c.args.kept c.requires.rise c.loop-tx.table c.in-Some.tx (into_iter_items c.next.new.self) (subst (KeepsTo c.args.repo prepared c.args.kept c.loop-tx.table) step (c.loop-tx.invariant prepared to)) there all

@@ -1,7 +1,7 @@
 use Rattle.std.proofs.Common.{◌≡◌, false, rules, subst, sym, true}
 use Rattle.held_state.proofs.Kept.{of_writes}
 use Rattle.held_state.proofs.Unfit.{not_of}
-use Rattle.held_state.specs.Entering.{are_of}
+use Rattle.state_log.specs.Recovered.{are_of}
 use Rattle.mob_buffer.specs.Buffer.{AreOf}
 use Rattle.held_state.proofs.making.objects_of.Goals as goal
 

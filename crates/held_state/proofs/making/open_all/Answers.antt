@@ -3,7 +3,7 @@ use Rattle.std.specs.Vec.Iter.{into_iter_items}
 use Rattle.two_phase.specs.Contents.{Contents}
 use Rattle.held_state.proofs.Filled.{open_new, open_next}
 use Rattle.held_state.proofs.Unfit.{none_opens}
-use Rattle.held_state.specs.Entering.{are_of}
+use Rattle.state_log.specs.Recovered.{are_of}
 use Rattle.held_state.specs.Making.{OpensTo}
 use Rattle.held_state.proofs.making.open_all.Goals as goal
 

@@ -16,3 +16,8 @@ pub returns-in_err-keep_all-clause-unfit : goal.returns-in_err-keep_all-clause-u
 returns-in_err-keep_all-clause-unfit c = λ is.
     let wrong : c.keep_all.result ≡ Err Unfit = search rules in
     c.keep_all.ensures.unfit c.args.prepared (then_keeps c.args.repo c.args.prepared c.requires.prepared_rise c.args.kept c.open_all.new.table c.in_ok-open_all.ensures.all c.requires.kept) wrong
+
+pub returns-in_err-keep_all-clause-broken : goal.returns-in_err-keep_all-clause-broken
+returns-in_err-keep_all-clause-broken c = λ is own free.
+    let wrong : c.keep_all.result ≡ Err Unfit = search rules in
+    c.keep_all.ensures.broken c.args.prepared (then_keeps c.args.repo c.args.prepared c.requires.prepared_rise c.args.kept c.open_all.new.table c.in_ok-open_all.ensures.all c.requires.kept) wrong free

@@ -1,5 +1,5 @@
 use Rattle.std.proofs.Common.{◌≡◌, drop}
-use Rattle.held_state.specs.Entering.{are_of}
+use Rattle.state_log.specs.Recovered.{are_of}
 use Rattle.held_state.proofs.writes.are_of.Given as goal
 
 -- what is left decides

@@ -1,4 +1,5 @@
-use Rattle.std.proofs.Common.{◌≡◌, ◌++◌, drop}
+use Rattle.std.proofs.Common.{◌≡◌, ◌++◌}
+use Rattle.std.specs.Map.{keys_of}
 use Rattle.client_cache.specs.Copies.{seen}
 use Rattle.method_eval.specs.Answers.{stored_at}
 use Rattle.paused_eval.specs.Copies.{entries}
@@ -6,4 +7,4 @@ use Rattle.paused_eval.proofs.paused.writes_of.Given as goal
 
 -- with those of the names that are left they are all
 abbrev pub invariant-loop-oref : goal.invariant-loop-oref
-invariant-loop-oref l = l.writes ++ stored_at l.epoch (entries (seen l.cache) (drop l.oref-index l.names)) ≡ stored_at l.epoch (entries (seen l.cache) l.names)
+invariant-loop-oref l = l.writes ++ stored_at l.epoch (entries (seen l.cache) l.oref-iterator) ≡ stored_at l.epoch (entries (seen l.cache) (keys_of l.names.entries))

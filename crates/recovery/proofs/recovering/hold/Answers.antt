@@ -1,12 +1,25 @@
-use Rattle.std.proofs.Common.{◌≡◌, Err, List, inr, rules, subst}
+use Rattle.std.proofs.Common.{◌≡◌, Err, List, Option, Some, ap, inl, inr, rules, subst, sym, ◌∙◌}
+use Rattle.std.specs.List.{fold}
 use Rattle.held_state.specs.Said.{said}
 use Rattle.held_state.specs.declared.fault.HoldFault.TheVariants.{Unfit}
 use Rattle.log_bytes.specs.declared.body.Body.{Body}
 use Rattle.log_bytes.specs.declared.state.State.{State}
-use Rattle.recovery.specs.Damage.{CantPut}
+use Rattle.recovery.proofs.Replayed.{whole_said}
+use Rattle.recovery.specs.Damage.{CantPut, put_on}
 use Rattle.recovery.proofs.recovering.hold.Goals as goal
 
 pub returns-in_err-put_all-clause-unfit : goal.returns-in_err-put_all-clause-unfit
 returns-in_err-put_all-clause-unfit c = λ is.
     let wrong : c.put_all.result ≡ Err Unfit = search rules in
-    inr (subst (λ (s : State). CantPut s c.args.bodies.now) c.in_ok-held.ensures.said (subst (λ (bs : List Body). CantPut (said c.in_ok-held.held) bs) c.as_slice.ensures (c.put_all.ensures.unfit wrong)))
+    let begins = whole_said c.in_ok-held.held c.args.state c.in_ok-held.ensures.keeps c.in_ok-held.ensures.said in
+    inr (subst (λ (o : Option State). CantPut o c.args.bodies.now) (sym begins) (subst (λ (bs : List Body). CantPut (Some (said c.in_ok-held.held)) bs) c.as_slice.ensures (c.put_all.ensures.unfit wrong)))
+
+pub returns-in_err-held-clause-unfit : goal.returns-in_err-held-clause-unfit
+returns-in_err-held-clause-unfit c = λ is.
+    let wrong : c.of.result ≡ Err Unfit = search rules in
+    inl (record { unfit = c.of.ensures.unfit wrong; not_whole = c.of.ensures.broken wrong })
+
+pub returns-clause-said : goal.returns-clause-said
+returns-clause-said c =
+    let begins = whole_said c.in_ok-held.held c.args.state c.in_ok-held.ensures.keeps c.in_ok-held.ensures.said in
+    ap (λ (o : Option State). fold put_on o c.args.bodies.now) begins ∙ subst (λ (bs : List Body). fold put_on (Some (said c.in_ok-held.held)) bs ≡ Some (said c.put_all.new.held)) c.as_slice.ensures c.in_ok-put_all.ensures.said

@@ -1,5 +1,5 @@
 use Rattle.log_bytes.specs.Grammar.{BodyFits}
-use Rattle.std.proofs.Common.{◌∙◌}
+use Rattle.std.proofs.Common.{Some, ◌∙◌}
 use Rattle.held_state.specs.Said.{said}
 use Rattle.recovery.proofs.Read.{all_at}
 use Rattle.recovery.proofs.Replayed.{put_next}
@@ -13,5 +13,5 @@ loop-body-preserved c = (
   c.in_ok-put_behind.ensures.keeps,
   c.in_ok-put_behind.ensures.unread,
   c.in_ok-put_behind.ensures.limit ∙ c.loop-body.invariant.2,
-  put_next (said c.args.held.now) (said c.loop-body.held) (said c.put_behind.new.held) c.args.bodies.now c.loop-body.body-index c.body-item.result c.loop-body-test.true c.body-item.is c.loop-body.invariant.3 c.in_ok-put_behind.ensures.said,
+  put_next (Some (said c.args.held.now)) (said c.loop-body.held) (said c.put_behind.new.held) c.args.bodies.now c.loop-body.body-index c.body-item.result c.loop-body-test.true c.body-item.is c.loop-body.invariant.3 c.in_ok-put_behind.ensures.said,
 )

@@ -32,11 +32,11 @@ pub returns-in-Err-clause-lost : goal.returns-in-Err-clause-lost
 returns-in-Err-clause-lost g c = λ images d place reads damaged.
     let e : c.found_fault.result ≡ recovered.Damaged d place = same_err _ c.found_fault.result (recovered.Damaged d place) refl damaged in
     let at = found_damaged c.in-Err.fault d place (sym c.found_fault.ensures ∙ e) in
-    inl (torn_none images d place (c.open_logs.ensures.damaged images d place reads (c.in-Err.is ∙ ap (λ (f : FindFault). Err f) at)))
+    torn_none images d place (c.open_logs.ensures.damaged images d place reads (c.in-Err.is ∙ ap (λ (f : FindFault). Err f) at))
 
 pub returns-in-Ok-clause-lost : goal.returns-in-Ok-clause-lost
 returns-in-Ok-clause-lost g c = λ images d place reads is.
-    inner_lost images c.in-Ok.found d place (c.replay_found.ensures.damaged d place is) (c.replay_found.ensures.damaged_some d place is) (c.in-Ok.ensures.log images reads) (c.in-Ok.ensures.found images reads)
+    inner_lost images c.in-Ok.found d place (c.replay_found.ensures.damaged d place is) (c.replay_found.ensures.damaged_some d place is) (c.in-Ok.ensures.found images reads)
 
 pub returns-in-Ok-clause-keeps : goal.returns-in-Ok-clause-keeps
 returns-in-Ok-clause-keeps g c = if_ok _ _ c.replay_found.result (λ r is. recovered_keeps c.in-Ok.found r is) c.replay_found.ensures.recovered

@@ -1,7 +1,6 @@
-use Rattle.std.proofs.Common.{◌∙◌, arith, sym, inl, inr, rules, IsErrOf}
+use Rattle.std.proofs.Common.{◌∙◌, arith, sym}
 use Rattle.disk_trait.proofs.Several.{settled_still, content_stays}
-use Rattle.state_log.proofs.Opened.{found_holds, found_as, stands_damaged}
-use Rattle.log_frame.specs.declared.fault.LogFault.TheVariants.{Damaged}
+use Rattle.state_log.proofs.Opened.{found_holds, found_as}
 use Rattle.state_log.proofs.finding.open_logs.Goals as goal
 
 pub returns-in_err-second-clause-settled : goal.returns-in_err-second-clause-settled

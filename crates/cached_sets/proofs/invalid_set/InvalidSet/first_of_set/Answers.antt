@@ -22,3 +22,6 @@ returns-clause-value g c =
     let here : found c.args.names.now c.args.upto c.loop-oref.oref-iterator ≡ None = rw c.in-None.ensures.steps.0 refl in
     let sorted = subst (λ (m : Invalid). IsStrictlySortedBy oref_cmp (keys_of m.pairs)) c.self.view_is c.iter-oref-items.ensures.ordered in
     sym here ∙ c.loop-oref.invariant.left ∙ found_in_set c.args.self.now c.args.upto c.args.names.now c.requires sorted
+
+pub returns-then-is_one_of-clause-some : goal.returns-then-is_one_of-clause-some
+returns-then-is_one_of-clause-some g c = omega (arith, c.tick.ensures, c.loop-oref.invariant.rise)

@@ -1,4 +1,7 @@
+use Rattle.client_state.proofs.Moving.{less_itself}
+use Rattle.client_state.specs.Moving.{Unsent}
 use Rattle.front_end.proofs.Acting.{by_ask}
+use Rattle.front_end.proofs.Calling.{asked_nothing, asked_settled}
 use Rattle.front_end.proofs.Showing.{learnt_of}
 use Rattle.front_end.proofs.client.Client.ask_about.Goals as goal
 use Rattle.item_progress.specs.Courses.{IsDownAt, is_committed}
@@ -26,3 +29,15 @@ returns-in-Err-clause-acts g c = by_ask _ _ _ _ _ _ c.ask.ensures.call
 
 pub returns-in-Some-clause-shown : goal.returns-in-Some-clause-shown
 returns-in-Some-clause-shown g c = learnt_of _ _ _ _ c.args.ts c.in-Ok-Settled.field-0 c.in-Ok-Settled.verdict c.in-Ok-Settled.field-0-is c.in-Ok-Settled.ensures.call c.in-Some.field-0.settled (subst (λ (o : Option Learnt). IfSome o (λ l. l.settled.ts ≡ c.in-Ok-Settled.verdict.tx)) c.in-Some.is c.in_ok-settled-in-Ok-Settled.ensures.tx) (subst (λ (o : Option Learnt). IfSome o (λ l. is_committed l.settled.outcome ≡ c.in-Ok-Settled.verdict.commit)) c.in-Some.is c.in_ok-settled-in-Ok-Settled.ensures.stands) (subst (λ (o : Option Learnt). IfSome o (λ l. IsDownAt c.args.ts.repo l.settled.outcome)) c.in-Some.is c.in_ok-settled-in-Ok-Settled.ensures.down)
+
+pub returns-in-Some-clause-moves : goal.returns-in-Some-clause-moves
+returns-in-Some-clause-moves g c = λ s. Unsent (asked_settled _ _ _ _ c.args.ts c.in-Ok-Settled.field-0 c.in-Ok-Settled.verdict c.in-Ok-Settled.field-0-is c.in-Ok-Settled.ensures.call _ _ c.in_ok-settled-in-Ok-Settled.ensures.settles s)
+
+pub returns-in-None-clause-moves : goal.returns-in-None-clause-moves
+returns-in-None-clause-moves g c = λ s. Unsent (asked_settled _ _ _ _ c.args.ts c.in-Ok-Settled.field-0 c.in-Ok-Settled.verdict c.in-Ok-Settled.field-0-is c.in-Ok-Settled.ensures.call _ _ c.in_ok-settled-in-Ok-Settled.ensures.settles s)
+
+pub returns-in-Ok-Undecided-clause-moves : goal.returns-in-Ok-Undecided-clause-moves
+returns-in-Ok-Undecided-clause-moves g c = λ s. Unsent (asked_nothing _ _ _ _ c.args.ts c.ask.result _ _ c.ask.ensures.call (less_itself c.args.self.now.held) s)
+
+pub returns-in-Err-clause-moves : goal.returns-in-Err-clause-moves
+returns-in-Err-clause-moves g c = λ s. Unsent (asked_nothing _ _ _ _ c.args.ts c.ask.result _ _ c.ask.ensures.call (less_itself c.args.self.now.held) s)

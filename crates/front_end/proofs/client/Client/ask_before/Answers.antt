@@ -1,5 +1,7 @@
 use Rattle.client_state.specs.Causes.{cause_behind}
+use Rattle.client_state.proofs.Moving.{less_itself}
 use Rattle.front_end.proofs.Acting.{by_ask}
+use Rattle.front_end.proofs.Calling.{asked_nothing, asked_settled}
 use Rattle.front_end.proofs.Showing.{learnt_of}
 use Rattle.front_end.proofs.client.Client.ask_before.Goals as goal
 use Rattle.item_progress.specs.Courses.{IsDownAt, is_committed}
@@ -32,3 +34,15 @@ returns-in-Some-clause-shown g c = learnt_of _ _ _ _ c.args.ts c.in-Ok-Settled.f
 
 pub returns-in_ok-cause_of-in-Err-clause-shown : goal.returns-in_ok-cause_of-in-Err-clause-shown
 returns-in_ok-cause_of-in-Err-clause-shown g c = λ s. record { repo = c.args.repo; refusal = c.in-Err.refusal; call = RefusesAsk c.args.ts (c.in-Err.ensures.call s); cause_is = subst (λ (e : Refusal). cause_behind e c.args.repo ≡ Some c.in_ok-cause_of-in-Err.field-0) c.in-Err.refusal-is c.in_ok-cause_of-in-Err.ensures.cause }
+
+pub returns-in-Some-clause-moves : goal.returns-in-Some-clause-moves
+returns-in-Some-clause-moves g c = asked_settled _ _ _ _ c.args.ts c.in-Ok-Settled.field-0 c.in-Ok-Settled.verdict c.in-Ok-Settled.field-0-is c.in-Ok-Settled.ensures.call _ _ c.in_ok-learnt-in-Ok-Settled.ensures.settles
+
+pub returns-in-None-clause-moves : goal.returns-in-None-clause-moves
+returns-in-None-clause-moves g c = asked_settled _ _ _ _ c.args.ts c.in-Ok-Settled.field-0 c.in-Ok-Settled.verdict c.in-Ok-Settled.field-0-is c.in-Ok-Settled.ensures.call _ _ c.in_ok-learnt-in-Ok-Settled.ensures.settles
+
+pub returns-in-Ok-Undecided-clause-moves : goal.returns-in-Ok-Undecided-clause-moves
+returns-in-Ok-Undecided-clause-moves g c = asked_nothing _ _ _ _ c.args.ts c.ask.result _ _ c.ask.ensures.call (less_itself c.args.self.now.held)
+
+pub returns-in_ok-cause_of-in-Err-clause-moves : goal.returns-in_ok-cause_of-in-Err-clause-moves
+returns-in_ok-cause_of-in-Err-clause-moves g c = asked_nothing _ _ _ _ c.args.ts c.ask.result _ _ c.ask.ensures.call (less_itself c.args.self.now.held)

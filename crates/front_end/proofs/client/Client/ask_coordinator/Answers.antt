@@ -1,4 +1,5 @@
 use Rattle.front_end.proofs.Acting.{by_ask}
+use Rattle.front_end.proofs.Calling.{asked_in_vain, asked_own}
 use Rattle.front_end.proofs.Showing.{asked_of}
 use Rattle.front_end.proofs.client.Client.ask_coordinator.Goals as goal
 use Rattle.std.proofs.lemmas.Result.{IfOk-weaker}
@@ -17,3 +18,9 @@ returns-in-Ok-Settled-clause-shown g c = IfOk-weaker c.learn_own.result _ _ (λ 
 
 pub returns-in-Ok-Undecided-clause-shown : goal.returns-in-Ok-Undecided-clause-shown
 returns-in-Ok-Undecided-clause-shown g c = λ s. c.ask_again.ensures.shown _ _ _
+
+pub returns-in-Ok-Settled-clause-moves : goal.returns-in-Ok-Settled-clause-moves
+returns-in-Ok-Settled-clause-moves g c = asked_own _ _ _ _ c.args.sent.ts c.in-Ok-Settled.field-0 c.in-Ok-Settled.verdict c.in-Ok-Settled.field-0-is c.in-Ok-Settled.ensures.call _ _ c.learn_own.result c.learn_own.ensures.ends
+
+pub returns-in-Ok-Undecided-clause-moves : goal.returns-in-Ok-Undecided-clause-moves
+returns-in-Ok-Undecided-clause-moves g c = asked_in_vain _ _ _ _ c.args.sent.ts c.ask.result _ _ c.ask.ensures.call c.ask_again.ensures.leaves

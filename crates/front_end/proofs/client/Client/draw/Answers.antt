@@ -1,4 +1,4 @@
-use Rattle.client_state.proofs.Moving.{moves_then_drops, session_is_here}
+use Rattle.client_state.proofs.Moving.{sends_then_drops, session_is_here}
 use Rattle.client_state.specs.Showing.{DrewShown}
 use Rattle.front_end.proofs.Acting.{by_draw}
 use Rattle.front_end.proofs.client.Client.draw.Goals as goal
@@ -23,4 +23,4 @@ pub returns-in-Ts-clause-moves : goal.returns-in-Ts-clause-moves
 returns-in-Ts-clause-moves g c = λ s. rw (c.set_phase.ensures, c.take_phase.ensures.rest) (c.draw.ensures.moves (session_is_here c.args.self.now.held.links.items c.args.coordinator c.in-Some.at (sym c.in-Some.ensures)) s)
 
 pub returns-in-Refused-clause-moves : goal.returns-in-Refused-clause-moves
-returns-in-Refused-clause-moves g c = λ s. moves_then_drops (g.Q.Port.view c.args.port.now) (g.Q.Port.view c.draw.new.port) c.args.self.now.held c.draw.new.self c.go_behind.new.self.held c.go_behind.ensures.less (c.draw.ensures.moves (session_is_here c.args.self.now.held.links.items c.args.coordinator c.in-Some.at (sym c.in-Some.ensures)) s)
+returns-in-Refused-clause-moves g c = λ s. sends_then_drops (g.Q.Port.view c.args.port.now) (g.Q.Port.view c.draw.new.port) c.args.self.now.held c.draw.new.self c.go_behind.new.self.held c.go_behind.ensures.less (c.draw.ensures.moves (session_is_here c.args.self.now.held.links.items c.args.coordinator c.in-Some.at (sym c.in-Some.ensures)) s)

@@ -1,4 +1,4 @@
-use Rattle.client_state.proofs.Moving.{moves_then_drops}
+use Rattle.client_state.proofs.Moving.{sends_then_drops}
 use Rattle.client_state.specs.Showing.{DrewShown}
 use Rattle.front_end.proofs.Acting.{by_draw}
 use Rattle.front_end.proofs.client.Client.draw_made.Goals as goal
@@ -17,4 +17,4 @@ pub returns-in-Refused-clause-shown : goal.returns-in-Refused-clause-shown
 returns-in-Refused-clause-shown g c = λ repos s. c.go_behind.ensures.shown _ _ repos (subst (DrewShown (g.Q.Port.view c.args.port.now) (g.Q.Port.view c.draw.new.port)) c.in-Refused.is (c.in_ok-ts.ensures.shown s))
 
 pub returns-in-Refused-clause-moves : goal.returns-in-Refused-clause-moves
-returns-in-Refused-clause-moves g c = λ joined s. moves_then_drops (g.Q.Port.view c.args.port.now) (g.Q.Port.view c.draw.new.port) c.args.self.now.held c.draw.new.self c.go_behind.new.self.held c.go_behind.ensures.less (c.draw.ensures.moves joined s)
+returns-in-Refused-clause-moves g c = λ joined s. sends_then_drops (g.Q.Port.view c.args.port.now) (g.Q.Port.view c.draw.new.port) c.args.self.now.held c.draw.new.self c.go_behind.new.self.held c.go_behind.ensures.less (c.draw.ensures.moves joined s)

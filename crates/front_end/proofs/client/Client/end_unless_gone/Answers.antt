@@ -1,6 +1,16 @@
+use Rattle.client_state.specs.Receiving.{EndsReceive, LosesThere}
+use Rattle.client_state.specs.declared.held.Held.{Held}
 use Rattle.front_end.proofs.Showing.{try_shown}
 use Rattle.front_end.proofs.client.Client.end_unless_gone.Goals as goal
 use Rattle.front_end.specs.Showing.{ByRefusal}
+use Rattle.std.proofs.Common.{Bool, ap, subst}
+use Rattle.std.specs.Prelude.{not}
 
 pub returns-clause-shown : goal.returns-clause-shown
-returns-clause-shown c = λ old new repos refuses. try_shown old new repos _ _ c.end_try.ensures.news (ByRefusal (record { repo = c.args.repo; refusal = c.args.refusal; call = refuses; cause_is = c.in_ok-cause.ensures.cause }))
+returns-clause-shown c = λ old new repos refuses. try_shown old new repos _ _ c.end_in_outage.ensures.news (ByRefusal (record { repo = c.args.repo; refusal = c.args.refusal; call = refuses; cause_is = c.in_ok-cause.ensures.cause }))
+
+pub returns-then-lose_in_receive-clause-ends : goal.returns-then-lose_in_receive-clause-ends
+returns-then-lose_in_receive-clause-ends c = LosesThere c.lose_in_receive.ensures.loses c.lose_in_receive.ensures.client
+
+pub returns-clause-ends : goal.returns-clause-ends
+returns-clause-ends c = subst (λ (h : Held). EndsReceive c.args.refusal c.args.repo h c.end_in_outage.new.self.held) (c.lose_in_receive.ensures.rest (ap (λ (b : Bool). not b) c.if-lose_in_receive.false)) (c.end_in_outage.ensures.ends c.args.refusal (c.lose_in_receive.ensures.gone (ap (λ (b : Bool). not b) c.if-lose_in_receive.false)))

@@ -1,5 +1,6 @@
 use Rattle.client_state.proofs.Moving.{session_is_here}
 use Rattle.front_end.proofs.Acting.{by_fetch}
+use Rattle.front_end.proofs.Calling.{on_any}
 use Rattle.front_end.proofs.client.Client.fetch.Goals as goal
 use Rattle.std.proofs.Common.{sym}
 
@@ -7,7 +8,7 @@ pub returns-in-Some-clause-acts : goal.returns-in-Some-clause-acts
 returns-in-Some-clause-acts g c = by_fetch _ _ _ _ _ _ _ _ _ _ c.fetch.ensures.call
 
 pub returns-in-Some-clause-moves : goal.returns-in-Some-clause-moves
-returns-in-Some-clause-moves g c = λ idle settled. c.fetch.ensures.moves (session_is_here c.args.self.now.held.links.items c.args.oref.repo c.in-Some.at (sym c.in-Some.ensures), idle)
+returns-in-Some-clause-moves g c = λ idle. on_any c.fetch.result _ (c.fetch.ensures.moves (session_is_here c.args.self.now.held.links.items c.args.oref.repo c.in-Some.at (sym c.in-Some.ensures), idle))
 
 pub returns-in-None-clause-moves : goal.returns-in-None-clause-moves
-returns-in-None-clause-moves g c = λ idle settled. c.join.ensures.moves (settled (sym c.in-None.ensures))
+returns-in-None-clause-moves g c = λ idle. c.join.ensures.moves (sym c.in-None.ensures)

@@ -1,11 +1,10 @@
 use Rattle.front_end.proofs.Acting.{by_connect}
+use Rattle.front_end.proofs.Calling.{on_any}
 use Rattle.front_end.proofs.client.Client.join.Goals as goal
+use Rattle.std.proofs.Common.{refl}
 
 pub returns-in-None-clause-acts : goal.returns-in-None-clause-acts
 returns-in-None-clause-acts g c = by_connect _ _ _ _ _ _ _ c.connect.ensures.call
 
-pub returns-in-Some-clause-moves : goal.returns-in-Some-clause-moves
-returns-in-Some-clause-moves g c = λ apart. let impossible = c.in-Some.ensures.none apart in cc
-
 pub returns-in-None-clause-moves : goal.returns-in-None-clause-moves
-returns-in-None-clause-moves g c = λ apart. c.connect.ensures.moves apart
+returns-in-None-clause-moves g c = λ none. on_any c.connect.result _ (c.connect.ensures.moves (c.in-None.ensures.apart refl none))

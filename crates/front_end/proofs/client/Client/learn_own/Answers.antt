@@ -1,9 +1,16 @@
+use Rattle.client_state.specs.Moving.{EndsSo}
 use Rattle.front_end.proofs.Showing.{abort_shown, decided_so, told_decided, try_shown}
 use Rattle.front_end.proofs.client.Client.learn_own.Goals as goal
-use Rattle.std.proofs.Common.{refl, sym, true, ◌∙◌}
+use Rattle.std.proofs.Common.{Bool, refl, subst, sym, true, ◌∙◌}
 
 pub returns-then-commit-clause-shown : goal.returns-then-commit-clause-shown
 returns-then-commit-clause-shown c = λ old new repos told. c.end_committed.ensures.shown old new repos (decided_so old new c.args.sent.ts c.args.sent.ts c.args.verdict.commit true refl (sym c.if-commit.true ∙ c.commit.ensures) (told_decided old new c.args.coordinator c.args.sent.ts c.args.verdict.commit told))
 
 pub returns-clause-shown : goal.returns-clause-shown
 returns-clause-shown c = λ old new repos told. try_shown old new repos _ _ c.end_try.ensures.news (abort_shown old new repos c.args.sent.ts c.args.verdict.commit c.args.coordinator (sym c.commit.ensures ∙ c.if-commit.false) told)
+
+pub returns-then-commit-clause-ends : goal.returns-then-commit-clause-ends
+returns-then-commit-clause-ends c = subst (λ (b : Bool). EndsSo b c.args.self.now.held c.end_committed.new.self.held) (sym c.if-commit.true ∙ c.commit.ensures) c.end_committed.ensures.keeps
+
+pub returns-clause-ends : goal.returns-clause-ends
+returns-clause-ends c = subst (λ (b : Bool). EndsSo b c.args.self.now.held c.end_try.new.self.held) (sym c.if-commit.false ∙ c.commit.ensures) c.end_try.ensures.less

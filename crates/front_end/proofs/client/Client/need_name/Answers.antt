@@ -1,4 +1,4 @@
-use Rattle.client_state.proofs.Moving.{moves_then_drops}
+use Rattle.client_state.proofs.Moving.{sends_then_drops}
 use Rattle.client_state.specs.Moving.{Rested}
 use Rattle.front_end.proofs.Showing.{try_shown}
 use Rattle.front_end.proofs.client.Client.need_name.Goals as goal
@@ -12,10 +12,7 @@ pub returns-clause-shown : goal.returns-clause-shown
 returns-clause-shown g c = λ s. c.go_behind.ensures.shown _ _ _ (c.in_ok-came.ensures.shown s)
 
 pub returns-then-repo-opened-clause-moves : goal.returns-then-repo-opened-clause-moves
-returns-then-repo-opened-clause-moves g c = λ idle settled s. Rested refl c.end_try.ensures.less
-
-pub returns-in_err-came-clause-moves : goal.returns-in_err-came-clause-moves
-returns-in_err-came-clause-moves g c = λ idle settled s. c.ask_for_names.ensures.moves idle settled s
+returns-then-repo-opened-clause-moves g c = λ idle s. Rested refl c.end_try.ensures.less
 
 pub returns-clause-moves : goal.returns-clause-moves
-returns-clause-moves g c = λ idle settled s. moves_then_drops (g.Q.Port.view c.args.port.now) (g.Q.Port.view c.ask_for_names.new.port) c.args.self.now.held c.ask_for_names.new.self.held c.go_behind.new.self.held c.go_behind.ensures.less (c.ask_for_names.ensures.moves idle settled s)
+returns-clause-moves g c = λ idle s. sends_then_drops (g.Q.Port.view c.args.port.now) (g.Q.Port.view c.ask_for_names.new.port) c.args.self.now.held c.ask_for_names.new.self.held c.go_behind.new.self.held c.go_behind.ensures.less (c.in_ok-came.ensures.moves idle s)

@@ -1,4 +1,6 @@
+use Rattle.client_state.proofs.Moving.{less_itself}
 use Rattle.front_end.proofs.Acting.{by_prepare}
+use Rattle.front_end.proofs.Requesting.{by_prepare as moves_by_prepare, by_prepare_refused}
 use Rattle.front_end.proofs.client.Client.prepare_first.Goals as goal
 use Rattle.port.specs.Acting.{RefusesPrepare}
 use Rattle.std.proofs.lemmas.Result.{IfOk-weaker}
@@ -11,3 +13,9 @@ returns-in-Err-clause-acts g c = by_prepare _ _ _ _ _ c.args.sending.request _ c
 
 pub returns-in-Err-clause-shown : goal.returns-in-Err-clause-shown
 returns-in-Err-clause-shown g c = λ repos. IfOk-weaker c.end_refused.result _ _ (λ n told s. told _ _ _ (RefusesPrepare _ c.args.sending.request (c.in-Err.ensures.call s))) c.end_refused.ensures.shown
+
+pub returns-in-Ok-clause-moves : goal.returns-in-Ok-clause-moves
+returns-in-Ok-clause-moves g c = λ of idle. rw (c.set_phase.ensures) (moves_by_prepare _ _ _ c.args.self.now.held c.args.self.now.held c.args.sending of c.in-Ok.field-0 c.in-Ok.ensures.call (less_itself c.args.self.now.held))
+
+pub returns-in-Err-clause-moves : goal.returns-in-Err-clause-moves
+returns-in-Err-clause-moves g c = λ of idle. by_prepare_refused _ _ _ c.args.self.now.held c.end_refused.new.self.held c.args.sending of idle c.in-Err.refusal c.in-Err.ensures.call c.end_refused.ensures.learns c.end_refused.ensures.client

@@ -1,7 +1,9 @@
 use Rattle.front_end.proofs.Acting.{by_commit}
+use Rattle.front_end.proofs.Receiving.{whenever}
+use Rattle.front_end.proofs.Requesting.{by_commit_refused, by_transform}
 use Rattle.front_end.proofs.client.Client.send_transform.Goals as goal
 use Rattle.port.specs.Acting.{RefusesCommit}
-use Rattle.std.proofs.lemmas.Result.{IfOk-weaker}
+use Rattle.std.proofs.lemmas.Result.{IfOk-weaker, on_ok_weaker}
 
 pub returns-in-Ok-clause-acts : goal.returns-in-Ok-clause-acts
 returns-in-Ok-clause-acts g c = by_commit _ _ _ _ _ c.args.request _ c.commit_one.ensures.call
@@ -14,3 +16,9 @@ returns-in-Err-clause-shown g c = λ repos. IfOk-weaker c.refuse_transform.resul
 
 pub returns-in-Ok-clause-shown : goal.returns-in-Ok-clause-shown
 returns-in-Ok-clause-shown g c = λ repos. IfOk-weaker c.end_transform.result _ _ (λ n told s. told _ _ _) c.end_transform.ensures.shown
+
+pub returns-in-Ok-clause-moves : goal.returns-in-Ok-clause-moves
+returns-in-Ok-clause-moves g c = λ of writes idle. on_ok_weaker c.end_transform.result (λ keeps. by_transform _ _ _ c.args.self.now.held c.end_transform.new.self.held (record { at = c.args.at; request = c.args.request }) of idle c.in-Ok.field-0 c.args.oref c.args.made c.in-Ok.ensures.call writes keeps) c.end_transform.ensures.keeps
+
+pub returns-in-Err-clause-moves : goal.returns-in-Err-clause-moves
+returns-in-Err-clause-moves g c = λ of writes idle. whenever c.refuse_transform.result (by_commit_refused _ _ _ c.args.self.now.held c.refuse_transform.new.self.held (record { at = c.args.at; request = c.args.request }) of idle c.in-Err.refusal c.in-Err.ensures.call c.refuse_transform.ensures.learns c.refuse_transform.ensures.client)

@@ -1,7 +1,9 @@
+use Rattle.client_state.specs.Receiving.{TakesCopies}
 use Rattle.front_end.proofs.client.Client.take.Goals as goal
+use Rattle.message_outbox.specs.declared.message.Message.{Message}
 use Rattle.port.specs.Acting.{IsTaken}
-use Rattle.std.proofs.Common.{subst}
-use Rattle.std.proofs.lemmas.Result.{IfOk-weaker}
+use Rattle.std.proofs.Common.{subst, sym}
+use Rattle.std.proofs.lemmas.Result.{IfOk-weaker, on_ok_weaker}
 
 pub returns-in-Page-clause-shown : goal.returns-in-Page-clause-shown
 returns-in-Page-clause-shown c = IfOk-weaker c.take_page.result _ _ (λ n told old new repos taken. told old new repos c.in-Page.place (subst (IsTaken old new c.args.repo) c.in-Page.is taken)) c.take_page.ensures.shown
@@ -11,3 +13,15 @@ returns-in-Invalid-clause-shown c = λ old new repos taken. c.take_invalid.ensur
 
 pub returns-clause-shown : goal.returns-clause-shown
 returns-clause-shown c = λ old new repos taken. c.take_upgrade.ensures.shown old new repos c.args.repo c.in-Upgrade.place c.in-Upgrade.text (subst (IsTaken old new c.args.repo) c.in-Upgrade.is taken)
+
+pub returns-in-Page-clause-takes : goal.returns-in-Page-clause-takes
+returns-in-Page-clause-takes c = on_ok_weaker c.take_page.result (subst (λ (m : Message). TakesCopies c.args.repo m c.args.self.now.held c.take_page.new.self.held) (sym c.in-Page.is)) (c.take_page.ensures.takes c.in-Page.place)
+
+pub returns-in-Grant-clause-takes : goal.returns-in-Grant-clause-takes
+returns-in-Grant-clause-takes c = on_ok_weaker c.take_grant.result (subst (λ (m : Message). TakesCopies c.args.repo m c.args.self.now.held c.take_grant.new.self.held) (sym c.in-Grant.is)) (c.take_grant.ensures.takes c.in-Grant.place)
+
+pub returns-in-Invalid-clause-takes : goal.returns-in-Invalid-clause-takes
+returns-in-Invalid-clause-takes c = subst (λ (m : Message). TakesCopies c.args.repo m c.args.self.now.held c.take_invalid.new.self.held) (sym c.in-Invalid.is) (c.take_invalid.ensures.takes c.args.repo)
+
+pub returns-clause-takes : goal.returns-clause-takes
+returns-clause-takes c = subst (λ (m : Message). TakesCopies c.args.repo m c.args.self.now.held c.take_upgrade.new.self.held) (sym c.in-Upgrade.is) (c.take_upgrade.ensures.takes c.args.repo c.in-Upgrade.place c.in-Upgrade.text)

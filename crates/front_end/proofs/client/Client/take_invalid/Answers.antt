@@ -1,3 +1,4 @@
+use Rattle.front_end.proofs.Receiving.{same_items, takes_so, takes_then_less}
 use Rattle.front_end.proofs.Showing.{try_shown}
 use Rattle.front_end.proofs.client.Client.take_invalid.Goals as goal
 use Rattle.front_end.specs.Showing.{ByInvalid}
@@ -5,3 +6,9 @@ use Rattle.std.proofs.Common.{refl}
 
 pub returns-in-Some-clause-shown : goal.returns-in-Some-clause-shown
 returns-in-Some-clause-shown c = λ old new repos repo taken. try_shown old new repos _ _ c.end_try.ensures.news (ByInvalid repo c.args.place c.args.orefs.now c.in-Some.oref taken c.in-Some.ensures refl)
+
+pub returns-in-Some-clause-takes : goal.returns-in-Some-clause-takes
+returns-in-Some-clause-takes c = λ repo. takes_then_less repo _ c.args.self.now.held c.drop_copies.new.self c.end_try.new.self.held c.drop_copies.ensures.copies c.drop_copies.ensures.client (same_items c.drop_copies.new.self c.args.self.now.held c.drop_copies.ensures.links) c.end_try.ensures.less
+
+pub returns-in-None-clause-takes : goal.returns-in-None-clause-takes
+returns-in-None-clause-takes c = λ repo. takes_so repo _ c.args.self.now.held c.drop_copies.new.self c.drop_copies.ensures.copies c.drop_copies.ensures.client (same_items c.drop_copies.new.self c.args.self.now.held c.drop_copies.ensures.links)

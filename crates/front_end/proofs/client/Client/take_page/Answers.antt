@@ -1,3 +1,5 @@
+use Rattle.client_state.specs.declared.held.Held.{Held}
+use Rattle.front_end.proofs.Receiving.{takes_so, takes_then_less}
 use Rattle.front_end.proofs.Showing.{page_shown, try_shown}
 use Rattle.front_end.proofs.client.Client.take_page.Goals as goal
 use Rattle.std.proofs.Common.{Bool, ap}
@@ -5,3 +7,9 @@ use Rattle.std.specs.Prelude.{not}
 
 pub returns-in-Some-clause-shown : goal.returns-in-Some-clause-shown
 returns-in-Some-clause-shown c = λ old new repos place taken. try_shown old new repos _ _ c.end_try.ensures.news (page_shown old new repos c.args.repo c.args.page place c.args.bytes.now c.in-Some.oref c.args.self.now.held.cache.cache c.place.new.self.cache.cache (c.is_on.ensures c.if-is_on.true).0 (c.is_on.ensures c.if-is_on.true).1 c.in_ok-place.ensures.kept (c.holds.ensures (ap (λ (b : Bool). not b) c.if-not-holds.true)) taken)
+
+pub returns-in-Some-clause-takes : goal.returns-in-Some-clause-takes
+returns-in-Some-clause-takes c = λ place. takes_then_less c.args.repo _ c.args.self.now.held c.place.new.self c.end_try.new.self.held c.in_ok-place.ensures.kept (ap (λ (h : Held). h.client) c.place.ensures.rest) (ap (λ (h : Held). h.links.items) c.place.ensures.rest) c.end_try.ensures.less
+
+pub returns-in-Some-2-clause-takes : goal.returns-in-Some-2-clause-takes
+returns-in-Some-2-clause-takes c = λ place. takes_so c.args.repo _ c.args.self.now.held c.place.new.self c.in_ok-place.ensures.kept (ap (λ (h : Held). h.client) c.place.ensures.rest) (ap (λ (h : Held). h.links.items) c.place.ensures.rest)

@@ -1,3 +1,5 @@
+use Rattle.client_state.specs.Moving.{Unsent}
+use Rattle.front_end.proofs.Calling.{moves_down}
 use Rattle.front_end.proofs.Moving.{keeps_behind, nothing_owed}
 use Rattle.front_end.proofs.Showing.{goes_shown}
 use Rattle.front_end.proofs.front_end.FrontEnd.ask_last.Goals as goal
@@ -8,3 +10,6 @@ returns-clause-keeps g c = on_ok_weaker c.take_down.result (λ never. keeps_behi
 
 pub returns-clause-shown : goal.returns-clause-shown
 returns-clause-shown g c = goes_shown _ _ _ _ _ _ _ _ _ c.in_ok-news.ensures.shown c.take_down.ensures.told
+
+pub returns-clause-moves : goal.returns-clause-moves
+returns-clause-moves g c = moves_down _ _ _ c.args.self.now.client.held c.ask_last.new.self c.take_down.new.self.client c.take_down.ensures.client c.take_down.result (λ s. Unsent (c.in_ok-news.ensures.moves s))

@@ -1,4 +1,5 @@
 use Rattle.std.proofs.Common.{◌≡◌, Err, IfOk, Ok, OnOk, Result, subst, sym}
+use Rattle.held_state.proofs.Unfit.{spelled_whole}
 use Rattle.held_state.proofs.Written.{state_fits}
 use Rattle.held_state.specs.Keeps.{Keeps}
 use Rattle.held_state.specs.Said.{spelled}
@@ -7,7 +8,8 @@ use Rattle.log_bytes.specs.Checkpoint.{StateFits}
 use Rattle.log_bytes.specs.declared.state.State.{State}
 use Rattle.mob_buffer.specs.Buffer.{AreDistinct}
 use Rattle.page_format.specs.Sides.{SidesFit}
-use Rattle.std.specs.Prelude.{◌<◌, ◌^◌}
+use Rattle.state_log.specs.Recovered.{is_whole}
+use Rattle.std.specs.Prelude.{IsTrue, ◌<◌, ◌^◌}
 use Rattle.held_state.proofs.state.HeldState.state.Goals as goal
 
 by_end : {E : Type 0} (r : Result State E) (h : Held) → Keeps h → h.count < 2 ^ 62 → IfOk r (λ s. s ≡ spelled h) → OnOk r (AreDistinct h.objects.mob.objects) → OnOk r (SidesFit h.objects.pages.sides) → IfOk r StateFits
@@ -17,3 +19,10 @@ by_end (Err e) h keeps count is distinct sides = tt
 pub returns-clause-fits : goal.returns-clause-fits
 returns-clause-fits c = λ keeps count.
     by_end c.state.result c.self.inside.held (subst Keeps (sym c.self.view_is) keeps) (subst (λ (h : Held). h.count < 2 ^ 62) (sym c.self.view_is) count) c.state.ensures.spelled c.state.ensures.distinct c.state.ensures.sides
+
+whole_end : {E : Type 0} (r : Result State E) (h : Held) → Keeps h → IfOk r (λ s. s ≡ spelled h) → IfOk r (λ s. IsTrue (is_whole s))
+whole_end (Ok s) h keeps is = subst (λ (t : State). IsTrue (is_whole t)) (sym is) (spelled_whole h keeps)
+whole_end (Err e) h keeps is = tt
+
+pub returns-clause-whole : goal.returns-clause-whole
+returns-clause-whole c = λ keeps. whole_end c.state.result c.self.inside.held (subst Keeps (sym c.self.view_is) keeps) c.state.ensures.spelled

@@ -1,5 +1,5 @@
 use Rattle.repo_core.proofs.Entered.{goes_down, on_err2}
-use Rattle.repo_core.proofs.Taking.{down_with_it, on_ok4, pending_falls, taken_from, takes_after, tells_shown, unheld_shown}
+use Rattle.repo_core.proofs.Taking.{down_with_it, on_ok4, pending_falls, taken_from, takes_after, tells_shown}
 use Rattle.repo_core.specs.Restarting.{Takes, TakesNone}
 use Rattle.repo_core.specs.Shown.{Shown, shown}
 use Rattle.stable_store.specs.Kept.{pending}
@@ -40,4 +40,4 @@ returns-in_err-restart-clause-damaged g c = λ n place is told.
     let i = c.self.inside in
     let wrong : IsErrOf c.restart.result (IsDamaged n place) = search rules in
     let tells = tells_shown g.P.Parts.disks i.stable i.memory i.trace i.opened_in c.args.self.now c.self.view_is told in
-    unheld_shown g.P.Parts.disks c.restart.new.self i.memory i.trace i.opened_in _ refl (c.restart.ensures.damaged n place wrong c.self.invariant.1 tells)
+    c.restart.ensures.damaged n place wrong c.self.invariant.1 tells

@@ -4,10 +4,15 @@ use Rattle.log_bytes.specs.declared.body.Body.TheVariants.{Entry as AnEntry}
 use Rattle.stable_store.proofs.Opened.{opened_more}
 use Rattle.stable_store.proofs.Pages.{reach_open, reach_still}
 use Rattle.stable_store.proofs.Saying.{ahead_up, images_written, log_more, said_resting, taken_says}
-use Rattle.stable_store.proofs.Staying.{kept_up, taken_open}
+use Rattle.stable_store.proofs.Staying.{kept_up, taken_follows, taken_open}
 use Rattle.stable_store.specs.Kept.{disks_of}
 use Rattle.std.specs.Prelude.{Some}
 use Rattle.stable_store.proofs.stable.Stable.append.Goals as goal
+
+pub append-requires-clause-holds : goal.append-requires-clause-holds
+append-requires-clause-holds g c =
+    let taken = c.in-Some.ensures.some in
+    taken_follows g.P.Parts.disks c.args.self.now c.take_log.new.self c.in-Some.log c.args.entry taken.1 taken.2 c.requires.takes
 
 pub returns-in-Ok-clause-kept : goal.returns-in-Ok-clause-kept
 returns-in-Ok-clause-kept g c =

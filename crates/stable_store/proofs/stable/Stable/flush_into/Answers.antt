@@ -1,14 +1,17 @@
+use Rattle.disk_trait.proofs.Several.{goes_one}
 use Rattle.disk_trait.specs.Fused.{fused_disks}
 use Rattle.held_state.specs.Said.{said}
-use Rattle.stable_store.proofs.Opened.{holds_beside, opened_beside}
+use Rattle.stable_store.proofs.Failing.{failed_behind}
+use Rattle.stable_store.proofs.Opened.{holds_beside, opened_beside, repo_of}
 use Rattle.stable_store.proofs.Pages.{reach_written}
 use Rattle.stable_store.proofs.Saying.{images_beside, log_beside, log_same}
 use Rattle.stable_store.specs.Kept.{disks_of}
+use Rattle.std.proofs.Common.{ap}
 use Rattle.stable_store.proofs.stable.Stable.flush_into.Goals as goal
 
 pub put_flushed-requires-clause-opened : goal.put_flushed-requires-clause-opened
 put_flushed-requires-clause-opened g c =
-    opened_beside (disks_of g.P.Parts.disks c.args.self.now) (fused_disks g.P.Parts.disks c.flush_one.new.parts) c.args.log.now c.args.self.now.held c.flush_one.new.self c.requires.opened c.flush_one.ensures.alone c.in-Ok.ensures.settled c.in-Ok.ensures.agrees c.flush_one.ensures.keeps
+    opened_beside (disks_of g.P.Parts.disks c.args.self.now) (fused_disks g.P.Parts.disks c.flush_one.new.parts) c.args.log.now c.args.self.now.held c.flush_one.new.self c.requires.opened c.flush_one.ensures.alone c.in-Ok.ensures.settled c.in-Ok.ensures.agrees (ap repo_of c.flush_one.ensures.held) c.flush_one.ensures.keeps
 
 pub returns-in-Ok-clause-log : goal.returns-in-Ok-clause-log
 returns-in-Ok-clause-log g c = λ says.
@@ -30,3 +33,9 @@ pub returns-in-Err-clause-images : goal.returns-in-Err-clause-images
 returns-in-Err-clause-images g c = λ says.
     images_beside (disks_of g.P.Parts.disks c.args.self.now) (fused_disks g.P.Parts.disks c.flush_one.new.parts) c.args.log.now c.args.self.now.held c.flush_one.new.self says c.flush_one.ensures.alone c.flush_one.ensures.said
     (reach_written (disks_of g.P.Parts.disks c.args.self.now) (fused_disks g.P.Parts.disks c.flush_one.new.parts) c.args.log.now c.args.self.now.held c.requires.opened c.flush_one.ensures.alone c.flush_one.ensures.any_moment)
+
+pub returns-in-Ok-clause-stopped : goal.returns-in-Ok-clause-stopped
+returns-in-Ok-clause-stopped g c = λ r wrong.
+    let old = disks_of g.P.Parts.disks c.args.self.now in
+    let mid = fused_disks g.P.Parts.disks c.flush_one.new.parts in
+    failed_behind old.faults mid.faults (disks_of g.P.Parts.disks c.put_flushed.new.self).faults (goes_one old mid 2 c.flush_one.ensures.alone).faults (c.put_flushed.ensures.stopped r wrong)

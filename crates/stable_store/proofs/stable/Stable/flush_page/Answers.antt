@@ -1,3 +1,4 @@
+use Rattle.stable_store.proofs.Failing.{damage_taken}
 use Rattle.stable_store.proofs.Saying.{phase_of, said_in_phase, said_up, taken_says}
 use Rattle.std.proofs.Common.{ap, ◌∙◌}
 use Rattle.std.specs.Prelude.{None}
@@ -16,3 +17,7 @@ returns-in-Err-clause-says g c = λ is.
     let mid = c.take_log.new.self in
     let says = taken_says g.P.Parts.disks c.args.self.now mid c.in-Some.log taken.0 taken.1 is in
     said_in_phase g.P.Parts.disks c.flush_into.new.self None (c.flush_into.ensures.phase ∙ ap phase_of taken.1) (c.in-Err.ensures.images says)
+
+pub returns-in-Err-clause-damaged : goal.returns-in-Err-clause-damaged
+returns-in-Err-clause-damaged g c = λ r place is.
+    damage_taken g.P.Parts.disks c.args.self.now c.take_log.new.self place c.in-Some.ensures.some.1 (c.flush_into.ensures.damaged r place (c.in-Err.is ∙ is))

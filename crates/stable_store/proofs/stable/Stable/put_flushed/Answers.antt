@@ -1,13 +1,13 @@
 use Rattle.disk_trait.specs.Fused.{fused_disks}
 use Rattle.held_state.specs.Said.{said}
 use Rattle.log_bytes.specs.declared.body.Body.TheVariants.{Installed}
-use Rattle.stable_store.proofs.Opened.{opened_more, opened_moved}
+use Rattle.stable_store.proofs.Opened.{opened_more, opened_moved, repo_of}
 use Rattle.stable_store.proofs.Pages.{reach_flushed, reach_open, reach_still}
 use Rattle.stable_store.proofs.Saying.{images_installing, images_of_log, log_more, log_same}
 use Rattle.stable_store.specs.Flushes.{IsLastFlush}
 use Rattle.stable_store.specs.Kept.{disks_of}
 use Rattle.state_log.specs.Recovered.{after}
-use Rattle.std.proofs.Common.{refl, subst}
+use Rattle.std.proofs.Common.{ap, refl, subst}
 use Rattle.std.specs.BTreeMap.{insert_entry}
 use Rattle.std.specs.Ordering.{nat_cmp}
 use Rattle.stable_store.proofs.stable.Stable.put_flushed.Goals as goal
@@ -16,7 +16,7 @@ pub returns-clause-opened : goal.returns-clause-opened
 returns-clause-opened g c =
     let now = fused_disks g.P.Parts.disks c.installed.new.parts in
     let stood = opened_more (disks_of g.P.Parts.disks c.args.self.now) now c.args.log.now c.installed.new.self c.args.self.now.held (Installed c.in-Installed.page c.in-Installed.side) c.requires.opened c.in_default-installed.ensures.appended c.installed.ensures.pages in
-    opened_moved now c.installed.new.self c.args.self.now.held c.settle.new.self stood c.settle.ensures.agrees c.settle.ensures.keeps
+    opened_moved now c.installed.new.self c.args.self.now.held c.settle.new.self stood c.settle.ensures.agrees (ap repo_of c.settle.ensures.held) c.settle.ensures.keeps
 
 pub returns-clause-log : goal.returns-clause-log
 returns-clause-log g c = λ says.

@@ -5,13 +5,17 @@ use Rattle.held_state.specs.Said.{said}
 use Rattle.stable_store.proofs.Openings.{opened_where, stands_where}
 use Rattle.page_store.specs.Sides.{ReachesSides}
 use Rattle.stable_store.specs.Kept.{disks_of}
-use Rattle.std.proofs.Common.{List, Ok, Bool, ap, subst, sym, ℕ, ◌∙◌}
+use Rattle.disk_trait.specs.declared.parts.Outage.{Outage}
+use Rattle.stable_store.proofs.Failing.{failed_on}
+use Rattle.stable_store.proofs.Returning.{same_err}
+use Rattle.validation_window.specs.declared.refusal.Refusal.TheVariants.{Stopped as IsStopped}
+use Rattle.std.proofs.Common.{Err, List, Ok, Bool, ap, arith, refl, subst, sym, ℕ, ◌∙◌}
 use Rattle.stable_store.proofs.stable.Stable.reached.Goals as goal
 
 pub returns-in-Ok-true-clause-opened : goal.returns-in-Ok-true-clause-opened
 returns-in-Ok-true-clause-opened g c =
     let same = c.sides.ensures ∙ ap (λ (p : Store). p.sides) c.pages.ensures ∙ ap (λ (k : Kept). k.pages.sides) c.objects.ensures in
-    opened_where (disks_of g.P.Parts.disks c.args.self.now) (fused_disks g.P.Parts.disks c.reaches.new.parts) c.args.recovered.log c.args.recovered.state c.sides.result.now c.in-Ok-true.field-0 c.requires.holds c.requires.keeps c.requires.pages c.reaches.ensures.alone c.reaches.ensures.content c.reaches.ensures.crash same c.in-Ok-true.ensures.answer c.in-Ok-true.field-0-test
+    opened_where (disks_of g.P.Parts.disks c.args.self.now) (fused_disks g.P.Parts.disks c.reaches.new.parts) c.args.recovered.log c.args.recovered.state c.sides.result.now c.in-Ok-true.field-0 c.requires.stands c.requires.keeps c.requires.pages c.reaches.ensures.alone c.reaches.ensures.content c.reaches.ensures.crash same c.in-Ok-true.ensures.answer c.in-Ok-true.field-0-test
 
 pub returns-in-Ok-true-clause-stands : goal.returns-in-Ok-true-clause-stands
 returns-in-Ok-true-clause-stands g c =
@@ -21,3 +25,8 @@ pub returns-in-Ok-false-clause-damaged : goal.returns-in-Ok-false-clause-damaged
 returns-in-Ok-false-clause-damaged g c = λ r place wrong bytes told reaches.
     let same = c.sides.ensures ∙ ap (λ (p : Store). p.sides) c.pages.ensures ∙ ap (λ (k : Kept). k.pages.sides) c.objects.ensures in
     c.reaches.ensures.lacks (c.in-Ok-false.is ∙ ap (λ (b : Bool). Ok b) c.in-Ok-false.field-0-test) bytes told (subst (λ (ps : List (ℕ × ℕ)). ReachesSides ps bytes) (sym same) reaches)
+
+pub returns-in-Err-clause-stopped : goal.returns-in-Err-clause-stopped
+returns-in-Err-clause-stopped g c = λ r wrong.
+    failed_on (disks_of g.P.Parts.disks c.args.self.now) (fused_disks g.P.Parts.disks c.reaches.new.parts) 2 (omega arith)
+    (c.reaches.ensures.failed (c.in-Err.is ∙ ap (λ (o : Outage). Err o) (c.of_outage.ensures.stopped r (same_err _ c.of_outage.result (IsStopped r) refl wrong))))

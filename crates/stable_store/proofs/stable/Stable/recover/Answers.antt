@@ -1,11 +1,14 @@
+use Rattle.disk_trait.proofs.Several.{goes_then}
+use Rattle.disk_trait.specs.AllDisks.{GoesOn}
 use Rattle.disk_trait.specs.Fused.{fused_disks}
 use Rattle.held_state.specs.Said.{said}
 use Rattle.held_state.specs.declared.held.Held.{Held}
 use Rattle.recovery.specs.declared.fault.RecoverFault.{RecoverFault}
 use Rattle.recovery.specs.declared.recovered.Recovered.{Recovered}
-use Rattle.stable_store.proofs.Returning.{finds_one, finds_then, fresh_unheld, if_ok_on, lost_unheld, more_run, more_then, none_lacks, same_err}
-use Rattle.std.proofs.Common.{Err, Ok, Option, ap, refl, subst, sym, ◌∙◌, ◌≡◌}
-use Rattle.validation_window.specs.declared.refusal.Refusal.TheVariants.{Damaged as IsDamaged}
+use Rattle.stable_store.proofs.Failing.{failed_behind, failed_on}
+use Rattle.stable_store.proofs.Returning.{finds_one, finds_then, if_ok_on, more_run, more_then, none_fresh, none_lacks, none_lost, same_err}
+use Rattle.std.proofs.Common.{Err, Ok, Option, ap, arith, refl, subst, sym, ◌∙◌, ◌≡◌}
+use Rattle.validation_window.specs.declared.refusal.Refusal.TheVariants.{Damaged as IsDamaged, Stopped as IsStopped}
 use Rattle.stable_store.specs.Kept.{disks_of, held_of}
 use Rattle.stable_store.specs.Saying.{FindsOneOf}
 use Rattle.stable_store.proofs.stable.Stable.recover.Goals as goal
@@ -50,7 +53,7 @@ returns-in-Ok-None-clause-damaged g c = λ r place wrong pending says tells.
     let mid = fused_disks g.P.Parts.disks c.restart_all.new.parts in
     let read = fused_disks g.P.Parts.disks c.recover-found.new.parts in
     let more = more_then old mid read (more_run old mid c.restart_all.ensures.any_moment) (more_run mid read c.recover-found.ensures.any_moment) in
-    fresh_unheld old mid read (held_of c.args.self.now) pending more c.recover-found.ensures.content c.content_is_left.ensures (λ bytes reads. c.recover-found.ensures.fresh bytes reads (c.in-Ok-None.is ∙ ap (λ (o : Option Recovered). Ok o) c.in-Ok-None.field-0-is)) says tells
+    none_fresh old mid read (held_of c.args.self.now) pending more c.recover-found.ensures.content c.content_is_left.ensures (λ bytes reads. c.recover-found.ensures.fresh bytes reads (c.in-Ok-None.is ∙ ap (λ (o : Option Recovered). Ok o) c.in-Ok-None.field-0-is)) says tells
 
 pub returns-in-Err-found-clause-damaged : goal.returns-in-Err-found-clause-damaged
 returns-in-Err-found-clause-damaged g c = λ r place wrong pending says tells.
@@ -59,7 +62,7 @@ returns-in-Err-found-clause-damaged g c = λ r place wrong pending says tells.
     let read = fused_disks g.P.Parts.disks c.recover-found.new.parts in
     let more = more_then old mid read (more_run old mid c.restart_all.ensures.any_moment) (more_run mid read c.recover-found.ensures.any_moment) in
     let at = c.of_recovery.ensures.damaged r place (same_err _ c.of_recovery.result (IsDamaged r place) refl wrong) in
-    lost_unheld old mid read (held_of c.args.self.now) pending more c.recover-found.ensures.content c.content_is_left.ensures
+    none_lost old mid read (held_of c.args.self.now) pending more c.recover-found.ensures.content c.content_is_left.ensures
     (λ bytes reads. c.recover-found.ensures.lost bytes at.0 at.1 reads (c.in-Err-found.is ∙ ap (λ (f : RecoverFault). Err f) at.2)) says tells
 
 pub returns-in-Ok-Some-clause-damaged : goal.returns-in-Ok-Some-clause-damaged
@@ -69,4 +72,36 @@ returns-in-Ok-Some-clause-damaged g c = λ r place wrong pending says tells.
     let read = fused_disks g.P.Parts.disks c.recover-found.new.parts in
     let more = more_then old mid read (more_run old mid c.restart_all.ensures.any_moment) (more_run mid read c.recover-found.ensures.any_moment) in
     let holds = rw c.in-Ok-Some.field-0-is at c.in-Ok-Some.ensures.holds in
-    absurd (none_lacks old read c.in-Ok-Some.recovered.log (held_of c.args.self.now) (said c.in-Ok-Some.recovered.state) pending more holds c.content_is_left.ensures says tells (c.reached.ensures.damaged r place wrong))
+    none_lacks old read c.in-Ok-Some.recovered.log (held_of c.args.self.now) (said c.in-Ok-Some.recovered.state) pending more holds c.content_is_left.ensures says tells (c.reached.ensures.damaged r place wrong)
+
+pub returns-in-Ok-Some-clause-goes : goal.returns-in-Ok-Some-clause-goes
+returns-in-Ok-Some-clause-goes g c =
+    let old = disks_of g.P.Parts.disks c.args.self.now in
+    let mid = fused_disks g.P.Parts.disks c.restart_all.new.parts in
+    let read = fused_disks g.P.Parts.disks c.recover-found.new.parts in
+    goes_then old read (disks_of g.P.Parts.disks c.reached.new.self) (goes_then old mid read c.restart_all.ensures.any_moment.goes c.recover-found.ensures.any_moment.goes) c.reached.ensures.goes
+
+pub returns-in-Ok-None-clause-goes : goal.returns-in-Ok-None-clause-goes
+returns-in-Ok-None-clause-goes g c =
+    goes_then (disks_of g.P.Parts.disks c.args.self.now) (fused_disks g.P.Parts.disks c.restart_all.new.parts) (fused_disks g.P.Parts.disks c.recover-found.new.parts) c.restart_all.ensures.any_moment.goes c.recover-found.ensures.any_moment.goes
+
+pub returns-in-Err-found-clause-goes : goal.returns-in-Err-found-clause-goes
+returns-in-Err-found-clause-goes g c =
+    goes_then (disks_of g.P.Parts.disks c.args.self.now) (fused_disks g.P.Parts.disks c.restart_all.new.parts) (fused_disks g.P.Parts.disks c.recover-found.new.parts) c.restart_all.ensures.any_moment.goes c.recover-found.ensures.any_moment.goes
+
+pub returns-in-Ok-Some-clause-stopped : goal.returns-in-Ok-Some-clause-stopped
+returns-in-Ok-Some-clause-stopped g c = λ r wrong.
+    let old = disks_of g.P.Parts.disks c.args.self.now in
+    let mid = fused_disks g.P.Parts.disks c.restart_all.new.parts in
+    let read = fused_disks g.P.Parts.disks c.recover-found.new.parts in
+    failed_behind old.faults read.faults (disks_of g.P.Parts.disks c.reached.new.self).faults (goes_then old mid read c.restart_all.ensures.any_moment.goes c.recover-found.ensures.any_moment.goes).faults (c.reached.ensures.stopped r wrong)
+
+pub returns-in-Err-found-clause-stopped : goal.returns-in-Err-found-clause-stopped
+returns-in-Err-found-clause-stopped g c = λ r wrong.
+    let old = disks_of g.P.Parts.disks c.args.self.now in
+    let mid = fused_disks g.P.Parts.disks c.restart_all.new.parts in
+    let read = fused_disks g.P.Parts.disks c.recover-found.new.parts in
+    let at = c.of_recovery.ensures.stopped r (same_err _ c.of_recovery.result (IsStopped r) refl wrong) in
+    let is = c.in-Err-found.is ∙ ap (λ (f : RecoverFault). Err f) at.1 in
+    let within = c.recover-found.ensures.disk at.0 is in
+    failed_behind old.faults mid.faults read.faults c.restart_all.ensures.any_moment.goes.faults (failed_on mid read at.0 (omega (arith, within)) (c.recover-found.ensures.failed at.0 is))

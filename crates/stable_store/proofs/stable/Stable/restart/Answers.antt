@@ -1,14 +1,22 @@
+use Rattle.disk_trait.proofs.Several.{goes_none}
+use Rattle.disk_trait.specs.AllDisks.{GoesOn}
+use Rattle.disk_trait.specs.Disks.{Disks}
+use Rattle.disk_trait.specs.Fused.{fused_disks}
+use Rattle.disk_trait.specs.declared.fused.Fused.{Fused}
 use Rattle.held_state.specs.Said.{said}
-use Rattle.stable_store.proofs.Returning.{fails_said, on_err_any, on_err_two, on_ok_any, restart_finds, restart_stays, restart_unheld, tells_armed, tells_down}
+use Rattle.stable_store.proofs.Failing.{before_down, not_torn, stays_torn}
+use Rattle.stable_store.specs.Failing.{HasFailed}
+use Rattle.stable_store.proofs.Returning.{fails_said, on_err_any, on_err_two, on_ok_any, restart_finds, restart_never, restart_stays, tells_armed, tells_down}
 use Rattle.stable_store.proofs.Saying.{phase_of, said_armed}
 use Rattle.stable_store.proofs.Lowered.{none_torn, pending_of}
 use Rattle.stable_store.specs.Agreeing.{IsTaken}
 use Rattle.stable_store.specs.Kept.{disks_of, held_of}
+use Rattle.stable_store.specs.declared.stable.Stable.{Stable}
 use Rattle.stable_store.specs.Taking.{TakesFrom}
 use Rattle.commit_log.specs.declared.entry.Entry.{Entry}
 use Rattle.held_state.specs.declared.held.Held.{Held}
-use Rattle.std.proofs.Common.{IfOk, IsErrOf, Option, ap, rules, subst, sym, ◌∙◌}
-use Rattle.validation_window.specs.declared.refusal.Refusal.TheVariants.{Damaged as IsDamaged}
+use Rattle.std.proofs.Common.{IfOk, IsErrOf, Option, ap, refl, rules, subst, sym, ◌∙◌}
+use Rattle.validation_window.specs.declared.refusal.Refusal.TheVariants.{Damaged as IsDamaged, Stopped as IsStopped}
 use Rattle.stable_store.proofs.stable.Stable.restart.Goals as goal
 
 pub returns-in_err-recovered-clause-stays_said : goal.returns-in_err-recovered-clause-stays_said
@@ -34,7 +42,7 @@ returns-in_err-recovered-clause-damaged g c = λ r place is said_old tells.
     let wrong : IsErrOf c.recover.result (IsDamaged r place) = search rules in
     let is_down = c.take_down.ensures.says (said_armed g.P.Parts.disks c.args.self.now c.disarm.new.self 0 c.disarm.ensures said_old) in
     let told = tells_down g.P.Parts.disks _ c.take_down.new.self c.take_down.ensures.new (tells_armed g.P.Parts.disks c.args.self.now c.disarm.new.self 0 c.disarm.ensures tells) in
-    restart_unheld g.P.Parts.disks c.take_down.new.self (disks_of g.P.Parts.disks c.recover.new.self).content c.args.self.now.phase is_down (ap phase_of c.take_down.ensures.new) (sym c.is_torn.ensures ∙ c.if-is_torn.false)
+    restart_never g.P.Parts.disks c.take_down.new.self c.args.self.now.phase is_down (ap phase_of c.take_down.ensures.new) (sym c.is_torn.ensures ∙ c.if-is_torn.false)
     (λ pending says. c.recover.ensures.damaged r place wrong pending says told)
 
 pub returns-in-Down-clause-damaged : goal.returns-in-Down-clause-damaged
@@ -42,7 +50,7 @@ returns-in-Down-clause-damaged g c = λ r place is said_old tells.
     let is_down = c.take_down.ensures.says (said_armed g.P.Parts.disks c.args.self.now c.disarm.new.self 0 c.disarm.ensures said_old) in
     let told = tells_down g.P.Parts.disks _ c.take_down.new.self c.take_down.ensures.new (tells_armed g.P.Parts.disks c.args.self.now c.disarm.new.self 0 c.disarm.ensures tells) in
     let down = sym c.recover.ensures.phase ∙ (sym c.replace.ensures.value ∙ c.in-Down.is) in
-    absurd (c.take_over.ensures.damaged r place is (restart_finds g.P.Parts.disks c.take_down.new.self c.recover.new.self c.in-Down.pending (said c.in_ok-recovered.recovered.state) is_down down c.recover.ensures.held c.in_ok-recovered.ensures.found (c.recover.ensures.crash.goes_on told)))
+    c.take_over.ensures.damaged r place is (restart_finds g.P.Parts.disks c.take_down.new.self c.recover.new.self c.in-Down.pending (said c.in_ok-recovered.recovered.state) is_down down c.recover.ensures.held c.in_ok-recovered.ensures.found (c.recover.ensures.crash.goes_on told))
 
 pub returns-in-Down-clause-pending : goal.returns-in-Down-clause-pending
 returns-in-Down-clause-pending g c =
@@ -57,3 +65,48 @@ pub returns-in-Down-clause-whole : goal.returns-in-Down-clause-whole
 returns-in-Down-clause-whole g c =
     let down = sym (ap phase_of c.take_down.ensures.new) ∙ (sym c.recover.ensures.phase ∙ (sym c.replace.ensures.value ∙ c.in-Down.is)) in
     on_ok_any c.take_over.result _ (none_torn c.args.self.now.phase c.in-Down.pending down)
+
+pub returns-in_err-recovered-clause-goes : goal.returns-in_err-recovered-clause-goes
+returns-in_err-recovered-clause-goes g c =
+    before_down g.P.Parts.disks c.args.self.now c.take_down.new.self c.disarm.new.self (λ (d : Disks). GoesOn d (disks_of g.P.Parts.disks c.recover.new.self)) c.disarm.ensures c.take_down.ensures.new c.recover.ensures.goes
+
+pub returns-in-Down-clause-goes : goal.returns-in-Down-clause-goes
+returns-in-Down-clause-goes g c =
+    subst (λ (p : Fused _). GoesOn (disks_of g.P.Parts.disks c.args.self.now) (fused_disks g.P.Parts.disks p)) (sym c.take_over.ensures.parts)
+    (before_down g.P.Parts.disks c.args.self.now c.take_down.new.self c.disarm.new.self (λ (d : Disks). GoesOn d (disks_of g.P.Parts.disks c.recover.new.self)) c.disarm.ensures c.take_down.ensures.new c.recover.ensures.goes)
+
+pub returns-in_err-recovered-clause-stopped : goal.returns-in_err-recovered-clause-stopped
+returns-in_err-recovered-clause-stopped g c = λ r wrong.
+    let is : IsErrOf c.recover.result (IsStopped r) = search rules in
+    before_down g.P.Parts.disks c.args.self.now c.take_down.new.self c.disarm.new.self (λ (d : Disks). HasFailed d.faults (disks_of g.P.Parts.disks c.recover.new.self).faults) c.disarm.ensures c.take_down.ensures.new (c.recover.ensures.stopped r is)
+
+pub returns-in-Down-clause-stopped : goal.returns-in-Down-clause-stopped
+returns-in-Down-clause-stopped g c = λ r wrong. absurd (c.take_over.ensures.stopped r wrong)
+
+pub returns-in_err-recovered-clause-torn : goal.returns-in_err-recovered-clause-torn
+returns-in_err-recovered-clause-torn g c = λ torn. absurd (not_torn c.args.self.now c.take_down.new.self c.disarm.new.self c.take_down.ensures.new (sym c.is_torn.ensures ∙ c.if-is_torn.false) torn)
+
+pub returns-in-Down-clause-torn : goal.returns-in-Down-clause-torn
+returns-in-Down-clause-torn g c = λ torn. absurd (not_torn c.args.self.now c.take_down.new.self c.disarm.new.self c.take_down.ensures.new (sym c.is_torn.ensures ∙ c.if-is_torn.false) torn)
+
+pub returns-then-is_torn-clause-goes : goal.returns-then-is_torn-clause-goes
+returns-then-is_torn-clause-goes g c =
+    before_down g.P.Parts.disks c.args.self.now c.take_down.new.self c.disarm.new.self (λ (d : Disks). GoesOn d (disks_of g.P.Parts.disks c.take_down.new.self)) c.disarm.ensures c.take_down.ensures.new (goes_none (disks_of g.P.Parts.disks c.take_down.new.self))
+
+pub returns-then-is_torn-clause-torn : goal.returns-then-is_torn-clause-torn
+returns-then-is_torn-clause-torn g c = λ torn. (refl, stays_torn c.args.self.now c.take_down.new.self c.disarm.new.self c.disarm.ensures c.take_down.ensures.new torn)
+
+pub returns-in-Up-clause-goes : goal.returns-in-Up-clause-goes
+returns-in-Up-clause-goes g c =
+    before_down g.P.Parts.disks c.args.self.now c.take_down.new.self c.disarm.new.self (λ (d : Disks). GoesOn d (disks_of g.P.Parts.disks c.recover.new.self)) c.disarm.ensures c.take_down.ensures.new c.recover.ensures.goes
+
+pub returns-in-Up-clause-torn : goal.returns-in-Up-clause-torn
+returns-in-Up-clause-torn g c = λ torn. absurd (not_torn c.args.self.now c.take_down.new.self c.disarm.new.self c.take_down.ensures.new (sym c.is_torn.ensures ∙ c.if-is_torn.false) torn)
+
+pub returns-in-Torn-clause-goes : goal.returns-in-Torn-clause-goes
+returns-in-Torn-clause-goes g c =
+    subst (λ (s : Stable _). GoesOn (disks_of g.P.Parts.disks c.args.self.now) (disks_of g.P.Parts.disks s)) (sym c.set_phase.ensures)
+    (before_down g.P.Parts.disks c.args.self.now c.take_down.new.self c.disarm.new.self (λ (d : Disks). GoesOn d (disks_of g.P.Parts.disks c.recover.new.self)) c.disarm.ensures c.take_down.ensures.new c.recover.ensures.goes)
+
+pub returns-in-Torn-clause-torn : goal.returns-in-Torn-clause-torn
+returns-in-Torn-clause-torn g c = λ torn. absurd (not_torn c.args.self.now c.take_down.new.self c.disarm.new.self c.take_down.ensures.new (sym c.is_torn.ensures ∙ c.if-is_torn.false) torn)

@@ -12,18 +12,18 @@ returns-in_err-head-clause-any_moment g c = λ t holds tells. none_keeps _ _ t c
 pub returns-in_err-self-inside-clause-any_moment : goal.returns-in_err-self-inside-clause-any_moment
 returns-in_err-self-inside-clause-any_moment g c = rw (← c.self.view_is) (λ t holds tells.
     let below = rw (← c.self.view_is) at c.requires.sequence in
-    says_at (g.P.Parts.disks c.args.parts.now) (g.P.Parts.disks c.format.new.parts) c.self.inside.log t c.args.state.now c.as_slice.result.now (1 - c.disk-disk.result) (c.sequence-sequence.result + 1) (ap beside c.disk-disk.ensures.value) (ap (λ (n : ℕ). n + 1) c.sequence-sequence.ensures) below holds (ap (value_of state_format) c.as_slice.ensures ∙ c.in_ok-head.ensures.read) tells c.format.ensures.any_moment)
+    says_at (g.P.Parts.disks c.args.parts.now) (g.P.Parts.disks c.format.new.parts) c.self.inside.log t c.args.state.now c.as_slice.result.now (1 - c.disk-disk.result) (c.sequence-sequence.result + 1) (ap beside c.disk-disk.ensures.value) (ap (λ (n : ℕ). n + 1) c.sequence-sequence.ensures) below holds (ap (value_of state_format) c.as_slice.ensures ∙ c.in_ok-head.ensures.read) c.requires.whole tells c.format.ensures.any_moment)
 
 pub returns-clause-any_moment : goal.returns-clause-any_moment
 returns-clause-any_moment g c = rw (← c.self.view_is) (λ t holds tells.
     let below = rw (← c.self.view_is) at c.requires.sequence in
-    says_at (g.P.Parts.disks c.args.parts.now) (g.P.Parts.disks c.format.new.parts) c.self.inside.log t c.args.state.now c.as_slice.result.now (1 - c.disk-disk.result) (c.sequence-sequence.result + 1) (ap beside c.disk-disk.ensures.value) (ap (λ (n : ℕ). n + 1) c.sequence-sequence.ensures) below holds (ap (value_of state_format) c.as_slice.ensures ∙ c.in_ok-head.ensures.read) tells c.format.ensures.any_moment)
+    says_at (g.P.Parts.disks c.args.parts.now) (g.P.Parts.disks c.format.new.parts) c.self.inside.log t c.args.state.now c.as_slice.result.now (1 - c.disk-disk.result) (c.sequence-sequence.result + 1) (ap beside c.disk-disk.ensures.value) (ap (λ (n : ℕ). n + 1) c.sequence-sequence.ensures) below holds (ap (value_of state_format) c.as_slice.ensures ∙ c.in_ok-head.ensures.read) c.requires.whole tells c.format.ensures.any_moment)
 
 pub returns-clause-done : goal.returns-clause-done
 returns-clause-done g c =
     let holds = rw (← c.self.view_is) at c.requires.holds in
     let below = rw (← c.self.view_is) at c.requires.sequence in
-    holds_at (g.P.Parts.disks c.args.parts.now) (g.P.Parts.disks c.format.new.parts) c.self.inside.log c.in_ok-self-inside.field-0 holds.0 c.args.state.now c.as_slice.result.now (1 - c.disk-disk.result) (c.sequence-sequence.result + 1) (ap beside c.disk-disk.ensures.value) (ap (λ (n : ℕ). n + 1) c.sequence-sequence.ensures) below holds.1 (ap (value_of state_format) c.as_slice.ensures ∙ c.in_ok-head.ensures.read)
+    holds_at (g.P.Parts.disks c.args.parts.now) (g.P.Parts.disks c.format.new.parts) c.self.inside.log c.in_ok-self-inside.field-0 holds.0 c.args.state.now c.as_slice.result.now (1 - c.disk-disk.result) (c.sequence-sequence.result + 1) (ap beside c.disk-disk.ensures.value) (ap (λ (n : ℕ). n + 1) c.sequence-sequence.ensures) below holds.1 (ap (value_of state_format) c.as_slice.ensures ∙ c.in_ok-head.ensures.read) c.requires.whole
     c.format.ensures.alone c.in_ok-self-inside.ensures.settled c.in_ok-self-inside.ensures.disk c.in_ok-self-inside.ensures.agrees c.in_ok-self-inside.ensures.formatted
 
 pub returns-in_err-self-inside-clause-pages : goal.returns-in_err-self-inside-clause-pages

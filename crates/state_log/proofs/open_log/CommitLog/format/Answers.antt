@@ -9,13 +9,13 @@ returns-in_err-head-clause-any_moment g c = λ tells. fresh_says (g.P.Parts.disk
 
 pub returns-in_err-log-clause-any_moment : goal.returns-in_err-log-clause-any_moment
 returns-in_err-log-clause-any_moment g c = λ tells.
-    format_says (g.P.Parts.disks c.args.parts.now) (g.P.Parts.disks c.format.new.parts) c.args.state.now c.as_slice.result.now (ap (value_of state_format) c.as_slice.ensures ∙ c.in_ok-head.ensures.read) c.requires.settled tells c.requires.first c.requires.second c.format.ensures.any_moment
+    format_says (g.P.Parts.disks c.args.parts.now) (g.P.Parts.disks c.format.new.parts) c.args.state.now c.as_slice.result.now (ap (value_of state_format) c.as_slice.ensures ∙ c.in_ok-head.ensures.read) c.requires.whole c.requires.settled tells c.requires.first c.requires.second c.format.ensures.any_moment
 
 pub returns-clause-any_moment : goal.returns-clause-any_moment
 returns-clause-any_moment g c = λ tells.
-    format_says (g.P.Parts.disks c.args.parts.now) (g.P.Parts.disks c.format.new.parts) c.args.state.now c.as_slice.result.now (ap (value_of state_format) c.as_slice.ensures ∙ c.in_ok-head.ensures.read) c.requires.settled tells c.requires.first c.requires.second c.format.ensures.any_moment
+    format_says (g.P.Parts.disks c.args.parts.now) (g.P.Parts.disks c.format.new.parts) c.args.state.now c.as_slice.result.now (ap (value_of state_format) c.as_slice.ensures ∙ c.in_ok-head.ensures.read) c.requires.whole c.requires.settled tells c.requires.first c.requires.second c.format.ensures.any_moment
 
 pub returns-clause-holds : goal.returns-clause-holds
 returns-clause-holds g c =
-    format_holds (g.P.Parts.disks c.args.parts.now) (g.P.Parts.disks c.format.new.parts) c.in_ok-log.log c.args.state.now c.as_slice.result.now (ap (value_of state_format) c.as_slice.ensures ∙ c.in_ok-head.ensures.read) c.requires.settled c.requires.second
+    format_holds (g.P.Parts.disks c.args.parts.now) (g.P.Parts.disks c.format.new.parts) c.in_ok-log.log c.args.state.now c.as_slice.result.now (ap (value_of state_format) c.as_slice.ensures ∙ c.in_ok-head.ensures.read) c.requires.whole c.requires.settled c.requires.second
     c.format.ensures.alone c.in_ok-log.ensures.settled c.in_ok-log.ensures.disk c.in_ok-log.ensures.agrees c.in_ok-log.ensures.formatted

@@ -1,0 +1,15 @@
+-- The session of a link is one of its repository.
+use Rattle.client_state.proofs.Moving.{session_is_here}
+use Rattle.client_state.specs.Links.{session_at, session_in}
+use Rattle.client_state.specs.declared.link.Link.{Link}
+use Rattle.message_outbox.specs.declared.answers.At.{At}
+use Rattle.std.proofs.Common.{List, ap, sym, ◌≡◌, ◌∙◌, ℕ}
+use Rattle.std.specs.Prelude.{IfSome, None, Option, Some, slice_get}
+
+pub in_session : (links : List Link) (r : ℕ) (link : Link) (o : Option At) → slice_get links r ≡ Some link → o ≡ session_at r link → IfSome o (λ at. session_in at.repo (slice_get links at.repo) ≡ Some at)
+in_session links r link None is h = tt
+in_session links r link (Some at) is h = session_is_here links r at (ap (session_in r) is ∙ sym h)
+
+pub none_in_session : (links : List Link) (o : Option At) → o ≡ None → IfSome o (λ at. session_in at.repo (slice_get links at.repo) ≡ Some at)
+none_in_session links None h = tt
+none_in_session links (Some at) h = cc

@@ -1,0 +1,38 @@
+-- What a client makes of what it holds by a call that takes a message (this project's).
+use Rattle.client_cache.specs.Copies.{Contents, kept}
+use Rattle.client_state.specs.Moving.{CopiesTaken, Loses, StopsWaiting}
+use Rattle.client_state.specs.declared.held.Held.{Held}
+use Rattle.message_outbox.specs.declared.answers.At.{At}
+use Rattle.message_outbox.specs.declared.message.Message.{Message}
+use Rattle.paused_eval.specs.Copies.{AreAmong}
+use Rattle.port.specs.Views.{View}
+use Rattle.port.specs.Works.{Does, ReceiveWork}
+use Rattle.refusal_reasons.specs.declared.reason.Reason.TheVariants as reasons
+use Rattle.std.specs.Prelude.{Bool, None, Ok, Option, true, ℕ, ◌≡◌, ◌≢◌}
+use Rattle.validation_window.specs.declared.refusal.Refusal.TheVariants as refused
+use Rattle.validation_window.specs.declared.refusal.Refusal.{Refusal}
+
+-- the refusal tells of no session that is gone
+abbrev pub IsNotGone : Refusal → Type 0
+IsNotGone k = (n : ℕ) → k ≢ refused.Reason (reasons.Gone n)
+
+-- A message of a repository was taken: the client and its links stay, the copies change as by the message, and copies may have
+-- been dropped then.
+pub record TakesCopies (repo : ℕ) (m : Message) (before after : Held) : Type 0 where
+  pub left : Contents
+  pub client : after.client ≡ before.client
+  pub links : after.links.items ≡ before.links.items
+  pub brought : CopiesTaken repo m before.cache.cache left
+  pub fewer : AreAmong (kept left) (kept after.cache.cache)
+
+-- No message waits in the session, and what is held stays.
+pub record ReceivesNone (shows : Bool) (old new : View) (at : At) (before after : Held) : Type 0 where
+  pub call : shows ≡ true → Does {X = Option Message} old new at.repo (Ok None) (ReceiveWork at.session (Ok None))
+  pub client : after.client ≡ before.client
+  pub links : after.links.items ≡ before.links.items
+  pub copies : after.cache.cache ≡ before.cache.cache
+
+-- A message couldn't be taken: a session that is gone is lost. Else the client may have stopped waiting, where no item is left.
+pub data EndsReceive (k : Refusal) (repo : ℕ) (before after : Held) : Type 0 where
+  LosesThere : Loses k repo before after → after.client ≡ before.client → EndsReceive k repo before after
+  StopsThere : IsNotGone k → StopsWaiting repo before after → after.client ≡ before.client → AreAmong (kept before.cache.cache) (kept after.cache.cache) → EndsReceive k repo before after

@@ -1,0 +1,9 @@
+use Rattle.client_state.specs.Receiving.{LosesThere, StopsThere}
+use Rattle.front_end.proofs.Receiving.{lost_nothing, stops_behind}
+use Rattle.front_end.proofs.client.Client.end_in_outage.Goals as goal
+
+pub returns-then-left-clause-ends : goal.returns-then-left-clause-ends
+returns-then-left-clause-ends c = λ k gone. LosesThere (lost_nothing k c.args.repo c.args.self.now.held c.end_try.new.self.held gone c.end_try.ensures.less) c.end_try.ensures.less.0
+
+pub returns-clause-ends : goal.returns-clause-ends
+returns-clause-ends c = λ k gone. stops_behind k c.args.repo c.args.self.now.held c.end_try-news.new.self.held c.stop_waiting.new.self.held gone c.end_try-news.ensures.less c.stop_waiting.ensures.stops c.stop_waiting.ensures.held

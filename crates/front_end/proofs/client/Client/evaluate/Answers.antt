@@ -1,0 +1,8 @@
+use Rattle.client_state.specs.Moving.{HoldsSame}
+use Rattle.front_end.proofs.Calling.{same_sends_idle}
+use Rattle.front_end.proofs.client.Client.evaluate.Goals as goal
+use Rattle.front_end.specs.declared.client.Client.{Client}
+use Rattle.std.proofs.Common.{subst, sym}
+
+pub returns-clause-moves : goal.returns-clause-moves
+returns-clause-moves g c = same_sends_idle _ _ _ c.args.self.now.held c.set_phase.new.self.held (subst (λ (k : Client). HoldsSame c.args.self.now.held k.held) (sym c.set_phase.ensures) c.in_ok-ran.ensures.same) _ c.go_behind_run.result c.go_behind_run.ensures.moves

@@ -1,0 +1,12 @@
+use Rattle.client_state.specs.Links.{NoneAwaits}
+use Rattle.client_state.specs.Moving.{MovesIf}
+use Rattle.client_state.specs.Sending.{IsOfSession}
+use Rattle.client_state.specs.declared.held.Held.{Held}
+use Rattle.client_state.specs.declared.requests.Sending.{Sending}
+use Rattle.front_end.proofs.client.Client.prepare_next.Goals as goal
+use Rattle.front_end.specs.declared.client.Client.{Client}
+use Rattle.std.proofs.Common.{ap, subst}
+use Rattle.std.specs.Prelude.{IfSome, Option}
+
+pub returns-in-Some-clause-moves : goal.returns-in-Some-clause-moves
+returns-in-Some-clause-moves g c = λ idle. subst (λ (h : Held). IsOfSession h.links.items c.in-Some.sending → NoneAwaits 8 h.links.items → MovesIf g.Q.Port.shows (g.Q.Port.view c.args.port.now) (g.Q.Port.view c.prepare.new.port) h c.prepare.new.self.held) (ap (λ (k : Client). k.held) c.set_phase.ensures) c.prepare.ensures.moves (subst (λ (o : Option Sending). IfSome o (IsOfSession c.args.self.now.held.links.items)) c.in-Some.is c.in_ok-sending.ensures.session) idle

@@ -1,0 +1,10 @@
+use Rattle.client_state.specs.declared.held.Held.{Held}
+use Rattle.front_end.proofs.Requesting.{learns_from}
+use Rattle.front_end.proofs.client.Client.refuse_transform.Goals as goal
+use Rattle.std.proofs.Common.{ap, ◌∙◌}
+
+pub returns-clause-learns : goal.returns-clause-learns
+returns-clause-learns c = learns_from c.args.self.now.held c.count_if_stopped.new.self.held c.count_if_stopped.ensures.rest c.args.refusal c.args.at.repo c.end_refused.new.self.held c.end_refused.ensures.learns
+
+pub returns-clause-client : goal.returns-clause-client
+returns-clause-client c = c.end_refused.ensures.client ∙ ap (λ (h : Held). h.client) c.count_if_stopped.ensures.rest

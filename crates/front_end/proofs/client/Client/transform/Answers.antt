@@ -1,0 +1,10 @@
+use Rattle.front_end.proofs.Calling.{moves_idle, sends_idle}
+use Rattle.front_end.proofs.client.Client.transform.Goals as goal
+use Rattle.front_end.specs.declared.client.Client.{Client}
+use Rattle.std.proofs.Common.{ap}
+
+pub returns-in-Ok-clause-moves : goal.returns-in-Ok-clause-moves
+returns-in-Ok-clause-moves g c = moves_idle _ _ _ c.args.self.now.held _ _ (ap (λ (k : Client). k.held) c.set_phase.ensures) c.commit_transform.result c.commit_transform.ensures.moves
+
+pub returns-in-Err-clause-moves : goal.returns-in-Err-clause-moves
+returns-in-Err-clause-moves g c = sends_idle _ _ _ c.args.self.now.held _ _ (ap (λ (k : Client). k.held) c.set_phase.ensures) c.collect.result c.collect.ensures.moves
