@@ -156,7 +156,7 @@ others_told port links committed later copies told fit = record { each = λ r wi
     by r within (Some (Unsettled sent index)) e h = h
     by r within (Some (Joined s upto waits)) e h =
         others_here port.opened.client (port.opened.base r) (port.unsettled r) (port.seen r) committed later s upto (is_reply waits) told.more
-        (λ t o is open' mine l. elim (told.own r s upto waits t o within e is open' mine l) [ | inl before ↦ before | inr e ↦ let never : None ≡ Some t = e in cc ]) copies h
+        (λ t o is open' mine l. elim (told.own r s upto waits t o within e is open' mine l) [ inl before ↦ before | inr e ↦ let never : None ≡ Some t = e in cc ]) copies h
 
 pub own_told : (port : View) (links : List Link) (committed later : Ts → Bool) (t : Ts) (copies left : Copies) → OutcomesTold port links (Some t) committed later → TakesAll port links committed later t copies left → LinksFit port committed links copies → LinksFit port later links left
 own_told port links committed later t copies left told takes fit = record { each = λ r within. by r within (slice_get links r) refl (takes.each r within) (fit.each r within) }

@@ -13,7 +13,7 @@ use Rattle.client_laws.specs.Steps.{AllSeenRight, LinksFit}
 use Rattle.client_laws.specs.Verdicts.{OutcomesTold}
 use Rattle.client_state.specs.Calling.{Connects, Fetches, is_session_of, links_joined, links_refused, upto_in}
 use Rattle.client_state.specs.Learning.{links_learnt}
-use Rattle.client_state.specs.Links.{NoneAwaits, at_repo, awaits_reply, changed_at, is_reply, session_in, waiting}
+use Rattle.client_state.specs.Links.{NoneAwaits, at_repo, awaits_reply, changed_at, is_reply, session_in, stopped, waiting, without_messages}
 use Rattle.client_state.specs.Sending.{IsOfSession}
 use Rattle.client_state.specs.Taking.{took}
 use Rattle.client_state.specs.declared.held.Held.{Held}
@@ -23,9 +23,8 @@ use Rattle.client_state.specs.declared.link.Waits.TheVariants.{Epoch, Idle, Past
 use Rattle.client_state.specs.declared.link.Waits.{Waits}
 use Rattle.client_state.specs.declared.requests.Sending.{Sending}
 use Rattle.fitting_steps.proofs.Changes.{HasSession, changes_one, fewer_all, has_session, learn_all, lose_all, same_awaits, same_links}
-use Rattle.fitting_steps.specs.Moving.{Aborted, Asked, AskedInVain, AskedOwn, CommitRefused, Committed, Connected, CopiesTaken, Decided, DecideRefused, Drawn, EndsSo, Fetched, Finished, Forgot, Granted, HasLeft, HoldsLess, IsApart, KeepsTry, LeavesSome, Moves, PrepareRefused, Prepared, ReceiveRefused, ReceiveStopped, Received, ReceivedNone, Rested, SendsNothing, Settled, StopsWaiting, Transformed, Unsent}
+use Rattle.client_state.specs.Moving.{Aborted, Asked, AskedInVain, AskedOwn, CommitRefused, Committed, Connected, CopiesTaken, Decided, DecideRefused, Drawn, EndsSo, Fetched, Finished, Forgot, Granted, HasLeft, HoldsLess, IsApart, KeepsTry, LeavesSome, Moves, PrepareRefused, Prepared, ReceiveRefused, ReceiveStopped, Received, ReceivedNone, Rested, SendsNothing, Settled, StopsWaiting, Transformed, Unsent}
 use Rattle.fitting_steps.specs.Owed.{ClientFits, CommitOwed, IsSpelled, Owed, SendsOwed, VerdictOwed, if_commit, verdict_of, with_made}
-use Rattle.fitting_steps.specs.Stopped.{stopped, without_messages}
 use Rattle.local_history.specs.History.{Base}
 use Rattle.message_outbox.specs.declared.answers.Asked as answer
 use Rattle.message_outbox.specs.declared.answers.Asked.TheVariants as answers
@@ -221,10 +220,12 @@ module _ (old new : View) (before after : Held) (committed later : Ts → Bool) 
         nothing T Halted a = absurd a.0
 
     stops : (at : At) (k : Refusal) → Does {X = Option Message} old new at.repo (Err k) (ReceiveWork at.session (Err k)) → IsOutage k → StopsWaiting at.repo before after → LinksFit new later links copies → LinksFit new later after.links.items copies
-    stops at k d outage stop all = record { each = λ n within. elim (cases_eq n at.repo) [
-      | inl e ↦ subst (λ (m : ℕ). LinkAt new m later (slice_get after.links.items m) copies) (sym e) (here (subst (λ (m : ℕ). m < new.opened.repos) e within))
-      | inr ne ↦ subst (λ (o : Option Link). LinkAt new n later o copies) (sym (stop.others n ne)) (other n (slice_get links n) (all.each n within))
-    ] }
+    stops at k d outage stop all = record {
+      each = λ n within. elim (cases_eq n at.repo) [
+        | inl e ↦ subst (λ (m : ℕ). LinkAt new m later (slice_get after.links.items m) copies) (sym e) (here (subst (λ (m : ℕ). m < new.opened.repos) e within))
+        | inr ne ↦ subst (λ (o : Option Link). LinkAt new n later o copies) (sym (stop.others n ne)) (other n (slice_get links n) (all.each n within))
+      ];
+    }
       where
         never : new.unsettled at.repo ≡ Calm → ⊥
         never calm = out_of_order at.repo at.session k (old.opened.base at.repo) d.met d.at (new.seen at.repo) (new.unsettled at.repo) outage d.answer calm

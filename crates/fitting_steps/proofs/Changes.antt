@@ -9,12 +9,11 @@ use Rattle.client_laws.specs.Seen.{LinkAt, LinkIn}
 use Rattle.client_laws.specs.Steps.{AllSeenRight, LinksFit}
 use Rattle.client_state.specs.Calling.{CopiesLost, CopiesRefused, CopiesStay, is_session_of, links_refused}
 use Rattle.client_state.specs.Learning.{is_session, links_learnt, without_session}
-use Rattle.client_state.specs.Links.{NoneAwaits, at_repo, awaits_reply, changed_at, is_reply, session_in, waiting}
+use Rattle.client_state.specs.Links.{NoneAwaits, at_repo, awaits_reply, changed_at, is_reply, session_in, stopped, waiting, without_messages}
 use Rattle.client_state.specs.declared.link.Link.TheVariants.{Apart, Joined, Unsettled}
 use Rattle.client_state.specs.declared.link.Link.{Link}
 use Rattle.client_state.specs.declared.link.Waits.TheVariants.{Epoch, Idle, Past, Reply}
 use Rattle.client_state.specs.declared.link.Waits.{Waits}
-use Rattle.fitting_steps.specs.Stopped.{stopped, without_messages}
 use Rattle.message_outbox.specs.declared.answers.At.{At}
 use Rattle.paused_eval.specs.Copies.{AreAmong}
 use Rattle.port.specs.Views as views
@@ -77,10 +76,12 @@ module _ (port : View) (committed : Ts → Bool) where
     other_link n within away (Some link) h = same_there port n committed link (kept copies) (kept left) (λ x here. others x (λ e. away (sym (numbered n within) ∙ sym here ∙ e))) h
 
     pub changes_one : (r < port.opened.repos → LinkAt port r committed (slice_get before r) (kept copies) → LinkAt port r committed (slice_get after r) (kept left)) → LinksFit port committed after (kept left)
-    changes_one there = record { each = λ n within. elim (cases_eq n r) [
-      | inl e ↦ subst (λ (k : ℕ). LinkAt port k committed (slice_get after k) (kept left)) (sym e) (there (subst (λ (k : ℕ). k < port.opened.repos) e within) (fit.each r (subst (λ (k : ℕ). k < port.opened.repos) e within)))
-      | inr ne ↦ subst (λ (o : Option Link). LinkAt port n committed o (kept left)) (sym (links n ne)) (other_link n within ne (slice_get before n) (fit.each n within))
-    ] }
+    changes_one there = record {
+      each = λ n within. elim (cases_eq n r) [
+        | inl e ↦ subst (λ (k : ℕ). LinkAt port k committed (slice_get after k) (kept left)) (sym e) (there (subst (λ (k : ℕ). k < port.opened.repos) e within) (fit.each r (subst (λ (k : ℕ). k < port.opened.repos) e within)))
+        | inr ne ↦ subst (λ (o : Option Link). LinkAt port n committed o (kept left)) (sym (links n ne)) (other_link n within ne (slice_get before n) (fit.each n within))
+      ];
+    }
 
   module _ (r : ℕ) (before : List Link) (copies left : Contents) (numbered : (n : ℕ) → n < port.opened.repos → (port.opened.base n).repo ≡ n) (fit : LinksFit port committed before (kept copies)) where
     abbrev Then : List Link → Type 0

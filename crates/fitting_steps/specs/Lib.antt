@@ -1,4 +1,2 @@
-pub mod Moving
 pub mod Owed
 pub mod Runs
-pub mod Stopped

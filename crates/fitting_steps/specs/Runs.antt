@@ -2,7 +2,7 @@
 use Rattle.client_laws.specs.Steps.{AllSeenRight}
 use Rattle.client_laws.specs.Verdicts.{OutcomesTold}
 use Rattle.client_state.specs.declared.held.Held.{Held}
-use Rattle.fitting_steps.specs.Moving.{Moves}
+use Rattle.client_state.specs.Moving.{Moves}
 use Rattle.fitting_steps.specs.Owed.{Owed, verdict_of}
 use Rattle.port.specs.Growing.{Grew}
 use Rattle.port.specs.Views.{View}

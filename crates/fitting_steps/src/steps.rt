@@ -3,7 +3,7 @@
 ghost use Rattle.client_laws.specs.Steps.{AllSeenRight};
 ghost use Rattle.client_laws.specs.Verdicts.{OutcomesTold};
 ghost use Rattle.client_state.specs.declared.held.Held.{Held};
-ghost use Rattle.fitting_steps.specs.Moving.{Moves};
+ghost use Rattle.client_state.specs.Moving.{Moves};
 ghost use Rattle.fitting_steps.specs.Owed.{ClientFits, Owed, verdict_of};
 ghost use Rattle.port.specs.Views.{View};
 ghost use Rattle.std.specs.Prelude.{Bool};
