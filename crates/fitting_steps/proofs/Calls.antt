@@ -6,9 +6,9 @@ use Rattle.client_laws.proofs.Learned.{fewer_fit}
 use Rattle.client_laws.proofs.Lending.{changes_here}
 use Rattle.client_laws.proofs.OwnVerdicts.{others_told, own_told}
 use Rattle.client_laws.proofs.Whole.{ask_all, as_it_is, at_other, committed_inside, connect_all, draw_all, fetch_inside, finish_all, forget_all, grant_inside, message_all, none_all, refused_all}
-use Rattle.client_laws.specs.Fitting.{Copies, FitsAt, HoldsNone, KeepsUp, one_if, replies}
+use Rattle.client_laws.specs.Fitting.{Copies, HoldsNone}
 use Rattle.client_laws.specs.Links.{Becomes}
-use Rattle.client_laws.specs.Seen.{IsSeenRight, LinkAt, LinkIn}
+use Rattle.client_laws.specs.Seen.{LinkAt, LinkIn}
 use Rattle.client_laws.specs.Steps.{AllSeenRight, LinksFit}
 use Rattle.client_laws.specs.Verdicts.{OutcomesTold}
 use Rattle.client_state.specs.Calling.{Connects, Fetches, is_session_of, links_joined, links_refused, upto_in}
@@ -23,7 +23,7 @@ use Rattle.client_state.specs.declared.link.Waits.TheVariants.{Epoch, Idle, Past
 use Rattle.client_state.specs.declared.link.Waits.{Waits}
 use Rattle.client_state.specs.declared.requests.Sending.{Sending}
 use Rattle.fitting_steps.proofs.Changes.{HasSession, changes_one, fewer_all, has_session, learn_all, lose_all, same_awaits, same_links}
-use Rattle.client_state.specs.Moving.{Aborted, Asked, AskedInVain, AskedOwn, CommitRefused, Committed, Connected, CopiesTaken, Decided, DecideRefused, Drawn, EndsSo, Fetched, Finished, Forgot, Granted, HasLeft, HoldsLess, IsApart, KeepsTry, LeavesSome, Moves, PrepareRefused, Prepared, ReceiveRefused, ReceiveStopped, Received, ReceivedNone, Rested, SendsNothing, Settled, StopsWaiting, Transformed, Unsent}
+use Rattle.client_state.specs.Moving.{Aborted, Asked, AskedInVain, AskedOwn, CommitRefused, Committed, Connected, CopiesTaken, Decided, DecideRefused, Drawn, EndsSo, Fetched, Finished, Forgot, Granted, HasLeft, IsApart, Moves, PrepareRefused, Prepared, ReceiveRefused, ReceiveStopped, Received, ReceivedNone, Rested, SendsNothing, Settled, StopsWaiting, Transformed, Unsent}
 use Rattle.fitting_steps.specs.Owed.{ClientFits, CommitOwed, IsSpelled, Owed, SendsOwed, VerdictOwed, if_commit, verdict_of, with_made}
 use Rattle.local_history.specs.History.{Base}
 use Rattle.message_outbox.specs.declared.answers.Asked as answer
@@ -38,8 +38,8 @@ use Rattle.port.specs.Acting.{Connected as has_connected}
 use Rattle.port.specs.Views as views
 use Rattle.port.specs.Views.{Calm, Came, Halted, MayCome, Opened, View}
 use Rattle.port.specs.Works.{Answered, AskWork, CommitWork, DecideWork, Does, IsOutage, ReceiveWork, RefusedUnmarked}
-use Rattle.session_outbox.specs.Session.{Notice, Session, is_news, session, session_lives, waiting as waits_for}
-use Rattle.session_outbox.specs.Trace.{Item, entries}
+use Rattle.session_outbox.specs.Session.{Notice, Session, is_news, session, waiting as waits_for}
+use Rattle.session_outbox.specs.Trace.{Item}
 use Rattle.std.proofs.Common.{Bool, List, [], ap, arith, cond, false, inl, inr, refl, subst, sym, true, ◌∙◌, ◌≡◌, ◌≢◌, ℕ}
 use Rattle.std.proofs.lemmas.Bool.Decides.{nat_tests}
 use Rattle.std.proofs.lemmas.Bool.{cases_eq}

@@ -3,29 +3,27 @@ use Rattle.client_cache.specs.Copies.{Contents, kept}
 use Rattle.client_laws.proofs.Lending.{changes_here}
 use Rattle.client_laws.proofs.Learned.{fewer_fit}
 use Rattle.client_laws.proofs.Stepping.{same_there}
-use Rattle.client_laws.proofs.Whole.{at_other, copies_other, learnt_other, refused_other}
-use Rattle.client_laws.specs.Fitting.{Copies, FitsAt, HoldsNone, KeepsUp, Kept}
+use Rattle.client_laws.proofs.Whole.{copies_other, learnt_other, refused_other}
+use Rattle.client_laws.specs.Fitting.{Copies, FitsAt}
 use Rattle.client_laws.specs.Seen.{LinkAt, LinkIn}
-use Rattle.client_laws.specs.Steps.{AllSeenRight, LinksFit}
+use Rattle.client_laws.specs.Steps.{LinksFit}
 use Rattle.client_state.specs.Calling.{CopiesLost, CopiesRefused, CopiesStay, is_session_of, links_refused}
 use Rattle.client_state.specs.Learning.{is_session, links_learnt, without_session}
-use Rattle.client_state.specs.Links.{NoneAwaits, at_repo, awaits_reply, changed_at, is_reply, session_in, stopped, waiting, without_messages}
+use Rattle.client_state.specs.Links.{at_repo, awaits_reply, changed_at, is_reply, session_in, waiting}
 use Rattle.client_state.specs.declared.link.Link.TheVariants.{Apart, Joined, Unsettled}
 use Rattle.client_state.specs.declared.link.Link.{Link}
-use Rattle.client_state.specs.declared.link.Waits.TheVariants.{Epoch, Idle, Past, Reply}
+use Rattle.client_state.specs.declared.link.Waits.TheVariants.{Epoch, Past}
 use Rattle.client_state.specs.declared.link.Waits.{Waits}
 use Rattle.message_outbox.specs.declared.answers.At.{At}
 use Rattle.paused_eval.specs.Copies.{AreAmong}
-use Rattle.port.specs.Views as views
-use Rattle.port.specs.Views.{Calm, View}
+use Rattle.port.specs.Views.{View}
 use Rattle.refusal_reasons.specs.declared.reason.Reason.TheVariants as reasons
 use Rattle.std.proofs.Common.{Bool, List, ap, arith, cond, false, inl, inr, refl, subst, sym, true, ◌∙◌, ◌≡◌, ◌≢◌, ℕ}
 use Rattle.std.proofs.lemmas.Bool.Decides.{nat_tests}
 use Rattle.std.proofs.lemmas.Bool.{cases_eq}
 use Rattle.std.proofs.lemmas.Option.{same_Some}
 use Rattle.std.specs.List.{slice_get}
-use Rattle.std.specs.Option.{option_map}
-use Rattle.std.specs.Prelude.{None, Option, Some, nat_eq, ◌&&◌, ◌<◌, ◌⊎◌}
+use Rattle.std.specs.Prelude.{None, Option, Some, nat_eq, ◌&&◌, ◌<◌}
 use Rattle.thor_value.specs.declared.names.Oref.{Oref}
 use Rattle.thor_value.specs.declared.names.Ts.{Ts}
 use Rattle.validation_window.specs.declared.refusal.Refusal.TheVariants as refused

@@ -10,7 +10,7 @@ use Rattle.fitting_steps.proofs.Calls.{step_fits}
 use Rattle.fitting_steps.specs.Owed.{ClientFits}
 use Rattle.fitting_steps.specs.Runs.{Leads, Moment, Stepped, Turn, Waited}
 use Rattle.port.specs.Views.{Opened, View}
-use Rattle.std.proofs.Common.{Bool, List, [], ap, refl, subst, sym, ◌∙◌, ◌∷◌, ◌≡◌, ℕ}
+use Rattle.std.proofs.Common.{Bool, List, [], ap, subst, sym, ◌∙◌, ◌∷◌, ◌≡◌, ℕ}
 use Rattle.std.specs.List.{slice_get}
 use Rattle.std.specs.Prelude.{None, Some, ◌≤◌}
 use Rattle.thor_value.specs.declared.names.Oref.{Oref}

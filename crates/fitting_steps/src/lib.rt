@@ -2,8 +2,10 @@
 //! definitions and laws.
 #![tactic(auto)]
 
+mod reads;
 mod runs;
 mod steps;
 
+pub use reads::accepted_reads_stand;
 pub use runs::{new_clients_fit_wholly, running_clients_fit};
 pub use steps::moving_clients_fit;
