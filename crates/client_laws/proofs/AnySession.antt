@@ -11,11 +11,11 @@ use Rattle.client_state.specs.declared.link.Waits.{Waits}
 use Rattle.commit_log.specs.declared.request.Request.{Request}
 use Rattle.message_outbox.specs.declared.answers.Verdict.{Verdict}
 use Rattle.port.specs.Acting.{Acts, Committed, Decided, Prepared}
-use Rattle.port.specs.Views.{Opened, View}
+use Rattle.port.specs.Views.{View}
 use Rattle.port.specs.Works.{CommitWork, DecideWork, Does, PrepareWork}
 use Rattle.std.proofs.Common.{Bool, List, false, refl, true, ◌≡◌, ℕ}
 use Rattle.std.specs.List.{slice_get}
-use Rattle.std.specs.Prelude.{Err, Ok, Option, Result, Some}
+use Rattle.std.specs.Prelude.{Err, Ok, Result, Some}
 use Rattle.thor_value.specs.declared.names.Ts.{Ts}
 use Rattle.validation_window.specs.declared.refusal.Refusal.{Refusal}
 

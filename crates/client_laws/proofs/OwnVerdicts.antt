@@ -1,13 +1,12 @@
 -- All links behind what is told of transactions that have committed at their coordinators.
 use Rattle.client_laws.proofs.Committing.{fits_learnt, fits_told, is_open_so}
-use Rattle.client_laws.specs.Fitting.{Copies, FitsAt, KeepsUp, Kept, NoneToFinish, SameCopies, with_writes}
-use Rattle.client_laws.specs.Seen.{LinkAt, LinkIn}
+use Rattle.client_laws.specs.Fitting.{Copies, FitsAt, KeepsUp, Kept, NoneToFinish, SameCopies}
+use Rattle.client_laws.specs.Seen.{LinkAt}
 use Rattle.client_laws.specs.Steps.{LinksFit}
 use Rattle.client_laws.specs.Verdicts.{Elsewhere, Here, LinkTakes, OutcomesTold, TakesAll, TakesWrites}
 use Rattle.client_state.specs.Links.{is_reply}
 use Rattle.client_state.specs.declared.link.Link.TheVariants.{Apart, Joined, Unsettled}
 use Rattle.client_state.specs.declared.link.Link.{Link}
-use Rattle.client_state.specs.declared.link.Waits.{Waits}
 use Rattle.local_history.specs.History.{Base, Known, Open, is_open, known_by}
 use Rattle.port.specs.Views as views
 use Rattle.port.specs.Views.{Calm, View}
