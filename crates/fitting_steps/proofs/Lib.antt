@@ -1,4 +1,5 @@
 pub mod Calls
 pub mod Changes
+pub mod Losing
 pub mod Running
 pub mod Standing

@@ -2,10 +2,12 @@
 //! definitions and laws.
 #![tactic(auto)]
 
+mod lost;
 mod reads;
 mod runs;
 mod steps;
 
+pub use lost::lost_sessions_stay_lost;
 pub use reads::accepted_reads_stand;
 pub use runs::{new_clients_fit_wholly, running_clients_fit};
 pub use steps::moving_clients_fit;

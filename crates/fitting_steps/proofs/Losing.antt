@@ -1,0 +1,321 @@
+-- A session that was lost is no link's again.
+use Rattle.client_laws.proofs.Leaving.{HasCalled, acts, adds_front}
+use Rattle.client_laws.proofs.Lending.{Front, changes_here, none_more}
+use Rattle.client_laws.proofs.Stepping.{opened_stays}
+use Rattle.client_laws.proofs.Whole.{at_other}
+use Rattle.client_state.specs.Calling.{is_session_of, links_asked, links_drawn, links_joined, links_refused, upto_in}
+use Rattle.client_state.specs.Learning.{is_session, links_learnt, without_session}
+use Rattle.client_state.specs.Links.{acknowledged, answered, at_repo, changed_at, session_in, stopped, waiting}
+use Rattle.client_state.specs.Moving.{Aborted, Asked, AskedInVain, AskedOwn, CommitRefused, Committed, Connected, Decided, DecideRefused, Drawn, EndsSo, Fetched, Finished, Forgot, Granted, LeavesSome, Learns, Loses, Moves, PrepareRefused, Prepared, ReceiveRefused, ReceiveStopped, Received, ReceivedNone, Rested, SendsNothing, Settled, StopsWaiting, Transformed, Unsent}
+use Rattle.client_state.specs.Taking.{took}
+use Rattle.client_state.specs.declared.held.Held.{Held}
+use Rattle.client_state.specs.declared.link.Link.TheVariants.{Apart, Joined, Unsettled}
+use Rattle.client_state.specs.declared.link.Link.{Link}
+use Rattle.client_state.specs.declared.link.Waits.TheVariants.{Epoch, Idle, Past, Reply}
+use Rattle.client_state.specs.declared.link.Waits.{Waits}
+use Rattle.fitting_steps.specs.Lost.{HasLost}
+use Rattle.fitting_steps.specs.Runs.{Leads, Moment, Stepped, Turn, Waited}
+use Rattle.local_history.specs.History.{Base}
+use Rattle.message_outbox.specs.declared.answers.Asked.TheVariants as answers
+use Rattle.message_outbox.specs.declared.answers.Welcome.{Welcome}
+use Rattle.message_outbox.specs.declared.message.Message.TheVariants.{Grant, Invalid, Page, Upgrade}
+use Rattle.message_outbox.specs.declared.message.Message.{Message}
+use Rattle.port.specs.Acting as acting
+use Rattle.port.specs.Acting.{Acts}
+use Rattle.port.specs.Growing.{Grew}
+use Rattle.port.specs.Views as views
+use Rattle.port.specs.Views.{Calm, Came, Halted, MayCome, Opened, View}
+use Rattle.port.specs.Works.{Answered, ConnectWork, Does}
+use Rattle.refusal_reasons.specs.declared.reason.Reason.TheVariants as reasons
+use Rattle.session_outbox.proofs.Exactness.{sessions-rise}
+use Rattle.session_outbox.specs.Calls.{last_session}
+use Rattle.session_outbox.specs.Trace.{Item}
+use Rattle.std.proofs.Common.{Bool, List, [], ap, arith, cond, false, inl, inr, refl, subst, sym, true, ◌∷◌, ◌≡◌, ◌≢◌, ◌≤◌, ℕ}
+use Rattle.std.proofs.lemmas.Bool.Decides.{nat_tests}
+use Rattle.std.proofs.lemmas.Bool.{cases_eq}
+use Rattle.std.specs.List.{slice_get}
+use Rattle.std.specs.Option.{option_map}
+use Rattle.std.specs.Prelude.{Err, None, Ok, Option, Result, Some, nat_eq, ◌<◌, ◌⊎◌}
+use Rattle.thor_value.specs.declared.names.Ts.{Ts}
+use Rattle.validation_window.specs.declared.refusal.Refusal.TheVariants as refused
+use Rattle.validation_window.specs.declared.refusal.Refusal.{Refusal}
+
+-- ---- what was called
+
+sends_acts : (old new : View) (before after : Held) → SendsNothing old new before after → Acts old new
+sends_acts old new before after (Rested same less) = acting.Rests same
+sends_acts old new before after (Connected repo f apart same fewer) = acting.Connected repo before.client f.result (f.call refl)
+sends_acts old new before after (Fetched at page left f idle same fewer) = acting.Fetched at.repo at.session page (upto_in (slice_get before.links.items at.repo)) f.result (f.call refl)
+sends_acts old new before after (Granted at left f idle same fewer) = acting.Granted at.repo at.session f.result (f.call refl)
+sends_acts old new before after (Drawn at answer left f there same fewer) = acting.Drew at.repo at.session f.floor f.result (f.call refl)
+sends_acts old new before after (Asked r t result d less) = acting.Asked r t result d
+sends_acts old new before after (Settled r t v sent index d there links same fewer) = acting.Asked r t (Ok (answers.Settled v)) d
+
+moves_acts : (old new : View) (before after : Held) → Moves old new before after → Acts old new
+moves_acts old new before after (Unsent a) = sends_acts old new before after a
+moves_acts old new before after (Received at m d there takes same) = acting.Received at.repo at.session (Ok (Some m)) d
+moves_acts old new before after (ReceivedNone at d there waits same fewer) = acting.Received at.repo at.session (Ok None) d
+moves_acts old new before after (ReceiveRefused at k d there loses same) = acting.Received at.repo at.session (Err k) d
+moves_acts old new before after (ReceiveStopped at k d there outage stops same fewer) = acting.Received at.repo at.session (Err k) d
+moves_acts old new before after (Prepared s place d of less) = acting.Prepared s.at.repo s.at.session s.request (Ok place) d
+moves_acts old new before after (PrepareRefused s k d of idle learns same) = acting.Prepared s.at.repo s.at.session s.request (Err k) d
+moves_acts old new before after (Committed s place d of idle keeps) = acting.Committed s.at.repo s.at.session s.request (Ok place) d
+moves_acts old new before after (Transformed s place oref made d of writes idle keeps) = acting.Committed s.at.repo s.at.session s.request (Ok place) d
+moves_acts old new before after (CommitRefused s k d of idle learns same) = acting.Committed s.at.repo s.at.session s.request (Err k) d
+moves_acts old new before after (Decided at t v d idle ends) = acting.Decided at.repo at.session t true (Ok v) d
+moves_acts old new before after (Aborted at t v d less) = acting.Decided at.repo at.session t false (Ok v) d
+moves_acts old new before after (DecideRefused at t commit k d loses same) = acting.Decided at.repo at.session t commit (Err k) d
+moves_acts old new before after (Finished r t commit result d less) = acting.Finished r t commit result d
+moves_acts old new before after (Forgot r t result d less) = acting.Forgot r t result d
+moves_acts old new before after (AskedOwn r t v d ends) = acting.Asked r t (Ok (answers.Settled v)) d
+moves_acts old new before after (AskedInVain r t result d leave same fewer) = acting.Asked r t result d
+
+-- ---- sessions are given with rising numbers
+
+grew_rises : (b : Base) (c : ℕ) (u w : views.Unsettled) (T S : List Item) → Grew b c u T w S → last_session T ≤ last_session S
+grew_rises b c u w T S g = subst (λ (x : List Item). last_session T ≤ last_session x) (sym g.ends) (sessions-rise T g.gap)
+
+front_rises : (T S : List Item) → Front T S → last_session T ≤ last_session S
+front_rises T S f = subst (λ (x : List Item). last_session T ≤ last_session x) (sym f.1) (sessions-rise T f.0)
+
+seen_rises : (old new : View) → Acts old new → (n : ℕ) → last_session (old.seen n) ≤ last_session (new.seen n)
+seen_rises old new a n = elim (acts (λ e. false) old new a (λ e is. refl)) [
+  | inl same ↦ subst (λ (v : View). last_session (old.seen n) ≤ last_session (v.seen n)) (sym same) (itself (last_session (old.seen n)))
+  | inr c ↦ by c (cases_eq n c.r)
+]
+  where
+    itself : (m : ℕ) → m ≤ m
+    itself m = omega arith
+
+    front : (c : HasCalled (λ e. false) old new) → Front c.at (new.seen c.r)
+    front c = elim c.left [
+      | inl x ↦ adds_front (λ e. false) c.at (new.seen c.r) (new.unsettled c.r) x.1
+      | inr x ↦ none_more c.at (new.seen c.r) x.1
+    ]
+
+    here : (c : HasCalled (λ e. false) old new) → last_session (old.seen c.r) ≤ last_session (new.seen c.r)
+    here c =
+        let l : last_session (old.seen c.r) ≤ last_session c.at = grew_rises (old.opened.base c.r) old.opened.client (old.unsettled c.r) c.met (old.seen c.r) c.at c.called.reached in
+        let m : last_session c.at ≤ last_session (new.seen c.r) = front_rises c.at (new.seen c.r) (front c) in
+        omega arith
+
+    by : (c : HasCalled (λ e. false) old new) → (n ≡ c.r) ⊎ (n ≢ c.r) → last_session (old.seen n) ≤ last_session (new.seen n)
+    by c (inl e) = subst (λ (m : ℕ). last_session (old.seen m) ≤ last_session (new.seen m)) (sym e) (here c)
+    by c (inr ne) = grew_rises (old.opened.base n) old.opened.client (old.unsettled n) (new.unsettled n) (old.seen n) (new.seen n) (c.called.others n ne)
+
+-- ---- links
+
+module _ (s : ℕ) where
+  abbrev Not : Option Link → Type 0
+  Not link = is_session_of s link ≡ false
+
+  at_keeps : (links : List Link) (k r : ℕ) (f : Link → Link) → (r ≡ k → (l : Link) → is_session s l ≡ false → is_session s (f l) ≡ false) → Not (slice_get links r) → Not (slice_get (at_repo links k f) r)
+  at_keeps links k r f keeps not' = elim (cases_eq r k) [
+    | inl e ↦ subst (λ (n : ℕ). Not (slice_get (at_repo links k f) n)) (sym e) (by (slice_get links k) refl e (subst (λ (n : ℕ). Not (slice_get links n)) e not'))
+    | inr ne ↦ subst Not (sym (at_other links k r f ne)) not'
+  ]
+    where
+      by : (o : Option Link) → slice_get links k ≡ o → r ≡ k → Not (slice_get links k) → Not (slice_get (at_repo links k f) k)
+      by None is e h = subst (λ (ls : List Link). Not (slice_get ls k)) (sym (ap (changed_at links k f) is)) h
+      by (Some l) is e h = subst Not (sym (changes_here links k f l is)) (keeps e l (subst Not is h))
+
+  waiting_keeps : (w : Waits) (l : Link) → is_session s l ≡ false → is_session s (waiting w l) ≡ false
+  waiting_keeps w Apart h = refl
+  waiting_keeps w (Joined n upto waits) h = h
+  waiting_keeps w (Unsettled sent index) h = refl
+
+  stopped_keeps : (l : Link) → is_session s l ≡ false → is_session s (stopped l) ≡ false
+  stopped_keeps Apart h = refl
+  stopped_keeps (Joined n upto waits) h = h
+  stopped_keeps (Unsettled sent index) h = refl
+
+  answered_keeps : (place : ℕ) (l : Link) → is_session s l ≡ false → is_session s (answered (acknowledged place l)) ≡ false
+  answered_keeps place Apart h = refl
+  answered_keeps place (Joined n upto waits) h = h
+  answered_keeps place (Unsettled sent index) h = refl
+
+  acknowledged_keeps : (place : ℕ) (l : Link) → is_session s l ≡ false → is_session s (acknowledged place l) ≡ false
+  acknowledged_keeps place Apart h = refl
+  acknowledged_keeps place (Joined n upto waits) h = h
+  acknowledged_keeps place (Unsettled sent index) h = refl
+
+  took_keeps : (m : Message) (l : Link) → is_session s l ≡ false → is_session s (took m l) ≡ false
+  took_keeps (Page page bytes place) l h = answered_keeps place l h
+  took_keeps (Grant page place) l h = answered_keeps place l h
+  took_keeps (Invalid names place) l h = acknowledged_keeps _ l h
+  took_keeps (Upgrade number text place) l h = acknowledged_keeps _ l h
+
+  without_keeps : (n : ℕ) (l : Link) → is_session s l ≡ false → is_session s (without_session n l) ≡ false
+  without_keeps n l h = by (is_session n l)
+    where
+      by : (t : Bool) → is_session s (cond t Apart l) ≡ false
+      by true = refl
+      by false = h
+
+  module _ (links : List Link) (k r : ℕ) (h : Not (slice_get links r)) where
+    refused_keeps : (z : Refusal) → Not (slice_get (links_refused z k links) r)
+    refused_keeps (refused.Reason (reasons.Gone n)) = at_keeps links k r (without_session n) (λ e. without_keeps n) h
+    refused_keeps (refused.Reason (reasons.Epoch m)) = h
+    refused_keeps (refused.Reason (reasons.Blocked t)) = h
+    refused_keeps (refused.Reason (reasons.TooOld t)) = h
+    refused_keeps (refused.Reason (reasons.Stale x p)) = h
+    refused_keeps (refused.Reason (reasons.Earlier t x)) = h
+    refused_keeps (refused.Reason (reasons.Later t x)) = h
+    refused_keeps (refused.Reason (reasons.Full m)) = h
+    refused_keeps (refused.Reason reasons.ClockEnd) = h
+    refused_keeps (refused.Down m) = h
+    refused_keeps (refused.Stopped m) = h
+    refused_keeps (refused.Damaged m p) = h
+    refused_keeps refused.NoMemory = h
+
+    learnt_keeps : (z : Refusal) → Not (slice_get (links_learnt z k links) r)
+    learnt_keeps (refused.Reason (reasons.Gone n)) = at_keeps links k r (without_session n) (λ e. without_keeps n) h
+    learnt_keeps (refused.Reason (reasons.Epoch m)) = at_keeps links k r (waiting (Epoch m)) (λ e. waiting_keeps (Epoch m)) h
+    learnt_keeps (refused.Reason (reasons.Blocked t)) = h
+    learnt_keeps (refused.Reason (reasons.TooOld t)) = h
+    learnt_keeps (refused.Reason (reasons.Stale x p)) = at_keeps links k r (waiting (Past p)) (λ e. waiting_keeps (Past p)) h
+    learnt_keeps (refused.Reason (reasons.Earlier t x)) = h
+    learnt_keeps (refused.Reason (reasons.Later t x)) = h
+    learnt_keeps (refused.Reason (reasons.Full m)) = h
+    learnt_keeps (refused.Reason reasons.ClockEnd) = h
+    learnt_keeps (refused.Down m) = h
+    learnt_keeps (refused.Stopped m) = h
+    learnt_keeps (refused.Damaged m p) = h
+    learnt_keeps refused.NoMemory = h
+
+    asked_keeps : (result : Result (Unit {0}) Refusal) → Not (slice_get (links_asked result k links) r)
+    asked_keeps (Ok done) = at_keeps links k r (waiting Reply) (λ e. waiting_keeps Reply) h
+    asked_keeps (Err z) = refused_keeps z
+
+    drawn_keeps : (result : Result Ts Refusal) → Not (slice_get (links_drawn result k links) r)
+    drawn_keeps (Ok t) = h
+    drawn_keeps (Err z) = refused_keeps z
+
+  -- ---- a step
+
+  module _ (old new : View) (before after : Held) (r : ℕ) (given : s ≤ last_session (old.seen r)) (h : Not (slice_get before.links.items r)) where
+    abbrev links : List Link
+    links = before.links.items
+
+    same : after.links.items ≡ links → Not (slice_get after.links.items r)
+    same e = subst (λ (ls : List Link). Not (slice_get ls r)) (sym e) h
+
+    so : (ls : List Link) → after.links.items ≡ ls → Not (slice_get ls r) → Not (slice_get after.links.items r)
+    so ls e n = subst (λ (xs : List Link). Not (slice_get xs r)) (sym e) n
+
+    other_number : (n : ℕ) → s < n → nat_eq n s ≡ false
+    other_number n l = grind (arith, nat_tests)
+
+    joins : (repo c : ℕ) (result : Result Welcome Refusal) → Does old new repo result (ConnectWork c result) → Not (slice_get (links_joined result repo links) r)
+    joins repo c (Err k) d = h
+    joins repo c (Ok w) d = at_keeps links repo r (λ l. Joined w.session w.place Idle) (λ e l was. other_number w.session (by e d.met d.answer)) h
+      where
+        by : r ≡ repo → (m : views.Unsettled) → Answered {X = Welcome} repo (Ok w) m d.at (new.seen repo) (new.unsettled repo) (ConnectWork c (Ok w) (old.opened.base repo) d.at (new.seen repo) (new.unsettled repo)) → s < w.session
+        by e Calm a =
+            let l : s ≤ last_session (old.seen repo) = subst (λ (n : ℕ). s ≤ last_session (old.seen n)) e given in
+            let m : last_session (old.seen repo) ≤ last_session d.at = grew_rises (old.opened.base repo) old.opened.client (old.unsettled repo) d.met (old.seen repo) d.at d.called.reached in
+            let number = a.0.session in
+            omega (arith, number)
+        by e (MayCome i) a = absurd a.0
+        by e Came a = absurd a.0
+        by e Halted a = absurd a.0
+
+    stops : (repo : ℕ) → StopsWaiting repo before after → Not (slice_get after.links.items r)
+    stops repo stop = elim (cases_eq r repo) [
+      | inl e ↦ subst (λ (n : ℕ). Not (slice_get after.links.items n)) (sym e) (subst Not (sym stop.here) (one (waiting Idle) (waiting_keeps Idle) (slice_get links repo) (subst (λ (n : ℕ). Not (slice_get links n)) e h)))
+      | inr ne ↦ subst Not (sym (stop.others r ne)) (one stopped stopped_keeps (slice_get links r) h)
+    ]
+      where
+        one : (f : Link → Link) → ((l : Link) → is_session s l ≡ false → is_session s (f l) ≡ false) → (o : Option Link) → Not o → Not (option_map f o)
+        one f keeps None n = refl
+        one f keeps (Some l) n = keeps l n
+
+    leaves : LeavesSome before after → Not (slice_get after.links.items r)
+    leaves leave = elim (leave r) [
+      | inl e ↦ subst Not (sym e) h
+      | inr left ↦ apart (slice_get after.links.items r) left.apart
+    ]
+      where
+        apart : (o : Option Link) → session_in r o ≡ None → Not o
+        apart None e = refl
+        apart (Some Apart) e = refl
+        apart (Some (Joined n upto waits)) e = cc
+        apart (Some (Unsettled sent index)) e = refl
+
+    ends : (x : Bool) → EndsSo x before after → Not (slice_get after.links.items r)
+    ends true e = same e.1
+    ends false e = same e.1
+
+    sends : SendsNothing old new before after → Not (slice_get after.links.items r)
+    sends (Rested stays less) = same less.1
+    sends (Connected repo f apart stays fewer) = so (links_joined f.result repo links) f.links (joins repo before.client f.result (f.call refl))
+    sends (Fetched at page left f idle stays fewer) = so (links_asked f.result at.repo links) f.links (asked_keeps links at.repo r h f.result)
+    sends (Granted at left f idle stays fewer) = so (links_asked f.result at.repo links) f.links (asked_keeps links at.repo r h f.result)
+    sends (Drawn at answer left f there stays fewer) = so (links_drawn f.result at.repo links) f.links (drawn_keeps links at.repo r h f.result)
+    sends (Asked n t result d less) = same less.1
+    sends (Settled n t v sent index d there e stays fewer) = so (at_repo links n (λ l. Apart)) e (at_keeps links n r (λ l. Apart) (λ e l was. refl) h)
+
+    steps : Moves old new before after → Not (slice_get after.links.items r)
+    steps (Unsent a) = sends a
+    steps (Received at m d there takes stays) = so (at_repo links at.repo (took m)) takes.links (at_keeps links at.repo r (took m) (λ e. took_keeps m) h)
+    steps (ReceivedNone at d there (inl e) stays fewer) = same e
+    steps (ReceivedNone at d there (inr e) stays fewer) = so (at_repo links at.repo (waiting Idle)) e (at_keeps links at.repo r (waiting Idle) (λ e. waiting_keeps Idle) h)
+    steps (ReceiveRefused at k d there loses stays) = so (links_refused k at.repo links) loses.links (refused_keeps links at.repo r h k)
+    steps (ReceiveStopped at k d there outage stop stays fewer) = stops at.repo stop
+    steps (Prepared x place d of less) = same less.1
+    steps (PrepareRefused x k d of idle learns stays) = so (links_learnt k x.at.repo links) learns.links (learnt_keeps links x.at.repo r h k)
+    steps (Committed x place d of idle keeps) = same keeps.1
+    steps (Transformed x place oref made d of writes idle keeps) = same keeps.1
+    steps (CommitRefused x k d of idle learns stays) = so (links_learnt k x.at.repo links) learns.links (learnt_keeps links x.at.repo r h k)
+    steps (Decided at t v d idle e) = ends v.commit e
+    steps (Aborted at t v d less) = same less.1
+    steps (DecideRefused at t commit k d loses stays) = so (links_refused k at.repo links) loses.links (refused_keeps links at.repo r h k)
+    steps (Finished n t commit result d less) = same less.1
+    steps (Forgot n t result d less) = same less.1
+    steps (AskedOwn n t v d e) = ends v.commit e
+    steps (AskedInVain n t result d leave stays fewer) = leaves leave
+
+-- ---- a run
+
+turn_lost : (a z : Moment) (r s : ℕ) → Turn a z → r < a.port.opened.repos → HasLost r s a → HasLost r s z
+turn_lost a z r s (Stepped moves owed told right) within lost = record {
+  given = rises (last_session (a.port.seen r)) (last_session (z.port.seen r)) lost.given (seen_rises a.port z.port (moves_acts a.port z.port a.held z.held moves) r);
+  gone = steps s a.port z.port a.held z.held r lost.given lost.gone moves;
+}
+  where
+    rises : (n m : ℕ) → s ≤ n → n ≤ m → s ≤ m
+    rises n m l k = omega arith
+turn_lost a z r s (Waited same opened grew told right) within lost = record {
+  given = rises (last_session (a.port.seen r)) (last_session (z.port.seen r)) lost.given (grew_rises (a.port.opened.base r) a.port.opened.client (a.port.unsettled r) (z.port.unsettled r) (a.port.seen r) (z.port.seen r) (grew r within));
+  gone = subst (λ (x : Held). is_session_of s (slice_get x.links.items r) ≡ false) (sym same) lost.gone;
+}
+  where
+    rises : (n m : ℕ) → s ≤ n → n ≤ m → s ≤ m
+    rises n m l k = omega arith
+
+same_opened : (a z : Moment) → Turn a z → z.port.opened ≡ a.port.opened
+same_opened a z (Stepped moves owed told right) = opened_stays a.port z.port (moves_acts a.port z.port a.held z.held moves)
+same_opened a z (Waited same opened grew told right) = opened
+
+pub ever_lost : (a z : Moment) (between : List Moment) (r s : ℕ) → Leads a between z → r < a.port.opened.repos → HasLost r s a → HasLost r s z
+ever_lost a z [] r s t within lost = turn_lost a z r s t within lost
+ever_lost a z (m ∷ ms) r s t within lost = ever_lost m z ms r s t.1 (subst (λ (o : Opened). r < o.repos) (sym (same_opened a m t.0)) within) (turn_lost a m r s t.0 within lost)
+
+-- ---- how it is lost
+
+gone_here : (links : List Link) (r s : ℕ) → is_session_of s (slice_get (at_repo links r (without_session s)) r) ≡ false
+gone_here links r s = by (slice_get links r) refl
+  where
+    none : (l : Link) (t : Bool) → is_session s l ≡ t → is_session s (cond t Apart l) ≡ false
+    none l true e = refl
+    none l false e = e
+
+    by : (o : Option Link) → slice_get links r ≡ o → is_session_of s (slice_get (at_repo links r (without_session s)) r) ≡ false
+    by None is = subst (λ (ls : List Link). is_session_of s (slice_get ls r) ≡ false) (sym (ap (changed_at links r (without_session s)) is)) (ap (is_session_of s) is)
+    by (Some l) is = subst (λ (o : Option Link). is_session_of s o ≡ false) (sym (changes_here links r (without_session s) l is)) (none l (is_session s l) refl)
+
+pub learnt_lost : (before after : Held) (r s : ℕ) → Learns (refused.Reason (reasons.Gone s)) r before after → is_session_of s (slice_get after.links.items r) ≡ false
+learnt_lost before after r s learns = subst (λ (ls : List Link). is_session_of s (slice_get ls r) ≡ false) (sym learns.links) (gone_here before.links.items r s)
+
+pub called_lost : (before after : Held) (r s : ℕ) → Loses (refused.Reason (reasons.Gone s)) r before after → is_session_of s (slice_get after.links.items r) ≡ false
+called_lost before after r s loses = subst (λ (ls : List Link). is_session_of s (slice_get ls r) ≡ false) (sym loses.links) (gone_here before.links.items r s)
