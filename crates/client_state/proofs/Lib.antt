@@ -4,4 +4,5 @@ pub mod Keeping
 pub mod Moving
 pub mod Owing
 pub mod Sessions
+pub mod Sharing
 pub mod Stopping

@@ -8,3 +8,4 @@ pub mod Receiving
 pub mod Sending
 pub mod Showing
 pub mod Taking
+pub mod Writing

@@ -2,7 +2,9 @@
 
 ghost use Rattle.client_state.specs.Learning.{KeepsBounds};
 ghost use Rattle.client_state.specs.Moving.{HoldsSame};
-ghost use Rattle.std.specs.Prelude.{OnOk};
+ghost use Rattle.client_state.specs.Writing.{last_of, shares_write};
+ghost use Rattle.thor_value.specs.declared.names.Oref.{Oref};
+ghost use Rattle.std.specs.Prelude.{IfOk, OnOk, ◌≡◌};
 
 use crate::held::Held;
 use crate::transaction::Transaction;
@@ -58,6 +60,7 @@ impl Held {
         fresh: Orefs,
     ) -> Result<Transaction, NoMemory>
         ensures same { HoldsSame self.old self.new }
+        ensures writes { IfOk result (λ made. (x : Oref) → shares_write made.shares.items x ≡ last_of writes x) }
         ensures bounds { KeepsBounds self.old self.new }
     {
         if let Answer::Fault(_) = &answer {

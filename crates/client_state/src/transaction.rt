@@ -2,7 +2,11 @@
 
 ghost use Rattle.client_state.specs.Owing.{count_of};
 ghost use Rattle.client_state.specs.Sending.{CarriesSessions, carried, carried_at};
-ghost use Rattle.std.specs.Prelude.{IfOk, MatchOption, [], length, ◌∷◌, ◌≡◌, ◌≤◌};
+ghost use Rattle.client_state.specs.Writing.{FirstOf, NoneOf, is_of, last_of, new_share, read_more_at, shares_write, with_read, with_write, written_at};
+ghost use Rattle.std.specs.Ordering.{eq_by_cmp};
+ghost use Rattle.std.specs.Prelude.{IfOk, MatchOption, None, OnOk, Some, [], cond, length, slice_get, ◌++◌, ◌∷◌, ◌≡◌, ◌≤◌};
+ghost use Rattle.thor_value.specs.Names.{oref_cmp};
+ghost use Rattle.thor_value.specs.declared.names.Oref.{Oref};
 
 use crate::link::Link;
 use item_progress::Meaning;
@@ -47,7 +51,9 @@ pub struct Sent {
 
 impl Share {
     /// Nothing is sent yet.
-    fn of(repo: u8, ros: Orefs, writes: Writes) -> Share {
+    fn of(repo: u8, ros: Orefs, writes: Writes) -> Share
+        ensures { result ≡ record { repo = repo; session = 0; upto = 0; ros = ros; writes = writes } }
+    {
         Share {
             repo,
             session: 0,
@@ -78,6 +84,20 @@ impl Share {
             }
             Some(Link::Apart | Link::Unsettled { .. }) | None => {}
         }
+    }
+
+    /// It reads one more object.
+    fn read(&mut self, oref: Oref) -> Result<(), NoMemory>
+        ensures { OnOk result (self.new ≡ with_read self.old oref) }
+    {
+        self.ros.push(oref)
+    }
+
+    /// It writes one more object.
+    fn write(&mut self, oref: Oref, obj: Obj) -> Result<(), NoMemory>
+        ensures { OnOk result (self.new ≡ with_write self.old oref obj) }
+    {
+        self.writes.push((oref, obj))
     }
 
     /// Whether it reads an object.
@@ -112,7 +132,9 @@ impl Transaction {
         reads: Orefs,
         writes: Writes,
         fresh: Orefs,
-    ) -> Result<Transaction, NoMemory> {
+    ) -> Result<Transaction, NoMemory>
+        ensures writes { IfOk result (λ made. (x : Oref) → shares_write made.shares.items x ≡ last_of writes x) }
+    {
         let ros = read_or_created(reads, &fresh)?;
         let shares = shares_of(&ros, writes)?;
         let mut participants = Sequence::new(fresh.allocator());
@@ -249,29 +271,89 @@ fn read_or_created(reads: Orefs, fresh: &Orefs) -> Result<Orefs, NoMemory> {
 
 /// Parts what was read or created, and what was written, by repositories. Where nothing was, repository 0
 /// alone takes part.
-fn shares_of(ros: &Orefs, writes: Writes) -> Result<Vec<Share>, NoMemory> {
+#[tactic(auto, using(crate::proofs::Sharing::keeps_up))]
+fn shares_of(ros: &Orefs, writes: Writes) -> Result<Vec<Share>, NoMemory>
+    ensures { IfOk result (λ shares. (x : Oref) → shares_write shares.items x ≡ last_of writes x) }
+{
+    let mut shares = shares_read(ros)?;
+    for (oref, obj) in writes.into_vec() {
+        push_write(&mut shares, oref, obj)?;
+    }
+    with_one(shares)
+}
+
+/// The shares of what was read or created.
+fn shares_read(ros: &Orefs) -> Result<Vec<Share>, NoMemory>
+    ensures { IfOk result (λ shares. (x : Oref) → shares_write shares.items x ≡ None) }
+{
     let mut shares = Vec::new(ros.allocator());
     for oref in ros.as_slice() {
         push_read(&mut shares, *oref)?;
     }
-    for (oref, obj) in writes.into_vec() {
-        push_write(&mut shares, oref, obj)?;
-    }
+    Ok(shares)
+}
+
+/// Where there are none, repository 0 takes part.
+fn with_one(mut shares: Vec<Share>) -> Result<Vec<Share>, NoMemory>
+    ensures { IfOk result (λ made. (x : Oref) → shares_write made.items x ≡ shares_write shares.items x) }
+{
     if shares.is_empty() {
         push_share(&mut shares, 0)?;
     }
     Ok(shares)
 }
 
-fn push_share(shares: &mut Vec<Share>, repo: u8) -> Result<(), NoMemory> {
+/// A share comes behind the others that reads and writes nothing yet.
+#[tactic(auto, using(crate::proofs::Sharing::pushed_writes))]
+fn push_share(shares: &mut Vec<Share>, repo: u8) -> Result<(), NoMemory>
+    ensures shares { OnOk result (shares.new.items ≡ shares.old.items ++ new_share repo ∷ []) }
+    ensures writes { OnOk result ((x : Oref) → shares_write shares.new.items x ≡ shares_write shares.old.items x) }
+{
     let alloc = *shares.allocator();
     shares.push(Share::of(repo, Orefs::new(alloc), Writes::new(alloc)))?;
     Ok(())
 }
 
+/// Whether the share at a place is the repository's.
+fn is_share_of(shares: &[Share], place: usize, repo: u8) -> bool
+    ensures { result ≡ is_of repo (slice_get shares.now place) }
+{
+    match shares.get(place) {
+        Some(share) => share.repo == repo,
+        None => false,
+    }
+}
+
+/// The place of the first share of a repository, where it has one.
+#[tactic(auto, using(crate::proofs::Sharing::one_fewer_left, crate::proofs::Sharing::none_at_end))]
+fn found_place(shares: &[Share], repo: u8) -> Option<usize>
+    ensures { MatchOption result (NoneOf repo shares.now) (λ place. FirstOf repo place shares.now) }
+{
+    for place in 0..shares.len() {
+        if is_share_of(shares, place, repo) {
+            return Some(place);
+        }
+    }
+    None
+}
+
+/// The share at a place writes one more object.
+fn write_at(shares: &mut Vec<Share>, place: usize, oref: Oref, obj: Obj) -> Result<(), NoMemory>
+    ensures { OnOk result (shares.new.items ≡ written_at place oref obj shares.old.items) }
+{
+    match shares.get_mut(place) {
+        Some(share) => share.write(oref, obj),
+        None => Ok(()),
+    }
+}
+
 /// The place of a repository's share. Where it has none yet, one comes behind the others.
-fn place_of(shares: &mut Vec<Share>, repo: u8) -> Result<usize, NoMemory> {
-    match shares.iter().position(|share| share.repo == repo) {
+#[tactic(auto, using(crate::proofs::Sharing::pushed_first))]
+fn place_of(shares: &mut Vec<Share>, repo: u8) -> Result<usize, NoMemory>
+    ensures first { IfOk result (λ place. FirstOf repo place shares.new.items) }
+    ensures writes { OnOk result ((x : Oref) → shares_write shares.new.items x ≡ shares_write shares.old.items x) }
+{
+    match found_place(shares.as_slice(), repo) {
         Some(place) => Ok(place),
         None => {
             let place = shares.len();
@@ -281,18 +363,26 @@ fn place_of(shares: &mut Vec<Share>, repo: u8) -> Result<usize, NoMemory> {
     }
 }
 
-fn push_read(shares: &mut Vec<Share>, oref: Oref) -> Result<(), NoMemory> {
-    let place = place_of(shares, oref.repo)?;
+/// The share at a place reads one more object.
+fn read_at(shares: &mut Vec<Share>, place: usize, oref: Oref) -> Result<(), NoMemory>
+    ensures { OnOk result (shares.new.items ≡ read_more_at place oref shares.old.items) }
+{
     match shares.get_mut(place) {
-        Some(share) => share.ros.push(oref),
+        Some(share) => share.read(oref),
         None => Ok(()),
     }
 }
 
-fn push_write(shares: &mut Vec<Share>, oref: Oref, obj: Obj) -> Result<(), NoMemory> {
+fn push_read(shares: &mut Vec<Share>, oref: Oref) -> Result<(), NoMemory>
+    ensures { OnOk result ((x : Oref) → shares_write shares.new.items x ≡ shares_write shares.old.items x) }
+{
     let place = place_of(shares, oref.repo)?;
-    match shares.get_mut(place) {
-        Some(share) => share.writes.push((oref, obj)),
-        None => Ok(()),
-    }
+    read_at(shares, place, oref)
+}
+
+fn push_write(shares: &mut Vec<Share>, oref: Oref, obj: Obj) -> Result<(), NoMemory>
+    ensures { OnOk result ((x : Oref) → shares_write shares.new.items x ≡ cond (eq_by_cmp oref_cmp x oref) (Some obj) (shares_write shares.old.items x)) }
+{
+    let place = place_of(shares, oref.repo)?;
+    write_at(shares, place, oref, obj)
 }
