@@ -19,11 +19,10 @@ use Rattle.port.specs.Views.{Calm, Came, Halted, MayCome, Unsettled, View}
 use Rattle.port.specs.Works.{Answered, Does, IsOutage, ReceiveWork}
 use Rattle.refusal_reasons.specs.declared.reason.Reason.TheVariants as reasons
 use Rattle.refusal_reasons.specs.declared.reason.Reason.{Reason}
-use Rattle.std.proofs.Common.{Bool, List, ap, inl, inr, refl, subst, sym, true, ◌≡◌, ◌∙◌, ℕ}
+use Rattle.std.proofs.Common.{Bool, List, ap, inl, inr, refl, subst, true, ◌≡◌, ◌∙◌, ℕ}
 use Rattle.std.specs.Option.{option_map}
 use Rattle.std.specs.Prelude.{Err, None, Ok, OnOk, Option, Result, Some, slice_get}
 use Rattle.thor_value.specs.FiniteMap.{empty}
-use Rattle.thor_value.specs.declared.names.Oref.{Oref}
 use Rattle.thor_value.specs.declared.values.Obj.{Obj}
 use Rattle.validation_window.specs.declared.refusal.Refusal.TheVariants as refused
 use Rattle.validation_window.specs.declared.refusal.Refusal.{Refusal}
@@ -102,10 +101,6 @@ stops_behind k repo before mid after gone less stops rest = StopsThere gone (rec
 -- the links stay
 pub same_items : (a b : Held) → a.links ≡ b.links → a.links.items ≡ b.links.items
 same_items a b h = cc
-
--- what is dropped behind a session that was lost
-pub loses_then_drops : (k : Refusal) (repo : ℕ) (before mid after : Held) → Loses k repo before mid → HoldsLess mid after → Loses k repo before after
-loses_then_drops k repo before mid after l less = record { left = l.left; links = less.1 ∙ l.links; kept_so = l.kept_so; fewer = fewer_among (kept l.left) (kept mid.cache.cache) (kept after.cache.cache) l.fewer less.2 }
 
 -- a session that was gone was lost
 pub loses_so : (k : Refusal) (repo : ℕ) (before after : Held) → after.links.items ≡ links_refused k repo before.links.items → CopiesRefused k repo before.links.items before.cache.cache after.cache.cache → Loses k repo before after

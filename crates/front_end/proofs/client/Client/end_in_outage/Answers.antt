@@ -1,4 +1,4 @@
-use Rattle.client_state.specs.Receiving.{LosesThere, StopsThere}
+use Rattle.client_state.specs.Receiving.{LosesThere}
 use Rattle.front_end.proofs.Receiving.{lost_nothing, stops_behind}
 use Rattle.front_end.proofs.client.Client.end_in_outage.Goals as goal
 

@@ -1,4 +1,4 @@
-use Rattle.front_end.proofs.Receiving.{loses_so, loses_then_drops}
+use Rattle.front_end.proofs.Receiving.{loses_so}
 use Rattle.front_end.proofs.client.Client.lose_in_receive.Goals as goal
 
 pub returns-then-not-lose_gone-clause-loses : goal.returns-then-not-lose_gone-clause-loses
