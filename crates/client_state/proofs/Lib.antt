@@ -6,3 +6,4 @@ pub mod Owing
 pub mod Sessions
 pub mod Sharing
 pub mod Stopping
+pub mod Writing

@@ -7,3 +7,4 @@ pub mod Does
 pub mod FromPages
 pub mod NamesCode
 pub mod Standing
+pub mod Writing
