@@ -1,4 +1,5 @@
 pub mod Carrying
+mod Evaluating
 mod Holding
 pub mod Keeping
 pub mod Moving

@@ -4,6 +4,7 @@ ghost use Rattle.client_state.specs.Learning.{KeepsBounds};
 ghost use Rattle.client_state.specs.Moving.{HoldsSame};
 ghost use Rattle.client_cache.specs.Copies.{changed};
 ghost use Rattle.client_state.specs.Writing.{WritesShares, shares_write};
+ghost use Rattle.paused_defs.specs.Methods.{class_methods};
 ghost use Rattle.paused_eval.specs.Copies.{last_of};
 ghost use Rattle.paused_eval.specs.Writing.{HasWritten, WrittenBy};
 ghost use Rattle.std.specs.Prelude.{IfOk, List, OnOk, ◌≡◌};
@@ -17,15 +18,19 @@ use class_defs::{Block, Schema};
 use item_progress::Opened;
 use lazy_transform::{Wanted, wants};
 use method_eval::Ran;
+use paused_defs::ClassMethods;
 use paused_eval::Paused;
 use thor_value::{Answer, NoMemory, Oref, Orefs, Writes};
 use upgrade_eval::schema_at;
 
-/// The schema of an epoch; the first one where the store has none for it.
-fn schema_of(opened: &Opened, epoch: u32) -> &Schema {
-    match schema_at(&opened.schemas, epoch) {
-        Some(schema) => schema,
-        None => &opened.schemas.first,
+/// The schema of an epoch, with its methods; the first one where the store has none for it.
+#[tactic(auto, using(crate::proofs::Evaluating::are_its_methods))]
+fn schema_of(opened: &Opened, epoch: u32) -> (&Schema, &ClassMethods)
+    ensures { result.1.now ≡ class_methods result.0.now.classes }
+{
+    match (schema_at(&opened.schemas, epoch), opened.methods.at(epoch)) {
+        (Some(schema), Some(methods)) => (schema, methods),
+        (_, _) => (&opened.schemas.first, &opened.methods.first),
     }
 }
 
@@ -37,13 +42,13 @@ impl Held {
         ensures bounds { KeepsBounds self.old self.new }
     {
         let epoch = self.epoch(opened);
-        let schema = schema_of(opened, epoch);
+        let (schema, methods) = schema_of(opened, epoch);
         run.go(
             schema,
+            methods,
             epoch,
             &mut self.cache,
             &mut self.names,
-            &mut self.texts,
         )
     }
 

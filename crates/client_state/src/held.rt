@@ -62,7 +62,7 @@ impl Held {
             links,
             cache: Copies::new(alloc, pages)?,
             names: GrantedNames::new(alloc),
-            texts: KeptTexts::new(alloc),
+            texts: KeptTexts::new(),
             learnt: 0,
             floor: 0,
         })

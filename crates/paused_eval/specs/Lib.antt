@@ -1,5 +1,4 @@
 pub mod Begins
-pub mod Bodies
 pub mod Copies
 pub mod Counted
 pub mod Direct

@@ -11,8 +11,8 @@ ghost use Rattle.client_cache.specs.Pages.{same_name};
 ghost use Rattle.client_cache.specs.Slots.{dated};
 ghost use Rattle.method_eval.specs.Answers.{ran_at, stored_at};
 ghost use Rattle.method_eval.specs.Names.{Names, supply};
+ghost use Rattle.paused_defs.specs.Methods.{class_methods};
 ghost use Rattle.paused_defs.specs.Resume.{Left};
-ghost use Rattle.paused_eval.specs.Bodies.{AreOf};
 ghost use Rattle.paused_eval.specs.Copies.{Keeps, at_hand, entries, entry, last_of, state_with, written_in};
 ghost use Rattle.paused_eval.specs.Counted.{surplus};
 ghost use Rattle.paused_eval.specs.Standing.{AtStop, CameTo, Stands, answer_of, outcome_of};
@@ -30,7 +30,7 @@ use crate::running::run_over;
 use class_defs::{Block, Flow, Machine, Schema};
 use client_cache::Cache;
 use method_eval::{Program, Ran};
-use paused_defs::{Doing, Frame, Stack};
+use paused_defs::{ClassMethods, Doing, Frame, Stack};
 use std::alloc::Global;
 use std::collections::BTreeMap;
 use std::marker::Brand;
@@ -163,11 +163,12 @@ impl Paused {
     pub fn go(
         &mut self,
         schema: &Schema,
+        methods: &ClassMethods,
         epoch: u32,
         copies: &mut Copies,
         names: &mut GrantedNames,
-        kept: &mut KeptTexts,
     ) -> Result<Ran, NoMemory>
+        requires known { methods.now ≡ class_methods schema.now.classes }
         ensures answers { (tx : List Stmt) → (given : List Oref) → Stands schema.now (at_hand schema.now copies.old.cache) tx given (record { doing = self.old.doing; stack = self.old.stack }) (state_with self.old.machine copies.old.written copies.old.cache names.old.names)
             → IfOk result (λ ran. ran ≡ answer_of epoch schema.now (at_hand schema.now copies.old.cache) tx given) }
         ensures stands { (tx : List Stmt) → (given : List Oref) → Stands schema.now (at_hand schema.now copies.old.cache) tx given (record { doing = self.old.doing; stack = self.old.stack }) (state_with self.old.machine copies.old.written copies.old.cache names.old.names)
@@ -177,22 +178,23 @@ impl Paused {
         ensures steps { (tx : List Stmt) → (given : List Oref) → Stands schema.now (at_hand schema.now copies.old.cache) tx given (record { doing = self.old.doing; stack = self.old.stack }) (state_with self.old.machine copies.old.written copies.old.cache names.old.names)
             → OnOk result (self.new.machine.steps ≡ (outcome_of schema.now (at_hand schema.now copies.old.cache) tx given).1.steps) }
     {
-        self.go_uncounted::<Brand>(schema, epoch, copies, names, kept, Blank::new(1))
+        self.go_uncounted::<Brand>(schema, methods, epoch, copies, names, Blank::new(1))
     }
 
     /// The same with a count of its own.
     fn go_uncounted<L: Ledger>(
         &mut self,
         schema: &Schema,
+        methods: &ClassMethods,
         epoch: u32,
         copies: &mut Copies,
         names: &mut GrantedNames,
-        kept: &mut KeptTexts,
         ledger: Blank,
     ) -> Result<Ran, NoMemory>
         requires name { ledger.name ≡ L.name }
         requires parts { ledger.parts ≡ L.parts }
         requires some { 0 < ledger.parts }
+        requires known { methods.now ≡ class_methods schema.now.classes }
         ensures answers { (tx : List Stmt) → (given : List Oref) → Stands schema.now (at_hand schema.now copies.old.cache) tx given (record { doing = self.old.doing; stack = self.old.stack }) (state_with self.old.machine copies.old.written copies.old.cache names.old.names)
             → IfOk result (λ ran. ran ≡ answer_of epoch schema.now (at_hand schema.now copies.old.cache) tx given) }
         ensures stands { (tx : List Stmt) → (given : List Oref) → Stands schema.now (at_hand schema.now copies.old.cache) tx given (record { doing = self.old.doing; stack = self.old.stack }) (state_with self.old.machine copies.old.written copies.old.cache names.old.names)
@@ -203,7 +205,7 @@ impl Paused {
             → OnOk result (self.new.machine.steps ≡ (outcome_of schema.now (at_hand schema.now copies.old.cache) tx given).1.steps) }
     {
         let work: StepCount<L> = StepCount::new(ledger);
-        let (ran, work) = self.go_counted(schema, epoch, copies, names, kept, work);
+        let (ran, work) = self.go_counted(schema, methods, epoch, copies, names, work);
         drop(work);
         ran
     }
@@ -214,12 +216,13 @@ impl Paused {
     pub fn go_counted<L: Ledger>(
         &mut self,
         schema: &Schema,
+        methods: &ClassMethods,
         epoch: u32,
         copies: &mut Copies,
         names: &mut GrantedNames,
-        kept: &mut KeptTexts,
         work: StepCount<L>,
     ) -> (Result<Ran, NoMemory>, StepCount<L>)
+        requires known { methods.now ≡ class_methods schema.now.classes }
         ensures answers { (tx : List Stmt) → (given : List Oref) → Stands schema.now (at_hand schema.now copies.old.cache) tx given (record { doing = self.old.doing; stack = self.old.stack }) (state_with self.old.machine copies.old.written copies.old.cache names.old.names)
             → IfOk result.0 (λ ran. ran ≡ answer_of epoch schema.now (at_hand schema.now copies.old.cache) tx given) }
         ensures stands { (tx : List Stmt) → (given : List Oref) → Stands schema.now (at_hand schema.now copies.old.cache) tx given (record { doing = self.old.doing; stack = self.old.stack }) (state_with self.old.machine copies.old.written copies.old.cache names.old.names)
@@ -230,9 +233,10 @@ impl Paused {
             → OnOk result.0 (self.new.machine.steps ≡ (outcome_of schema.now (at_hand schema.now copies.old.cache) tx given).1.steps) }
         ensures work { OnOk result.0 (result.1 + self.old.machine.steps ≡ work + self.new.machine.steps) }
     {
-        let mut bodies = Bodies::taken(self.alloc, &mut kept.bodies, work);
+        let mut bodies = Bodies { methods, work };
         let ran = self.go_with(schema, epoch, copies, names, &mut bodies);
-        (ran, bodies.put_back(&mut kept.bodies))
+        let Bodies { methods: _, work } = bodies;
+        (ran, work)
     }
 
     /// The same with bodies of methods that are the schema's.
@@ -242,9 +246,9 @@ impl Paused {
         epoch: u32,
         copies: &mut Copies,
         names: &mut GrantedNames,
-        bodies: &mut Bodies<L>,
+        bodies: &mut Bodies<'_, L>,
     ) -> Result<Ran, NoMemory>
-        requires known { AreOf schema.now.classes bodies.old.called }
+        requires known { bodies.old.methods.now ≡ class_methods schema.now.classes }
         ensures answers { (tx : List Stmt) → (given : List Oref) → Stands schema.now (at_hand schema.now copies.old.cache) tx given (record { doing = self.old.doing; stack = self.old.stack }) (state_with self.old.machine copies.old.written copies.old.cache names.old.names)
             → IfOk result (λ ran. ran ≡ answer_of epoch schema.now (at_hand schema.now copies.old.cache) tx given) }
         ensures stands { (tx : List Stmt) → (given : List Oref) → Stands schema.now (at_hand schema.now copies.old.cache) tx given (record { doing = self.old.doing; stack = self.old.stack }) (state_with self.old.machine copies.old.written copies.old.cache names.old.names)
