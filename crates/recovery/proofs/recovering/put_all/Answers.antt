@@ -11,9 +11,9 @@ put_next-requires-clause-fits c = all_at BodyFits c.args.bodies.now c.loop-body.
 
 pub loop-body-preserved : goal.loop-body-preserved
 loop-body-preserved c = (
-  c.in_ok-put_next.ensures.keeps,
-  c.in_ok-put_next.ensures.unread,
-  c.in_ok-put_next.ensures.limit ∙ c.loop-body.invariant.2,
-  next_put (Some (said c.args.held.now)) (said c.loop-body.held) (said c.put_next.new.held) c.args.bodies.now c.loop-body.body-index c.body-item.result c.loop-body-test.true c.body-item.is c.loop-body.invariant.3 c.in_ok-put_next.ensures.said,
-  reopens_next (Some (said c.args.held.now)) (said c.loop-body.held) c.args.bodies.now c.loop-body.body-index c.body-item.result c.args.reopens.now c.loop-body.reopens _ c.loop-body-test.true c.body-item.is c.loop-body.invariant.3 c.loop-body.invariant.4 (ap (λ (x : Bool). c.loop-body.reopens || x) c.in_ok-put_next.ensures.reopens),
+  c.in_ok-reopens.ensures.keeps,
+  c.in_ok-reopens.ensures.unread,
+  c.in_ok-reopens.ensures.limit ∙ c.loop-body.invariant.2,
+  next_put (Some (said c.args.held.now)) (said c.loop-body.held) (said c.put_next.new.held) c.args.bodies.now c.loop-body.body-index c.body-item.result c.loop-body-test.true c.body-item.is c.loop-body.invariant.3 c.in_ok-reopens.ensures.said,
+  reopens_next (Some (said c.args.held.now)) (said c.loop-body.held) c.args.bodies.now c.loop-body.body-index c.body-item.result c.args.reopens.now c.loop-body.reopens _ c.loop-body-test.true c.body-item.is c.loop-body.invariant.3 c.loop-body.invariant.4 (ap (λ (x : Bool). c.loop-body.reopens || x) c.in_ok-reopens.ensures.reopens),
 )
