@@ -69,8 +69,8 @@ reopens_next o t bodies n b first so_far now within is stands was one =
     ∙ ap (λ (x : Bool). x || prepares_kept t b) was
     ∙ sym (or_again first (reopened o (map Some (take n bodies))) (prepares_kept t b))
     ∙ ap (λ (x : Bool). first || x) (ap (λ (s : Option State). reopened o (map Some (take n bodies)) || prepares_kept_behind s (Some b)) (sym stands ∙ sym (put_all_read o (take n bodies)))
-      ∙ sym (one_more o (map Some (take n bodies)) (Some b))
-      ∙ ap (reopened o) (sym (ap (λ (bs : List Body). map Some bs) (taken_next bodies n b within is) ∙ map_push Some (take n bodies) b)))
+    ∙ sym (one_more o (map Some (take n bodies)) (Some b))
+    ∙ ap (reopened o) (sym (ap (λ (bs : List Body). map Some bs) (taken_next bodies n b within is) ∙ map_push Some (take n bodies) b)))
 
 -- ---- the whole log
 

@@ -72,6 +72,7 @@ not_at page end apart = elim (cases_lt page end) [
         let a : nat_lt page (end + 1) ≡ true = grind (arith, nat_tests, below) in
         let b : nat_lt page end ≡ true = grind (arith, nat_tests, below) in
         a ∙ sym b
+
     by_above : end ≤ page → nat_lt page (end + 1) ≡ nat_lt page end
     by_above above =
         elim (cases_eq page end) [
