@@ -1,10 +1,11 @@
 //! A page is flushed.
 
-ghost use Rattle.std.specs.Prelude.{◌≡◌, IfErr, IsErrOf, ℕ};
+ghost use Rattle.std.specs.Prelude.{◌≡◌, IfErr, IfOk, IsErrOf, ℕ};
 ghost use Rattle.repo_core.specs.Behind.{MovesObjects, Stands};
 ghost use Rattle.repo_core.specs.Refusing.{CanRefuse, HasNoReason, Rests};
 ghost use Rattle.repo_core.specs.Shown.{faults_of};
 ghost use Rattle.stable_store.specs.Failing.{HasFailed};
+ghost use Rattle.stable_store.specs.Flushes.{IsOldest, left_by};
 ghost use Rattle.validation_window.specs.declared.refusal.Refusal.TheVariants.{Stopped as IsStopped};
 
 use crate::repo::Repo;
@@ -21,6 +22,8 @@ impl<P: Parts> Repo<P> {
         ensures held { MovesObjects self.old.held self.new.held }
         ensures memory { self.new.memory ≡ self.old.memory }
         ensures limit { self.new.held.objects.mob.limit ≡ self.old.held.objects.mob.limit }
+        ensures buffer { IfOk result (λ f. self.new.held.objects.mob.objects ≡ left_by self.old.held.objects.mob.objects f) }
+        ensures oldest { IfOk result (IsOldest self.old.held.objects.mob.objects) }
         ensures trace { self.new.trace ≡ self.old.trace }
         ensures why { IfErr result (CanRefuse self.old HasNoReason (Unit {0})) }
         ensures rests { IfErr result (Rests self.old self.new) }
