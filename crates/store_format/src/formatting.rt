@@ -1,14 +1,14 @@
 //! A fresh repository is formatted.
 
 ghost use Rattle.std.specs.List.{AllByRecursion};
-ghost use Rattle.std.specs.Prelude.{◌≡◌, IfOk, None, true};
+ghost use Rattle.std.specs.Prelude.{◌≡◌, ◌≤◌, IfOk, None, true};
 ghost use Rattle.disk_trait.specs.AllDisks.{AllSettled};
 ghost use Rattle.disk_trait.specs.Disks.{Disks, WhereTold};
 ghost use Rattle.held_state.specs.Keeps.{Keeps};
 ghost use Rattle.held_state.specs.Said.{said};
 ghost use Rattle.log_bytes.specs.Checkpoint.{RootFits};
 ghost use Rattle.log_frame.specs.Log.{read_log};
-ghost use Rattle.stable_store.specs.Kept.{IsKept, held_of, is_up};
+ghost use Rattle.stable_store.specs.Kept.{IsKept, disks_of, held_of, is_up};
 ghost use Rattle.stable_store.specs.Saying.{IsSaid};
 ghost use Rattle.stable_store.specs.Taking.{AgreesWhere};
 ghost use Rattle.state_log.specs.Holds.{Holds};
@@ -45,6 +45,7 @@ pub fn format<P: Parts>(
     ensures up { IfOk result (λ stable. is_up stable ≡ true) }
     ensures fresh { IfOk result (λ stable. IsFresh repo repos setup.now mob (held_of stable)) }
     ensures says { IfOk result (IsSaid P.disks) }
+    ensures clock { IfOk result (λ stable. (P.disks parts).clock ≤ (disks_of P.disks stable).clock) }
 {
     match put_store(alloc, &mut parts, repo, repos, setup, mob) {
         Ok(recovered) => Stable::open(parts, recovered),
@@ -66,6 +67,7 @@ fn put_store<P: Parts>(
     ensures keeps { IfOk result (λ r. Keeps r.state) }
     ensures pages { IfOk result (λ r. AgreesWhere r.state.objects.pages) }
     ensures fresh { IfOk result (λ r. IsFresh repo repos setup.now mob r.state) }
+    ensures clock { (P.disks parts.old).clock ≤ (P.disks parts.new).clock }
 {
     if !have_names(setup.roots.as_slice()) {
         return Err(OpenCause::NoMemory);
@@ -94,6 +96,7 @@ fn begin_log<P: Parts>(
     ensures keeps { IfOk result (λ r. Keeps r.state) }
     ensures pages { IfOk result (λ r. AgreesWhere r.state.objects.pages) }
     ensures fresh { IfOk result (λ r. IsFresh repo repos setup.now mob r.state) }
+    ensures clock { (P.disks parts.old).clock ≤ (P.disks parts.new).clock }
 {
     let state = first_state(alloc, repo, repos, setup, installed)?;
     let log = CommitLog::format(alloc, parts, &state)?;
