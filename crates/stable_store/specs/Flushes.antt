@@ -5,7 +5,7 @@ use Rattle.mob_flusher.specs.Images.{IsFlushed}
 use Rattle.mob_flusher.specs.declared.store.Flushed.TheVariants.{Installed, Nothing}
 use Rattle.mob_flusher.specs.declared.store.Flushed.{Flushed}
 use Rattle.std.specs.Option.{IfSome}
-use Rattle.std.specs.Prelude.{[], slice_get, ℕ, ◌≡◌}
+use Rattle.std.specs.Prelude.{List, [], slice_get, ℕ, ◌∷◌, ◌≡◌}
 
 -- the page that was flushed stands on its side, and isn't in use yet
 abbrev pub IsLastFlush : Held → Flushed → Type 0
@@ -21,3 +21,13 @@ left_by objects Nothing = objects
 abbrev pub IsOldest : Objects → Flushed → Type 0
 IsOldest objects (Installed page side) = IfSome (slice_get objects 0) (λ q. q.0.page ≡ page)
 IsOldest objects Nothing = objects ≡ []
+
+-- these flushes, one behind the other, led from one list of buffered objects to another
+abbrev pub AreFlushes : List Flushed → Objects → Objects → Type 0
+AreFlushes [] old new = new ≡ old
+AreFlushes (f ∷ fs) old new = IsOldest old f × AreFlushes fs (left_by old f) new
+
+-- some flushes did so
+pub record HasFlushed (old new : Objects) : Type 0 where
+  pub flushes : List Flushed
+  pub are : AreFlushes flushes old new

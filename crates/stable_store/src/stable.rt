@@ -160,6 +160,7 @@ impl<P: Parts> Stable<P> {
     #[tactic(auto, using(crate::proofs::Saying::said_pending))]
     pub fn pend(&mut self, entry: Entry)
         requires fits { BodyFits (AnEntry entry) }
+        requires takes { IsTrue (can_enter (held_of self.old) entry) }
         requires up { is_up self.old ≡ true }
         requires kept { IsKept P.disks self.old }
         ensures new { self.new ≡ down_with self.old (Some entry) }
@@ -337,6 +338,7 @@ impl<P: Parts> Stable<P> {
         ensures rests { is_up self.old ≡ true → OnErr result (RestsWith None self.new) }
         ensures held { held_of self.new ≡ record (held_of self.old) { objects = (held_of self.new).objects } }
         ensures limit { (held_of self.new).objects.mob.limit ≡ (held_of self.old).objects.mob.limit }
+        ensures buffer { (held_of self.new).objects.mob ≡ (held_of self.old).objects.mob }
         ensures says { IsSaid P.disks self.old → IsSaid P.disks self.new }
         ensures pages { (disks_of P.disks self.new).content 2 ≡ (disks_of P.disks self.old).content 2 }
         ensures clock { (disks_of P.disks self.new).clock ≡ (disks_of P.disks self.old).clock }
@@ -371,6 +373,7 @@ impl<P: Parts> Stable<P> {
         ensures limit { (held_of self.new).objects.mob.limit ≡ (held_of self.old).objects.mob.limit }
         ensures says { IsSaid P.disks self.old → IsSaid P.disks self.new }
         ensures buffer { IfOk result (λ f. (held_of self.new).objects.mob.objects ≡ left_by (held_of self.old).objects.mob.objects f) }
+        ensures unmoved { OnErr result ((held_of self.new).objects.mob ≡ (held_of self.old).objects.mob) }
         ensures oldest { IfOk result (IsOldest (held_of self.old).objects.mob.objects) }
         ensures clock { (disks_of P.disks self.new).clock ≡ (disks_of P.disks self.old).clock }
         ensures names { IfErr result (λ r. repo_named (held_of self.old).repo r ≡ (held_of self.old).repo) }
@@ -405,6 +408,7 @@ impl<P: Parts> Stable<P> {
         ensures log { LogSays (disks_of P.disks self.old) log.old (said (held_of self.old)) → OnOk result (LogSays (disks_of P.disks self.new) log.new (said (held_of self.new))) }
         ensures images { LogSays (disks_of P.disks self.old) log.old (said (held_of self.old)) → OnErr result (ImagesSay (disks_of P.disks self.new) (held_of self.new) None) }
         ensures buffer { IfOk result (λ f. (held_of self.new).objects.mob.objects ≡ left_by (held_of self.old).objects.mob.objects f) }
+        ensures unmoved { OnErr result ((held_of self.new).objects.mob ≡ (held_of self.old).objects.mob) }
         ensures oldest { IfOk result (IsOldest (held_of self.old).objects.mob.objects) }
         ensures clock { (disks_of P.disks self.new).clock ≡ (disks_of P.disks self.old).clock }
         ensures names { IfErr result (λ r. repo_named (held_of self.old).repo r ≡ (held_of self.old).repo) }
@@ -432,6 +436,7 @@ impl<P: Parts> Stable<P> {
         ensures log { LogSays (disks_of P.disks self.old) log.old (said (held_of self.old)) → OnOk result (LogSays (disks_of P.disks self.new) log.new (said (held_of self.new))) }
         ensures images { LogSays (disks_of P.disks self.old) log.old (said (held_of self.old)) → OnErr result (ImagesSay (disks_of P.disks self.new) (held_of self.new) None) }
         ensures buffer { IfOk result (λ f. (held_of self.new).objects.mob.objects ≡ left_by (held_of self.old).objects.mob.objects f) }
+        ensures unmoved { OnErr result ((held_of self.new).objects.mob ≡ (held_of self.old).objects.mob) }
         ensures same { IfOk result (λ f. f ≡ flushed) }
         ensures clock { (disks_of P.disks self.new).clock ≡ (disks_of P.disks self.old).clock }
         ensures names { IfErr result (λ r. repo_named (held_of self.old).repo r ≡ (held_of self.old).repo) }
