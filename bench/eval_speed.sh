@@ -16,6 +16,7 @@ use method_eval::{Names, Ran, View, eval};
 use method_parse::{parse_block, parse_setup};
 use object_codec::put_obj;
 use page_format::Page;
+use paused_defs::{ClassMethods, class_methods};
 use paused_eval::{Copies, GrantedNames, KeptTexts, Paused};
 use script_text::scan;
 use std::alloc::Global;
@@ -98,10 +99,11 @@ fn by_go(alloc: Global, schema: &Schema, tx: &Block, count: u32) -> Result<(), F
     copies.write(name_of(1), object(alloc)?)?;
     copies.settle();
     let mut names = GrantedNames::new(alloc);
-    let mut kept = KeptTexts::new(alloc);
+    let mut kept = KeptTexts::new();
+    let methods = class_methods(alloc, &schema.classes)?;
     for _ in 0..count {
         let mut run = Paused::begin(alloc, tx, &mut kept)?;
-        match run.go(schema, 0, &mut copies, &mut names, &mut kept)? {
+        match run.go(schema, &methods, 0, &mut copies, &mut names)? {
             Ran::Done { .. } => {}
             _ => return Err(Fail::new("not done")),
         }
@@ -152,6 +154,7 @@ fn place(copies: &mut Copies, pages: &Sequence<Text>, number: u32) -> Result<(),
 fn walk(
     alloc: Global,
     schema: &Schema,
+    methods: &ClassMethods,
     tx: &Block,
     pages: &Sequence<Text>,
     copies: &mut Copies,
@@ -160,7 +163,7 @@ fn walk(
     let mut names = GrantedNames::new(alloc);
     let mut run = Paused::begin(alloc, tx, kept)?;
     for _ in 0..2 * NODES_COUNT {
-        match run.go(schema, 0, copies, &mut names, kept)? {
+        match run.go(schema, methods, 0, copies, &mut names)? {
             Ran::Done { .. } => return Ok(()),
             Ran::Need { oref, .. } => place(copies, pages, oref.page)?,
             Ran::NeedName { .. } => return Err(Fail::new("a name")),
@@ -183,14 +186,15 @@ fn walks(
         pages.push(node_page(alloc, number)?)?;
     }
     let mut copies = Copies::new(alloc, held)?;
-    let mut kept = KeptTexts::new(alloc);
+    let mut kept = KeptTexts::new();
+    let methods = class_methods(alloc, &schema.classes)?;
     for _ in 0..count {
         if alone {
             for number in 0..NODES_COUNT {
                 place(&mut copies, &pages, number)?;
             }
         } else {
-            walk(alloc, schema, tx, &pages, &mut copies, &mut kept)?;
+            walk(alloc, schema, &methods, tx, &pages, &mut copies, &mut kept)?;
         }
         copies.evict();
     }

@@ -7,7 +7,7 @@ ghost use Rattle.disk_trait.specs.Disks.{WhereTold};
 ghost use Rattle.held_state.specs.Keeps.{Keeps};
 ghost use Rattle.held_state.specs.Said.{said};
 ghost use Rattle.page_store.specs.Sides.{ReachesSides};
-ghost use Rattle.stable_store.specs.Agreeing.{IsTaken};
+ghost use Rattle.stable_store.specs.Agreeing.{CanEnter, IsTaken};
 ghost use Rattle.disk_trait.specs.Fused.{armed};
 ghost use Rattle.stable_store.specs.Failing.{HasFailed};
 ghost use Rattle.stable_store.specs.Kept.{IsKept, IsOpen, IsResting, disks_of, held_of, is_fault, is_torn, is_up, lowered, parts_in, pending};
@@ -86,6 +86,7 @@ impl<P: Parts> Stable<P> {
         ensures down { OnErr result (is_up self.new ≡ false) }
         ensures fault { IfErr result (λ r. is_fault r ≡ true) }
         ensures taken { IfOk result CanTake }
+        ensures enters { IfOk result (CanEnter (held_of self.new)) }
         ensures held { OnOk result (held_of self.new ≡ record (held_of self.old) { objects = (held_of self.new).objects }) }
         ensures limit { (held_of self.new).objects.mob.limit ≡ (held_of self.old).objects.mob.limit }
         ensures pending { IfOk result (TakesFrom (pending self.old)) }
@@ -203,6 +204,7 @@ impl<P: Parts> Stable<P> {
         ensures down { OnErr result (is_up self.new ≡ false) }
         ensures fault { IfErr result (λ r. is_fault r ≡ true) }
         ensures taken { IfOk result CanTake }
+        ensures enters { IfOk result (CanEnter (held_of self.new)) }
         ensures held { OnOk result (held_of self.new ≡ record (held_of self.old) { objects = (held_of self.new).objects }) }
         ensures limit { (held_of self.new).objects.mob.limit ≡ (held_of self.old).objects.mob.limit }
         ensures pending { IfOk result (TakesFrom pending) }

@@ -1,7 +1,7 @@
 //! A fresh repository is formatted.
 
 ghost use Rattle.std.specs.List.{AllByRecursion};
-ghost use Rattle.std.specs.Prelude.{◌≡◌, IfOk, None, true};
+ghost use Rattle.std.specs.Prelude.{◌≡◌, ◌≤◌, IfOk, None, true};
 ghost use Rattle.disk_trait.specs.AllDisks.{AllSettled};
 ghost use Rattle.disk_trait.specs.Disks.{Disks, WhereTold};
 ghost use Rattle.held_state.specs.Keeps.{Keeps};
@@ -47,6 +47,7 @@ pub fn format<P: Parts>(
     ensures fresh { IfOk result (λ stable. IsFresh repo repos setup.now mob (held_of stable)) }
     ensures says { IfOk result (IsSaid P.disks) }
     ensures roots { IfOk result (λ stable. WhereTold (disks_of P.disks stable) 2 (HasRoots repo setup.now (held_of stable).objects.pages.sides)) }
+    ensures clock { IfOk result (λ stable. (P.disks parts).clock ≤ (disks_of P.disks stable).clock) }
 {
     match put_store(alloc, &mut parts, repo, repos, setup, mob) {
         Ok(recovered) => Stable::open(parts, recovered),
@@ -69,6 +70,7 @@ fn put_store<P: Parts>(
     ensures pages { IfOk result (λ r. AgreesWhere r.state.objects.pages) }
     ensures fresh { IfOk result (λ r. IsFresh repo repos setup.now mob r.state) }
     ensures roots { IfOk result (λ r. WhereTold (P.disks parts.new) 2 (HasRoots repo setup.now r.state.objects.pages.sides)) }
+    ensures clock { (P.disks parts.old).clock ≤ (P.disks parts.new).clock }
 {
     if !have_names(setup.roots.as_slice()) {
         return Err(OpenCause::NoMemory);
@@ -99,6 +101,7 @@ fn begin_log<P: Parts>(
     ensures fresh { IfOk result (λ r. IsFresh repo repos setup.now mob r.state) }
     ensures sides { IfOk result (λ r. r.state.objects.pages.sides ≡ installed) }
     ensures stays { (P.disks parts.new).content 2 ≡ (P.disks parts.old).content 2 }
+    ensures clock { (P.disks parts.old).clock ≤ (P.disks parts.new).clock }
 {
     let state = first_state(alloc, repo, repos, setup, installed)?;
     let log = CommitLog::format(alloc, parts, &state)?;
