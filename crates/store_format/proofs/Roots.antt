@@ -12,7 +12,8 @@ use Rattle.page_format.specs.Sides.{side_in_use}
 use Rattle.page_store.proofs.Stores.{in_use_here, in_use_other}
 use Rattle.page_store.specs.Objects.{Spells, empty_page}
 use Rattle.page_store.specs.Sides.{KeepsSides, Shows, side_bytes}
-use Rattle.std.proofs.Common.{Bool, List, None, Option, Some, [], ap, arith, cond, false, max, nat_eq, nat_lt, refl, subst, sym, take, true, ◌&&◌, ◌+◌, ◌<◌, ◌∙◌, ◌∷◌, ◌≡◌, ◌≤◌, ℕ}
+use Rattle.std.proofs.Common.{Bool, Err, IfOk, List, None, Ok, Option, Result, Some, [], ap, arith, cond, false, max, nat_eq, nat_lt, refl, subst, sym, true, ◌&&◌, ◌+◌, ◌<◌, ◌∙◌, ◌∷◌, ◌≡◌, ◌≤◌, ℕ, inl, inr}
+use Rattle.std.proofs.Math.Nat.{eq-or-lt_of_le}
 use Rattle.std.proofs.lemmas.Bool.Decides.{nat_tests}
 use Rattle.std.proofs.lemmas.Bool.{cases_eq, cases_lt}
 use Rattle.std.specs.BTreeMap.{insert_entry}
@@ -75,20 +76,26 @@ not_at page end apart = elim (cases_lt page end) [
 
     by_above : end ≤ page → nat_lt page (end + 1) ≡ nat_lt page end
     by_above above =
-        elim (cases_eq page end) [
-          | inr off ↦ (let b : nat_lt page end ≡ false = grind (arith, nat_tests, above) in let more : end + 1 ≤ page = omega (arith, above, off) in let a : nat_lt page (end + 1) ≡ false = grind (arith, nat_tests, more) in a ∙ sym b)
-          | inl at ↦ absurd (apart at)
+        elim (eq-or-lt_of_le above) [
+          | inl at ↦ absurd (apart (sym at))
+          | inr more ↦ by_more more
         ]
+
+    by_more : end < page → nat_lt page (end + 1) ≡ nat_lt page end
+    by_more more =
+        let a : nat_lt page (end + 1) ≡ false = grind (arith, nat_tests, more) in
+        let b : nat_lt page end ≡ false = grind (arith, nat_tests, more) in
+        a ∙ sym b
 
 pub one_written : (old new : Disks) (before after : List (ℕ × ℕ)) (end repo : ℕ) (setup : Setup) → OnDisk old new 2 → PutsPage old new before after end (first_page repo setup end) → WhereTold old 2 (HasRootsTo end repo setup before) → WhereTold new 2 (HasRootsTo (end + 1) repo setup after)
 one_written old new before after end repo setup alone puts had = λ disk told.
     let was = told_on (new.content 2) (old.content 2) disk (sym alone.told) told in
     record {
       each = λ page. elim (cases_eq page end) [
-        | inr off ↦ subst (λ (b : Bool). Shows disk (side_in_use after page) page (cond b (first_page repo setup page) (empty_page page))) (sym (not_at page end off)) (puts.others was.0 was.1 disk told page (page_by end repo setup page) off ((had was.0 was.1).each page))
         | inl at ↦
             subst (λ (b : Bool). Shows disk (side_in_use after page) page (cond b (first_page repo setup page) (empty_page page))) (sym (at_next page end at))
             (subst (λ (n : ℕ). Shows disk (side_in_use after n) n (first_page repo setup n)) (sym at) (puts.here disk told))
+        | inr off ↦ subst (λ (b : Bool). Shows disk (side_in_use after page) page (cond b (first_page repo setup page) (empty_page page))) (sym (not_at page end off)) (puts.others was.0 was.1 disk told page (page_by end repo setup page) off ((had was.0 was.1).each page))
       ];
     }
 
@@ -110,11 +117,14 @@ lies_off repo page n r true here low =
     ap (λ (x : Bool). nat_eq r.oref.repo repo && x) apart ∙ ap (λ (x : Bool). x && false) here
 lies_off repo page n r false there low = ap (λ (x : Bool). x && nat_eq r.oref.page page) there
 
+below : (a b c : ℕ) → a ≤ b → b ≤ c → a ≤ c
+below a b c first then = omega (arith, first, then)
+
 none_lies : (classes : List Class) (repo page n : ℕ) (roots : List Root) (made : Contents) → fold (page_behind repo) n roots ≤ page → fold (with_own_root classes repo page) made roots ≡ made
 none_lies classes repo page n [] made low = refl
 none_lies classes repo page n (r ∷ rs) made low =
     let grows = behind_grows repo rs (page_behind repo n r) in
-    let off = lies_off repo page n r (nat_eq r.oref.repo repo) refl (omega (arith, grows, low)) in
+    let off = lies_off repo page n r (nat_eq r.oref.repo repo) refl (below (page_behind repo n r) (fold (page_behind repo) (page_behind repo n r) rs) page grows low) in
     ap (λ (b : Bool). fold (with_own_root classes repo page) (cond b (with_root classes made r) made) rs) off
     ∙ none_lies classes repo page (page_behind repo n r) rs made low
 
@@ -134,3 +144,9 @@ all_written repo setup sides disk has = record { each = λ page. by page (nat_lt
 pub null_begins : (o : Option ℕ) → beginning (class_or_untold o) ≡ Null
 null_begins (Some c) = refl
 null_begins None = refl
+
+-- ---- for the calls
+
+pub ok_of_two : {T E : Type 0} (A B C : T → Type 0) (r : Result T E) → ((x : T) → A x → B x → C x) → IfOk r A → IfOk r B → IfOk r C
+ok_of_two A B C (Ok x) f p q = f x p q
+ok_of_two A B C (Err e) f p q = tt

@@ -29,8 +29,8 @@ use state_log::CommitLog;
 use std::alloc::Global;
 
 /// What is stable of a repository of a store that is new, with a buffer of so many bytes: the setup's roots stand on its
-/// pages as they begin, and nothing else, and an empty log is begun. Want of memory, too, where the setup's roots have names or fields that no
-/// store can have.
+/// pages as they begin, and nothing else, and an empty log is begun. Want of memory, too, where the setup's roots have
+/// names or fields that no store can have.
 ///
 /// Its disks are settled before. After a fault no log is open, or that of the first state.
 pub fn format<P: Parts>(
