@@ -43,13 +43,7 @@ impl Held {
     {
         let epoch = self.epoch(opened);
         let (schema, methods) = schema_of(opened, epoch);
-        run.go(
-            schema,
-            methods,
-            epoch,
-            &mut self.cache,
-            &mut self.names,
-        )
+        run.go(schema, methods, epoch, &mut self.cache, &mut self.names)
     }
 
     /// The evaluation of a transaction before its first step.
