@@ -143,15 +143,15 @@ module _ (old new : View) (r s upto : ℕ) (waits : Waits) (committed : Ts → B
 
   -- by whatever session the call was made
 
-  pub prepared_by_any : (n : ℕ) (q : Request) (result : Result ℕ Refusal) → Does old new r result (PrepareWork n q result) → (q.session ≡ s → q.upto ≡ upto) → committed q.tx ≡ false → LinkIn new r committed (Joined s upto waits) copies
+  pub prepared_by_any : (n : ℕ) (q : Request) (result : Result ℕ Refusal) → Does old new r result (PrepareWork n q result) → (q.session ≡ s → q.upto ≡ upto) → ((place : ℕ) → result ≡ Ok place → committed q.tx ≡ false) → LinkIn new r committed (Joined s upto waits) copies
   prepared_by_any n q result d up open' =
       let work : Type 0 = PrepareWork n q result b d.at after u in
       let front : Front d.at after = answered_front r result d.met d.at after u work (prepare_front b d.at after u n q result) d.answer in
-      then_so d.at d.met d.called copies (any_fits old new r committed seen d.at d.met d.called front (held copies) h result work d.met refl d.answer (λ w calm. by result d.at d.met d.called w calm))
+      then_so d.at d.met d.called copies (any_fits old new r committed seen d.at d.met d.called front (held copies) h result work d.met refl d.answer (λ w calm. by result refl d.at d.met d.called w calm))
     where
-      by : (x : Result ℕ Refusal) (at : List Item) (met : Unsettled) (called : Called old new r at met) → PrepareWork n q x b at after u → FitsAt old.opened.client b Calm at committed (held copies) → FitsAt old.opened.client b u after committed (held copies)
-      by (Ok place) at met called w calm = works.prepared_any old.opened.client b committed at after u (held copies) (sd at met called) (agrees at met called).kept calm n q place up open' w
-      by (Err k) at met called w calm = works.request_any old.opened.client b committed at after u (held copies) (sd at met called) (agrees at met called).kept calm n (Prepared q) q k w
+      by : (x : Result ℕ Refusal) → result ≡ x → (at : List Item) (met : Unsettled) (called : Called old new r at met) → PrepareWork n q x b at after u → FitsAt old.opened.client b Calm at committed (held copies) → FitsAt old.opened.client b u after committed (held copies)
+      by (Ok place) is at met called w calm = works.prepared_any old.opened.client b committed at after u (held copies) (sd at met called) (agrees at met called).kept calm n q place up (open' place is) w
+      by (Err k) is at met called w calm = works.request_any old.opened.client b committed at after u (held copies) (sd at met called) (agrees at met called).kept calm n (Prepared q) q k w
 
   pub uncommitted_by_any : (n : ℕ) (q : Request) (k : Refusal) → Does {X = ℕ} old new r (Err k) (CommitWork n q (Err k)) → LinkIn new r committed (Joined s upto waits) copies
   uncommitted_by_any n q k d =
@@ -181,13 +181,13 @@ module _ (old new : View) (r s upto : ℕ) (waits : Waits) (committed : Ts → B
       then_so d.at d.met d.called copies (ok_fits old new r committed seen d.at d.met d.called front (held copies) h v work (held copies) d.met refl d.answer
       (λ w calm. works.told_any old.opened.client b committed d.at after u (held copies) (sd d.at d.met d.called) (agrees d.at d.met d.called).kept calm n t v told w))
 
-  pub link_committed : (q : Request) (place : ℕ) (left : Copies) (d : Does {X = ℕ} old new r (Ok place) (CommitWork s q (Ok place))) → q.upto ≡ upto → is_reply waits ≡ false → NoneToFinish b (entries d.at) s committed → WritesOnPages b d.at s q
+  pub link_committed : (q : Request) (place : ℕ) (left : Copies) (d : Does {X = ℕ} old new r (Ok place) (CommitWork s q (Ok place))) → q.upto ≡ upto → is_reply waits ≡ false → NoneToFinish b (entries d.at) s committed → (FitsAt old.opened.client b Calm d.at committed (held copies) → b.tells ≡ true → WritesOnPages b d.at s q)
       → (b.tells ≡ true → SameCopies b left (with_writes q copies)) → LinkIn new r committed (Joined s upto waits) left
   link_committed q place left d up idle settled pages become =
       let work : Type 0 = CommitWork s q (Ok place) b d.at after u in
       let front : Front d.at after = answered_front {X = ℕ} r (Ok place) d.met d.at after u work (commit_front b d.at after u s q (Ok place)) d.answer in
       then_so d.at d.met d.called left (ok_fits old new r committed seen d.at d.met d.called front (held copies) h place work (held left) d.met refl d.answer
-      (λ w calm. works.committed_one old.opened.client b committed d.at after u (held copies) (sd d.at d.met d.called) (agrees d.at d.met d.called).kept calm q place left up idle settled pages become w))
+      (λ w calm. works.committed_one old.opened.client b committed d.at after u (held copies) (sd d.at d.met d.called) (agrees d.at d.met d.called).kept calm q place left up idle settled (pages calm) become w))
 
   pub link_uncommitted : (q : Request) (k : Refusal) → Does {X = ℕ} old new r (Err k) (CommitWork s q (Err k)) → LinkIn new r committed (Joined s upto waits) copies
   link_uncommitted q k d =

@@ -35,7 +35,7 @@ use Rattle.session_outbox.specs.Calls.{next_page}
 use Rattle.session_outbox.specs.Current.{NoneAborted}
 use Rattle.session_outbox.specs.Exact.{exact}
 use Rattle.session_outbox.specs.Notices.{notice_of}
-use Rattle.session_outbox.specs.Session.{place_of}
+use Rattle.session_outbox.specs.Session.{is_news, place_of}
 use Rattle.session_outbox.specs.Trace.{Item, M, entries}
 use Rattle.session_outbox.specs.declared.mark.Mark.TheVariants as the
 use Rattle.std.proofs.Common.{Bool, List, [], ap, cond, false, refl, subst, sym, true, ◌+◌, ◌++◌, ◌<◌, ◌^◌, ◌∙◌, ◌∷◌, ◌≡◌, ◌≢◌, ℕ}
@@ -391,13 +391,13 @@ module _ (old new : View) (r s upto : ℕ) (waits : Waits) (committed : Ts → B
     refused_done z Came e w = stays Came e w.1 w.2
     refused_done z Halted e w = stays Halted e w.1 w.2
 
-    module _ (m : Message) (objects : ℕ → Option Obj) (left : Copies) (top : place_of (notice_of m) + 1 < 2 ^ 64) (content : BringsContent base (entries (new.seen r)) objects m) (be : Becomes base.repo objects m copies left) where
+    module _ (m : Message) (objects : ℕ → Option Obj) (left : Copies) (top : is_news (notice_of m) ≡ true → place_of (notice_of m) + 1 < 2 ^ 64) (content : base.tells ≡ true → BringsContent base (entries (new.seen r)) objects m) (be : Becomes base.repo objects m copies left) where
       message_done : (x : Unsettled) → met ≡ x → Answered {X = Option Message} r (Ok (Some m)) x at (new.seen r) (new.unsettled r) (ReceiveWork s (Ok (Some m)) base at (new.seen r) (new.unsettled r)) → Behind (took m (Joined s upto waits)) left
       message_done Calm e w =
           let same : entries (new.seen r) ≡ entries at = ap entries w.2.0 ∙ after-mark base at (the.Took s (place_of (notice_of m))) in
-          let content' : BringsContent base (entries at) objects m = subst (λ (H : List Entry). BringsContent base H objects m) same content in
+          let content' : base.tells ≡ true → BringsContent base (entries at) objects m = λ tells. subst (λ (H : List Entry). BringsContent base H objects m) same (content tells) in
           subst (FitsOrNone old.opened.client base (new.unsettled r) (new.seen r) committed left) (sym (tells_took m s upto waits left top))
-          (works.received old.opened.client base committed at (new.seen r) (new.unsettled r) keeping there_sound there_none (calm_here' e) m left (λ _. become base (entries at) objects m copies left content' be) w)
+          (works.received old.opened.client base committed at (new.seen r) (new.unsettled r) keeping there_sound there_none (calm_here' e) m left (λ tells. become base (entries at) objects m copies left (content' tells) be) w)
       message_done (MayCome d) e w = absurd w.0
       message_done Came e w = absurd w.0
       message_done Halted e w = absurd w.0
@@ -420,11 +420,11 @@ module _ (old new : View) (at : At) (upto : ℕ) (waits : Waits) (committed : Ts
   pub received_refused : (z : Refusal) → Does {X = Option Message} old new at.repo (Err z) (ReceiveWork at.session (Err z)) → IsSeenRight new at.repo committed → LinkIn old at.repo committed (Joined at.session upto waits) copies → LinkIn new at.repo committed (Joined at.session upto waits) copies
   received_refused z d seen h = fits_now old new at.repo committed d.called.same seen (Some (Joined at.session upto waits)) copies (refused_done old new at.repo at.session upto waits committed copies seen h d.at d.met d.called (front_of old new at (Err z) d) z d.met refl d.answer)
 
-  pub received_message : (m : Message) (objects : ℕ → Option Obj) (left : Copies) → Does {X = Option Message} old new at.repo (Ok (Some m)) (ReceiveWork at.session (Ok (Some m))) → IsSeenRight new at.repo committed → place_of (notice_of m) + 1 < 2 ^ 64
-      → BringsContent (new.opened.base at.repo) (entries (new.seen at.repo)) objects m → Becomes at.repo objects m copies left → LinkIn old at.repo committed (Joined at.session upto waits) copies → LinkIn new at.repo committed (took m (Joined at.session upto waits)) left
+  pub received_message : (m : Message) (objects : ℕ → Option Obj) (left : Copies) → Does {X = Option Message} old new at.repo (Ok (Some m)) (ReceiveWork at.session (Ok (Some m))) → IsSeenRight new at.repo committed → (is_news (notice_of m) ≡ true → place_of (notice_of m) + 1 < 2 ^ 64)
+      → ((new.opened.base at.repo).tells ≡ true → BringsContent (new.opened.base at.repo) (entries (new.seen at.repo)) objects m) → Becomes at.repo objects m copies left → LinkIn old at.repo committed (Joined at.session upto waits) copies → LinkIn new at.repo committed (took m (Joined at.session upto waits)) left
   received_message m objects left d seen top content be h =
       let same = d.called.same in
-      let content' : BringsContent (old.opened.base at.repo) (entries (new.seen at.repo)) objects m = subst (λ (o : Opened). BringsContent (o.base at.repo) (entries (new.seen at.repo)) objects m) same content in
+      let content' : (old.opened.base at.repo).tells ≡ true → BringsContent (old.opened.base at.repo) (entries (new.seen at.repo)) objects m = subst (λ (o : Opened). (o.base at.repo).tells ≡ true → BringsContent (o.base at.repo) (entries (new.seen at.repo)) objects m) same content in
       let be' : Becomes (old.opened.base at.repo).repo objects m copies left = subst (λ (n : ℕ). Becomes n objects m copies left) (sym (numbered_now old new at.repo committed same seen)) be in
       fits_now old new at.repo committed same seen (Some (took m (Joined at.session upto waits))) left
       (message_done old new at.repo at.session upto waits committed copies seen h d.at d.met d.called (front_of old new at (Ok (Some m)) d) m objects left top content' be' d.met refl d.answer)

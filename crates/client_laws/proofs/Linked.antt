@@ -19,7 +19,7 @@ use Rattle.port.specs.Growing.{Grew}
 use Rattle.port.specs.Views as views
 use Rattle.session_outbox.specs.Notices.{notice_of}
 use Rattle.session_outbox.specs.Exact.{exact}
-use Rattle.session_outbox.specs.Session.{bound, place_of}
+use Rattle.session_outbox.specs.Session.{bound, is_news, place_of}
 use Rattle.session_outbox.specs.Trace.{Item, entries}
 use Rattle.std.proofs.Common.{Bool, List, [], ap, arith, cond, false, is_eq, refl, sym, true, ◌+◌, ◌<◌, ◌^◌, ◌∙◌, ◌∷◌, ◌≡◌, ℕ}
 use Rattle.std.proofs.lemmas.Bool.Decides.{nat_tests}
@@ -40,7 +40,7 @@ use Rattle.thor_value.specs.declared.values.Obj.{Obj}
 below_top : (n : ℕ) → n + 1 < 2 ^ 64 → behind n ≡ n + 1
 below_top n h = omega arith
 
-pub tells_took : (m : Message) (s upto : ℕ) (waits : Waits) (copies : Copies) → place_of (notice_of m) + 1 < 2 ^ 64
+pub tells_took : (m : Message) (s upto : ℕ) (waits : Waits) (copies : Copies) → (is_news (notice_of m) ≡ true → place_of (notice_of m) + 1 < 2 ^ 64)
     → kept_by (took m (Joined s upto waits)) copies ≡ Some (record { session = s; upto = bound (notice_of m); awaits = awaits_behind (notice_of m) (is_reply waits); copies = copies })
 tells_took (Page page bytes k) s upto Idle copies h = refl
 tells_took (Page page bytes k) s upto Reply copies h = refl
@@ -50,8 +50,8 @@ tells_took (Grant page k) s upto Idle copies h = refl
 tells_took (Grant page k) s upto Reply copies h = refl
 tells_took (Grant page k) s upto (Past place) copies h = refl
 tells_took (Grant page k) s upto (Epoch n) copies h = refl
-tells_took (Invalid names k) s upto waits copies h = ap (λ (n : ℕ). Some (record { session = s; upto = n; awaits = is_reply waits; copies = copies })) (below_top k h)
-tells_took (Upgrade number text k) s upto waits copies h = ap (λ (n : ℕ). Some (record { session = s; upto = n; awaits = is_reply waits; copies = copies })) (below_top k h)
+tells_took (Invalid names k) s upto waits copies h = ap (λ (n : ℕ). Some (record { session = s; upto = n; awaits = is_reply waits; copies = copies })) (below_top k (h refl))
+tells_took (Upgrade number text k) s upto waits copies h = ap (λ (n : ℕ). Some (record { session = s; upto = n; awaits = is_reply waits; copies = copies })) (below_top k (h refl))
 
 same_number : (n : ℕ) → nat_eq n n ≡ true
 same_number n = grind (arith, nat_tests)
@@ -95,7 +95,7 @@ equal_itself : (x : Oref) → same_oref x x ≡ true
 equal_itself x = ap is_eq (tied_itself oref_total x)
 
 -- the two tests of names are one
-named_at : (x y : Oref) → same_name y x ≡ same_oref x y
+pub named_at : (x y : Oref) → same_name y x ≡ same_oref x y
 named_at x y = by (same_name y x) (same_oref x y) refl refl
   where
     by : (a b : Bool) → same_name y x ≡ a → same_oref x y ≡ b → a ≡ b
@@ -109,11 +109,11 @@ named [] x = refl
 named (y ∷ ys) x = ap (λ (t : Bool). t || list_any (λ y. same_name y x) ys) (named_at x y) ∙ ap (λ (t : Bool). same_oref x y || t) (named ys x)
 
 pub become : (b : Base) (H : List Entry) (objects : ℕ → Option Obj) (m : Message) (old new : Copies) → BringsContent b H objects m → Becomes b.repo objects m old new → SameCopies b new (behind_message b H (notice_of m) old)
-become b H objects (Page page bytes k) old new content be x here = be x ∙ ap (λ (t : Bool). cond t (objects x.slot) (old x)) (on_page b.repo page x here) ∙ by (nat_eq x.page page) refl
+become b H objects (Page page bytes k) old new content be x here = be x here ∙ ap (λ (t : Bool). cond t (objects x.slot) (old x)) (on_page b.repo page x here) ∙ by (nat_eq x.page page) refl
   where
     by : (t : Bool) → nat_eq x.page page ≡ t → cond t (objects x.slot) (old x) ≡ cond t (get (objects_at b H k) x) (old x)
     by true e = content x here (eqb-true x.page page e)
     by false e = refl
-become b H objects (Grant page k) old new content be x here = be x ∙ ap (λ (t : Bool). cond t None (old x)) (on_page b.repo page x here)
-become b H objects (Invalid names k) old new content be x here = be x ∙ ap (λ (t : Bool). cond t None (old x)) (named names x)
-become b H objects (Upgrade number text k) old new content be x here = be x
+become b H objects (Grant page k) old new content be x here = be x here ∙ ap (λ (t : Bool). cond t None (old x)) (on_page b.repo page x here)
+become b H objects (Invalid names k) old new content be x here = be x here ∙ ap (λ (t : Bool). cond t None (old x)) (named names x)
+become b H objects (Upgrade number text k) old new content be x here = be x here

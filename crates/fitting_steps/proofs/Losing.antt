@@ -1,5 +1,5 @@
 -- A session that was lost is no link's again.
-use Rattle.client_laws.proofs.Leaving.{HasCalled, acts, adds_front}
+use Rattle.client_laws.proofs.Leaving.{acts, behind_call}
 use Rattle.client_laws.proofs.Lending.{Front, changes_here, none_more}
 use Rattle.client_laws.proofs.Stepping.{opened_stays}
 use Rattle.client_laws.proofs.Whole.{at_other}
@@ -30,7 +30,7 @@ use Rattle.refusal_reasons.specs.declared.reason.Reason.TheVariants as reasons
 use Rattle.session_outbox.proofs.Exactness.{sessions-rise}
 use Rattle.session_outbox.specs.Calls.{last_session}
 use Rattle.session_outbox.specs.Trace.{Item}
-use Rattle.std.proofs.Common.{Bool, List, [], ap, arith, cond, false, inl, inr, refl, subst, sym, true, ◌∷◌, ◌≡◌, ◌≢◌, ◌≤◌, ℕ}
+use Rattle.std.proofs.Common.{Bool, List, [], ap, append_assoc, arith, cond, false, inl, inr, refl, subst, sym, true, ◌++◌, ◌∙◌, ◌∷◌, ◌≡◌, ◌≢◌, ◌≤◌, ℕ}
 use Rattle.std.proofs.lemmas.Bool.Decides.{nat_tests}
 use Rattle.std.proofs.lemmas.Bool.{cases_eq}
 use Rattle.std.specs.List.{slice_get}
@@ -51,7 +51,7 @@ sends_acts old new before after (Drawn at answer left f there same fewer) = acti
 sends_acts old new before after (Asked r t result d less) = acting.Asked r t result d
 sends_acts old new before after (Settled r t v sent index d there links same fewer) = acting.Asked r t (Ok (answers.Settled v)) d
 
-moves_acts : (old new : View) (before after : Held) → Moves old new before after → Acts old new
+pub moves_acts : (old new : View) (before after : Held) → Moves old new before after → Acts old new
 moves_acts old new before after (Unsent a) = sends_acts old new before after a
 moves_acts old new before after (Received at m d there takes same) = acting.Received at.repo at.session (Ok (Some m)) d
 moves_acts old new before after (ReceivedNone at d there waits same fewer) = acting.Received at.repo at.session (Ok None) d
@@ -78,30 +78,22 @@ grew_rises b c u w T S g = subst (λ (x : List Item). last_session T ≤ last_se
 front_rises : (T S : List Item) → Front T S → last_session T ≤ last_session S
 front_rises T S f = subst (λ (x : List Item). last_session T ≤ last_session x) (sym f.1) (sessions-rise T f.0)
 
-seen_rises : (old new : View) → Acts old new → (n : ℕ) → last_session (old.seen n) ≤ last_session (new.seen n)
-seen_rises old new a n = elim (acts (λ e. false) old new a (λ e is. refl)) [
-  | inl same ↦ subst (λ (v : View). last_session (old.seen n) ≤ last_session (v.seen n)) (sym same) (itself (last_session (old.seen n)))
-  | inr c ↦ by c (cases_eq n c.r)
+-- what is seen of a repository grows
+pub seen_grows : (old new : View) → Acts old new → (n : ℕ) → Front (old.seen n) (new.seen n)
+seen_grows old new a n = elim (acts (λ e. false) old new a (λ e is. refl)) [
+  | inl same ↦ subst (λ (v : View). Front (old.seen n) (v.seen n)) (sym same) (none_more (old.seen n) (old.seen n) refl)
+  | inr c ↦ behind_call (λ e. false) old new c n (λ m. Front (old.seen m) (new.seen m)) (λ g. grown (old.opened.base n) (old.unsettled n) (new.unsettled n) (old.seen n) (new.seen n) g)
+      (λ g left front. fronts (old.seen n) c.at (new.seen n) (grown (old.opened.base n) (old.unsettled n) c.met (old.seen n) c.at g) front)
 ]
   where
-    itself : (m : ℕ) → m ≤ m
-    itself m = omega arith
+    grown : (b : Base) (u w : views.Unsettled) (T S : List Item) → Grew b old.opened.client u T w S → Front T S
+    grown b u w T S g = (g.gap, g.ends)
 
-    front : (c : HasCalled (λ e. false) old new) → Front c.at (new.seen c.r)
-    front c = elim c.left [
-      | inl x ↦ adds_front (λ e. false) c.at (new.seen c.r) (new.unsettled c.r) x.1
-      | inr x ↦ none_more c.at (new.seen c.r) x.1
-    ]
+    fronts : (T S R : List Item) → Front T S → Front S R → Front T R
+    fronts T S R f g = (f.0 ++ g.0, g.1 ∙ ap (λ (U : List Item). U ++ g.0) f.1 ∙ append_assoc T f.0 g.0)
 
-    here : (c : HasCalled (λ e. false) old new) → last_session (old.seen c.r) ≤ last_session (new.seen c.r)
-    here c =
-        let l : last_session (old.seen c.r) ≤ last_session c.at = grew_rises (old.opened.base c.r) old.opened.client (old.unsettled c.r) c.met (old.seen c.r) c.at c.called.reached in
-        let m : last_session c.at ≤ last_session (new.seen c.r) = front_rises c.at (new.seen c.r) (front c) in
-        omega arith
-
-    by : (c : HasCalled (λ e. false) old new) → (n ≡ c.r) ⊎ (n ≢ c.r) → last_session (old.seen n) ≤ last_session (new.seen n)
-    by c (inl e) = subst (λ (m : ℕ). last_session (old.seen m) ≤ last_session (new.seen m)) (sym e) (here c)
-    by c (inr ne) = grew_rises (old.opened.base n) old.opened.client (old.unsettled n) (new.unsettled n) (old.seen n) (new.seen n) (c.called.others n ne)
+seen_rises : (old new : View) → Acts old new → (n : ℕ) → last_session (old.seen n) ≤ last_session (new.seen n)
+seen_rises old new a n = front_rises (old.seen n) (new.seen n) (seen_grows old new a n)
 
 -- ---- links
 

@@ -1,3 +1,5 @@
 pub mod Lost
+pub mod OneExample
+pub mod OneRepository
 pub mod Owed
 pub mod Runs

@@ -3,11 +3,13 @@
 #![tactic(auto)]
 
 mod lost;
+mod one_repository;
 mod reads;
 mod runs;
 mod steps;
 
 pub use lost::lost_sessions_stay_lost;
+pub use one_repository::{a_run_over_one_repository, clients_of_one_repository_fit};
 pub use reads::accepted_reads_stand;
 pub use runs::{new_clients_fit_wholly, running_clients_fit};
 pub use steps::moving_clients_fit;
