@@ -21,6 +21,7 @@ mod Reasons
 pub mod Resting
 pub mod Sending
 pub mod Showing
+pub mod Staying
 pub mod Stepping
 pub mod Taking
 pub mod Telling

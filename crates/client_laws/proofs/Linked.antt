@@ -1,7 +1,8 @@
 -- Links and copies of the running client, and what the laws say of what is kept.
 use Rattle.client_cache.specs.Pages.{on, page_of, same_name, same_page}
 use Rattle.client_laws.proofs.Growing.{grown}
-use Rattle.client_laws.specs.Fitting.{Agrees, Copies, SameCopies, awaits_behind, behind_message}
+use Rattle.client_laws.proofs.Staying.{clients_stay, is_own, when_live}
+use Rattle.client_laws.specs.Fitting.{Agrees, Copies, Kept, SameCopies, awaits_behind, behind_message}
 use Rattle.client_laws.specs.Links.{Becomes, BringsContent, LinkFits, kept_by}
 use Rattle.client_state.specs.Learning.{without_session}
 use Rattle.client_state.specs.Links.{is_reply}
@@ -17,11 +18,12 @@ use Rattle.message_outbox.specs.declared.message.Message.TheVariants.{Grant, Inv
 use Rattle.message_outbox.specs.declared.message.Message.{Message}
 use Rattle.port.specs.Growing.{Grew}
 use Rattle.port.specs.Views as views
-use Rattle.session_outbox.specs.Notices.{notice_of}
 use Rattle.session_outbox.specs.Exact.{exact}
-use Rattle.session_outbox.specs.Session.{bound, is_news, place_of}
+use Rattle.session_outbox.specs.Gaps.{client_in}
+use Rattle.session_outbox.specs.Notices.{lives, notice_of}
+use Rattle.session_outbox.specs.Session.{bound, is_news, place_of, session}
 use Rattle.session_outbox.specs.Trace.{Item, entries}
-use Rattle.std.proofs.Common.{Bool, List, [], ap, arith, cond, false, is_eq, refl, sym, true, ◌+◌, ◌<◌, ◌^◌, ◌∙◌, ◌∷◌, ◌≡◌, ℕ}
+use Rattle.std.proofs.Common.{Bool, List, [], ap, arith, cond, false, is_eq, refl, subst, sym, true, ◌+◌, ◌<◌, ◌^◌, ◌∙◌, ◌∷◌, ◌≡◌, ℕ}
 use Rattle.std.proofs.lemmas.Bool.Decides.{nat_tests}
 use Rattle.std.proofs.lemmas.Bool.{eqb-true}
 use Rattle.std.proofs.lemmas.Map.Views.{tells_apart}
@@ -59,11 +61,19 @@ same_number n = grind (arith, nat_tests)
 pub tells_gone : (s upto : ℕ) (waits : Waits) (copies : Copies) → kept_by (without_session s (Joined s upto waits)) copies ≡ None
 tells_gone s upto waits copies = ap (λ (t : Bool). kept_by (cond t Apart (Joined s upto waits)) copies) (same_number s)
 
+-- what others do leaves it so, too, where nothing is asked of a session that isn't live
+pub outlives_while : (c : ℕ) (b : Base) (committed : Ts → Bool) (link : Link) (copies : Copies) (u w : views.Unsettled) (T S : List Item) → Grew b c u T w S → exact b S → sound b (entries S) → ((s : ℕ) → w ≡ views.Calm → lives (session b S s) ≡ true → Agrees b (entries S) s committed)
+    → LinkFits c b u T committed link copies → LinkFits c b w S committed link copies
+outlives_while c b committed Apart copies u w T S g k sd a h = h
+outlives_while c b committed (Joined s upto waits) copies u w T S g k sd a h =
+    let kept : Kept = record { session = s; upto = upto; awaits = is_reply waits; copies = copies } in
+    let mine : client_in b S s ≡ Some c = subst (λ (R : List Item). client_in b R s ≡ Some c) (sym g.ends) (clients_stay c b s T g.gap (subst (exact b) g.ends k) (is_own c b u T committed kept h)) in
+    when_live c b w S committed kept mine (λ calm live. grown c b committed kept u w T S g k sd (a s calm live) h)
+outlives_while c b committed (Unsettled sent index) copies u w T S g k sd a h = h
+
 pub outlives : (c : ℕ) (b : Base) (committed : Ts → Bool) (link : Link) (copies : Copies) (u w : views.Unsettled) (T S : List Item) → Grew b c u T w S → exact b S → sound b (entries S) → ((s : ℕ) → Agrees b (entries S) s committed)
     → LinkFits c b u T committed link copies → LinkFits c b w S committed link copies
-outlives c b committed Apart copies u w T S g k sd a h = h
-outlives c b committed (Joined s upto waits) copies u w T S g k sd a h = grown c b committed (record { session = s; upto = upto; awaits = is_reply waits; copies = copies }) u w T S g k sd (a s) h
-outlives c b committed (Unsettled sent index) copies u w T S g k sd a h = h
+outlives c b committed link copies u w T S g k sd a h = outlives_while c b committed link copies u w T S g k sd (λ s calm live. a s) h
 
 -- ---- copies
 

@@ -27,8 +27,8 @@ use Rattle.port.specs.Acting.{Acts, Asked, Committed, Connected, Decided, Drew a
 use Rattle.port.specs.Views.{Calm, View}
 use Rattle.port.specs.Works.{AskWork, CommitWork, DecideWork, Does, FinishWork, ForgetWork, PrepareWork, ReceiveWork}
 use Rattle.refusal_reasons.specs.declared.reason.Reason.TheVariants as reasons
-use Rattle.session_outbox.specs.Notices.{notice_of}
-use Rattle.session_outbox.specs.Session.{is_news, place_of}
+use Rattle.session_outbox.specs.Notices.{lives, notice_of}
+use Rattle.session_outbox.specs.Session.{is_news, place_of, session}
 use Rattle.session_outbox.specs.Trace.{entries}
 use Rattle.std.proofs.Common.{Bool, List, [], ap, arith, cond, false, refl, subst, suc, sym, true, zero, ◌+◌, ◌<◌, ◌^◌, ◌∙◌, ◌∷◌, ◌≡◌, ◌≢◌, ℕ}
 use Rattle.std.proofs.lemmas.Bool.Decides.{nat_tests}
@@ -161,14 +161,14 @@ connect_all old new repo before after copies committed f seen there fit =
     (Connected repo old.opened.client f.result (f.call refl)) refl (λ right h. connected old new repo before after copies committed f right there (link_there old repo committed before copies Apart there h))
 
 pub fetch_inside : (old new : View) (at : At) (page upto : ℕ) (before after : List Link) (copies left : Contents) (waits : Waits) (committed : Ts → Bool) → Fetches true old new at page upto before after copies left → AllSeenRight new committed
-    → slice_get before at.repo ≡ Some (Joined at.session upto waits) → (at.repo < new.opened.repos → is_reply waits ≡ false) → (at.repo < new.opened.repos → NoneToFinish (new.opened.base at.repo) (entries (new.seen at.repo)) at.session committed) → LinksFit old committed before (kept copies) → LinksFit new committed after (kept left)
+    → slice_get before at.repo ≡ Some (Joined at.session upto waits) → (at.repo < new.opened.repos → is_reply waits ≡ false) → (at.repo < new.opened.repos → new.unsettled at.repo ≡ Calm → lives (session (new.opened.base at.repo) (new.seen at.repo) at.session) ≡ true → NoneToFinish (new.opened.base at.repo) (entries (new.seen at.repo)) at.session committed) → LinksFit old committed before (kept copies) → LinksFit new committed after (kept left)
 fetch_inside old new at page upto before after copies left waits committed f seen there idle settled fit =
     all_inside old new at.repo committed before after (kept copies) (kept left) seen (λ n other. ap (λ (ls : List Link). slice_get ls n) f.links ∙ asked_other at.repo before f.result n other) (λ x away. behind_other at.repo before copies left x away f.result f.kept_so) fit
     (Fetched at.repo at.session page upto f.result (f.call refl)) refl (λ inside right h. fetched old new at upto before after copies left waits committed page f right there (idle inside) (settled inside) (link_there old at.repo committed before (kept copies) (Joined at.session upto waits) there h))
 
 pub fetch_all : (old new : View) (at : At) (page upto : ℕ) (before after : List Link) (copies left : Contents) (waits : Waits) (committed : Ts → Bool) → Fetches true old new at page upto before after copies left → AllSeenRight new committed
     → slice_get before at.repo ≡ Some (Joined at.session upto waits) → is_reply waits ≡ false → NoneToFinish (new.opened.base at.repo) (entries (new.seen at.repo)) at.session committed → LinksFit old committed before (kept copies) → LinksFit new committed after (kept left)
-fetch_all old new at page upto before after copies left waits committed f seen there idle settled fit = fetch_inside old new at page upto before after copies left waits committed f seen there (λ inside. idle) (λ inside. settled) fit
+fetch_all old new at page upto before after copies left waits committed f seen there idle settled fit = fetch_inside old new at page upto before after copies left waits committed f seen there (λ inside. idle) (λ inside calm live. settled) fit
 
 pub grant_inside : (old new : View) (at : At) (upto : ℕ) (before after : List Link) (copies left : Contents) (waits : Waits) (committed : Ts → Bool) → Grants true old new at before after copies left → AllSeenRight new committed
     → slice_get before at.repo ≡ Some (Joined at.session upto waits) → (at.repo < new.opened.repos → is_reply waits ≡ false) → LinksFit old committed before (kept copies) → LinksFit new committed after (kept left)
@@ -260,7 +260,7 @@ module _ (old new : View) (at : At) (upto : ℕ) (waits : Waits) (links : List L
         all_inside old new at.repo committed links links copies left seen (λ n other. refl) away fit acts is
         (λ inside right h. subst (λ (o : Option Link). LinkAt new at.repo committed o left) (sym there) (keeps inside right (link_there old at.repo committed links copies (Joined at.session upto waits) there h)))
 
-    pub committed_inside : (q : Request) (place : ℕ) (d : Does {X = ℕ} old new at.repo (Ok place) (CommitWork at.session q (Ok place))) → q.upto ≡ upto → (at.repo < new.opened.repos → is_reply waits ≡ false) → (at.repo < new.opened.repos → NoneToFinish (old.opened.base at.repo) (entries d.at) at.session committed)
+    pub committed_inside : (q : Request) (place : ℕ) (d : Does {X = ℕ} old new at.repo (Ok place) (CommitWork at.session q (Ok place))) → q.upto ≡ upto → (at.repo < new.opened.repos → is_reply waits ≡ false) → (at.repo < new.opened.repos → new.unsettled at.repo ≡ Calm → lives (session (old.opened.base at.repo) (new.seen at.repo) at.session) ≡ true → NoneToFinish (old.opened.base at.repo) (entries d.at) at.session committed)
         → (FitsAt old.opened.client (old.opened.base at.repo) Calm d.at committed (record { session = at.session; upto = upto; awaits = is_reply waits; copies = copies }) → (old.opened.base at.repo).tells ≡ true → WritesOnPages (old.opened.base at.repo) d.at at.session q)
         → ((old.opened.base at.repo).tells ≡ true → SameCopies (old.opened.base at.repo) left (with_writes q copies)) → LinksFit new committed links left
     committed_inside q place d up idle settled pages become = joined_so (Committed at.repo at.session q (Ok place) d) refl (λ inside right h. link_committed old new at.repo at.session upto waits committed copies right h q place left d up (idle inside) (settled inside) pages become)

@@ -1,6 +1,6 @@
 -- In the history of a store's only repository nothing is ever prepared: all that stands there has committed.
 use Rattle.atomic_histories.specs.Several.{is_committed_part}
-use Rattle.client_laws.specs.Fitting.{Agrees}
+use Rattle.client_laws.specs.Fitting.{AgreesStanding}
 use Rattle.client_laws.specs.Seen.{IsSeenRight}
 use Rattle.client_laws.specs.Steps.{AllSeenRight}
 use Rattle.commit_log.specs.declared.entry.Entry.TheVariants.{Decided, Finished, Life, One, Prepared, Upgraded}
@@ -119,10 +119,10 @@ module _ (b : Base) (one : b.repos ≡ 1) (first : b.repo ≡ 0) where
 -- ---- a port
 
 module _ (port : View) (h : HasOneRepository port) where
-  agrees : (s : ℕ) → Agrees (port.opened.base 0) (entries (port.seen 0)) s (committed_there port)
+  agrees : (s : ℕ) → AgreesStanding (port.opened.base 0) (port.unsettled 0) (port.seen 0) s (committed_there port)
   agrees s = record {
     kept = λ t w is done. lives w.fate (all_committed (port.opened.base 0) h.counted h.numbered (entries (port.seen 0)) h.owed t w is);
-    led = λ t o is own done. ap is_committed_part is ∙ tested o.fate done;
+    led = λ calm live t o is own done. ap is_committed_part is ∙ tested o.fate done;
   }
 
   here : IsSeenRight port 0 (committed_there port)

@@ -6,7 +6,7 @@ use Rattle.client_laws.proofs.Learned.{fewer_fit}
 use Rattle.client_laws.proofs.Lending.{changes_here, exact_now, numbered_now, sound_now}
 use Rattle.client_laws.proofs.OwnVerdicts.{others_told, own_told}
 use Rattle.client_laws.proofs.Whole.{ask_all, as_it_is, at_other, committed_inside, connect_all, draw_all, fetch_inside, finish_all, forget_all, grant_inside, message_inside, none_all, refused_all}
-use Rattle.client_laws.specs.Fitting.{Copies, HoldsNone, Kept, SameCopies, with_writes}
+use Rattle.client_laws.specs.Fitting.{Copies, HoldsNone, Kept, NoneToFinish, SameCopies, with_writes}
 use Rattle.client_laws.specs.Links.{Becomes, BringsContent}
 use Rattle.client_laws.specs.Seen.{LinkAt, LinkIn}
 use Rattle.client_laws.specs.Steps.{AllSeenRight, LinksFit}
@@ -46,7 +46,7 @@ use Rattle.port.specs.Views.{Calm, Came, Halted, MayCome, Opened, View}
 use Rattle.port.specs.Works.{Answered, AskWork, CommitWork, DecideWork, Does, IsOutage, ReceiveWork, RefusedUnmarked, alone_entry}
 use Rattle.session_outbox.proofs.Taken.{after-mark}
 use Rattle.session_outbox.specs.Exact.{exact}
-use Rattle.session_outbox.specs.Notices.{notice_of}
+use Rattle.session_outbox.specs.Notices.{lives, notice_of}
 use Rattle.session_outbox.specs.Session.{Notice, Session, is_news, place_of, session, waiting as waits_for}
 use Rattle.session_outbox.specs.Trace.{E, Item, entries}
 use Rattle.session_outbox.specs.Verdict.{verdict}
@@ -346,12 +346,12 @@ module _ (old new : View) (before after : Held) (committed later : Ts → Bool) 
       writes_there : (x : Oref) → has_written s.request x ≡ true → x.repo ≡ s.at.repo
       writes_there x wrote = writes_here base d.at s.request exact_behind sound_behind x wrote ∙ numbered_now old new s.at.repo later d.called.same (right.each s.at.repo inside_now)
 
-      commits : (made : Copies) → SettledOwed old s.at.repo d.at s.at.session later → (base.tells ≡ true → SameCopies base made (with_writes s.request copies)) → ((x : Oref) → x.repo ≢ s.at.repo → made x ≡ copies x) → LinksFit new later links made
+      commits : (made : Copies) → SettledOwed new s.at.repo d.at s.at.session later → (base.tells ≡ true → SameCopies base made (with_writes s.request copies)) → ((x : Oref) → x.repo ≢ s.at.repo → made x ≡ copies x) → LinksFit new later links made
       commits made settled wrote elsewhere =
           let h : HasSession s.at (slice_get links s.at.repo) = has_session s.at (slice_get links s.at.repo) sent.session in
           let up : s.request.upto ≡ h.upto = acknowledges s of h.upto h.waits (h.is ∙ ap (λ (n : ℕ). Some (Joined n h.upto h.waits)) (sym of.session)) in
           let k : Kept = record { session = s.at.session; upto = h.upto; awaits = is_reply h.waits; copies = copies } in
-          committed_inside old new s.at h.upto h.waits links copies later right h.is fit made elsewhere s.request place d up (λ inside. quiet d.called.same idle_all s.at.repo (Joined s.at.session h.upto h.waits) inside h.is) (λ inside. settled sent.there)
+          committed_inside old new s.at h.upto h.waits links copies later right h.is fit made elsewhere s.request place d up (λ inside. quiet d.called.same idle_all s.at.repo (Joined s.at.session h.upto h.waits) inside h.is) (subst (λ (o : Opened). s.at.repo < new.opened.repos → new.unsettled s.at.repo ≡ Calm → lives (session (o.base s.at.repo) (new.seen s.at.repo) s.at.session) ≡ true → NoneToFinish (o.base s.at.repo) (entries d.at) s.at.session later) d.called.same settled)
           (λ fits tells. writes_on_pages base d.at s.request exact_behind sound_behind old.opened.client later k fits accepted.0 of.session sent.held tells) wrote
 
     leaves : (n : ℕ) → LinkAt new n later (slice_get links n) copies → AreAmong copies (kept after.cache.cache) → n < new.opened.repos → (slice_get after.links.items n ≡ slice_get links n) ⊎ HasLeft n after → LinkAt new n later (slice_get after.links.items n) (kept after.cache.cache)

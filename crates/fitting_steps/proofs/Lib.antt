@@ -7,6 +7,7 @@ pub mod OneCopies
 pub mod OneRun
 pub mod OneStep
 pub mod Paging
+pub mod Quieting
 pub mod Running
 pub mod Standing
 pub mod Trying

@@ -39,7 +39,7 @@ use Rattle.session_outbox.specs.Exact.{exact}
 use Rattle.session_outbox.specs.Trace.{Item, M, entries}
 use Rattle.session_outbox.specs.declared.mark.Mark.TheVariants as the
 use Rattle.std.proofs.Common.{rules, Bool, List, [], ap, arith, cond, drop, false, inl, inr, refl, subst, suc, sym, take, true, zero, ◌++◌, ◌<◌, ◌^◌, ◌∙◌, ◌∷◌, ◌≡◌, ◌≢◌, ℕ}
-use Rattle.std.proofs.lemmas.Bool.{cases_eq}
+use Rattle.std.proofs.lemmas.Bool.{cases_eq, eqb-true}
 use Rattle.std.proofs.lemmas.List.{append-nil}
 use Rattle.std.proofs.lemmas.Map.Views.{tells_apart}
 use Rattle.std.proofs.lemmas.Option.{same_Some}
@@ -51,6 +51,7 @@ use Rattle.thor_value.proofs.NameOrders.{oref_exact, oref_total}
 use Rattle.thor_value.specs.FiniteMap.{empty, get}
 use Rattle.thor_value.specs.Names.{same_oref}
 use Rattle.thor_value.specs.declared.names.Oref.{Oref}
+use Rattle.thor_value.specs.declared.names.Ts.{Ts}
 use Rattle.thor_value.specs.declared.values.Obj.{Obj}
 
 -- ---- what is seen
@@ -84,12 +85,8 @@ called T S = record {
   alone_others = λ e. cc;
 }
   where
-    zero_there : (n : ℕ) → nat_eq n 0 ≡ true → n ≡ 0
-    zero_there zero e = refl
-    zero_there (suc n) e = cc
-
     by : (n : ℕ) (t : Bool) → nat_eq n 0 ≡ t → n ≢ 0 → Grew only 1 Calm (cond t T []) Calm (cond t S [])
-    by n true e other = absurd (other (zero_there n e))
+    by n true e other = absurd (other (eqb-true n 0 e))
     by n false e other = still only []
 
 -- ---- the steps
@@ -127,14 +124,14 @@ module _ (first joined drawn waits taken last : Held) (h : HoldsOnTheWay first j
   draws = Unsent (Drawn there (Ok (drew.Ts (at 1))) joined.cache.cache (record { floor = 0; result = Ok (at 1); call = λ e. does; told = refl; links = h.draws.links ∙ sym h.connects.links; kept_so = λ x. refl })
       (in_session Idle no_copy joined h.connects) (h.draws.client ∙ sym h.connects.client) (none_after (Joined 1 1 Idle) drawn h.draws (kept joined.cache.cache)))
     where
-      does : Does (seeing (take 2 whole)) (seeing (take 3 whole)) 0 (Ok (at 1)) (DrawWork 1 0 (Ok (at 1)))
+      does : Does {X = Ts} (seeing (take 2 whole)) (seeing (take 3 whole)) 0 (Ok (at 1)) (DrawWork 1 0 (Ok (at 1)))
       does = record { at = take 2 whole; met = Calm; called = called (take 2 whole) (take 3 whole); answer = (refl, record { time = (1, 0, refl); below = omega arith; repo = refl; life = refl }, omega arith, (refl, refl)) }
 
   asks : Moves (seeing (take 3 whole)) (seeing (take 4 whole)) drawn waits
   asks = Unsent (Granted there drawn.cache.cache (record { result = Ok tt; call = λ e. does; links = h.asks.links ∙ ap (λ (ls : List Link). at_repo ls 0 (waiting Reply)) (sym h.draws.links); kept_so = λ x. refl })
       (in_session Idle no_copy drawn h.draws, none_awaits no_copy drawn h.draws) (h.asks.client ∙ sym h.draws.client) (none_after (Joined 1 1 Reply) waits h.asks (kept drawn.cache.cache)))
     where
-      does : Does (seeing (take 3 whole)) (seeing (take 4 whole)) 0 (Ok tt) (GrantWork 1 (Ok tt))
+      does : Does {X = Unit {0}} (seeing (take 3 whole)) (seeing (take 4 whole)) 0 (Ok tt) (GrantWork 1 (Ok tt))
       does = record { at = take 3 whole; met = Calm; called = called (take 3 whole) (take 4 whole); answer = (refl, omega arith, (refl, refl)) }
 
   takes : Moves (seeing (take 4 whole)) (seeing (take 5 whole)) waits taken
@@ -172,7 +169,7 @@ module _ (first joined drawn waits taken last : Held) (h : HoldsOnTheWay first j
   commits = Committed sending 1 does (record { session = refl; upto = λ e. sym (ap (λ (ls : List Link). upto_in (slice_get ls 0)) h.takes.links) }) (none_awaits no_copy taken h.takes)
       (h.commits.client ∙ sym h.takes.client, h.commits.links ∙ sym h.takes.links, λ x. inl (h.commits.copies_are x ∙ sym (written_seen x)))
     where
-      does : Does (seeing (take 5 whole)) (seeing (take 6 whole)) 0 (Ok 1) (CommitWork 1 made (Ok 1))
+      does : Does {X = ℕ} (seeing (take 5 whole)) (seeing (take 6 whole)) 0 (Ok 1) (CommitWork 1 made (Ok 1))
       does = record { at = take 5 whole; met = Calm; called = called (take 5 whole) (take 6 whole); answer = (refl, refl, (refl, refl)) }
 
       written_seen : (x : Oref) → seen taken.cache.cache x ≡ with_writes made no_copy x
@@ -197,11 +194,11 @@ module _ (first joined drawn waits taken last : Held) (h : HoldsOnTheWay first j
   pub run : Leads (behind 1 first) (behind 2 joined ∷ behind 3 drawn ∷ behind 4 waits ∷ behind 5 taken ∷ behind 6 last ∷ []) (behind 7 last)
   run = (
     Stepped connects tt (one_at (take 2 whole) (drop 2 whole) refl (omega arith)),
-    Stepped draws tt (one_at (take 3 whole) (drop 3 whole) refl (omega arith)),
-    Stepped asks tt (one_at (take 4 whole) (drop 4 whole) refl (omega arith)),
-    Stepped takes tt (one_at (take 5 whole) (drop 5 whole) refl (omega arith)),
-    Stepped commits (sent, tried) (one_at (take 6 whole) (drop 6 whole) refl (omega arith)),
-    Waited refl refl others (one_at (take 7 whole) (drop 7 whole) refl (omega arith)),
+    (Stepped draws tt (one_at (take 3 whole) (drop 3 whole) refl (omega arith)),
+    (Stepped asks tt (one_at (take 4 whole) (drop 4 whole) refl (omega arith)),
+    (Stepped takes tt (one_at (take 5 whole) (drop 5 whole) refl (omega arith)),
+    (Stepped commits (sent, tried) (one_at (take 6 whole) (drop 6 whole) refl (omega arith)),
+    Waited refl refl others (one_at (take 7 whole) (drop 7 whole) refl (omega arith)))))),
   )
 
   pub starts : FitsOne (behind 1 first)

@@ -22,8 +22,9 @@ use Rattle.commit_log.specs.declared.entry.Entry.{Entry}
 use Rattle.commit_log.specs.declared.request.Request.{Request}
 use Rattle.fitting_steps.proofs.Alone.{all_right, never_prepared, none_open, of_each, still_committed}
 use Rattle.fitting_steps.proofs.Calls.{asks, step_fits, then_client, then_less}
-use Rattle.fitting_steps.proofs.Losing.{moves_acts, seen_grows}
+use Rattle.fitting_steps.proofs.Losing.{seen_grows}
 use Rattle.fitting_steps.proofs.Running.{new_client}
+use Rattle.fitting_steps.specs.Acting.{acts_of}
 use Rattle.fitting_steps.specs.OneRepository.{AsksRightly, BringsWhatStood, DecidesRightly, FitsOne, HasEnded, HasOneRepository, Leads, Position, StepOwed, Stepped, Turn, Waited, committed_there}
 use Rattle.fitting_steps.specs.Owed.{ClientFits, MessageOwed, Owed, SendsOwed, SettledOwed, VerdictOwed, verdict_of}
 use Rattle.local_history.proofs.Growth.{kept_by-parts, sound-beginning}
@@ -100,16 +101,16 @@ module _ (old new : View) (same : new.opened ≡ old.opened) (one : HasOneReposi
 
     -- nothing is left to finish
     settled_now : (r s : ℕ) → SettledOwed new r (new.seen r) s later
-    settled_now r s inside = of_each new then_one (λ n. NoneToFinish (new.opened.base n) (entries (new.seen n)) s later) (λ t o is open' mine. absurd (none_open (new.opened.base 0) then_one.counted then_one.numbered (entries (new.seen 0)) then_one.owed t o is open')) r inside
+    settled_now r s inside calm live = of_each new then_one (λ n. NoneToFinish (new.opened.base n) (entries (new.seen n)) s later) (λ t o is open' mine. absurd (none_open (new.opened.base 0) then_one.counted then_one.numbered (entries (new.seen 0)) then_one.owed t o is open')) r inside
 
-    settled_at : (r s : ℕ) (T : List Item) → (r < old.opened.repos → Front T (new.seen r)) → SettledOwed old r T s later
-    settled_at r s T front inside t o is open' mine =
-        absurd (none_open (old.opened.base r) (of_each old one (λ n. (old.opened.base n).repos ≡ 1) one.counted r inside) (of_each old one (λ n. (old.opened.base n).repo ≡ 0) one.numbered r inside) (entries T) sound_there t o is open')
+    settled_at : (r s : ℕ) (T : List Item) → Front T (new.seen r) → SettledOwed new r T s later
+    settled_at r s T front inside calm live = λ t o is open' mine.
+        absurd (none_open (new.opened.base r) (of_each new then_one (λ n. (new.opened.base n).repos ≡ 1) then_one.counted r inside) (of_each new then_one (λ n. (new.opened.base n).repo ≡ 0) then_one.numbered r inside) (entries T) sound_there t o is open')
       where
-        sound_there : sound (old.opened.base r) (entries T)
+        sound_there : sound (new.opened.base r) (entries T)
         sound_there =
-            let all : sound (old.opened.base r) (entries (new.seen r)) = of_each old one (λ n. sound (old.opened.base n) (entries (new.seen n))) owed_now r inside in
-            sound-beginning (old.opened.base r) (entries T) (entries (front inside).0) (subst (sound (old.opened.base r)) (ap entries (front inside).1 ∙ entries-append T (front inside).0) all)
+            let all : sound (new.opened.base r) (entries (new.seen r)) = of_each new then_one (λ n. sound (new.opened.base n) (entries (new.seen n))) then_one.owed r inside in
+            sound-beginning (new.opened.base r) (entries T) (entries front.0) (subst (sound (new.opened.base r)) (ap entries front.1 ∙ entries-append T front.0) all)
 
     sends : (a : SendsNothing old new before after) → SendsOwed old new before after later a
     sends (Rested stays less) = tt
@@ -183,8 +184,8 @@ module _ (old new : View) (same : new.opened ≡ old.opened) (one : HasOneReposi
       step (ReceiveStopped at k d there outage stops stays fewer) o = by_owed (ReceiveStopped at k d there outage stops stays fewer) tt
       step (Prepared s place d of less) o = by_owed (Prepared s place d of less) (λ inside. absurd (unprepared s.at.repo s.at.session s.request place d inside))
       step (PrepareRefused s k d of idle learns stays) o = by_owed (PrepareRefused s k d of idle learns stays) tt
-      step (Committed s place d of idle keeps) o = by_owed (Committed s place d of idle keeps) (settled_at s.at.repo s.at.session d.at (λ inside. commit_front s.at.repo s.at.session s.request place d), o.0, o.1)
-      step (Transformed s place oref made d of writes idle keeps) o = by_owed (Transformed s place oref made d of writes idle keeps) (settled_at s.at.repo s.at.session d.at (λ inside. commit_front s.at.repo s.at.session s.request place d), o)
+      step (Committed s place d of idle keeps) o = by_owed (Committed s place d of idle keeps) (settled_at s.at.repo s.at.session d.at (commit_front s.at.repo s.at.session s.request place d), o.0, o.1)
+      step (Transformed s place oref made d of writes idle keeps) o = by_owed (Transformed s place oref made d of writes idle keeps) (settled_at s.at.repo s.at.session d.at (commit_front s.at.repo s.at.session s.request place d), o)
       step (CommitRefused s k d of idle learns stays) o = by_owed (CommitRefused s k d of idle learns stays) tt
       step (Decided at t v d idle ends) o = by_owed (Decided at t v d idle ends) (decided v.commit at t o)
       step (Aborted at t v d less) o = by_owed (Aborted at t v d less) tt
@@ -198,7 +199,7 @@ module _ (old new : View) (same : new.opened ≡ old.opened) (one : HasOneReposi
 
 turn : (a z : Position) → Turn a z → FitsOne a → FitsOne z
 turn a z (Stepped moves o one) f =
-    let acts = moves_acts a.port z.port a.held z.held moves in
+    let acts = acts_of a.port z.port a.held z.held moves in
     record { only = one; fits = step a.port z.port (opened_stays a.port z.port acts) f.only one (seen_grows a.port z.port acts 0) a.held z.held f.fits moves o }
 turn a z (Waited same opened grew one) f = record { only = one; fits = waited }
   where

@@ -53,6 +53,15 @@ from_alone b T q = by (is_upgrade q)
     by true x = x
     by false x = x
 
+-- ---- a request that is accepted comes from a live session
+
+pub accepted_lives : (b : Base) (T : List Item) (s : ℕ) (q : Request) (v : Session) → verdict_by b (entries T) s q (Some v) ≡ None → session_lives v ≡ true
+accepted_lives b T s q v accepted = by (session_lives v) accepted
+  where
+    by : (t : Bool) → cond t (first_refusal (state b (entries T)) (window b (entries T)) (stale b (entries T) s v q) (full b (window b (entries T)) q) q) (Some (refused.Reason (reasons.Gone s))) ≡ None → t ≡ true
+    by true a = refl
+    by false a = cc
+
 -- ---- names and pages
 
 some_there : {X : Type 0} (o : Option X) → is_some o ≡ true → (x : X) × (o ≡ Some x)
@@ -73,11 +82,7 @@ module _ (b : Base) (T : List Item) (q : Request) (kept_so : exact b (T ++ E (al
   writes_on_pages c committed k h accepted own held tells x wrote = is_some_and (session b T k.session) (λ v. has v.pages x.page ≡ true) h.v h.there (by (has_created q x) refl)
     where
       live : session_lives h.v ≡ true
-      live = lives_so (session_lives h.v) refl (ap (verdict_by b (entries T) k.session q) (sym h.there) ∙ accepted)
-        where
-          lives_so : (t : Bool) → session_lives h.v ≡ t → verdict_by b (entries T) k.session q (Some h.v) ≡ None → t ≡ true
-          lives_so true e a = refl
-          lives_so false e a = let f : Some (refused.Reason (reasons.Gone k.session)) ≡ None = sym (ap (λ (z : Bool). cond z (first_refusal (state b (entries T)) (window b (entries T)) (stale b (entries T) k.session h.v q) (full b (window b (entries T)) q) q) (Some (refused.Reason (reasons.Gone k.session)))) e) ∙ a in cc
+      live = accepted_lives b T k.session q h.v (ap (verdict_by b (entries T) k.session q) (sym h.there) ∙ accepted)
 
       from : ComesFromSession b T q
       from = from_alone b T q (exact-owed b T (E (alone_entry q)) kept_so)

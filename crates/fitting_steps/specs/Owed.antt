@@ -13,7 +13,9 @@ use Rattle.local_history.specs.Requests.{has_created, has_written}
 use Rattle.message_outbox.specs.declared.answers.At.{At}
 use Rattle.message_outbox.specs.declared.message.Message.TheVariants.{Grant, Invalid, Page, Upgrade}
 use Rattle.message_outbox.specs.declared.message.Message.{Message}
-use Rattle.port.specs.Views.{View}
+use Rattle.port.specs.Views.{Calm, View}
+use Rattle.session_outbox.specs.Notices.{lives}
+use Rattle.session_outbox.specs.Session.{session}
 use Rattle.session_outbox.specs.Trace.{Item, entries}
 use Rattle.std.specs.Option.{is_some}
 use Rattle.std.specs.Prelude.{Bool, List, None, Option, Some, cond, false, length, true, ℕ, ◌<◌, ◌^◌, ◌≡◌, ◌≢◌, ◌≤◌}
@@ -69,9 +71,9 @@ MessageOwed port repo (Grant page place) = Unit {0}
 MessageOwed port repo (Invalid names place) = repo < port.opened.repos → length (entries (port.seen repo)) < 2 ^ 64
 MessageOwed port repo (Upgrade number text place) = repo < port.opened.repos → length (entries (port.seen repo)) < 2 ^ 64
 
--- Where the repository is there, nothing is left to finish in the session.
+-- Where the repository is there, the session live and nothing unsettled, nothing was left to finish in the session, in the trace T.
 abbrev pub SettledOwed : View → ℕ → List Item → ℕ → (Ts → Bool) → Type 0
-SettledOwed port repo T s committed = repo < port.opened.repos → NoneToFinish (port.opened.base repo) (entries T) s committed
+SettledOwed port repo T s committed = repo < port.opened.repos → port.unsettled repo ≡ Calm → lives (session (port.opened.base repo) (port.seen repo) s) ≡ true → NoneToFinish (port.opened.base repo) (entries T) s committed
 
 -- A request that commits at one repository was sent to one that is there, in the link's session. Of what it writes and hasn't
 -- created the client holds copies.
@@ -113,8 +115,8 @@ Owed old new before after committed later (ReceiveRefused at k does there loses 
 Owed old new before after committed later (ReceiveStopped at k does there outage stops same fewer) = Unit {0}
 Owed old new before after committed later (Prepared s place does of less) = s.at.repo < new.opened.repos → later s.request.tx ≡ false
 Owed old new before after committed later (PrepareRefused s k does of idle learns same) = Unit {0}
-Owed old new before after committed later (Committed s place does of idle keeps) = SettledOwed old s.at.repo does.at s.at.session later × SentOwed old s.at s.request before × TryOwed old s.at s.request before
-Owed old new before after committed later (Transformed s place oref made does of writes idle keeps) = SettledOwed old s.at.repo does.at s.at.session later × SentOwed old s.at s.request before
+Owed old new before after committed later (Committed s place does of idle keeps) = SettledOwed new s.at.repo does.at s.at.session later × SentOwed old s.at s.request before × TryOwed old s.at s.request before
+Owed old new before after committed later (Transformed s place oref made does of writes idle keeps) = SettledOwed new s.at.repo does.at s.at.session later × SentOwed old s.at s.request before
 Owed old new before after committed later (CommitRefused s k does of idle learns same) = Unit {0}
 Owed old new before after committed later (Decided at t v does idle ends) = VerdictOwed v.commit old committed later t before
 Owed old new before after committed later (Aborted at t v does less) = Unit {0}
