@@ -8,6 +8,7 @@ pub mod OneRun
 pub mod OneStep
 pub mod Paging
 pub mod Quieting
+pub mod Rising
 pub mod Running
 pub mod Standing
 pub mod Trying

@@ -109,7 +109,7 @@ none_awaits copies held h = subst (NoneAwaits 8) (sym h.links) by
     by zero l low is = ap awaits_reply (sym (same_Some (Joined 1 1 Idle) l is))
     by (suc n) l low is = cc
 
-welcomed : Welcome
+abbrev welcomed : Welcome
 welcomed = record { session = (welcome only (take 1 whole)).session; epoch = (welcome only (take 1 whole)).epoch; threshold = (welcome only (take 1 whole)).threshold; place = (welcome only (take 1 whole)).place; upgrades = (welcome only (take 1 whole)).upgrades }
 
 module _ (first joined drawn waits taken last : Held) (h : HoldsOnTheWay first joined drawn waits taken last) where
@@ -162,7 +162,7 @@ module _ (first joined drawn waits taken last : Held) (h : HoldsOnTheWay first j
     | inr away ↦ sees_kept taken.cache.cache made 0 h.wrote x away ∙ ap (λ (o : Option Obj). option_or o (kept taken.cache.cache x)) (sym (none_away x away))
   ]
 
-  sending : Sending
+  abbrev sending : Sending
   sending = record { at = there; request = made }
 
   commits : Moves (seeing (take 5 whole)) (seeing (take 6 whole)) taken last
@@ -192,6 +192,7 @@ module _ (first joined drawn waits taken last : Held) (h : HoldsOnTheWay first j
   others = record { gap = M (the.Connected 2 2) ∷ []; gains = (Calm, ((λ e. cc), refl), tt); ends = refl }
 
   pub run : Leads (behind 1 first) (behind 2 joined ∷ behind 3 drawn ∷ behind 4 waits ∷ behind 5 taken ∷ behind 6 last ∷ []) (behind 7 last)
+  unfolding connects draws asks takes commits
   run = (
     Stepped connects tt (one_at (take 2 whole) (drop 2 whole) refl (omega arith)),
     (Stepped draws tt (one_at (take 3 whole) (drop 3 whole) refl (omega arith)),

@@ -7,7 +7,7 @@ use Rattle.port.specs.Acting as acting
 use Rattle.port.specs.Acting.{Acts}
 use Rattle.port.specs.Views.{View}
 use Rattle.std.specs.List.{slice_get}
-use Rattle.std.specs.Prelude.{Err, None, Ok, Some, refl}
+use Rattle.std.specs.Prelude.{Err, None, Ok, Some, false, refl, true}
 
 -- a call that sends nothing of a transaction
 abbrev pub sent_nothing : (old new : View) (before after : Held) → SendsNothing old new before after → Acts old new
