@@ -1,4 +1,5 @@
 pub mod Carrying
+mod Evaluating
 mod Holding
 pub mod Keeping
 pub mod Moving
@@ -6,3 +7,4 @@ pub mod Owing
 pub mod Sessions
 pub mod Sharing
 pub mod Stopping
+pub mod Writing

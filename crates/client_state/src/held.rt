@@ -62,7 +62,7 @@ impl Held {
             links,
             cache: Copies::new(alloc, pages)?,
             names: GrantedNames::new(alloc),
-            texts: KeptTexts::new(alloc),
+            texts: KeptTexts::new(),
             learnt: 0,
             floor: 0,
         })
@@ -358,6 +358,7 @@ impl Held {
     /// nothing.
     pub fn place(&mut self, repo: u8, page: u32, bytes: &Text) -> Result<(), NoMemory>
         ensures kept { OnOk result (BringsPage repo page bytes.now self.old.cache.cache self.new.cache.cache) }
+        ensures writes { WritesStay self.old.cache.cache self.new.cache.cache }
         ensures rest { self.new ≡ record self.old { cache = self.new.cache } }
     {
         self.cache.place(page, repo, bytes.as_slice())?;
@@ -391,6 +392,7 @@ impl Held {
     /// What a try has changed is given up.
     pub fn undo(&mut self)
         ensures copies { CopiesStay self.old.cache.cache self.new.cache.cache }
+        ensures none { (x : Oref) → changed self.new.cache.cache x ≡ None }
         ensures links { self.new.links ≡ self.old.links }
         ensures less { HoldsLess self.old self.new }
         ensures bounds { KeepsBounds self.old self.new }

@@ -3,6 +3,7 @@ pub mod Asking
 pub mod Begun
 pub mod Causes
 pub mod Entered
+pub mod Failing
 pub mod Falls
 pub mod Judged
 pub mod Letting

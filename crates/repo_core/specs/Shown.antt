@@ -4,7 +4,7 @@ use Rattle.disk_trait.specs.Disks.{Disks}
 use Rattle.held_state.specs.declared.held.Held.{Held}
 use Rattle.stable_store.specs.Kept.{disks_of, held_of, is_torn, is_up, pending}
 use Rattle.stable_store.specs.declared.stable.Stable.{Stable}
-use Rattle.std.specs.Prelude.{Bool, List, Option, ℕ}
+use Rattle.std.specs.Prelude.{Bool, List, Option, suc, zero, ℕ}
 use Rattle.trace_record.specs.Recorded.{Recorded}
 use Rattle.volatile_state.specs.Volatile.{Memory}
 
@@ -28,6 +28,8 @@ pub record Shown : Type 0 where
   pub pages : Option (List ℕ)
   -- the greatest number that its clock gave, 0 before the first
   pub clock : ℕ
+  -- how often each of its disks has failed, that of pages last; a count at 2 ^ 64 - 1 stands still
+  pub faults : ℕ × ℕ × ℕ
 
 -- what is shown of these parts of a repository
 abbrev pub shown : {P : Type 0} → (P → Disks) → Stable P → Memory → Recorded → ℕ → Shown
@@ -42,4 +44,15 @@ shown disks stable memory trace opened_in = record {
   logs = ((disks_of disks stable).content 0, (disks_of disks stable).content 1);
   pages = (disks_of disks stable).content 2;
   clock = (disks_of disks stable).clock;
+  faults = ((disks_of disks stable).faults 0, (disks_of disks stable).faults 1, (disks_of disks stable).faults 2);
 }
+
+-- of three counts that of the disk of this number
+abbrev pub count_at : ℕ × ℕ × ℕ → ℕ → ℕ
+count_at counts zero = counts.0
+count_at counts (suc zero) = counts.1
+count_at counts (suc (suc n)) = counts.2
+
+-- how often each disk has failed
+abbrev pub faults_of : Shown → ℕ → ℕ
+faults_of x = count_at x.faults

@@ -6,11 +6,13 @@ ghost use Rattle.repo_core.specs.Calls.{MayRequest, judged};
 ghost use Rattle.repo_core.specs.Moving.{HasRoom};
 ghost use Rattle.held_state.specs.Entering.{entered as entered_in};
 ghost use Rattle.repository_laws.specs.Coming.{Moves};
+ghost use Rattle.repo_core.specs.Shown.{faults_of};
+ghost use Rattle.stable_store.specs.Failing.{HasFailed};
 ghost use Rattle.trace_record.specs.Recorded.{with_entry};
 ghost use Rattle.volatile_state.specs.Volatile.{verdict};
 ghost use Rattle.repo_core.specs.Refusing.{CanRefuse, GoesDown, Leaves, made_of};
 ghost use Rattle.repo_core.specs.Telling.{Tells};
-ghost use Rattle.validation_window.specs.declared.refusal.Refusal.TheVariants.{Damaged as IsDamaged};
+ghost use Rattle.validation_window.specs.declared.refusal.Refusal.TheVariants.{Damaged as IsDamaged, Stopped as IsStopped};
 
 use crate::repo::Repo;
 use commit_log::{Entry, Kind, Request};
@@ -20,7 +22,7 @@ use validation_window::Refusal;
 impl<P: Parts> Repo<P> {
     /// Commits a transaction that has this one participant, and tells the other sessions. Answer and refusals
     /// are those of `prepare`.
-    #[tactic(auto, using(crate::proofs::Refused::leaves_down, crate::proofs::Refused::leaves_written, crate::proofs::Judged::accepted, crate::proofs::Causes::why_down, crate::proofs::Causes::why_fault, crate::proofs::Causes::why_marked, crate::proofs::Causes::has_fault, crate::proofs::Causes::damaged_none, crate::proofs::Causes::damaged_marked))]
+    #[tactic(auto, using(crate::proofs::Refused::leaves_down, crate::proofs::Refused::leaves_written, crate::proofs::Judged::accepted, crate::proofs::Causes::why_down, crate::proofs::Causes::why_fault, crate::proofs::Causes::why_marked, crate::proofs::Causes::has_fault, crate::proofs::Causes::damaged_none, crate::proofs::Causes::damaged_marked, crate::proofs::Failing::stopped_none, crate::proofs::Failing::stopped_marked, crate::proofs::Failing::failed_shown))]
     pub fn commit_one(&mut self, session: u32, request: Request) -> Result<u64, Refusal>
         requires { MayRequest self.old.held self.old.memory request true }
         ensures stands { Stands self.old.is_up result self.new.is_up }
@@ -31,7 +33,7 @@ impl<P: Parts> Repo<P> {
         ensures place { IfOk result (λ place. place ≡ length self.old.trace.history) }
         ensures held { OnOk result (HasMoved self.old.held (alone_entry request.kind request) self.new.held) }
         ensures room { HasRoom self.old.held request.writes → OnOk result (self.new.held ≡ entered_in self.old.held (alone_entry request.kind request)) }
-        ensures pages { HasRoom self.old.held request.writes → OnOk result (self.new.pages ≡ self.old.pages) }
+        ensures pages { HasRoom self.old.held request.writes → self.new.pages ≡ self.old.pages }
         ensures limit { OnOk result (self.new.held.objects.mob.limit ≡ self.old.held.objects.mob.limit) }
         ensures memory { OnOk result (Moves self.old.held self.old.memory (alone_entry request.kind request) self.new.memory) }
         ensures tells { OnOk result (Tells self.old.held self.old.memory.sessions (length self.old.trace.history) (alone_entry request.kind request) self.new.memory.sessions) }
@@ -39,6 +41,7 @@ impl<P: Parts> Repo<P> {
         ensures refused { IfErr result (λ r. self.new.trace ≡ with_refusal self.old.trace session (Some request) r) }
         ensures left { IfErr result (Leaves self.old self.new (made_of (judged self.old.held self.old.memory session request) (alone_entry request.kind request))) }
         ensures damaged { (n place : ℕ) → IsErrOf result (IsDamaged n place) → GoesDown self.old self.new None }
+        ensures stopped { (n : ℕ) → IsErrOf result (IsStopped n) → HasFailed (faults_of self.old) (faults_of self.new) }
         ensures clock { self.new.clock ≡ self.old.clock }
         ensures opened { self.new.opened_in ≡ self.old.opened_in }
     {

@@ -1,14 +1,16 @@
 //! A client asks for a page.
 
-ghost use Rattle.std.specs.Prelude.{◌≡◌, OnErr, OnOk, true, IfErr, None, length, IsErrOf, false};
+ghost use Rattle.std.specs.Prelude.{◌≡◌, OnErr, OnOk, true, IfErr, None, length, IsErrOf, false, ℕ};
 ghost use Rattle.live_sessions.specs.Sessions.{is_live};
 ghost use Rattle.repo_core.specs.Behind.{MovesObjects, Stands};
 ghost use Rattle.session_outbox.specs.declared.mark.Mark.TheVariants.{Fetched as Fetches};
+ghost use Rattle.repo_core.specs.Shown.{faults_of};
+ghost use Rattle.stable_store.specs.Failing.{HasFailed};
 ghost use Rattle.trace_record.specs.Recorded.{with_mark};
 ghost use Rattle.repo_core.specs.Refusing.{CanRefuse, IsGone, Leaves};
 ghost use Rattle.repo_core.specs.Telling.{SendsPage};
 ghost use Rattle.refusal_reasons.specs.declared.reason.Reason.TheVariants.{Gone as AGone};
-ghost use Rattle.validation_window.specs.declared.refusal.Refusal.TheVariants.{Reason as IsReason};
+ghost use Rattle.validation_window.specs.declared.refusal.Refusal.TheVariants.{Reason as IsReason, Stopped as IsStopped};
 
 use crate::repo::Repo;
 use disk_trait::Parts;
@@ -18,7 +20,7 @@ use validation_window::Refusal;
 impl<P: Parts> Repo<P> {
     /// Puts a page into the session's outbox, as it stands behind all entries. The messages below `upto` are
     /// acknowledged. Refusal: `Gone`.
-    #[tactic(auto, using(crate::proofs::Refused::leaves_down, crate::proofs::Refused::falls_with, crate::proofs::Refused::leaves_read, crate::proofs::Refused::moved_none, crate::proofs::Refused::lasts_same, crate::proofs::Causes::why_down, crate::proofs::Causes::why_reason, crate::proofs::Causes::why_after, crate::proofs::Causes::lacks_memory))]
+    #[tactic(auto, using(crate::proofs::Refused::leaves_down, crate::proofs::Refused::falls_with, crate::proofs::Refused::leaves_read, crate::proofs::Refused::moved_none, crate::proofs::Refused::lasts_same, crate::proofs::Causes::why_down, crate::proofs::Causes::why_reason, crate::proofs::Causes::why_after, crate::proofs::Causes::lacks_memory, crate::proofs::Failing::stopped_none, crate::proofs::Failing::stopped_gone, crate::proofs::Failing::stopped_memory, crate::proofs::Failing::failed_between))]
     pub fn fetch(&mut self, session: u32, page: u32, upto: u64) -> Result<(), Refusal>
         ensures stands { Stands self.old.is_up result self.new.is_up }
         ensures live { OnOk result (is_live self.old.memory.sessions session ≡ true) }
@@ -31,6 +33,7 @@ impl<P: Parts> Repo<P> {
         ensures gone { self.old.is_up ≡ true → is_live self.old.memory.sessions session ≡ false → IsErrOf result (IsReason (AGone session)) }
         ensures left { IfErr result (Leaves self.old self.new None) }
         ensures pages { self.new.pages ≡ self.old.pages }
+        ensures stopped { (n : ℕ) → IsErrOf result (IsStopped n) → HasFailed (faults_of self.old) (faults_of self.new) }
         ensures clock { self.new.clock ≡ self.old.clock }
         ensures opened { self.new.opened_in ≡ self.old.opened_in }
     {

@@ -1,8 +1,12 @@
 //! A page is flushed.
 
-ghost use Rattle.std.specs.Prelude.{◌≡◌, IfErr};
+ghost use Rattle.std.specs.Prelude.{◌≡◌, IfErr, IfOk, IsErrOf, ℕ};
 ghost use Rattle.repo_core.specs.Behind.{MovesObjects, Stands};
 ghost use Rattle.repo_core.specs.Refusing.{CanRefuse, HasNoReason, Rests};
+ghost use Rattle.repo_core.specs.Shown.{faults_of};
+ghost use Rattle.stable_store.specs.Failing.{HasFailed};
+ghost use Rattle.stable_store.specs.Flushes.{IsOldest, left_by};
+ghost use Rattle.validation_window.specs.declared.refusal.Refusal.TheVariants.{Stopped as IsStopped};
 
 use crate::repo::Repo;
 use disk_trait::Parts;
@@ -12,15 +16,18 @@ use validation_window::Refusal;
 impl<P: Parts> Repo<P> {
     /// Writes the page of the oldest buffered object, with all its buffered objects, to the side of it that
     /// isn't in use, and has that side in use. No object changes.
-    #[tactic(auto, using(crate::proofs::Refused::rests_down, crate::proofs::Refused::rests_so, crate::proofs::Causes::stands_refused))]
+    #[tactic(auto, using(crate::proofs::Refused::rests_down, crate::proofs::Refused::rests_so, crate::proofs::Causes::stands_refused, crate::proofs::Failing::failed_between))]
     pub fn flush(&mut self) -> Result<Flushed, Refusal>
         ensures stands { Stands self.old.is_up result self.new.is_up }
         ensures held { MovesObjects self.old.held self.new.held }
         ensures memory { self.new.memory ≡ self.old.memory }
         ensures limit { self.new.held.objects.mob.limit ≡ self.old.held.objects.mob.limit }
+        ensures buffer { IfOk result (λ f. self.new.held.objects.mob.objects ≡ left_by self.old.held.objects.mob.objects f) }
+        ensures oldest { IfOk result (IsOldest self.old.held.objects.mob.objects) }
         ensures trace { self.new.trace ≡ self.old.trace }
         ensures why { IfErr result (CanRefuse self.old HasNoReason (Unit {0})) }
         ensures rests { IfErr result (Rests self.old self.new) }
+        ensures stopped { (n : ℕ) → IsErrOf result (IsStopped n) → HasFailed (faults_of self.old) (faults_of self.new) }
         ensures clock { self.new.clock ≡ self.old.clock }
         ensures opened { self.new.opened_in ≡ self.old.opened_in }
     {

@@ -1,12 +1,12 @@
 //! A repository is opened.
 
-ghost use Rattle.std.specs.Prelude.{◌≡◌, ◌+◌, IfOk, List, true, ℕ};
+ghost use Rattle.std.specs.Prelude.{◌≡◌, ◌+◌, ◌≤◌, IfOk, List, true, ℕ};
 ghost use Rattle.commit_log.specs.declared.entry.Entry.TheVariants.{Life as ALife};
 ghost use Rattle.disk_trait.specs.AllDisks.{AllSettled};
 ghost use Rattle.held_state.specs.Keeps.{Keeps};
 ghost use Rattle.held_state.specs.Said.{said};
 ghost use Rattle.log_bytes.specs.declared.state.State.{State as AState};
-ghost use Rattle.stable_store.specs.Kept.{IsKept, held_of, is_up};
+ghost use Rattle.stable_store.specs.Kept.{IsKept, disks_of, held_of, is_up};
 ghost use Rattle.stable_store.specs.Saying.{IsSaid};
 ghost use Rattle.stable_store.specs.Taking.{AgreesWhere};
 ghost use Rattle.state_log.specs.Holds.{Holds};
@@ -35,6 +35,7 @@ impl<P: Parts> Repo<P> {
         ensures up { IfOk result (λ repo. repo.is_up ≡ true) }
         ensures trace { IfOk result (λ repo. repo.trace ≡ with_entry nothing (ALife (recovered.state.life + 1))) }
         ensures begins { IfOk result (λ repo. Begins recovered.state repo) }
+        ensures clock { IfOk result (λ repo. repo.clock ≡ (P.disks parts).clock) }
     {
         let stable = Stable::open(parts, recovered)?;
         begin(alloc, stable)
@@ -54,6 +55,7 @@ impl<P: Parts> Repo<P> {
         ensures up { IfOk result (λ repo. repo.is_up ≡ true) }
         ensures trace { IfOk result (λ repo. repo.trace ≡ with_entry nothing (ALife 1)) }
         ensures begins { IfOk result (λ x. IsNew repo repos setup.now mob x) }
+        ensures clock { IfOk result (λ x. (P.disks parts).clock ≤ x.clock) }
     {
         let stable = format(alloc, parts, repo, repos, setup, mob)?;
         begin(alloc, stable)
@@ -69,6 +71,7 @@ fn begin<P: Parts>(alloc: Global, stable: Stable<P>) -> Result<Repo<P>, OpenFaul
     ensures up { IfOk result (λ repo. repo.is_up ≡ true) }
     ensures trace { IfOk result (λ repo. repo.trace ≡ with_entry nothing (ALife ((held_of stable).life + 1))) }
     ensures begins { IfOk result (λ repo. Begins (held_of stable) repo) }
+    ensures clock { IfOk result (λ repo. repo.clock ≡ (disks_of P.disks stable).clock) }
 {
     let Some(opened_in) = stable.held().life().checked_add(1) else {
         return Err(OpenFault {

@@ -1,12 +1,14 @@
 //! A repository is restarted.
 
-ghost use Rattle.std.specs.Prelude.{◌≡◌, ◌+◌, ◌<◌, IfErr, IsErrOf, OnErr, OnOk, false, true, Some, ℕ};
+ghost use Rattle.std.specs.Prelude.{◌≡◌, ◌+◌, ◌<◌, ◌≤◌, IfErr, IsErrOf, OnErr, OnOk, false, true, Some, ℕ};
 ghost use Rattle.commit_log.specs.declared.entry.Entry.TheVariants.{Life as ALife};
 ghost use Rattle.live_sessions.specs.Sessions.{ended};
 ghost use Rattle.log_bytes.specs.Grammar.{BodyFits};
 ghost use Rattle.log_bytes.specs.declared.body.Body.TheVariants.{Entry as AnEntry};
 ghost use Rattle.repo_core.specs.Behind.{IsRecovered, IsRestarted, Stands, is_marked};
-ghost use Rattle.stable_store.specs.Kept.{IsKept, held_of, is_fault, is_up, parts_in};
+ghost use Rattle.repo_core.specs.Shown.{faults_of};
+ghost use Rattle.stable_store.specs.Failing.{HasFailed, NoFewer};
+ghost use Rattle.stable_store.specs.Kept.{IsKept, disks_of, held_of, is_fault, is_up, parts_in};
 ghost use Rattle.stable_store.specs.Saying.{IsAhead, IsSaid};
 ghost use Rattle.trace_record.specs.Recorded.{with_entry};
 ghost use Rattle.repo_core.specs.Restarting.{AllTold, ComesUp, DropsEarlier, LetsGo, StaysDown, Takes, TakesNone, life_behind};
@@ -15,7 +17,7 @@ ghost use Rattle.repo_core.specs.Refusing.{GoesDown};
 ghost use Rattle.repository_laws.specs.Running.{came_with};
 ghost use Rattle.repository_laws.specs.Coming.{BeginsLife};
 ghost use Rattle.held_state.specs.Entering.{entered};
-ghost use Rattle.validation_window.specs.declared.refusal.Refusal.TheVariants.{Damaged as IsDamaged, NoMemory as IsNoMemory};
+ghost use Rattle.validation_window.specs.declared.refusal.Refusal.TheVariants.{Damaged as IsDamaged, NoMemory as IsNoMemory, Stopped as IsStopped};
 ghost use Rattle.volatile_state.specs.Volatile.{Outlasts};
 
 use crate::repo::Repo;
@@ -45,6 +47,9 @@ impl<P: Parts> Repo<P> {
         ensures refused { OnErr result (IsRecovered self.old.trace self.new.trace) }
         ensures comes_up { OnOk result (ComesUp self.old self.new) }
         ensures stays_down { OnErr result (StaysDown self.old self.new) }
+        ensures stopped { (n : ℕ) → IsErrOf result (IsStopped n) → HasFailed (faults_of self.old) (faults_of self.new) }
+        ensures torn { self.old.is_torn ≡ true → IsErrOf result IsNoMemory × (self.new ≡ self.old) }
+        ensures clock { self.old.clock ≤ self.new.clock }
         ensures damaged { (n place : ℕ) → IsErrOf result (IsDamaged n place) → AllTold self.old → ⊥ }
         ensures opened { self.new.opened_in ≡ self.old.opened_in }
     {
@@ -61,6 +66,10 @@ impl<P: Parts> Repo<P> {
         ensures fault { IfErr result (λ r. is_fault r ≡ true) }
         ensures takes { OnOk result (Takes self.old self.new) }
         ensures none { OnErr result (TakesNone self.old self.new) }
+        ensures stopped { (n : ℕ) → IsErrOf result (IsStopped n) → HasFailed (faults_of self.old) (faults_of self.new) }
+        ensures torn { self.old.is_torn ≡ true → IsErrOf result IsNoMemory × (self.new ≡ self.old) }
+        ensures clock { self.old.clock ≤ self.new.clock }
+        ensures faults { NoFewer (faults_of self.old) (faults_of self.new) }
         ensures damaged { (n place : ℕ) → IsErrOf result (IsDamaged n place) → AllTold self.old → ⊥ }
         ensures opened { self.new.opened_in ≡ self.old.opened_in }
     {
@@ -84,6 +93,8 @@ impl<P: Parts> Repo<P> {
         ensures held { OnOk result (self.new.held ≡ entered self.old.held (life_behind self.old)) }
         ensures begins { OnOk result (BeginsLife self.old.held self.old.memory self.new.memory) }
         ensures left { OnErr result (GoesDown self.old self.new (Some (life_behind self.old))) }
+        ensures stopped { (n : ℕ) → IsErrOf result (IsStopped n) → HasFailed (faults_of self.old) (faults_of self.new) }
+        ensures clock { self.new.clock ≡ self.old.clock }
         ensures damaged { (n place : ℕ) → IsErrOf result (IsDamaged n place) → ⊥ }
         ensures opened { self.new.opened_in ≡ self.old.opened_in }
     {
@@ -111,6 +122,7 @@ impl<P: Parts> Repo<P> {
         ensures torn { self.new.is_torn ≡ self.old.is_torn }
         ensures pages { self.new.pages ≡ self.old.pages }
         ensures clock { self.new.clock ≡ self.old.clock }
+        ensures faults { self.new.faults ≡ self.old.faults }
         ensures opened { self.new.opened_in ≡ self.old.opened_in }
     {
         forget_before(&mut self.stable, self.opened_in);
@@ -143,6 +155,8 @@ fn take_pending<P: Parts>(
     ensures requested { OnOk result (memory.new.requested ≡ came_with memory.old.requested entry) }
     ensures left { OnErr result (Falls stable.old stable.new entry) }
     ensures refusal { IfErr result (λ r. r ≡ IsNoMemory) }
+    ensures clock { (disks_of P.disks stable.new).clock ≡ (disks_of P.disks stable.old).clock }
+    ensures faults { (d : ℕ) → (disks_of P.disks stable.new).faults d ≡ (disks_of P.disks stable.old).faults d }
 {
     if !stable.held().takes(&entry) {
         stable.pend(entry);

@@ -21,10 +21,12 @@ ghost use Rattle.two_phase.specs.Contents.{open_at};
 ghost use Rattle.validation_queue.specs.Contents.{cleared, with_one};
 ghost use Rattle.volatile_state.specs.Volatile.{entered as entered_memory, transaction_of, Outlasts};
 ghost use Rattle.repo_core.specs.Refusing.{GoesDown};
+ghost use Rattle.repo_core.specs.Shown.{faults_of};
 ghost use Rattle.repo_core.specs.Telling.{Tells, next_epoch};
+ghost use Rattle.stable_store.specs.Failing.{HasFailed};
 ghost use Rattle.volatile_state.specs.Telling.{CommitTold, TellsDecided};
 ghost use Rattle.repository_laws.specs.Running.{came_with};
-ghost use Rattle.validation_window.specs.declared.refusal.Refusal.TheVariants.{Damaged as IsDamaged, NoMemory as IsNoMemory};
+ghost use Rattle.validation_window.specs.declared.refusal.Refusal.TheVariants.{Damaged as IsDamaged, NoMemory as IsNoMemory, Stopped as IsStopped};
 
 use crate::looks::epoch_of;
 use crate::repo::Repo;
@@ -42,7 +44,7 @@ impl<P: Parts> Repo<P> {
     /// Writes an entry. The answer is its place.
     ///
     /// After a refusal the repository is down, and the entry is pending if the log may have it.
-    #[tactic(auto, using(crate::proofs::Falls::keeps_up, crate::proofs::Refused::falls_with, crate::proofs::Refused::falls_pending, crate::proofs::Refused::falls_behind, crate::proofs::Refused::moved_none, crate::proofs::Refused::lasts_same))]
+    #[tactic(auto, using(crate::proofs::Falls::keeps_up, crate::proofs::Refused::falls_with, crate::proofs::Refused::falls_pending, crate::proofs::Refused::falls_behind, crate::proofs::Refused::moved_none, crate::proofs::Refused::lasts_same, crate::proofs::Failing::failed_between, crate::proofs::Failing::stopped_memory))]
     pub(crate) fn write(&mut self, entry: Entry) -> Result<u64, Refusal>
         requires can { CanWrite self.old.held self.old.memory entry }
         requires up { self.old.is_up ≡ true }
@@ -61,6 +63,7 @@ impl<P: Parts> Repo<P> {
         ensures names { IfErr result (λ r. repo_named self.old.held.repo r ≡ self.old.held.repo) }
         ensures damaged { (n place : ℕ) → IsErrOf result (IsDamaged n place) → ⊥ }
         ensures pages { self.new.pages ≡ self.old.pages }
+        ensures stopped { (n : ℕ) → IsErrOf result (IsStopped n) → HasFailed (faults_of self.old) (faults_of self.new) }
         ensures clock { self.new.clock ≡ self.old.clock }
         ensures opened { self.new.opened_in ≡ self.old.opened_in }
     {
@@ -107,6 +110,7 @@ pub(crate) fn record<P: Parts>(
     ensures refusal { IfErr result (λ r. r ≡ IsNoMemory) }
     ensures pages { (disks_of P.disks stable.new).content 2 ≡ (disks_of P.disks stable.old).content 2 }
     ensures clock { (disks_of P.disks stable.new).clock ≡ (disks_of P.disks stable.old).clock }
+    ensures faults { (d : ℕ) → (disks_of P.disks stable.new).faults d ≡ (disks_of P.disks stable.old).faults d }
 {
     if told.is_err() {
         stable.pend(entry);

@@ -1,4 +1,5 @@
 pub mod Failing
+pub mod Flushes
 pub mod Forgetting
 pub mod Lowered
 pub mod Opened

@@ -17,8 +17,9 @@ use Rattle.stable_store.specs.declared.stable.Phase.{Phase}
 use Rattle.stable_store.specs.declared.stable.Stable.{Stable}
 use Rattle.state_log.specs.Holds.{Holds}
 use Rattle.state_log.specs.Recovered.{is_of}
+use Rattle.std.specs.Option.{IfSome}
 use Rattle.std.specs.Prelude.{IsTrue}
-use Rattle.std.proofs.Common.{List, None, subst, sym, true, ◌≡◌, ℕ}
+use Rattle.std.proofs.Common.{List, None, Option, Some, subst, sym, true, ◌≡◌, ℕ}
 
 -- the falls of a stop change nothing that is open
 opened_falls : (disks : Disks) (falls : List ℕ) (log : Place) (held : Held) → IsOpen disks log held → IsOpen (with_falls disks falls) log held
@@ -47,7 +48,7 @@ keeps_up disks held (Torn entry) up stood = cc
 
 -- down
 rests : (disks : Disks) (held : Held) (phase : Phase) → IsOpenIn disks held phase → IsOpenIn disks held (lowered phase)
-rests disks held (Up log) stood = record { keeps = stood.keeps; fits = tt }
+rests disks held (Up log) stood = record { keeps = stood.keeps; fits = tt; takes = tt }
 rests disks held (Down pending) stood = stood
 rests disks held (Torn entry) stood = stood
 
@@ -60,10 +61,15 @@ stands_same old new held (Up log) stood same = opened_same old new log held stoo
 stands_same old new held (Down pending) stood same = stood
 stands_same old new held (Torn entry) stood same = stood
 
+-- what can come next does so where the repository is the same
+takes_same : (held now' : Held) (pending : Option Entry) → now'.repo ≡ held.repo → IfSome pending (λ e. IsTrue (can_enter held e)) → IfSome pending (λ e. IsTrue (can_enter now' e))
+takes_same held now' None same takes = tt
+takes_same held now' (Some e) same takes = subst (λ (n : ℕ). IsTrue (is_of n e)) (sym same) takes
+
 -- what is held moved, and its pages agree as before
 pub stands_moved : (disks : Disks) (held now' : Held) (phase : Phase) → IsOpenIn disks held phase → ((disk : List ℕ) → Agrees held.objects.pages disk → Agrees now'.objects.pages disk) → now'.repo ≡ held.repo → (Keeps held → Keeps now') → IsOpenIn disks now' phase
 stands_moved disks held now' (Up log) stood pages repo keeps = opened_moved disks log held now' stood pages repo keeps
-stands_moved disks held now' (Down pending) stood pages repo keeps = record { keeps = keeps stood.keeps; fits = stood.fits }
+stands_moved disks held now' (Down pending) stood pages repo keeps = record { keeps = keeps stood.keeps; fits = stood.fits; takes = takes_same held now' pending repo stood.takes }
 stands_moved disks held now' (Torn entry) stood pages repo keeps = tt
 
 -- the log was taken out

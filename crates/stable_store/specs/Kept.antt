@@ -3,6 +3,7 @@ use Rattle.commit_log.specs.declared.entry.Entry.{Entry}
 use Rattle.disk_trait.specs.Disks.{Disks, WhereTold}
 use Rattle.disk_trait.specs.Fused.{fused_disks}
 use Rattle.disk_trait.specs.declared.fused.Fused.{Fused}
+use Rattle.held_state.specs.Entering.{can_enter}
 use Rattle.held_state.specs.Keeps.{Keeps}
 use Rattle.held_state.specs.declared.held.Held.{Held}
 use Rattle.log_bytes.specs.Grammar.{BodyFits}
@@ -15,7 +16,7 @@ use Rattle.stable_store.specs.declared.stable.Phase.{Phase}
 use Rattle.stable_store.specs.declared.stable.Stable.{Stable}
 use Rattle.state_log.specs.Holds.{Holds}
 use Rattle.std.specs.Option.{IfSome}
-use Rattle.std.specs.Prelude.{Bool, None, Option, Some, false, true, ℕ, ◌≡◌}
+use Rattle.std.specs.Prelude.{Bool, IsTrue, None, Option, Some, false, true, ℕ, ◌≡◌}
 use Rattle.validation_window.specs.declared.refusal.Refusal.TheVariants as refused
 use Rattle.validation_window.specs.declared.refusal.Refusal.{Refusal}
 
@@ -28,10 +29,11 @@ pub record IsOpen (disks : Disks) (log : Place) (held : Held) : Type 0 where
   pub pages : WhereTold disks 2 (Agrees held.objects.pages)
   pub keeps : Keeps held
 
--- what is held is that of a repository, and the pending entry has a spelling
+-- what is held is that of a repository, and the pending entry has a spelling and can come next
 pub record IsResting (held : Held) (pending : Option Entry) : Type 0 where
   pub keeps : Keeps held
   pub fits : IfSome pending (λ e. BodyFits (AnEntry e))
+  pub takes : IfSome pending (λ e. IsTrue (can_enter held e))
 
 abbrev pub IsOpenIn : Disks → Held → Phase → Type 0
 IsOpenIn disks held (Up log) = IsOpen disks log held

@@ -2,12 +2,12 @@
 
 ghost use Rattle.std.specs.Prelude.{◌≡◌, IfErr, IfOk, IsErrOf, OnErr, OnOk, Option, false, true, ℕ};
 ghost use Rattle.commit_log.specs.declared.entry.Entry.{Entry as AnyEntry};
-ghost use Rattle.disk_trait.specs.AllDisks.{GoesOn, TellsAll};
+ghost use Rattle.disk_trait.specs.AllDisks.{GoesOn, SameContent, TellsAll};
 ghost use Rattle.disk_trait.specs.Disks.{WhereTold};
 ghost use Rattle.held_state.specs.Keeps.{Keeps};
 ghost use Rattle.held_state.specs.Said.{said};
 ghost use Rattle.page_store.specs.Sides.{ReachesSides};
-ghost use Rattle.stable_store.specs.Agreeing.{IsTaken};
+ghost use Rattle.stable_store.specs.Agreeing.{CanEnter, IsTaken};
 ghost use Rattle.disk_trait.specs.Fused.{armed};
 ghost use Rattle.stable_store.specs.Failing.{HasFailed};
 ghost use Rattle.stable_store.specs.Kept.{IsKept, IsOpen, IsResting, disks_of, held_of, is_fault, is_torn, is_up, lowered, parts_in, pending};
@@ -51,6 +51,7 @@ impl<P: Parts> Stable<P> {
         ensures held { IfOk result (λ stable. held_of stable ≡ recovered.state) }
         ensures says { Holds (P.disks parts) recovered.log (said recovered.state) → IfOk result (IsSaid P.disks) }
         ensures clock { IfOk result (λ stable. (disks_of P.disks stable).clock ≡ (P.disks parts).clock) }
+        ensures content { IfOk result (λ stable. SameContent (P.disks parts) (disks_of P.disks stable)) }
     {
         let Recovered { state, log, .. } = recovered;
         match reaches(&mut parts, state.objects().pages().sides()) {
@@ -85,6 +86,7 @@ impl<P: Parts> Stable<P> {
         ensures down { OnErr result (is_up self.new ≡ false) }
         ensures fault { IfErr result (λ r. is_fault r ≡ true) }
         ensures taken { IfOk result CanTake }
+        ensures enters { IfOk result (CanEnter (held_of self.new)) }
         ensures held { OnOk result (held_of self.new ≡ record (held_of self.old) { objects = (held_of self.new).objects }) }
         ensures limit { (held_of self.new).objects.mob.limit ≡ (held_of self.old).objects.mob.limit }
         ensures pending { IfOk result (TakesFrom (pending self.old)) }
@@ -202,6 +204,7 @@ impl<P: Parts> Stable<P> {
         ensures down { OnErr result (is_up self.new ≡ false) }
         ensures fault { IfErr result (λ r. is_fault r ≡ true) }
         ensures taken { IfOk result CanTake }
+        ensures enters { IfOk result (CanEnter (held_of self.new)) }
         ensures held { OnOk result (held_of self.new ≡ record (held_of self.old) { objects = (held_of self.new).objects }) }
         ensures limit { (held_of self.new).objects.mob.limit ≡ (held_of self.old).objects.mob.limit }
         ensures pending { IfOk result (TakesFrom pending) }

@@ -2,7 +2,7 @@
 
 ghost use Rattle.std.specs.Option.{IfSome, IsNone};
 ghost use Rattle.std.specs.Prelude.{◌≡◌, ◌≤◌, IfErr, IfOk, IsErrOf, IsTrue, None, OnErr, OnOk, Some, cond, false, max, nat_eq, slice_get, true, ℕ};
-ghost use Rattle.disk_trait.specs.AllDisks.{GoesOn};
+ghost use Rattle.disk_trait.specs.AllDisks.{GoesOn, SameContent};
 ghost use Rattle.disk_trait.specs.Disks.{Disks, SameDisks};
 ghost use Rattle.disk_trait.specs.Fused.{armed, parts_of};
 ghost use Rattle.held_state.specs.Entering.{can_enter, entered};
@@ -13,7 +13,7 @@ ghost use Rattle.log_bytes.specs.declared.body.Body.TheVariants.{Entry as AnEntr
 ghost use Rattle.page_store.specs.Store.{IsDamage};
 ghost use Rattle.stable_store.specs.Kept.{GoesOnUp, IsKept, IsOpen, RestsWith, StandsAfter, disks_of, down, down_with, held_of, is_fault, is_up, lowered, parts_in, repo_named, torn};
 ghost use Rattle.stable_store.specs.Failing.{HasFailed};
-ghost use Rattle.stable_store.specs.Flushes.{IsLastFlush};
+ghost use Rattle.stable_store.specs.Flushes.{IsLastFlush, IsOldest, left_by};
 ghost use Rattle.stable_store.specs.Saying.{ImagesSay, IsAhead, IsSaid, LogSays};
 ghost use Rattle.stable_store.specs.declared.stable.Phase.TheVariants.{Torn as IsTorn, Up as IsUp};
 ghost use Rattle.thor_value.specs.FiniteMap.{get};
@@ -76,6 +76,7 @@ impl<P: Parts> Stable<P> {
         ensures held { held_of result ≡ held }
         ensures says { LogSays (P.disks parts) log (said held) → IsSaid P.disks result }
         ensures clock { (disks_of P.disks result).clock ≡ (P.disks parts).clock }
+        ensures content { SameContent (P.disks parts) (disks_of P.disks result) }
     {
         Stable {
             parts: Fused::new(parts),
@@ -160,6 +161,7 @@ impl<P: Parts> Stable<P> {
     #[tactic(auto, using(crate::proofs::Saying::said_pending))]
     pub fn pend(&mut self, entry: Entry)
         requires fits { BodyFits (AnEntry entry) }
+        requires takes { IsTrue (can_enter (held_of self.old) entry) }
         requires up { is_up self.old ≡ true }
         requires kept { IsKept P.disks self.old }
         ensures new { self.new ≡ down_with self.old (Some entry) }
@@ -337,6 +339,7 @@ impl<P: Parts> Stable<P> {
         ensures rests { is_up self.old ≡ true → OnErr result (RestsWith None self.new) }
         ensures held { held_of self.new ≡ record (held_of self.old) { objects = (held_of self.new).objects } }
         ensures limit { (held_of self.new).objects.mob.limit ≡ (held_of self.old).objects.mob.limit }
+        ensures buffer { (held_of self.new).objects.mob ≡ (held_of self.old).objects.mob }
         ensures says { IsSaid P.disks self.old → IsSaid P.disks self.new }
         ensures pages { (disks_of P.disks self.new).content 2 ≡ (disks_of P.disks self.old).content 2 }
         ensures clock { (disks_of P.disks self.new).clock ≡ (disks_of P.disks self.old).clock }
@@ -370,6 +373,9 @@ impl<P: Parts> Stable<P> {
         ensures held { held_of self.new ≡ record (held_of self.old) { objects = (held_of self.new).objects } }
         ensures limit { (held_of self.new).objects.mob.limit ≡ (held_of self.old).objects.mob.limit }
         ensures says { IsSaid P.disks self.old → IsSaid P.disks self.new }
+        ensures buffer { IfOk result (λ f. (held_of self.new).objects.mob.objects ≡ left_by (held_of self.old).objects.mob.objects f) }
+        ensures unmoved { OnErr result ((held_of self.new).objects.mob ≡ (held_of self.old).objects.mob) }
+        ensures oldest { IfOk result (IsOldest (held_of self.old).objects.mob.objects) }
         ensures clock { (disks_of P.disks self.new).clock ≡ (disks_of P.disks self.old).clock }
         ensures names { IfErr result (λ r. repo_named (held_of self.old).repo r ≡ (held_of self.old).repo) }
         ensures goes { GoesOn (disks_of P.disks self.old) (disks_of P.disks self.new) }
@@ -402,6 +408,9 @@ impl<P: Parts> Stable<P> {
         ensures fault { IfErr result (λ r. is_fault r ≡ true) }
         ensures log { LogSays (disks_of P.disks self.old) log.old (said (held_of self.old)) → OnOk result (LogSays (disks_of P.disks self.new) log.new (said (held_of self.new))) }
         ensures images { LogSays (disks_of P.disks self.old) log.old (said (held_of self.old)) → OnErr result (ImagesSay (disks_of P.disks self.new) (held_of self.new) None) }
+        ensures buffer { IfOk result (λ f. (held_of self.new).objects.mob.objects ≡ left_by (held_of self.old).objects.mob.objects f) }
+        ensures unmoved { OnErr result ((held_of self.new).objects.mob ≡ (held_of self.old).objects.mob) }
+        ensures oldest { IfOk result (IsOldest (held_of self.old).objects.mob.objects) }
         ensures clock { (disks_of P.disks self.new).clock ≡ (disks_of P.disks self.old).clock }
         ensures names { IfErr result (λ r. repo_named (held_of self.old).repo r ≡ (held_of self.old).repo) }
         ensures goes { GoesOn (disks_of P.disks self.old) (disks_of P.disks self.new) }
@@ -427,6 +436,9 @@ impl<P: Parts> Stable<P> {
         ensures fault { IfErr result (λ r. is_fault r ≡ true) }
         ensures log { LogSays (disks_of P.disks self.old) log.old (said (held_of self.old)) → OnOk result (LogSays (disks_of P.disks self.new) log.new (said (held_of self.new))) }
         ensures images { LogSays (disks_of P.disks self.old) log.old (said (held_of self.old)) → OnErr result (ImagesSay (disks_of P.disks self.new) (held_of self.new) None) }
+        ensures buffer { IfOk result (λ f. (held_of self.new).objects.mob.objects ≡ left_by (held_of self.old).objects.mob.objects f) }
+        ensures unmoved { OnErr result ((held_of self.new).objects.mob ≡ (held_of self.old).objects.mob) }
+        ensures same { IfOk result (λ f. f ≡ flushed) }
         ensures clock { (disks_of P.disks self.new).clock ≡ (disks_of P.disks self.old).clock }
         ensures names { IfErr result (λ r. repo_named (held_of self.old).repo r ≡ (held_of self.old).repo) }
         ensures goes { GoesOn (disks_of P.disks self.old) (disks_of P.disks self.new) }

@@ -1,11 +1,12 @@
+use Rattle.repo_core.proofs.Failing.{failed_between, stopped_memory}
 use Rattle.repo_core.proofs.Entered.{goes_down, on_err2}
 use Rattle.repo_core.proofs.Taking.{down_with_it, on_ok4, pending_falls, taken_from, takes_after, tells_shown}
 use Rattle.repo_core.specs.Restarting.{Takes, TakesNone}
 use Rattle.repo_core.specs.Shown.{Shown, shown}
-use Rattle.stable_store.specs.Kept.{pending}
-use Rattle.std.proofs.Common.{IsErrOf, OnOk, refl, rules, subst}
+use Rattle.stable_store.specs.Kept.{disks_of, pending}
+use Rattle.std.proofs.Common.{IsErrOf, OnOk, ap, refl, rules, subst}
 use Rattle.std.specs.Prelude.{OnErr}
-use Rattle.validation_window.specs.declared.refusal.Refusal.TheVariants.{Damaged as IsDamaged}
+use Rattle.validation_window.specs.declared.refusal.Refusal.TheVariants.{Damaged as IsDamaged, Stopped as IsStopped}
 use Rattle.repo_core.proofs.repo.Repo.take_over.Goals as goal
 
 pub returns-in-Pending-clause-takes : goal.returns-in-Pending-clause-takes
@@ -41,3 +42,13 @@ returns-in_err-restart-clause-damaged g c = λ n place is told.
     let wrong : IsErrOf c.restart.result (IsDamaged n place) = search rules in
     let tells = tells_shown g.P.Parts.disks i.stable i.memory i.trace i.opened_in c.args.self.now c.self.view_is told in
     c.restart.ensures.damaged n place wrong c.self.invariant.1 tells
+
+pub returns-in_err-restart-clause-stopped : goal.returns-in_err-restart-clause-stopped
+returns-in_err-restart-clause-stopped g c = λ n is.
+    let i = c.self.inside in
+    let wrong : IsErrOf c.restart.result (IsStopped n) = search rules in
+    failed_between (disks_of g.P.Parts.disks i.stable) (disks_of g.P.Parts.disks c.restart.new.self) c.args.self.now (shown g.P.Parts.disks c.restart.new.self i.memory i.trace i.opened_in)
+    (ap (λ (s : Shown). s.faults) c.self.view_is) refl (c.restart.ensures.stopped n wrong)
+
+pub returns-in-Pending-clause-stopped : goal.returns-in-Pending-clause-stopped
+returns-in-Pending-clause-stopped g c = λ n is. stopped_memory c.take_pending.result n _ c.take_pending.ensures.refusal is

@@ -1,3 +1,5 @@
+use Rattle.repo_core.proofs.Failing.{failed_between, stopped_memory}
+use Rattle.validation_window.specs.declared.refusal.Refusal.TheVariants.{Stopped as IsStopped}
 use Rattle.commit_log.specs.declared.entry.Entry.TheVariants.{Life, Prepared}
 use Rattle.commit_log.specs.declared.entry.Entry.{Entry}
 use Rattle.live_sessions.specs.Sessions.{ended}
@@ -5,8 +7,8 @@ use Rattle.repo_core.proofs.Entered.{goes_down, on_err1}
 use Rattle.repo_core.proofs.Moves.{told_then}
 use Rattle.repo_core.specs.Refusing.{GoesDown}
 use Rattle.repo_core.specs.Shown.{Shown, shown}
-use Rattle.stable_store.specs.Kept.{is_up}
-use Rattle.std.proofs.Common.{Ok, OnOk, Some, ap, false, subst, refl, sym, true, ◌∙◌, ◌≡◌}
+use Rattle.stable_store.specs.Kept.{disks_of, is_up}
+use Rattle.std.proofs.Common.{IsErrOf, Ok, OnOk, Some, ap, false, rules, subst, refl, sym, true, ◌∙◌, ◌≡◌}
 use Rattle.std.specs.Prelude.{OnErr}
 use Rattle.volatile_state.specs.Volatile.{Memory, entered}
 use Rattle.repo_core.proofs.repo.Repo.write.Goals as goal
@@ -40,3 +42,13 @@ returns-clause-left g c =
     subst (λ (s : Shown). OnErr c.record.result (GoesDown s y (Some c.args.entry))) c.self.view_is
     (on_err1 c.record.result _ _ c.record.ensures.left
     (λ falls. subst (λ (d : Entry). GoesDown x y (Some d)) same (goes_down s n x y e up (sym c.append.ensures.held) refl refl refl falls c.tell-told.ensures.lasts)))
+
+pub returns-in_err-entry-clause-stopped : goal.returns-in_err-entry-clause-stopped
+returns-in_err-entry-clause-stopped g c = λ n is.
+    let i = c.self.inside in
+    let wrong : IsErrOf c.append.result (IsStopped n) = search rules in
+    failed_between (disks_of g.P.Parts.disks i.stable) (disks_of g.P.Parts.disks c.append.new.self) c.args.self.now (shown g.P.Parts.disks c.append.new.self i.memory c.reserve.new.self i.opened_in)
+    (ap (λ (s : Shown). s.faults) c.self.view_is) refl (c.append.ensures.stopped n wrong)
+
+pub returns-clause-stopped : goal.returns-clause-stopped
+returns-clause-stopped g c = λ n is. stopped_memory c.record.result n _ c.record.ensures.refusal is

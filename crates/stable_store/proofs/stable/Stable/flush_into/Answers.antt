@@ -1,7 +1,9 @@
 use Rattle.disk_trait.proofs.Several.{goes_one}
 use Rattle.disk_trait.specs.Fused.{fused_disks}
 use Rattle.held_state.specs.Said.{said}
+use Rattle.mob_buffer.specs.Buffer.{Buffer}
 use Rattle.stable_store.proofs.Failing.{failed_behind}
+use Rattle.stable_store.proofs.Flushes.{left_from, oldest_is, oldest_then}
 use Rattle.stable_store.proofs.Opened.{holds_beside, opened_beside, repo_of}
 use Rattle.stable_store.proofs.Pages.{reach_written}
 use Rattle.stable_store.proofs.Saying.{images_beside, log_beside, log_same}
@@ -39,3 +41,10 @@ returns-in-Ok-clause-stopped g c = λ r wrong.
     let old = disks_of g.P.Parts.disks c.args.self.now in
     let mid = fused_disks g.P.Parts.disks c.flush_one.new.parts in
     failed_behind old.faults mid.faults (disks_of g.P.Parts.disks c.put_flushed.new.self).faults (goes_one old mid 2 c.flush_one.ensures.alone).faults (c.put_flushed.ensures.stopped r wrong)
+
+pub returns-in-Ok-clause-buffer : goal.returns-in-Ok-clause-buffer
+returns-in-Ok-clause-buffer g c = left_from c.put_flushed.result _ _ _ (ap (λ (m : Buffer). m.objects) c.flush_one.ensures.mob) c.put_flushed.ensures.buffer
+
+pub returns-in-Ok-clause-oldest : goal.returns-in-Ok-clause-oldest
+returns-in-Ok-clause-oldest g c =
+    oldest_then c.put_flushed.result c.in-Ok.flushed _ (oldest_is c.in-Ok.flushed c.args.self.now.held.objects.mob.objects c.flush_one.result c.in-Ok.is c.flush_one.ensures.nothing c.flush_one.ensures.oldest) c.put_flushed.ensures.same

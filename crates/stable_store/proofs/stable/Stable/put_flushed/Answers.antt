@@ -1,6 +1,7 @@
 use Rattle.disk_trait.specs.Fused.{fused_disks}
 use Rattle.held_state.specs.Said.{said}
 use Rattle.log_bytes.specs.declared.body.Body.TheVariants.{Installed}
+use Rattle.log_bytes.specs.declared.state.State.{State}
 use Rattle.stable_store.proofs.Opened.{opened_more, opened_moved, repo_of}
 use Rattle.stable_store.proofs.Pages.{reach_flushed, reach_open, reach_still}
 use Rattle.stable_store.proofs.Saying.{images_installing, images_of_log, log_more, log_same}
@@ -38,3 +39,6 @@ returns-in-Err-clause-images g c = λ says.
 
 pub returns-then-side-ge-SIDES-clause-images : goal.returns-then-side-ge-SIDES-clause-images
 returns-then-side-ge-SIDES-clause-images g c = λ says. images_of_log (disks_of g.P.Parts.disks c.args.self.now) c.args.log.now c.args.self.now.held c.args.self.now.held says refl (reach_open (disks_of g.P.Parts.disks c.args.self.now) c.args.log.now c.args.self.now.held c.requires.opened)
+
+pub returns-clause-buffer : goal.returns-clause-buffer
+returns-clause-buffer g c = ap (λ (s : State). s.mob) c.settle.ensures.said

@@ -1,10 +1,12 @@
 use Rattle.commit_log.specs.declared.entry.Entry.{Entry}
-use Rattle.held_state.specs.Entering.{entered}
+use Rattle.held_state.specs.Entering.{can_enter, entered}
+use Rattle.held_state.specs.declared.held.Held.{Held}
 use Rattle.stable_store.proofs.Returning.{neither_of, none_pending, returned_held, returned_pending}
 use Rattle.stable_store.specs.Agreeing.{numbers_of}
 use Rattle.stable_store.specs.declared.agreement.Agreement.TheVariants.{Neither, WithPending}
-use Rattle.std.proofs.Common.{None, Option, rules, subst, ◌≡◌}
+use Rattle.std.proofs.Common.{None, Option, rules, subst, sym, ◌≡◌}
 use Rattle.std.specs.Option.{IfSome}
+use Rattle.std.specs.Prelude.{IsTrue}
 use Rattle.stable_store.proofs.stable.Stable.take_over.Goals.{in_default-via-in-WithPending+in-None-1, in_default-via-in-Neither-1}
 use Rattle.stable_store.proofs.stable.Stable.take_over.Goals as goal
 
@@ -29,3 +31,9 @@ returns-in_default-clause-damaged g c = λ r place wrong one. elim c.in_default-
       (let found : c.compare-agrees.result ≡ Neither = search rules in
       neither_of c.args.recovered.state c.args.self.now.held c.args.pending c.requires.rests.keeps (c.compare-agrees.ensures.neither found) (c.compare-agrees.ensures.nor_pending found) one)
 ]
+
+pub returns-in-WithPending-Some-clause-enters : goal.returns-in-WithPending-Some-clause-enters
+returns-in-WithPending-Some-clause-enters g c =
+    let e = c.in-WithPending-Some.entry in
+    let takes = subst (λ (p : Option Entry). IfSome p (λ e. IsTrue (can_enter c.args.self.now.held e))) c.in-WithPending-Some.is-1 c.requires.rests.takes in
+    subst (λ (h : Held). IsTrue (can_enter h e)) (sym c.come_up-in-WithPending-Some.ensures.held) takes

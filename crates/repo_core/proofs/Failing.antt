@@ -1,0 +1,73 @@
+-- A disk failed in a call that answers Stopped.
+use Rattle.disk_trait.specs.Disks.{Disks, Rose}
+use Rattle.refusal_reasons.specs.declared.reason.Reason.TheVariants.{Gone}
+use Rattle.repo_core.proofs.Refused.{no_fault}
+use Rattle.repo_core.specs.Behind.{is_marked}
+use Rattle.repo_core.specs.Shown.{Shown, count_at, faults_of}
+use Rattle.stable_store.proofs.Failing.{failed_behind, fewer_none}
+use Rattle.stable_store.specs.Failing.{HasFailed, NoFewer}
+use Rattle.stable_store.specs.Kept.{is_fault}
+use Rattle.std.proofs.Common.{Err, Ok, Result, ap, arith, refl, subst, suc, sym, true, zero, ℕ, ◌<◌, ◌∙◌, ◌≡◌}
+use Rattle.std.specs.Prelude.{IfErr, IsErrOf, false}
+use Rattle.validation_window.specs.declared.refusal.Refusal.TheVariants as refused
+use Rattle.validation_window.specs.declared.refusal.Refusal.{Refusal}
+
+abbrev pub counts_in : Disks → ℕ × ℕ × ℕ
+counts_in disks = (disks.faults 0, disks.faults 1, disks.faults 2)
+
+three_failed : (old new : Disks) (d : ℕ) → d < 3 → Rose (old.faults d) (new.faults d) → HasFailed (count_at (counts_in old)) (count_at (counts_in new))
+three_failed old new zero within rose = record { disk = 0; within = within; rose = rose }
+three_failed old new (suc zero) within rose = record { disk = 1; within = within; rose = rose }
+three_failed old new (suc (suc zero)) within rose = record { disk = 2; within = within; rose = rose }
+three_failed old new (suc (suc (suc d))) within rose = absurd (omega (arith, within))
+
+three_fewer : (old new : Disks) → NoFewer old.faults new.faults → NoFewer (count_at (counts_in old)) (count_at (counts_in new))
+three_fewer old new rises zero = rises 0
+three_fewer old new rises (suc zero) = rises 1
+three_fewer old new rises (suc (suc d)) = rises 2
+
+-- what is shown of the counts is that of the disks
+pub failed_between : (old new : Disks) (x y : Shown) → counts_in old ≡ x.faults → counts_in new ≡ y.faults → HasFailed old.faults new.faults → HasFailed (faults_of x) (faults_of y)
+failed_between old new x y was is failed =
+    subst (λ (p : ℕ × ℕ × ℕ). HasFailed (count_at p) (count_at y.faults)) was
+    (subst (λ (p : ℕ × ℕ × ℕ). HasFailed (count_at (counts_in old)) (count_at p)) is (three_failed old new failed.disk failed.within failed.rose))
+
+pub fewer_between : (old new : Disks) (x y : Shown) → counts_in old ≡ x.faults → counts_in new ≡ y.faults → NoFewer old.faults new.faults → NoFewer (faults_of x) (faults_of y)
+fewer_between old new x y was is rises =
+    subst (λ (p : ℕ × ℕ × ℕ). NoFewer (count_at p) (count_at y.faults)) was
+    (subst (λ (p : ℕ × ℕ × ℕ). NoFewer (count_at (counts_in old)) (count_at p)) is (three_fewer old new rises))
+
+-- calls behind those in which no count fell
+pub failed_shown : (x y z : Shown) → NoFewer (faults_of x) (faults_of y) → HasFailed (faults_of y) (faults_of z) → HasFailed (faults_of x) (faults_of z)
+failed_shown x y z rises failed = failed_behind (faults_of x) (faults_of y) (faults_of z) rises failed
+
+-- the counts stay
+pub failed_same : (x y z : Shown) → y.faults ≡ x.faults → HasFailed (faults_of y) (faults_of z) → HasFailed (faults_of x) (faults_of z)
+failed_same x y z same failed = subst (λ (p : ℕ × ℕ × ℕ). HasFailed (count_at p) (faults_of z)) same failed
+
+pub fewer_same : (x y : Shown) → y.faults ≡ x.faults → NoFewer (faults_of x) (faults_of y)
+fewer_same x y same = subst (λ (p : ℕ × ℕ × ℕ). NoFewer (faults_of x) (count_at p)) (sym same) (fewer_none (faults_of x) (faults_of x) (λ d. refl))
+
+-- ---- a call that is refused so didn't answer Stopped
+
+pub stopped_none : (r : Refusal) (n k : ℕ) (G : Type 0) → r ≡ refused.Down k → r ≡ refused.Stopped n → G
+stopped_none r n k G is stopped = absurd (never (sym stopped ∙ is))
+  where
+    never : refused.Stopped n ≡ refused.Down k → ⊥
+    never e = no_fault true (ap is_fault e) refl
+
+pub stopped_gone : (r : Refusal) (n s : ℕ) (G : Type 0) → r ≡ refused.Reason (Gone s) → r ≡ refused.Stopped n → G
+stopped_gone r n s G is stopped = absurd (never (sym stopped ∙ is))
+  where
+    never : refused.Stopped n ≡ refused.Reason (Gone s) → ⊥
+    never e = no_fault true (ap is_fault e) refl
+
+pub stopped_marked : (r s : Refusal) (n : ℕ) (G : Type 0) → is_marked s ≡ true → (is_marked r ≡ true → r ≡ s) → (is_marked r ≡ false → r ≡ refused.NoMemory) → r ≡ refused.Stopped n → G
+stopped_marked r s n G marked same other is = absurd (never (sym is ∙ other (ap is_marked is)))
+  where
+    never : refused.Stopped n ≡ refused.NoMemory → ⊥
+    never e = cc
+
+pub stopped_memory : {T : Type 0} (result : Result T Refusal) (n : ℕ) (G : Type 0) → IfErr result (λ r. r ≡ refused.NoMemory) → IsErrOf result (refused.Stopped n) → G
+stopped_memory (Ok t) n G lacks is = absurd (cc)
+stopped_memory (Err r) n G lacks is = absurd (cc)
