@@ -18,6 +18,7 @@ pub mod Passing
 mod Places
 pub mod Quiet
 mod Reasons
+pub mod Reasons
 pub mod Resting
 pub mod Sending
 pub mod Showing

@@ -7,18 +7,18 @@ use Rattle.commit_log.specs.declared.entry.Entry.TheVariants.{Decided, Finished,
 use Rattle.commit_log.specs.declared.entry.Entry.{Entry}
 use Rattle.commit_log.specs.declared.request.Request.{Request}
 use Rattle.fitting_steps.specs.OneRepository.{HasOneRepository, committed_there}
-use Rattle.local_history.proofs.Growth.{by_growth, owed-end, sound-beginning, state-end}
+use Rattle.local_history.proofs.Growth.{by_growth, state-end}
 use Rattle.local_history.proofs.LastWrite.{commit_here}
 use Rattle.local_history.proofs.Places.{came_end, placed, stays}
 use Rattle.local_history.proofs.Steps.{FateMoves}
 use Rattle.local_history.specs.Checking.{is_committed}
 use Rattle.local_history.specs.History.{Aborted, Base, Committed, Fate, IsCommitted, Known, Lives, Open, State, commit_of, known_by, known_in, state}
-use Rattle.local_history.specs.Laws.{Asks, FateStays, Stays}
+use Rattle.local_history.specs.Laws.{Asks, FateStays}
 use Rattle.local_history.specs.Participants.{HasParticipants}
 use Rattle.local_history.specs.Sound.{owes, sound}
 use Rattle.port.specs.Views.{View}
 use Rattle.session_outbox.specs.Trace.{entries}
-use Rattle.std.proofs.Common.{Bool, List, [], ap, arith, false, inl, inr, refl, subst, sym, true, ◌++◌, ◌∙◌, ◌∷◌, ◌≡◌, ◌≢◌, ℕ}
+use Rattle.std.proofs.Common.{List, [], ap, arith, inl, inr, refl, subst, sym, true, ◌++◌, ◌∙◌, ◌∷◌, ◌≡◌, ◌≢◌, ℕ}
 use Rattle.std.proofs.lemmas.Option.{same_Some}
 use Rattle.std.specs.List.{AllByRecursion}
 use Rattle.std.specs.Prelude.{None, Option, Some, length, ◌<◌}

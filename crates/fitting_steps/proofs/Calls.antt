@@ -24,9 +24,10 @@ use Rattle.client_state.specs.declared.link.Waits.{Waits}
 use Rattle.client_state.specs.declared.requests.Sending.{Sending}
 use Rattle.commit_log.specs.declared.entry.Entry.{Entry}
 use Rattle.fitting_steps.proofs.Changes.{HasSession, changes_one, fewer_all, has_session, learn_all, lose_all, same_awaits, same_links}
-use Rattle.client_state.specs.Moving.{Aborted, Asked, AskedInVain, AskedOwn, CommitRefused, Committed, Connected, CopiesTaken, Decided, DecideRefused, Drawn, EndsSo, Fetched, Finished, Forgot, Granted, HasLeft, IsApart, Moves, PrepareRefused, Prepared, ReceiveRefused, ReceiveStopped, Received, ReceivedNone, Rested, SendsNothing, Settled, StopsWaiting, Transformed, Unsent}
+use Rattle.client_state.specs.Moving.{Aborted, Asked, AskedInVain, AskedOwn, CommitRefused, Committed, Connected, CopiesTaken, Decided, DecideRefused, Drawn, EndsSo, Fetched, Finished, Forgot, Granted, HasLeft, InSession, IsApart, Moves, PrepareRefused, Prepared, ReceiveRefused, ReceiveStopped, Received, ReceivedNone, Rested, SendsNothing, Settled, StopsWaiting, Transformed, Unsent}
 use Rattle.fitting_steps.proofs.Granting.{news_below}
 use Rattle.fitting_steps.proofs.Paging.{made_elsewhere, made_written, writes_here, writes_on_pages}
+use Rattle.fitting_steps.proofs.Trying.{sees_kept, sees_written}
 use Rattle.fitting_steps.specs.Owed.{ClientFits, MessageOwed, Owed, SendsOwed, SentOwed, SettledOwed, VerdictOwed, if_commit, verdict_of, with_made}
 use Rattle.local_history.proofs.Listed.{some_and}
 use Rattle.local_history.specs.History.{Base}
@@ -319,7 +320,7 @@ module _ (old new : View) (before after : Held) (committed later : Ts → Bool) 
     acknowledges : (s : Sending) → IsOfSession links s → (upto : ℕ) (waits : Waits) → slice_get links s.at.repo ≡ Some (Joined s.request.session upto waits) → s.request.upto ≡ upto
     acknowledges s of upto waits is = of.upto (ap (is_session_of s.at.session) is ∙ same_test s.request.session s.at.session of.session) ∙ ap upto_in is
 
-    module _ (s : Sending) (place : ℕ) (d : Does {X = ℕ} old new s.at.repo (Ok place) (CommitWork s.at.session s.request (Ok place))) (of : IsOfSession links s) (idle_all : NoneAwaits 8 links) (sent : SentOwed old s.at s.request before) where
+    module _ (s : Sending) (place : ℕ) (d : Does {X = ℕ} old new s.at.repo (Ok place) (CommitWork s.at.session s.request (Ok place))) (of : IsOfSession links s) (its : InSession s.at before) (idle_all : NoneAwaits 8 links) (sent : SentOwed old s.at s.request before) where
       abbrev base : Base
       base = old.opened.base s.at.repo
 
@@ -343,12 +344,15 @@ module _ (old new : View) (before after : Held) (committed later : Ts → Bool) 
       sound_behind : sound base (entries (d.at ++ E (alone_entry s.request) ∷ []))
       sound_behind = subst (λ (T : List Item). sound base (entries T)) accepted.1 (sound_now old new s.at.repo later d.called.same (right.each s.at.repo inside_now))
 
+      number : base.repo ≡ s.at.repo
+      number = numbered_now old new s.at.repo later d.called.same (right.each s.at.repo inside_now)
+
       writes_there : (x : Oref) → has_written s.request x ≡ true → x.repo ≡ s.at.repo
-      writes_there x wrote = writes_here base d.at s.request exact_behind sound_behind x wrote ∙ numbered_now old new s.at.repo later d.called.same (right.each s.at.repo inside_now)
+      writes_there x wrote = writes_here base d.at s.request exact_behind sound_behind x wrote ∙ number
 
       commits : (made : Copies) → SettledOwed new s.at.repo d.at s.at.session later → (base.tells ≡ true → SameCopies base made (with_writes s.request copies)) → ((x : Oref) → x.repo ≢ s.at.repo → made x ≡ copies x) → LinksFit new later links made
       commits made settled wrote elsewhere =
-          let h : HasSession s.at (slice_get links s.at.repo) = has_session s.at (slice_get links s.at.repo) sent.session in
+          let h : HasSession s.at (slice_get links s.at.repo) = has_session s.at (slice_get links s.at.repo) its in
           let up : s.request.upto ≡ h.upto = acknowledges s of h.upto h.waits (h.is ∙ ap (λ (n : ℕ). Some (Joined n h.upto h.waits)) (sym of.session)) in
           let k : Kept = record { session = s.at.session; upto = h.upto; awaits = is_reply h.waits; copies = copies } in
           committed_inside old new s.at h.upto h.waits links copies later right h.is fit made elsewhere s.request place d up (λ inside. quiet d.called.same idle_all s.at.repo (Joined s.at.session h.upto h.waits) inside h.is) (subst (λ (o : Opened). s.at.repo < new.opened.repos → new.unsettled s.at.repo ≡ Calm → lives (session (o.base s.at.repo) (new.seen s.at.repo) s.at.session) ≡ true → NoneToFinish (o.base s.at.repo) (entries d.at) s.at.session later) d.called.same settled)
@@ -418,11 +422,12 @@ module _ (old new : View) (before after : Held) (committed later : Ts → Bool) 
       then_client same d.called.same (then_fewer (kept learns.left) learns.fewer (same_links new later (links_learnt k s.at.repo links) after.links.items (kept learns.left) learns.links
       (learn_all new later s.at.repo links before.cache.cache learns.left numbered (prepared_in_any old new s.at.repo links copies later right (fit_later told) s.at.session s.request (Err k) d (acknowledges (fit_later told) s of) (λ p is inside. cc)) k
       (λ link within is. quiet d.called.same idle s.at.repo link within is) learns.kept_so)))
-  step (Committed s place d of idle keeps) owed told =
-      then_client keeps.0 d.called.same (then_less (seen before.cache.cache) keeps.1 keeps.2 (commits (fit_later told) s place d of idle owed.1 (seen before.cache.cache) owed.0 owed.2.wrote owed.2.elsewhere))
-  step (Transformed s place oref made d of writes idle keeps) owed told =
-      then_client keeps.0 d.called.same (then_less (with_made oref made before) keeps.1 keeps.2 (commits (fit_later told) s place d of idle owed.1 (with_made oref made before) owed.0
-      (λ tells x here. made_written s.request oref made writes copies x) (made_elsewhere s.request oref made writes s.at.repo (writes_there (fit_later told) s place d of idle owed.1) copies)))
+  step (Committed s place d of wrote idle keeps) owed told =
+      then_client keeps.0 d.called.same (then_less (seen before.cache.cache) keeps.1 keeps.2 (commits (fit_later told) s place d of owed.1 idle owed.2 (seen before.cache.cache) owed.0
+      (λ tells x here. sees_written before.cache.cache s.request s.at.repo wrote x (here ∙ number (fit_later told) s place d of owed.1 idle owed.2)) (λ x away. sees_kept before.cache.cache s.request s.at.repo wrote x away)))
+  step (Transformed s place oref made d of session writes idle keeps) owed told =
+      then_client keeps.0 d.called.same (then_less (with_made oref made before) keeps.1 keeps.2 (commits (fit_later told) s place d of session idle owed.1 (with_made oref made before) owed.0
+      (λ tells x here. made_written s.request oref made writes copies x) (made_elsewhere s.request oref made writes s.at.repo (writes_there (fit_later told) s place d of session idle owed.1) copies)))
   step (CommitRefused s k d of idle learns same) owed told =
       then_client same d.called.same (then_fewer (kept learns.left) learns.fewer (same_links new later (links_learnt k s.at.repo links) after.links.items (kept learns.left) learns.links
       (learn_all new later s.at.repo links before.cache.cache learns.left numbered (uncommitted_in_any old new s.at.repo links copies later right (fit_later told) s.at.session s.request k d) k

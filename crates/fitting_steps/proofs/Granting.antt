@@ -10,7 +10,7 @@ use Rattle.session_outbox.proofs.Told.{went}
 use Rattle.session_outbox.proofs.Traces.{entries-append}
 use Rattle.session_outbox.specs.Calls.{grants, last_session, next_page, was_granted}
 use Rattle.session_outbox.specs.Exact.{ItemIsExact, exact, most_pages}
-use Rattle.session_outbox.specs.Session.{Grant, Invalid, Notice, Page, Session, Upgrade, cache, invalid_of, is_news, is_silent, move, moved, notice, or_retired, pages_after, place_of, push, rested, retired, session, session_lives, told, told_of}
+use Rattle.session_outbox.specs.Session.{Grant, Invalid, Notice, Page, Session, Upgrade, cache, invalid_of, is_news, is_silent, move, moved, notice, or_retired, pages_after, place_of, push, rested, retired, session, session_lives, told_of}
 use Rattle.session_outbox.specs.Trace.{E, Item, M, entries}
 use Rattle.session_outbox.specs.declared.mark.Mark.TheVariants as the
 use Rattle.std.proofs.Common.{Bool, List, [], ap, arith, cond, false, inl, inr, refl, subst, sym, true, ◌+◌, ◌++◌, ◌∙◌, ◌∷◌, ◌≡◌, ◌≤◌, ℕ}
@@ -21,7 +21,7 @@ use Rattle.std.proofs.lemmas.Option.{same_Some}
 use Rattle.std.specs.Cmp.{nat_cmp_total}
 use Rattle.std.specs.List.{filter, list_any, slice_get}
 use Rattle.std.specs.Option.{is_some}
-use Rattle.std.specs.Ordering.{eq_by_cmp, is_eq, nat_cmp}
+use Rattle.std.specs.Ordering.{is_eq, nat_cmp}
 use Rattle.std.specs.Prelude.{None, Option, Some, length, nat_eq, ◌&&◌, ◌<◌, ◌||◌, ◌⊎◌}
 use Rattle.thor_value.proofs.FiniteMap.{get-insert}
 use Rattle.thor_value.specs.FiniteMap.{Map, get, has, insert, keys}

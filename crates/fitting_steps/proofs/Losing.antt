@@ -3,7 +3,7 @@ use Rattle.client_laws.proofs.Leaving.{acts, behind_call}
 use Rattle.client_laws.proofs.Lending.{Front, changes_here, none_more}
 use Rattle.client_laws.proofs.Stepping.{opened_stays}
 use Rattle.client_laws.proofs.Whole.{at_other}
-use Rattle.client_state.specs.Calling.{is_session_of, links_asked, links_drawn, links_joined, links_refused, upto_in}
+use Rattle.client_state.specs.Calling.{is_session_of, links_asked, links_drawn, links_joined, links_refused}
 use Rattle.client_state.specs.Learning.{is_session, links_learnt, without_session}
 use Rattle.client_state.specs.Links.{acknowledged, answered, at_repo, changed_at, session_in, stopped, waiting}
 use Rattle.client_state.specs.Moving.{Aborted, Asked, AskedInVain, AskedOwn, CommitRefused, Committed, Connected, Decided, DecideRefused, Drawn, EndsSo, Fetched, Finished, Forgot, Granted, LeavesSome, Learns, Loses, Moves, PrepareRefused, Prepared, ReceiveRefused, ReceiveStopped, Received, ReceivedNone, Rested, SendsNothing, Settled, StopsWaiting, Transformed, Unsent}
@@ -29,12 +29,11 @@ use Rattle.refusal_reasons.specs.declared.reason.Reason.TheVariants as reasons
 use Rattle.session_outbox.proofs.Exactness.{sessions-rise}
 use Rattle.session_outbox.specs.Calls.{last_session}
 use Rattle.session_outbox.specs.Trace.{Item}
-use Rattle.std.proofs.Common.{Bool, List, [], ap, append_assoc, arith, cond, false, inl, inr, refl, subst, sym, true, ◌++◌, ◌∙◌, ◌∷◌, ◌≡◌, ◌≢◌, ◌≤◌, ℕ}
-use Rattle.std.proofs.lemmas.Bool.Decides.{nat_tests}
+use Rattle.std.proofs.Common.{Bool, List, [], ap, append_assoc, arith, cond, false, inl, inr, refl, subst, sym, true, ◌++◌, ◌∙◌, ◌∷◌, ◌≡◌, ◌≤◌, ℕ}
 use Rattle.std.proofs.lemmas.Bool.{cases_eq, eqb-true}
 use Rattle.std.specs.List.{slice_get}
 use Rattle.std.specs.Option.{option_map}
-use Rattle.std.specs.Prelude.{Err, None, Ok, Option, Result, Some, nat_eq, ◌<◌, ◌⊎◌}
+use Rattle.std.specs.Prelude.{Err, None, Ok, Option, Result, Some, nat_eq, ◌<◌}
 use Rattle.thor_value.specs.declared.names.Ts.{Ts}
 use Rattle.validation_window.specs.declared.refusal.Refusal.TheVariants as refused
 use Rattle.validation_window.specs.declared.refusal.Refusal.{Refusal}
@@ -240,8 +239,8 @@ module _ (s : ℕ) where
     steps (ReceiveStopped at k d there outage stop stays fewer) = stops at.repo stop
     steps (Prepared x place d of less) = same less.1
     steps (PrepareRefused x k d of idle learns stays) = so (links_learnt k x.at.repo links) learns.links (λ h. learnt_keeps links x.at.repo r h k)
-    steps (Committed x place d of idle keeps) = same keeps.1
-    steps (Transformed x place oref made d of writes idle keeps) = same keeps.1
+    steps (Committed x place d of wrote idle keeps) = same keeps.1
+    steps (Transformed x place oref made d of session writes idle keeps) = same keeps.1
     steps (CommitRefused x k d of idle learns stays) = so (links_learnt k x.at.repo links) learns.links (λ h. learnt_keeps links x.at.repo r h k)
     steps (Decided at t v d idle e) = ends v.commit e
     steps (Aborted at t v d less) = same less.1

@@ -1,6 +1,6 @@
 -- What the copies of a client are that fits a store's only repository.
 use Rattle.client_cache.specs.Copies.{kept}
-use Rattle.client_laws.specs.Fitting.{CopiesFit, FitsAt, KeepsUp, Kept}
+use Rattle.client_laws.specs.Fitting.{FitsAt, KeepsUp, Kept}
 use Rattle.client_laws.specs.Seen.{LinkAt}
 use Rattle.client_state.specs.Links.{is_reply}
 use Rattle.client_state.specs.declared.link.Link.TheVariants.{Joined}
@@ -9,11 +9,11 @@ use Rattle.client_state.specs.declared.link.Waits.{Waits}
 use Rattle.fitting_steps.proofs.Alone.{none_open}
 use Rattle.fitting_steps.specs.OneRepository.{FitsOne, IsRightOrTold, Position, committed_there}
 use Rattle.local_history.proofs.Listed.{is_some_and}
-use Rattle.local_history.specs.History.{Base, state}
+use Rattle.local_history.specs.History.{Base}
 use Rattle.port.specs.Views.{Calm}
 use Rattle.session_outbox.proofs.Copies.{current-cases}
 use Rattle.session_outbox.specs.Notices.{lives}
-use Rattle.session_outbox.specs.Session.{Session, invalid, session, session_lives, upto_of}
+use Rattle.session_outbox.specs.Session.{invalid, session, session_lives}
 use Rattle.session_outbox.specs.Trace.{Item, entries}
 use Rattle.std.proofs.Common.{List, ap, arith, inl, inr, subst, sym, true, ◌∙◌, ◌≡◌, ℕ}
 use Rattle.std.specs.List.{slice_get}

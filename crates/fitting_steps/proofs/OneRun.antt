@@ -1,5 +1,5 @@
 -- The small run over a store's only repository is one: each step is a client's, and meets what is asked of it.
-use Rattle.client_cache.specs.Copies.{Contents, changed, kept, seen}
+use Rattle.client_cache.specs.Copies.{kept, seen}
 use Rattle.client_laws.specs.Examples.{no_copy}
 use Rattle.client_laws.specs.Fitting.{with_writes}
 use Rattle.client_state.specs.Calling.{links_joined, upto_in}
@@ -15,13 +15,13 @@ use Rattle.client_state.specs.declared.link.Waits.{Waits}
 use Rattle.client_state.specs.declared.requests.Sending.{Sending}
 use Rattle.fitting_steps.proofs.Trying.{sees_kept, sees_written}
 use Rattle.fitting_steps.proofs.OneStep.{begins}
-use Rattle.fitting_steps.specs.Owed.{SentOwed, TryOwed}
+use Rattle.fitting_steps.specs.Owed.{SentOwed}
 use Rattle.fitting_steps.specs.OneExample.{HoldsOnTheWay, HoldsThis, behind, made, seeing, whole}
-use Rattle.fitting_steps.specs.OneRepository.{FitsOne, HasOneRepository, Leads, Position, Stepped, Turn, Waited}
+use Rattle.fitting_steps.specs.OneRepository.{FitsOne, HasOneRepository, Leads, Stepped, Waited}
 use Rattle.local_history.proofs.Decided.{decides_sound}
 use Rattle.local_history.proofs.Growth.{sound-beginning}
 use Rattle.local_history.specs.Examples.{at, box, only, z}
-use Rattle.local_history.specs.History.{Base, state}
+use Rattle.local_history.specs.History.{Base}
 use Rattle.local_history.specs.Requests.{has_created, has_written, written}
 use Rattle.local_history.specs.Sound.{sound}
 use Rattle.message_outbox.specs.declared.answers.At.{At}
@@ -30,7 +30,7 @@ use Rattle.message_outbox.specs.declared.message.Message.TheVariants as messages
 use Rattle.message_outbox.specs.declared.message.Message.{Message}
 use Rattle.paused_eval.specs.Copies.{AreAmong}
 use Rattle.port.specs.Growing.{Called, Grew}
-use Rattle.port.specs.Views.{Calm, View}
+use Rattle.port.specs.Views.{Calm}
 use Rattle.port.specs.Works.{CommitWork, ConnectWork, Does, DrawWork, GrantWork, ReceiveWork}
 use Rattle.session_outbox.proofs.Exactness.{exact-beginning}
 use Rattle.session_outbox.proofs.Traces.{entries-append}
@@ -166,7 +166,7 @@ module _ (first joined drawn waits taken last : Held) (h : HoldsOnTheWay first j
   sending = record { at = there; request = made }
 
   commits : Moves (seeing (take 5 whole)) (seeing (take 6 whole)) taken last
-  commits = Committed sending 1 does (record { session = refl; upto = λ e. sym (ap (λ (ls : List Link). upto_in (slice_get ls 0)) h.takes.links) }) (none_awaits no_copy taken h.takes)
+  commits = Committed sending 1 does (record { session = refl; upto = λ e. sym (ap (λ (ls : List Link). upto_in (slice_get ls 0)) h.takes.links) }) h.wrote (none_awaits no_copy taken h.takes)
       (h.commits.client ∙ sym h.takes.client, h.commits.links ∙ sym h.takes.links, λ x. inl (h.commits.copies_are x ∙ sym (written_seen x)))
     where
       does : Does {X = ℕ} (seeing (take 5 whole)) (seeing (take 6 whole)) 0 (Ok 1) (CommitWork 1 made (Ok 1))
@@ -176,7 +176,7 @@ module _ (first joined drawn waits taken last : Held) (h : HoldsOnTheWay first j
       written_seen x = seen_written x ∙ ap (λ (o : Option Obj). option_or (get (written made) x) o) (h.takes.copies_are x)
 
   sent : SentOwed (seeing (take 5 whole)) there made taken
-  sent = record { there = omega arith; session = in_session Idle no_copy taken h.takes; held = held }
+  sent = record { there = omega arith; held = held }
     where
       held : (x : Oref) → has_written made x ≡ true → has_created made x ≡ false → is_some (kept taken.cache.cache x) ≡ true
       held x wrote new = by (same_oref x z) refl
@@ -185,9 +185,6 @@ module _ (first joined drawn waits taken last : Held) (h : HoldsOnTheWay first j
           by true e = let f : false ≡ true = sym new ∙ ap (λ (t : Bool). t || false) e in cc
           by false e = let f : false ≡ true = ap is_some (sym (at_z x ∙ ap (λ (t : Bool). cond t (Some (box 7)) None) e)) ∙ wrote in cc
 
-  tried : TryOwed (seeing (take 5 whole)) there made taken
-  tried = record { wrote = λ tells x here. sees_written taken.cache.cache made 0 h.wrote x here; elsewhere = λ x away. sees_kept taken.cache.cache made 0 h.wrote x away }
-
   others : Grew only 1 Calm (take 6 whole) Calm (take 7 whole)
   others = record { gap = M (the.Connected 2 2) ∷ []; gains = (Calm, ((λ e. cc), refl), tt); ends = refl }
 
@@ -195,11 +192,19 @@ module _ (first joined drawn waits taken last : Held) (h : HoldsOnTheWay first j
   unfolding connects draws asks takes commits
   run = (
     Stepped connects tt (one_at (take 2 whole) (drop 2 whole) refl (omega arith)),
-    (Stepped draws tt (one_at (take 3 whole) (drop 3 whole) refl (omega arith)),
-    (Stepped asks tt (one_at (take 4 whole) (drop 4 whole) refl (omega arith)),
-    (Stepped takes tt (one_at (take 5 whole) (drop 5 whole) refl (omega arith)),
-    (Stepped commits (sent, tried) (one_at (take 6 whole) (drop 6 whole) refl (omega arith)),
-    Waited refl refl others (one_at (take 7 whole) (drop 7 whole) refl (omega arith)))))),
+    (
+      Stepped draws tt (one_at (take 3 whole) (drop 3 whole) refl (omega arith)),
+      (
+        Stepped asks tt (one_at (take 4 whole) (drop 4 whole) refl (omega arith)),
+        (
+          Stepped takes tt (one_at (take 5 whole) (drop 5 whole) refl (omega arith)),
+          (
+            Stepped commits (in_session Idle no_copy taken h.takes, sent) (one_at (take 6 whole) (drop 6 whole) refl (omega arith)),
+            Waited refl refl others (one_at (take 7 whole) (drop 7 whole) refl (omega arith)),
+          ),
+        ),
+      ),
+    ),
   )
 
   pub starts : FitsOne (behind 1 first)

@@ -7,7 +7,7 @@ use Rattle.client_laws.proofs.OwnVerdicts.{others_told}
 use Rattle.client_laws.proofs.Showing.{in_front}
 use Rattle.client_laws.proofs.Stepping.{opened_stays, waiting_fits}
 use Rattle.client_laws.proofs.Whole.{ask_all}
-use Rattle.client_laws.specs.Fitting.{Copies, NoneToFinish}
+use Rattle.client_laws.specs.Fitting.{NoneToFinish}
 use Rattle.client_laws.specs.Seen.{LinkAt}
 use Rattle.client_laws.specs.Steps.{AllSeenRight, LinksFit}
 use Rattle.client_laws.specs.Verdicts.{OutcomesTold}
@@ -15,8 +15,6 @@ use Rattle.client_state.specs.Moving.{Aborted, Asked, AskedInVain, AskedOwn, Com
 use Rattle.client_state.specs.declared.held.Held.{Held}
 use Rattle.client_state.specs.declared.link.Link.TheVariants as links
 use Rattle.client_state.specs.declared.link.Link.{Link}
-use Rattle.client_state.specs.declared.link.Waits.{Waits}
-use Rattle.client_state.specs.declared.requests.Sending.{Sending}
 use Rattle.commit_log.specs.declared.entry.Entry.TheVariants as entry
 use Rattle.commit_log.specs.declared.entry.Entry.{Entry}
 use Rattle.commit_log.specs.declared.request.Request.{Request}
@@ -28,7 +26,7 @@ use Rattle.fitting_steps.specs.Acting.{acts_of}
 use Rattle.fitting_steps.specs.OneRepository.{AsksRightly, BringsWhatStood, DecidesRightly, FitsOne, HasEnded, HasOneRepository, Leads, Position, StepOwed, Stepped, Turn, Waited, committed_there}
 use Rattle.fitting_steps.specs.Owed.{ClientFits, MessageOwed, Owed, SendsOwed, SettledOwed, VerdictOwed, verdict_of}
 use Rattle.local_history.proofs.Growth.{kept_by-parts, sound-beginning}
-use Rattle.local_history.specs.History.{Base, Known, Open, known_by, start, state}
+use Rattle.local_history.specs.History.{Base, known_by, start, state}
 use Rattle.local_history.specs.Sound.{owes, sound}
 use Rattle.message_outbox.specs.declared.answers.Asked as answer
 use Rattle.message_outbox.specs.declared.answers.Asked.TheVariants as answers
@@ -43,7 +41,7 @@ use Rattle.port.specs.Works.{Answered, AskWork, CommitWork, Does, PrepareWork, a
 use Rattle.session_outbox.proofs.Traces.{entries-append}
 use Rattle.session_outbox.specs.Notices.{lives}
 use Rattle.session_outbox.specs.Trace.{E, Item, entries}
-use Rattle.std.proofs.Common.{Bool, List, [], ap, arith, false, inl, refl, subst, sym, true, ◌++◌, ◌∙◌, ◌∷◌, ◌≡◌, ℕ}
+use Rattle.std.proofs.Common.{Bool, List, [], ap, arith, false, refl, subst, sym, true, ◌++◌, ◌∙◌, ◌∷◌, ◌≡◌, ℕ}
 use Rattle.std.specs.List.{slice_get}
 use Rattle.std.specs.Prelude.{None, Ok, Option, Some, length, ◌<◌, ◌^◌, ◌≤◌}
 use Rattle.thor_value.specs.declared.names.Oref.{Oref}
@@ -184,8 +182,8 @@ module _ (old new : View) (same : new.opened ≡ old.opened) (one : HasOneReposi
       step (ReceiveStopped at k d there outage stops stays fewer) o = by_owed (ReceiveStopped at k d there outage stops stays fewer) tt
       step (Prepared s place d of less) o = by_owed (Prepared s place d of less) (λ inside. absurd (unprepared s.at.repo s.at.session s.request place d inside))
       step (PrepareRefused s k d of idle learns stays) o = by_owed (PrepareRefused s k d of idle learns stays) tt
-      step (Committed s place d of idle keeps) o = by_owed (Committed s place d of idle keeps) (settled_at s.at.repo s.at.session d.at (commit_front s.at.repo s.at.session s.request place d), o.0, o.1)
-      step (Transformed s place oref made d of writes idle keeps) o = by_owed (Transformed s place oref made d of writes idle keeps) (settled_at s.at.repo s.at.session d.at (commit_front s.at.repo s.at.session s.request place d), o)
+      step (Committed s place d of wrote idle keeps) o = by_owed (Committed s place d of wrote idle keeps) (settled_at s.at.repo s.at.session d.at (commit_front s.at.repo s.at.session s.request place d), o.0, o.1)
+      step (Transformed s place oref made d of session writes idle keeps) o = by_owed (Transformed s place oref made d of session writes idle keeps) (settled_at s.at.repo s.at.session d.at (commit_front s.at.repo s.at.session s.request place d), o)
       step (CommitRefused s k d of idle learns stays) o = by_owed (CommitRefused s k d of idle learns stays) tt
       step (Decided at t v d idle ends) o = by_owed (Decided at t v d idle ends) (decided v.commit at t o)
       step (Aborted at t v d less) o = by_owed (Aborted at t v d less) tt

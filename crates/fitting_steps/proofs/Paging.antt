@@ -3,7 +3,6 @@ use Rattle.client_cache.specs.Pages.{same_name}
 use Rattle.client_laws.proofs.Linked.{named_at}
 use Rattle.client_laws.specs.Fitting.{Copies, FitsAt, Kept, WritesOnPages, with_writes}
 use Rattle.commit_log.specs.declared.entry.Entry.TheVariants.{One, Upgraded}
-use Rattle.commit_log.specs.declared.entry.Entry.{Entry}
 use Rattle.commit_log.specs.declared.request.Request.{Request}
 use Rattle.fitting_steps.proofs.Granting.{has_granted}
 use Rattle.local_history.proofs.Growth.{owed-end}

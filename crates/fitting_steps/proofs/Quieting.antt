@@ -5,7 +5,6 @@ use Rattle.client_laws.proofs.Leaving.{SeenRight, seen_right}
 use Rattle.client_laws.proofs.Quiet.{grown_back, grown_client, stays_quiet}
 use Rattle.client_laws.proofs.Uncommitted.{grown_on}
 use Rattle.client_laws.specs.Doomed.{ActsWithin, IsDoomed, IsQuiet}
-use Rattle.client_laws.specs.Fitting.{NoneToFinish}
 use Rattle.client_laws.specs.Seen.{IsSeenRight}
 use Rattle.client_state.specs.Calling.{is_session_of}
 use Rattle.client_state.specs.Moving.{Moves}
@@ -15,7 +14,7 @@ use Rattle.fitting_steps.proofs.Losing.{From, IsGiven, WasIts, steps}
 use Rattle.fitting_steps.specs.Acting.{acts_of}
 use Rattle.fitting_steps.specs.Owed.{SettledOwed}
 use Rattle.fitting_steps.specs.Quiet.{AreQuiet, IsHandedOn}
-use Rattle.local_history.specs.History.{Base, Known, Open, is_undecided, known_by}
+use Rattle.local_history.specs.History.{Known, Open, known_by}
 use Rattle.message_outbox.specs.declared.answers.Welcome.{Welcome}
 use Rattle.port.specs.Growing.{Grew}
 use Rattle.port.specs.Views.{Calm, Opened, View}
@@ -27,7 +26,7 @@ use Rattle.session_outbox.specs.Trace.{entries}
 use Rattle.std.proofs.Common.{Bool, List, ap, arith, false, inl, inr, refl, subst, sym, true, ◌∙◌, ◌≡◌, ℕ}
 use Rattle.std.proofs.lemmas.Bool.Decides.{nat_tests}
 use Rattle.std.specs.List.{slice_get}
-use Rattle.std.specs.Prelude.{Ok, Option, Some, nat_eq, ◌&&◌, ◌<◌, ◌⊎◌}
+use Rattle.std.specs.Prelude.{Ok, Some, nat_eq, ◌&&◌, ◌<◌, ◌⊎◌}
 use Rattle.thor_value.specs.declared.names.Ts.{Ts}
 
 -- ---- what is running

@@ -4,7 +4,7 @@ use Rattle.client_laws.specs.Fitting.{with_writes}
 use Rattle.commit_log.specs.declared.request.Request.{Request}
 use Rattle.local_history.specs.Requests.{written}
 use Rattle.paused_eval.proofs.Hands.{seen_split}
-use Rattle.std.proofs.Common.{Bool, ap, arith, cond, false, sym, true, ◌∙◌, ◌≡◌, ◌≢◌, ℕ}
+use Rattle.std.proofs.Common.{Bool, ap, arith, cond, false, true, ◌∙◌, ◌≡◌, ◌≢◌, ℕ}
 use Rattle.std.proofs.lemmas.Bool.Decides.{nat_tests}
 use Rattle.std.specs.Option.{option_or}
 use Rattle.std.specs.Prelude.{None, Option, nat_eq}

@@ -1,8 +1,9 @@
 -- A small run over a store's only repository: client 1 connects, draws a timestamp, is granted a page of names and takes it, and
 -- commits an object that it creates there. Then another client connects.
-use Rattle.client_cache.specs.Copies.{changed, kept}
+use Rattle.client_cache.specs.Copies.{kept}
 use Rattle.client_laws.specs.Examples.{no_copy}
 use Rattle.client_laws.specs.Fitting.{Copies, with_writes}
+use Rattle.client_state.specs.Writing.{WritesThere}
 use Rattle.client_state.specs.declared.held.Held.{Held}
 use Rattle.client_state.specs.declared.link.Link.TheVariants.{Apart, Joined}
 use Rattle.client_state.specs.declared.link.Link.{Link}
@@ -11,12 +12,10 @@ use Rattle.commit_log.specs.declared.entry.Entry.TheVariants.{Life, One}
 use Rattle.commit_log.specs.declared.request.Request.{Request}
 use Rattle.fitting_steps.specs.OneRepository.{Position}
 use Rattle.local_history.specs.Examples.{at, box, only, setting_x, z}
-use Rattle.local_history.specs.Requests.{written}
 use Rattle.port.specs.Views.{Calm, View}
 use Rattle.session_outbox.specs.Trace.{E, Item, M}
 use Rattle.session_outbox.specs.declared.mark.Mark.TheVariants as the
-use Rattle.std.specs.Prelude.{List, None, [], cond, false, nat_eq, take, ℕ, ◌∷◌, ◌≡◌}
-use Rattle.thor_value.specs.FiniteMap.{get}
+use Rattle.std.specs.Prelude.{List, [], cond, false, nat_eq, take, ℕ, ◌∷◌, ◌≡◌}
 use Rattle.thor_value.specs.declared.names.Oref.{Oref}
 
 -- the request that creates z
@@ -54,5 +53,5 @@ pub record HoldsOnTheWay (first joined drawn waits taken last : Held) : Type 0 w
   pub draws : HoldsThis (Joined 1 1 Idle) no_copy drawn
   pub asks : HoldsThis (Joined 1 1 Reply) no_copy waits
   pub takes : HoldsThis (Joined 1 1 Idle) no_copy taken
-  pub wrote : (x : Oref) → changed taken.cache.cache x ≡ cond (nat_eq 0 x.repo) (get (written made) x) None
+  pub wrote : WritesThere 0 made.writes taken.cache.cache
   pub commits : HoldsThis (Joined 1 1 Idle) (with_writes made no_copy) last

@@ -3,11 +3,11 @@ use Rattle.atomic_histories.specs.Several.{is_committed_part}
 use Rattle.call_naming.specs.declared.calls.CallKind.TheVariants as call
 use Rattle.client_cache.specs.Copies.{kept, seen}
 use Rattle.client_laws.specs.Fitting.{Copies, HoldsNone}
-use Rattle.client_state.specs.Moving.{Aborted, AskedInVain, AskedOwn, CommitRefused, Committed, Decided, DecideRefused, Finished, Forgot, Moves, PrepareRefused, Prepared, ReceiveRefused, ReceiveStopped, Received, ReceivedNone, Transformed, Unsent}
+use Rattle.client_state.specs.Moving.{Aborted, AskedInVain, AskedOwn, CommitRefused, Committed, Decided, DecideRefused, Finished, Forgot, InSession, Moves, PrepareRefused, Prepared, ReceiveRefused, ReceiveStopped, Received, ReceivedNone, Transformed, Unsent}
 use Rattle.client_state.specs.declared.held.Held.{Held}
 use Rattle.client_state.specs.declared.link.Link.TheVariants as links
 use Rattle.client_state.specs.declared.link.Link.{Link}
-use Rattle.fitting_steps.specs.Owed.{ClientFits, PageOwed, SentOwed, TryOwed}
+use Rattle.fitting_steps.specs.Owed.{ClientFits, PageOwed, SentOwed}
 use Rattle.local_history.specs.History.{known_by, state}
 use Rattle.local_history.specs.Sound.{sound}
 use Rattle.message_outbox.specs.declared.answers.At.{At}
@@ -86,8 +86,8 @@ abbrev pub AsksRightly : Bool → View → Held → Type 0
 AsksRightly true port before = HasEnded port 0 (slice_get before.links.items 0) (seen before.cache.cache)
 AsksRightly false port before = Unit {0}
 
--- What is asked of a step: of the port that pages bring what stood there, and of the client that it sends what its try has written, in its
--- session, and decides and asks rightly.
+-- What is asked of a step: of the port that pages bring what stood there, and of the client that it commits in its session, and decides
+-- and asks rightly.
 abbrev pub StepOwed : (old new : View) (before after : Held) → Moves old new before after → Type 0
 StepOwed old new before after (Unsent sends) = Unit {0}
 StepOwed old new before after (Received at m does there takes same) = BringsWhatStood new at.repo m
@@ -96,8 +96,8 @@ StepOwed old new before after (ReceiveRefused at k does there loses same) = Unit
 StepOwed old new before after (ReceiveStopped at k does there outage stops same fewer) = Unit {0}
 StepOwed old new before after (Prepared s place does of less) = Unit {0}
 StepOwed old new before after (PrepareRefused s k does of idle learns same) = Unit {0}
-StepOwed old new before after (Committed s place does of idle keeps) = SentOwed old s.at s.request before × TryOwed old s.at s.request before
-StepOwed old new before after (Transformed s place oref made does of writes idle keeps) = SentOwed old s.at s.request before
+StepOwed old new before after (Committed s place does of wrote idle keeps) = InSession s.at before × SentOwed old s.at s.request before
+StepOwed old new before after (Transformed s place oref made does of session writes idle keeps) = SentOwed old s.at s.request before
 StepOwed old new before after (CommitRefused s k does of idle learns same) = Unit {0}
 StepOwed old new before after (Decided at t v does idle ends) = DecidesRightly v.commit old at t
 StepOwed old new before after (Aborted at t v does less) = Unit {0}

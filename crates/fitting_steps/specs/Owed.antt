@@ -2,7 +2,7 @@
 use Rattle.client_cache.specs.Copies.{kept, seen}
 use Rattle.client_cache.specs.Pages.{same_name}
 use Rattle.client_cache.specs.Placing.{IsPageOf}
-use Rattle.client_laws.specs.Fitting.{Copies, NoneToFinish, SameCopies, with_writes}
+use Rattle.client_laws.specs.Fitting.{Copies, NoneToFinish}
 use Rattle.client_laws.specs.Links.{BringsContent}
 use Rattle.client_laws.specs.Steps.{LinksFit}
 use Rattle.client_laws.specs.Verdicts.{TakesAll}
@@ -18,7 +18,7 @@ use Rattle.session_outbox.specs.Notices.{lives}
 use Rattle.session_outbox.specs.Session.{session}
 use Rattle.session_outbox.specs.Trace.{Item, entries}
 use Rattle.std.specs.Option.{is_some}
-use Rattle.std.specs.Prelude.{Bool, List, None, Option, Some, cond, false, length, true, ℕ, ◌<◌, ◌^◌, ◌≡◌, ◌≢◌, ◌≤◌}
+use Rattle.std.specs.Prelude.{Bool, List, None, Option, Some, cond, false, length, true, ℕ, ◌<◌, ◌^◌, ◌≡◌, ◌≤◌}
 use Rattle.thor_value.specs.declared.names.Oref.{Oref}
 use Rattle.thor_value.specs.declared.names.Ts.{Ts}
 use Rattle.thor_value.specs.declared.values.Obj.{Obj}
@@ -44,8 +44,8 @@ verdict_of old new before after (ReceiveRefused at k does there loses same) = No
 verdict_of old new before after (ReceiveStopped at k does there outage stops same fewer) = None
 verdict_of old new before after (Prepared s place does of less) = None
 verdict_of old new before after (PrepareRefused s k does of idle learns same) = None
-verdict_of old new before after (Committed s place does of idle keeps) = None
-verdict_of old new before after (Transformed s place oref made does of writes idle keeps) = None
+verdict_of old new before after (Committed s place does of wrote idle keeps) = None
+verdict_of old new before after (Transformed s place oref made does of session writes idle keeps) = None
 verdict_of old new before after (CommitRefused s k does of idle learns same) = None
 verdict_of old new before after (Decided at t v does idle ends) = if_commit v.commit t
 verdict_of old new before after (Aborted at t v does less) = None
@@ -75,17 +75,10 @@ MessageOwed port repo (Upgrade number text place) = repo < port.opened.repos →
 abbrev pub SettledOwed : View → ℕ → List Item → ℕ → (Ts → Bool) → Type 0
 SettledOwed port repo T s committed = repo < port.opened.repos → port.unsettled repo ≡ Calm → lives (session (port.opened.base repo) (port.seen repo) s) ≡ true → NoneToFinish (port.opened.base repo) (entries T) s committed
 
--- A request that commits at one repository was sent to one that is there, in the link's session. Of what it writes and hasn't
--- created the client holds copies.
+-- A request that commits at one repository was sent to one that is there. Of what it writes and hasn't created the client holds copies.
 pub record SentOwed (port : View) (at : At) (q : Request) (before : Held) : Type 0 where
   pub there : at.repo < port.opened.repos
-  pub session : InSession at before
   pub held : (x : Oref) → has_written q x ≡ true → has_created q x ≡ false → is_some (kept before.cache.cache x) ≡ true
-
--- What the try has written is what its request writes: at the request's repository, and nowhere else.
-pub record TryOwed (port : View) (at : At) (q : Request) (before : Held) : Type 0 where
-  pub wrote : (port.opened.base at.repo).tells ≡ true → SameCopies (port.opened.base at.repo) (seen before.cache.cache) (with_writes q (kept before.cache.cache))
-  pub elsewhere : (x : Oref) → x.repo ≢ at.repo → seen before.cache.cache x ≡ kept before.cache.cache x
 
 -- what the client has once a transform's object is written
 abbrev pub with_made : Oref → Obj → Held → Copies
@@ -115,8 +108,8 @@ Owed old new before after committed later (ReceiveRefused at k does there loses 
 Owed old new before after committed later (ReceiveStopped at k does there outage stops same fewer) = Unit {0}
 Owed old new before after committed later (Prepared s place does of less) = s.at.repo < new.opened.repos → later s.request.tx ≡ false
 Owed old new before after committed later (PrepareRefused s k does of idle learns same) = Unit {0}
-Owed old new before after committed later (Committed s place does of idle keeps) = SettledOwed new s.at.repo does.at s.at.session later × SentOwed old s.at s.request before × TryOwed old s.at s.request before
-Owed old new before after committed later (Transformed s place oref made does of writes idle keeps) = SettledOwed new s.at.repo does.at s.at.session later × SentOwed old s.at s.request before
+Owed old new before after committed later (Committed s place does of wrote idle keeps) = SettledOwed new s.at.repo does.at s.at.session later × InSession s.at before × SentOwed old s.at s.request before
+Owed old new before after committed later (Transformed s place oref made does of session writes idle keeps) = SettledOwed new s.at.repo does.at s.at.session later × SentOwed old s.at s.request before
 Owed old new before after committed later (CommitRefused s k does of idle learns same) = Unit {0}
 Owed old new before after committed later (Decided at t v does idle ends) = VerdictOwed v.commit old committed later t before
 Owed old new before after committed later (Aborted at t v does less) = Unit {0}

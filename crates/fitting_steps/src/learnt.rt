@@ -10,7 +10,7 @@ ghost use Rattle.fitting_steps.specs.Lost.{AllRise};
 ghost use Rattle.message_outbox.specs.declared.answers.At.{At};
 ghost use Rattle.port.specs.Views.{View};
 ghost use Rattle.refusal_reasons.specs.declared.reason.Reason.TheVariants as reasons;
-ghost use Rattle.std.specs.Prelude.{List, Ok, Result, ℕ, ◌<◌, ◌≡◌, ◌≤◌};
+ghost use Rattle.std.specs.Prelude.{List, Ok, Result, true, ℕ, ◌<◌, ◌≡◌};
 ghost use Rattle.thor_value.specs.declared.memory.NoMemory.{NoMemory};
 ghost use Rattle.thor_value.specs.declared.names.Oref.{Oref};
 ghost use Rattle.thor_value.specs.declared.names.Ts.{Ts};
