@@ -17,7 +17,6 @@ pub mod OwnVerdicts
 pub mod Passing
 mod Places
 pub mod Quiet
-mod Reasons
 pub mod Reasons
 pub mod Resting
 pub mod Sending
