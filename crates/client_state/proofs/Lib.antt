@@ -1,9 +1,9 @@
 pub mod Carrying
-mod Evaluating
 mod Holding
 pub mod Keeping
 pub mod Moving
 pub mod Owing
+mod Schemas
 pub mod Sessions
 pub mod Sharing
 pub mod Stopping

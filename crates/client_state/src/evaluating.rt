@@ -24,7 +24,7 @@ use thor_value::{Answer, NoMemory, Oref, Orefs, Writes};
 use upgrade_eval::schema_at;
 
 /// The schema of an epoch, with its methods; the first one where the store has none for it.
-#[tactic(auto, using(crate::proofs::Evaluating::are_its_methods))]
+#[tactic(auto, using(crate::proofs::Schemas::are_its_methods))]
 fn schema_of(opened: &Opened, epoch: u32) -> (&Schema, &ClassMethods)
     ensures { result.1.now ≡ class_methods result.0.now.classes }
 {
@@ -43,13 +43,7 @@ impl Held {
     {
         let epoch = self.epoch(opened);
         let (schema, methods) = schema_of(opened, epoch);
-        run.go(
-            schema,
-            methods,
-            epoch,
-            &mut self.cache,
-            &mut self.names,
-        )
+        run.go(schema, methods, epoch, &mut self.cache, &mut self.names)
     }
 
     /// The evaluation of a transaction before its first step.

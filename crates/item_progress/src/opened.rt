@@ -50,7 +50,9 @@ impl Opened {
         ensures { result ≡ self.schemas }
     {
         let Opened {
-            schemas, methods, ..
+            schemas,
+            methods,
+            ..
         } = self;
         drop(methods);
         schemas

@@ -16,7 +16,9 @@ pub use laws::{
     a_small_step_keeps_what_is_left, a_small_step_leaves_fewer, small_steps_reach_what_is_left,
     what_is_left_goes_on_later,
 };
-pub use methods::{ClassMethods, EpochMethods, SharedMethod, SharedMethods, class_methods, shared_method};
+pub use methods::{
+    ClassMethods, EpochMethods, SharedMethod, SharedMethods, class_methods, shared_method,
+};
 pub use nodes::{ExprNode, ExprNodes, StmtNode, StmtNodes};
 pub use shared::Shared;
 pub use sharing::calls_in;

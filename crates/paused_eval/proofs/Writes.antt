@@ -6,7 +6,7 @@ use Rattle.std.specs.List.{list_any}
 use Rattle.std.specs.Map.{keys_of}
 use Rattle.std.specs.Option.{option_or}
 use Rattle.std.specs.Ordering.{eq_by_cmp}
-use Rattle.std.specs.Prelude.{is_some, option_map}
+use Rattle.std.specs.Prelude.{Err, IfOk, Ok, OnOk, Result, is_some, option_map}
 use Rattle.thor_value.proofs.FiniteMap.{get-insert}
 use Rattle.thor_value.proofs.NameOrders.{oref_total}
 use Rattle.thor_value.specs.FiniteMap.{Map, Set, empty, get, insert, keys, overwrite}
@@ -95,42 +95,34 @@ ends ver old cur d = record { all = λ x. sym (d.done x refl) ∙ d.same.same x 
 -- ---- the answer, as what its writes make of an object
 
 module _ (epoch : ℕ) (f : Oref → Option Obj) (x : Oref) where
-  then_stored : Option Obj
-  then_stored = option_map (dated epoch) (f x)
-
   -- behind writes that make of each object among the names what was written
-  made : Bool → Option Obj → Option Obj
+  abbrev made : Bool → Option Obj → Option Obj
   made named before = cond named (option_or (option_map (dated epoch) (f x)) before) before
 
+  either : (b : Bool) (o : Option Obj) → cond b o o ≡ o
+  either true o = refl
+  either false o = refl
+
   none_made : (b named : Bool) (before : Option Obj) → (b ≡ true → f x ≡ None) → made named before ≡ made (b || named) before
-  none_made true named before h = rw (h refl) (by named)
-    where
-      by : (c : Bool) → cond c before before ≡ before
-      by true = refl
-      by false = refl
+  none_made true named before h = rw (h refl) (either named before)
   none_made false named before h = refl
 
   some_made : (b named : Bool) (o : Obj) (before : Option Obj) → (b ≡ true → f x ≡ Some o) → made named (cond b (Some (in_epoch epoch (bare o))) before) ≡ made (b || named) before
-  some_made true named o before h = rw (h refl) (by named)
-    where
-      by : (c : Bool) → cond c (Some (in_epoch epoch (bare o))) (Some (in_epoch epoch (bare o))) ≡ Some (in_epoch epoch (bare o))
-      by true = refl
-      by false = refl
+  some_made true named o before h = rw (h refl) (either named (Some (in_epoch epoch (bare o))))
   some_made false named o before h = refl
+
+  at_first : (y : Oref) (ys : List Oref) (m : Map oref_cmp Obj) (o : Option Obj) → f y ≡ o
+      → ((n : Map oref_cmp Obj) → get (overwrite n (stored_at epoch (entries f ys))) x ≡ made (list_any (is_at (oref_cmp x)) ys) (get n x))
+      → get (overwrite m (stored_at epoch (entry y o (entries f ys)))) x ≡ made (list_any (is_at (oref_cmp x)) (y ∷ ys)) (get m x)
+  at_first y ys m None e rest = rest m ∙ none_made (is_at (oref_cmp x) y) (list_any (is_at (oref_cmp x)) ys) (get m x) (λ h. ap f (same_object x y h) ∙ e)
+  at_first y ys m (Some o) e rest =
+      rest (insert m y (in_epoch epoch (bare o)))
+      ∙ (ap (λ (v : Option Obj). made (list_any (is_at (oref_cmp x)) ys) v) (get-insert oref_total m y (in_epoch epoch (bare o)) x)
+      ∙ some_made (is_at (oref_cmp x) y) (list_any (is_at (oref_cmp x)) ys) o (get m x) (λ h. ap f (same_object x y h) ∙ e))
 
   over : (xs : List Oref) (m : Map oref_cmp Obj) → get (overwrite m (stored_at epoch (entries f xs))) x ≡ made (list_any (is_at (oref_cmp x)) xs) (get m x)
   over [] m = refl
-  over (y ∷ ys) m = by (f y) refl
-    where
-      same : (z : Option Obj) → f y ≡ z → is_at (oref_cmp x) y ≡ true → f x ≡ z
-      same z e h = ap f (same_object x y h) ∙ e
-
-      by : (o : Option Obj) → f y ≡ o → get (overwrite m (stored_at epoch (entry y o (entries f ys)))) x ≡ made (list_any (is_at (oref_cmp x)) (y ∷ ys)) (get m x)
-      by None e = over ys m ∙ none_made (is_at (oref_cmp x) y) (list_any (is_at (oref_cmp x)) ys) (get m x) (same None e)
-      by (Some o) e =
-          over ys (insert m y (in_epoch epoch (bare o)))
-          ∙ (ap (made (list_any (is_at (oref_cmp x)) ys)) (get-insert oref_total m y (in_epoch epoch (bare o)) x)
-          ∙ some_made (is_at (oref_cmp x) y) (list_any (is_at (oref_cmp x)) ys) o (get m x) (same (Some o) e))
+  over (y ∷ ys) m = at_first y ys m (f y) refl (λ n. over ys n)
 
 as_written : (ver : ℕ) (named : Bool) (o : Option Obj) → is_some o ≡ named → cond named (option_or (option_map (dated ver) o) None) None ≡ option_map (dated ver) o
 as_written ver true None h = refl
@@ -160,8 +152,23 @@ still_tied ver w old new t s = record {
   within = t.within;
 }
 
-pub tied_names : (w : Set oref_cmp) (c : Contents) (names : List (Oref × Unit {0})) → Tied w c → w.pairs ≡ names → AreWritten names c
-tied_names w c names t e = record { marked = λ x. t.marked x ∙ ap (λ (es : List (Oref × Unit {0})). is_some (lookup_in x es)) e }
-  where
-    lookup_in : Oref → List (Oref × Unit {0}) → Option (Unit {0})
-    lookup_in x es = get {R = oref_cmp} (record { pairs = es }) x
+pub tied_names : (w : Set oref_cmp) (c : Contents) (names : List (Oref × Unit {0})) → Tied w c → keys_of names ≡ keys w → AreWritten names c
+tied_names w c names t e = record {
+  marked = λ x. t.marked x
+      ∙ (is_some-lookup (is_at (oref_cmp x)) w.pairs
+      ∙ (ap (λ (ks : List Oref). list_any (is_at (oref_cmp x)) ks) (sym e)
+      ∙ sym (is_some-lookup (is_at (oref_cmp x)) names)));
+}
+
+-- ---- what the function answers
+
+pub by_names : {E : Type 0} (r : Result (List (Oref × Obj)) E) (epoch : ℕ) (w : Set oref_cmp) (c : Contents) (names : List (Oref × Unit {0})) → keys_of names ≡ keys w
+    → IfOk r (λ ws. ws ≡ stored_at epoch (entries (changed c) (keys_of names))) → IfOk r (λ ws. ws ≡ stored_at epoch (written_in w c).pairs)
+unfolding written_in
+by_names (Ok ws) epoch w c names e h = h ∙ ap (λ (ks : List Oref). stored_at epoch (entries (changed c) ks)) e
+by_names (Err e) epoch w c names same h = tt
+
+pub so_they_stand : {E : Type 0} (r : Result (List (Oref × Obj)) E) (epoch : ℕ) (w : Set oref_cmp) (old new : Contents) → Tied w old → OnOk r (Dates epoch old new)
+    → IfOk r (λ ws. ws ≡ stored_at epoch (written_in w old).pairs) → IfOk r (λ ws. (x : Oref) → changed new x ≡ last_of ws x)
+so_they_stand (Ok ws) epoch w old new t d h = stands_so epoch w old new ws t d h
+so_they_stand (Err e) epoch w old new t d h = tt

@@ -74,7 +74,7 @@ fn push_written(
 }
 
 /// The objects of these names, as they are written at an epoch. So they stand in the cache, too.
-#[tactic(auto, using(crate::proofs::Writes::begins, crate::proofs::Writes::goes_on, crate::proofs::Writes::one_more, crate::proofs::Writes::ends))]
+#[tactic(auto, using(crate::proofs::Writes::goes_on, crate::proofs::Writes::ends))]
 fn writes_of(
     alloc: Global,
     cache: &mut Cache,
@@ -95,7 +95,7 @@ fn writes_of(
 }
 
 /// The objects that the run has written. As they are answered they stand in the cache, too.
-#[tactic(auto, using(crate::proofs::Writes::tied_names, crate::proofs::Writes::still_tied, crate::proofs::Writes::stands_so))]
+#[tactic(auto, using(crate::proofs::Writes::still_tied))]
 fn writes(alloc: Global, copies: &mut Copies, epoch: u32) -> Result<Writes, NoMemory>
     ensures writes { IfOk result (λ writes. writes ≡ stored_at epoch (written_in copies.old.written copies.old.cache).pairs) }
     ensures wrote { IfOk result (λ writes. (x : Oref) → changed copies.new.cache x ≡ last_of writes x) }
