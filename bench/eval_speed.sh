@@ -1,6 +1,6 @@
 #!/usr/bin/env bash
 # What an evaluation over a client's copies costs beside `eval` over a view that has the objects: a transfer between two objects at
-# hand, begun, run to its end and given up, and a loop of 12,499 turns. And what stops cost: a walk over 1,000 objects, each on a page
+# hand, begun and run to its end, and given up besides, and a loop of 12,499 turns. And what stops cost: a walk over 1,000 objects, each on a page
 # of its own, that has them all at hand, and one that stops at each and goes on when its page is placed; what it costs to place the
 # pages and let them go is counted alone and taken off. Instructions by callgrind, so that other work on the machine changes nothing.
 # It needs valgrind. Without UNPROVED (see measuring.sh) it proves what it measures.
@@ -16,6 +16,7 @@ use method_eval::{Names, Ran, View, eval};
 use method_parse::{parse_block, parse_setup};
 use object_codec::put_obj;
 use page_format::Page;
+use paused_defs::{ClassMethods, class_methods};
 use paused_eval::{Copies, GrantedNames, KeptTexts, Paused};
 use script_text::scan;
 use std::alloc::Global;
@@ -98,10 +99,11 @@ fn by_go(alloc: Global, schema: &Schema, tx: &Block, count: u32) -> Result<(), F
     copies.write(name_of(1), object(alloc)?)?;
     copies.settle();
     let mut names = GrantedNames::new(alloc);
-    let mut kept = KeptTexts::new(alloc);
+    let mut kept = KeptTexts::new();
+    let methods = class_methods(alloc, &schema.classes)?;
     for _ in 0..count {
         let mut run = Paused::begin(alloc, tx, &mut kept)?;
-        match run.go(schema, 0, &mut copies, &mut names, &mut kept)? {
+        match run.go(schema, &methods, 0, &mut copies, &mut names)? {
             Ran::Done { .. } => {}
             _ => return Err(Fail::new("not done")),
         }
@@ -152,6 +154,7 @@ fn place(copies: &mut Copies, pages: &Sequence<Text>, number: u32) -> Result<(),
 fn walk(
     alloc: Global,
     schema: &Schema,
+    methods: &ClassMethods,
     tx: &Block,
     pages: &Sequence<Text>,
     copies: &mut Copies,
@@ -160,7 +163,7 @@ fn walk(
     let mut names = GrantedNames::new(alloc);
     let mut run = Paused::begin(alloc, tx, kept)?;
     for _ in 0..2 * NODES_COUNT {
-        match run.go(schema, 0, copies, &mut names, kept)? {
+        match run.go(schema, methods, 0, copies, &mut names)? {
             Ran::Done { .. } => return Ok(()),
             Ran::Need { oref, .. } => place(copies, pages, oref.page)?,
             Ran::NeedName { .. } => return Err(Fail::new("a name")),
@@ -183,14 +186,15 @@ fn walks(
         pages.push(node_page(alloc, number)?)?;
     }
     let mut copies = Copies::new(alloc, held)?;
-    let mut kept = KeptTexts::new(alloc);
+    let mut kept = KeptTexts::new();
+    let methods = class_methods(alloc, &schema.classes)?;
     for _ in 0..count {
         if alone {
             for number in 0..NODES_COUNT {
                 place(&mut copies, &pages, number)?;
             }
         } else {
-            walk(alloc, schema, tx, &pages, &mut copies, &mut kept)?;
+            walk(alloc, schema, &methods, tx, &pages, &mut copies, &mut kept)?;
         }
         copies.evict();
     }
@@ -251,7 +255,21 @@ each() {
     awk -v name="$1" -v e="$by_eval" -v g="$by_go" 'BEGIN { printf "%s: %d instructions, eval %d: %.2f times\n", name, g, e, g / e }'
 }
 
-each "a transfer" 0 100 1100
+# undone COUNT: what it takes to give up a transfer, in instructions of one, with what it calls.
+undone() {
+    rm -f "$work"/counts.*
+    counted 1 0 "$1" > /dev/null
+    for file in "$work"/counts.*; do
+        callgrind_annotate --inclusive=yes --threshold=100 "$file" 2> /dev/null
+    done | awk -v count="$1" '/:(paused_eval::copies::Copies|client_cache::cache::Cache)::undo / {
+        gsub(",", "", $1); if ($1 > most) most = $1 } END { printf "%d\n", most / count }'
+}
+
+# A transfer more, by `eval`, and by `go` with what gives it up and without.
+by_eval=$(( ($(counted 0 0 1100) - $(counted 0 0 100)) / 1000 ))
+by_go=$(( ($(counted 1 0 1100) - $(counted 1 0 100)) / 1000 ))
+awk -v e="$by_eval" -v g="$by_go" -v u="$(undone 1100)" 'BEGIN {
+    printf "a transfer begun and run to its end: %d instructions, eval %d: %.2f times; given up besides %d: %.2f times\n", g - u, e, (g - u) / e, u, g / e }'
 each "a loop of 12,499 turns" 1 1 5
 
 # walk HOW: one more walk at hand (0), with a stop at each object (1), and its pages alone (2).

@@ -2,7 +2,7 @@ ghost use Rattle.std.specs.BTreeMap.{is_at};
 ghost use Rattle.std.specs.BTreeSet.{Updates, insert_key};
 ghost use Rattle.std.specs.List.{filter, list_any};
 ghost use Rattle.std.specs.Map.{keys_of};
-ghost use Rattle.std.specs.Prelude.{◌≡◌, ◌<◌, ◌↔◌, ℕ, [], false, true, cond, not, nat_eq, Option, Some, None, IfOk, IsTrue, OnOk, OnErr, take};
+ghost use Rattle.std.specs.Prelude.{◌≡◌, ◌<◌, ◌↔◌, ℕ, [], false, true, cond, not, nat_eq, option_map, Option, Some, None, IfOk, IsTrue, OnOk, OnErr, take};
 ghost use Rattle.thor_value.specs.Names.{oref_cmp};
 ghost use Rattle.thor_value.specs.declared.names.Oref.{Oref};
 ghost use Rattle.thor_value.specs.declared.values.Obj.{Obj};
@@ -10,7 +10,7 @@ ghost use Rattle.client_cache.specs.Copies.{changed, elsewhere, forward, holds, 
 ghost use Rattle.client_cache.specs.Looks.{Tells};
 ghost use Rattle.client_cache.specs.Pages.{on, page_of, same_name, same_page};
 ghost use Rattle.client_cache.specs.Placing.{IsObjectPage, IsPageOf};
-ghost use Rattle.client_cache.specs.Slots.{kept_in, written_in};
+ghost use Rattle.client_cache.specs.Slots.{dated, kept_in, written_in};
 
 use crate::held_pages::HeldPages;
 use crate::look::Looked;
@@ -170,6 +170,20 @@ impl Cache {
             return Err(NoMemory);
         }
         Ok(())
+    }
+
+    /// Gives what the try has made of an object this version, and answers a copy of it; nothing where the try hasn't
+    /// written it. The order of the pages stays as it is. After `NoMemory` the version stands.
+    pub fn date(&mut self, oref: Oref, ver: u32) -> Result<Option<Obj>, NoMemory>
+        ensures copy { IfOk result (λ copy. copy ≡ option_map (dated ver) (changed self.old oref)) }
+        ensures kept { (x : Oref) → kept self.new x ≡ kept self.old x }
+        ensures changed { (x : Oref) → changed self.new x ≡ cond (same_name oref x) (option_map (dated ver) (changed self.old oref)) (changed self.old x) }
+        ensures pages { pages self.new ≡ pages self.old }
+        ensures written { self.new.written ≡ self.old.written }
+        ensures made { self.new.made ≡ self.old.made }
+        ensures limit { self.new.limit ≡ self.old.limit }
+    {
+        self.pages.date(oref, ver)
     }
 
     /// Gives up what the try has written: each copy stands as before it, and dropped ones stay dropped. Pages that

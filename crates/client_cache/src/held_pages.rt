@@ -1,12 +1,12 @@
 ghost use Rattle.std.specs.Map.{keys_of, lookup, remove_entry};
 ghost use Rattle.std.specs.List.{list_all};
 ghost use Rattle.std.specs.Option.{option_copied, option_map_or};
-ghost use Rattle.std.specs.Prelude.{◌≡◌, ◌<◌, ℕ, MatchOption, take, [], ◌∷◌, false, true, cond, Some, None, IfOk, IfSome, IsTrue, OnOk, OnErr};
+ghost use Rattle.std.specs.Prelude.{◌≡◌, ◌<◌, ℕ, MatchOption, take, [], ◌∷◌, false, true, cond, option_map, Some, None, IfOk, IfSome, IsTrue, OnOk, OnErr};
 ghost use Rattle.thor_value.specs.declared.names.Oref.{Oref};
 ghost use Rattle.client_cache.specs.declared.page_name.PageName.{PageName};
 ghost use Rattle.client_cache.specs.Copies.{elsewhere, forward, holds, told};
 ghost use Rattle.client_cache.specs.Pages.{page_of, same_name, same_page};
-ghost use Rattle.client_cache.specs.Slots.{is_bare, kept_in, seen_in, written_in};
+ghost use Rattle.client_cache.specs.Slots.{dated, is_bare, kept_in, seen_in, written_in};
 
 use crate::page_copies::Slots;
 use crate::page_name::PageName;
@@ -158,6 +158,20 @@ impl HeldPages {
             return;
         };
         slots.settle(oref.slot);
+    }
+
+    /// Gives what the try has made of an object this version, and answers a copy of it; nothing where the try hasn't
+    /// written it.
+    pub fn date(&mut self, oref: Oref, ver: u32) -> Result<Option<Obj>, NoMemory>
+        ensures copy { IfOk result (λ copy. copy ≡ option_map (dated ver) (told written_in self.old oref)) }
+        ensures kept { (x : Oref) → told kept_in self.new x ≡ told kept_in self.old x }
+        ensures written { (x : Oref) → told written_in self.new x ≡ cond (same_name oref x) (option_map (dated ver) (told written_in self.old oref)) (told written_in self.old x) }
+        ensures order { keys_of self.new ≡ keys_of self.old }
+    {
+        let Some(slots) = self.pages.peek_mut(&PageName::of(oref)) else {
+            return Ok(None);
+        };
+        slots.date(oref.slot, ver)
     }
 
     /// Puts the copies of a page in the place of those that were there; what the try has made of them stays.

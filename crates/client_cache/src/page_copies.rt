@@ -1,11 +1,11 @@
-ghost use Rattle.std.specs.Prelude.{◌≡◌, ◌<◌, ◌≤◌, ℕ, nat_eq, cond, Some, None, length, IfOk};
+ghost use Rattle.std.specs.Prelude.{◌≡◌, ◌<◌, ◌≤◌, ℕ, nat_eq, cond, Some, None, length, IfOk, option_map};
 ghost use Rattle.std.specs.Option.{option_copied};
 ghost use Rattle.std.specs.List.{list_all};
-ghost use Rattle.client_cache.specs.Slots.{is_bare, kept_in, no_copies, seen_in, settled, written_in};
+ghost use Rattle.client_cache.specs.Slots.{dated, dated_in, is_bare, kept_in, no_copies, seen_in, settled, written_in};
 
 use std::alloc::Global;
 use std::marker::Model;
-use thor_value::{NoMemory, Obj};
+use thor_value::{NoMemory, Obj, TryCopy};
 
 /// How many slots a page has.
 pub(crate) const SLOTS: u8 = 12;
@@ -26,6 +26,20 @@ impl Slot {
     {
         if let Some(obj) = self.written.take() {
             self.kept = Some(obj);
+        }
+    }
+
+    /// Gives what the try has made of the slot this version, and answers a copy of it.
+    fn date(&mut self, ver: u32) -> Result<Option<Obj>, NoMemory>
+        ensures slot { self.new ≡ dated_in ver self.old }
+        ensures copy { IfOk result (λ copy. copy ≡ self.new.written) }
+    {
+        match &mut self.written {
+            Some(obj) => {
+                obj.ver = ver;
+                Ok(Some(obj.copy()?))
+            }
+            None => Ok(None),
         }
     }
 }
@@ -133,6 +147,19 @@ impl Slots {
     {
         if let Some(slot) = self.slots.get_mut(usize::from(slot)) {
             slot.settle();
+        }
+    }
+
+    /// Gives what the try has made of a slot this version, and answers a copy of it; nothing where the try hasn't
+    /// written it.
+    pub fn date(&mut self, slot: u8, ver: u32) -> Result<Option<Obj>, NoMemory>
+        ensures copy { IfOk result (λ copy. copy ≡ option_map (dated ver) (written_in self.old slot)) }
+        ensures kept { (s : ℕ) → kept_in self.new s ≡ kept_in self.old s }
+        ensures written { (s : ℕ) → written_in self.new s ≡ cond (nat_eq slot s) (option_map (dated ver) (written_in self.old slot)) (written_in self.old s) }
+    {
+        match self.slots.get_mut(usize::from(slot)) {
+            Some(slot) => slot.date(ver),
+            None => Ok(None),
         }
     }
 

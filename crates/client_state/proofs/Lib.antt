@@ -3,6 +3,8 @@ mod Holding
 pub mod Keeping
 pub mod Moving
 pub mod Owing
+mod Schemas
 pub mod Sessions
 pub mod Sharing
 pub mod Stopping
+pub mod Writing

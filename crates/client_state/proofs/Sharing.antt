@@ -1,6 +1,7 @@
 -- What shares write, behind one more write.
-use Rattle.client_state.specs.Writing.{FirstOf, NoneOf, is_of, last_of, new_share, read_more_at, read_more_on, shares_write, with_read, with_write, written_at, written_on}
+use Rattle.client_state.specs.Writing.{FirstOf, NoneOf, is_of, new_share, read_more_at, read_more_on, shares_write, with_read, with_write, written_at, written_on}
 use Rattle.client_state.specs.declared.transaction.Share.{Share}
+use Rattle.paused_eval.specs.Copies.{last_of}
 use Rattle.std.proofs.Common.{Bool, Equal, Greater, Less, List, Ordering, [], ap, arith, cond, false, inl, inr, is_eq, length, nat_eq, refl, subst, suc, sym, true, zero, ℕ, ◌++◌, ◌+◌, ◌<◌, ◌≤◌, ◌∷◌, ◌≡◌, ◌∙◌}
 use Rattle.std.proofs.Math.Nat.{eq-or-lt_of_le}
 use Rattle.std.proofs.lemmas.Bool.Decides.{nat_tests}

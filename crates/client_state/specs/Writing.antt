@@ -1,14 +1,16 @@
--- What the shares of a transaction write (this project's).
+-- What the shares of a transaction write, and that it is what the try has written (this project's).
+use Rattle.client_cache.specs.Copies.{Contents, changed}
+use Rattle.client_state.specs.declared.calls.Came.TheVariants as came
+use Rattle.client_state.specs.declared.calls.Came.{Came}
+use Rattle.client_state.specs.declared.calls.Drew.TheVariants as drew
+use Rattle.client_state.specs.declared.calls.Drew.{Drew}
+use Rattle.client_state.specs.declared.phase.Phase.TheVariants.{Asking, Beginning, Between, Drawn, Evaluated, Evaluating, Preparing, Transforming}
+use Rattle.client_state.specs.declared.phase.Phase.{Phase}
 use Rattle.client_state.specs.declared.transaction.Share.{Share}
+use Rattle.paused_eval.specs.Copies.{last_of}
 use Rattle.std.specs.Prelude.{Bool, List, None, Option, Some, [], cond, false, nat_eq, slice_get, slice_set, true, ℕ, ◌++◌, ◌<◌, ◌∷◌, ◌≡◌}
-use Rattle.thor_value.specs.FiniteMap.{empty, get, overwrite}
-use Rattle.thor_value.specs.Names.{oref_cmp}
 use Rattle.thor_value.specs.declared.names.Oref.{Oref}
 use Rattle.thor_value.specs.declared.values.Obj.{Obj}
-
--- what some writes, each in turn, make of an object
-abbrev pub last_of : List (Oref × Obj) → Oref → Option Obj
-last_of writes x = get {R = oref_cmp} (overwrite empty writes) x
 
 -- what the first share of its repository writes of an object
 abbrev pub shares_write : List Share → Oref → Option Obj
@@ -55,3 +57,44 @@ read_more_on shares place x (Some s) = slice_set shares place (with_read s x)
 -- the share at a place does
 abbrev pub read_more_at : ℕ → Oref → List Share → List Share
 read_more_at place x shares = read_more_on shares place x (slice_get shares place)
+
+-- ---- what the try has written
+
+-- What the try has written stays.
+abbrev pub WritesStay : Contents → Contents → Type 0
+WritesStay old new = (x : Oref) → changed new x ≡ changed old x
+
+-- What the try has written is what the shares write.
+abbrev pub WritesShares : List Share → Contents → Type 0
+WritesShares shares c = (x : Oref) → changed c x ≡ shares_write shares x
+
+-- The try has written what these writes make of the objects of a repository, and nothing elsewhere.
+abbrev pub WritesThere : ℕ → List (Oref × Obj) → Contents → Type 0
+WritesThere repo writes c = (x : Oref) → changed c x ≡ cond (nat_eq repo x.repo) (last_of writes x) None
+
+-- the shares of a transaction that was evaluated and of which nothing is sent yet
+abbrev pub unsent : Phase → Option (List Share)
+unsent Between = None
+unsent Beginning = None
+unsent (Evaluating run awaited) = None
+unsent (Transforming run transform) = None
+unsent (Evaluated transaction) = Some transaction.shares.items
+unsent (Drawn t transaction) = Some transaction.shares.items
+unsent (Preparing t transaction coordinator prepared) = None
+unsent (Asking sent answers) = None
+
+-- Where a transaction was evaluated and nothing of it is sent yet, the try has written what it writes.
+pub record PhaseWrites (phase : Phase) (c : Contents) : Type 0 where
+  pub all : (shares : List Share) → unsent phase ≡ Some shares → WritesShares shares c
+
+-- What the try has written stays, where the try goes on as it is behind a call that came to this.
+abbrev pub CameStays : Came → Contents → Contents → Type 0
+CameStays came.Well old new = WritesStay old new
+CameStays came.Anew old new = Unit {0}
+CameStays (came.Refused cause) old new = Unit {0}
+CameStays (came.Learnt learnt) old new = WritesStay old new
+
+-- The same behind a draw.
+abbrev pub DrewStays : Drew → Contents → Contents → Type 0
+DrewStays (drew.Ts t) old new = WritesStay old new
+DrewStays (drew.Refused c) old new = CameStays c old new

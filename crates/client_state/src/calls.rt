@@ -6,11 +6,12 @@ ghost use Rattle.client_state.specs.Links.{at_repo, session_in};
 ghost use Rattle.client_state.specs.Moving.{CallsIdle, IsApart, SendsNothingIf};
 ghost use Rattle.client_state.specs.Receiving.{IsNotGone};
 ghost use Rattle.client_state.specs.Showing.{CameIf, CameShown, DrewIf};
+ghost use Rattle.client_state.specs.Writing.{CameStays, DrewStays};
 ghost use Rattle.client_state.specs.declared.link.Link.TheVariants.{Joined};
 ghost use Rattle.client_state.specs.declared.link.Waits.TheVariants.{Idle};
 ghost use Rattle.port.specs.Acting.{Refuses};
 ghost use Rattle.port.specs.Views.{View};
-ghost use Rattle.std.specs.Prelude.{IfOk, IsTrue, Some, not, slice_get, ◌≡◌};
+ghost use Rattle.std.specs.Prelude.{IfOk, IsTrue, OnErr, Some, not, slice_get, ◌≡◌};
 
 use crate::causes::cause_of;
 use crate::held::Held;
@@ -133,6 +134,8 @@ impl Held {
         ensures moves { session_in at.repo (slice_get self.old.links.items at.repo) ≡ Some at → SendsNothingIf Q.shows (Q.view port.old) (Q.view port.new) self.old self.new }
         ensures above { DrawsAbove Q.shows (Q.view port.old) (Q.view port.new) at self.old.floor self.old.links.items result }
         ensures shown { DrewIf Q.shows (Q.view port.old) (Q.view port.new) result }
+        ensures stays { IfOk result (λ drew. DrewStays drew self.old.cache.cache self.new.cache.cache) }
+        ensures err { OnErr result (self.new ≡ self.old) }
         ensures bounds { KeepsBounds self.old self.new }
     {
         match port.draw(at, self.floor()) {
@@ -148,6 +151,8 @@ impl Held {
         ensures copies { CopiesRefused refusal repo self.old.links.items self.old.cache.cache self.new.cache.cache }
         ensures client { self.new.client ≡ self.old.client }
         ensures shown { IfOk result (λ came. (old new : View) → Refuses old new repo refusal → CameShown old new came) }
+        ensures stays { IfOk result (λ came. CameStays came self.old.cache.cache self.new.cache.cache) }
+        ensures err { OnErr result (self.new ≡ self.old) }
         ensures bounds { KeepsBounds self.old self.new }
     {
         if self.lose_gone(repo, refusal) {

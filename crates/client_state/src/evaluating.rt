@@ -2,9 +2,14 @@
 
 ghost use Rattle.client_state.specs.Learning.{KeepsBounds};
 ghost use Rattle.client_state.specs.Moving.{HoldsSame};
-ghost use Rattle.client_state.specs.Writing.{last_of, shares_write};
+ghost use Rattle.client_cache.specs.Copies.{changed};
+ghost use Rattle.client_state.specs.Writing.{WritesShares, shares_write};
+ghost use Rattle.paused_defs.specs.Methods.{class_methods};
+ghost use Rattle.paused_eval.specs.Copies.{last_of};
+ghost use Rattle.paused_eval.specs.Writing.{HasWritten, WrittenBy};
+ghost use Rattle.std.specs.Prelude.{IfOk, List, OnOk, ◌≡◌};
 ghost use Rattle.thor_value.specs.declared.names.Oref.{Oref};
-ghost use Rattle.std.specs.Prelude.{IfOk, OnOk, ◌≡◌};
+ghost use Rattle.thor_value.specs.declared.values.Obj.{Obj};
 
 use crate::held::Held;
 use crate::transaction::Transaction;
@@ -13,15 +18,19 @@ use class_defs::{Block, Schema};
 use item_progress::Opened;
 use lazy_transform::{Wanted, wants};
 use method_eval::Ran;
+use paused_defs::ClassMethods;
 use paused_eval::Paused;
 use thor_value::{Answer, NoMemory, Oref, Orefs, Writes};
 use upgrade_eval::schema_at;
 
-/// The schema of an epoch; the first one where the store has none for it.
-fn schema_of(opened: &Opened, epoch: u32) -> &Schema {
-    match schema_at(&opened.schemas, epoch) {
-        Some(schema) => schema,
-        None => &opened.schemas.first,
+/// The schema of an epoch, with its methods; the first one where the store has none for it.
+#[tactic(auto, using(crate::proofs::Schemas::are_its_methods))]
+fn schema_of(opened: &Opened, epoch: u32) -> (&Schema, &ClassMethods)
+    ensures { result.1.now ≡ class_methods result.0.now.classes }
+{
+    match (schema_at(&opened.schemas, epoch), opened.methods.at(epoch)) {
+        (Some(schema), Some(methods)) => (schema, methods),
+        (_, _) => (&opened.schemas.first, &opened.methods.first),
     }
 }
 
@@ -29,17 +38,12 @@ impl Held {
     /// Evaluates as far as the copies allow.
     pub fn evaluate(&mut self, opened: &Opened, run: &mut Paused) -> Result<Ran, NoMemory>
         ensures same { OnOk result (HoldsSame self.old self.new) }
+        ensures wrote { IfOk result (λ ran. HasWritten ran self.new.cache.cache) }
         ensures bounds { KeepsBounds self.old self.new }
     {
         let epoch = self.epoch(opened);
-        let schema = schema_of(opened, epoch);
-        run.go(
-            schema,
-            epoch,
-            &mut self.cache,
-            &mut self.names,
-            &mut self.texts,
-        )
+        let (schema, methods) = schema_of(opened, epoch);
+        run.go(schema, methods, epoch, &mut self.cache, &mut self.names)
     }
 
     /// The evaluation of a transaction before its first step.
@@ -51,6 +55,7 @@ impl Held {
     }
 
     /// The transaction of an evaluation that has ended. What a fault has changed is given up.
+    #[tactic(auto, using(crate::proofs::Writing::of_shares))]
     pub fn evaluated(
         &mut self,
         opened: &Opened,
@@ -61,12 +66,24 @@ impl Held {
     ) -> Result<Transaction, NoMemory>
         ensures same { HoldsSame self.old self.new }
         ensures writes { IfOk result (λ made. (x : Oref) → shares_write made.shares.items x ≡ last_of writes x) }
+        ensures wrote { IfOk result (λ made. WrittenBy answer writes self.old.cache.cache → WritesShares made.shares.items self.new.cache.cache) }
         ensures bounds { KeepsBounds self.old self.new }
     {
-        if let Answer::Fault(_) = &answer {
-            self.undo();
-        }
+        self.undo_fault(&answer);
         Transaction::evaluated(answer, self.epoch(opened), reads, writes, fresh)
+    }
+
+    /// What a fault has changed is given up.
+    #[tactic(auto, using(crate::proofs::Writing::fault_undone, crate::proofs::Writing::stays_written))]
+    fn undo_fault(&mut self, answer: &Answer)
+        ensures same { HoldsSame self.old self.new }
+        ensures wrote { (writes : List (Oref × Obj)) → WrittenBy answer.now writes self.old.cache.cache → (x : Oref) → changed self.new.cache.cache x ≡ last_of writes x }
+        ensures bounds { KeepsBounds self.old self.new }
+    {
+        match answer {
+            Answer::Ints(_) => {}
+            Answer::Fault(_) => self.undo(),
+        }
     }
 
     /// Looks at the parts that a transform wants and that are held. It answers all that it reads, or the

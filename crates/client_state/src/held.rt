@@ -5,6 +5,7 @@ ghost use Rattle.client_state.specs.Learning.{KeepsBounds, Rises, without_sessio
 ghost use Rattle.client_state.specs.Links.{CountsUnsettled, NoneAwaits, NoneIsBehind, at_repo, awaits_reply, is_behind, link_in, session_in, stopped, waiting};
 ghost use Rattle.client_state.specs.Moving.{HoldsLess, InSession, IsApart, KeepsMade, KeepsTry, LeavesSome, StopsWaiting};
 ghost use Rattle.client_state.specs.Taking.{BringsPage};
+ghost use Rattle.client_state.specs.Writing.{WritesStay};
 ghost use Rattle.client_state.specs.declared.link.Link.{Link};
 ghost use Rattle.client_state.specs.declared.link.Link.TheVariants.{Apart};
 ghost use Rattle.client_cache.specs.Copies.{changed, kept, seen};
@@ -62,7 +63,7 @@ impl Held {
             links,
             cache: Copies::new(alloc, pages)?,
             names: GrantedNames::new(alloc),
-            texts: KeptTexts::new(alloc),
+            texts: KeptTexts::new(),
             learnt: 0,
             floor: 0,
         })
@@ -358,6 +359,7 @@ impl Held {
     /// nothing.
     pub fn place(&mut self, repo: u8, page: u32, bytes: &Text) -> Result<(), NoMemory>
         ensures kept { OnOk result (BringsPage repo page bytes.now self.old.cache.cache self.new.cache.cache) }
+        ensures writes { WritesStay self.old.cache.cache self.new.cache.cache }
         ensures rest { self.new ≡ record self.old { cache = self.new.cache } }
     {
         self.cache.place(page, repo, bytes.as_slice())?;
@@ -391,6 +393,7 @@ impl Held {
     /// What a try has changed is given up.
     pub fn undo(&mut self)
         ensures copies { CopiesStay self.old.cache.cache self.new.cache.cache }
+        ensures none { (x : Oref) → changed self.new.cache.cache x ≡ None }
         ensures links { self.new.links ≡ self.old.links }
         ensures less { HoldsLess self.old self.new }
         ensures bounds { KeepsBounds self.old self.new }

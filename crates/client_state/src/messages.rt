@@ -3,6 +3,7 @@
 ghost use Rattle.client_state.specs.Learning.{KeepsBounds};
 ghost use Rattle.client_state.specs.Links.{at_repo};
 ghost use Rattle.client_state.specs.Taking.{Without, behind, links_behind, took};
+ghost use Rattle.client_state.specs.Writing.{WritesStay};
 ghost use Rattle.port.specs.Works.{Does, ReceiveWork};
 ghost use Rattle.std.specs.Prelude.{true, ◌≡◌};
 
@@ -68,6 +69,7 @@ impl Held {
     /// Objects were written by others: their copies are dropped, and no others.
     pub fn drop_copies(&mut self, orefs: &Orefs)
         ensures copies { Without orefs.now self.old.cache.cache self.new.cache.cache }
+        ensures writes { WritesStay self.old.cache.cache self.new.cache.cache }
         ensures links { self.new.links ≡ self.old.links }
         ensures client { self.new.client ≡ self.old.client }
         ensures bounds { KeepsBounds self.old self.new }

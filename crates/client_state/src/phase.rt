@@ -1,9 +1,11 @@
 //! How far a try has come.
 
 ghost use Rattle.client_state.specs.Owing.{asking_in, calls_in, calls_of_abort};
+ghost use Rattle.client_cache.specs.Copies.{Contents};
 ghost use Rattle.client_state.specs.Sending.{DrawsPhase};
+ghost use Rattle.client_state.specs.Writing.{PhaseWrites, unsent};
 ghost use Rattle.client_state.specs.declared.phase.Phase.TheVariants as phase;
-ghost use Rattle.std.specs.Prelude.{Contains, IfSome, ℕ, ◌≡◌, ◌≤◌};
+ghost use Rattle.std.specs.Prelude.{Contains, IfSome, IsTrue, None, not, ℕ, ◌≡◌, ◌≤◌};
 
 use crate::duties::Abort;
 use crate::link::Link;
@@ -105,7 +107,9 @@ impl Phase {
     }
 
     /// An evaluation brings a due object to the epoch. Any other phase stays.
-    pub fn transforming(self, transform: Transform) -> Phase {
+    pub fn transforming(self, transform: Transform) -> Phase
+        ensures { unsent result ≡ unsent self }
+    {
         match self {
             Phase::Evaluating { run, .. } => Phase::Transforming { run, transform },
             phase => {
@@ -117,7 +121,8 @@ impl Phase {
 
     /// An evaluated transaction is drawn, with the sessions that there are. Any other phase stays.
     pub fn drawn(self, ts: Ts, links: &[Link]) -> Phase
-        ensures { DrawsPhase ts links.now self result }
+        ensures draws { DrawsPhase ts links.now self result }
+        ensures writes { (c : Contents) → PhaseWrites self c → PhaseWrites result c }
     {
         match self {
             Phase::Evaluated { mut transaction } => {
@@ -129,7 +134,9 @@ impl Phase {
     }
 
     /// The page of an object that is needed next is asked for.
-    pub fn await_page(&mut self, oref: Oref) {
+    pub fn await_page(&mut self, oref: Oref)
+        ensures { unsent self.new ≡ unsent self.old }
+    {
         match self {
             Phase::Evaluating { awaited, .. } => {
                 *awaited = Some(oref);
@@ -145,14 +152,18 @@ impl Phase {
     }
 
     /// A transform is drawn.
-    pub fn draw_transform(&mut self, ts: Ts, becomes: Becomes) {
+    pub fn draw_transform(&mut self, ts: Ts, becomes: Becomes)
+        ensures { unsent self.new ≡ unsent self.old }
+    {
         if let Phase::Transforming { transform, .. } = self {
             transform.draw(ts, becomes);
         }
     }
 
     /// A participant other than the coordinator has prepared the transaction.
-    pub fn note_prepared(&mut self, repo: u8) -> Result<(), NoMemory> {
+    pub fn note_prepared(&mut self, repo: u8) -> Result<(), NoMemory>
+        ensures { unsent self.new ≡ unsent self.old }
+    {
         match self {
             Phase::Preparing { prepared, .. } => prepared.push(repo),
             Phase::Between
@@ -179,7 +190,9 @@ impl Phase {
     }
 
     /// Whether a try runs that its coordinator has not prepared.
-    pub fn runs_unprepared(&self) -> bool {
+    pub fn runs_unprepared(&self) -> bool
+        ensures { IsTrue (not result) → unsent self.now ≡ None }
+    {
         match self {
             Phase::Between | Phase::Asking { .. } | Phase::Preparing { .. } => false,
             Phase::Beginning

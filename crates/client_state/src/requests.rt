@@ -2,6 +2,8 @@
 
 ghost use Rattle.client_state.specs.Calling.{upto_in};
 ghost use Rattle.client_state.specs.Sending.{IsOfSession, IsOfShare, SendsFirst, upto_behind};
+ghost use Rattle.client_cache.specs.Copies.{Contents};
+ghost use Rattle.client_state.specs.Writing.{WritesShares, WritesThere};
 ghost use Rattle.std.specs.Prelude.{IfOk, IfSome, [], slice_get, ◌∷◌, ◌≡◌};
 
 use crate::held::Held;
@@ -19,7 +21,9 @@ pub struct Sending {
 }
 
 impl Held {
-    /// Takes out of a transaction what its next participant is to be sent, where there is one.
+    /// Takes out of a transaction what its next participant is to be sent, where there is one. Where none comes behind it, its
+    /// request writes all that the transaction writes.
+    #[tactic(auto, using(crate::proofs::Writing::sent_alone))]
     pub fn next_sending(
         &self,
         who: Who,
@@ -29,6 +33,7 @@ impl Held {
         ensures tx { IfOk result (λ some. IfSome some (λ sending. sending.request.tx ≡ ts)) }
         ensures session { IfOk result (λ some. IfSome some (IsOfSession self.now.links.items)) }
         ensures share { IfOk result (λ some. IfSome some (SendsFirst self.now.links.items transaction.old.shares.items)) }
+        ensures writes { IfOk result (λ some. IfSome some (λ sending. transaction.new.shares.items ≡ [] → (c : Contents) → WritesShares transaction.old.shares.items c → WritesThere sending.at.repo sending.request.writes c)) }
     {
         match transaction.next_share() {
             Some(share) => Ok(Some(self.sending(who, ts, transaction, share)?)),

@@ -2,7 +2,8 @@
 
 ghost use Rattle.client_state.specs.Owing.{count_of};
 ghost use Rattle.client_state.specs.Sending.{CarriesSessions, carried, carried_at};
-ghost use Rattle.client_state.specs.Writing.{FirstOf, NoneOf, is_of, last_of, new_share, read_more_at, shares_write, with_read, with_write, written_at};
+ghost use Rattle.client_state.specs.Writing.{FirstOf, NoneOf, is_of, new_share, read_more_at, shares_write, with_read, with_write, written_at};
+ghost use Rattle.paused_eval.specs.Copies.{last_of};
 ghost use Rattle.std.specs.Ordering.{eq_by_cmp};
 ghost use Rattle.std.specs.Prelude.{IfOk, MatchOption, None, OnOk, Some, [], cond, length, slice_get, ◌++◌, ◌∷◌, ◌≡◌, ◌≤◌};
 ghost use Rattle.thor_value.specs.Names.{oref_cmp};
@@ -107,14 +108,16 @@ impl Share {
 }
 
 impl Transaction {
-    /// The upgrade of a number, in which all repositories take part.
-    pub fn upgrade(number: u32, text: Text, repos: u8) -> Result<Transaction, NoMemory> {
+    /// The upgrade of a number, in which all repositories take part. It writes nothing.
+    pub fn upgrade(number: u32, text: Text, repos: u8) -> Result<Transaction, NoMemory>
+        ensures writes { IfOk result (λ made. (x : Oref) → shares_write made.shares.items x ≡ None) }
+    {
         let alloc = text.allocator();
         let mut participants = Sequence::new(alloc);
         let mut shares = Vec::new(alloc);
         for repo in 0..repos {
             participants.push(repo)?;
-            shares.push(Share::of(repo, Orefs::new(alloc), Writes::new(alloc)))?;
+            push_share(&mut shares, repo)?;
         }
         Ok(Transaction {
             meaning: Meaning::Upgrade { number, text },
@@ -166,7 +169,9 @@ impl Transaction {
     }
 
     /// What is sent carries the sessions that there are at the participants.
+    #[tactic(auto, using(crate::proofs::Writing::carried_write))]
     pub fn carry_sessions(&mut self, links: &[Link])
+        ensures writes { (x : Oref) → shares_write self.new.shares.items x ≡ shares_write self.old.shares.items x }
         ensures rest { self.new ≡ record self.old { shares = self.new.shares } }
         ensures carries { CarriesSessions links.now self.old.shares.items self.new.shares.items }
     {

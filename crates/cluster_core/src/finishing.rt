@@ -142,7 +142,7 @@ fn gather(
     let lines = history_of(alloc, traces.as_slice());
     let (held, lines) = both(((opened, traces), closed), lines)?;
     let ((opened, traces), (ends, items)) = held;
-    let Opened { schemas, .. } = opened;
+    let schemas = opened.into_schemas();
     Ok(Ran {
         ends,
         lines,

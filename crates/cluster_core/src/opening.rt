@@ -104,11 +104,7 @@ fn told_to(
     let (clients, schemas) = held;
     let schemas = with_upgrades(alloc, schemas, clients.as_slice());
     let (clients, schemas) = both(clients, schemas)?;
-    let opened = Opened {
-        repos,
-        epoch,
-        schemas,
-    };
+    let (clients, opened) = both(clients, Opened::new(alloc, repos, epoch, schemas))?;
     Ok(both(opened, make_clients(alloc, clients, tries, cache))?)
 }
 

@@ -19,7 +19,7 @@ use Rattle.item_progress.specs.contracts.opened.Opened as Opened
 use Rattle.item_progress.specs.contracts.progress.Progress as Progress
 use Rattle.paused_eval.proofs.copies.Copies.TheSendSync as copies
 use Rattle.paused_eval.proofs.granted_names.GrantedNames.TheSendSync as granted_names
-use Rattle.cluster_threads.proofs.RunsCross.{kept_texts_send, paused_send}
+use Rattle.cluster_threads.proofs.RunsCross.{epoch_methods_sync, kept_texts_send, paused_send}
 use Rattle.cluster_threads.proofs.TreesCross.{schemas_sync, stmt_send, upgrade_send}
 
 ruleset base = (sequence.the_send, sequence.the_sync, sendable)
@@ -31,7 +31,7 @@ pub progress_send : IsSend Progress.the_row
 progress_send = search (what_send, ended.the_send, base) depth 30
 
 pub opened_sync : IsSync Opened.the_row
-opened_sync = search (schemas_sync, base) depth 30
+opened_sync = search (schemas_sync, epoch_methods_sync, base) depth 30
 
 pub phase_send : IsSend (Phase.the_field).row
 phase_send = search (paused_send, sent.the_field_send, transaction.the_field_send, transform.the_field_send, at.the_field_send, oref.the_send, ts.the_field_send, base) depth 30

@@ -21,6 +21,8 @@ use Rattle.paused_defs.proofs.shared.Shared.TheSendSync as shared
 use Rattle.paused_defs.proofs.stack.Stack.TheSendSync as stack
 use Rattle.paused_defs.specs.contracts.frames.Doing as Doing
 use Rattle.paused_defs.specs.contracts.frames.Frame as Frame
+use Rattle.paused_defs.specs.contracts.methods.EpochMethods as EpochMethods
+use Rattle.paused_defs.specs.contracts.methods.SharedMethod as SharedMethod
 use Rattle.paused_defs.specs.contracts.nodes.ExprNode as ExprNode
 use Rattle.paused_defs.specs.contracts.nodes.StmtNode as StmtNode
 use Rattle.paused_defs.specs.contracts.shared.Shared as Shared
@@ -28,10 +30,9 @@ use Rattle.paused_defs.specs.contracts.syntax.SharedBlock as SharedBlock
 use Rattle.paused_defs.specs.contracts.syntax.SharedExpr as SharedExpr
 use Rattle.paused_defs.specs.contracts.syntax.SharedExprs as SharedExprs
 use Rattle.paused_defs.specs.contracts.syntax.SharedStmt as SharedStmt
-use Rattle.paused_eval.specs.contracts.bodies.Copied as Copied
 use Rattle.paused_eval.specs.contracts.kept_texts.KeptTexts as KeptTexts
 use Rattle.paused_eval.specs.contracts.paused.Paused as Paused
-use Rattle.cluster_threads.proofs.TreesCross.{type_name_send, type_name_sync}
+use Rattle.cluster_threads.proofs.TreesCross.{name_sync, parameter_sync, type_name_send, type_name_sync}
 
 ruleset base = (sequence.the_send, sequence.the_sync, boxed.the_send, boxed.the_sync, shared.the_send, shared.the_sync, sendable)
 
@@ -98,11 +99,14 @@ frame_send = enum_send (shape Frame.the_type) (tt, ((search base, (operator.the_
 pub paused_send : IsSend (Paused.the_field).row
 paused_send = search (doing_send, frame_send, stack.the_send, leaves, base, crosses) depth 30
 
-pub shared_block_field_send : IsSend (SharedBlock.the_field).row
-shared_block_field_send = search (stmt_nodes_send, stmt_nodes_sync, base) depth 30
-
-pub copied_send : IsSend Copied.the_row
-copied_send = search (text_send, shared_block_field_send, base) depth 30
-
 pub kept_texts_send : IsSend (KeptTexts.the_field).row
-kept_texts_send = search (copied_send, shared_block_send, base) depth 30
+kept_texts_send = search (shared_block_send, base) depth 30
+
+pub shared_block_field_sync : IsSync (SharedBlock.the_field).row
+shared_block_field_sync = search (stmt_nodes_send, stmt_nodes_sync, base) depth 30
+
+pub shared_method_sync : IsSync SharedMethod.the_row
+shared_method_sync = search (parameter_sync, type_name_sync, name_sync, shared_block_field_sync, base) depth 30
+
+pub epoch_methods_sync : IsSync (EpochMethods.the_field).row
+epoch_methods_sync = search (shared_method_sync, base) depth 30

@@ -8,3 +8,4 @@ pub mod Settling
 pub mod Showing
 pub mod Spending
 pub mod Steps
+pub mod Writing

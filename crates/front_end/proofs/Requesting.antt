@@ -6,8 +6,9 @@ use Rattle.client_state.specs.Calling.{CopiesRefused, upto_in}
 use Rattle.client_state.specs.Causes.{cause_behind}
 use Rattle.client_state.specs.Learning.{links_learnt}
 use Rattle.client_state.specs.Links.{NoneAwaits}
-use Rattle.client_state.specs.Moving.{CommitRefused, Committed, DecideRefused, Decided, EndsSo, HoldsLess, KeepsMade, KeepsTry, Learns, Loses, MovesIf, PrepareRefused, Prepared, Rested, Transformed, Unsent}
+use Rattle.client_state.specs.Moving.{CommitRefused, Committed, DecideRefused, Decided, EndsSo, HoldsLess, InSession, KeepsMade, KeepsTry, Learns, Loses, MovesIf, PrepareRefused, Prepared, Rested, Transformed, Unsent}
 use Rattle.client_state.specs.Sending.{IsOfSession}
+use Rattle.client_state.specs.Writing.{WritesThere}
 use Rattle.client_state.specs.declared.held.Held.{Held}
 use Rattle.client_state.specs.declared.link.Link.{Link}
 use Rattle.client_state.specs.declared.requests.Sending.{Sending}
@@ -38,12 +39,12 @@ module _ (shows : Bool) (old new : View) (before after : Held) where
       pub by_prepare_refused : (k : Refusal) → (shows ≡ true → Does {X = ℕ} old new s.at.repo (Err k) (PrepareWork s.at.session s.request (Err k))) → Learns k s.at.repo before after → after.client ≡ before.client → MovesIf shows old new before after
       by_prepare_refused k call learns client = λ w. PrepareRefused s k (call w) of idle learns client
 
-      pub by_commit : (place : ℕ) → (shows ≡ true → Does {X = ℕ} old new s.at.repo (Ok place) (CommitWork s.at.session s.request (Ok place))) → KeepsTry before after → MovesIf shows old new before after
-      by_commit place call keeps = λ w. Committed s place (call w) of idle keeps
+      pub by_commit : (place : ℕ) → (shows ≡ true → Does {X = ℕ} old new s.at.repo (Ok place) (CommitWork s.at.session s.request (Ok place))) → WritesThere s.at.repo s.request.writes before.cache.cache → KeepsTry before after → MovesIf shows old new before after
+      by_commit place call wrote keeps = λ w. Committed s place (call w) of wrote idle keeps
 
       pub by_transform : (place : ℕ) (oref : Oref) (made : Obj) → (shows ≡ true → Does {X = ℕ} old new s.at.repo (Ok place) (CommitWork s.at.session s.request (Ok place)))
-          → s.request.writes ≡ (oref, made) ∷ [] → KeepsMade oref made before after → MovesIf shows old new before after
-      by_transform place oref made call writes keeps = λ w. Transformed s place oref made (call w) of writes idle keeps
+          → InSession s.at before → s.request.writes ≡ (oref, made) ∷ [] → KeepsMade oref made before after → MovesIf shows old new before after
+      by_transform place oref made call joined writes keeps = λ w. Transformed s place oref made (call w) of joined writes idle keeps
 
       pub by_commit_refused : (k : Refusal) → (shows ≡ true → Does {X = ℕ} old new s.at.repo (Err k) (CommitWork s.at.session s.request (Err k))) → Learns k s.at.repo before after → after.client ≡ before.client → MovesIf shows old new before after
       by_commit_refused k call learns client = λ w. CommitRefused s k (call w) of idle learns client

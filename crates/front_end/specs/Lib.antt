@@ -1,3 +1,4 @@
 pub mod Moving
 pub mod Rules
 pub mod Showing
+pub mod Writing

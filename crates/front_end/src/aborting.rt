@@ -1,6 +1,7 @@
 //! Before the rules: a transaction that its coordinator has prepared and whose try has ended is aborted
 //! there.
 
+ghost use Rattle.front_end.specs.Writing.{ClientWrites};
 ghost use Rattle.client_state.specs.Learning.{Rises};
 ghost use Rattle.client_state.specs.Moving.{Loses, MovesIf};
 ghost use Rattle.client_state.specs.Owing.{count_of};
@@ -21,6 +22,7 @@ impl Client {
         ensures owed { OnOk result ((tries : ℕ) → uncounted tries self.new ≤ uncounted tries self.old + (count_of abort.prepared + 1)) }
         ensures acts { ActsIf Q.shows (Q.view port.old) (Q.view port.new) }
         ensures moves { MovesIf Q.shows (Q.view port.old) (Q.view port.new) self.old.held self.new.held }
+        ensures writes { ClientWrites self.old → ClientWrites self.new }
         ensures rises { Rises self.old.held self.new.held }
     {
         let Abort {
@@ -39,12 +41,13 @@ impl Client {
         ensures loses { Loses refusal repo self.old.held self.new.held }
         ensures client { self.new.held.client ≡ self.old.held.client }
         ensures left { (tries : ℕ) → uncounted tries self.new ≤ uncounted tries self.old }
+        ensures writes { ClientWrites self.old → ClientWrites self.new }
         ensures rises { Rises self.old.held self.new.held }
     {
         if let Refusal::NoMemory = refusal {
             return Err(NoMemory);
         }
-        let _ = self.held.lose_gone(repo, refusal);
+        let _ = self.lose_session(repo, refusal);
         Ok(())
     }
 }

@@ -1,5 +1,7 @@
 //! The fourth rule: the client asks for its own transaction, which was sent to be decided.
 
+ghost use Rattle.client_state.specs.Writing.{unsent};
+ghost use Rattle.front_end.specs.Writing.{ClientWrites};
 ghost use Rattle.client_state.specs.Learning.{Rises};
 ghost use Rattle.client_state.specs.Moving.{EndsSo, LeavesLess, MovesIf};
 ghost use Rattle.client_state.specs.Owing.{asking_in, calls_in, count_of};
@@ -9,7 +11,7 @@ ghost use Rattle.front_end.specs.Showing.{NewsShown, ShownIf};
 ghost use Rattle.port.specs.Acting.{ActsIf};
 ghost use Rattle.port.specs.Views.{View};
 ghost use Rattle.front_end.specs.Moving.{uncounted};
-ghost use Rattle.std.specs.Prelude.{IfOk, IsSome, OnOk, ℕ, ◌+◌, ◌<◌, ◌≡◌, ◌≤◌};
+ghost use Rattle.std.specs.Prelude.{IfOk, IsSome, OnOk, ℕ, ◌+◌, ◌<◌, ◌≡◌, ◌≤◌, None};
 
 use crate::client::Client;
 use client_state::{Link, Phase, Sent};
@@ -32,6 +34,7 @@ impl Client {
         ensures acts { ActsIf Q.shows (Q.view port.old) (Q.view port.new) }
         ensures shown { ShownIf Q.shows (Q.view port.old) (Q.view port.new) opened.now.repos result }
         ensures moves { OnOk result (MovesIf Q.shows (Q.view port.old) (Q.view port.new) self.old.held self.new.held) }
+        ensures writes { ClientWrites self.new }
         ensures rises { Rises self.old.held self.new.held }
     {
         match self.take_phase().into_asking() {
@@ -52,6 +55,7 @@ impl Client {
         ensures acts { ActsIf Q.shows (Q.view port.old) (Q.view port.new) }
         ensures shown { ShownIf Q.shows (Q.view port.old) (Q.view port.new) opened.now.repos result }
         ensures moves { OnOk result (MovesIf Q.shows (Q.view port.old) (Q.view port.new) self.old.held self.new.held) }
+        ensures writes { unsent self.old.phase ≡ None → ClientWrites self.new }
         ensures rises { Rises self.old.held self.new.held }
     {
         let coordinator = sent.coordinator();
@@ -75,6 +79,7 @@ impl Client {
         ensures owed { OnOk result ((tries : ℕ) → uncounted tries self.new ≤ uncounted tries self.old + (count_of sent.participants + 1)) }
         ensures shown { IfOk result (λ news. (old new : View) (repos : ℕ) → IsToldBy old new coordinator sent.ts verdict.commit → NewsShown old new repos news) }
         ensures ends { OnOk result (EndsSo verdict.commit self.old.held self.new.held) }
+        ensures writes { unsent self.old.phase ≡ None → ClientWrites self.new }
         ensures rises { Rises self.old.held self.new.held }
     {
         self.duties.hand_on(verdict, sent.others()?)?;
@@ -89,6 +94,7 @@ impl Client {
         ensures owed { (before : ℕ) → (answers < task.entry.tries → before < answers) → uncounted task.entry.tries self.new < uncounted task.entry.tries self.old + calls_in task.entry.tries (phase.Asking sent before) }
         ensures shown { (old new : View) (repos : ℕ) → NewsShown old new repos result }
         ensures leaves { LeavesLess self.old.held self.new.held }
+        ensures writes { unsent self.old.phase ≡ None → ClientWrites self.new }
         ensures rises { Rises self.old.held self.new.held }
     {
         if answers < task.tries {
@@ -104,6 +110,7 @@ impl Client {
         ensures rest { self.new ≡ record self.old { held = self.new.held } }
         ensures shown { (old new : View) (repos : ℕ) → NewsShown old new repos result }
         ensures leaves { LeavesLess self.old.held self.new.held }
+        ensures writes { unsent self.old.phase ≡ None → ClientWrites self.new }
         ensures rises { Rises self.old.held self.new.held }
     {
         let coordinator = sent.coordinator();

@@ -1,5 +1,7 @@
 //! How a transaction is drawn, sent and decided.
 
+ghost use Rattle.client_state.specs.Writing.{WritesShares, WritesThere, unsent};
+ghost use Rattle.front_end.specs.Writing.{ClientWrites};
 ghost use Rattle.client_state.specs.Learning.{Rises};
 ghost use Rattle.client_state.specs.Links.{NoneAwaits};
 ghost use Rattle.client_state.specs.Moving.{Loses, MovesIf, SendsNothingIf};
@@ -7,7 +9,7 @@ ghost use Rattle.client_state.specs.Sending.{IsOfSession};
 ghost use Rattle.front_end.specs.Showing.{ShownIf};
 ghost use Rattle.port.specs.Acting.{ActsIf};
 ghost use Rattle.item_progress.specs.declared.news.News.TheVariants as news;
-ghost use Rattle.std.specs.Prelude.{IfOk, OnOk, ℕ, ◌≡◌};
+ghost use Rattle.std.specs.Prelude.{IfOk, OnOk, ℕ, ◌≡◌, None, []};
 
 use crate::client::Client;
 use client_state::{Drew, Phase, Sending, Sent, Transaction};
@@ -28,6 +30,7 @@ impl Client {
         ensures acts { ActsIf Q.shows (Q.view port.old) (Q.view port.new) }
         ensures shown { ShownIf Q.shows (Q.view port.old) (Q.view port.new) opened.now.repos result }
         ensures moves { OnOk result (SendsNothingIf Q.shows (Q.view port.old) (Q.view port.new) self.old.held self.new.held) }
+        ensures writes { WritesShares transaction.shares.items self.old.held.cache.cache → ClientWrites self.new }
         ensures rises { Rises self.old.held self.new.held }
     {
         let apart = self.held.first_apart(&transaction.participants);
@@ -44,6 +47,7 @@ impl Client {
         ensures acts { ActsIf Q.shows (Q.view port.old) (Q.view port.new) }
         ensures shown { (repos : ℕ) → ShownIf Q.shows (Q.view port.old) (Q.view port.new) repos result }
         ensures moves { SendsNothingIf Q.shows (Q.view port.old) (Q.view port.new) self.old.held self.new.held }
+        ensures writes { ClientWrites self.old → ClientWrites self.new }
         ensures rises { Rises self.old.held self.new.held }
     {
         let Some(at) = self.held.at(coordinator) else {
@@ -70,7 +74,8 @@ impl Client {
     ) -> Result<News, NoMemory>
         ensures acts { ActsIf Q.shows (Q.view port.old) (Q.view port.new) }
         ensures shown { ShownIf Q.shows (Q.view port.old) (Q.view port.new) opened.now.repos result }
-        ensures moves { NoneAwaits 8 self.old.held.links.items → OnOk result (MovesIf Q.shows (Q.view port.old) (Q.view port.new) self.old.held self.new.held) }
+        ensures moves { WritesShares transaction.shares.items self.old.held.cache.cache → NoneAwaits 8 self.old.held.links.items → OnOk result (MovesIf Q.shows (Q.view port.old) (Q.view port.new) self.old.held self.new.held) }
+        ensures writes { unsent self.old.phase ≡ None → ClientWrites self.new }
         ensures rises { Rises self.old.held self.new.held }
     {
         self.held.names.spend();
@@ -80,6 +85,7 @@ impl Client {
         }
     }
 
+    /// Where nothing else is to be sent, it commits; else the coordinator prepares it.
     fn send_first<Q: Port>(
         &mut self,
         port: &mut Q,
@@ -90,10 +96,11 @@ impl Client {
     ) -> Result<News, NoMemory>
         ensures acts { ActsIf Q.shows (Q.view port.old) (Q.view port.new) }
         ensures shown { sending.request.tx ≡ ts → ShownIf Q.shows (Q.view port.old) (Q.view port.new) opened.now.repos result }
-        ensures moves { IsOfSession self.old.held.links.items sending → NoneAwaits 8 self.old.held.links.items → OnOk result (MovesIf Q.shows (Q.view port.old) (Q.view port.new) self.old.held self.new.held) }
+        ensures moves { (transaction.shares.items ≡ [] → WritesThere sending.at.repo sending.request.writes self.old.held.cache.cache) → IsOfSession self.old.held.links.items sending → NoneAwaits 8 self.old.held.links.items → OnOk result (MovesIf Q.shows (Q.view port.old) (Q.view port.new) self.old.held self.new.held) }
+        ensures writes { unsent self.old.phase ≡ None → ClientWrites self.new }
         ensures rises { Rises self.old.held self.new.held }
     {
-        if transaction.participants.len() == 1 {
+        if transaction.shares.is_empty() {
             return self.commit_one(port, opened, transaction.sent(ts), sending);
         }
         self.prepare_first(port, ts, transaction, sending)
@@ -108,7 +115,8 @@ impl Client {
     ) -> Result<News, NoMemory>
         ensures acts { ActsIf Q.shows (Q.view port.old) (Q.view port.new) }
         ensures shown { sending.request.tx ≡ sent.ts → ShownIf Q.shows (Q.view port.old) (Q.view port.new) opened.now.repos result }
-        ensures moves { IsOfSession self.old.held.links.items sending → NoneAwaits 8 self.old.held.links.items → MovesIf Q.shows (Q.view port.old) (Q.view port.new) self.old.held self.new.held }
+        ensures moves { WritesThere sending.at.repo sending.request.writes self.old.held.cache.cache → IsOfSession self.old.held.links.items sending → NoneAwaits 8 self.old.held.links.items → MovesIf Q.shows (Q.view port.old) (Q.view port.new) self.old.held self.new.held }
+        ensures writes { unsent self.old.phase ≡ None → ClientWrites self.new }
         ensures rises { Rises self.old.held self.new.held }
     {
         let Sending { at, request } = sending;
@@ -132,6 +140,7 @@ impl Client {
         ensures acts { ActsIf Q.shows (Q.view port.old) (Q.view port.new) }
         ensures shown { (repos : ℕ) → ShownIf Q.shows (Q.view port.old) (Q.view port.new) repos result }
         ensures moves { IsOfSession self.old.held.links.items sending → NoneAwaits 8 self.old.held.links.items → MovesIf Q.shows (Q.view port.old) (Q.view port.new) self.old.held self.new.held }
+        ensures writes { unsent self.old.phase ≡ None → ClientWrites self.new }
         ensures rises { Rises self.old.held self.new.held }
     {
         let Sending { at, request } = sending;
@@ -164,6 +173,7 @@ impl Client {
         ensures acts { ActsIf Q.shows (Q.view port.old) (Q.view port.new) }
         ensures shown { ShownIf Q.shows (Q.view port.old) (Q.view port.new) opened.now.repos result }
         ensures moves { NoneAwaits 8 self.old.held.links.items → OnOk result (MovesIf Q.shows (Q.view port.old) (Q.view port.new) self.old.held self.new.held) }
+        ensures writes { unsent self.old.phase ≡ None → ClientWrites self.new }
         ensures rises { Rises self.old.held self.new.held }
     {
         if transaction.shares.is_empty() {
@@ -184,6 +194,7 @@ impl Client {
         ensures acts { ActsIf Q.shows (Q.view port.old) (Q.view port.new) }
         ensures shown { (repos : ℕ) → ShownIf Q.shows (Q.view port.old) (Q.view port.new) repos result }
         ensures moves { NoneAwaits 8 self.old.held.links.items → MovesIf Q.shows (Q.view port.old) (Q.view port.new) self.old.held self.new.held }
+        ensures writes { ClientWrites self.new }
         ensures rises { Rises self.old.held self.new.held }
     {
         let sending = self.held.next_sending(who, ts, &mut transaction);
@@ -204,6 +215,7 @@ impl Client {
         ensures acts { ActsIf Q.shows (Q.view port.old) (Q.view port.new) }
         ensures shown { (repos : ℕ) → ShownIf Q.shows (Q.view port.old) (Q.view port.new) repos result }
         ensures moves { IsOfSession self.old.held.links.items sending → NoneAwaits 8 self.old.held.links.items → MovesIf Q.shows (Q.view port.old) (Q.view port.new) self.old.held self.new.held }
+        ensures writes { unsent self.old.phase ≡ None → ClientWrites self.new }
         ensures rises { Rises self.old.held self.new.held }
     {
         let Sending { at, request } = sending;
@@ -227,6 +239,7 @@ impl Client {
         ensures acts { ActsIf Q.shows (Q.view port.old) (Q.view port.new) }
         ensures shown { ShownIf Q.shows (Q.view port.old) (Q.view port.new) opened.now.repos result }
         ensures moves { NoneAwaits 8 self.old.held.links.items → OnOk result (MovesIf Q.shows (Q.view port.old) (Q.view port.new) self.old.held self.new.held) }
+        ensures writes { unsent self.old.phase ≡ None → ClientWrites self.new }
         ensures rises { Rises self.old.held self.new.held }
     {
         match port.decide(coordinator, sent.ts, true) {
@@ -240,6 +253,7 @@ impl Client {
         ensures news { IfOk result (λ n. n ≡ news.Nothing) }
         ensures loses { Loses refusal repo self.old.held self.new.held }
         ensures client { self.new.held.client ≡ self.old.held.client }
+        ensures writes { unsent self.old.phase ≡ None → ClientWrites self.new }
         ensures rises { Rises self.old.held self.new.held }
     {
         if let Refusal::NoMemory = refusal {
@@ -252,6 +266,7 @@ impl Client {
 
     fn begin_asking(&mut self, sent: Sent)
         ensures held { self.new.held ≡ self.old.held }
+        ensures writes { ClientWrites self.new }
         ensures rises { Rises self.old.held self.new.held }
     {
         self.set_phase(Phase::Asking { sent, answers: 0 });

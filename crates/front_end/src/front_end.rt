@@ -1,18 +1,6 @@
 //! A client of repositories, which goes on by steps.
 
-ghost use Rattle.client_state.specs.Learning.{};
-ghost use Rattle.client_state.specs.Learning.{Rises};
-ghost use Rattle.client_state.specs.Moving.{InSession, MovesIf};
-ghost use Rattle.client_state.specs.Owing.{asking_in};
-ghost use Rattle.front_end.specs.Showing.{GoesShown, ItemsShown};
-ghost use Rattle.port.specs.Acting.{ActsIf};
-ghost use Rattle.front_end.specs.Moving.{GoesOn, Keeps, MovesOn, course_of, held_of, left_of, standing_of, steps_left, tries_of, uncounted};
-ghost use Rattle.front_end.specs.Rules.{MayFollow};
-ghost use Rattle.front_end.specs.declared.front_end.Step.TheVariants as step;
-ghost use Rattle.item_progress.specs.Courses.{Goes, IsInOrder};
-ghost use Rattle.item_progress.specs.Ending.{EndsBy, GoesBy, ends_try};
-ghost use Rattle.item_progress.specs.Falling.{CountsDown, Falls, IsLeft, NeverRises, most_calls};
-ghost use Rattle.std.specs.Prelude.{◌≡◌, ◌<◌, ◌^◌, [], IfOk, IsSome, IsTrue, OnOk, length, not, Ok, true, ℕ, ◌≤◌};
+ghost use Rattle.front_end.specs.Writing.{ClientWrites, ClientWrites-prop};
 
 use crate::client::Client;
 use crate::rule::{Counted, Rule};
@@ -30,6 +18,8 @@ pub struct FrontEnd {
     client: Client,
     progress: Progress,
     attempts: Attempts,
+    // What a transaction writes of which nothing is sent yet is what its try has written.
+    ghost writes: { ClientWrites client } by { ClientWrites-prop client },
 }
 
 impl Drop for FrontEnd {
@@ -55,6 +45,19 @@ pub enum Step {
 }
 
 impl FrontEnd {
+    ghost use Rattle.client_state.specs.Learning.{Rises};
+    ghost use Rattle.client_state.specs.Moving.{InSession, MovesIf};
+    ghost use Rattle.client_state.specs.Owing.{asking_in};
+    ghost use Rattle.front_end.specs.Moving.{GoesOn, Keeps, MovesOn, course_of, held_of, left_of, standing_of, steps_left, tries_of, uncounted};
+    ghost use Rattle.front_end.specs.Rules.{MayFollow};
+    ghost use Rattle.front_end.specs.Showing.{GoesShown, ItemsShown};
+    ghost use Rattle.front_end.specs.declared.front_end.Step.TheVariants as step;
+    ghost use Rattle.item_progress.specs.Courses.{Goes, IsInOrder};
+    ghost use Rattle.item_progress.specs.Ending.{EndsBy, GoesBy, ends_try};
+    ghost use Rattle.item_progress.specs.Falling.{CountsDown, Falls, IsLeft, NeverRises, most_calls};
+    ghost use Rattle.port.specs.Acting.{ActsIf};
+    ghost use Rattle.std.specs.Prelude.{◌≡◌, ◌<◌, ◌^◌, [], IfOk, IsSome, IsTrue, OnOk, length, not, Ok, true, ℕ, ◌≤◌};
+
     /// A client with this number and these items. Each item has so many tries, and between tries the
     /// client holds so many pages at most.
     pub fn new(

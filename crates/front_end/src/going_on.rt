@@ -1,11 +1,13 @@
 //! The sixth rule: the try goes on.
 
+ghost use Rattle.client_state.specs.Writing.{unsent};
+ghost use Rattle.front_end.specs.Writing.{ClientWrites};
 ghost use Rattle.client_state.specs.Learning.{Rises};
 ghost use Rattle.client_state.specs.Links.{NoneAwaits};
 ghost use Rattle.client_state.specs.Moving.{MovesIf, SendsNothingIf};
 ghost use Rattle.front_end.specs.Showing.{ShownIf};
 ghost use Rattle.port.specs.Acting.{ActsIf};
-ghost use Rattle.std.specs.Prelude.{OnOk};
+ghost use Rattle.std.specs.Prelude.{OnOk, None, ◌≡◌};
 
 use crate::client::Client;
 use client_state::{Phase, Transaction};
@@ -25,7 +27,8 @@ impl Client {
     ) -> Result<News, NoMemory>
         ensures acts { ActsIf Q.shows (Q.view port.old) (Q.view port.new) }
         ensures shown { ShownIf Q.shows (Q.view port.old) (Q.view port.new) opened.now.repos result }
-        ensures moves { NoneAwaits 8 self.old.held.links.items → OnOk result (MovesIf Q.shows (Q.view port.old) (Q.view port.new) self.old.held self.new.held) }
+        ensures moves { ClientWrites self.old → NoneAwaits 8 self.old.held.links.items → OnOk result (MovesIf Q.shows (Q.view port.old) (Q.view port.new) self.old.held self.new.held) }
+        ensures writes { ClientWrites self.old → ClientWrites self.new }
         ensures rises { Rises self.old.held self.new.held }
     {
         match self.take_phase() {
@@ -57,7 +60,7 @@ impl Client {
         }
     }
 
-    /// Begins the evaluation of the present item, or makes its upgrade.
+    /// Begins the evaluation of the present item, or makes its upgrade. Nothing is written then.
     fn begin<Q: Port>(
         &mut self,
         port: &mut Q,
@@ -67,6 +70,7 @@ impl Client {
         ensures acts { ActsIf Q.shows (Q.view port.old) (Q.view port.new) }
         ensures shown { ShownIf Q.shows (Q.view port.old) (Q.view port.new) opened.now.repos result }
         ensures moves { NoneAwaits 8 self.old.held.links.items → OnOk result (SendsNothingIf Q.shows (Q.view port.old) (Q.view port.new) self.old.held self.new.held) }
+        ensures writes { unsent self.old.phase ≡ None → ClientWrites self.new }
         ensures rises { Rises self.old.held self.new.held }
     {
         let alloc = self.held.alloc;
@@ -78,6 +82,7 @@ impl Client {
             Some(What::Upgrade(upgrade)) => {
                 let text = print_upgrade(alloc, upgrade)?;
                 let transaction = Transaction::upgrade(task.number, text, opened.repos)?;
+                self.held.undo();
                 self.join_and_draw(port, opened, transaction)
             }
             None => Ok(News::Nothing),

@@ -1,5 +1,6 @@
 //! The fifth rule: verdicts are handed on.
 
+ghost use Rattle.front_end.specs.Writing.{ClientWrites};
 ghost use Rattle.client_state.specs.Learning.{Rises};
 ghost use Rattle.client_state.specs.Moving.{MovesIf};
 ghost use Rattle.client_state.specs.Owing.{calls_of, count_of};
@@ -21,6 +22,7 @@ impl Client {
         ensures owed { 0 < length self.old.duties.verdicts → OnOk result ((tries : ℕ) → uncounted tries self.new < uncounted tries self.old) }
         ensures acts { ActsIf Q.shows (Q.view port.old) (Q.view port.new) }
         ensures moves { MovesIf Q.shows (Q.view port.old) (Q.view port.new) self.old.held self.new.held }
+        ensures writes { ClientWrites self.old → ClientWrites self.new }
         ensures rises { Rises self.old.held self.new.held }
     {
         match self.duties.take_first() {
@@ -34,6 +36,7 @@ impl Client {
         ensures owed { OnOk result ((tries : ℕ) → uncounted tries self.new < uncounted tries self.old + calls_of duty) }
         ensures acts { ActsIf Q.shows (Q.view port.old) (Q.view port.new) }
         ensures moves { MovesIf Q.shows (Q.view port.old) (Q.view port.new) self.old.held self.new.held }
+        ensures writes { ClientWrites self.old → ClientWrites self.new }
         ensures rises { Rises self.old.held self.new.held }
     {
         match duty {
@@ -57,6 +60,7 @@ impl Client {
         ensures owed { OnOk result ((tries : ℕ) → uncounted tries self.new < uncounted tries self.old + (count_of to + 1)) }
         ensures acts { ActsIf Q.shows (Q.view port.old) (Q.view port.new) }
         ensures moves { MovesIf Q.shows (Q.view port.old) (Q.view port.new) self.old.held self.new.held }
+        ensures writes { ClientWrites self.old → ClientWrites self.new }
         ensures rises { Rises self.old.held self.new.held }
     {
         match take_next(&mut to) {

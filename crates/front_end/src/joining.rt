@@ -1,5 +1,6 @@
 //! How a session begins where a try needs one.
 
+ghost use Rattle.front_end.specs.Writing.{ClientWrites};
 ghost use Rattle.client_state.specs.Learning.{Rises};
 ghost use Rattle.client_state.specs.Links.{session_in};
 ghost use Rattle.client_state.specs.Moving.{SendsNothingIf};
@@ -26,6 +27,7 @@ impl Client {
         ensures acts { ActsIf Q.shows (Q.view port.old) (Q.view port.new) }
         ensures shown { ShownIf Q.shows (Q.view port.old) (Q.view port.new) opened.now.repos result }
         ensures moves { session_in repo (slice_get self.old.held.links.items repo) ≡ None → OnOk result (SendsNothingIf Q.shows (Q.view port.old) (Q.view port.new) self.old.held self.new.held) }
+        ensures writes { ClientWrites self.old → ClientWrites self.new }
         ensures rises { Rises self.old.held self.new.held }
     {
         let came = self.join(port, opened, repo)?;
@@ -43,6 +45,8 @@ impl Client {
         ensures acts { ActsIf Q.shows (Q.view port.old) (Q.view port.new) }
         ensures shown { CameIf Q.shows (Q.view port.old) (Q.view port.new) result }
         ensures moves { session_in repo (slice_get self.old.held.links.items repo) ≡ None → OnOk result (SendsNothingIf Q.shows (Q.view port.old) (Q.view port.new) self.old.held self.new.held) }
+        ensures phase { self.new.phase ≡ self.old.phase }
+        ensures cache { self.new.held.cache ≡ self.old.held.cache }
         ensures rises { Rises self.old.held self.new.held }
     {
         match self.held.unsettled(repo) {
@@ -63,6 +67,8 @@ impl Client {
         ensures acts { ActsIf Q.shows (Q.view port.old) (Q.view port.new) }
         ensures shown { CameIf Q.shows (Q.view port.old) (Q.view port.new) result }
         ensures moves { OnOk result (SendsNothingIf Q.shows (Q.view port.old) (Q.view port.new) self.old.held self.new.held) }
+        ensures phase { self.new.phase ≡ self.old.phase }
+        ensures cache { self.new.held.cache ≡ self.old.held.cache }
         ensures rises { Rises self.old.held self.new.held }
     {
         match port.ask(repo, ts) {

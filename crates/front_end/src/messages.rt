@@ -1,5 +1,6 @@
 //! What a client does with the messages of a repository.
 
+ghost use Rattle.front_end.specs.Writing.{ClientWrites};
 ghost use Rattle.client_state.specs.Learning.{Rises};
 ghost use Rattle.client_state.specs.Moving.{InSession, Loses, MovesIf};
 ghost use Rattle.client_state.specs.Receiving.{EndsReceive, IsNotGone, ReceivesNone, TakesCopies};
@@ -43,6 +44,7 @@ impl Client {
         ensures shown { SomeShownIf Q.shows (Q.view port.old) (Q.view port.new) opened.now.repos result }
         ensures moves { InSession at self.old.held → OnOk result (MovesIf Q.shows (Q.view port.old) (Q.view port.new) self.old.held self.new.held) }
         ensures none { IfOk result (λ some. some ≡ None → ReceivesNone Q.shows (Q.view port.old) (Q.view port.new) at self.old.held self.new.held) }
+        ensures writes { ClientWrites self.old → ClientWrites self.new }
         ensures rises { Rises self.old.held self.new.held }
     {
         match self.held.receive(port, at) {
@@ -56,9 +58,10 @@ impl Client {
     fn end_unless_gone(&mut self, repo: u8, refusal: Refusal, left: bool) -> Result<News, NoMemory>
         ensures shown { IfOk result (λ news. (old new : View) (repos : ℕ) → Refuses old new repo refusal → NewsShown old new repos news) }
         ensures ends { OnOk result (EndsReceive refusal repo self.old.held self.new.held) }
+        ensures writes { ClientWrites self.old → ClientWrites self.new }
         ensures rises { Rises self.old.held self.new.held }
     {
-        if self.lose_in_receive(repo, refusal) {
+        if self.lose_session(repo, refusal) {
             return Ok(News::Nothing);
         }
         let cause = cause_of(refusal, repo)?;
@@ -69,6 +72,7 @@ impl Client {
     fn end_in_outage(&mut self, repo: u8, cause: Cause, left: bool) -> News
         ensures news { result ≡ news.TryEnded cause }
         ensures ends { (refusal : Refusal) → IsNotGone refusal → EndsReceive refusal repo self.old.held self.new.held }
+        ensures writes { ClientWrites self.new }
         ensures rises { Rises self.old.held self.new.held }
     {
         if left {
@@ -90,6 +94,7 @@ impl Client {
         ensures acts { ActsIf Q.shows (Q.view port.old) (Q.view port.new) }
         ensures shown { ShownIf Q.shows (Q.view port.old) (Q.view port.new) opened.now.repos result }
         ensures moves { InSession at self.old.held → OnOk result (MovesIf Q.shows (Q.view port.old) (Q.view port.new) self.old.held self.new.held) }
+        ensures writes { ClientWrites self.old → ClientWrites self.new }
         ensures rises { Rises self.old.held self.new.held }
     {
         match self.held.receive(port, at) {
@@ -105,9 +110,10 @@ impl Client {
         ensures news { IfOk result (λ n. n ≡ news.Nothing) }
         ensures loses { Loses refusal repo self.old.held self.new.held }
         ensures client { self.new.held.client ≡ self.old.held.client }
+        ensures writes { ClientWrites self.old → ClientWrites self.new }
         ensures rises { Rises self.old.held self.new.held }
     {
-        if self.lose_in_receive(repo, refusal) {
+        if self.lose_session(repo, refusal) {
             return Ok(News::Nothing);
         }
         match refusal {
@@ -116,14 +122,15 @@ impl Client {
         }
     }
 
-    /// A session that was gone as a message was to be taken is lost. A try that its coordinator has prepared
-    /// goes on as it is; any other begins its evaluation anew. It answers whether the session was gone.
-    fn lose_in_receive(&mut self, repo: u8, refusal: Refusal) -> bool
+    /// A session that was gone as a call was made is lost. A try that its coordinator has prepared goes on as it is; any
+    /// other begins its evaluation anew. It answers whether the session was gone.
+    pub fn lose_session(&mut self, repo: u8, refusal: Refusal) -> bool
         ensures owed { (tries : ℕ) → uncounted tries self.new ≤ uncounted tries self.old }
         ensures loses { Loses refusal repo self.old.held self.new.held }
         ensures client { self.new.held.client ≡ self.old.held.client }
         ensures rest { IsTrue (not result) → self.new.held ≡ self.old.held }
         ensures gone { IsTrue (not result) → IsNotGone refusal }
+        ensures writes { ClientWrites self.old → ClientWrites self.new }
         ensures rises { Rises self.old.held self.new.held }
     {
         if !self.held.lose_gone(repo, refusal) {
@@ -139,6 +146,7 @@ impl Client {
         ensures owed { OnOk result ((tries : ℕ) → uncounted tries self.new ≤ uncounted tries self.old) }
         ensures shown { IfOk result (λ news. (old new : View) (repos : ℕ) → IsTaken old new repo message → NewsShown old new repos news) }
         ensures takes { OnOk result (TakesCopies repo message self.old.held self.new.held) }
+        ensures writes { ClientWrites self.old → ClientWrites self.new }
         ensures rises { Rises self.old.held self.new.held }
     {
         match message {
@@ -154,6 +162,7 @@ impl Client {
         ensures owed { OnOk result ((tries : ℕ) → uncounted tries self.new ≤ uncounted tries self.old) }
         ensures shown { IfOk result (λ news. (old new : View) (repos : ℕ) → (place : ℕ) → IsTaken old new repo (message.Page page bytes.now place) → NewsShown old new repos news) }
         ensures takes { (place : ℕ) → OnOk result (TakesCopies repo (message.Page page bytes.now place) self.old.held self.new.held) }
+        ensures writes { ClientWrites self.old → ClientWrites self.new }
         ensures rises { Rises self.old.held self.new.held }
     {
         self.held.place(repo, page, bytes)?;
@@ -170,6 +179,7 @@ impl Client {
         ensures owed { OnOk result ((tries : ℕ) → uncounted tries self.new ≤ uncounted tries self.old) }
         ensures shown { IfOk result (λ news. (old new : View) (repos : ℕ) → NewsShown old new repos news) }
         ensures takes { (place : ℕ) → OnOk result (TakesCopies repo (message.Grant page place) self.old.held self.new.held) }
+        ensures writes { ClientWrites self.old → ClientWrites self.new }
         ensures rises { Rises self.old.held self.new.held }
     {
         let bytes = Page::empty(self.held.alloc, page)?.spell()?;
@@ -185,6 +195,7 @@ impl Client {
         ensures owed { (tries : ℕ) → uncounted tries self.new ≤ uncounted tries self.old }
         ensures shown { (old new : View) (repos : ℕ) → (repo : ℕ) → IsTaken old new repo (message.Invalid orefs.now place) → NewsShown old new repos result }
         ensures takes { (repo : ℕ) → TakesCopies repo (message.Invalid orefs.now place) self.old.held self.new.held }
+        ensures writes { ClientWrites self.old → ClientWrites self.new }
         ensures rises { Rises self.old.held self.new.held }
     {
         self.held.drop_copies(orefs);
@@ -199,6 +210,7 @@ impl Client {
         ensures owed { (tries : ℕ) → uncounted tries self.new ≤ uncounted tries self.old }
         ensures shown { (old new : View) (repos : ℕ) → (repo place : ℕ) (text : List ℕ) → IsTaken old new repo (message.Upgrade number text place) → NewsShown old new repos result }
         ensures takes { (repo place : ℕ) (text : List ℕ) → TakesCopies repo (message.Upgrade number text place) self.old.held self.new.held }
+        ensures writes { ClientWrites self.old → ClientWrites self.new }
         ensures rises { Rises self.old.held self.new.held }
     {
         if self.held.learn_next_epoch(opened, number) && self.phase.runs() {

@@ -60,6 +60,8 @@ impl Client {
         ensures tx { IfOk result (λ learnt. IfSome learnt (λ l. l.settled.ts ≡ verdict.tx)) }
         ensures down { IfOk result (λ learnt. IfSome learnt (λ l. IsDownAt repo l.settled.outcome)) }
         ensures settles { OnOk result (MaySettle repo self.old.held self.new.held) }
+        ensures phase { self.new.phase ≡ self.old.phase }
+        ensures cache { self.new.held.cache ≡ self.old.held.cache }
         ensures rises { Rises self.old.held self.new.held }
     {
         match self.take_unsettled(repo) {
@@ -74,6 +76,7 @@ impl Client {
         ensures taken { IfSome result (λ some. TakesUnsettled repo some.0 some.1 self.old.held self.new.held) }
         ensures none { result ≡ None → HoldsLess self.old.held self.new.held }
         ensures rest { self.new ≡ record self.old { held = self.new.held } }
+        ensures cache { self.new.held.cache ≡ self.old.held.cache }
         ensures rises { Rises self.old.held self.new.held }
     {
         match self.held.take_link(repo) {
@@ -99,6 +102,8 @@ impl Client {
         ensures tx { IfOk result (λ learnt. IfSome learnt (λ l. l.settled.ts ≡ verdict.tx)) }
         ensures down { IfOk result (λ learnt. IfSome learnt (λ l. IsDownAt repo l.settled.outcome)) }
         ensures settles { (before : Held) → TakesUnsettled repo sent index before self.old.held → OnOk result (MaySettle repo before self.new.held) }
+        ensures phase { self.new.phase ≡ self.old.phase }
+        ensures cache { self.new.held.cache ≡ self.old.held.cache }
         ensures rises { Rises self.old.held self.new.held }
     {
         if sent.ts != verdict.tx() {
@@ -145,6 +150,7 @@ impl Client {
         ensures acts { ActsIf Q.shows (Q.view port.old) (Q.view port.new) }
         ensures shown { ShownIf Q.shows (Q.view port.old) (Q.view port.new) opened.now.repos result }
         ensures moves { OnOk result (SendsNothingIf Q.shows (Q.view port.old) (Q.view port.new) self.old.held self.new.held) }
+        ensures cache { self.new.held.cache ≡ self.old.held.cache }
         ensures rises { Rises self.old.held self.new.held }
     {
         match self.take_unsettled(repo) {
@@ -166,6 +172,7 @@ impl Client {
         ensures acts { ActsIf Q.shows (Q.view port.old) (Q.view port.new) }
         ensures shown { ShownIf Q.shows (Q.view port.old) (Q.view port.new) opened.now.repos result }
         ensures moves { (before : Held) → TakesUnsettled repo sent index before self.old.held → OnOk result (SendsNothingIf Q.shows (Q.view port.old) (Q.view port.new) before self.new.held) }
+        ensures cache { self.new.held.cache ≡ self.old.held.cache }
         ensures rises { Rises self.old.held self.new.held }
     {
         match port.ask(repo, sent.ts) {

@@ -2,14 +2,16 @@
 //!
 //! Lazy transforms are those of Boyapati and others (OOPSLA 2003).
 
+ghost use Rattle.client_state.specs.Writing.{unsent};
+ghost use Rattle.front_end.specs.Writing.{ClientWrites};
 ghost use Rattle.client_state.specs.Learning.{Rises};
 ghost use Rattle.client_state.specs.Links.{NoneAwaits, session_in};
-ghost use Rattle.client_state.specs.Moving.{KeepsMade, Learns, MovesIf, SendsNothingIf};
+ghost use Rattle.client_state.specs.Moving.{InSession, KeepsMade, Learns, MovesIf, SendsNothingIf};
 ghost use Rattle.client_state.specs.Sending.{IsOfSession};
 ghost use Rattle.front_end.specs.Showing.{NewsShown, ShownIf};
 ghost use Rattle.port.specs.Acting.{ActsIf, Refuses};
 ghost use Rattle.port.specs.Views.{View};
-ghost use Rattle.std.specs.Prelude.{IfOk, OnOk, Some, [], slice_get, ℕ, ◌∷◌, ◌≡◌};
+ghost use Rattle.std.specs.Prelude.{IfOk, OnOk, Some, [], slice_get, ℕ, ◌∷◌, ◌≡◌, None};
 
 use crate::client::Client;
 use client_state::{Becomes, Drew, Phase, Transform};
@@ -35,6 +37,7 @@ impl Client {
         ensures acts { ActsIf Q.shows (Q.view port.old) (Q.view port.new) }
         ensures shown { ShownIf Q.shows (Q.view port.old) (Q.view port.new) opened.now.repos result }
         ensures moves { NoneAwaits 8 self.old.held.links.items → OnOk result (SendsNothingIf Q.shows (Q.view port.old) (Q.view port.new) self.old.held self.new.held) }
+        ensures writes { unsent self.old.phase ≡ None → ClientWrites self.new }
         ensures rises { Rises self.old.held self.new.held }
     {
         self.held.undo();
@@ -55,6 +58,7 @@ impl Client {
         ensures acts { ActsIf Q.shows (Q.view port.old) (Q.view port.new) }
         ensures shown { ShownIf Q.shows (Q.view port.old) (Q.view port.new) opened.now.repos result }
         ensures moves { NoneAwaits 8 self.old.held.links.items → OnOk result (MovesIf Q.shows (Q.view port.old) (Q.view port.new) self.old.held self.new.held) }
+        ensures writes { ClientWrites self.new }
         ensures rises { Rises self.old.held self.new.held }
     {
         let awaited = None;
@@ -76,6 +80,7 @@ impl Client {
         ensures acts { ActsIf Q.shows (Q.view port.old) (Q.view port.new) }
         ensures shown { ShownIf Q.shows (Q.view port.old) (Q.view port.new) opened.now.repos result }
         ensures moves { NoneAwaits 8 self.old.held.links.items → OnOk result (SendsNothingIf Q.shows (Q.view port.old) (Q.view port.new) self.old.held self.new.held) }
+        ensures writes { unsent self.old.phase ≡ None → ClientWrites self.new }
         ensures rises { Rises self.old.held self.new.held }
     {
         match self.held.collect(opened, &mut transform)? {
@@ -90,6 +95,7 @@ impl Client {
     /// The try goes on with this transform.
     fn go_on_with(&mut self, transform: Transform)
         ensures held { self.new.held ≡ self.old.held }
+        ensures phase { unsent self.new.phase ≡ unsent self.old.phase }
         ensures rises { Rises self.old.held self.new.held }
     {
         let phase = self.take_phase().transforming(transform);
@@ -107,6 +113,7 @@ impl Client {
         ensures acts { ActsIf Q.shows (Q.view port.old) (Q.view port.new) }
         ensures shown { ShownIf Q.shows (Q.view port.old) (Q.view port.new) opened.now.repos result }
         ensures moves { NoneAwaits 8 self.old.held.links.items → OnOk result (SendsNothingIf Q.shows (Q.view port.old) (Q.view port.new) self.old.held self.new.held) }
+        ensures writes { unsent self.old.phase ≡ None → ClientWrites self.new }
         ensures rises { Rises self.old.held self.new.held }
     {
         let repo = transform.oref.repo;
@@ -133,6 +140,7 @@ impl Client {
         ensures acts { ActsIf Q.shows (Q.view port.old) (Q.view port.new) }
         ensures shown { (repos : ℕ) → ShownIf Q.shows (Q.view port.old) (Q.view port.new) repos result }
         ensures moves { session_in at.repo (slice_get self.old.held.links.items at.repo) ≡ Some at → SendsNothingIf Q.shows (Q.view port.old) (Q.view port.new) self.old.held self.new.held }
+        ensures writes { unsent self.old.phase ≡ None → ClientWrites self.new }
         ensures rises { Rises self.old.held self.new.held }
     {
         match self.held.draw(port, at)? {
@@ -153,6 +161,7 @@ impl Client {
         ensures acts { ActsIf Q.shows (Q.view port.old) (Q.view port.new) }
         ensures shown { (repos : ℕ) → ShownIf Q.shows (Q.view port.old) (Q.view port.new) repos result }
         ensures moves { NoneAwaits 8 self.old.held.links.items → OnOk result (MovesIf Q.shows (Q.view port.old) (Q.view port.new) self.old.held self.new.held) }
+        ensures writes { unsent self.old.phase ≡ None → ClientWrites self.new }
         ensures rises { Rises self.old.held self.new.held }
     {
         let oref = becomes.oref;
@@ -179,7 +188,8 @@ impl Client {
     ) -> Result<News, NoMemory>
         ensures acts { ActsIf Q.shows (Q.view port.old) (Q.view port.new) }
         ensures shown { (repos : ℕ) → ShownIf Q.shows (Q.view port.old) (Q.view port.new) repos result }
-        ensures moves { IsOfSession self.old.held.links.items (record { at = at; request = request }) → request.writes ≡ (oref, made) ∷ [] → NoneAwaits 8 self.old.held.links.items → OnOk result (MovesIf Q.shows (Q.view port.old) (Q.view port.new) self.old.held self.new.held) }
+        ensures moves { InSession at self.old.held → IsOfSession self.old.held.links.items (record { at = at; request = request }) → request.writes ≡ (oref, made) ∷ [] → NoneAwaits 8 self.old.held.links.items → OnOk result (MovesIf Q.shows (Q.view port.old) (Q.view port.new) self.old.held self.new.held) }
+        ensures writes { unsent self.old.phase ≡ None → ClientWrites self.new }
         ensures rises { Rises self.old.held self.new.held }
     {
         match port.commit_one(at, request) {
@@ -192,6 +202,7 @@ impl Client {
     fn end_transform(&mut self, ts: Ts, oref: Oref, made: Obj) -> Result<News, NoMemory>
         ensures shown { IfOk result (λ news. (old new : View) (repos : ℕ) → NewsShown old new repos news) }
         ensures keeps { OnOk result (KeepsMade oref made self.old.held self.new.held) }
+        ensures writes { unsent self.old.phase ≡ None → ClientWrites self.new }
         ensures rises { Rises self.old.held self.new.held }
     {
         self.held.raise_floor(ts);
@@ -206,6 +217,7 @@ impl Client {
         ensures shown { IfOk result (λ news. (old new : View) (repos : ℕ) → Refuses old new at.repo refusal → NewsShown old new repos news) }
         ensures learns { Learns refusal at.repo self.old.held self.new.held }
         ensures client { self.new.held.client ≡ self.old.held.client }
+        ensures writes { unsent self.old.phase ≡ None → ClientWrites self.new }
         ensures rises { Rises self.old.held self.new.held }
     {
         self.count_if_stopped(ts, refusal);
@@ -214,6 +226,7 @@ impl Client {
 
     /// The timestamp of a call that stopped is counted.
     fn count_if_stopped(&mut self, ts: Ts, refusal: Refusal)
+        ensures phase { self.new.phase ≡ self.old.phase }
         ensures rest { self.new.held ≡ record self.old.held { floor = self.new.held.floor } }
         ensures rises { Rises self.old.held self.new.held }
     {

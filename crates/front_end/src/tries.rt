@@ -1,5 +1,8 @@
 //! How a try goes on behind a call, begins anew, and ends.
 
+ghost use Rattle.client_state.specs.Writing.{CameStays, PhaseWrites};
+ghost use Rattle.client_cache.specs.Copies.{Contents};
+ghost use Rattle.front_end.specs.Writing.{ClientWrites};
 ghost use Rattle.client_state.specs.Learning.{KeepsBounds, Rises, floor_learnt, links_learnt};
 ghost use Rattle.client_state.specs.Moving.{HoldsLess, Learns, StopsWaiting};
 ghost use Rattle.client_state.specs.Showing.{CameShown, IsLearnt};
@@ -50,6 +53,7 @@ impl Client {
     pub fn go_behind(&mut self, came: Came) -> News
         ensures shown { (old new : View) (repos : ℕ) → CameShown old new came → NewsShown old new repos result }
         ensures less { HoldsLess self.old.held self.new.held }
+        ensures writes { (before : Contents) → CameStays came before self.old.held.cache.cache → PhaseWrites self.old.phase before → ClientWrites self.new }
         ensures rises { Rises self.old.held self.new.held }
     {
         match came {
@@ -68,6 +72,7 @@ impl Client {
     fn take_learnt(&mut self, learnt: Learnt) -> News
         ensures shown { (old new : View) (repos : ℕ) → IsLearnt old new learnt.settled → NewsShown old new repos result }
         ensures less { HoldsLess self.old.held self.new.held }
+        ensures writes { ClientWrites self.old → ClientWrites self.new }
         ensures rises { Rises self.old.held self.new.held }
     {
         let Learnt { settled, rises } = learnt;
@@ -82,6 +87,7 @@ impl Client {
         ensures phase { self.new.phase ≡ phase.Beginning }
         ensures duties { self.new.duties ≡ self.old.duties }
         ensures less { HoldsLess self.old.held self.new.held }
+        ensures writes { ClientWrites self.new }
         ensures rises { Rises self.old.held self.new.held }
     {
         self.held.undo();
@@ -94,6 +100,7 @@ impl Client {
         ensures news { result ≡ news.TryEnded cause }
         ensures links { self.new.held.links ≡ self.old.held.links }
         ensures less { HoldsLess self.old.held self.new.held }
+        ensures writes { ClientWrites self.new }
         ensures bounds { KeepsBounds self.old.held self.new.held }
         ensures phase { self.new.phase ≡ phase.Between }
         ensures left { (tries : ℕ) → uncounted tries self.new ≤ uncounted tries self.old }
@@ -123,6 +130,7 @@ impl Client {
         ensures floor { OnOk result (self.new.held.floor ≡ floor_learnt refusal self.old.held.floor) }
         ensures learns { Learns refusal repo self.old.held self.new.held }
         ensures client { self.new.held.client ≡ self.old.held.client }
+        ensures writes { ClientWrites self.old → ClientWrites self.new }
         ensures rises { Rises self.old.held self.new.held }
     {
         let cause = cause_of(refusal, repo)?;
@@ -139,6 +147,7 @@ impl Client {
         ensures stops { StopsWaiting repo self.old.held self.new.held }
         ensures held { self.new.held ≡ record self.old.held { links = self.new.held.links } }
         ensures uncounted { (tries : ℕ) → uncounted tries self.new ≡ uncounted tries self.old }
+        ensures writes { ClientWrites self.old → ClientWrites self.new }
         ensures rises { Rises self.old.held self.new.held }
     {
         self.held.stop_waiting(repo);

@@ -1,8 +1,15 @@
 //! What a client is given: the store as it was opened, and its items.
 
+ghost use Rattle.std.proofs.Props.{props};
+ghost use Rattle.std.specs.Prelude.{◌≡◌, IfOk};
+ghost use Rattle.class_defs.specs.contracts.classes.Method as method;
+ghost use Rattle.paused_defs.specs.Methods.{AreMethodsOf};
+
 use class_defs::Schemas;
+use paused_defs::EpochMethods;
 use serial_model::What;
-use thor_value::Sequence;
+use std::alloc::Global;
+use thor_value::{NoMemory, Sequence};
 
 /// The items of a client, in the order of the script.
 pub type Items = Sequence<What>;
@@ -17,4 +24,37 @@ pub struct Opened {
     /// The schemas of these epochs, and behind them those of the script's upgrades, in order. All
     /// upgrades of a script stand in one client, so the number of each is told by its place.
     pub schemas: Schemas,
+    /// The methods of these schemas, whose bodies all evaluations share.
+    pub methods: EpochMethods,
+    pub ghost known: { AreMethodsOf schemas methods } by { Prim.hlevel (props, method.the_row.coded) },
+}
+
+impl Opened {
+    /// A store with so many repositories and installed upgrades, and with these schemas.
+    pub fn new(alloc: Global, repos: u8, epoch: u32, schemas: Schemas) -> Result<Opened, NoMemory>
+        ensures repos { IfOk result (λ opened. opened.repos ≡ repos) }
+        ensures epoch { IfOk result (λ opened. opened.epoch ≡ epoch) }
+        ensures schemas { IfOk result (λ opened. opened.schemas ≡ schemas) }
+    {
+        let methods = EpochMethods::copy_of(alloc, &schemas)?;
+        Ok(Opened {
+            repos,
+            epoch,
+            schemas,
+            methods,
+        })
+    }
+
+    /// Its schemas, where nothing is evaluated any more.
+    pub fn into_schemas(self) -> Schemas
+        ensures { result ≡ self.schemas }
+    {
+        let Opened {
+            schemas,
+            methods,
+            ..
+        } = self;
+        drop(methods);
+        schemas
+    }
 }

@@ -1,4 +1,5 @@
 pub mod formers
+pub mod Methods
 pub mod Plain
 pub mod Resume
 pub mod Reaches

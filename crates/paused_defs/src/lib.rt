@@ -3,6 +3,7 @@
 
 mod frames;
 mod laws;
+mod methods;
 mod nodes;
 mod sameness;
 mod shared;
@@ -14,6 +15,9 @@ pub use frames::{Doing, Frame};
 pub use laws::{
     a_small_step_keeps_what_is_left, a_small_step_leaves_fewer, small_steps_reach_what_is_left,
     what_is_left_goes_on_later,
+};
+pub use methods::{
+    ClassMethods, EpochMethods, SharedMethod, SharedMethods, class_methods, shared_method,
 };
 pub use nodes::{ExprNode, ExprNodes, StmtNode, StmtNodes};
 pub use shared::Shared;

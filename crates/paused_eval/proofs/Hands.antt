@@ -56,7 +56,7 @@ equal_of Less h = cc
 equal_of Equal h = refl
 equal_of Greater h = cc
 
-one_of : (x y : Oref) → eq_by_cmp oref_cmp x y ≡ true → x ≡ y
+pub one_of : (x y : Oref) → eq_by_cmp oref_cmp x y ≡ true → x ≡ y
 one_of x y h = oref_exact x y (equal_of (oref_cmp x y) h)
 
 no_entry : (there : Bool) (fx : Option Obj) → fx ≡ None → cond there (option_map bare fx) None ≡ option_map bare fx
@@ -213,7 +213,7 @@ parts true true h = (refl, refl)
 parts true false h = cc
 parts false b h = cc
 
-one_name : (x y : Oref) → same_name x y ≡ true → x ≡ y
+pub one_name : (x y : Oref) → same_name x y ≡ true → x ≡ y
 one_name x y h =
     let p : (same_page (page_of x) (page_of y) ≡ true) × (nat_eq x.slot y.slot ≡ true) = parts (same_page (page_of x) (page_of y)) (nat_eq x.slot y.slot) h in
     let q : (nat_eq x.repo y.repo ≡ true) × (nat_eq x.page y.page ≡ true) = parts (nat_eq x.repo y.repo) (nat_eq x.page y.page) p.0 in
@@ -225,7 +225,7 @@ pub equal_itself : (x : Oref) → eq_by_cmp oref_cmp x x ≡ true
 equal_itself x = ap is_eq (tied_itself oref_total x)
 
 -- the two tests of names are one
-name_tests : (x q : Oref) → same_name x q ≡ eq_by_cmp oref_cmp q x
+pub name_tests : (x q : Oref) → same_name x q ≡ eq_by_cmp oref_cmp q x
 name_tests x q = by (same_name x q) (eq_by_cmp oref_cmp q x) refl refl
   where
     by : (a b : Bool) → same_name x q ≡ a → eq_by_cmp oref_cmp q x ≡ b → a ≡ b

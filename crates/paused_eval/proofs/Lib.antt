@@ -1,5 +1,4 @@
 pub mod Beginning
-pub mod Copying
 pub mod Counting
 pub mod Directly
 pub mod Ending
@@ -7,6 +6,7 @@ pub mod Granted
 pub mod Hands
 pub mod Later
 pub mod Lifting
+pub mod Methods
 pub mod Nested
 pub mod Nodes
 pub mod Standing

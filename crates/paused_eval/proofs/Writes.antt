@@ -1,50 +1,27 @@
--- The objects that a run has written, as its answer lists them.
-use Rattle.std.proofs.Common.{◌≡◌, ℕ, Bool, true, false, cond, List, [], ◌∷◌, ◌++◌, Option, Some, None, refl, ap, sym, ◌∙◌, append_assoc}
+-- The objects that a run has written, as its answer lists them and as they stand in the copies then.
+use Rattle.std.proofs.Common.{◌≡◌, ◌||◌, ℕ, Bool, true, false, cond, List, [], ◌∷◌, ◌++◌, Option, Some, None, refl, ap, sym, ◌∙◌, append_assoc}
+use Rattle.std.proofs.lemmas.Map.Made.{is_some-lookup}
 use Rattle.std.specs.BTreeMap.{is_at}
-use Rattle.std.specs.List.{AllByRecursion}
-use Rattle.std.specs.Map.{keys_of, lookup}
+use Rattle.std.specs.List.{list_any}
+use Rattle.std.specs.Map.{keys_of}
 use Rattle.std.specs.Option.{option_or}
-use Rattle.std.specs.Prelude.{is_some}
-use Rattle.thor_value.specs.FiniteMap.{Set, keys}
+use Rattle.std.specs.Ordering.{eq_by_cmp}
+use Rattle.std.specs.Prelude.{Err, IfOk, Ok, OnOk, Result, is_some, option_map}
+use Rattle.thor_value.proofs.FiniteMap.{get-insert}
+use Rattle.thor_value.proofs.NameOrders.{oref_total}
+use Rattle.thor_value.specs.FiniteMap.{Map, Set, empty, get, insert, keys, overwrite}
 use Rattle.thor_value.specs.Names.{oref_cmp}
 use Rattle.thor_value.specs.declared.names.Oref.{Oref}
 use Rattle.thor_value.specs.declared.values.Obj.{Obj}
+use Rattle.class_defs.specs.Stored.{bare, in_epoch}
 use Rattle.class_defs.specs.declared.store.Object.{Object}
-use Rattle.client_cache.specs.Copies.{Contents, changed, kept, seen}
+use Rattle.client_cache.specs.Copies.{Contents, changed}
+use Rattle.client_cache.specs.Pages.{same_name}
+use Rattle.client_cache.specs.Slots.{dated}
 use Rattle.method_eval.specs.Answers.{stored_at}
-use Rattle.paused_eval.proofs.Hands.{equal_itself, seen_split}
-use Rattle.paused_eval.specs.Copies.{Tied, entries, entry, written_in}
-
--- ---- what was written is what is seen
-
-here : (b : Bool) (u : Unit {0}) (o : Option (Unit {0})) → b ≡ true → is_some (cond b (Some u) o) ≡ true
-here true u o h = refl
-here false u o h = cc
-
-behind : (b : Bool) (u : Unit {0}) (o : Option (Unit {0})) → is_some o ≡ true → is_some (cond b (Some u) o) ≡ true
-behind true u o h = refl
-behind false u o h = h
-
-keys_have : (P : Oref → Type 0) (es : List (Oref × Unit {0})) → ((x : Oref) → is_some (lookup (is_at (oref_cmp x)) es) ≡ true → P x) → AllByRecursion P (keys_of es)
-keys_have P [] h = tt
-keys_have P (e ∷ es) h = (
-  h e.0 (here (is_at (oref_cmp e.0) e.0) e.1 (lookup (is_at (oref_cmp e.0)) es) (equal_itself e.0)),
-  keys_have P es (λ x g. h x (behind (is_at (oref_cmp x) e.0) e.1 (lookup (is_at (oref_cmp x)) es) g)),
-)
-
-first_of_two : (o k : Option Obj) → is_some o ≡ true → option_or o k ≡ o
-first_of_two (Some o) k h = refl
-first_of_two None k h = cc
-
-as_seen : (c : Contents) (xs : List Oref) → AllByRecursion (λ x. is_some (changed c x) ≡ true) xs → entries (seen c) xs ≡ entries (changed c) xs
-as_seen c [] h = refl
-as_seen c (x ∷ xs) h =
-    ap (λ (o : Option Obj). entry x o (entries (seen c) xs)) (seen_split c x ∙ first_of_two (changed c x) (kept c x) h.0)
-    ∙ ap (λ (rest : List (Oref × Object)). entry x (changed c x) rest) (as_seen c xs h.1)
-
-pub written_as_seen : (w : Set oref_cmp) (c : Contents) → Tied w c → entries (seen c) (keys w) ≡ (written_in w c).pairs
-unfolding written_in
-written_as_seen w c t = as_seen c (keys w) (keys_have (λ x. is_some (changed c x) ≡ true) w.pairs (λ x h. t.marked x ∙ h))
+use Rattle.paused_eval.proofs.Hands.{name_tests, one_name, one_of as same_object}
+use Rattle.paused_eval.specs.Copies.{Keeps, Tied, entries, entry, last_of, written_in}
+use Rattle.paused_eval.specs.Writing.{AreWritten, Dates, SameUndated}
 
 -- ---- one after the other
 
@@ -52,14 +29,146 @@ one : (epoch : ℕ) (x : Oref) (o : Option Obj) (rest : List (Oref × Object)) �
 one epoch x None rest = refl
 one epoch x (Some o) rest = refl
 
+of_any_version : (ver : ℕ) (x : Oref) (o : Option Obj) (rest : List (Oref × Object)) → entry x o rest ≡ entry x (option_map (dated ver) o) rest
+of_any_version ver x None rest = refl
+of_any_version ver x (Some o) rest = refl
+
+same_entry : (ver : ℕ) (x : Oref) (o p : Option Obj) (rest : List (Oref × Object)) → option_map (dated ver) o ≡ option_map (dated ver) p → entry x o rest ≡ entry x p rest
+same_entry ver x o p rest h = of_any_version ver x o rest ∙ (ap (λ (q : Option Obj). entry x q rest) h ∙ sym (of_any_version ver x p rest))
+
 -- what is left comes behind what is there
-pub one_of : (epoch : ℕ) (c : Contents) (x : Oref) (rest : List Oref) (before after all : List (Oref × Obj))
-    → after ≡ before ++ stored_at epoch (entry x (seen c x) [])
-    → before ++ stored_at epoch (entries (seen c) (x ∷ rest)) ≡ all
-    → after ++ stored_at epoch (entries (seen c) rest) ≡ all
-one_of epoch c x rest before after all e h =
-    let left : List (Oref × Object) = entries (seen c) rest in
-    ap (λ (ws : List (Oref × Obj)). ws ++ stored_at epoch left) e
-    ∙ append_assoc before (stored_at epoch (entry x (seen c x) [])) (stored_at epoch left)
-    ∙ ap (λ (ws : List (Oref × Obj)). before ++ ws) (sym (one epoch x (seen c x) left))
+pub one_more : (epoch : ℕ) (old cur : Contents) (x : Oref) (rest : List Oref) (before after all : List (Oref × Obj)) → SameUndated epoch old cur
+    → after ≡ before ++ stored_at epoch (entry x (changed cur x) [])
+    → before ++ stored_at epoch (entries (changed old) (x ∷ rest)) ≡ all
+    → after ++ stored_at epoch (entries (changed old) rest) ≡ all
+one_more epoch old cur x rest before after all s e h =
+    let left : List (Oref × Object) = entries (changed old) rest in
+    ap (λ (ws : List (Oref × Obj)). ws ++ stored_at epoch left) (e ∙ ap (λ (ws : List (Oref × Object)). before ++ stored_at epoch ws) (same_entry epoch x (changed cur x) (changed old x) [] (s.same x)))
+    ∙ append_assoc before (stored_at epoch (entry x (changed old x) [])) (stored_at epoch left)
+    ∙ ap (λ (ws : List (Oref × Obj)). before ++ ws) (sym (one epoch x (changed old x) left))
     ∙ h
+
+-- ---- versions
+
+twice : (ver : ℕ) (o : Option Obj) → option_map (dated ver) (option_map (dated ver) o) ≡ option_map (dated ver) o
+twice ver None = refl
+twice ver (Some o) = refl
+
+-- all but those that are left are of the version
+pub record Dating (ver : ℕ) (old cur : Contents) (left : List Oref) : Type 0 where
+  pub kept : Keeps old cur
+  pub same : SameUndated ver old cur
+  pub done : (x : Oref) → list_any (is_at (oref_cmp x)) left ≡ false → option_map (dated ver) (changed cur x) ≡ changed cur x
+
+not_written : (ver : ℕ) (o : Option Obj) → is_some o ≡ false → option_map (dated ver) o ≡ o
+not_written ver None h = refl
+not_written ver (Some o) h = cc
+
+pub begins : (ver : ℕ) (names : List (Oref × Unit {0})) (c : Contents) → AreWritten names c → Dating ver c c (keys_of names)
+begins ver names c w = record {
+  kept = λ x. refl;
+  same = record { same = λ x. refl };
+  done = λ x h. not_written ver (changed c x) (w.marked x ∙ (is_some-lookup (is_at (oref_cmp x)) names ∙ h));
+}
+
+module _ (ver : ℕ) (old cur new : Contents) (y : Oref) (rest : List Oref) (d : Dating ver old cur (y ∷ rest))
+    (more : (x : Oref) → changed new x ≡ cond (same_name y x) (option_map (dated ver) (changed cur y)) (changed cur x)) where
+  same_by : (x : Oref) (b : Bool) → same_name y x ≡ b → option_map (dated ver) (cond b (option_map (dated ver) (changed cur y)) (changed cur x)) ≡ option_map (dated ver) (changed old x)
+  same_by x true h = twice ver (changed cur y) ∙ (d.same.same y ∙ ap (λ (z : Oref). option_map (dated ver) (changed old z)) (one_name y x h))
+  same_by x false h = d.same.same x
+
+  done_by : (x : Oref) (b : Bool) → same_name y x ≡ b → list_any (is_at (oref_cmp x)) rest ≡ false
+      → option_map (dated ver) (cond b (option_map (dated ver) (changed cur y)) (changed cur x)) ≡ cond b (option_map (dated ver) (changed cur y)) (changed cur x)
+  done_by x true h none = twice ver (changed cur y)
+  done_by x false h none = d.done x (ap (λ (b : Bool). b || list_any (is_at (oref_cmp x)) rest) (sym (name_tests y x) ∙ h) ∙ none)
+
+  pub goes_on : Keeps cur new → Dating ver old new rest
+  goes_on keeps = record {
+    kept = λ x. keeps x ∙ d.kept x;
+    same = record { same = λ x. ap (option_map (dated ver)) (more x) ∙ same_by x (same_name y x) refl };
+    done = λ x none. ap (option_map (dated ver)) (more x) ∙ (done_by x (same_name y x) refl none ∙ sym (more x));
+  }
+
+pub ends : (ver : ℕ) (old cur : Contents) → Dating ver old cur [] → Dates ver old cur
+ends ver old cur d = record { all = λ x. sym (d.done x refl) ∙ d.same.same x }
+
+-- ---- the answer, as what its writes make of an object
+
+module _ (epoch : ℕ) (f : Oref → Option Obj) (x : Oref) where
+  -- behind writes that make of each object among the names what was written
+  abbrev made : Bool → Option Obj → Option Obj
+  made named before = cond named (option_or (option_map (dated epoch) (f x)) before) before
+
+  either : (b : Bool) (o : Option Obj) → cond b o o ≡ o
+  either true o = refl
+  either false o = refl
+
+  none_made : (b named : Bool) (before : Option Obj) → (b ≡ true → f x ≡ None) → made named before ≡ made (b || named) before
+  none_made true named before h = rw (h refl) (either named before)
+  none_made false named before h = refl
+
+  some_made : (b named : Bool) (o : Obj) (before : Option Obj) → (b ≡ true → f x ≡ Some o) → made named (cond b (Some (in_epoch epoch (bare o))) before) ≡ made (b || named) before
+  some_made true named o before h = rw (h refl) (either named (Some (in_epoch epoch (bare o))))
+  some_made false named o before h = refl
+
+  at_first : (y : Oref) (ys : List Oref) (m : Map oref_cmp Obj) (o : Option Obj) → f y ≡ o
+      → ((n : Map oref_cmp Obj) → get (overwrite n (stored_at epoch (entries f ys))) x ≡ made (list_any (is_at (oref_cmp x)) ys) (get n x))
+      → get (overwrite m (stored_at epoch (entry y o (entries f ys)))) x ≡ made (list_any (is_at (oref_cmp x)) (y ∷ ys)) (get m x)
+  at_first y ys m None e rest = rest m ∙ none_made (is_at (oref_cmp x) y) (list_any (is_at (oref_cmp x)) ys) (get m x) (λ h. ap f (same_object x y h) ∙ e)
+  at_first y ys m (Some o) e rest =
+      rest (insert m y (in_epoch epoch (bare o)))
+      ∙ (ap (λ (v : Option Obj). made (list_any (is_at (oref_cmp x)) ys) v) (get-insert oref_total m y (in_epoch epoch (bare o)) x)
+      ∙ some_made (is_at (oref_cmp x) y) (list_any (is_at (oref_cmp x)) ys) o (get m x) (λ h. ap f (same_object x y h) ∙ e))
+
+  over : (xs : List Oref) (m : Map oref_cmp Obj) → get (overwrite m (stored_at epoch (entries f xs))) x ≡ made (list_any (is_at (oref_cmp x)) xs) (get m x)
+  over [] m = refl
+  over (y ∷ ys) m = at_first y ys m (f y) refl (λ n. over ys n)
+
+as_written : (ver : ℕ) (named : Bool) (o : Option Obj) → is_some o ≡ named → cond named (option_or (option_map (dated ver) o) None) None ≡ option_map (dated ver) o
+as_written ver true None h = refl
+as_written ver true (Some o) h = refl
+as_written ver false None h = refl
+as_written ver false (Some o) h = cc
+
+pub listed : (epoch : ℕ) (w : Set oref_cmp) (c : Contents) (x : Oref) → Tied w c → last_of (stored_at epoch (written_in w c).pairs) x ≡ option_map (dated epoch) (changed c x)
+unfolding written_in
+listed epoch w c x t = over epoch (changed c) x (keys w) empty ∙ as_written epoch (list_any (is_at (oref_cmp x)) (keys w)) (changed c x) (t.marked x ∙ is_some-lookup (is_at (oref_cmp x)) w.pairs)
+
+-- what is written stands as it is answered
+pub stands_so : (epoch : ℕ) (w : Set oref_cmp) (old new : Contents) (writes : List (Oref × Obj)) → Tied w old → Dates epoch old new → writes ≡ stored_at epoch (written_in w old).pairs
+    → (x : Oref) → changed new x ≡ last_of writes x
+stands_so epoch w old new writes t d e x = d.all x ∙ (sym (listed epoch w old x t) ∙ ap (λ (ws : List (Oref × Obj)). last_of ws x) (sym e))
+
+-- ---- the names beside the copies
+
+some_dated : (ver : ℕ) (o : Option Obj) → is_some o ≡ is_some (option_map (dated ver) o)
+some_dated ver None = refl
+some_dated ver (Some o) = refl
+
+pub still_tied : (ver : ℕ) (w : Set oref_cmp) (old new : Contents) → Tied w old → SameUndated ver old new → Tied w new
+still_tied ver w old new t s = record {
+  rising = t.rising;
+  marked = λ x. some_dated ver (changed new x) ∙ (ap is_some (s.same x) ∙ (sym (some_dated ver (changed old x)) ∙ t.marked x));
+  within = t.within;
+}
+
+pub tied_names : (w : Set oref_cmp) (c : Contents) (names : List (Oref × Unit {0})) → Tied w c → keys_of names ≡ keys w → AreWritten names c
+tied_names w c names t e = record {
+  marked = λ x. t.marked x
+      ∙ (is_some-lookup (is_at (oref_cmp x)) w.pairs
+      ∙ (ap (λ (ks : List Oref). list_any (is_at (oref_cmp x)) ks) (sym e)
+      ∙ sym (is_some-lookup (is_at (oref_cmp x)) names)));
+}
+
+-- ---- what the function answers
+
+pub by_names : {E : Type 0} (r : Result (List (Oref × Obj)) E) (epoch : ℕ) (w : Set oref_cmp) (c : Contents) (names : List (Oref × Unit {0})) → keys_of names ≡ keys w
+    → IfOk r (λ ws. ws ≡ stored_at epoch (entries (changed c) (keys_of names))) → IfOk r (λ ws. ws ≡ stored_at epoch (written_in w c).pairs)
+unfolding written_in
+by_names (Ok ws) epoch w c names e h = h ∙ ap (λ (ks : List Oref). stored_at epoch (entries (changed c) ks)) e
+by_names (Err e) epoch w c names same h = tt
+
+pub so_they_stand : {E : Type 0} (r : Result (List (Oref × Obj)) E) (epoch : ℕ) (w : Set oref_cmp) (old new : Contents) → Tied w old → OnOk r (Dates epoch old new)
+    → IfOk r (λ ws. ws ≡ stored_at epoch (written_in w old).pairs) → IfOk r (λ ws. (x : Oref) → changed new x ≡ last_of ws x)
+so_they_stand (Ok ws) epoch w old new t d h = stands_so epoch w old new ws t d h
+so_they_stand (Err e) epoch w old new t d h = tt

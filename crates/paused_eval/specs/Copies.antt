@@ -1,6 +1,6 @@
 -- What a run whose objects lie in a cache sees: copies as they were before the try, and what it has written.
 use Rattle.std.specs.Prelude.{◌≡◌, ◌<◌, ◌&&◌, Bool, true, not, if◌then◌else◌, nat_lt, List, [], ◌∷◌, Option, Some, None, is_some, ◌⊎◌}
-use Rattle.thor_value.specs.FiniteMap.{IsSorted, Map, Set, has, keys}
+use Rattle.thor_value.specs.FiniteMap.{IsSorted, Map, Set, empty, get, has, keys, overwrite}
 use Rattle.thor_value.specs.Names.{oref_cmp}
 use Rattle.thor_value.specs.declared.names.Oref.{Oref}
 use Rattle.thor_value.specs.declared.values.Obj.{Obj}
@@ -67,3 +67,7 @@ unless_due s written (Some o) = if nat_lt o.ver (number_of s.upgraded o.class) &
 
 abbrev pub seen_now : Schema → Set oref_cmp → Contents → Oref → Option Object
 seen_now s written c x = if nat_lt x.slot 12 then unless_due s (has written x) (seen c x) else None
+
+-- what some writes, each in turn, make of an object
+abbrev pub last_of : List (Oref × Obj) → Oref → Option Obj
+last_of writes x = get {R = oref_cmp} (overwrite empty writes) x

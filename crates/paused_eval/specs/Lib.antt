@@ -1,5 +1,4 @@
 pub mod Begins
-pub mod Bodies
 pub mod Copies
 pub mod Counted
 pub mod Direct
@@ -7,3 +6,4 @@ pub mod Does
 pub mod FromPages
 pub mod NamesCode
 pub mod Standing
+pub mod Writing

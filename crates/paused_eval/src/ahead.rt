@@ -3,7 +3,7 @@
 ghost use Rattle.std.specs.Prelude.{◌≡◌, ◌++◌, ℕ, List, OnOk};
 ghost use Rattle.class_defs.specs.declared.statements.Stmt.{Stmt};
 ghost use Rattle.method_eval.specs.Names.{Names};
-ghost use Rattle.paused_eval.specs.Bodies.{AreOf};
+ghost use Rattle.paused_defs.specs.Methods.{class_methods};
 ghost use Rattle.paused_eval.specs.Copies.{Keeps, Tied, at_hand, whole_state};
 ghost use Rattle.paused_eval.specs.Counted.{surplus};
 ghost use Rattle.paused_eval.specs.Direct as spec;
@@ -66,18 +66,18 @@ pub fn ahead<L: Ledger>(
     epoch: u32,
     cache: &mut Cache,
     progress: &mut Progress,
-    bodies: &mut Bodies<L>,
+    bodies: &mut Bodies<'_, L>,
     stack: &mut Stack<Frame>,
     doing: Doing,
 ) -> Result<Doing, Halt>
     requires tied { Tied progress.old.written cache.old }
-    requires known { AreOf program.now.schema.now.classes bodies.old.called }
+    requires known { bodies.old.methods.now ≡ class_methods program.now.schema.now.classes }
     ensures goes { (tx : List Stmt) → (given : List Oref) → (count : ℕ) → (n : Names)
         → Runs program.now.schema.now (at_hand program.now.schema.now cache.old) tx given count (record { doing = doing; stack = stack.old }) (whole_state progress.old cache.old n)
         → Went program.now.schema.now (at_hand program.now.schema.now cache.old) tx given count result stack.new (whole_state progress.new cache.new n) }
     ensures tied { Holds result (Tied progress.new.written cache.new) }
     ensures kept { Holds result (Keeps cache.old cache.new) }
-    ensures known { AreOf program.now.schema.now.classes bodies.new.called }
+    ensures known { bodies.new.methods.now ≡ class_methods program.now.schema.now.classes }
     ensures work { Holds result (surplus bodies.new.work progress.new.machine.steps ≡ surplus bodies.old.work progress.old.machine.steps) }
 {
     match doing {

@@ -4,16 +4,16 @@
 ghost use Rattle.std.specs.Prelude.{◌≡◌, ◌<◌, map, None, IfOk};
 ghost use Rattle.class_defs.specs.Types.{method_of};
 ghost use Rattle.class_defs.specs.declared.expressions.Expr.{out-Expr};
+ghost use Rattle.paused_defs.specs.Methods.{class_methods};
 ghost use Rattle.paused_defs.specs.Plain.{plain};
 ghost use Rattle.paused_defs.specs.Reaches.{over};
 ghost use Rattle.paused_defs.specs.Resume as small;
-ghost use Rattle.paused_eval.specs.Bodies.{AreOf};
 ghost use Rattle.paused_eval.specs.Copies.{Keeps, Tied, state};
 ghost use Rattle.paused_eval.specs.Counted.{surplus};
 ghost use Rattle.paused_eval.specs.Direct as spec;
 ghost use Rattle.paused_eval.specs.Direct.{Directs, Lasts, directly, on};
 
-use crate::bodies::{Bodies, body_of};
+use crate::bodies::{Bodies, method_in};
 use crate::direct_statements::block;
 use crate::moves::ended;
 use crate::objects::{field_value, touch};
@@ -26,11 +26,11 @@ use crate::waiting::{
     create_later, evaluate_later, faulted, not_entered,
 };
 use class_defs::{
-    DEPTH_LIMIT, ExprType, Machine, Method, Operator, Receiver, STEP_LIMIT, combined, number,
+    DEPTH_LIMIT, ExprType, Machine, Operator, Receiver, STEP_LIMIT, combined, number,
 };
 use client_cache::Cache;
-use method_eval::{Program, bound, method_of, named_value, owners_at, type_named};
-use paused_defs::{ExprNode, ExprNodes, Shared, SharedBlock, SharedExprs};
+use method_eval::{Program, bound, named_value, owners_at, type_named};
+use paused_defs::{ExprNode, ExprNodes, Shared, SharedExprs, SharedMethod};
 use std::mem;
 use std::sync::ledger::Ledger;
 use thor_value::{Fault, NoMemory, Oref, Text, Value, Values};
@@ -43,16 +43,16 @@ pub fn value_of<L: Ledger>(
     epoch: u32,
     cache: &mut Cache,
     progress: &mut Progress,
-    bodies: &mut Bodies<L>,
+    bodies: &mut Bodies<'_, L>,
     nested: u32,
     expr: &Shared<ExprNode>,
 ) -> Result<Value, Unwound>
     requires tied { Tied progress.old.written cache.old }
-    requires known { AreOf program.now.schema.now.classes bodies.old.called }
+    requires known { bodies.old.methods.now ≡ class_methods program.now.schema.now.classes }
     ensures does { Directs result (state progress.new cache.new) ((directly (on program.now.schema.now cache.old) nested).value_of (plain expr.now) (state progress.old cache.old)) }
     ensures tied { Lasts result (Tied progress.new.written cache.new) }
     ensures kept { Lasts result (Keeps cache.old cache.new) }
-    ensures known { AreOf program.now.schema.now.classes bodies.new.called }
+    ensures known { bodies.new.methods.now ≡ class_methods program.now.schema.now.classes }
     ensures work { Lasts result (surplus bodies.new.work progress.new.machine.steps ≡ surplus bodies.old.work progress.old.machine.steps) }
 {
     if nested == 0 || progress.machine.steps >= STEP_LIMIT {
@@ -79,16 +79,16 @@ fn node<L: Ledger>(
     epoch: u32,
     cache: &mut Cache,
     progress: &mut Progress,
-    bodies: &mut Bodies<L>,
+    bodies: &mut Bodies<'_, L>,
     inner: u32,
     node: &ExprNode,
 ) -> Result<Value, Unwound>
     requires tied { Tied progress.old.written cache.old }
-    requires known { AreOf program.now.schema.now.classes bodies.old.called }
+    requires known { bodies.old.methods.now ≡ class_methods program.now.schema.now.classes }
     ensures does { Directs result (state progress.new cache.new) (spec.node (on program.now.schema.now cache.old) inner (directly (on program.now.schema.now cache.old) inner) (out-Expr (plain node.now)) (state progress.old cache.old)) }
     ensures tied { Lasts result (Tied progress.new.written cache.new) }
     ensures kept { Lasts result (Keeps cache.old cache.new) }
-    ensures known { AreOf program.now.schema.now.classes bodies.new.called }
+    ensures known { bodies.new.methods.now ≡ class_methods program.now.schema.now.classes }
     ensures work { Lasts result (surplus bodies.new.work progress.new.machine.steps ≡ surplus bodies.old.work progress.old.machine.steps) }
 {
     match node {
@@ -142,16 +142,16 @@ fn negate<L: Ledger>(
     epoch: u32,
     cache: &mut Cache,
     progress: &mut Progress,
-    bodies: &mut Bodies<L>,
+    bodies: &mut Bodies<'_, L>,
     inner: u32,
     operand: &Shared<ExprNode>,
 ) -> Result<Value, Unwound>
     requires tied { Tied progress.old.written cache.old }
-    requires known { AreOf program.now.schema.now.classes bodies.old.called }
+    requires known { bodies.old.methods.now ≡ class_methods program.now.schema.now.classes }
     ensures does { Directs result (state progress.new cache.new) (spec.negate (on program.now.schema.now cache.old) inner (directly (on program.now.schema.now cache.old) inner) (plain operand.now) (state progress.old cache.old)) }
     ensures tied { Lasts result (Tied progress.new.written cache.new) }
     ensures kept { Lasts result (Keeps cache.old cache.new) }
-    ensures known { AreOf program.now.schema.now.classes bodies.new.called }
+    ensures known { bodies.new.methods.now ≡ class_methods program.now.schema.now.classes }
     ensures work { Lasts result (surplus bodies.new.work progress.new.machine.steps ≡ surplus bodies.old.work progress.old.machine.steps) }
 {
     match value_of(program, epoch, cache, progress, bodies, inner, operand) {
@@ -168,18 +168,18 @@ fn combine<L: Ledger>(
     epoch: u32,
     cache: &mut Cache,
     progress: &mut Progress,
-    bodies: &mut Bodies<L>,
+    bodies: &mut Bodies<'_, L>,
     inner: u32,
     operator: Operator,
     first: Value,
     right: &Shared<ExprNode>,
 ) -> Result<Value, Unwound>
     requires tied { Tied progress.old.written cache.old }
-    requires known { AreOf program.now.schema.now.classes bodies.old.called }
+    requires known { bodies.old.methods.now ≡ class_methods program.now.schema.now.classes }
     ensures does { Directs result (state progress.new cache.new) (spec.combine (on program.now.schema.now cache.old) inner (directly (on program.now.schema.now cache.old) inner) operator first (plain right.now) (state progress.old cache.old)) }
     ensures tied { Lasts result (Tied progress.new.written cache.new) }
     ensures kept { Lasts result (Keeps cache.old cache.new) }
-    ensures known { AreOf program.now.schema.now.classes bodies.new.called }
+    ensures known { bodies.new.methods.now ≡ class_methods program.now.schema.now.classes }
     ensures work { Lasts result (surplus bodies.new.work progress.new.machine.steps ≡ surplus bodies.old.work progress.old.machine.steps) }
 {
     match value_of(program, epoch, cache, progress, bodies, inner, right) {
@@ -195,18 +195,18 @@ fn binary<L: Ledger>(
     epoch: u32,
     cache: &mut Cache,
     progress: &mut Progress,
-    bodies: &mut Bodies<L>,
+    bodies: &mut Bodies<'_, L>,
     inner: u32,
     operator: Operator,
     left: &Shared<ExprNode>,
     right: &Shared<ExprNode>,
 ) -> Result<Value, Unwound>
     requires tied { Tied progress.old.written cache.old }
-    requires known { AreOf program.now.schema.now.classes bodies.old.called }
+    requires known { bodies.old.methods.now ≡ class_methods program.now.schema.now.classes }
     ensures does { Directs result (state progress.new cache.new) (spec.binary (on program.now.schema.now cache.old) inner (directly (on program.now.schema.now cache.old) inner) operator (plain left.now) (plain right.now) (state progress.old cache.old)) }
     ensures tied { Lasts result (Tied progress.new.written cache.new) }
     ensures kept { Lasts result (Keeps cache.old cache.new) }
-    ensures known { AreOf program.now.schema.now.classes bodies.new.called }
+    ensures known { bodies.new.methods.now ≡ class_methods program.now.schema.now.classes }
     ensures work { Lasts result (surplus bodies.new.work progress.new.machine.steps ≡ surplus bodies.old.work progress.old.machine.steps) }
 {
     match value_of(program, epoch, cache, progress, bodies, inner, left) {
@@ -224,18 +224,18 @@ fn called<L: Ledger>(
     epoch: u32,
     cache: &mut Cache,
     progress: &mut Progress,
-    bodies: &mut Bodies<L>,
+    bodies: &mut Bodies<'_, L>,
     inner: u32,
     receiver: &Shared<ExprNode>,
     method: &Shared<Text>,
     arguments: &Shared<ExprNodes>,
 ) -> Result<Value, Unwound>
     requires tied { Tied progress.old.written cache.old }
-    requires known { AreOf program.now.schema.now.classes bodies.old.called }
+    requires known { bodies.old.methods.now ≡ class_methods program.now.schema.now.classes }
     ensures does { Directs result (state progress.new cache.new) (spec.called (on program.now.schema.now cache.old) inner (directly (on program.now.schema.now cache.old) inner) (plain receiver.now) method.now (map plain arguments.now) (state progress.old cache.old)) }
     ensures tied { Lasts result (Tied progress.new.written cache.new) }
     ensures kept { Lasts result (Keeps cache.old cache.new) }
-    ensures known { AreOf program.now.schema.now.classes bodies.new.called }
+    ensures known { bodies.new.methods.now ≡ class_methods program.now.schema.now.classes }
     ensures work { Lasts result (surplus bodies.new.work progress.new.machine.steps ≡ surplus bodies.old.work progress.old.machine.steps) }
 {
     let kind = type_of(program, &progress.machine, receiver.get());
@@ -259,7 +259,7 @@ fn collect<L: Ledger>(
     epoch: u32,
     cache: &mut Cache,
     progress: &mut Progress,
-    bodies: &mut Bodies<L>,
+    bodies: &mut Bodies<'_, L>,
     inner: u32,
     kind: ExprType,
     target: Value,
@@ -268,11 +268,11 @@ fn collect<L: Ledger>(
     arguments: SharedExprs,
 ) -> Result<Value, Unwound>
     requires tied { Tied progress.old.written cache.old }
-    requires known { AreOf program.now.schema.now.classes bodies.old.called }
+    requires known { bodies.old.methods.now ≡ class_methods program.now.schema.now.classes }
     ensures does { Directs result (state progress.new cache.new) (spec.collect (on program.now.schema.now cache.old) inner (directly (on program.now.schema.now cache.old) inner) kind target method.now none arguments (state progress.old cache.old)) }
     ensures tied { Lasts result (Tied progress.new.written cache.new) }
     ensures kept { Lasts result (Keeps cache.old cache.new) }
-    ensures known { AreOf program.now.schema.now.classes bodies.new.called }
+    ensures known { bodies.new.methods.now ≡ class_methods program.now.schema.now.classes }
     ensures work { Lasts result (surplus bodies.new.work progress.new.machine.steps ≡ surplus bodies.old.work progress.old.machine.steps) }
 {
     let mut done = none;
@@ -317,7 +317,7 @@ fn ready<L: Ledger>(
     epoch: u32,
     cache: &mut Cache,
     progress: &mut Progress,
-    bodies: &mut Bodies<L>,
+    bodies: &mut Bodies<'_, L>,
     inner: u32,
     kind: ExprType,
     target: Value,
@@ -325,11 +325,11 @@ fn ready<L: Ledger>(
     arguments: Values,
 ) -> Result<Value, Unwound>
     requires tied { Tied progress.old.written cache.old }
-    requires known { AreOf program.now.schema.now.classes bodies.old.called }
+    requires known { bodies.old.methods.now ≡ class_methods program.now.schema.now.classes }
     ensures does { Directs result (state progress.new cache.new) (spec.ready (on program.now.schema.now cache.old) inner (directly (on program.now.schema.now cache.old) inner) kind target method.now arguments (state progress.old cache.old)) }
     ensures tied { Lasts result (Tied progress.new.written cache.new) }
     ensures kept { Lasts result (Keeps cache.old cache.new) }
-    ensures known { AreOf program.now.schema.now.classes bodies.new.called }
+    ensures known { bodies.new.methods.now ≡ class_methods program.now.schema.now.classes }
     ensures work { Lasts result (surplus bodies.new.work progress.new.machine.steps ≡ surplus bodies.old.work progress.old.machine.steps) }
 {
     match (kind, target) {
@@ -348,7 +348,7 @@ fn call<L: Ledger>(
     epoch: u32,
     cache: &mut Cache,
     progress: &mut Progress,
-    bodies: &mut Bodies<L>,
+    bodies: &mut Bodies<'_, L>,
     inner: u32,
     class: u16,
     oref: Oref,
@@ -356,11 +356,11 @@ fn call<L: Ledger>(
     arguments: Values,
 ) -> Result<Value, Unwound>
     requires tied { Tied progress.old.written cache.old }
-    requires known { AreOf program.now.schema.now.classes bodies.old.called }
+    requires known { bodies.old.methods.now ≡ class_methods program.now.schema.now.classes }
     ensures does { Directs result (state progress.new cache.new) (spec.call (on program.now.schema.now cache.old) inner (directly (on program.now.schema.now cache.old) inner) class oref method.now arguments (state progress.old cache.old)) }
     ensures tied { Lasts result (Tied progress.new.written cache.new) }
     ensures kept { Lasts result (Keeps cache.old cache.new) }
-    ensures known { AreOf program.now.schema.now.classes bodies.new.called }
+    ensures known { bodies.new.methods.now ≡ class_methods program.now.schema.now.classes }
     ensures work { Lasts result (surplus bodies.new.work progress.new.machine.steps ≡ surplus bodies.old.work progress.old.machine.steps) }
 {
     if progress.machine.depth >= DEPTH_LIMIT {
@@ -389,7 +389,7 @@ fn enter<L: Ledger>(
     epoch: u32,
     cache: &mut Cache,
     progress: &mut Progress,
-    bodies: &mut Bodies<L>,
+    bodies: &mut Bodies<'_, L>,
     inner: u32,
     found: u16,
     this: Receiver,
@@ -397,24 +397,21 @@ fn enter<L: Ledger>(
     arguments: &Values,
 ) -> Result<Value, Unwound>
     requires tied { Tied progress.old.written cache.old }
-    requires known { AreOf program.now.schema.now.classes bodies.old.called }
+    requires known { bodies.old.methods.now ≡ class_methods program.now.schema.now.classes }
     requires depth { progress.old.machine.depth < 64 }
     ensures does { Directs result (state progress.new cache.new) (spec.enter_as (on program.now.schema.now cache.old) inner (directly (on program.now.schema.now cache.old) inner) this found (method_of program.now.schema.now.classes this.class name.now) arguments.now (state progress.old cache.old)) }
     ensures tied { Lasts result (Tied progress.new.written cache.new) }
     ensures kept { Lasts result (Keeps cache.old cache.new) }
-    ensures known { AreOf program.now.schema.now.classes bodies.new.called }
+    ensures known { bodies.new.methods.now ≡ class_methods program.now.schema.now.classes }
     ensures work { Lasts result (surplus bodies.new.work progress.new.machine.steps ≡ surplus bodies.old.work progress.old.machine.steps) }
 {
     if found != this.class {
         return faulted(Fault::NullCall);
     }
-    match method_of(program, this.class, name.get().as_slice()) {
-        Some(method) => {
-            let body = body_of(program, bodies, this.class, name, method)?;
-            run_body(
-                program, epoch, cache, progress, bodies, inner, this, method, body, arguments,
-            )
-        }
+    match method_in(program, bodies, this.class, name.get().as_slice()) {
+        Some(method) => run_body(
+            program, epoch, cache, progress, bodies, inner, this, method, arguments,
+        ),
         None => faulted(Fault::NullCall),
     }
 }
@@ -432,14 +429,14 @@ fn go_inside(
     program: &Program<'_>,
     machine: &mut Machine,
     this: Receiver,
-    method: &Method,
+    method: &SharedMethod,
     arguments: &Values,
 ) -> Result<Outside, NoMemory>
     requires { machine.old.depth < 64 }
     ensures inside { IfOk result (λ outside. machine.new ≡ small.inside (over program.now.schema.now (λ x. None)) this method.now arguments.now machine.old) }
     ensures outside { IfOk result (λ outside. outside ≡ record { depth = machine.old.depth; this = machine.old.this; locals = machine.old.locals }) }
 {
-    let locals = bound(program, &method.parameters, arguments)?;
+    let locals = bound(program, method.parameters(), arguments)?;
     let depth = machine.depth;
     let locals = mem::replace(&mut machine.locals, locals);
     let caller = mem::replace(&mut machine.this, Some(this));
@@ -459,29 +456,28 @@ fn run_body<L: Ledger>(
     epoch: u32,
     cache: &mut Cache,
     progress: &mut Progress,
-    bodies: &mut Bodies<L>,
+    bodies: &mut Bodies<'_, L>,
     inner: u32,
     this: Receiver,
-    method: &Method,
-    body: SharedBlock,
+    method: &SharedMethod,
     arguments: &Values,
 ) -> Result<Value, Unwound>
     requires tied { Tied progress.old.written cache.old }
-    requires known { AreOf program.now.schema.now.classes bodies.old.called }
+    requires known { bodies.old.methods.now ≡ class_methods program.now.schema.now.classes }
     requires depth { progress.old.machine.depth < 64 }
-    requires body { body ≡ method.now.body }
     ensures does { Directs result (state progress.new cache.new) (spec.run_body (on program.now.schema.now cache.old) inner (directly (on program.now.schema.now cache.old) inner) this method.now arguments.now (state progress.old cache.old)) }
     ensures tied { Lasts result (Tied progress.new.written cache.new) }
     ensures kept { Lasts result (Keeps cache.old cache.new) }
-    ensures known { AreOf program.now.schema.now.classes bodies.new.called }
+    ensures known { bodies.new.methods.now ≡ class_methods program.now.schema.now.classes }
     ensures work { Lasts result (surplus bodies.new.work progress.new.machine.steps ≡ surplus bodies.old.work progress.old.machine.steps) }
 {
+    let body = method.body()?;
     let Outside {
         depth,
         this,
         locals,
     } = go_inside(program, &mut progress.machine, this, method, arguments)?;
-    let kind = type_named(program, &method.result);
+    let kind = type_named(program, method.result());
     match block(program, epoch, cache, progress, bodies, inner, body) {
         Ok(flow) => {
             leave_body(&mut progress.machine, depth, this, locals);

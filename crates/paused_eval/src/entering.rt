@@ -1,22 +1,22 @@
 ghost use Rattle.std.specs.Prelude.{◌≡◌, ◌<◌, Option, Some};
 ghost use Rattle.thor_value.specs.declared.names.Oref.{Oref};
 ghost use Rattle.class_defs.specs.declared.store.Object.{Object};
+ghost use Rattle.paused_defs.specs.Methods.{class_methods};
 ghost use Rattle.paused_defs.specs.Reaches.{over};
 ghost use Rattle.paused_defs.specs.Resume as spec;
 ghost use Rattle.class_defs.specs.Types.{method_of};
-ghost use Rattle.paused_eval.specs.Bodies.{AreOf};
 ghost use Rattle.paused_eval.specs.Copies.{Keeps, Tied, at_hand, state};
 ghost use Rattle.paused_eval.specs.Counted.{surplus};
 ghost use Rattle.paused_eval.specs.Does.{AtNeed, Goes, Holds, Moves};
 
-use crate::bodies::{Bodies, body_of};
+use crate::bodies::{Bodies, method_in};
 use crate::moves::open_block;
 use crate::objects::touch;
 use crate::progress::Progress;
-use class_defs::{DEPTH_LIMIT, Machine, Method, Receiver};
+use class_defs::{DEPTH_LIMIT, Machine, Receiver};
 use client_cache::Cache;
-use method_eval::{Halt, Program, bound, fault, method_of, owners_at, type_named};
-use paused_defs::{Doing, Frame, Shared, SharedBlock, Stack};
+use method_eval::{Halt, Program, bound, fault, owners_at, type_named};
+use paused_defs::{Doing, Frame, Shared, SharedMethod, Stack};
 use std::mem;
 use std::sync::ledger::Ledger;
 use thor_value::{Fault, Oref, Text, Values};
@@ -28,16 +28,15 @@ fn open_body(
     stack: &mut Stack<Frame>,
     inner: u32,
     this: Receiver,
-    method: &Method,
-    body: SharedBlock,
+    method: &SharedMethod,
     arguments: &Values,
 ) -> Result<Doing, Halt>
     requires depth { machine.old.depth < 64 }
-    requires body { body ≡ method.now.body }
     ensures does { (f : Oref → Option Object) → Moves result stack.new machine.old machine.new (spec.open_body (over program.now.schema.now f) inner this (Some method.now) arguments.now stack.old) }
     ensures steps { machine.new.steps ≡ machine.old.steps }
 {
-    let locals = bound(program, &method.parameters, arguments)?;
+    let locals = bound(program, method.parameters(), arguments)?;
+    let body = method.body()?;
     let depth = machine.depth;
     let caller_locals = mem::replace(&mut machine.locals, locals);
     let caller = mem::replace(&mut machine.this, Some(this));
@@ -46,7 +45,7 @@ fn open_body(
         depth,
         this: caller,
         locals: caller_locals,
-        result: type_named(program, &method.result),
+        result: type_named(program, method.result()),
     })?;
     open_block(machine, stack, inner, body)
 }
@@ -55,7 +54,7 @@ fn open_body(
 fn open_method<L: Ledger>(
     program: &Program<'_>,
     machine: &mut Machine,
-    bodies: &mut Bodies<L>,
+    bodies: &Bodies<'_, L>,
     stack: &mut Stack<Frame>,
     inner: u32,
     this: Receiver,
@@ -63,19 +62,12 @@ fn open_method<L: Ledger>(
     arguments: &Values,
 ) -> Result<Doing, Halt>
     requires depth { machine.old.depth < 64 }
-    requires known { AreOf program.now.schema.now.classes bodies.old.called }
+    requires known { bodies.now.methods.now ≡ class_methods program.now.schema.now.classes }
     ensures opens { (f : Oref → Option Object) → Moves result stack.new machine.old machine.new (spec.open_body (over program.now.schema.now f) inner this (method_of program.now.schema.now.classes this.class name.now) arguments.now stack.old) }
-    ensures known { AreOf program.now.schema.now.classes bodies.new.called }
     ensures steps { machine.new.steps ≡ machine.old.steps }
-    ensures work { bodies.new.work ≡ bodies.old.work }
 {
-    match method_of(program, this.class, name.get().as_slice()) {
-        Some(method) => {
-            let body = body_of(program, bodies, this.class, name, method)?;
-            open_body(
-                program, machine, stack, inner, this, method, body, arguments,
-            )
-        }
+    match method_in(program, bodies, this.class, name.get().as_slice()) {
+        Some(method) => open_body(program, machine, stack, inner, this, method, arguments),
         None => fault(Fault::NullCall),
     }
 }
@@ -86,7 +78,7 @@ pub fn enter<L: Ledger>(
     program: &Program<'_>,
     cache: &mut Cache,
     progress: &mut Progress,
-    bodies: &mut Bodies<L>,
+    bodies: &mut Bodies<'_, L>,
     stack: &mut Stack<Frame>,
     inner: u32,
     class: u16,
@@ -95,12 +87,12 @@ pub fn enter<L: Ledger>(
     arguments: &Values,
 ) -> Result<Doing, Halt>
     requires tied { Tied progress.old.written cache.old }
-    requires known { AreOf program.now.schema.now.classes bodies.old.called }
+    requires known { bodies.old.methods.now ≡ class_methods program.now.schema.now.classes }
     ensures does { Goes result stack.new (state progress.new cache.new) (spec.enters (over program.now.schema.now (at_hand program.now.schema.now cache.old)) inner class oref method.now arguments.now stack.old (state progress.old cache.old)) }
     ensures stays { AtNeed result ((state progress.new cache.new ≡ state progress.old cache.old) × (stack.new ≡ stack.old)) }
     ensures tied { Holds result (Tied progress.new.written cache.new) }
     ensures kept { Holds result (Keeps cache.old cache.new) }
-    ensures known { AreOf program.now.schema.now.classes bodies.new.called }
+    ensures known { bodies.new.methods.now ≡ class_methods program.now.schema.now.classes }
     ensures work { Holds result (surplus bodies.new.work progress.new.machine.steps ≡ surplus bodies.old.work progress.old.machine.steps) }
 {
     if progress.machine.depth >= DEPTH_LIMIT {

@@ -1,18 +1,16 @@
 ghost use Rattle.std.specs.Prelude.{◌≡◌, IfOk, IfSome};
 
-use crate::bodies::CopiedBodies;
 use class_defs::Block;
 use paused_defs::SharedBlock;
 use std::alloc::Global;
 use std::mem;
 use thor_value::NoMemory;
 
-/// What a client keeps of the texts that it has evaluated, so that they need not be copied again.
+/// What a client keeps of the text that it has evaluated last, so that it need not be copied again.
 ///
 /// A text counts only where it is still the one that is evaluated: that is looked at before it is used.
 #[derive(Drop)]
 pub struct KeptTexts {
-    pub bodies: CopiedBodies,
     transaction: Option<SharedBlock>,
 }
 
@@ -39,11 +37,8 @@ fn keep_text(place: &mut Option<SharedBlock>, text: SharedBlock) {
 
 impl KeptTexts {
     /// Nothing is kept. It takes no memory.
-    pub fn new(alloc: Global) -> KeptTexts {
-        KeptTexts {
-            bodies: CopiedBodies::new(alloc),
-            transaction: None,
-        }
+    pub fn new() -> KeptTexts {
+        KeptTexts { transaction: None }
     }
 
     /// The text of a transaction, which is copied where it isn't the last one.

@@ -1,4 +1,4 @@
-ghost use Rattle.std.specs.Prelude.{◌≡◌, ◌<◌, ◌+◌, ◌++◌, List, [], Option, Ok, IfOk, OnOk};
+ghost use Rattle.std.specs.Prelude.{◌≡◌, ◌<◌, ◌+◌, ◌++◌, List, [], Option, Ok, IfOk, OnOk, cond, option_map};
 ghost use Rattle.std.specs.Map.{keys_of};
 ghost use Rattle.thor_value.specs.FiniteMap.{empty, has};
 ghost use Rattle.thor_value.specs.declared.names.Oref.{Oref};
@@ -6,14 +6,17 @@ ghost use Rattle.class_defs.specs.declared.statements.Stmt.{Stmt};
 ghost use Rattle.class_defs.specs.declared.store.Object.{Object};
 ghost use Rattle.class_defs.specs.declared.store.Schema.{Schema};
 ghost use Rattle.class_defs.specs.declared.machine.Flow.{Flow};
-ghost use Rattle.client_cache.specs.Copies.{seen};
+ghost use Rattle.client_cache.specs.Copies.{changed};
+ghost use Rattle.client_cache.specs.Pages.{same_name};
+ghost use Rattle.client_cache.specs.Slots.{dated};
 ghost use Rattle.method_eval.specs.Answers.{ran_at, stored_at};
 ghost use Rattle.method_eval.specs.Names.{Names, supply};
+ghost use Rattle.paused_defs.specs.Methods.{class_methods};
 ghost use Rattle.paused_defs.specs.Resume.{Left};
-ghost use Rattle.paused_eval.specs.Bodies.{AreOf};
-ghost use Rattle.paused_eval.specs.Copies.{Keeps, at_hand, entries, entry, state_with, written_in};
+ghost use Rattle.paused_eval.specs.Copies.{Keeps, at_hand, entries, entry, last_of, state_with, written_in};
 ghost use Rattle.paused_eval.specs.Counted.{surplus};
 ghost use Rattle.paused_eval.specs.Standing.{AtStop, CameTo, Stands, answer_of, outcome_of};
+ghost use Rattle.paused_eval.specs.Writing.{AreWritten, Dates, HasWritten, SameUndated};
 ghost use Rattle.paused_eval.specs.declared.copies.Copies.{Copies};
 ghost use Rattle.paused_eval.specs.declared.granted_names.GrantedNames.{GrantedNames};
 
@@ -22,19 +25,18 @@ use crate::came::Came;
 use crate::copies::Copies;
 use crate::granted_names::GrantedNames;
 use crate::kept_texts::KeptTexts;
-use crate::objects::found;
 use crate::progress::begun;
 use crate::running::run_over;
 use class_defs::{Block, Flow, Machine, Schema};
 use client_cache::Cache;
 use method_eval::{Program, Ran};
-use paused_defs::{Doing, Frame, Stack};
+use paused_defs::{ClassMethods, Doing, Frame, Stack};
 use std::alloc::Global;
 use std::collections::BTreeMap;
 use std::marker::Brand;
 use std::mem;
 use std::sync::ledger::{Blank, Ledger};
-use thor_value::{Answer, NoMemory, Obj, Oref, Orefs, StepCount, TryCopy, Writes};
+use thor_value::{Answer, NoMemory, Oref, Orefs, StepCount, TryCopy, Writes};
 
 /// A transaction's evaluation, as far as it has come.
 #[derive(Drop)]
@@ -53,36 +55,37 @@ const CLASS_LIMIT: usize = 65_536;
 /// How many frames a stack has room for from the beginning: most transactions need no more between two stops.
 const FRAMES: usize = 8;
 
-/// An object of the cache comes behind the others.
-fn push_written(cache: &Cache, epoch: u32, oref: Oref, writes: &mut Writes) -> Result<(), NoMemory>
-    ensures { OnOk result (writes.new ≡ writes.old ++ stored_at epoch (entry oref (seen cache.now oref) [])) }
+/// An object that the try has written comes behind the others, as it is written at an epoch. So it stands in the cache,
+/// too.
+fn push_written(
+    cache: &mut Cache,
+    epoch: u32,
+    oref: Oref,
+    writes: &mut Writes,
+) -> Result<(), NoMemory>
+    ensures writes { OnOk result (writes.new ≡ writes.old ++ stored_at epoch (entry oref (changed cache.old oref) [])) }
+    ensures kept { Keeps cache.old cache.new }
+    ensures changed { (x : Oref) → changed cache.new x ≡ cond (same_name oref x) (option_map (dated epoch) (changed cache.old oref)) (changed cache.old x) }
 {
-    match found(cache, oref) {
-        Some(obj) => {
-            let fields = obj.fields.copy()?;
-            let class = obj.class;
-            writes.push((
-                oref,
-                Obj {
-                    class,
-                    ver: epoch,
-                    fields,
-                },
-            ))
-        }
+    match cache.date(oref, epoch)? {
+        Some(obj) => writes.push((oref, obj)),
         None => Ok(()),
     }
 }
 
-/// The objects of these names, as they are written at an epoch.
-#[tactic(auto, using(crate::proofs::Writes::one_of))]
+/// The objects of these names, as they are written at an epoch. So they stand in the cache, too.
+#[tactic(auto, using(crate::proofs::Writes::goes_on, crate::proofs::Writes::ends))]
 fn writes_of(
     alloc: Global,
-    cache: &Cache,
+    cache: &mut Cache,
     epoch: u32,
     names: &BTreeMap<Oref, ()>,
 ) -> Result<Writes, NoMemory>
-    ensures { IfOk result (λ writes. writes ≡ stored_at epoch (entries (seen cache.now) (keys_of names.now.entries))) }
+    requires { AreWritten names.now.entries cache.old }
+    ensures writes { IfOk result (λ writes. writes ≡ stored_at epoch (entries (changed cache.old) (keys_of names.now.entries))) }
+    ensures dated { OnOk result (Dates epoch cache.old cache.new) }
+    ensures same { SameUndated epoch cache.old cache.new }
+    ensures kept { Keeps cache.old cache.new }
 {
     let mut writes = Writes::new(alloc);
     for oref in names.keys() {
@@ -91,12 +94,14 @@ fn writes_of(
     Ok(writes)
 }
 
-/// The objects that the run has written.
-#[tactic(auto, using(crate::proofs::Writes::written_as_seen))]
-fn writes(alloc: Global, copies: &Copies, epoch: u32) -> Result<Writes, NoMemory>
-    ensures { IfOk result (λ writes. writes ≡ stored_at epoch (written_in copies.now.written copies.now.cache).pairs) }
+/// The objects that the run has written. As they are answered they stand in the cache, too.
+#[tactic(auto, using(crate::proofs::Writes::still_tied))]
+fn writes(alloc: Global, copies: &mut Copies, epoch: u32) -> Result<Writes, NoMemory>
+    ensures writes { IfOk result (λ writes. writes ≡ stored_at epoch (written_in copies.old.written copies.old.cache).pairs) }
+    ensures wrote { IfOk result (λ writes. (x : Oref) → changed copies.new.cache x ≡ last_of writes x) }
+    ensures kept { Keeps copies.old.cache copies.new.cache }
 {
-    writes_of(alloc, &copies.cache, epoch, copies.written.keys())
+    writes_of(alloc, &mut copies.cache, epoch, copies.written.keys())
 }
 
 /// Says what is done next.
@@ -152,50 +157,55 @@ impl Paused {
     /// Goes on from where it stopped, and answers as the transaction would from the start.
     ///
     /// What the run writes goes into the copies, and what it names is given by `names`; behind a fault the caller
-    /// undoes the one and resets the other. Between two calls the schema stays the same, each copy that was read or
+    /// undoes the one and resets the other. Behind an answer without a fault the copies have of each object that the run
+    /// has written just what the answer lists (`wrote`). Between two calls the schema stays the same, each copy that was read or
     /// written is as it was, and names are only granted. After an answer, a fault or `NoMemory` it doesn't go on.
     pub fn go(
         &mut self,
         schema: &Schema,
+        methods: &ClassMethods,
         epoch: u32,
         copies: &mut Copies,
         names: &mut GrantedNames,
-        kept: &mut KeptTexts,
     ) -> Result<Ran, NoMemory>
+        requires known { methods.now ≡ class_methods schema.now.classes }
         ensures answers { (tx : List Stmt) → (given : List Oref) → Stands schema.now (at_hand schema.now copies.old.cache) tx given (record { doing = self.old.doing; stack = self.old.stack }) (state_with self.old.machine copies.old.written copies.old.cache names.old.names)
             → IfOk result (λ ran. ran ≡ answer_of epoch schema.now (at_hand schema.now copies.old.cache) tx given) }
         ensures stands { (tx : List Stmt) → (given : List Oref) → Stands schema.now (at_hand schema.now copies.old.cache) tx given (record { doing = self.old.doing; stack = self.old.stack }) (state_with self.old.machine copies.old.written copies.old.cache names.old.names)
             → IfOk result (λ ran. AtStop ran (Stands schema.now (at_hand schema.now copies.new.cache) tx given (record { doing = self.new.doing; stack = self.new.stack }) (state_with self.new.machine copies.new.written copies.new.cache names.new.names))) }
         ensures kept { OnOk result (Keeps copies.old.cache copies.new.cache) }
+        ensures wrote { IfOk result (λ ran. HasWritten ran copies.new.cache) }
         ensures steps { (tx : List Stmt) → (given : List Oref) → Stands schema.now (at_hand schema.now copies.old.cache) tx given (record { doing = self.old.doing; stack = self.old.stack }) (state_with self.old.machine copies.old.written copies.old.cache names.old.names)
             → OnOk result (self.new.machine.steps ≡ (outcome_of schema.now (at_hand schema.now copies.old.cache) tx given).1.steps) }
     {
-        self.go_uncounted::<Brand>(schema, epoch, copies, names, kept, Blank::new(1))
+        self.go_uncounted::<Brand>(schema, methods, epoch, copies, names, Blank::new(1))
     }
 
     /// The same with a count of its own.
     fn go_uncounted<L: Ledger>(
         &mut self,
         schema: &Schema,
+        methods: &ClassMethods,
         epoch: u32,
         copies: &mut Copies,
         names: &mut GrantedNames,
-        kept: &mut KeptTexts,
         ledger: Blank,
     ) -> Result<Ran, NoMemory>
         requires name { ledger.name ≡ L.name }
         requires parts { ledger.parts ≡ L.parts }
         requires some { 0 < ledger.parts }
+        requires known { methods.now ≡ class_methods schema.now.classes }
         ensures answers { (tx : List Stmt) → (given : List Oref) → Stands schema.now (at_hand schema.now copies.old.cache) tx given (record { doing = self.old.doing; stack = self.old.stack }) (state_with self.old.machine copies.old.written copies.old.cache names.old.names)
             → IfOk result (λ ran. ran ≡ answer_of epoch schema.now (at_hand schema.now copies.old.cache) tx given) }
         ensures stands { (tx : List Stmt) → (given : List Oref) → Stands schema.now (at_hand schema.now copies.old.cache) tx given (record { doing = self.old.doing; stack = self.old.stack }) (state_with self.old.machine copies.old.written copies.old.cache names.old.names)
             → IfOk result (λ ran. AtStop ran (Stands schema.now (at_hand schema.now copies.new.cache) tx given (record { doing = self.new.doing; stack = self.new.stack }) (state_with self.new.machine copies.new.written copies.new.cache names.new.names))) }
         ensures kept { OnOk result (Keeps copies.old.cache copies.new.cache) }
+        ensures wrote { IfOk result (λ ran. HasWritten ran copies.new.cache) }
         ensures steps { (tx : List Stmt) → (given : List Oref) → Stands schema.now (at_hand schema.now copies.old.cache) tx given (record { doing = self.old.doing; stack = self.old.stack }) (state_with self.old.machine copies.old.written copies.old.cache names.old.names)
             → OnOk result (self.new.machine.steps ≡ (outcome_of schema.now (at_hand schema.now copies.old.cache) tx given).1.steps) }
     {
         let work: StepCount<L> = StepCount::new(ledger);
-        let (ran, work) = self.go_counted(schema, epoch, copies, names, kept, work);
+        let (ran, work) = self.go_counted(schema, methods, epoch, copies, names, work);
         drop(work);
         ran
     }
@@ -206,24 +216,27 @@ impl Paused {
     pub fn go_counted<L: Ledger>(
         &mut self,
         schema: &Schema,
+        methods: &ClassMethods,
         epoch: u32,
         copies: &mut Copies,
         names: &mut GrantedNames,
-        kept: &mut KeptTexts,
         work: StepCount<L>,
     ) -> (Result<Ran, NoMemory>, StepCount<L>)
+        requires known { methods.now ≡ class_methods schema.now.classes }
         ensures answers { (tx : List Stmt) → (given : List Oref) → Stands schema.now (at_hand schema.now copies.old.cache) tx given (record { doing = self.old.doing; stack = self.old.stack }) (state_with self.old.machine copies.old.written copies.old.cache names.old.names)
             → IfOk result.0 (λ ran. ran ≡ answer_of epoch schema.now (at_hand schema.now copies.old.cache) tx given) }
         ensures stands { (tx : List Stmt) → (given : List Oref) → Stands schema.now (at_hand schema.now copies.old.cache) tx given (record { doing = self.old.doing; stack = self.old.stack }) (state_with self.old.machine copies.old.written copies.old.cache names.old.names)
             → IfOk result.0 (λ ran. AtStop ran (Stands schema.now (at_hand schema.now copies.new.cache) tx given (record { doing = self.new.doing; stack = self.new.stack }) (state_with self.new.machine copies.new.written copies.new.cache names.new.names))) }
         ensures kept { OnOk result.0 (Keeps copies.old.cache copies.new.cache) }
+        ensures wrote { IfOk result.0 (λ ran. HasWritten ran copies.new.cache) }
         ensures steps { (tx : List Stmt) → (given : List Oref) → Stands schema.now (at_hand schema.now copies.old.cache) tx given (record { doing = self.old.doing; stack = self.old.stack }) (state_with self.old.machine copies.old.written copies.old.cache names.old.names)
             → OnOk result.0 (self.new.machine.steps ≡ (outcome_of schema.now (at_hand schema.now copies.old.cache) tx given).1.steps) }
         ensures work { OnOk result.0 (result.1 + self.old.machine.steps ≡ work + self.new.machine.steps) }
     {
-        let mut bodies = Bodies::taken(self.alloc, &mut kept.bodies, work);
+        let mut bodies = Bodies { methods, work };
         let ran = self.go_with(schema, epoch, copies, names, &mut bodies);
-        (ran, bodies.put_back(&mut kept.bodies))
+        let Bodies { methods: _, work } = bodies;
+        (ran, work)
     }
 
     /// The same with bodies of methods that are the schema's.
@@ -233,14 +246,15 @@ impl Paused {
         epoch: u32,
         copies: &mut Copies,
         names: &mut GrantedNames,
-        bodies: &mut Bodies<L>,
+        bodies: &mut Bodies<'_, L>,
     ) -> Result<Ran, NoMemory>
-        requires known { AreOf schema.now.classes bodies.old.called }
+        requires known { bodies.old.methods.now ≡ class_methods schema.now.classes }
         ensures answers { (tx : List Stmt) → (given : List Oref) → Stands schema.now (at_hand schema.now copies.old.cache) tx given (record { doing = self.old.doing; stack = self.old.stack }) (state_with self.old.machine copies.old.written copies.old.cache names.old.names)
             → IfOk result (λ ran. ran ≡ answer_of epoch schema.now (at_hand schema.now copies.old.cache) tx given) }
         ensures stands { (tx : List Stmt) → (given : List Oref) → Stands schema.now (at_hand schema.now copies.old.cache) tx given (record { doing = self.old.doing; stack = self.old.stack }) (state_with self.old.machine copies.old.written copies.old.cache names.old.names)
             → IfOk result (λ ran. AtStop ran (Stands schema.now (at_hand schema.now copies.new.cache) tx given (record { doing = self.new.doing; stack = self.new.stack }) (state_with self.new.machine copies.new.written copies.new.cache names.new.names))) }
         ensures kept { OnOk result (Keeps copies.old.cache copies.new.cache) }
+        ensures wrote { IfOk result (λ ran. HasWritten ran copies.new.cache) }
         ensures steps { (tx : List Stmt) → (given : List Oref) → Stands schema.now (at_hand schema.now copies.old.cache) tx given (record { doing = self.old.doing; stack = self.old.stack }) (state_with self.old.machine copies.old.written copies.old.cache names.old.names)
             → OnOk result (self.new.machine.steps ≡ (outcome_of schema.now (at_hand schema.now copies.old.cache) tx given).1.steps) }
         ensures work { OnOk result (surplus bodies.new.work self.new.machine.steps ≡ surplus bodies.old.work self.old.machine.steps) }
@@ -269,8 +283,10 @@ impl Paused {
     }
 
     /// What it answers that has ended.
-    fn done(&self, copies: &Copies, epoch: u32) -> Result<Ran, NoMemory>
-        ensures { (names : Names) → (flow : Flow) → IfOk result (λ ran. ran ≡ ran_at epoch (Ok flow) (state_with self.now.machine copies.now.written copies.now.cache names)) }
+    fn done(&self, copies: &mut Copies, epoch: u32) -> Result<Ran, NoMemory>
+        ensures answers { (names : Names) → (flow : Flow) → IfOk result (λ ran. ran ≡ ran_at epoch (Ok flow) (state_with self.now.machine copies.old.written copies.old.cache names)) }
+        ensures wrote { IfOk result (λ ran. HasWritten ran copies.new.cache) }
+        ensures kept { Keeps copies.old.cache copies.new.cache }
     {
         let reads = self.machine.reads.names(self.alloc)?;
         let writes = writes(self.alloc, copies, epoch)?;
@@ -285,13 +301,15 @@ impl Paused {
     }
 
     /// What it answers that has come to an end or a stop.
-    fn answer(&self, copies: &Copies, epoch: u32, came: Came) -> Result<Ran, NoMemory>
+    fn answer(&self, copies: &mut Copies, epoch: u32, came: Came) -> Result<Ran, NoMemory>
         ensures answers { (s : Schema) → (f : Oref → Option Object) → (tx : List Stmt) → (given : List Oref) → (l : Left) → (names : Names)
-            → CameTo s f tx given came l (state_with self.now.machine copies.now.written copies.now.cache names)
+            → CameTo s f tx given came l (state_with self.now.machine copies.old.written copies.old.cache names)
             → IfOk result (λ ran. ran ≡ answer_of epoch s f tx given) }
         ensures stands { (s : Schema) → (f : Oref → Option Object) → (tx : List Stmt) → (given : List Oref) → (l : Left) → (names : Names)
-            → CameTo s f tx given came l (state_with self.now.machine copies.now.written copies.now.cache names)
-            → IfOk result (λ ran. AtStop ran (Stands s f tx given l (state_with self.now.machine copies.now.written copies.now.cache names))) }
+            → CameTo s f tx given came l (state_with self.now.machine copies.old.written copies.old.cache names)
+            → IfOk result (λ ran. AtStop ran (Stands s f tx given l (state_with self.now.machine copies.new.written copies.new.cache names))) }
+        ensures wrote { IfOk result (λ ran. HasWritten ran copies.new.cache) }
+        ensures kept { Keeps copies.old.cache copies.new.cache }
     {
         match came {
             Came::Ended => self.done(copies, epoch),

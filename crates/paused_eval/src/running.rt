@@ -1,7 +1,7 @@
 ghost use Rattle.std.specs.Prelude.{◌≡◌, List, IfOk, OnOk};
 ghost use Rattle.thor_value.specs.declared.names.Oref.{Oref};
 ghost use Rattle.class_defs.specs.declared.statements.Stmt.{Stmt};
-ghost use Rattle.paused_eval.specs.Bodies.{AreOf};
+ghost use Rattle.paused_defs.specs.Methods.{class_methods};
 ghost use Rattle.paused_eval.specs.Copies.{Keeps, Tied, at_hand, state_with, whole_state};
 ghost use Rattle.paused_eval.specs.Counted.{surplus};
 ghost use Rattle.paused_eval.specs.FromPages.{FromPages};
@@ -52,19 +52,19 @@ fn run<L: Ledger>(
     cache: &mut Cache,
     names: &mut Names,
     progress: &mut Progress,
-    bodies: &mut Bodies<L>,
+    bodies: &mut Bodies<'_, L>,
     stack: &mut Stack<Frame>,
     begun: Doing,
 ) -> Result<(Came, Doing), NoMemory>
     requires tied { Tied progress.old.written cache.old }
     requires names { FromPages names.old }
-    requires known { AreOf program.now.schema.now.classes bodies.old.called }
+    requires known { bodies.old.methods.now ≡ class_methods program.now.schema.now.classes }
     ensures answers { (tx : List Stmt) → (given : List Oref) → Stands program.now.schema.now (at_hand program.now.schema.now cache.old) tx given (record { doing = begun; stack = stack.old }) (whole_state progress.old cache.old names.old)
         → IfOk result (λ ran. CameTo program.now.schema.now (at_hand program.now.schema.now cache.old) tx given ran.0 (record { doing = ran.1; stack = stack.new }) (whole_state progress.new cache.new names.new)) }
     ensures tied { OnOk result (Tied progress.new.written cache.new) }
     ensures kept { OnOk result (Keeps cache.old cache.new) }
     ensures names { FromPages names.new }
-    ensures known { AreOf program.now.schema.now.classes bodies.new.called }
+    ensures known { bodies.new.methods.now ≡ class_methods program.now.schema.now.classes }
     ensures work { OnOk result (surplus bodies.new.work progress.new.machine.steps ≡ surplus bodies.old.work progress.old.machine.steps) }
 {
     let mut doing = begun;
@@ -128,13 +128,13 @@ pub fn run_over<L: Ledger>(
     written: &mut WrittenNames,
     names: &mut Names,
     machine: &mut Machine,
-    bodies: &mut Bodies<L>,
+    bodies: &mut Bodies<'_, L>,
     stack: &mut Stack<Frame>,
     begun_with: Doing,
 ) -> Result<(Came, Doing), NoMemory>
     requires tied { Tied written.old cache.old }
     requires names { FromPages names.old }
-    requires known { AreOf program.now.schema.now.classes bodies.old.called }
+    requires known { bodies.old.methods.now ≡ class_methods program.now.schema.now.classes }
     ensures answers { (tx : List Stmt) → (given : List Oref) → Stands program.now.schema.now (at_hand program.now.schema.now cache.old) tx given (record { doing = begun_with; stack = stack.old }) (state_with machine.old written.old cache.old names.old)
         → IfOk result (λ ran. CameTo program.now.schema.now (at_hand program.now.schema.now cache.old) tx given ran.0 (record { doing = ran.1; stack = stack.new }) (state_with machine.new written.new cache.new names.new)) }
     ensures tied { Tied written.new cache.new }

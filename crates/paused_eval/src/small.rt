@@ -4,11 +4,11 @@ ghost use Rattle.class_defs.specs.Steps as steps;
 ghost use Rattle.class_defs.specs.Steps.{step};
 ghost use Rattle.class_defs.specs.declared.expressions.Expr.TheOpen.{Expr-F};
 ghost use Rattle.class_defs.specs.declared.store.Object.{Object};
+ghost use Rattle.paused_defs.specs.Methods.{class_methods};
 ghost use Rattle.paused_defs.specs.Reaches.{over};
 ghost use Rattle.paused_defs.specs.Resume as spec;
 ghost use Rattle.paused_defs.specs.Resume.{move};
 ghost use Rattle.paused_defs.specs.declared.frames.Frame.{Frame};
-ghost use Rattle.paused_eval.specs.Bodies.{AreOf};
 ghost use Rattle.paused_eval.specs.Copies.{Keeps, Tied, at_hand, state, whole_state};
 ghost use Rattle.paused_eval.specs.Counted.{surplus};
 ghost use Rattle.paused_eval.specs.Does.{Holds, Moves, Stepped};
@@ -179,7 +179,7 @@ fn call<L: Ledger>(
     program: &Program<'_>,
     cache: &mut Cache,
     progress: &mut Progress,
-    bodies: &mut Bodies<L>,
+    bodies: &mut Bodies<'_, L>,
     stack: &mut Stack<Frame>,
     nested: u32,
     class: u16,
@@ -188,11 +188,11 @@ fn call<L: Ledger>(
     arguments: Values,
 ) -> Result<Moved, Halt>
     requires tied { Tied progress.old.written cache.old }
-    requires known { AreOf program.now.schema.now.classes bodies.old.called }
+    requires known { bodies.old.methods.now ≡ class_methods program.now.schema.now.classes }
     ensures does { Steps result (Doing.Enter nested class oref method arguments) stack.old (state progress.old cache.old) stack.new (state progress.new cache.new) (move (over program.now.schema.now (at_hand program.now.schema.now cache.old)) (Doing.Enter nested class oref method arguments) stack.old (state progress.old cache.old)) }
     ensures tied { Holds result (Tied progress.new.written cache.new) }
     ensures kept { Holds result (Keeps cache.old cache.new) }
-    ensures known { AreOf program.now.schema.now.classes bodies.new.called }
+    ensures known { bodies.new.methods.now ≡ class_methods program.now.schema.now.classes }
     ensures work { Holds result (surplus bodies.new.work progress.new.machine.steps ≡ surplus bodies.old.work progress.old.machine.steps) }
 {
     match enter(
@@ -287,18 +287,18 @@ pub fn small<L: Ledger>(
     cache: &mut Cache,
     names: &mut Names,
     progress: &mut Progress,
-    bodies: &mut Bodies<L>,
+    bodies: &mut Bodies<'_, L>,
     stack: &mut Stack<Frame>,
     doing: Doing,
 ) -> Result<Moved, Halt>
     requires tied { Tied progress.old.written cache.old }
     requires names { FromPages names.old }
-    requires known { AreOf program.now.schema.now.classes bodies.old.called }
+    requires known { bodies.old.methods.now ≡ class_methods program.now.schema.now.classes }
     ensures does { Steps result doing stack.old (whole_state progress.old cache.old names.old) stack.new (whole_state progress.new cache.new names.new) (move (over program.now.schema.now (at_hand program.now.schema.now cache.old)) doing stack.old (whole_state progress.old cache.old names.old)) }
     ensures tied { Holds result (Tied progress.new.written cache.new) }
     ensures kept { Holds result (Keeps cache.old cache.new) }
     ensures names { FromPages names.new }
-    ensures known { AreOf program.now.schema.now.classes bodies.new.called }
+    ensures known { bodies.new.methods.now ≡ class_methods program.now.schema.now.classes }
     ensures work { Holds result (surplus bodies.new.work progress.new.machine.steps ≡ surplus bodies.old.work progress.old.machine.steps) }
 {
     match doing {

@@ -187,14 +187,12 @@ pub(crate) fn begin(alloc: Global, deeds: &[Vec<Deed>]) -> Result<World, NoMemor
     let (schema, clients) = both(schema, clients_of(alloc, items))?;
     let port = port_over(alloc, &schema);
     let ((schema, clients), port) = both((schema, clients), port)?;
-    let opened = Opened {
-        repos: REPOS,
-        epoch: 0,
-        schemas: Schemas {
-            first: schema,
-            upgraded: UpgradedSchemas::new(alloc),
-        },
+    let schemas = Schemas {
+        first: schema,
+        upgraded: UpgradedSchemas::new(alloc),
     };
+    let opened = Opened::new(alloc, REPOS, 0, schemas);
+    let ((clients, port), opened) = both((clients, port), opened)?;
     Ok(World {
         clients,
         opened,

@@ -1,21 +1,22 @@
 -- What is recovered, by the log that was found.
-use Rattle.std.proofs.Common.{◌≡◌, [], List, None, Ok, Err, Option, Result, Some, inr, refl, subst, sym, IfOk, IfSome, ℕ, ◌∙◌}
-use Rattle.std.specs.Option.{IsSome, option_and_then, option_map}
+use Rattle.std.proofs.Common.{◌≡◌, [], List, None, Ok, Err, Option, Result, Some, ap, false, inr, refl, subst, sym, IfOk, IfSome, ℕ, ◌∙◌}
+use Rattle.std.specs.Option.{IsSome, option_and_then, option_map, option_map_or}
 use Rattle.disk_trait.specs.Disks.{Disks}
 use Rattle.held_state.specs.Keeps.{IsUnread, Keeps}
 use Rattle.held_state.specs.Said.{said}
 use Rattle.log_bytes.specs.declared.state.State.{State}
-use Rattle.log_frame.specs.Log.{Place, Stands}
+use Rattle.log_frame.specs.Log.{Opened, Place, Stands}
 use Rattle.page_format.specs.Pages.{Contents}
 use Rattle.page_store.specs.Sides.{ReachesSides}
 use Rattle.page_store.specs.Store.{Agrees, Store, page_in}
 use Rattle.recovery.specs.Damage.{Fault, IsDamaged}
 use Rattle.recovery.specs.Found.{IsRecovered}
+use Rattle.recovery.specs.Reopening.{reopens, reopens_in}
 use Rattle.recovery.specs.declared.fault.RecoverFault.{RecoverFault}
 use Rattle.recovery.specs.declared.recovered.Recovered.{Recovered}
 use Rattle.state_log.specs.Holds.{Holds}
 use Rattle.state_log.specs.Opening.{Found, log_of}
-use Rattle.state_log.specs.Recovered.{stands, state_in}
+use Rattle.state_log.specs.Recovered.{log_in, stands, state_in}
 
 pub if_ok : {T E : Type 0} (A B : T → Type 0) (r : Result T E) → ((x : T) → A x → B x) → IfOk r A → IfOk r B
 if_ok A B (Ok x) f p = f x p
@@ -38,6 +39,13 @@ recovered_stands images None None is stood = stood
 recovered_stands images None (Some x) is stood = absurd is
 recovered_stands images (Some f) None is stood = absurd is
 recovered_stands images (Some f) (Some x) is stood = stood ∙ is.1
+
+-- whether its records prepare what is decided
+pub recovered_reopens : (images : ℕ → List ℕ) (found : Option Found) (r : Option Recovered) → IsRecovered found r → log_in images ≡ option_map log_of found → IfSome r (λ x. x.reopens ≡ reopens images)
+recovered_reopens images None None is counts = tt
+recovered_reopens images None (Some x) is counts = absurd is
+recovered_reopens images (Some f) None is counts = absurd is
+recovered_reopens images (Some f) (Some x) is counts = is.5 ∙ ap (λ (o : Option Opened). option_map_or reopens_in o false) (sym counts)
 
 pub found_none : (found : Option Found) (r : Result (Option Recovered) RecoverFault) → IfOk r (IsRecovered found) → r ≡ Ok None → found ≡ None
 found_none None r is none = refl

@@ -2,3 +2,4 @@ pub mod Read
 pub mod Replayed
 pub mod FoundLaws
 pub mod Lost
+pub mod Reopened

@@ -32,7 +32,7 @@ all_at P [] n x all within is = absurd (omega (arith, within))
 all_at P (y ∷ ys) zero x all within is = subst P (sym is) all.0
 all_at P (y ∷ ys) (suc n) x all within is = all_at P ys n x all.1 (omega (arith, within)) is
 
-map_push : {X Y : Type 0} (f : X → Y) (xs : List X) (x : X) → map f (xs ++ x ∷ []) ≡ map f xs ++ f x ∷ []
+pub map_push : {X Y : Type 0} (f : X → Y) (xs : List X) (x : X) → map f (xs ++ x ∷ []) ≡ map f xs ++ f x ∷ []
 map_push f [] x = refl
 map_push {X} {Y} f (y ∷ ys) x = ap (λ (zs : List Y). f y ∷ zs) (map_push f ys x)
 

@@ -2,8 +2,7 @@
 
 use Rattle.std.specs.List.{fold}
 use Rattle.std.specs.Option.{IfSome, option_and_then}
-use Rattle.std.specs.Prelude.{Bool, IsTrue, List, None, Option, Some, false, length, map, min, slice_get, sum_by, take, ℕ, ◌+◌, ◌-◌, ◌<◌, ◌^◌, ◌≡◌, ◌≤◌, ◌⊎◌}
-use Rattle.commit_log.specs.declared.entry.Entry.TheVariants.{Decided, Finished, Life, One, Prepared, Upgraded}
+use Rattle.std.specs.Prelude.{IsTrue, List, None, Option, Some, false, length, map, min, slice_get, sum_by, take, ℕ, ◌+◌, ◌-◌, ◌<◌, ◌^◌, ◌≡◌, ◌≤◌, ◌⊎◌}
 use Rattle.commit_log.specs.declared.entry.Entry.{Entry}
 use Rattle.held_state.specs.Entering.{can_enter}
 use Rattle.held_state.specs.Keeps.{Keeps}
@@ -13,14 +12,12 @@ use Rattle.held_state.specs.declared.held.Held.{Held}
 use Rattle.log_bytes.specs.Checkpoint.{state_format}
 use Rattle.log_bytes.specs.Format.{value_of}
 use Rattle.log_bytes.specs.Grammar.{body_format}
-use Rattle.log_bytes.specs.declared.body.Body.TheVariants.{Entry as AnEntry, Installed}
+use Rattle.log_bytes.specs.declared.body.Body.TheVariants.{Entry as AnEntry}
 use Rattle.log_bytes.specs.declared.body.Body.{Body}
 use Rattle.log_bytes.specs.declared.state.State.{State}
 use Rattle.log_frame.specs.Log.{Opened, Stands}
 use Rattle.state_log.specs.Opening.{IsTorn}
 use Rattle.state_log.specs.Recovered.{is_whole, next, sequence_end, whole}
-use Rattle.thor_value.specs.FiniteMap.{get}
-use Rattle.two_phase.specs.Contents.{keeps}
 
 -- the place of the gate behind some records of a log with this head
 abbrev pub gate_behind : ℕ → List (List ℕ) → ℕ
@@ -50,19 +47,6 @@ Counted head count = IfSome (value_of state_format head) (λ s. s.count ≡ coun
 -- the state behind one record more, where it can come next
 abbrev pub put_on : Option State → Body → Option State
 put_on before body = option_and_then (λ s. next s body) before
-
-abbrev pub prepares_kept_in : Held → Entry → Bool
-prepares_kept_in h (Prepared q) = keeps (get h.table.transactions q.tx)
-prepares_kept_in h (Life n) = false
-prepares_kept_in h (One q) = false
-prepares_kept_in h (Upgraded q) = false
-prepares_kept_in h (Decided t commit) = false
-prepares_kept_in h (Finished t commit) = false
-
--- a record prepares a transaction on which a decision is kept
-abbrev pub prepares_kept : Held → Body → Bool
-prepares_kept h (AnEntry e) = prepares_kept_in h e
-prepares_kept h (Installed page side) = false
 
 -- A record can't be taken into memory behind a state: it is an entry that can't come next where those before it were taken.
 pub record CantPut (before : Option State) (bodies : List Body) : Type 0 where

@@ -4,12 +4,13 @@ use Rattle.held_state.specs.Keeps.{IsUnread, Keeps}
 use Rattle.held_state.specs.Said.{said}
 use Rattle.recovery.specs.declared.recovered.Recovered.{Recovered}
 use Rattle.recovery.specs.Damage.{Counted}
+use Rattle.recovery.specs.Reopening.{reopens_in}
 use Rattle.state_log.specs.Opening.{Found, log_of}
 use Rattle.state_log.specs.Recovered.{state_in}
 
 -- the log with its state, or nothing
 abbrev pub IsRecovered : Option Found → Option Recovered → Type 0
 IsRecovered None None = Unit {0}
-IsRecovered (Some f) (Some r) = (r.log ≡ f.0) × (state_in (log_of f) ≡ Some (said r.state)) × Keeps r.state × IsUnread r.state.objects.pages × Counted f.1 r.count
+IsRecovered (Some f) (Some r) = (r.log ≡ f.0) × (state_in (log_of f) ≡ Some (said r.state)) × Keeps r.state × IsUnread r.state.objects.pages × Counted f.1 r.count × (r.reopens ≡ reopens_in (log_of f))
 IsRecovered None (Some r) = ⊥
 IsRecovered (Some f) None = ⊥

@@ -1,3 +1,4 @@
 pub mod Damage
 pub mod Faults
 pub mod Found
+pub mod Reopening

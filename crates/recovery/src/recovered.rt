@@ -10,7 +10,7 @@ pub struct Recovered {
     pub log: CommitLog,
     /// The count of entries of its checkpoint.
     pub count: u64,
-    /// Whether a record prepares a transaction on which a decision was kept, which then went. No repository writes
-    /// such a log.
+    /// Whether a record of the log prepares a transaction on which a decision was kept, which then went. No repository
+    /// writes such a log.
     pub reopens: bool,
 }

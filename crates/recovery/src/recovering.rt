@@ -1,6 +1,6 @@
 ghost use Rattle.std.specs.List.{AllByRecursion, fold};
 ghost use Rattle.std.specs.Option.{IfSome, IsSome, option_and_then, option_map};
-ghost use Rattle.std.specs.Prelude.{◌≡◌, ◌<◌, ◌^◌, ◌≤◌, ◌⊎◌, Err, IfOk, IsErrOf, List, None, Ok, OnOk, Some, false, ℕ};
+ghost use Rattle.std.specs.Prelude.{◌≡◌, ◌<◌, ◌^◌, ◌≤◌, ◌⊎◌, Err, IfOk, IsErrOf, List, None, Ok, OnOk, Some, false, map, ℕ, ◌||◌};
 ghost use Rattle.disk_trait.specs.AllDisks.{AllSettled, LeavesAll, MayLeaveAll, ReadsAs, SameContent};
 ghost use Rattle.disk_trait.specs.Disks.{Disks, Rose};
 ghost use Rattle.commit_log.specs.declared.entry.Entry.{Entry as AnyEntry};
@@ -15,8 +15,9 @@ ghost use Rattle.log_bytes.specs.declared.state.State.{State as AState};
 ghost use Rattle.log_frame.specs.Log.{Stands};
 ghost use Rattle.page_store.specs.Sides.{ReachesSides};
 ghost use Rattle.page_store.specs.Store.{Agrees};
-ghost use Rattle.recovery.specs.Damage.{CantPut, Counted, Fault, IsBroken, IsDamaged, prepares_kept, put_on};
+ghost use Rattle.recovery.specs.Damage.{CantPut, Counted, Fault, IsBroken, IsDamaged, put_on};
 ghost use Rattle.recovery.specs.Found.{IsRecovered};
+ghost use Rattle.recovery.specs.Reopening.{prepares_kept, reopened, reopens, reopens_in};
 ghost use Rattle.recovery.specs.declared.fault.RecoverFault.TheVariants.{Damaged, Failed};
 ghost use Rattle.state_log.specs.Holds.{Holds};
 ghost use Rattle.state_log.specs.Opening.{IsFresh, IsTorn, log_of};
@@ -57,6 +58,7 @@ pub fn recover<P: Parts>(
     ensures pages { IfOk result (λ found. IfSome found (λ r. (disk : List ℕ) → ReachesSides r.state.objects.pages.sides disk → Agrees r.state.objects.pages disk)) }
     ensures holds { IfOk result (λ found. IfSome found (λ r. Holds (P.disks parts.new) r.log (said r.state))) }
     ensures found { (images : ℕ → List ℕ) → ReadsAs (P.disks parts.old) images → IfOk result (λ found. stands images ≡ option_map (λ r. said r.state) found) }
+    ensures reopens { (images : ℕ → List ℕ) → ReadsAs (P.disks parts.old) images → IfOk result (λ found. IfSome found (λ r. r.reopens ≡ reopens images)) }
     ensures fresh { (images : ℕ → List ℕ) → ReadsAs (P.disks parts.old) images → result ≡ Ok None → IsFresh images }
     ensures damaged { (images : ℕ → List ℕ) (d place : ℕ) → ReadsAs (P.disks parts.old) images → IsErrOf result (Damaged d place) → IsDamaged images d place }
     ensures lost { (images : ℕ → List ℕ) (d place : ℕ) → ReadsAs (P.disks parts.old) images → IsErrOf result (Damaged d place) → stands images ≡ None }
@@ -110,6 +112,7 @@ fn replay(
     ensures unread { IfOk result (λ r. IsUnread r.0.objects.pages) }
     ensures limit { IfOk result (λ r. r.0.objects.mob.limit ≡ mob_limit) }
     ensures count { IfOk result (λ r. Counted head.now r.1) }
+    ensures reopens { IfOk result (λ r. r.2 ≡ reopens_in (log_of (log.now, head.now, records.now))) }
     ensures damaged { (d place : ℕ) → IsErrOf result (Damaged d place) → (d ≡ log.now.disk) × Fault (log_of (log.now, head.now, records.now)) place }
     ensures failed { (d : ℕ) → IsErrOf result (Failed d) → ⊥ }
 {
@@ -153,6 +156,7 @@ fn hold_on(
     ensures unread { IfOk result (λ held. IsUnread held.objects.pages) }
     ensures limit { IfOk result (λ held. held.objects.mob.limit ≡ mob_limit) }
     ensures said { IfOk result (λ held. fold put_on (whole state) bodies.now ≡ Some (said held)) }
+    ensures reopens { OnOk result (reopens.new ≡ (reopens.old || reopened (whole state) (map Some bodies.now))) }
     ensures damaged { (d place : ℕ) → IsErrOf result (Damaged d place) → (d ≡ disk) × (place ≡ 0) × (IsBroken state ⊎ CantPut (whole state) bodies.now) }
     ensures failed { (d : ℕ) → IsErrOf result (Failed d) → ⊥ }
 {
@@ -177,6 +181,7 @@ fn hold(
     ensures unread { IfOk result (λ held. IsUnread held.objects.pages) }
     ensures limit { IfOk result (λ held. held.objects.mob.limit ≡ mob_limit) }
     ensures said { IfOk result (λ held. fold put_on (whole state) bodies.now ≡ Some (said held)) }
+    ensures reopens { OnOk result (reopens.new ≡ (reopens.old || reopened (whole state) (map Some bodies.now))) }
     ensures unfit { result ≡ Err Unfit → IsBroken state ⊎ CantPut (whole state) bodies.now }
 {
     let mut held = HeldState::of(alloc, state, mob_limit)?;
@@ -193,18 +198,37 @@ fn put_all(held: &mut HeldState, bodies: &[Body], reopens: &mut bool) -> Result<
     ensures unread { OnOk result (IsUnread held.new.objects.pages) }
     ensures limit { OnOk result (held.new.objects.mob.limit ≡ held.old.objects.mob.limit) }
     ensures said { OnOk result (fold put_on (Some (said held.old)) bodies.now ≡ Some (said held.new)) }
+    ensures reopens { OnOk result (reopens.new ≡ (reopens.old || reopened (Some (said held.old)) (map Some bodies.now))) }
     ensures unfit { result ≡ Err Unfit → CantPut (Some (said held.old)) bodies.now }
 {
     for body in bodies {
-        *reopens = *reopens || prepares_kept(held, body);
-        put_behind(held, body)?;
+        *reopens |= put_next(held, body)?;
     }
     Ok(())
 }
 
+// Puts one record behind a state, and tells whether it prepares what is decided.
+fn put_next(held: &mut HeldState, body: &Body) -> Result<bool, HoldFault>
+    requires fits { BodyFits body.now }
+    requires keeps { Keeps held.old }
+    requires unread { IsUnread held.old.objects.pages }
+    ensures keeps { OnOk result (Keeps held.new) }
+    ensures unread { OnOk result (IsUnread held.new.objects.pages) }
+    ensures limit { OnOk result (held.new.objects.mob.limit ≡ held.old.objects.mob.limit) }
+    ensures said { OnOk result (next (said held.old) body.now ≡ Some (said held.new)) }
+    ensures reopens { IfOk result (λ prepares. prepares ≡ prepares_kept (said held.old) body.now) }
+    ensures unfit { result ≡ Err Unfit → (entry : AnyEntry) × (body.now ≡ AnEntry entry) × (can_enter held.old entry ≡ false) }
+{
+    let prepares = prepares_kept(held, body);
+    put_behind(held, body)?;
+    Ok(prepares)
+}
+
 // Whether a record prepares a transaction on which a decision is kept.
+#[tactic(auto, using(crate::proofs::Reopened::kept_said))]
 fn prepares_kept(held: &HeldState, body: &Body) -> bool
-    ensures { result ≡ prepares_kept held.now body.now }
+    requires { Keeps held.now }
+    ensures { result ≡ prepares_kept (said held.now) body.now }
 {
     match body {
         Body::Entry(Entry::Prepared { request }) => held.table().keeps(request.tx),

@@ -5,8 +5,9 @@ ghost use Rattle.repository_reading.specs.Same.{Same};
 ghost use Rattle.repository_reading.specs.Paged.{PutsStored};
 ghost use Rattle.disk_trait.specs.AllDisks.{AllSettled, ReadsAs};
 ghost use Rattle.disk_trait.specs.Disks.{IsSettled, OnDisk};
+ghost use Rattle.recovery.specs.Reopening.{reopens};
 ghost use Rattle.state_log.specs.Opening.{IsFresh};
-ghost use Rattle.std.specs.Prelude.{IfOk, IfSome, List, None, Ok, OnOk, ◌<◌, ◌≡◌, ℕ};
+ghost use Rattle.std.specs.Prelude.{IfOk, IfSome, List, None, Ok, OnOk, false, ◌<◌, ◌≡◌, ℕ};
 
 use crate::pages::read_pages;
 use crate::unopened::{Unopened, fault_of, outage_of};
@@ -39,7 +40,8 @@ fn damaged(recovered: &Recovered, repo: u8) -> Unopened {
 }
 
 /// Syncs the disks of a repository, and reads it. The answer is what was recovered, and the page behind the
-/// last one with objects; nothing where it is fresh. The objects of its pages are put into a map.
+/// last one with objects; nothing where it is fresh. The objects of its pages are put into a map. `Damaged`, too,
+/// where its log says another repository or store size, or prepares what it keeps as decided.
 #[tactic(auto, using(crate::proofs::Syncing::same_then, crate::proofs::Reading::same_on))]
 pub fn read_repository<P: Parts>(
     alloc: Global,
@@ -53,6 +55,7 @@ pub fn read_repository<P: Parts>(
     ensures same { Same (P.disks parts.old) (P.disks parts.new) }
     ensures stored { (images : ℕ → List ℕ) → ReadsAs (P.disks parts.old) images → OnOk result (PutsStored images objects.old objects.new) }
     ensures fresh { (images : ℕ → List ℕ) → ReadsAs (P.disks parts.old) images → result ≡ Ok None → IsFresh images }
+    ensures reopens { (images : ℕ → List ℕ) → ReadsAs (P.disks parts.old) images → IfOk result (λ found. IfSome found (λ r. reopens images ≡ false)) }
 {
     sync(parts, repo)?;
     let Some(recovered) = recover_one(alloc, parts, repo, repos, mob)? else {
@@ -84,6 +87,7 @@ fn recover_one<P: Parts>(
     ensures settled { AllSettled (P.disks parts.new) }
     ensures same { Same (P.disks parts.old) (P.disks parts.new) }
     ensures fresh { (images : ℕ → List ℕ) → ReadsAs (P.disks parts.old) images → result ≡ Ok None → IsFresh images }
+    ensures reopens { (images : ℕ → List ℕ) → ReadsAs (P.disks parts.old) images → IfOk result (λ found. IfSome found (λ r. reopens images ≡ false)) }
 {
     let recovered = match recover(alloc, parts, mob) {
         Ok(Some(recovered)) => recovered,

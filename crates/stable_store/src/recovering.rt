@@ -2,7 +2,7 @@
 
 ghost use Rattle.std.specs.Prelude.{◌≡◌, IfErr, IfOk, IsErrOf, OnErr, OnOk, Option, false, true, ℕ};
 ghost use Rattle.commit_log.specs.declared.entry.Entry.{Entry as AnyEntry};
-ghost use Rattle.disk_trait.specs.AllDisks.{GoesOn, TellsAll};
+ghost use Rattle.disk_trait.specs.AllDisks.{GoesOn, SameContent, TellsAll};
 ghost use Rattle.disk_trait.specs.Disks.{WhereTold};
 ghost use Rattle.held_state.specs.Keeps.{Keeps};
 ghost use Rattle.held_state.specs.Said.{said};
@@ -51,6 +51,7 @@ impl<P: Parts> Stable<P> {
         ensures held { IfOk result (λ stable. held_of stable ≡ recovered.state) }
         ensures says { Holds (P.disks parts) recovered.log (said recovered.state) → IfOk result (IsSaid P.disks) }
         ensures clock { IfOk result (λ stable. (disks_of P.disks stable).clock ≡ (P.disks parts).clock) }
+        ensures content { IfOk result (λ stable. SameContent (P.disks parts) (disks_of P.disks stable)) }
     {
         let Recovered { state, log, .. } = recovered;
         match reaches(&mut parts, state.objects().pages().sides()) {

@@ -2,7 +2,7 @@
 
 ghost use Rattle.std.specs.Option.{IfSome, IsNone};
 ghost use Rattle.std.specs.Prelude.{◌≡◌, ◌≤◌, IfErr, IfOk, IsErrOf, IsTrue, None, OnErr, OnOk, Some, cond, false, max, nat_eq, slice_get, true, ℕ};
-ghost use Rattle.disk_trait.specs.AllDisks.{GoesOn};
+ghost use Rattle.disk_trait.specs.AllDisks.{GoesOn, SameContent};
 ghost use Rattle.disk_trait.specs.Disks.{Disks, SameDisks};
 ghost use Rattle.disk_trait.specs.Fused.{armed, parts_of};
 ghost use Rattle.held_state.specs.Entering.{can_enter, entered};
@@ -76,6 +76,7 @@ impl<P: Parts> Stable<P> {
         ensures held { held_of result ≡ held }
         ensures says { LogSays (P.disks parts) log (said held) → IsSaid P.disks result }
         ensures clock { (disks_of P.disks result).clock ≡ (P.disks parts).clock }
+        ensures content { SameContent (P.disks parts) (disks_of P.disks result) }
     {
         Stable {
             parts: Fused::new(parts),

@@ -1,12 +1,12 @@
 -- The log that counts among what two disks opened as.
 use Rattle.std.proofs.Common.{◌≡◌, ◌⊎◌, ℕ, zero, suc, ◌+◌, ◌<◌, List, Bool, true, false, nat_lt, cond, Option, Some, None, IfSome, Result, Ok, Err, refl, ap, sym, subst, arith, inl, inr}
 use Rattle.std.proofs.lemmas.Bool.Decides.{nat_tests}
-use Rattle.std.specs.Option.{option_and_then}
+use Rattle.std.specs.Option.{option_and_then, option_map}
 use Rattle.disk_trait.specs.Disks.{Disks, WhereTold}
 use Rattle.log_frame.specs.Log.{Opened, Stands, Agrees, IsFound, read_log}
 use Rattle.log_frame.proofs.LogAppends.{same_log}
 use Rattle.log_bytes.specs.declared.state.State.{State}
-use Rattle.state_log.specs.Recovered.{chosen, stands, state_in}
+use Rattle.state_log.specs.Recovered.{chosen, log_in, stands, state_in}
 use Rattle.disk_trait.specs.AllDisks.{AllSettled}
 use Rattle.state_log.specs.Holds.{Under, Holding, Holds, beside}
 use Rattle.state_log.specs.Opening.{Found, IsOn, IsTorn, choice, log_of}
@@ -58,24 +58,28 @@ opened_holds disks first second f s settled on0 on1 found0 found1 is state = by 
     by (First this less) = holds_of disks 0 f s (omega arith) settled (subst (λ (x : Option Found). IsOn 0 x) this on0) (subst (λ (x : Option Found). WhereTold disks 0 (λ bytes. IsFound 0 bytes x)) this found0) (λ other told. under_of 0 f.0.sequence 1 second other (found1 other told) less) state
     by (Second this less) = holds_of disks 1 f s (omega arith) settled (subst (λ (x : Option Found). IsOn 1 x) this on1) (subst (λ (x : Option Found). WhereTold disks 1 (λ bytes. IsFound 1 bytes x)) this found1) (λ other told. under_of 1 f.0.sequence 0 first other (found0 other told) less) state
 
--- what the disks stand for is what is opened
-pub stands_as : (images : ℕ → List ℕ) (first second : Option Found) (f : Found) → IsFound 0 (images 0) first → IsFound 1 (images 1) second → choice first second ≡ Some f → stands images ≡ state_in (log_of f)
-stands_as images first second f found0 found1 is = by (chose first second f is)
+-- the log that counts is what is opened
+counts_as : (images : ℕ → List ℕ) (first second : Option Found) (f : Found) → IsFound 0 (images 0) first → IsFound 1 (images 1) second → choice first second ≡ Some f → log_in images ≡ Some (log_of f)
+counts_as images first second f found0 found1 is = by (chose first second f is)
   where
-    by : Chose first second f → stands images ≡ state_in (log_of f)
-    by (First this less) = ap (λ (c : Option Opened). option_and_then state_in c) (chosen_of 0 images (log_of f) (omega arith) (subst (λ (x : Option Found). IsFound 0 (images 0) x) this found0).0 (under_of 0 f.0.sequence 1 second (images 1) found1 less))
-    by (Second this less) = ap (λ (c : Option Opened). option_and_then state_in c) (chosen_of 1 images (log_of f) (omega arith) (subst (λ (x : Option Found). IsFound 1 (images 1) x) this found1).0 (under_of 1 f.0.sequence 0 first (images 0) found0 less))
+    by : Chose first second f → log_in images ≡ Some (log_of f)
+    by (First this less) = chosen_of 0 images (log_of f) (omega arith) (subst (λ (x : Option Found). IsFound 0 (images 0) x) this found0).0 (under_of 0 f.0.sequence 1 second (images 1) found1 less)
+    by (Second this less) = chosen_of 1 images (log_of f) (omega arith) (subst (λ (x : Option Found). IsFound 1 (images 1) x) this found1).0 (under_of 1 f.0.sequence 0 first (images 0) found0 less)
 
 -- nothing is open
-pub stands_not : (images : ℕ → List ℕ) (first second : Option Found) → IsFound 0 (images 0) first → IsFound 1 (images 1) second → choice first second ≡ None → stands images ≡ None
-stands_not images None None found0 found1 is = let e : chosen (read_log (images 0)) (read_log (images 1)) ≡ None = subst (λ (r : Option (Result Opened ℕ)). chosen r (read_log (images 1)) ≡ None) (sym found0) (subst (λ (r : Option (Result Opened ℕ)). chosen None r ≡ None) (sym found1) refl) in ap (λ (c : Option Opened). option_and_then state_in c) e
-stands_not images None (Some b) found0 found1 is = cc
-stands_not images (Some a) None found0 found1 is = cc
-stands_not images (Some a) (Some b) found0 found1 is = by (nat_lt a.0.sequence b.0.sequence) is
+counts_not : (images : ℕ → List ℕ) (first second : Option Found) → IsFound 0 (images 0) first → IsFound 1 (images 1) second → choice first second ≡ None → log_in images ≡ None
+counts_not images None None found0 found1 is = subst (λ (r : Option (Result Opened ℕ)). chosen r (read_log (images 1)) ≡ None) (sym found0) (subst (λ (r : Option (Result Opened ℕ)). chosen None r ≡ None) (sym found1) refl)
+counts_not images None (Some b) found0 found1 is = cc
+counts_not images (Some a) None found0 found1 is = cc
+counts_not images (Some a) (Some b) found0 found1 is = by (nat_lt a.0.sequence b.0.sequence) is
   where
-    by : (t : Bool) → cond t (Some b) (Some a) ≡ None → stands images ≡ None
+    by : (t : Bool) → cond t (Some b) (Some a) ≡ None → log_in images ≡ None
     by true is = cc
     by false is = cc
+
+pub counted : (images : ℕ → List ℕ) (first second : Option Found) → IsFound 0 (images 0) first → IsFound 1 (images 1) second → (r : Option Found) → r ≡ choice first second → log_in images ≡ option_map log_of r
+counted images first second found0 found1 None is = counts_not images first second found0 found1 (sym is)
+counted images first second found0 found1 (Some f) is = counts_as images first second f found0 found1 (sym is)
 
 -- a damaged log
 damaged_second : (x : Option (Result Opened ℕ)) (place : ℕ) → chosen x (Some (Err place)) ≡ None
@@ -91,8 +95,8 @@ stands_damaged images place which = elim which [
 
 -- a record opened as the fold over its bodies, or nothing did
 pub found_as : (images : ℕ → List ℕ) (first second : Option Found) → IsFound 0 (images 0) first → IsFound 1 (images 1) second → (r : Option Found) → r ≡ choice first second → stands images ≡ option_and_then (λ f. state_in (log_of f)) r
-found_as images first second found0 found1 None is = stands_not images first second found0 found1 (sym is)
-found_as images first second found0 found1 (Some f) is = stands_as images first second f found0 found1 (sym is)
+found_as images first second found0 found1 None is = ap (λ (c : Option Opened). option_and_then state_in c) (counted images first second found0 found1 None is)
+found_as images first second found0 found1 (Some f) is = ap (λ (c : Option Opened). option_and_then state_in c) (counted images first second found0 found1 (Some f) is)
 
 -- what counts holds the state of its records
 pub found_holds : (disks : Disks) (first second : Option Found) (s : State) → AllSettled disks → IsOn 0 first → IsOn 1 second → WhereTold disks 0 (λ bytes. IsFound 0 bytes first) → WhereTold disks 1 (λ bytes. IsFound 1 bytes second) → (r : Option Found) → r ≡ choice first second → IfSome r (λ f. state_in (log_of f) ≡ Some s → Holds disks f.0 s)

@@ -182,6 +182,10 @@ chosen None (Some (Ok b)) = Some b
 chosen None (Some (Err p)) = None
 chosen None None = None
 
--- The state for which the disks of a repository stand, by their number: 0 and 1 have logs.
+-- of the disks of a repository, by their number, the log that counts: 0 and 1 have logs
+abbrev pub log_in : (ℕ → List ℕ) → Option Opened
+log_in images = chosen (read_log (images 0)) (read_log (images 1))
+
+-- the state for which they stand
 abbrev pub stands : (ℕ → List ℕ) → Option State
-stands images = option_and_then state_in (chosen (read_log (images 0)) (read_log (images 1)))
+stands images = option_and_then state_in (log_in images)

@@ -1,6 +1,6 @@
 //! Which of two logs counts.
 
-ghost use Rattle.std.specs.Option.{IfSome, option_and_then};
+ghost use Rattle.std.specs.Option.{IfSome, option_and_then, option_map};
 ghost use Rattle.std.specs.Prelude.{List, None, IfOk, IsErrOf, Ok, Some, Err, ◌<◌, ◌≡◌, ℕ};
 ghost use Rattle.disk_trait.specs.AllDisks.{AllSettled, LeavesAll, MayLeaveAll, ReadsAs, SameContent};
 ghost use Rattle.disk_trait.specs.Disks.{Disks, Leaves, MayLeave, NoNewImage, OnDisk, Rose, WhereTold};
@@ -8,7 +8,7 @@ ghost use Rattle.log_frame.specs.Log.{IsFound, Stands, read_log};
 ghost use Rattle.log_bytes.specs.declared.state.State.{State as AState};
 ghost use Rattle.state_log.specs.Holds.{Holds};
 ghost use Rattle.state_log.specs.Opening.{IsFresh, IsTorn, choice, fault_on, log_of};
-ghost use Rattle.state_log.specs.Recovered.{stands, state_in};
+ghost use Rattle.state_log.specs.Recovered.{log_in, stands, state_in};
 ghost use Rattle.state_log.specs.declared.fault.FindFault.TheVariants.{Damaged, Failed};
 
 use crate::fault::FindFault;
@@ -95,6 +95,7 @@ pub fn open_logs<P: Parts>(
     ensures content { SameContent (P.disks parts.old) (P.disks parts.new) }
     ensures holds { (s : AState) → IfOk result (λ found. IfSome found (λ f. state_in (log_of f) ≡ Some s → Holds (P.disks parts.new) f.0 s)) }
     ensures found { (images : ℕ → List ℕ) → ReadsAs (P.disks parts.old) images → IfOk result (λ found. stands images ≡ option_and_then (λ f. state_in (log_of f)) found) }
+    ensures counts { (images : ℕ → List ℕ) → ReadsAs (P.disks parts.old) images → IfOk result (λ found. log_in images ≡ option_map log_of found) }
     ensures log { (images : ℕ → List ℕ) → ReadsAs (P.disks parts.old) images → IfOk result (λ found. IfSome found (λ f. Stands (images f.0.disk) (log_of f))) }
     ensures fresh { (images : ℕ → List ℕ) → ReadsAs (P.disks parts.old) images → result ≡ Ok None → IsFresh images }
     ensures damaged { (images : ℕ → List ℕ) (d place : ℕ) → ReadsAs (P.disks parts.old) images → IsErrOf result (Damaged d place) → IsTorn images d place }

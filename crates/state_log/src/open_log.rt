@@ -45,7 +45,7 @@ impl CommitLog {
     /// Puts a first log, which begins with the state, on disk 0. Neither log disk may have an open log. All names
     /// of the state are of its repository.
     ///
-    /// At each moment a crash leaves no open log, or the state.
+    /// At each moment a crash leaves no open log, or the state. The disk of pages stays.
     pub fn format<P: Parts>(
         alloc: Global,
         parts: &mut P,
@@ -61,6 +61,9 @@ impl CommitLog {
         ensures holds { IfOk result (λ log. Holds (P.disks parts.new) log state.now) }
         ensures sequence { IfOk result (λ log. log.sequence ≡ 1) }
         ensures disk { IfOk result (λ log. log.disk ≡ 0) }
+        ensures pages { (P.disks parts.new).content 2 ≡ (P.disks parts.old).content 2 }
+        ensures still { NoNewImage (P.disks parts.old) (P.disks parts.new) 2 }
+        ensures clock { (P.disks parts.new).clock ≡ (P.disks parts.old).clock }
         ensures damaged { (place : ℕ) → IsErrOf result (Damaged place) → ⊥ }
         ensures failed { IsErrOf result Failed → Rose ((P.disks parts.old).faults 0) ((P.disks parts.new).faults 0) }
     {

@@ -1,3 +1,4 @@
 pub mod Closed
 pub mod Empty
 pub mod First
+pub mod Roots

@@ -13,6 +13,7 @@ ghost use Rattle.stable_store.specs.Saying.{IsSaid};
 ghost use Rattle.stable_store.specs.Taking.{AgreesWhere};
 ghost use Rattle.state_log.specs.Holds.{Holds};
 ghost use Rattle.store_format.specs.Fresh.{IsFresh};
+ghost use Rattle.store_format.specs.Pages.{HasRoots};
 
 use crate::checked::have_names;
 use crate::headers::close_header;
@@ -27,9 +28,9 @@ use stable_store::{OpenCause, OpenFault, Stable};
 use state_log::CommitLog;
 use std::alloc::Global;
 
-/// What is stable of a repository of a store that is new, with a buffer of so many bytes: its roots stand on its
-/// pages, and an empty log is begun. Want of memory, too, where the setup's roots have names or fields that no
-/// store can have.
+/// What is stable of a repository of a store that is new, with a buffer of so many bytes: the setup's roots stand on its
+/// pages as they begin, and nothing else, and an empty log is begun. Want of memory, too, where the setup's roots have
+/// names or fields that no store can have.
 ///
 /// Its disks are settled before. After a fault no log is open, or that of the first state.
 pub fn format<P: Parts>(
@@ -45,6 +46,7 @@ pub fn format<P: Parts>(
     ensures up { IfOk result (λ stable. is_up stable ≡ true) }
     ensures fresh { IfOk result (λ stable. IsFresh repo repos setup.now mob (held_of stable)) }
     ensures says { IfOk result (IsSaid P.disks) }
+    ensures roots { IfOk result (λ stable. WhereTold (disks_of P.disks stable) 2 (HasRoots repo setup.now (held_of stable).objects.pages.sides)) }
     ensures clock { IfOk result (λ stable. (P.disks parts).clock ≤ (disks_of P.disks stable).clock) }
 {
     match put_store(alloc, &mut parts, repo, repos, setup, mob) {
@@ -67,6 +69,7 @@ fn put_store<P: Parts>(
     ensures keeps { IfOk result (λ r. Keeps r.state) }
     ensures pages { IfOk result (λ r. AgreesWhere r.state.objects.pages) }
     ensures fresh { IfOk result (λ r. IsFresh repo repos setup.now mob r.state) }
+    ensures roots { IfOk result (λ r. WhereTold (P.disks parts.new) 2 (HasRoots repo setup.now r.state.objects.pages.sides)) }
     ensures clock { (P.disks parts.old).clock ≤ (P.disks parts.new).clock }
 {
     if !have_names(setup.roots.as_slice()) {
@@ -96,6 +99,8 @@ fn begin_log<P: Parts>(
     ensures keeps { IfOk result (λ r. Keeps r.state) }
     ensures pages { IfOk result (λ r. AgreesWhere r.state.objects.pages) }
     ensures fresh { IfOk result (λ r. IsFresh repo repos setup.now mob r.state) }
+    ensures sides { IfOk result (λ r. r.state.objects.pages.sides ≡ installed) }
+    ensures stays { (P.disks parts.new).content 2 ≡ (P.disks parts.old).content 2 }
     ensures clock { (P.disks parts.old).clock ≤ (P.disks parts.new).clock }
 {
     let state = first_state(alloc, repo, repos, setup, installed)?;

@@ -1,13 +1,15 @@
 //! The pages of a new repository, with its roots.
 
 ghost use Rattle.std.specs.List.{AllByRecursion};
-ghost use Rattle.std.specs.Prelude.{◌≡◌, ◌<◌, IfOk, OnOk};
+ghost use Rattle.std.specs.Prelude.{◌≡◌, ◌<◌, IfOk, OnOk, Some};
 ghost use Rattle.disk_trait.specs.AllDisks.{AllSettled};
 ghost use Rattle.disk_trait.specs.Disks.{Disks, IsSettled, OnDisk, WhereTold};
 ghost use Rattle.log_bytes.specs.Checkpoint.{RootFits};
 ghost use Rattle.object_codec.specs.Spelling.{ObjFits};
 ghost use Rattle.page_store.specs.Objects.{HasObjects};
+ghost use Rattle.mob_flusher.specs.Images.{overlaid};
 ghost use Rattle.page_store.specs.Store.{Agrees};
+ghost use Rattle.store_format.specs.Pages.{HasRoots, PutsPage, first_page, with_root};
 
 use crate::objects::first_object;
 use crate::state::page_count;
@@ -32,6 +34,7 @@ pub(crate) fn put_roots<P: Parts>(
     requires roots { AllByRecursion RootFits setup.now.roots }
     ensures alone { OnDisk (P.disks parts.old) (P.disks parts.new) 2 }
     ensures settled { OnOk result (AllSettled (P.disks parts.new)) }
+    ensures roots { IfOk result (λ sides. WhereTold (P.disks parts.new) 2 (HasRoots repo setup.now sides)) }
 {
     let mut store = PageStore::new(alloc, &Sides::new(alloc))?;
     for page in 0..page_count(repo, setup.roots.as_slice()) {
@@ -55,6 +58,7 @@ fn put_page<P: Parts>(
     ensures alone { OnDisk (P.disks parts.old) (P.disks parts.new) 2 }
     ensures settled { OnOk result (IsSettled (P.disks parts.new) 2) }
     ensures agrees { OnOk result (WhereTold (P.disks parts.new) 2 (Agrees store.new)) }
+    ensures put { OnOk result (PutsPage (P.disks parts.old) (P.disks parts.new) store.old.sides store.new.sides page (first_page repo setup.now page)) }
 {
     let roots = page_of_roots(alloc, repo, setup, page)?;
     let side = store.install(parts, &roots)?;
@@ -67,6 +71,7 @@ fn page_of_roots(alloc: Global, repo: u8, setup: &Setup, page: u32) -> Result<Pa
     requires roots { AllByRecursion RootFits setup.now.roots }
     ensures objects { IfOk result HasObjects }
     ensures number { IfOk result (λ made. made.number ≡ page) }
+    ensures page { IfOk result (λ made. made ≡ first_page repo setup.now page) }
 {
     let mut made = Page::empty(alloc, page)?;
     for root in setup.roots.as_slice() {
@@ -83,6 +88,7 @@ fn put_root(alloc: Global, page: &mut Page, setup: &Setup, root: &Root) -> Resul
     requires root { RootFits root.now }
     ensures objects { HasObjects page.new }
     ensures number { page.new.number ≡ page.old.number }
+    ensures put { OnOk result (page.new ≡ with_root setup.now.schema.classes page.old root.now) }
 {
     let object = first_object(alloc, setup.schema.classes.as_slice(), root.class)?;
     put_object(alloc, page, root.oref.slot, &object)
@@ -95,6 +101,7 @@ fn put_object(alloc: Global, page: &mut Page, slot: u8, object: &Obj) -> Result<
     requires object { ObjFits object.now }
     ensures objects { HasObjects page.new }
     ensures number { page.new.number ≡ page.old.number }
+    ensures put { OnOk result (page.new ≡ overlaid page.old slot (Some object.now)) }
 {
     let mut bytes = Text::new(alloc);
     put_obj(object, &mut bytes)?;

@@ -1,6 +1,6 @@
 use Rattle.std.proofs.Common.{◌≡◌, ◌-◌, ◌+◌, ◌*◌, map}
 use Rattle.paused_defs.specs.Plain.{plain, plain_stmt}
-use Rattle.paused_eval.specs.Bodies.{AreOf}
+use Rattle.paused_defs.specs.Methods.{class_methods}
 use Rattle.paused_eval.specs.Copies.{Keeps, Tied, state}
 use Rattle.paused_eval.specs.Counted.{surplus}
 use Rattle.paused_eval.specs.Direct as spec
@@ -11,7 +11,7 @@ use Rattle.paused_eval.proofs.+direct.Given as goal
 abbrev pub invariant-direct::collect-loop : goal.invariant-direct::collect-loop
 invariant-direct::collect-loop g l =
     let w = on l.program.schema.now l.fn.cache in
-    Tied l.progress.written l.cache × (Keeps l.fn.cache l.cache × (AreOf l.program.schema.now.classes l.bodies.called
+    Tied l.progress.written l.cache × (Keeps l.fn.cache l.cache × ((l.bodies.methods.now ≡ class_methods l.program.schema.now.classes)
     × ((surplus l.bodies.work l.progress.machine.steps ≡ surplus l.fn.bodies.work l.fn.progress.machine.steps)
     × (spec.collect w l.inner (directly w l.inner) l.kind l.target l.method l.fn.none l.fn.arguments (state l.fn.progress l.fn.cache) ≡ spec.collect w l.inner (directly w l.inner) l.kind l.target l.method l.done l.left (state l.progress l.cache)))))
 
@@ -19,7 +19,7 @@ invariant-direct::collect-loop g l =
 abbrev pub invariant-direct_statements::in_order-loop : goal.invariant-direct_statements::in_order-loop
 invariant-direct_statements::in_order-loop g l =
     let w = on l.program.schema.now l.fn.cache in
-    Tied l.progress.written l.cache × (Keeps l.fn.cache l.cache × (AreOf l.program.schema.now.classes l.bodies.called
+    Tied l.progress.written l.cache × (Keeps l.fn.cache l.cache × ((l.bodies.methods.now ≡ class_methods l.program.schema.now.classes)
     × ((surplus l.bodies.work l.progress.machine.steps ≡ surplus l.fn.bodies.work l.fn.progress.machine.steps)
     × (spec.in_order w l.inner (directly w l.inner) l.fn.stmts (state l.fn.progress l.fn.cache) ≡ spec.in_order w l.inner (directly w l.inner) l.left (state l.progress l.cache)))))
 
@@ -29,7 +29,7 @@ invariant-direct_statements::turns-loop-count g l =
     let w = on l.program.schema.now l.fn.cache in
     let c = plain l.condition in
     let b = map plain_stmt l.body in
-    Tied l.progress.written l.cache × (Keeps l.fn.cache l.cache × (AreOf l.program.schema.now.classes l.bodies.called
+    Tied l.progress.written l.cache × (Keeps l.fn.cache l.cache × ((l.bodies.methods.now ≡ class_methods l.program.schema.now.classes)
     × ((surplus l.bodies.work l.progress.machine.steps ≡ surplus l.fn.bodies.work l.fn.progress.machine.steps)
     × (spec.turn w l.inner (directly w l.inner) 100000 c b l.fn.tested (state l.fn.progress l.fn.cache) ≡ spec.turn w l.inner (directly w l.inner) (100000 - l.count) c b l.value (state l.progress l.cache)))))
 

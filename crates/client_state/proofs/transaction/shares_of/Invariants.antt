@@ -1,5 +1,6 @@
 use Rattle.client_state.proofs.transaction.shares_of.Given as goal
-use Rattle.client_state.specs.Writing.{last_of, shares_write}
+use Rattle.client_state.specs.Writing.{shares_write}
+use Rattle.paused_eval.specs.Copies.{last_of}
 use Rattle.std.proofs.Common.{◌++◌, ◌≡◌}
 use Rattle.std.specs.Vec.Iter.{into_iter_items}
 use Rattle.thor_value.specs.declared.names.Oref.{Oref}

@@ -1,4 +1,4 @@
-use Rattle.std.proofs.Common.{◌≡◌, Err, List, Option, Some, ap, inl, inr, rules, subst, sym, ◌∙◌}
+use Rattle.std.proofs.Common.{◌≡◌, Err, List, Option, Some, ap, inl, inr, map, rules, subst, sym, ◌||◌, ◌∙◌}
 use Rattle.std.specs.List.{fold}
 use Rattle.held_state.specs.Said.{said}
 use Rattle.held_state.specs.declared.fault.HoldFault.TheVariants.{Unfit}
@@ -6,6 +6,7 @@ use Rattle.log_bytes.specs.declared.body.Body.{Body}
 use Rattle.log_bytes.specs.declared.state.State.{State}
 use Rattle.recovery.proofs.Replayed.{whole_said}
 use Rattle.recovery.specs.Damage.{CantPut, put_on}
+use Rattle.recovery.specs.Reopening.{reopened}
 use Rattle.recovery.proofs.recovering.hold.Goals as goal
 
 pub returns-in_err-put_all-clause-unfit : goal.returns-in_err-put_all-clause-unfit
@@ -23,3 +24,9 @@ pub returns-clause-said : goal.returns-clause-said
 returns-clause-said c =
     let begins = whole_said c.in_ok-held.held c.args.state c.in_ok-held.ensures.keeps c.in_ok-held.ensures.said in
     ap (λ (o : Option State). fold put_on o c.args.bodies.now) begins ∙ subst (λ (bs : List Body). fold put_on (Some (said c.in_ok-held.held)) bs ≡ Some (said c.put_all.new.held)) c.as_slice.ensures c.in_ok-put_all.ensures.said
+
+pub returns-clause-reopens : goal.returns-clause-reopens
+returns-clause-reopens c =
+    let begins = whole_said c.in_ok-held.held c.args.state c.in_ok-held.ensures.keeps c.in_ok-held.ensures.said in
+    subst (λ (o : Option State). c.put_all.new.reopens ≡ (c.args.reopens.now || reopened o (map Some c.args.bodies.now))) (sym begins)
+    (subst (λ (bs : List Body). c.put_all.new.reopens ≡ (c.args.reopens.now || reopened (Some (said c.in_ok-held.held)) (map Some bs))) c.as_slice.ensures c.in_ok-put_all.ensures.reopens)

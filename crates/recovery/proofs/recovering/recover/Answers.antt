@@ -1,5 +1,5 @@
 use Rattle.std.proofs.Common.{◌≡◌, Err, Result, ap, inl, refl, sym, ℕ, ◌∙◌}
-use Rattle.recovery.proofs.FoundLaws.{if_ok, inner_damaged, recovered_holds, recovered_keeps, recovered_pages, recovered_stands}
+use Rattle.recovery.proofs.FoundLaws.{if_ok, inner_damaged, recovered_holds, recovered_keeps, recovered_pages, recovered_reopens, recovered_stands}
 use Rattle.recovery.proofs.Lost.{inner_lost}
 use Rattle.recovery.specs.Faults.{found_fault}
 use Rattle.recovery.specs.declared.fault.RecoverFault.TheVariants as recovered
@@ -53,3 +53,6 @@ returns-in-Ok-clause-damaged g c = λ images d place reads is.
 
 pub returns-in-Ok-clause-pages : goal.returns-in-Ok-clause-pages
 returns-in-Ok-clause-pages g c = if_ok _ _ c.replay_found.result (λ r is. recovered_pages c.in-Ok.found r is) c.replay_found.ensures.recovered
+
+pub returns-in-Ok-clause-reopens : goal.returns-in-Ok-clause-reopens
+returns-in-Ok-clause-reopens g c = λ images reads. if_ok _ _ c.replay_found.result (λ r is. recovered_reopens images c.in-Ok.found r is (c.in-Ok.ensures.counts images reads)) c.replay_found.ensures.recovered

@@ -4,6 +4,7 @@ use Rattle.std.proofs.Common.{◌≡◌, IsErrOf, List, Some, map, ℕ, rules, s
 use Rattle.held_state.specs.Said.{said}
 use Rattle.recovery.specs.Damage.{CantHold, IsNoBody, NoBody, NoCheckpoint, NoSequence}
 use Rattle.recovery.specs.declared.fault.RecoverFault.TheVariants.{Damaged}
+use Rattle.recovery.proofs.Reopened.{reopens_is}
 use Rattle.recovery.proofs.Replayed.{state_is}
 use Rattle.state_log.specs.Opening.{log_of}
 use Rattle.recovery.proofs.recovering.replay.Goals as goal
@@ -12,6 +13,11 @@ pub returns-clause-state : goal.returns-clause-state
 returns-clause-state c =
     state_is (log_of (c.args.log.now, c.args.head.now, c.args.records.now)) c.in_ok-state.state (said c.in_ok-held.held) c.in_ok-bodies.bodies c.in_ok-disk.ensures.small c.in_ok-state.ensures.state
     (subst (λ (rs : List (List ℕ)). map (value_of body_format) rs ≡ map Some c.in_ok-bodies.bodies) c.as_slice.ensures c.in_ok-bodies.ensures.bodies) c.in_ok-held.ensures.said
+
+pub returns-clause-reopens : goal.returns-clause-reopens
+returns-clause-reopens c =
+    reopens_is (log_of (c.args.log.now, c.args.head.now, c.args.records.now)) c.in_ok-state.state c.in_ok-bodies.bodies c.hold_on.new.reopens c.in_ok-state.ensures.state
+    (subst (λ (rs : List (List ℕ)). map (value_of body_format) rs ≡ map Some c.in_ok-bodies.bodies) c.as_slice.ensures c.in_ok-bodies.ensures.bodies) c.in_ok-held.ensures.reopens
 
 pub returns-in_err-disk-clause-damaged : goal.returns-in_err-disk-clause-damaged
 returns-in_err-disk-clause-damaged c = λ d place is.

@@ -25,3 +25,7 @@ returns-clause-stored g c = λ images reads.
     let sides : c.sides-sides.result.now ≡ r.state.objects.pages.sides = c.sides-sides.ensures ∙ ap (λ (s : Store). s.sides) (c.pages.ensures ∙ ap (λ (k : Kept). k.pages) c.objects.ensures) in
     stored_is images r c.args.repo c.args.objects.now c.read_pages.new.objects (recovered_reads found r known images told) number
     (subst (λ (qs : List (ℕ × ℕ)). PutsPaged c.args.repo (images 2) qs c.args.objects.now c.read_pages.new.objects) sides (c.in-Ok.ensures.paged (images 2) (told 2 (omega arith))))
+
+pub returns-clause-reopens : goal.returns-clause-reopens
+returns-clause-reopens g c = λ images reads.
+    rw c.in-Some.is at c.in_ok-recovered.ensures.reopens images (reads_on (g.P.Parts.disks c.args.parts.now) (g.P.Parts.disks c.sync.new.parts) c.sync.ensures.same.content images reads)

@@ -1,8 +1,9 @@
 use Rattle.repository_reading.specs.Recovered.{AgreesWhere}
 use Rattle.held_state.specs.Keeps.{Keeps}
 use Rattle.held_state.specs.Said.{said}
+use Rattle.recovery.specs.Reopening.{reopens}
 use Rattle.state_log.specs.Holds.{Holds}
-use Rattle.std.proofs.Common.{arith, refl}
+use Rattle.std.proofs.Common.{arith, refl, rules, sym, ◌∙◌, ◌≡◌}
 use Rattle.repository_reading.proofs.Syncing.{same_content}
 use Rattle.repository_reading.proofs.repository.recover_one.Goals as goal
 
@@ -28,3 +29,8 @@ returns-in-Ok-None-clause-same g c = same_content (g.P.Parts.disks c.args.parts.
 
 pub returns-in-Err-clause-same : goal.returns-in-Err-clause-same
 returns-in-Err-clause-same g c = same_content (g.P.Parts.disks c.args.parts.now) (g.P.Parts.disks c.recover.new.parts) c.recover.ensures.content c.recover.ensures.any_moment
+
+pub returns-clause-reopens : goal.returns-clause-reopens
+returns-clause-reopens g c = λ images reads.
+    let told : c.in-Ok-Some.recovered.reopens ≡ reopens images = rw c.in-Ok-Some.field-0-is at c.in-Ok-Some.ensures.reopens images reads in
+    sym told ∙ search rules

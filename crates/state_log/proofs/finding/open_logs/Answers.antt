@@ -1,6 +1,6 @@
 use Rattle.std.proofs.Common.{◌∙◌, arith, sym}
 use Rattle.disk_trait.proofs.Several.{settled_still, content_stays}
-use Rattle.state_log.proofs.Opened.{found_holds, found_as}
+use Rattle.state_log.proofs.Opened.{counted, found_as, found_holds}
 use Rattle.state_log.proofs.finding.open_logs.Goals as goal
 
 pub returns-in_err-second-clause-settled : goal.returns-in_err-second-clause-settled
@@ -24,5 +24,11 @@ returns-clause-holds g c = λ s.
 pub returns-clause-found : goal.returns-clause-found
 returns-clause-found g c = λ images reads.
     found_as images c.in_ok-first.first c.in_ok-second.second (c.in_ok-first.ensures.found (images 0) (reads 0 (omega arith)))
+    (c.in_ok-second.ensures.found (images 1) (content_stays _ _ 0 c.open_on.ensures.alone c.open_on.ensures.content 1 ∙ reads 1 (omega arith)))
+    c.choose.result c.choose.ensures
+
+pub returns-clause-counts : goal.returns-clause-counts
+returns-clause-counts g c = λ images reads.
+    counted images c.in_ok-first.first c.in_ok-second.second (c.in_ok-first.ensures.found (images 0) (reads 0 (omega arith)))
     (c.in_ok-second.ensures.found (images 1) (content_stays _ _ 0 c.open_on.ensures.alone c.open_on.ensures.content 1 ∙ reads 1 (omega arith)))
     c.choose.result c.choose.ensures

@@ -1,3 +1,4 @@
+use Rattle.client_state.proofs.Writing.{nothing_unsent}
 use Rattle.front_end.proofs.Acting.{by_ask}
 use Rattle.front_end.proofs.Calling.{asked_in_vain, asked_own}
 use Rattle.front_end.proofs.Showing.{asked_of}
@@ -24,3 +25,6 @@ returns-in-Ok-Settled-clause-moves g c = asked_own _ _ _ _ c.args.sent.ts c.in-O
 
 pub returns-in-Ok-Undecided-clause-moves : goal.returns-in-Ok-Undecided-clause-moves
 returns-in-Ok-Undecided-clause-moves g c = asked_in_vain _ _ _ _ c.args.sent.ts c.ask.result _ _ c.ask.ensures.call c.ask_again.ensures.leaves
+
+pub returns-in-Err-NoMemory-clause-writes : goal.returns-in-Err-NoMemory-clause-writes
+returns-in-Err-NoMemory-clause-writes g c = λ none. nothing_unsent _ _ none

@@ -1,5 +1,25 @@
-use Rattle.front_end.proofs.Calling.{same_sends_idle}
+use Rattle.client_state.proofs.Writing.{nothing_unsent}
+use Rattle.front_end.proofs.Calling.{same_sends, same_sends_idle}
 use Rattle.front_end.proofs.client.Client.begin.Goals as goal
+use Rattle.std.proofs.Common.{sym, ◌∙◌}
 
 pub returns-in_ok-run-in-Some-Tx-clause-moves : goal.returns-in_ok-run-in-Some-Tx-clause-moves
 returns-in_ok-run-in-Some-Tx-clause-moves g c = same_sends_idle _ _ _ c.args.self.now.held c.begin.new.self c.begin.ensures.same _ c.evaluate.result c.evaluate.ensures.moves
+
+pub returns-in_err-run-in-Some-Tx-clause-writes : goal.returns-in_err-run-in-Some-Tx-clause-writes
+returns-in_err-run-in-Some-Tx-clause-writes g c = λ none. nothing_unsent _ _ none
+
+pub returns-in_err-text-in-Some-Upgrade-clause-writes : goal.returns-in_err-text-in-Some-Upgrade-clause-writes
+returns-in_err-text-in-Some-Upgrade-clause-writes g c = λ none. nothing_unsent _ _ none
+
+pub returns-in_err-transaction-in-Some-Upgrade-clause-writes : goal.returns-in_err-transaction-in-Some-Upgrade-clause-writes
+returns-in_err-transaction-in-Some-Upgrade-clause-writes g c = λ none. nothing_unsent _ _ none
+
+pub returns-in_ok-transaction-in-Some-Upgrade-clause-writes : goal.returns-in_ok-transaction-in-Some-Upgrade-clause-writes
+returns-in_ok-transaction-in-Some-Upgrade-clause-writes g c = λ none. c.join_and_draw.ensures.writes (λ x. c.undo.ensures.none x ∙ sym (c.in_ok-transaction.ensures.writes x))
+
+pub returns-in-None-clause-writes : goal.returns-in-None-clause-writes
+returns-in-None-clause-writes g c = λ none. nothing_unsent _ _ none
+
+pub returns-in_ok-transaction-in-Some-Upgrade-clause-moves : goal.returns-in_ok-transaction-in-Some-Upgrade-clause-moves
+returns-in_ok-transaction-in-Some-Upgrade-clause-moves g c = λ idle. same_sends _ _ _ c.args.self.now.held c.undo.new.self (c.undo.ensures.less.0, c.undo.ensures.less.1, c.undo.ensures.copies) _ c.join_and_draw.result c.join_and_draw.ensures.moves

@@ -6,3 +6,6 @@ returns-in-Some-clause-moves g c = λ joined. c.in_ok-news.ensures.moves joined
 
 pub returns-in-None-clause-moves : goal.returns-in-None-clause-moves
 returns-in-None-clause-moves g c = λ joined. by_none_idle _ _ _ c.args.at c.args.self.now.held c.receive.new.self.held (c.in_ok-news.ensures.none c.in-None.is) joined c.wait.new.self c.wait.ensures.rest c.wait.ensures.links
+
+pub returns-in-None-clause-writes : goal.returns-in-None-clause-writes
+returns-in-None-clause-writes g c = λ w. rw (c.wait.ensures.rest) (c.receive.ensures.writes w)

@@ -1,8 +1,9 @@
 use Rattle.client_state.proofs.Moving.{sends_then_drops, session_is_here}
+use Rattle.client_state.proofs.Writing.{drew_refused, drew_ts, still_writes}
 use Rattle.client_state.specs.Showing.{DrewShown}
 use Rattle.front_end.proofs.Acting.{by_draw}
 use Rattle.front_end.proofs.client.Client.draw.Goals as goal
-use Rattle.std.proofs.Common.{subst, sym}
+use Rattle.std.proofs.Common.{refl, subst, sym}
 
 pub returns-in_err-ts-clause-acts : goal.returns-in_err-ts-clause-acts
 returns-in_err-ts-clause-acts g c = by_draw _ _ _ _ _ _ _ _ _ c.draw.ensures.call
@@ -24,3 +25,9 @@ returns-in-Ts-clause-moves g c = λ s. rw (c.set_phase.ensures, c.take_phase.ens
 
 pub returns-in-Refused-clause-moves : goal.returns-in-Refused-clause-moves
 returns-in-Refused-clause-moves g c = λ s. sends_then_drops (g.Q.Port.view c.args.port.now) (g.Q.Port.view c.draw.new.port) c.args.self.now.held c.draw.new.self c.go_behind.new.self.held c.go_behind.ensures.less (c.draw.ensures.moves (session_is_here c.args.self.now.held.links.items c.args.coordinator c.in-Some.at (sym c.in-Some.ensures)) s)
+
+pub returns-in-Ts-clause-writes : goal.returns-in-Ts-clause-writes
+returns-in-Ts-clause-writes g c = λ w. rw (c.set_phase.ensures, c.take_phase.ensures.rest) (c.drawn-phase.ensures.writes _ (rw (c.take_phase.ensures.phase) (still_writes _ _ c.args.self.now.held.cache.cache _ refl (drew_ts _ _ _ _ c.in-Ts.is c.in_ok-ts.ensures.stays) w)))
+
+pub returns-in-Refused-clause-writes : goal.returns-in-Refused-clause-writes
+returns-in-Refused-clause-writes g c = λ w. c.go_behind.ensures.writes c.args.self.now.held.cache.cache (drew_refused _ _ _ _ c.in-Refused.is c.in_ok-ts.ensures.stays) w

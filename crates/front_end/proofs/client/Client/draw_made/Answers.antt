@@ -1,8 +1,9 @@
 use Rattle.client_state.proofs.Moving.{sends_then_drops}
+use Rattle.client_state.proofs.Writing.{came_itself, nothing_unsent}
 use Rattle.client_state.specs.Showing.{DrewShown}
 use Rattle.front_end.proofs.Acting.{by_draw}
 use Rattle.front_end.proofs.client.Client.draw_made.Goals as goal
-use Rattle.std.proofs.Common.{subst}
+use Rattle.std.proofs.Common.{subst, ◌∙◌}
 
 pub returns-in_err-ts-clause-acts : goal.returns-in_err-ts-clause-acts
 returns-in_err-ts-clause-acts g c = by_draw _ _ _ _ _ _ _ _ _ c.draw.ensures.call
@@ -18,3 +19,12 @@ returns-in-Refused-clause-shown g c = λ repos s. c.go_behind.ensures.shown _ _ 
 
 pub returns-in-Refused-clause-moves : goal.returns-in-Refused-clause-moves
 returns-in-Refused-clause-moves g c = λ joined s. sends_then_drops (g.Q.Port.view c.args.port.now) (g.Q.Port.view c.draw.new.port) c.args.self.now.held c.draw.new.self c.go_behind.new.self.held c.go_behind.ensures.less (c.draw.ensures.moves joined s)
+
+pub returns-in_err-ts-clause-writes : goal.returns-in_err-ts-clause-writes
+returns-in_err-ts-clause-writes g c = λ none. nothing_unsent _ _ none
+
+pub returns-in-Ts-clause-writes : goal.returns-in-Ts-clause-writes
+returns-in-Ts-clause-writes g c = λ none. nothing_unsent _ _ (c.draw_transform.ensures ∙ none)
+
+pub returns-in-Refused-clause-writes : goal.returns-in-Refused-clause-writes
+returns-in-Refused-clause-writes g c = λ none. c.go_behind.ensures.writes _ (came_itself _ c.draw.new.self.cache.cache) (nothing_unsent _ _ none)

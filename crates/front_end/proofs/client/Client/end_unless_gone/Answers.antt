@@ -9,8 +9,8 @@ use Rattle.std.specs.Prelude.{not}
 pub returns-clause-shown : goal.returns-clause-shown
 returns-clause-shown c = λ old new repos refuses. try_shown old new repos _ _ c.end_in_outage.ensures.news (ByRefusal (record { repo = c.args.repo; refusal = c.args.refusal; call = refuses; cause_is = c.in_ok-cause.ensures.cause }))
 
-pub returns-then-lose_in_receive-clause-ends : goal.returns-then-lose_in_receive-clause-ends
-returns-then-lose_in_receive-clause-ends c = LosesThere c.lose_in_receive.ensures.loses c.lose_in_receive.ensures.client
+pub returns-then-lose_session-clause-ends : goal.returns-then-lose_session-clause-ends
+returns-then-lose_session-clause-ends c = LosesThere c.lose_session.ensures.loses c.lose_session.ensures.client
 
 pub returns-clause-ends : goal.returns-clause-ends
-returns-clause-ends c = subst (λ (h : Held). EndsReceive c.args.refusal c.args.repo h c.end_in_outage.new.self.held) (c.lose_in_receive.ensures.rest (ap (λ (b : Bool). not b) c.if-lose_in_receive.false)) (c.end_in_outage.ensures.ends c.args.refusal (c.lose_in_receive.ensures.gone (ap (λ (b : Bool). not b) c.if-lose_in_receive.false)))
+returns-clause-ends c = subst (λ (h : Held). EndsReceive c.args.refusal c.args.repo h c.end_in_outage.new.self.held) (c.lose_session.ensures.rest (ap (λ (b : Bool). not b) c.if-lose_session.false)) (c.end_in_outage.ensures.ends c.args.refusal (c.lose_session.ensures.gone (ap (λ (b : Bool). not b) c.if-lose_session.false)))

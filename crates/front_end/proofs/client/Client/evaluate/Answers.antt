@@ -1,8 +1,16 @@
+use Rattle.client_state.proofs.Writing.{nothing_unsent}
 use Rattle.client_state.specs.Moving.{HoldsSame}
+use Rattle.client_state.specs.Writing.{unsent}
 use Rattle.front_end.proofs.Calling.{same_sends_idle}
 use Rattle.front_end.proofs.client.Client.evaluate.Goals as goal
 use Rattle.front_end.specs.declared.client.Client.{Client}
-use Rattle.std.proofs.Common.{subst, sym}
+use Rattle.std.proofs.Common.{ap, subst, sym}
 
 pub returns-clause-moves : goal.returns-clause-moves
 returns-clause-moves g c = same_sends_idle _ _ _ c.args.self.now.held c.set_phase.new.self.held (subst (λ (k : Client). HoldsSame c.args.self.now.held k.held) (sym c.set_phase.ensures) c.in_ok-ran.ensures.same) _ c.go_behind_run.result c.go_behind_run.ensures.moves
+
+pub returns-in_err-ran-clause-writes : goal.returns-in_err-ran-clause-writes
+returns-in_err-ran-clause-writes g c = nothing_unsent _ _ (ap (λ (k : Client). unsent k.phase) c.set_phase.ensures)
+
+pub returns-clause-writes : goal.returns-clause-writes
+returns-clause-writes g c = c.go_behind_run.ensures.writes (ap (λ (k : Client). unsent k.phase) c.set_phase.ensures) (rw (c.set_phase.ensures) c.in_ok-ran.ensures.wrote)

@@ -1,9 +1,11 @@
 use Rattle.client_state.proofs.Moving.{sends_then_drops}
+use Rattle.client_state.proofs.Writing.{came_itself, nothing_unsent}
 use Rattle.client_state.specs.Moving.{Rested}
+use Rattle.client_state.specs.Writing.{unsent}
 use Rattle.front_end.proofs.Showing.{try_shown}
 use Rattle.front_end.proofs.client.Client.fetch_needed.Goals as goal
 use Rattle.front_end.specs.Showing.{ByNoRepository}
-use Rattle.std.proofs.Common.{arith, refl, ◌≤◌}
+use Rattle.std.proofs.Common.{ap, arith, refl, ◌∙◌, ◌≤◌}
 
 pub returns-then-oref-opened-clause-shown : goal.returns-then-oref-opened-clause-shown
 returns-then-oref-opened-clause-shown g c = λ s. let far : c.args.opened.now.repos ≤ c.args.oref.repo = omega (arith, c.if-oref-opened.true) in try_shown _ _ _ _ _ c.end_try.ensures.news (ByNoRepository c.args.oref far refl)
@@ -16,3 +18,9 @@ returns-then-oref-opened-clause-moves g c = λ idle s. Rested refl c.end_try.ens
 
 pub returns-clause-moves : goal.returns-clause-moves
 returns-clause-moves g c = λ idle s. sends_then_drops (g.Q.Port.view c.args.port.now) (g.Q.Port.view c.fetch.new.port) c.args.self.now.held c.fetch.new.self.held c.go_behind.new.self.held c.go_behind.ensures.less (c.in_ok-came.ensures.moves idle s)
+
+pub returns-in_err-came-clause-writes : goal.returns-in_err-came-clause-writes
+returns-in_err-came-clause-writes g c = λ none. nothing_unsent _ _ (ap unsent c.fetch.ensures.phase ∙ (c.await_page.ensures ∙ none))
+
+pub returns-clause-writes : goal.returns-clause-writes
+returns-clause-writes g c = λ none. c.go_behind.ensures.writes _ (came_itself _ c.fetch.new.self.held.cache.cache) (nothing_unsent _ _ (ap unsent c.fetch.ensures.phase ∙ (c.await_page.ensures ∙ none)))

@@ -1,6 +1,13 @@
+use Rattle.client_state.proofs.Writing.{came_learnt, came_well, still_writes}
 use Rattle.client_state.specs.Showing.{CameShown}
 use Rattle.front_end.proofs.client.Client.go_behind.Goals as goal
-use Rattle.std.proofs.Common.{subst}
+use Rattle.std.proofs.Common.{refl, subst}
 
 pub returns-in-Learnt-clause-shown : goal.returns-in-Learnt-clause-shown
 returns-in-Learnt-clause-shown c = λ old new repos h. c.take_learnt.ensures.shown old new repos (subst (CameShown old new) c.in-Learnt.is h)
+
+pub returns-in-Well-clause-writes : goal.returns-in-Well-clause-writes
+returns-in-Well-clause-writes c = λ before stays w. still_writes _ _ before _ refl (came_well _ _ _ c.in-Well.is stays) w
+
+pub returns-in-Learnt-clause-writes : goal.returns-in-Learnt-clause-writes
+returns-in-Learnt-clause-writes c = λ before stays w. c.take_learnt.ensures.writes (still_writes _ _ before _ refl (came_learnt _ _ _ _ c.in-Learnt.is stays) w)

@@ -1,5 +1,15 @@
+use Rattle.client_state.proofs.Writing.{nothing_unsent}
 use Rattle.front_end.proofs.Calling.{same_sends}
 use Rattle.front_end.proofs.client.Client.go_behind_run.Goals as goal
+use Rattle.method_eval.specs.declared.view.Ran.{Ran}
+use Rattle.paused_eval.specs.Writing.{HasWritten}
+use Rattle.std.proofs.Common.{subst}
 
 pub returns-in_ok-transaction-in-Done-clause-moves : goal.returns-in_ok-transaction-in-Done-clause-moves
 returns-in_ok-transaction-in-Done-clause-moves g c = λ idle. same_sends _ _ _ c.args.self.now.held c.evaluated.new.self c.evaluated.ensures.same _ c.join_and_draw.result c.join_and_draw.ensures.moves
+
+pub returns-in_err-transaction-in-Done-clause-writes : goal.returns-in_err-transaction-in-Done-clause-writes
+returns-in_err-transaction-in-Done-clause-writes g c = λ none wrote. nothing_unsent _ _ none
+
+pub returns-in_ok-transaction-in-Done-clause-writes : goal.returns-in_ok-transaction-in-Done-clause-writes
+returns-in_ok-transaction-in-Done-clause-writes g c = λ none wrote. c.join_and_draw.ensures.writes (c.in_ok-transaction.ensures.wrote (subst (λ (r : Ran). HasWritten r c.args.self.now.held.cache.cache) c.in-Done.is wrote))

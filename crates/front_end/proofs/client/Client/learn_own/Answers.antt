@@ -1,7 +1,10 @@
+use Rattle.client_state.proofs.Writing.{nothing_unsent}
 use Rattle.client_state.specs.Moving.{EndsSo}
+use Rattle.client_state.specs.Writing.{unsent}
 use Rattle.front_end.proofs.Showing.{abort_shown, decided_so, told_decided, try_shown}
 use Rattle.front_end.proofs.client.Client.learn_own.Goals as goal
-use Rattle.std.proofs.Common.{Bool, refl, subst, sym, true, ◌∙◌}
+use Rattle.front_end.specs.declared.client.Client.{Client}
+use Rattle.std.proofs.Common.{Bool, ap, refl, subst, sym, true, ◌∙◌}
 
 pub returns-then-commit-clause-shown : goal.returns-then-commit-clause-shown
 returns-then-commit-clause-shown c = λ old new repos told. c.end_committed.ensures.shown old new repos (decided_so old new c.args.sent.ts c.args.sent.ts c.args.verdict.commit true refl (sym c.if-commit.true ∙ c.commit.ensures) (told_decided old new c.args.coordinator c.args.sent.ts c.args.verdict.commit told))
@@ -14,3 +17,12 @@ returns-then-commit-clause-ends c = subst (λ (b : Bool). EndsSo b c.args.self.n
 
 pub returns-clause-ends : goal.returns-clause-ends
 returns-clause-ends c = subst (λ (b : Bool). EndsSo b c.args.self.now.held c.end_try.new.self.held) (sym c.if-commit.false ∙ c.commit.ensures) c.end_try.ensures.less
+
+pub returns-in_err-others-clause-writes : goal.returns-in_err-others-clause-writes
+returns-in_err-others-clause-writes c = λ none. nothing_unsent _ _ none
+
+pub returns-in_err-hand_on-clause-writes : goal.returns-in_err-hand_on-clause-writes
+returns-in_err-hand_on-clause-writes c = λ none. nothing_unsent _ _ none
+
+pub returns-then-commit-clause-writes : goal.returns-then-commit-clause-writes
+returns-then-commit-clause-writes c = λ none. nothing_unsent _ _ (ap (λ (k : Client). unsent k.phase) c.end_committed.ensures.rest ∙ none)

@@ -1,8 +1,10 @@
 use Rattle.client_state.proofs.Moving.{less_itself}
+use Rattle.client_state.proofs.Writing.{nothing_unsent}
 use Rattle.front_end.proofs.Acting.{by_prepare}
 use Rattle.front_end.proofs.Requesting.{by_prepare as moves_by_prepare, by_prepare_refused}
 use Rattle.front_end.proofs.client.Client.prepare.Goals as goal
 use Rattle.port.specs.Acting.{RefusesPrepare}
+use Rattle.std.proofs.Common.{◌∙◌}
 use Rattle.std.proofs.lemmas.Result.{IfOk-weaker}
 
 pub returns-in_err-note_prepared-in-Ok-clause-acts : goal.returns-in_err-note_prepared-in-Ok-clause-acts
@@ -25,3 +27,12 @@ returns-in_ok-note_prepared-in-Ok-clause-moves g c = λ of idle. moves_by_prepar
 
 pub returns-in-Err-clause-moves : goal.returns-in-Err-clause-moves
 returns-in-Err-clause-moves g c = λ of idle. by_prepare_refused _ _ _ c.args.self.now.held c.end_refused.new.self.held c.args.sending of idle c.in-Err.refusal c.in-Err.ensures.call c.end_refused.ensures.learns c.end_refused.ensures.client
+
+pub returns-in_err-note_prepared-in-Ok-clause-writes : goal.returns-in_err-note_prepared-in-Ok-clause-writes
+returns-in_err-note_prepared-in-Ok-clause-writes g c = λ none. nothing_unsent _ _ (c.note_prepared.ensures ∙ none)
+
+pub returns-in_ok-note_prepared-in-Ok-clause-writes : goal.returns-in_ok-note_prepared-in-Ok-clause-writes
+returns-in_ok-note_prepared-in-Ok-clause-writes g c = λ none. nothing_unsent _ _ (c.note_prepared.ensures ∙ none)
+
+pub returns-in-Err-clause-writes : goal.returns-in-Err-clause-writes
+returns-in-Err-clause-writes g c = λ none. c.end_refused.ensures.writes (nothing_unsent _ _ none)

@@ -1,8 +1,12 @@
 use Rattle.client_state.proofs.Moving.{less_itself}
+use Rattle.client_state.proofs.Writing.{nothing_unsent}
+use Rattle.client_state.specs.Writing.{unsent}
 use Rattle.front_end.proofs.Acting.{by_prepare}
 use Rattle.front_end.proofs.Requesting.{by_prepare as moves_by_prepare, by_prepare_refused}
 use Rattle.front_end.proofs.client.Client.prepare_first.Goals as goal
+use Rattle.front_end.specs.declared.client.Client.{Client}
 use Rattle.port.specs.Acting.{RefusesPrepare}
+use Rattle.std.proofs.Common.{ap}
 use Rattle.std.proofs.lemmas.Result.{IfOk-weaker}
 
 pub returns-in-Ok-clause-acts : goal.returns-in-Ok-clause-acts
@@ -19,3 +23,9 @@ returns-in-Ok-clause-moves g c = λ of idle. rw (c.set_phase.ensures) (moves_by_
 
 pub returns-in-Err-clause-moves : goal.returns-in-Err-clause-moves
 returns-in-Err-clause-moves g c = λ of idle. by_prepare_refused _ _ _ c.args.self.now.held c.end_refused.new.self.held c.args.sending of idle c.in-Err.refusal c.in-Err.ensures.call c.end_refused.ensures.learns c.end_refused.ensures.client
+
+pub returns-in-Ok-clause-writes : goal.returns-in-Ok-clause-writes
+returns-in-Ok-clause-writes g c = λ none. nothing_unsent _ _ (ap (λ (k : Client). unsent k.phase) c.set_phase.ensures)
+
+pub returns-in-Err-clause-writes : goal.returns-in-Err-clause-writes
+returns-in-Err-clause-writes g c = λ none. c.end_refused.ensures.writes (nothing_unsent _ _ none)

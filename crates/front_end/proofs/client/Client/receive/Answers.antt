@@ -36,3 +36,18 @@ returns-in-Ok-None-clause-none g c = λ none. no_message _ _ _ c.args.at c.args.
 
 pub returns-in_ok-end_unless_gone-in-Err-clause-moves : goal.returns-in_ok-end_unless_gone-in-Err-clause-moves
 returns-in_ok-end_unless_gone-in-Err-clause-moves g c = λ joined. by_refusal _ _ c.args.at c.args.self.now.held c.receive.new.self c.end_unless_gone.new.self.held c.receive.ensures.rest joined _ c.in-Err.refusal c.in-Err.ensures.call c.in-Err.ensures.links c.in_ok-end_unless_gone-in-Err.ensures.ends
+
+pub returns-in_err-take-in-Ok-Some-clause-writes : goal.returns-in_err-take-in-Ok-Some-clause-writes
+returns-in_err-take-in-Ok-Some-clause-writes g c = λ w. c.take.ensures.writes (rw (c.receive.ensures.rest) w)
+
+pub returns-in_ok-take-in-Ok-Some-clause-writes : goal.returns-in_ok-take-in-Ok-Some-clause-writes
+returns-in_ok-take-in-Ok-Some-clause-writes g c = λ w. c.take.ensures.writes (rw (c.receive.ensures.rest) w)
+
+pub returns-in-Ok-None-clause-writes : goal.returns-in-Ok-None-clause-writes
+returns-in-Ok-None-clause-writes g c = λ w. rw (c.receive.ensures.rest) w
+
+pub returns-in_err-end_unless_gone-in-Err-clause-writes : goal.returns-in_err-end_unless_gone-in-Err-clause-writes
+returns-in_err-end_unless_gone-in-Err-clause-writes g c = λ w. c.end_unless_gone.ensures.writes (rw (c.receive.ensures.rest) w)
+
+pub returns-in_ok-end_unless_gone-in-Err-clause-writes : goal.returns-in_ok-end_unless_gone-in-Err-clause-writes
+returns-in_ok-end_unless_gone-in-Err-clause-writes g c = λ w. c.end_unless_gone.ensures.writes (rw (c.receive.ensures.rest) w)

@@ -28,3 +28,12 @@ returns-in-Err-clause-moves g c = λ joined. whenever c.lose_delivered.result (b
 
 pub returns-in-Err-clause-shown : goal.returns-in-Err-clause-shown
 returns-in-Err-clause-shown g c = IfOk-weaker c.lose_delivered.result _ _ (λ n is s. nothing_shown _ _ _ n is) c.lose_delivered.ensures.news
+
+pub returns-in-Ok-Some-clause-writes : goal.returns-in-Ok-Some-clause-writes
+returns-in-Ok-Some-clause-writes g c = λ w. c.take.ensures.writes (rw (c.receive.ensures.rest) w)
+
+pub returns-in-Ok-None-clause-writes : goal.returns-in-Ok-None-clause-writes
+returns-in-Ok-None-clause-writes g c = λ w. rw (c.receive.ensures.rest) w
+
+pub returns-in-Err-clause-writes : goal.returns-in-Err-clause-writes
+returns-in-Err-clause-writes g c = λ w. c.lose_delivered.ensures.writes (rw (c.receive.ensures.rest) w)

@@ -1,3 +1,5 @@
+use Rattle.client_state.proofs.Writing.{nothing_unsent}
+use Rattle.client_state.specs.Writing.{unsent}
 use Rattle.client_state.specs.declared.held.Held.{Held}
 use Rattle.front_end.proofs.Requesting.{learns_from}
 use Rattle.front_end.proofs.client.Client.refuse_transform.Goals as goal
@@ -8,3 +10,6 @@ returns-clause-learns c = learns_from c.args.self.now.held c.count_if_stopped.ne
 
 pub returns-clause-client : goal.returns-clause-client
 returns-clause-client c = c.end_refused.ensures.client ∙ ap (λ (h : Held). h.client) c.count_if_stopped.ensures.rest
+
+pub returns-clause-writes : goal.returns-clause-writes
+returns-clause-writes c = λ none. c.end_refused.ensures.writes (nothing_unsent _ _ (ap unsent c.count_if_stopped.ensures.phase ∙ none))

@@ -1,3 +1,4 @@
+use Rattle.client_state.proofs.Writing.{still_writes}
 use Rattle.front_end.proofs.Receiving.{same_items, takes_so, takes_then_less}
 use Rattle.front_end.proofs.Showing.{try_shown}
 use Rattle.front_end.proofs.client.Client.take_invalid.Goals as goal
@@ -12,3 +13,6 @@ returns-in-Some-clause-takes c = λ repo. takes_then_less repo _ c.args.self.now
 
 pub returns-in-None-clause-takes : goal.returns-in-None-clause-takes
 returns-in-None-clause-takes c = λ repo. takes_so repo _ c.args.self.now.held c.drop_copies.new.self c.drop_copies.ensures.copies c.drop_copies.ensures.client (same_items c.drop_copies.new.self c.args.self.now.held c.drop_copies.ensures.links)
+
+pub returns-in-None-clause-writes : goal.returns-in-None-clause-writes
+returns-in-None-clause-writes c = λ w. still_writes _ _ _ _ refl c.drop_copies.ensures.writes w

@@ -1,8 +1,9 @@
+use Rattle.client_state.proofs.Writing.{still_writes}
 use Rattle.client_state.specs.declared.held.Held.{Held}
 use Rattle.front_end.proofs.Receiving.{takes_so, takes_then_less}
 use Rattle.front_end.proofs.Showing.{page_shown, try_shown}
 use Rattle.front_end.proofs.client.Client.take_page.Goals as goal
-use Rattle.std.proofs.Common.{Bool, ap}
+use Rattle.std.proofs.Common.{Bool, ap, refl}
 use Rattle.std.specs.Prelude.{not}
 
 pub returns-in-Some-clause-shown : goal.returns-in-Some-clause-shown
@@ -13,3 +14,12 @@ returns-in-Some-clause-takes c = λ place. takes_then_less c.args.repo _ c.args.
 
 pub returns-in-Some-2-clause-takes : goal.returns-in-Some-2-clause-takes
 returns-in-Some-2-clause-takes c = λ place. takes_so c.args.repo _ c.args.self.now.held c.place.new.self c.in_ok-place.ensures.kept (ap (λ (h : Held). h.client) c.place.ensures.rest) (ap (λ (h : Held). h.links.items) c.place.ensures.rest)
+
+pub returns-in_err-place-clause-writes : goal.returns-in_err-place-clause-writes
+returns-in_err-place-clause-writes c = λ w. still_writes _ _ _ _ refl c.place.ensures.writes w
+
+pub returns-in-Some-clause-writes : goal.returns-in-Some-clause-writes
+returns-in-Some-clause-writes c = λ w. still_writes _ _ _ _ refl c.place.ensures.writes w
+
+pub returns-in-None-clause-writes : goal.returns-in-None-clause-writes
+returns-in-None-clause-writes c = λ w. still_writes _ _ _ _ refl c.place.ensures.writes w

@@ -1,3 +1,4 @@
+use Rattle.std.proofs.Common.{◌∙◌}
 use Rattle.paused_eval.proofs.Ending.{always}
 use Rattle.paused_eval.proofs.Hands.{same_hands}
 use Rattle.paused_eval.proofs.Standing.{steps_are}
@@ -12,9 +13,12 @@ returns-clause-answers g c = λ tx given stands.
 pub returns-clause-stands : goal.returns-clause-stands
 returns-clause-stands g c = λ tx given stands.
     let s = c.args.schema.now in
-    rw (same_hands s c.args.copies.now.cache c.run_over.new.cache c.in_ok-came.ensures.kept, c.set_doing.ensures)
+    rw (same_hands s c.args.copies.now.cache c.answer.new.copies.cache (λ x. c.answer.ensures.kept x ∙ c.in_ok-came.ensures.kept x), c.set_doing.ensures)
     (c.answer.ensures.stands s (at_hand s c.args.copies.now.cache) tx given _ c.run_over.new.names
     (c.in_ok-came.ensures.answers tx given (rw c.replace-doing.ensures.value stands)))
+
+pub returns-clause-kept : goal.returns-clause-kept
+returns-clause-kept g c = always c.answer.result _ (λ x. c.answer.ensures.kept x ∙ c.in_ok-came.ensures.kept x)
 
 pub returns-clause-steps : goal.returns-clause-steps
 returns-clause-steps g c = λ tx given stands.

@@ -1,3 +1,4 @@
+use Rattle.disk_trait.proofs.Several.{content_stays}
 use Rattle.mob_flusher.specs.Map.{Kept}
 use Rattle.page_store.specs.Store.{Store}
 use Rattle.held_state.specs.Said.{said}
@@ -17,3 +18,6 @@ returns-in-Ok-true-clause-says g c = λ holds.
     let old = g.P.Parts.disks c.args.parts in
     let now = g.P.Parts.disks c.reaches.new.parts in
     c.new.ensures.says (log_just now c.args.recovered.log s (stands_where old now c.args.recovered.log s holds c.reaches.ensures.alone c.reaches.ensures.content c.reaches.ensures.crash))
+
+pub returns-in-Ok-true-clause-content : goal.returns-in-Ok-true-clause-content
+returns-in-Ok-true-clause-content g c = λ d. c.new.ensures.content d ∙ content_stays (g.P.Parts.disks c.args.parts) (g.P.Parts.disks c.reaches.new.parts) 2 c.reaches.ensures.alone c.reaches.ensures.content d

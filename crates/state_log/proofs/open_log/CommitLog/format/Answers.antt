@@ -1,7 +1,8 @@
-use Rattle.std.proofs.Common.{ap, ◌∙◌}
+use Rattle.std.proofs.Common.{ap, arith, refl, ◌∙◌}
 use Rattle.log_bytes.specs.Checkpoint.{state_format}
 use Rattle.log_bytes.specs.Format.{value_of}
 use Rattle.state_log.proofs.Checkpoints.{format_holds, format_says, fresh_says}
+use Rattle.state_log.proofs.Holding.{pages_stay, pages_still}
 use Rattle.state_log.proofs.open_log.CommitLog.format.Goals as goal
 
 pub returns-in_err-head-clause-any_moment : goal.returns-in_err-head-clause-any_moment
@@ -19,3 +20,15 @@ pub returns-clause-holds : goal.returns-clause-holds
 returns-clause-holds g c =
     format_holds (g.P.Parts.disks c.args.parts.now) (g.P.Parts.disks c.format.new.parts) c.in_ok-log.log c.args.state.now c.as_slice.result.now (ap (value_of state_format) c.as_slice.ensures ∙ c.in_ok-head.ensures.read) c.requires.whole c.requires.settled c.requires.second
     c.format.ensures.alone c.in_ok-log.ensures.settled c.in_ok-log.ensures.disk c.in_ok-log.ensures.agrees c.in_ok-log.ensures.formatted
+
+pub returns-in_err-log-clause-pages : goal.returns-in_err-log-clause-pages
+returns-in_err-log-clause-pages g c = pages_stay (g.P.Parts.disks c.args.parts.now) (g.P.Parts.disks c.format.new.parts) 0 0 refl (omega arith) c.format.ensures.alone
+
+pub returns-in_err-log-clause-still : goal.returns-in_err-log-clause-still
+returns-in_err-log-clause-still g c = pages_still (g.P.Parts.disks c.args.parts.now) (g.P.Parts.disks c.format.new.parts) 0 0 refl (omega arith) c.format.ensures.alone
+
+pub returns-clause-pages : goal.returns-clause-pages
+returns-clause-pages g c = pages_stay (g.P.Parts.disks c.args.parts.now) (g.P.Parts.disks c.format.new.parts) 0 0 refl (omega arith) c.format.ensures.alone
+
+pub returns-clause-still : goal.returns-clause-still
+returns-clause-still g c = pages_still (g.P.Parts.disks c.args.parts.now) (g.P.Parts.disks c.format.new.parts) 0 0 refl (omega arith) c.format.ensures.alone

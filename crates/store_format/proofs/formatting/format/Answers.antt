@@ -1,0 +1,11 @@
+use Rattle.held_state.specs.declared.held.Held.{Held}
+use Rattle.std.proofs.Common.{subst, sym, ◌∙◌}
+use Rattle.store_format.proofs.Roots.{ok_of_two}
+use Rattle.store_format.proofs.formatting.format.Goals as goal
+use Rattle.store_format.specs.Pages.{HasRoots}
+
+pub returns-in-Ok-clause-roots : goal.returns-in-Ok-clause-roots
+returns-in-Ok-clause-roots g c =
+    ok_of_two _ _ _ c.open.result
+    (λ stable content held disk told. subst (λ (h : Held). HasRoots c.args.repo c.args.setup.now h.objects.pages.sides disk) (sym held) (c.in-Ok.ensures.roots disk (sym (content 2) ∙ told)))
+    c.open.ensures.content c.open.ensures.held
