@@ -61,7 +61,7 @@ first_of d (c ∷ cs) = c.1
 module _ (c : ℕ) (b : Base) (T : List Item) (committed : Ts → Bool) (kept : Kept) (e : Entry) (q : Request)
     (sd : sound b (entries (T ++ E e ∷ []))) (none : NoneAborted b (entries (T ++ E e ∷ [])) committed) (h : FitsAt c b Calm T committed kept)
     (commits : commit_of b (state b (entries T)) e ≡ (length (entries T), q) ∷ []) (idle : kept.awaits ≡ false) (settled : NoneToFinish b (entries T) kept.session committed)
-    (pages : WritesOnPages b T kept.session q) where
+    (pages : b.tells ≡ true → WritesOnPages b T kept.session q) where
   abbrev w : Session
   w = move b kept.session (state b (entries T)) (E e) h.v
 
@@ -107,16 +107,16 @@ module _ (c : ℕ) (b : Base) (T : List Item) (committed : Ts → Bool) (kept : 
       open_before cs n q Aborted Aborted e m = cc
 
   module _ (copies : Copies) (become : b.tells ≡ true → SameCopies b copies (with_writes q kept.copies)) (acked : InStep h.v → kept.upto ≡ upto_of h.v → acked_after kept.session h.v.acked (E e) ≤ upto_of h.v) where
-    page_of : (x : Oref) → has_written q x ≡ true → has h.v.pages x.page ≡ true
-    page_of x wrote = some_at (λ v. has v.pages x.page ≡ true) (session b T kept.session) h.v h.there (pages x wrote)
+    page_of : b.tells ≡ true → (x : Oref) → has_written q x ≡ true → has h.v.pages x.page ≡ true
+    page_of tells x wrote = some_at (λ v. has v.pages x.page ≡ true) (session b T kept.session) h.v h.there (pages tells x wrote)
 
     low_page : (o : Option ℕ) (n : ℕ) → is_some o ≡ true → ((p : ℕ) → o ≡ Some p → p ≤ n) → IsSomeAnd o (λ p. p ≤ n)
     low_page None n e f = cc
     low_page (Some p) n e f = f p refl
 
-    current : session_lives w ≡ true → KeepsUp b T committed h.v kept → CopiesFit b (entries T) kept.session h.v committed kept.copies
+    current : b.tells ≡ true → session_lives w ≡ true → KeepsUp b T committed h.v kept → CopiesFit b (entries T) kept.session h.v committed kept.copies
         → (x : Oref) (o : Obj) → x.repo ≡ b.repo → with_writes q kept.copies x ≡ Some o → IsCurrent b (entries (T ++ E e ∷ [])) kept.session w committed x o × (has w.pages x.page ≡ true)
-    current live k f x o here copy = by (get (written q) x) refl copy
+    current tells live k f x o here copy = by (get (written q) x) refl copy
       where
         before : session_lives h.v ≡ true
         before = was_live b kept.session (state b (entries T)) (E e) h.v live
@@ -129,7 +129,7 @@ module _ (c : ℕ) (b : Base) (T : List Item) (committed : Ts → Bool) (kept : 
 
         by : (g : Option Obj) → get (written q) x ≡ g → option_or g (kept.copies x) ≡ Some o → IsCurrent b (entries (T ++ E e ∷ [])) kept.session w committed x o × (has w.pages x.page ≡ true)
         by (Some d) g copy =
-            let page = page_of x (wrote d g) in
+            let page = page_of tells x (wrote d g) in
             let low = low_page (get h.v.pages x.page) (length (entries T)) page (λ n is. (keeps-pages b kept.session T h.v h.there before).below x.page n is) in
             (inl (length (entries T) + 1, own-right b T e kept.session h.v w q x o h.there there k.step commits (g ∙ copy) low), pages-grown b T (E e) kept.session h.v w x.page ps page)
         by None g copy =
@@ -158,7 +158,7 @@ module _ (c : ℕ) (b : Base) (T : List Item) (committed : Ts → Bool) (kept : 
             step = step-kept b T (E e) kept.session h.v w h.there there k.step refl (acked k.step k.known);
             asked = subst (λ (ms : List Notice). length ms ≤ one_if kept.awaits) (sym (no_answers live k)) (none_asked kept.awaits);
             copies = λ tells. record {
-              current = λ x o here copy. current live k (k.copies tells) x o here (sym (become tells x here) ∙ copy);
+              current = λ x o here copy. current tells live k (k.copies tells) x o here (sym (become tells x here) ∙ copy);
               own = λ x o d t p here wrote copy. absurd (none_open x d t p wrote);
               pages = news_wait b (entries (T ++ E e ∷ [])) kept.session committed (waiting w) (no_answers live k);
             };

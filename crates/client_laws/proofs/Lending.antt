@@ -2,9 +2,10 @@
 use Rattle.client_cache.specs.Copies.{Contents, kept}
 use Rattle.client_laws.proofs.Asking.{same_number}
 use Rattle.client_laws.proofs.Growing.{agrees_before, grown}
-use Rattle.client_laws.proofs.Linked.{become, outlives, tells_took}
+use Rattle.client_laws.proofs.Linked.{become, outlives_while, tells_took}
+use Rattle.client_laws.proofs.Staying.{clients_stay, is_own, lives_stands, when_live}
 use Rattle.client_laws.proofs.Working as works
-use Rattle.client_laws.specs.Fitting.{Agrees, Copies, FitsAt, HoldsNone, Kept, NoneToFinish, SameCopies}
+use Rattle.client_laws.specs.Fitting.{Agrees, Copies, FitsAt, HoldsNone, Kept, NoneToFinish, SameCopies, awaits_behind, stands}
 use Rattle.client_laws.specs.Links.{Becomes, BringsContent, FitsOrNone}
 use Rattle.client_laws.specs.Seen.{IsSeenRight, LinkAt, LinkIn}
 use Rattle.client_state.specs.Calling.{Connects, CopiesBehind, CopiesLost, CopiesRefused, CopiesStay, Draws, Fetches, Grants, is_session_of, links_asked, links_drawn, links_joined, links_refused}
@@ -34,11 +35,12 @@ use Rattle.session_outbox.proofs.Traces.{entries-append}
 use Rattle.session_outbox.specs.Calls.{next_page}
 use Rattle.session_outbox.specs.Current.{NoneAborted}
 use Rattle.session_outbox.specs.Exact.{exact}
-use Rattle.session_outbox.specs.Notices.{notice_of}
-use Rattle.session_outbox.specs.Session.{place_of}
+use Rattle.session_outbox.specs.Gaps.{client_in}
+use Rattle.session_outbox.specs.Notices.{lives, notice_of}
+use Rattle.session_outbox.specs.Session.{bound, is_news, place_of, session}
 use Rattle.session_outbox.specs.Trace.{Item, M, entries}
 use Rattle.session_outbox.specs.declared.mark.Mark.TheVariants as the
-use Rattle.std.proofs.Common.{Bool, List, [], ap, cond, false, refl, subst, sym, true, ◌+◌, ◌++◌, ◌<◌, ◌^◌, ◌∙◌, ◌∷◌, ◌≡◌, ◌≢◌, ℕ}
+use Rattle.std.proofs.Common.{Bool, List, [], ap, append_assoc, cond, false, refl, subst, sym, true, ◌+◌, ◌++◌, ◌<◌, ◌^◌, ◌∙◌, ◌∷◌, ◌≡◌, ◌≢◌, ℕ}
 use Rattle.std.proofs.lemmas.List.{append-nil}
 use Rattle.std.specs.List.{slice_get}
 use Rattle.std.specs.Prelude.{Err, None, Ok, Option, Result, Some, nat_eq, slice_set, suc, zero, ◌&&◌}
@@ -69,8 +71,14 @@ module _ (old new : View) (n : ℕ) (committed : Ts → Bool) (same : new.opened
   pub exact_now : exact (old.opened.base n) (new.seen n)
   exact_now = subst (λ (o : Opened). exact (o.base n) (new.seen n)) same seen.kept
 
-  pub agrees_now : (s : ℕ) → Agrees (old.opened.base n) (entries (new.seen n)) s committed
-  agrees_now s = subst (λ (o : Opened). Agrees (o.base n) (entries (new.seen n)) s committed) same (seen.agrees s)
+  pub none_aborted_now : NoneAborted (old.opened.base n) (entries (new.seen n)) committed
+  none_aborted_now = subst (λ (o : Opened). NoneAborted (o.base n) (entries (new.seen n)) committed) same (seen.agrees 0).kept
+
+  agrees_standing : (s : ℕ) → new.unsettled n ≡ Calm → stands (session (old.opened.base n) (new.seen n) s) ≡ true → Agrees (old.opened.base n) (entries (new.seen n)) s committed
+  agrees_standing s = subst (λ (o : Opened). new.unsettled n ≡ Calm → stands (session (o.base n) (new.seen n) s) ≡ true → Agrees (o.base n) (entries (new.seen n)) s committed) same (λ calm on. record { kept = (seen.agrees s).kept; led = (seen.agrees s).led calm on })
+
+  pub agrees_now : (s : ℕ) → new.unsettled n ≡ Calm → lives (session (old.opened.base n) (new.seen n) s) ≡ true → Agrees (old.opened.base n) (entries (new.seen n)) s committed
+  agrees_now s calm live = agrees_standing s calm (lives_stands (session (old.opened.base n) (new.seen n) s) live)
 
   pub numbered_now : (old.opened.base n).repo ≡ n
   numbered_now = subst (λ (o : Opened). (o.base n).repo ≡ n) same seen.numbered
@@ -82,7 +90,7 @@ module _ (old new : View) (n : ℕ) (committed : Ts → Bool) (same : new.opened
 pub others_fit : (old new : View) (r n : ℕ) (at : List Item) (met : Unsettled) (committed : Ts → Bool) (link : Link) (copies : Copies) → Called old new r at met → n ≢ r → IsSeenRight new n committed → LinkIn old n committed link copies → LinkIn new n committed link copies
 others_fit old new r n at met committed link copies called other seen h =
     fits_now old new n committed called.same seen (Some link) copies
-    (outlives old.opened.client (old.opened.base n) committed link copies (old.unsettled n) (new.unsettled n) (old.seen n) (new.seen n) (called.others n other) (exact_now old new n committed called.same seen) (sound_now old new n committed called.same seen) (agrees_now old new n committed called.same seen) h)
+    (outlives_while old.opened.client (old.opened.base n) committed link copies (old.unsettled n) (new.unsettled n) (old.seen n) (new.seen n) (called.others n other) (exact_now old new n committed called.same seen) (sound_now old new n committed called.same seen) (agrees_now old new n committed called.same seen) h)
 
 -- ---- the trace at the call is a front of the one behind it
 
@@ -168,13 +176,26 @@ module _ (old new : View) (r : ℕ) (committed : Ts → Bool) (at : List Item) (
   split f = ap entries f.1 ∙ entries-append at f.0
 
   -- what is kept fits the trace at the call
-  pub met_fits : Front at after → (kept' : Kept) → FitsAt c b (old.unsettled r) (old.seen r) committed kept' → FitsAt c b met at committed kept'
-  met_fits f k h =
+  pub met_standing : Front at after → (kept' : Kept) → FitsAt c b (old.unsettled r) (old.seen r) committed kept' → u ≡ Calm → stands (session b after kept'.session) ≡ true → FitsAt c b met at committed kept'
+  met_standing f k h calm on =
       let here : sound b (entries at ++ entries f.0) = subst (sound b) (split f) sd in
       grown c b committed k (old.unsettled r) met (old.seen r) at called.reached (exact-beginning b at f.0 (subst (exact b) f.1 (exact_now old new r committed called.same seen))) (sound-beginning b (entries at) (entries f.0) here)
-      (agrees_before b (entries at) (entries f.0) k.session committed here (subst (λ H. Agrees b H k.session committed) (split f) (agrees_now old new r committed called.same seen k.session))) h
+      (agrees_before b (entries at) (entries f.0) k.session committed here (subst (λ H. Agrees b H k.session committed) (split f) (agrees_standing old new r committed called.same seen k.session calm on))) h
 
-  module _ (s upto : ℕ) (waits : Waits) (before : List Link) (copies left : Contents) (there : slice_get before r ≡ Some (Joined s upto waits)) where
+  pub met_fits : Front at after → (kept' : Kept) → FitsAt c b (old.unsettled r) (old.seen r) committed kept' → u ≡ Calm → lives (session b after kept'.session) ≡ true → FitsAt c b met at committed kept'
+  met_fits f k h calm live = met_standing f k h calm (lives_stands (session b after k.session) live)
+
+  -- the session is the client's behind the call
+  pub own_now : Front at after → (kept' : Kept) → FitsAt c b (old.unsettled r) (old.seen r) committed kept' → client_in b after kept'.session ≡ Some c
+  own_now f k h =
+      let behind : after ≡ old.seen r ++ (called.reached.gap ++ f.0) = f.1 ∙ ap (λ (T : List Item). T ++ f.0) called.reached.ends ∙ append_assoc (old.seen r) called.reached.gap f.0 in
+      subst (λ (T : List Item). client_in b T k.session ≡ Some c) (sym behind) (clients_stay c b k.session (old.seen r) (called.reached.gap ++ f.0) (subst (exact b) behind (exact_now old new r committed called.same seen)) (is_own c b (old.unsettled r) (old.seen r) committed k h))
+
+  module _ (s upto : ℕ) (waits : Waits) (before : List Link) (copies left : Contents) (there : slice_get before r ≡ Some (Joined s upto waits)) (mine : client_in b after s ≡ Some c) where
+    -- while the session is live and nothing is unsettled
+    abbrev While : Type 0 → Type 0
+    While fits = u ≡ Calm → lives (session b after s) ≡ true → fits
+
     abbrev holding : Bool → Copies → Kept
     holding awaits copies' = record { session = s; upto = upto; awaits = awaits; copies = copies' }
 
@@ -243,13 +264,14 @@ module _ (old new : View) (r : ℕ) (committed : Ts → Bool) (at : List Item) (
     marked_own refused.NoMemory w n e = cc
 
     -- a repository that is down answers so
-    module _ {X : Type 0} (links_of : Result X Refusal → ℕ → List Link → List Link) (down_links : (n : ℕ) → links_of (Err (refused.Down n)) r before ≡ before) (waits_here : FitsAt c b met at committed (holding (is_reply waits) (kept copies))) where
+    module _ {X : Type 0} (links_of : Result X Refusal → ℕ → List Link → List Link) (down_links : (n : ℕ) → links_of (Err (refused.Down n)) r before ≡ before) (waits_here : While (FitsAt c b met at committed (holding (is_reply waits) (kept copies)))) where
       down_fits : (result : Result X Refusal) (m : Unsettled) → met ≡ m → IsDown r result → after ≡ at → u ≡ m → CopiesBehind result r before copies left → Then (slice_get (links_of result r before) r)
       down_fits (Ok x) m e d a k h = absurd d
       down_fits (Err (refused.Reason z)) m e d a k h = absurd d
       down_fits (Err (refused.Down n)) m e d a k h =
           subst (λ (ls : List Link). Then (slice_get ls r)) (sym (down_links n))
-          (stays_fits h (subst (λ (T : List Item). FitsAt c b u T committed (holding (is_reply waits) (kept copies))) (sym a) (subst (λ (x : Unsettled). FitsAt c b x at committed (holding (is_reply waits) (kept copies))) (e ∙ sym k) waits_here)))
+          (stays_fits h (when_live c b u after committed (holding (is_reply waits) (kept copies)) mine (λ calm live.
+          subst (λ (T : List Item). FitsAt c b u T committed (holding (is_reply waits) (kept copies))) (sym a) (subst (λ (x : Unsettled). FitsAt c b x at committed (holding (is_reply waits) (kept copies))) (e ∙ sym k) (waits_here calm live)))))
       down_fits (Err (refused.Stopped n)) m e d a k h = absurd d
       down_fits (Err (refused.Damaged n z)) m e d a k h = absurd d
       down_fits (Err refused.NoMemory) m e d a k h = absurd d
@@ -261,29 +283,32 @@ module _ (old new : View) (r : ℕ) (committed : Ts → Bool) (at : List Item) (
       answer_fits result work Halted e a h f = down_fits result Halted e a.0 a.1 a.2 h
 
     none : NoneAborted b (entries after) committed
-    none = (agrees_now old new r committed called.same seen s).kept
+    none = none_aborted_now old new r committed called.same seen
 
     -- the calls, each by its answer
-    module _ (waits_here : FitsAt c b met at committed (holding (is_reply waits) (kept copies))) where
-      calm_here : met ≡ Calm → FitsAt c b Calm at committed (holding (is_reply waits) (kept copies))
-      calm_here e = subst (λ (x : Unsettled). FitsAt c b x at committed (holding (is_reply waits) (kept copies))) e waits_here
+    module _ (waits_here : While (FitsAt c b met at committed (holding (is_reply waits) (kept copies)))) where
+      calm_here : met ≡ Calm → While (FitsAt c b Calm at committed (holding (is_reply waits) (kept copies)))
+      calm_here e calm live = subst (λ (x : Unsettled). FitsAt c b x at committed (holding (is_reply waits) (kept copies))) e (waits_here calm live)
+
+      behind_so : (awaits : Bool) → While (FitsAt c b u after committed (holding awaits (kept copies))) → FitsAt c b u after committed (holding awaits (kept copies))
+      behind_so awaits f = when_live c b u after committed (holding awaits (kept copies)) mine f
 
       idle_here : is_reply waits ≡ false → FitsAt c b Calm at committed (holding (is_reply waits) (kept copies)) → FitsAt c b Calm at committed (holding false (kept copies))
       idle_here idle h = subst (λ (t : Bool). FitsAt c b Calm at committed (holding t (kept copies))) idle h
 
-      fetch_done : (page : ℕ) → is_reply waits ≡ false → NoneToFinish b (entries after) s committed → (result : Result (Unit {0}) Refusal) → met ≡ Calm → FetchWork s page upto result b at after u → CopiesBehind result r before copies left → Then (slice_get (links_asked result r before) r)
+      fetch_done : (page : ℕ) → is_reply waits ≡ false → While (NoneToFinish b (entries after) s committed) → (result : Result (Unit {0}) Refusal) → met ≡ Calm → FetchWork s page upto result b at after u → CopiesBehind result r before copies left → Then (slice_get (links_asked result r before) r)
       fetch_done page idle settled (Ok done) calm w k =
           let same : entries after ≡ entries at = ap entries w.1.0 ∙ after-mark b at (the.Fetched s page upto) in
-          asked_fits k (works.fetched c b committed at after u (holding false (kept copies)) sd none (idle_here idle (calm_here calm)) page refl (subst (λ (H : List Entry). NoneToFinish b H s committed) same settled) w)
-      fetch_done page idle settled (Err z) calm w k = refused_fits z (unmarked_own z w) k (works.unmarked_fits c b committed at after u (holding (is_reply waits) (kept copies)) sd none (calm_here calm) z w)
+          asked_fits k (behind_so true (λ u' live. works.fetched c b committed at after u (holding false (kept copies)) sd none (idle_here idle (calm_here calm u' live)) page refl (subst (λ (H : List Entry). NoneToFinish b H s committed) same (settled u' live)) w))
+      fetch_done page idle settled (Err z) calm w k = refused_fits z (unmarked_own z w) k (behind_so (is_reply waits) (λ u' live. works.unmarked_fits c b committed at after u (holding (is_reply waits) (kept copies)) sd none (calm_here calm u' live) z w))
 
       grant_done : is_reply waits ≡ false → (result : Result (Unit {0}) Refusal) → met ≡ Calm → GrantWork s result b at after u → CopiesBehind result r before copies left → Then (slice_get (links_asked result r before) r)
-      grant_done idle (Ok done) calm w k = asked_fits k (works.granted c b committed at after u (holding false (kept copies)) sd none (idle_here idle (calm_here calm)) refl w)
-      grant_done idle (Err z) calm w k = refused_fits z (marked_own z w) k (works.marked_fits c b committed at after u (holding (is_reply waits) (kept copies)) sd none (calm_here calm) z w)
+      grant_done idle (Ok done) calm w k = asked_fits k (behind_so true (λ u' live. works.granted c b committed at after u (holding false (kept copies)) sd none (idle_here idle (calm_here calm u' live)) refl w))
+      grant_done idle (Err z) calm w k = refused_fits z (marked_own z w) k (behind_so (is_reply waits) (λ u' live. works.marked_fits c b committed at after u (holding (is_reply waits) (kept copies)) sd none (calm_here calm u' live) z w))
 
       draw_done : (floor : ℕ) (result : Result Ts Refusal) → met ≡ Calm → DrawWork s floor result b at after u → CopiesBehind result r before copies left → Then (slice_get (links_drawn result r before) r)
-      draw_done floor (Ok t) calm w k = stays_fits k (works.drawn c b committed at after u (holding (is_reply waits) (kept copies)) sd none (calm_here calm) floor t w)
-      draw_done floor (Err z) calm w k = refused_fits z (marked_own z w) k (works.marked_fits c b committed at after u (holding (is_reply waits) (kept copies)) sd none (calm_here calm) z w)
+      draw_done floor (Ok t) calm w k = stays_fits k (behind_so (is_reply waits) (λ u' live. works.drawn c b committed at after u (holding (is_reply waits) (kept copies)) sd none (calm_here calm u' live) floor t w))
+      draw_done floor (Err z) calm w k = refused_fits z (marked_own z w) k (behind_so (is_reply waits) (λ u' live. works.marked_fits c b committed at after u (holding (is_reply waits) (kept copies)) sd none (calm_here calm u' live) z w))
 
 -- ---- the calls
 
@@ -292,16 +317,18 @@ module _ (old new : View) (at : At) (upto : ℕ) (before after : List Link) (cop
   repo = at.repo
 
   pub fetched : (page : ℕ) → Fetches true old new at page upto before after copies left → IsSeenRight new at.repo committed → slice_get before at.repo ≡ Some (Joined at.session upto waits) → is_reply waits ≡ false
-      → NoneToFinish (new.opened.base at.repo) (entries (new.seen at.repo)) at.session committed → LinkIn old at.repo committed (Joined at.session upto waits) (kept copies) → LinkAt new at.repo committed (slice_get after at.repo) (kept left)
+      → (new.unsettled at.repo ≡ Calm → lives (session (new.opened.base at.repo) (new.seen at.repo) at.session) ≡ true → NoneToFinish (new.opened.base at.repo) (entries (new.seen at.repo)) at.session committed)
+      → LinkIn old at.repo committed (Joined at.session upto waits) (kept copies) → LinkAt new at.repo committed (slice_get after at.repo) (kept left)
   fetched page f seen there idle settled h =
       let d : Does old new repo f.result (FetchWork at.session page upto f.result) = f.call refl in
       let front : Front d.at (new.seen repo) = answered_front repo f.result d.met d.at (new.seen repo) (new.unsettled repo) (FetchWork at.session page upto f.result (old.opened.base repo) d.at (new.seen repo) (new.unsettled repo)) (fetch_front (old.opened.base repo) d.at (new.seen repo) (new.unsettled repo) at.session page upto f.result) d.answer in
       let here = met_fits old new repo committed d.at d.met d.called seen front (record { session = at.session; upto = upto; awaits = is_reply waits; copies = kept copies }) h in
-      let settled' : NoneToFinish (old.opened.base repo) (entries (new.seen repo)) at.session committed = subst (λ (o : Opened). NoneToFinish (o.base repo) (entries (new.seen repo)) at.session committed) d.called.same settled in
+      let mine = own_now old new repo committed d.at d.met d.called seen front (record { session = at.session; upto = upto; awaits = is_reply waits; copies = kept copies }) h in
+      let settled' : new.unsettled repo ≡ Calm → lives (session (old.opened.base repo) (new.seen repo) at.session) ≡ true → NoneToFinish (old.opened.base repo) (entries (new.seen repo)) at.session committed = subst (λ (o : Opened). new.unsettled repo ≡ Calm → lives (session (o.base repo) (new.seen repo) at.session) ≡ true → NoneToFinish (o.base repo) (entries (new.seen repo)) at.session committed) d.called.same settled in
       fits_now old new repo committed d.called.same seen (slice_get after repo) (kept left)
       (subst (λ (ls : List Link). LinkAt (record new { opened = old.opened }) repo committed (slice_get ls repo) (kept left)) (sym f.links)
-      (answer_fits old new repo committed d.at d.met d.called seen at.session upto waits before copies left there links_asked (λ n. refl) here f.result (FetchWork at.session page upto f.result (old.opened.base repo) d.at (new.seen repo) (new.unsettled repo)) d.met refl d.answer f.kept_so
-      (λ calm work. fetch_done old new repo committed d.at d.met d.called seen at.session upto waits before copies left there here page idle settled' f.result calm work f.kept_so)))
+      (answer_fits old new repo committed d.at d.met d.called seen at.session upto waits before copies left there mine links_asked (λ n. refl) here f.result (FetchWork at.session page upto f.result (old.opened.base repo) d.at (new.seen repo) (new.unsettled repo)) d.met refl d.answer f.kept_so
+      (λ calm work. fetch_done old new repo committed d.at d.met d.called seen at.session upto waits before copies left there mine here page idle settled' f.result calm work f.kept_so)))
 
   pub granted : Grants true old new at before after copies left → IsSeenRight new at.repo committed → slice_get before at.repo ≡ Some (Joined at.session upto waits) → is_reply waits ≡ false
       → LinkIn old at.repo committed (Joined at.session upto waits) (kept copies) → LinkAt new at.repo committed (slice_get after at.repo) (kept left)
@@ -309,10 +336,11 @@ module _ (old new : View) (at : At) (upto : ℕ) (before after : List Link) (cop
       let d : Does old new repo f.result (GrantWork at.session f.result) = f.call refl in
       let front : Front d.at (new.seen repo) = answered_front repo f.result d.met d.at (new.seen repo) (new.unsettled repo) (GrantWork at.session f.result (old.opened.base repo) d.at (new.seen repo) (new.unsettled repo)) (grant_front (old.opened.base repo) d.at (new.seen repo) (new.unsettled repo) at.session f.result) d.answer in
       let here = met_fits old new repo committed d.at d.met d.called seen front (record { session = at.session; upto = upto; awaits = is_reply waits; copies = kept copies }) h in
+      let mine = own_now old new repo committed d.at d.met d.called seen front (record { session = at.session; upto = upto; awaits = is_reply waits; copies = kept copies }) h in
       fits_now old new repo committed d.called.same seen (slice_get after repo) (kept left)
       (subst (λ (ls : List Link). LinkAt (record new { opened = old.opened }) repo committed (slice_get ls repo) (kept left)) (sym f.links)
-      (answer_fits old new repo committed d.at d.met d.called seen at.session upto waits before copies left there links_asked (λ n. refl) here f.result (GrantWork at.session f.result (old.opened.base repo) d.at (new.seen repo) (new.unsettled repo)) d.met refl d.answer f.kept_so
-      (λ calm work. grant_done old new repo committed d.at d.met d.called seen at.session upto waits before copies left there here idle f.result calm work f.kept_so)))
+      (answer_fits old new repo committed d.at d.met d.called seen at.session upto waits before copies left there mine links_asked (λ n. refl) here f.result (GrantWork at.session f.result (old.opened.base repo) d.at (new.seen repo) (new.unsettled repo)) d.met refl d.answer f.kept_so
+      (λ calm work. grant_done old new repo committed d.at d.met d.called seen at.session upto waits before copies left there mine here idle f.result calm work f.kept_so)))
 
   pub drew : (answer : Result Drew NoMemory) → Draws true old new at answer before after copies left → IsSeenRight new at.repo committed → slice_get before at.repo ≡ Some (Joined at.session upto waits)
       → LinkIn old at.repo committed (Joined at.session upto waits) (kept copies) → LinkAt new at.repo committed (slice_get after at.repo) (kept left)
@@ -320,10 +348,11 @@ module _ (old new : View) (at : At) (upto : ℕ) (before after : List Link) (cop
       let d : Does old new repo f.result (DrawWork at.session f.floor f.result) = f.call refl in
       let front : Front d.at (new.seen repo) = answered_front repo f.result d.met d.at (new.seen repo) (new.unsettled repo) (DrawWork at.session f.floor f.result (old.opened.base repo) d.at (new.seen repo) (new.unsettled repo)) (draw_front (old.opened.base repo) d.at (new.seen repo) (new.unsettled repo) at.session f.floor f.result) d.answer in
       let here = met_fits old new repo committed d.at d.met d.called seen front (record { session = at.session; upto = upto; awaits = is_reply waits; copies = kept copies }) h in
+      let mine = own_now old new repo committed d.at d.met d.called seen front (record { session = at.session; upto = upto; awaits = is_reply waits; copies = kept copies }) h in
       fits_now old new repo committed d.called.same seen (slice_get after repo) (kept left)
       (subst (λ (ls : List Link). LinkAt (record new { opened = old.opened }) repo committed (slice_get ls repo) (kept left)) (sym f.links)
-      (answer_fits old new repo committed d.at d.met d.called seen at.session upto waits before copies left there links_drawn (λ n. refl) here f.result (DrawWork at.session f.floor f.result (old.opened.base repo) d.at (new.seen repo) (new.unsettled repo)) d.met refl d.answer f.kept_so
-      (λ calm work. draw_done old new repo committed d.at d.met d.called seen at.session upto waits before copies left there here f.floor f.result calm work f.kept_so)))
+      (answer_fits old new repo committed d.at d.met d.called seen at.session upto waits before copies left there mine links_drawn (λ n. refl) here f.result (DrawWork at.session f.floor f.result (old.opened.base repo) d.at (new.seen repo) (new.unsettled repo)) d.met refl d.answer f.kept_so
+      (λ calm work. draw_done old new repo committed d.at d.met d.called seen at.session upto waits before copies left there mine here f.floor f.result calm work f.kept_so)))
 
 -- a client that is apart
 module _ (old new : View) (repo : ℕ) (before : List Link) (copies : Copies) (committed : Ts → Bool) (there : slice_get before repo ≡ Some Apart) (none : LinkIn old repo committed Apart copies) where
@@ -363,41 +392,48 @@ module _ (old new : View) (r s upto : ℕ) (waits : Waits) (committed : Ts → B
   Behind link left = LinkAt (record new { opened = old.opened }) r committed (Some link) left
 
   module _ (at : List Item) (met : Unsettled) (called : Called old new r at met) (front : Front at (new.seen r)) where
-    here : FitsAt old.opened.client base met at committed keeping
+    abbrev WhileLive : Type 0 → Type 0
+    WhileLive fits = new.unsettled r ≡ Calm → lives (session base (new.seen r) s) ≡ true → fits
+
+    here : WhileLive (FitsAt old.opened.client base met at committed keeping)
     here = met_fits old new r committed at met called seen front keeping h
+
+    -- what fits while the session is live fits
+    so : (upto' : ℕ) (awaits : Bool) (left : Copies) → WhileLive (FitsAt old.opened.client base (new.unsettled r) (new.seen r) committed (record { session = s; upto = upto'; awaits = awaits; copies = left })) → FitsAt old.opened.client base (new.unsettled r) (new.seen r) committed (record { session = s; upto = upto'; awaits = awaits; copies = left })
+    so upto' awaits left f = when_live old.opened.client base (new.unsettled r) (new.seen r) committed (record { session = s; upto = upto'; awaits = awaits; copies = left }) (own_now old new r committed at met called seen front keeping h) f
 
     there_sound : sound base (entries (new.seen r))
     there_sound = sound_now old new r committed called.same seen
 
     there_none : NoneAborted base (entries (new.seen r)) committed
-    there_none = (agrees_now old new r committed called.same seen s).kept
+    there_none = none_aborted_now old new r committed called.same seen
 
     -- what was met stays
     stays : (m : Unsettled) → met ≡ m → new.seen r ≡ at → new.unsettled r ≡ m → Behind (Joined s upto waits) copies
-    stays m e a k = subst (λ (T : List Item). FitsAt old.opened.client base (new.unsettled r) T committed keeping) (sym a) (subst (λ (x : Unsettled). FitsAt old.opened.client base x at committed keeping) (e ∙ sym k) here)
+    stays m e a k = so upto (is_reply waits) copies (λ calm live. subst (λ (T : List Item). FitsAt old.opened.client base (new.unsettled r) T committed keeping) (sym a) (subst (λ (x : Unsettled). FitsAt old.opened.client base x at committed keeping) (e ∙ sym k) (here calm live)))
 
-    calm_here' : met ≡ Calm → FitsAt old.opened.client base Calm at committed keeping
-    calm_here' e = subst (λ (x : Unsettled). FitsAt old.opened.client base x at committed keeping) e here
+    calm_here' : met ≡ Calm → WhileLive (FitsAt old.opened.client base Calm at committed keeping)
+    calm_here' e calm live = subst (λ (x : Unsettled). FitsAt old.opened.client base x at committed keeping) e (here calm live)
 
     none_done : (m : Unsettled) → met ≡ m → Answered {X = Option Message} r (Ok None) m at (new.seen r) (new.unsettled r) (ReceiveWork s (Ok None) base at (new.seen r) (new.unsettled r)) → Behind (Joined s upto waits) copies
-    none_done Calm e w = works.none_came old.opened.client base committed at (new.seen r) (new.unsettled r) keeping there_sound there_none (calm_here' e) w
+    none_done Calm e w = so upto (is_reply waits) copies (λ calm live. works.none_came old.opened.client base committed at (new.seen r) (new.unsettled r) keeping there_sound there_none (calm_here' e calm live) w)
     none_done (MayCome d) e w = absurd w.0
     none_done Came e w = absurd w.0
     none_done Halted e w = absurd w.0
 
     refused_done : (z : Refusal) (m : Unsettled) → met ≡ m → Answered {X = Option Message} r (Err z) m at (new.seen r) (new.unsettled r) (ReceiveWork s (Err z) base at (new.seen r) (new.unsettled r)) → Behind (Joined s upto waits) copies
-    refused_done z Calm e w = works.unmarked_fits old.opened.client base committed at (new.seen r) (new.unsettled r) keeping there_sound there_none (calm_here' e) z w
+    refused_done z Calm e w = so upto (is_reply waits) copies (λ calm live. works.unmarked_fits old.opened.client base committed at (new.seen r) (new.unsettled r) keeping there_sound there_none (calm_here' e calm live) z w)
     refused_done z (MayCome d) e w = stays (MayCome d) e w.1 w.2
     refused_done z Came e w = stays Came e w.1 w.2
     refused_done z Halted e w = stays Halted e w.1 w.2
 
-    module _ (m : Message) (objects : ℕ → Option Obj) (left : Copies) (top : place_of (notice_of m) + 1 < 2 ^ 64) (content : BringsContent base (entries (new.seen r)) objects m) (be : Becomes base.repo objects m copies left) where
+    module _ (m : Message) (objects : ℕ → Option Obj) (left : Copies) (top : is_news (notice_of m) ≡ true → place_of (notice_of m) + 1 < 2 ^ 64) (content : base.tells ≡ true → BringsContent base (entries (new.seen r)) objects m) (be : Becomes base.repo objects m copies left) where
       message_done : (x : Unsettled) → met ≡ x → Answered {X = Option Message} r (Ok (Some m)) x at (new.seen r) (new.unsettled r) (ReceiveWork s (Ok (Some m)) base at (new.seen r) (new.unsettled r)) → Behind (took m (Joined s upto waits)) left
       message_done Calm e w =
           let same : entries (new.seen r) ≡ entries at = ap entries w.2.0 ∙ after-mark base at (the.Took s (place_of (notice_of m))) in
-          let content' : BringsContent base (entries at) objects m = subst (λ (H : List Entry). BringsContent base H objects m) same content in
+          let content' : base.tells ≡ true → BringsContent base (entries at) objects m = λ tells. subst (λ (H : List Entry). BringsContent base H objects m) same (content tells) in
           subst (FitsOrNone old.opened.client base (new.unsettled r) (new.seen r) committed left) (sym (tells_took m s upto waits left top))
-          (works.received old.opened.client base committed at (new.seen r) (new.unsettled r) keeping there_sound there_none (calm_here' e) m left (λ _. become base (entries at) objects m copies left content' be) w)
+          (so (bound (notice_of m)) (awaits_behind (notice_of m) (is_reply waits)) left (λ calm live. works.received old.opened.client base committed at (new.seen r) (new.unsettled r) keeping there_sound there_none (calm_here' e calm live) m left (λ tells. become base (entries at) objects m copies left (content' tells) be) w))
       message_done (MayCome d) e w = absurd w.0
       message_done Came e w = absurd w.0
       message_done Halted e w = absurd w.0
@@ -420,11 +456,11 @@ module _ (old new : View) (at : At) (upto : ℕ) (waits : Waits) (committed : Ts
   pub received_refused : (z : Refusal) → Does {X = Option Message} old new at.repo (Err z) (ReceiveWork at.session (Err z)) → IsSeenRight new at.repo committed → LinkIn old at.repo committed (Joined at.session upto waits) copies → LinkIn new at.repo committed (Joined at.session upto waits) copies
   received_refused z d seen h = fits_now old new at.repo committed d.called.same seen (Some (Joined at.session upto waits)) copies (refused_done old new at.repo at.session upto waits committed copies seen h d.at d.met d.called (front_of old new at (Err z) d) z d.met refl d.answer)
 
-  pub received_message : (m : Message) (objects : ℕ → Option Obj) (left : Copies) → Does {X = Option Message} old new at.repo (Ok (Some m)) (ReceiveWork at.session (Ok (Some m))) → IsSeenRight new at.repo committed → place_of (notice_of m) + 1 < 2 ^ 64
-      → BringsContent (new.opened.base at.repo) (entries (new.seen at.repo)) objects m → Becomes at.repo objects m copies left → LinkIn old at.repo committed (Joined at.session upto waits) copies → LinkIn new at.repo committed (took m (Joined at.session upto waits)) left
+  pub received_message : (m : Message) (objects : ℕ → Option Obj) (left : Copies) → Does {X = Option Message} old new at.repo (Ok (Some m)) (ReceiveWork at.session (Ok (Some m))) → IsSeenRight new at.repo committed → (is_news (notice_of m) ≡ true → place_of (notice_of m) + 1 < 2 ^ 64)
+      → ((new.opened.base at.repo).tells ≡ true → BringsContent (new.opened.base at.repo) (entries (new.seen at.repo)) objects m) → Becomes at.repo objects m copies left → LinkIn old at.repo committed (Joined at.session upto waits) copies → LinkIn new at.repo committed (took m (Joined at.session upto waits)) left
   received_message m objects left d seen top content be h =
       let same = d.called.same in
-      let content' : BringsContent (old.opened.base at.repo) (entries (new.seen at.repo)) objects m = subst (λ (o : Opened). BringsContent (o.base at.repo) (entries (new.seen at.repo)) objects m) same content in
+      let content' : (old.opened.base at.repo).tells ≡ true → BringsContent (old.opened.base at.repo) (entries (new.seen at.repo)) objects m = subst (λ (o : Opened). (o.base at.repo).tells ≡ true → BringsContent (o.base at.repo) (entries (new.seen at.repo)) objects m) same content in
       let be' : Becomes (old.opened.base at.repo).repo objects m copies left = subst (λ (n : ℕ). Becomes n objects m copies left) (sym (numbered_now old new at.repo committed same seen)) be in
       fits_now old new at.repo committed same seen (Some (took m (Joined at.session upto waits))) left
       (message_done old new at.repo at.session upto waits committed copies seen h d.at d.met d.called (front_of old new at (Ok (Some m)) d) m objects left top content' be' d.met refl d.answer)

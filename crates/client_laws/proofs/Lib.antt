@@ -17,10 +17,11 @@ pub mod OwnVerdicts
 pub mod Passing
 mod Places
 pub mod Quiet
-mod Reasons
+pub mod Reasons
 pub mod Resting
 pub mod Sending
 pub mod Showing
+pub mod Staying
 pub mod Stepping
 pub mod Taking
 pub mod Telling

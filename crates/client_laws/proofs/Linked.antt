@@ -1,7 +1,8 @@
 -- Links and copies of the running client, and what the laws say of what is kept.
 use Rattle.client_cache.specs.Pages.{on, page_of, same_name, same_page}
 use Rattle.client_laws.proofs.Growing.{grown}
-use Rattle.client_laws.specs.Fitting.{Agrees, Copies, SameCopies, awaits_behind, behind_message}
+use Rattle.client_laws.proofs.Staying.{clients_stay, is_own, when_live}
+use Rattle.client_laws.specs.Fitting.{Agrees, Copies, Kept, SameCopies, awaits_behind, behind_message}
 use Rattle.client_laws.specs.Links.{Becomes, BringsContent, LinkFits, kept_by}
 use Rattle.client_state.specs.Learning.{without_session}
 use Rattle.client_state.specs.Links.{is_reply}
@@ -17,11 +18,12 @@ use Rattle.message_outbox.specs.declared.message.Message.TheVariants.{Grant, Inv
 use Rattle.message_outbox.specs.declared.message.Message.{Message}
 use Rattle.port.specs.Growing.{Grew}
 use Rattle.port.specs.Views as views
-use Rattle.session_outbox.specs.Notices.{notice_of}
 use Rattle.session_outbox.specs.Exact.{exact}
-use Rattle.session_outbox.specs.Session.{bound, place_of}
+use Rattle.session_outbox.specs.Gaps.{client_in}
+use Rattle.session_outbox.specs.Notices.{lives, notice_of}
+use Rattle.session_outbox.specs.Session.{bound, is_news, place_of, session}
 use Rattle.session_outbox.specs.Trace.{Item, entries}
-use Rattle.std.proofs.Common.{Bool, List, [], ap, arith, cond, false, is_eq, refl, sym, true, ◌+◌, ◌<◌, ◌^◌, ◌∙◌, ◌∷◌, ◌≡◌, ℕ}
+use Rattle.std.proofs.Common.{Bool, List, [], ap, arith, cond, false, is_eq, refl, subst, sym, true, ◌+◌, ◌<◌, ◌^◌, ◌∙◌, ◌∷◌, ◌≡◌, ℕ}
 use Rattle.std.proofs.lemmas.Bool.Decides.{nat_tests}
 use Rattle.std.proofs.lemmas.Bool.{eqb-true}
 use Rattle.std.proofs.lemmas.Map.Views.{tells_apart}
@@ -40,7 +42,7 @@ use Rattle.thor_value.specs.declared.values.Obj.{Obj}
 below_top : (n : ℕ) → n + 1 < 2 ^ 64 → behind n ≡ n + 1
 below_top n h = omega arith
 
-pub tells_took : (m : Message) (s upto : ℕ) (waits : Waits) (copies : Copies) → place_of (notice_of m) + 1 < 2 ^ 64
+pub tells_took : (m : Message) (s upto : ℕ) (waits : Waits) (copies : Copies) → (is_news (notice_of m) ≡ true → place_of (notice_of m) + 1 < 2 ^ 64)
     → kept_by (took m (Joined s upto waits)) copies ≡ Some (record { session = s; upto = bound (notice_of m); awaits = awaits_behind (notice_of m) (is_reply waits); copies = copies })
 tells_took (Page page bytes k) s upto Idle copies h = refl
 tells_took (Page page bytes k) s upto Reply copies h = refl
@@ -50,8 +52,8 @@ tells_took (Grant page k) s upto Idle copies h = refl
 tells_took (Grant page k) s upto Reply copies h = refl
 tells_took (Grant page k) s upto (Past place) copies h = refl
 tells_took (Grant page k) s upto (Epoch n) copies h = refl
-tells_took (Invalid names k) s upto waits copies h = ap (λ (n : ℕ). Some (record { session = s; upto = n; awaits = is_reply waits; copies = copies })) (below_top k h)
-tells_took (Upgrade number text k) s upto waits copies h = ap (λ (n : ℕ). Some (record { session = s; upto = n; awaits = is_reply waits; copies = copies })) (below_top k h)
+tells_took (Invalid names k) s upto waits copies h = ap (λ (n : ℕ). Some (record { session = s; upto = n; awaits = is_reply waits; copies = copies })) (below_top k (h refl))
+tells_took (Upgrade number text k) s upto waits copies h = ap (λ (n : ℕ). Some (record { session = s; upto = n; awaits = is_reply waits; copies = copies })) (below_top k (h refl))
 
 same_number : (n : ℕ) → nat_eq n n ≡ true
 same_number n = grind (arith, nat_tests)
@@ -59,11 +61,19 @@ same_number n = grind (arith, nat_tests)
 pub tells_gone : (s upto : ℕ) (waits : Waits) (copies : Copies) → kept_by (without_session s (Joined s upto waits)) copies ≡ None
 tells_gone s upto waits copies = ap (λ (t : Bool). kept_by (cond t Apart (Joined s upto waits)) copies) (same_number s)
 
+-- what others do leaves it so, too, where nothing is asked of a session that isn't live
+pub outlives_while : (c : ℕ) (b : Base) (committed : Ts → Bool) (link : Link) (copies : Copies) (u w : views.Unsettled) (T S : List Item) → Grew b c u T w S → exact b S → sound b (entries S) → ((s : ℕ) → w ≡ views.Calm → lives (session b S s) ≡ true → Agrees b (entries S) s committed)
+    → LinkFits c b u T committed link copies → LinkFits c b w S committed link copies
+outlives_while c b committed Apart copies u w T S g k sd a h = h
+outlives_while c b committed (Joined s upto waits) copies u w T S g k sd a h =
+    let kept : Kept = record { session = s; upto = upto; awaits = is_reply waits; copies = copies } in
+    let mine : client_in b S s ≡ Some c = subst (λ (R : List Item). client_in b R s ≡ Some c) (sym g.ends) (clients_stay c b s T g.gap (subst (exact b) g.ends k) (is_own c b u T committed kept h)) in
+    when_live c b w S committed kept mine (λ calm live. grown c b committed kept u w T S g k sd (a s calm live) h)
+outlives_while c b committed (Unsettled sent index) copies u w T S g k sd a h = h
+
 pub outlives : (c : ℕ) (b : Base) (committed : Ts → Bool) (link : Link) (copies : Copies) (u w : views.Unsettled) (T S : List Item) → Grew b c u T w S → exact b S → sound b (entries S) → ((s : ℕ) → Agrees b (entries S) s committed)
     → LinkFits c b u T committed link copies → LinkFits c b w S committed link copies
-outlives c b committed Apart copies u w T S g k sd a h = h
-outlives c b committed (Joined s upto waits) copies u w T S g k sd a h = grown c b committed (record { session = s; upto = upto; awaits = is_reply waits; copies = copies }) u w T S g k sd (a s) h
-outlives c b committed (Unsettled sent index) copies u w T S g k sd a h = h
+outlives c b committed link copies u w T S g k sd a h = outlives_while c b committed link copies u w T S g k sd (λ s calm live. a s) h
 
 -- ---- copies
 
@@ -95,7 +105,7 @@ equal_itself : (x : Oref) → same_oref x x ≡ true
 equal_itself x = ap is_eq (tied_itself oref_total x)
 
 -- the two tests of names are one
-named_at : (x y : Oref) → same_name y x ≡ same_oref x y
+pub named_at : (x y : Oref) → same_name y x ≡ same_oref x y
 named_at x y = by (same_name y x) (same_oref x y) refl refl
   where
     by : (a b : Bool) → same_name y x ≡ a → same_oref x y ≡ b → a ≡ b
@@ -109,11 +119,11 @@ named [] x = refl
 named (y ∷ ys) x = ap (λ (t : Bool). t || list_any (λ y. same_name y x) ys) (named_at x y) ∙ ap (λ (t : Bool). same_oref x y || t) (named ys x)
 
 pub become : (b : Base) (H : List Entry) (objects : ℕ → Option Obj) (m : Message) (old new : Copies) → BringsContent b H objects m → Becomes b.repo objects m old new → SameCopies b new (behind_message b H (notice_of m) old)
-become b H objects (Page page bytes k) old new content be x here = be x ∙ ap (λ (t : Bool). cond t (objects x.slot) (old x)) (on_page b.repo page x here) ∙ by (nat_eq x.page page) refl
+become b H objects (Page page bytes k) old new content be x here = be x here ∙ ap (λ (t : Bool). cond t (objects x.slot) (old x)) (on_page b.repo page x here) ∙ by (nat_eq x.page page) refl
   where
     by : (t : Bool) → nat_eq x.page page ≡ t → cond t (objects x.slot) (old x) ≡ cond t (get (objects_at b H k) x) (old x)
     by true e = content x here (eqb-true x.page page e)
     by false e = refl
-become b H objects (Grant page k) old new content be x here = be x ∙ ap (λ (t : Bool). cond t None (old x)) (on_page b.repo page x here)
-become b H objects (Invalid names k) old new content be x here = be x ∙ ap (λ (t : Bool). cond t None (old x)) (named names x)
-become b H objects (Upgrade number text k) old new content be x here = be x
+become b H objects (Grant page k) old new content be x here = be x here ∙ ap (λ (t : Bool). cond t None (old x)) (on_page b.repo page x here)
+become b H objects (Invalid names k) old new content be x here = be x here ∙ ap (λ (t : Bool). cond t None (old x)) (named names x)
+become b H objects (Upgrade number text k) old new content be x here = be x here

@@ -5,6 +5,7 @@ use Rattle.commit_log.specs.declared.request.Request.{Request}
 use Rattle.client_laws.proofs.Leaving.{HasCalled, Left, acts, behind_call, is_such, seen_right}
 use Rattle.client_laws.proofs.Other.{asked}
 use Rattle.client_laws.proofs.Passing.{after_entry, was_live, was_open}
+use Rattle.client_laws.proofs.Staying.{clients_stay}
 use Rattle.client_laws.proofs.Telling.{client_stays, of_client, unbegun}
 use Rattle.client_laws.proofs.UncommittedCalls.{acted}
 use Rattle.port.specs.Acting.{Acts}
@@ -104,13 +105,6 @@ module _ (c : ℕ) (b : Base) (s : ℕ) where
   ends : (T : List Item) (n : ℕ) → ItemIsExact b T (E (Life n)) → client_in b T s ≡ Some c → lives (session b (T ++ E (Life n) ∷ []) s) ≡ true → ⊥
   ends T n k mine live = let y = lived T (E (Life n)) k mine live in let f : false ≡ true = (move-lives b s (state b (entries T)) (E (Life n)) y.0 y.2).1 in cc
 
-  pub clients_stay : (T is : List Item) → exact b (T ++ is) → client_in b T s ≡ Some c → client_in b (T ++ is) s ≡ Some c
-  clients_stay T [] k mine = subst (λ (S : List Item). client_in b S s ≡ Some c) (sym (append-nil T)) mine
-  clients_stay T (i ∷ is) k mine =
-      let again : (T ++ i ∷ []) ++ is ≡ T ++ (i ∷ is) = append_assoc T (i ∷ []) is in
-      let k' : exact b ((T ++ i ∷ []) ++ is) = subst (exact b) (sym again) k in
-      subst (λ (S : List Item). client_in b S s ≡ Some c) again (clients_stay (T ++ i ∷ []) is k' (client_stays c b T i s (exact-owed b T i (exact-beginning b (T ++ i ∷ []) is k')) mine))
-
   -- ---- growth
 
   -- nothing is unsettled, the session is live, and t stands so
@@ -168,7 +162,7 @@ module _ (c : ℕ) (b : Base) (s : ℕ) where
   grown_back T S u w t g k sd mine was = all_back T g.gap u w t g.gains (subst (exact b) g.ends k) (subst (λ (Z : List Item). sound b (entries Z)) g.ends sd) mine (subst (λ (Z : List Item). Was w Z t) g.ends was)
 
   pub grown_client : (T S : List Item) (u w : Unsettled) → Grew b c u T w S → exact b S → client_in b T s ≡ Some c → client_in b S s ≡ Some c
-  grown_client T S u w g k mine = subst (λ (Z : List Item). client_in b Z s ≡ Some c) (sym g.ends) (clients_stay T g.gap (subst (exact b) g.ends k) mine)
+  grown_client T S u w g k mine = subst (λ (Z : List Item). client_in b Z s ≡ Some c) (sym g.ends) (clients_stay c b s T g.gap (subst (exact b) g.ends k) mine)
 
   -- behind what a call left
   left_back : (at after : List Item) (met u : Unsettled) (t : Ts) → Left (concerns t) met at after u → exact b after → sound b (entries after) → client_in b at s ≡ Some c → Was u after t → Was met at t

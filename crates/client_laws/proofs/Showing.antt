@@ -31,7 +31,7 @@ some_and None P h = absurd h
 some_and (Some w) P h = (w, refl, h)
 
 -- the trace has the entry between these two parts
-abbrev Has : List Item → Entry → Type 0
+abbrev pub Has : List Item → Entry → Type 0
 Has T e = (x : List Item) × (y : List Item) × (T ≡ x ++ E e ∷ y)
 
 later : (T more : List Item) (e : Entry) → Has T e → Has (T ++ more) e
@@ -42,7 +42,7 @@ at_place T e h = (length (entries h.0), ap (λ (U : List Item). slice_get (entri
 
 -- ---- what was prepared
 
-abbrev Found : Ts → List Item → Request → Type 0
+abbrev pub Found : Ts → List Item → Request → Type 0
 Found t T p = Has T (Prepared p) × (p.tx ≡ t)
 
 behind_one : (t : Ts) (i : Item) (T : List Item) (p : Request) → Found t T p → Found t (i ∷ T) p
@@ -83,7 +83,7 @@ first_found t F p e = elim (found t None F p e) [
   | inr z ↦ z
 ]
 
-in_front : (t : Ts) (T F rest : List Item) (p : Request) → F ++ rest ≡ T → prepared t F ≡ Some p → Found t T p
+pub in_front : (t : Ts) (T F rest : List Item) (p : Request) → F ++ rest ≡ T → prepared t F ≡ Some p → Found t T p
 in_front t T F rest p e h = let z = first_found t F p h in subst (λ (U : List Item). Found t U p) e (later F rest (Prepared p) z.0, z.1)
 
 -- ---- several repositories

@@ -1,7 +1,7 @@
 -- What a call leaves of a client's links.
 use Rattle.client_laws.proofs.Elsewhere.{elsewhere_fit}
 use Rattle.client_laws.proofs.Lending.{agrees_now, exact_now, fits_now, same_copies, sound_now}
-use Rattle.client_laws.proofs.Linked.{outlives}
+use Rattle.client_laws.proofs.Linked.{outlives_while}
 use Rattle.client_laws.specs.Fitting.{Copies, SameCopies}
 use Rattle.client_laws.specs.Seen.{LinkAt, LinkIn, called_at}
 use Rattle.client_laws.specs.Steps.{AllSeenRight, LinksFit, OthersStay}
@@ -86,4 +86,4 @@ waiting_fits old new committed links copies same grew seen fit = record { each =
     by r within (Some link) h =
         let right = seen.each r within in
         fits_now old new r committed same right (Some link) copies
-        (outlives old.opened.client (old.opened.base r) committed link copies (old.unsettled r) (new.unsettled r) (old.seen r) (new.seen r) (grew r (within_old r within)) (exact_now old new r committed same right) (sound_now old new r committed same right) (agrees_now old new r committed same right) h)
+        (outlives_while old.opened.client (old.opened.base r) committed link copies (old.unsettled r) (new.unsettled r) (old.seen r) (new.seen r) (grew r (within_old r within)) (exact_now old new r committed same right) (sound_now old new r committed same right) (agrees_now old new r committed same right) h)

@@ -4,7 +4,7 @@ use Rattle.client_laws.proofs.Handing.{link_asked, link_committed, link_finished
 use Rattle.client_laws.proofs.Learned.{commit_learned, prepare_learned}
 use Rattle.client_laws.proofs.Lending.{changes_here, connected, drew, fetched, granted, received_message, received_none, received_refused}
 use Rattle.client_laws.proofs.Stepping.{all_fit}
-use Rattle.client_laws.specs.Fitting.{Copies, NoneToFinish, SameCopies, WritesOnPages, with_writes}
+use Rattle.client_laws.specs.Fitting.{Copies, FitsAt, NoneToFinish, SameCopies, WritesOnPages, with_writes}
 use Rattle.client_laws.specs.Links.{Becomes, BringsContent}
 use Rattle.client_laws.specs.Seen.{IsSeenRight, LinkAt, LinkIn, called_at}
 use Rattle.client_laws.specs.Steps.{AllSeenRight, LinksFit, OthersStay}
@@ -24,11 +24,11 @@ use Rattle.message_outbox.specs.declared.answers.Verdict.{Verdict}
 use Rattle.message_outbox.specs.declared.answers.Welcome.{Welcome}
 use Rattle.message_outbox.specs.declared.message.Message.{Message}
 use Rattle.port.specs.Acting.{Acts, Asked, Committed, Connected, Decided, Drew as drew_so, Fetched, Finished, Forgot, Granted, Prepared, Received}
-use Rattle.port.specs.Views.{View}
+use Rattle.port.specs.Views.{Calm, View}
 use Rattle.port.specs.Works.{AskWork, CommitWork, DecideWork, Does, FinishWork, ForgetWork, PrepareWork, ReceiveWork}
 use Rattle.refusal_reasons.specs.declared.reason.Reason.TheVariants as reasons
-use Rattle.session_outbox.specs.Notices.{notice_of}
-use Rattle.session_outbox.specs.Session.{place_of}
+use Rattle.session_outbox.specs.Notices.{lives, notice_of}
+use Rattle.session_outbox.specs.Session.{is_news, place_of, session}
 use Rattle.session_outbox.specs.Trace.{entries}
 use Rattle.std.proofs.Common.{Bool, List, [], ap, arith, cond, false, refl, subst, suc, sym, true, zero, ◌+◌, ◌<◌, ◌^◌, ◌∙◌, ◌∷◌, ◌≡◌, ◌≢◌, ℕ}
 use Rattle.std.proofs.lemmas.Bool.Decides.{nat_tests}
@@ -161,14 +161,14 @@ connect_all old new repo before after copies committed f seen there fit =
     (Connected repo old.opened.client f.result (f.call refl)) refl (λ right h. connected old new repo before after copies committed f right there (link_there old repo committed before copies Apart there h))
 
 pub fetch_inside : (old new : View) (at : At) (page upto : ℕ) (before after : List Link) (copies left : Contents) (waits : Waits) (committed : Ts → Bool) → Fetches true old new at page upto before after copies left → AllSeenRight new committed
-    → slice_get before at.repo ≡ Some (Joined at.session upto waits) → (at.repo < new.opened.repos → is_reply waits ≡ false) → NoneToFinish (new.opened.base at.repo) (entries (new.seen at.repo)) at.session committed → LinksFit old committed before (kept copies) → LinksFit new committed after (kept left)
+    → slice_get before at.repo ≡ Some (Joined at.session upto waits) → (at.repo < new.opened.repos → is_reply waits ≡ false) → (at.repo < new.opened.repos → new.unsettled at.repo ≡ Calm → lives (session (new.opened.base at.repo) (new.seen at.repo) at.session) ≡ true → NoneToFinish (new.opened.base at.repo) (entries (new.seen at.repo)) at.session committed) → LinksFit old committed before (kept copies) → LinksFit new committed after (kept left)
 fetch_inside old new at page upto before after copies left waits committed f seen there idle settled fit =
     all_inside old new at.repo committed before after (kept copies) (kept left) seen (λ n other. ap (λ (ls : List Link). slice_get ls n) f.links ∙ asked_other at.repo before f.result n other) (λ x away. behind_other at.repo before copies left x away f.result f.kept_so) fit
-    (Fetched at.repo at.session page upto f.result (f.call refl)) refl (λ inside right h. fetched old new at upto before after copies left waits committed page f right there (idle inside) settled (link_there old at.repo committed before (kept copies) (Joined at.session upto waits) there h))
+    (Fetched at.repo at.session page upto f.result (f.call refl)) refl (λ inside right h. fetched old new at upto before after copies left waits committed page f right there (idle inside) (settled inside) (link_there old at.repo committed before (kept copies) (Joined at.session upto waits) there h))
 
 pub fetch_all : (old new : View) (at : At) (page upto : ℕ) (before after : List Link) (copies left : Contents) (waits : Waits) (committed : Ts → Bool) → Fetches true old new at page upto before after copies left → AllSeenRight new committed
     → slice_get before at.repo ≡ Some (Joined at.session upto waits) → is_reply waits ≡ false → NoneToFinish (new.opened.base at.repo) (entries (new.seen at.repo)) at.session committed → LinksFit old committed before (kept copies) → LinksFit new committed after (kept left)
-fetch_all old new at page upto before after copies left waits committed f seen there idle settled fit = fetch_inside old new at page upto before after copies left waits committed f seen there (λ inside. idle) settled fit
+fetch_all old new at page upto before after copies left waits committed f seen there idle settled fit = fetch_inside old new at page upto before after copies left waits committed f seen there (λ inside. idle) (λ inside calm live. settled) fit
 
 pub grant_inside : (old new : View) (at : At) (upto : ℕ) (before after : List Link) (copies left : Contents) (waits : Waits) (committed : Ts → Bool) → Grants true old new at before after copies left → AllSeenRight new committed
     → slice_get before at.repo ≡ Some (Joined at.session upto waits) → (at.repo < new.opened.repos → is_reply waits ≡ false) → LinksFit old committed before (kept copies) → LinksFit new committed after (kept left)
@@ -204,12 +204,15 @@ module _ (old new : View) (at : At) (upto : ℕ) (waits : Waits) (committed : Ts
 -- ---- calls that leave links and copies as they are
 
 module _ (old new : View) (r : ℕ) (links : List Link) (copies : Copies) (committed : Ts → Bool) (seen : AllSeenRight new committed) (fit : LinksFit old committed links copies) where
-  pub as_it_is : (acts : Acts old new) → called_at old new acts ≡ Some r → ((link : Link) → slice_get links r ≡ Some link → IsSeenRight new r committed → LinkIn old r committed link copies → LinkIn new r committed link copies) → LinksFit new committed links copies
-  as_it_is acts is stays = all_behind old new r committed links links copies copies seen (λ n other. refl) (λ x away. refl) fit acts is (λ right h. by (slice_get links r) refl right h)
+  pub as_inside : (acts : Acts old new) → called_at old new acts ≡ Some r → ((link : Link) → slice_get links r ≡ Some link → r < new.opened.repos → IsSeenRight new r committed → LinkIn old r committed link copies → LinkIn new r committed link copies) → LinksFit new committed links copies
+  as_inside acts is stays = all_inside old new r committed links links copies copies seen (λ n other. refl) (λ x away. refl) fit acts is (λ inside right h. by (slice_get links r) refl inside right h)
     where
-      by : (o : Option Link) → slice_get links r ≡ o → IsSeenRight new r committed → LinkAt old r committed o copies → LinkAt new r committed o copies
-      by None e right h = h
-      by (Some link) e right h = stays link e right h
+      by : (o : Option Link) → slice_get links r ≡ o → r < new.opened.repos → IsSeenRight new r committed → LinkAt old r committed o copies → LinkAt new r committed o copies
+      by None e inside right h = h
+      by (Some link) e inside right h = stays link e inside right h
+
+  pub as_it_is : (acts : Acts old new) → called_at old new acts ≡ Some r → ((link : Link) → slice_get links r ≡ Some link → IsSeenRight new r committed → LinkIn old r committed link copies → LinkIn new r committed link copies) → LinksFit new committed links copies
+  as_it_is acts is stays = as_inside acts is (λ link e inside right h. stays link e right h)
 
   pub finish_all : (t : Ts) (commit : Bool) (result : Result (Option ℕ) Refusal) → Does old new r result (FinishWork t commit result) → LinksFit new committed links copies
   finish_all t commit result d = as_it_is (Finished r t commit result d) refl (λ link e right h. link_finished old new r committed copies t commit result link d right h)
@@ -244,23 +247,20 @@ module _ (old new : View) (at : At) (upto : ℕ) (waits : Waits) (links : List L
   -- ---- calls that change links or copies of the repository alone
 
   module _ (left : Copies) (away : (x : Oref) → x.repo ≢ at.repo → left x ≡ copies x) where
-    pub message_all : (m : Message) (objects : ℕ → Option Obj) → Does {X = Option Message} old new at.repo (Ok (Some m)) (ReceiveWork at.session (Ok (Some m))) → place_of (notice_of m) + 1 < 2 ^ 64
-        → BringsContent (new.opened.base at.repo) (entries (new.seen at.repo)) objects m → Becomes at.repo objects m copies left → LinksFit new committed (at_repo links at.repo (took m)) left
-    message_all m objects d small brings becomes =
-        all_behind old new at.repo committed links (at_repo links at.repo (took m)) copies left seen (λ n other. at_other links at.repo n (took m) other) away fit
+    pub message_inside : (m : Message) (objects : ℕ → Option Obj) → Does {X = Option Message} old new at.repo (Ok (Some m)) (ReceiveWork at.session (Ok (Some m))) → (at.repo < new.opened.repos → is_news (notice_of m) ≡ true → place_of (notice_of m) + 1 < 2 ^ 64)
+        → ((new.opened.base at.repo).tells ≡ true → BringsContent (new.opened.base at.repo) (entries (new.seen at.repo)) objects m) → Becomes at.repo objects m copies left → LinksFit new committed (at_repo links at.repo (took m)) left
+    message_inside m objects d small brings becomes =
+        all_inside old new at.repo committed links (at_repo links at.repo (took m)) copies left seen (λ n other. at_other links at.repo n (took m) other) away fit
         (Received at.repo at.session (Ok (Some m)) d) refl
-        (λ right h. subst (λ (o : Option Link). LinkAt new at.repo committed o left) (sym (changes_here links at.repo (took m) (Joined at.session upto waits) there))
-        (received_message old new at upto waits committed copies m objects left d right small brings becomes (link_there old at.repo committed links copies (Joined at.session upto waits) there h)))
+        (λ inside right h. subst (λ (o : Option Link). LinkAt new at.repo committed o left) (sym (changes_here links at.repo (took m) (Joined at.session upto waits) there))
+        (received_message old new at upto waits committed copies m objects left d right (small inside) brings becomes (link_there old at.repo committed links copies (Joined at.session upto waits) there h)))
 
     joined_so : (acts : Acts old new) → called_at old new acts ≡ Some at.repo → (at.repo < new.opened.repos → IsSeenRight new at.repo committed → LinkIn old at.repo committed (Joined at.session upto waits) copies → LinkIn new at.repo committed (Joined at.session upto waits) left) → LinksFit new committed links left
     joined_so acts is keeps =
         all_inside old new at.repo committed links links copies left seen (λ n other. refl) away fit acts is
         (λ inside right h. subst (λ (o : Option Link). LinkAt new at.repo committed o left) (sym there) (keeps inside right (link_there old at.repo committed links copies (Joined at.session upto waits) there h)))
 
-    pub committed_inside : (q : Request) (place : ℕ) (d : Does {X = ℕ} old new at.repo (Ok place) (CommitWork at.session q (Ok place))) → q.upto ≡ upto → (at.repo < new.opened.repos → is_reply waits ≡ false) → NoneToFinish (old.opened.base at.repo) (entries d.at) at.session committed
-        → WritesOnPages (old.opened.base at.repo) d.at at.session q → ((old.opened.base at.repo).tells ≡ true → SameCopies (old.opened.base at.repo) left (with_writes q copies)) → LinksFit new committed links left
-    committed_inside q place d up idle settled pages become = joined_so (Committed at.repo at.session q (Ok place) d) refl (λ inside right h. link_committed old new at.repo at.session upto waits committed copies right h q place left d up (idle inside) settled pages become)
-
-    pub committed_all : (q : Request) (place : ℕ) (d : Does {X = ℕ} old new at.repo (Ok place) (CommitWork at.session q (Ok place))) → q.upto ≡ upto → is_reply waits ≡ false → NoneToFinish (old.opened.base at.repo) (entries d.at) at.session committed
-        → WritesOnPages (old.opened.base at.repo) d.at at.session q → ((old.opened.base at.repo).tells ≡ true → SameCopies (old.opened.base at.repo) left (with_writes q copies)) → LinksFit new committed links left
-    committed_all q place d up idle settled pages become = committed_inside q place d up (λ inside. idle) settled pages become
+    pub committed_inside : (q : Request) (place : ℕ) (d : Does {X = ℕ} old new at.repo (Ok place) (CommitWork at.session q (Ok place))) → q.upto ≡ upto → (at.repo < new.opened.repos → is_reply waits ≡ false) → (at.repo < new.opened.repos → new.unsettled at.repo ≡ Calm → lives (session (old.opened.base at.repo) (new.seen at.repo) at.session) ≡ true → NoneToFinish (old.opened.base at.repo) (entries d.at) at.session committed)
+        → (FitsAt old.opened.client (old.opened.base at.repo) Calm d.at committed (record { session = at.session; upto = upto; awaits = is_reply waits; copies = copies }) → (old.opened.base at.repo).tells ≡ true → WritesOnPages (old.opened.base at.repo) d.at at.session q)
+        → ((old.opened.base at.repo).tells ≡ true → SameCopies (old.opened.base at.repo) left (with_writes q copies)) → LinksFit new committed links left
+    committed_inside q place d up idle settled pages become = joined_so (Committed at.repo at.session q (Ok place) d) refl (λ inside right h. link_committed old new at.repo at.session upto waits committed copies right h q place left d up (idle inside) (settled inside) pages become)

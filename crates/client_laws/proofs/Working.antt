@@ -161,7 +161,7 @@ module _ (c : ℕ) (b : Base) (committed : Ts → Bool) where
     prepared q place upto open' w =
         then_fits at after u (E (Prepared q)) kept w.2 (fits_undecided c b at committed kept (Prepared q) (sound_behind at after u (E (Prepared q)) w.2 sd) (none_behind at after u (E (Prepared q)) w.2 none) h refl (λ r a. ap (λ (z : Request). committed z.tx) (sym a) ∙ open') (request_ack q upto))
 
-    pub committed_one : (q : Request) (place : ℕ) (copies : Copies) → q.upto ≡ kept.upto → kept.awaits ≡ false → NoneToFinish b (entries at) kept.session committed → WritesOnPages b at kept.session q
+    pub committed_one : (q : Request) (place : ℕ) (copies : Copies) → q.upto ≡ kept.upto → kept.awaits ≡ false → NoneToFinish b (entries at) kept.session committed → (b.tells ≡ true → WritesOnPages b at kept.session q)
         → (b.tells ≡ true → SameCopies b copies (with_writes q kept.copies)) → CommitWork kept.session q (Ok place) b at after u → FitsAt c b u after committed (record kept { copies = copies })
     committed_one q place copies upto idle settled pages become w = by (is_upgrade q) w.2
       where
@@ -188,7 +188,7 @@ module _ (c : ℕ) (b : Base) (committed : Ts → Bool) where
         let is_open' : is_open o.fate ≡ true = (both (nat_eq o.request.session kept.session) (is_open o.fate) mine).1 in
         let commits : commit_of b (state b (entries at)) (Decided t true) ≡ ((state b (entries at)).length, o.request) ∷ [] = ap (λ (k : Option Known). commit_by (state b (entries at)) true k) is ∙ ap (λ (z : Bool). cond z (((state b (entries at)).length, o.request) ∷ []) []) is_open' in
         then_fits at after u (E (Decided t true)) (record kept { copies = copies }) x
-        (fits_committed c b at committed kept (Decided t true) o.request (sound_behind at after u (E (Decided t true)) x sd) (none_behind at after u (E (Decided t true)) x none) h (commits ∙ ap (λ (n : ℕ). (n, o.request) ∷ []) (length-state b (entries at))) idle settled pages copies become (λ step known. step.acked))
+        (fits_committed c b at committed kept (Decided t true) o.request (sound_behind at after u (E (Decided t true)) x sd) (none_behind at after u (E (Decided t true)) x none) h (commits ∙ ap (λ (n : ℕ). (n, o.request) ∷ []) (length-state b (entries at))) idle settled (λ tells. pages) copies become (λ step known. step.acked))
 
     -- a decision to abort, in whatever session
     pub given_up_any : (s : ℕ) (t : Ts) (v : Verdict) → DecideWork s t false (Ok v) b at after u → FitsAt c b u after committed kept

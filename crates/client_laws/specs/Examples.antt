@@ -1,11 +1,11 @@
 -- What a client keeps, against the small traces of session_outbox: client 2 has session 2, has taken page 0, and
 -- others write its object x then.
 use Rattle.client_laws.specs.Fitting.{Copies, Kept}
-use Rattle.commit_log.specs.declared.entry.Entry.TheVariants.{Life}
-use Rattle.local_history.specs.Examples.{box, x}
+use Rattle.commit_log.specs.declared.entry.Entry.TheVariants.{Decided, Life}
+use Rattle.local_history.specs.Examples.{at, box, x}
 use Rattle.session_outbox.specs.ExactExamples.{deciding}
 use Rattle.session_outbox.specs.Trace.{E, Item}
-use Rattle.std.specs.Prelude.{List, None, Some, [], cond, false, take, ℕ, ◌++◌, ◌∷◌}
+use Rattle.std.specs.Prelude.{List, None, Some, [], cond, false, take, true, ℕ, ◌++◌, ◌∷◌}
 use Rattle.thor_value.specs.Names.{same_oref}
 
 -- a copy of x as it was at the beginning, and none
@@ -28,3 +28,7 @@ prepared = take 4 deciding
 -- which is then restarted
 abbrev pub lost : List Item
 lost = prepared ++ E (Life 2) ∷ []
+
+-- Its decision to commit has come while the call stopped, and a restart behind it.
+abbrev pub unanswered : List Item
+unanswered = prepared ++ E (Decided (at 1) true) ∷ E (Life 2) ∷ []

@@ -32,13 +32,13 @@ FitsOrNone c b u T committed copies (Some kept) = FitsAt c b u T committed kept
 abbrev pub LinkFits : ℕ → Base → views.Unsettled → List Item → (Ts → Bool) → Link → Copies → Type 0
 LinkFits c b u T committed link copies = FitsOrNone c b u T committed copies (kept_by link copies)
 
--- What becomes of the copies by a message of a repository, as the client's functions say it: a page's objects
+-- What becomes of the copies of a repository's objects by a message of it, as the client's functions say it: a page's objects
 -- come in the place of the copies of it (no objects where it is a page of names), and what a message names is dropped.
 abbrev pub Becomes : ℕ → (ℕ → Option Obj) → Message → Copies → Copies → Type 0
-Becomes repo objects (Page page bytes k) old new = (x : Oref) → new x ≡ cond (same_page (on repo page) (page_of x)) (objects x.slot) (old x)
-Becomes repo objects (Grant page k) old new = (x : Oref) → new x ≡ cond (same_page (on repo page) (page_of x)) None (old x)
-Becomes repo objects (Invalid names k) old new = (x : Oref) → new x ≡ cond (list_any (λ y. same_name y x) names) None (old x)
-Becomes repo objects (Upgrade number text k) old new = (x : Oref) → new x ≡ old x
+Becomes repo objects (Page page bytes k) old new = (x : Oref) → x.repo ≡ repo → new x ≡ cond (same_page (on repo page) (page_of x)) (objects x.slot) (old x)
+Becomes repo objects (Grant page k) old new = (x : Oref) → x.repo ≡ repo → new x ≡ cond (same_page (on repo page) (page_of x)) None (old x)
+Becomes repo objects (Invalid names k) old new = (x : Oref) → x.repo ≡ repo → new x ≡ cond (list_any (λ y. same_name y x) names) None (old x)
+Becomes repo objects (Upgrade number text k) old new = (x : Oref) → x.repo ≡ repo → new x ≡ old x
 
 -- A page brings what stood there at its place, by slots.
 abbrev pub BringsContent : Base → List Entry → (ℕ → Option Obj) → Message → Type 0

@@ -1,5 +1,5 @@
 -- What is known of a repository's trace that a port shows, and that a client's link there fits it.
-use Rattle.client_laws.specs.Fitting.{Agrees, Copies}
+use Rattle.client_laws.specs.Fitting.{AgreesStanding, Copies}
 use Rattle.client_laws.specs.Links.{LinkFits}
 use Rattle.client_state.specs.declared.link.Link.{Link}
 use Rattle.local_history.specs.Sound.{sound}
@@ -15,7 +15,7 @@ pub record IsSeenRight (port : View) (r : ℕ) (committed : Ts → Bool) : Type 
   pub numbered : (port.opened.base r).repo ≡ r
   pub owed : sound (port.opened.base r) (entries (port.seen r))
   pub kept : exact (port.opened.base r) (port.seen r)
-  pub agrees : (s : ℕ) → Agrees (port.opened.base r) (entries (port.seen r)) s committed
+  pub agrees : (s : ℕ) → AgreesStanding (port.opened.base r) (port.unsettled r) (port.seen r) s committed
 
 -- The port's client, with this link and these copies, fits what is seen of the repository r.
 abbrev pub LinkIn : View → ℕ → (Ts → Bool) → Link → Copies → Type 0

@@ -1,11 +1,12 @@
 //! What fits a trace and what doesn't, on small traces (`specs/Examples.antt`).
 
-ghost use Rattle.client_laws.specs.Examples.{copy_of_x, keeping, no_copy};
-ghost use Rattle.client_laws.specs.Fitting.{FitsAt};
+ghost use Rattle.client_laws.specs.Examples.{copy_of_x, keeping, no_copy, unanswered};
+ghost use Rattle.client_laws.specs.Fitting.{Agrees, AgreesStanding, FitsAt};
 ghost use Rattle.local_history.specs.Examples.{home};
 ghost use Rattle.port.specs.Views.{Calm};
 ghost use Rattle.session_outbox.specs.ExactExamples.{fetched, nothing_committed};
 ghost use Rattle.session_outbox.specs.SessionExamples.{invalid_taken, restarted, written_since};
+ghost use Rattle.session_outbox.specs.Trace.{entries};
 
 /// A copy fits where it was right at a place that isn't known to be passed: as the page was taken, and when another
 /// client has written the object, while the message of that waits. Behind the message none fits. Behind a restart the
@@ -24,4 +25,11 @@ pub fn what_does_not_fit()
     ensures early { ¬ FitsAt 2 home Calm written_since nothing_committed (keeping 3 no_copy) }
     ensures late { ¬ FitsAt 2 home Calm invalid_taken nothing_committed (keeping 1 no_copy) }
     ensures other { ¬ FitsAt 1 home Calm fetched nothing_committed (keeping 1 copy_of_x) }
+{}
+
+/// Where a decision to commit has come while its call stopped, and its client isn't told yet, it needn't be counted: the session
+/// that prepared it has ended.
+pub fn what_agrees()
+    ensures unanswered { AgreesStanding home Calm unanswered 1 nothing_committed }
+    ensures counted { ¬ Agrees home (entries unanswered) 1 nothing_committed }
 {}

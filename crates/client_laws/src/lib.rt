@@ -29,7 +29,7 @@ pub use doomed::{
     doomed_transactions_stay, joined_sessions_are_quiet, quiet_sessions_owe_nothing,
     quiet_sessions_stay, what_is_doomed,
 };
-pub use examples::{what_does_not_fit, what_fits};
+pub use examples::{what_agrees, what_does_not_fit, what_fits};
 pub use falling::{falling_ends, owed_calls};
 pub use growth::{others_act, outcomes_are_told};
 pub use known_places::{

@@ -3,11 +3,11 @@ use Rattle.client_cache.specs.Copies.{Contents, kept, seen}
 use Rattle.client_cache.specs.Pages.{on, page_of, same_name, same_page}
 use Rattle.client_laws.proofs.AnySession.{decided_by_any, given_up_in_any, prepared_in_any, uncommitted_in_any, undecided_in_any}
 use Rattle.client_laws.proofs.Learned.{fewer_fit}
-use Rattle.client_laws.proofs.Lending.{changes_here}
+use Rattle.client_laws.proofs.Lending.{changes_here, exact_now, numbered_now, sound_now}
 use Rattle.client_laws.proofs.OwnVerdicts.{others_told, own_told}
-use Rattle.client_laws.proofs.Whole.{ask_all, as_it_is, at_other, committed_inside, connect_all, draw_all, fetch_inside, finish_all, forget_all, grant_inside, message_all, none_all, refused_all}
-use Rattle.client_laws.specs.Fitting.{Copies, HoldsNone}
-use Rattle.client_laws.specs.Links.{Becomes}
+use Rattle.client_laws.proofs.Whole.{ask_all, as_it_is, at_other, committed_inside, connect_all, draw_all, fetch_inside, finish_all, forget_all, grant_inside, message_inside, none_all, refused_all}
+use Rattle.client_laws.specs.Fitting.{Copies, HoldsNone, Kept, NoneToFinish, SameCopies, with_writes}
+use Rattle.client_laws.specs.Links.{Becomes, BringsContent}
 use Rattle.client_laws.specs.Seen.{LinkAt, LinkIn}
 use Rattle.client_laws.specs.Steps.{AllSeenRight, LinksFit}
 use Rattle.client_laws.specs.Verdicts.{OutcomesTold}
@@ -22,10 +22,17 @@ use Rattle.client_state.specs.declared.link.Link.{Link}
 use Rattle.client_state.specs.declared.link.Waits.TheVariants.{Epoch, Idle, Past, Reply}
 use Rattle.client_state.specs.declared.link.Waits.{Waits}
 use Rattle.client_state.specs.declared.requests.Sending.{Sending}
+use Rattle.commit_log.specs.declared.entry.Entry.{Entry}
 use Rattle.fitting_steps.proofs.Changes.{HasSession, changes_one, fewer_all, has_session, learn_all, lose_all, same_awaits, same_links}
-use Rattle.client_state.specs.Moving.{Aborted, Asked, AskedInVain, AskedOwn, CommitRefused, Committed, Connected, CopiesTaken, Decided, DecideRefused, Drawn, EndsSo, Fetched, Finished, Forgot, Granted, HasLeft, IsApart, Moves, PrepareRefused, Prepared, ReceiveRefused, ReceiveStopped, Received, ReceivedNone, Rested, SendsNothing, Settled, StopsWaiting, Transformed, Unsent}
-use Rattle.fitting_steps.specs.Owed.{ClientFits, CommitOwed, IsSpelled, Owed, SendsOwed, VerdictOwed, if_commit, verdict_of, with_made}
+use Rattle.client_state.specs.Moving.{Aborted, Asked, AskedInVain, AskedOwn, CommitRefused, Committed, Connected, CopiesTaken, Decided, DecideRefused, Drawn, EndsSo, Fetched, Finished, Forgot, Granted, HasLeft, InSession, IsApart, Moves, PrepareRefused, Prepared, ReceiveRefused, ReceiveStopped, Received, ReceivedNone, Rested, SendsNothing, Settled, StopsWaiting, Transformed, Unsent}
+use Rattle.fitting_steps.proofs.Granting.{news_below}
+use Rattle.fitting_steps.proofs.Paging.{made_elsewhere, made_written, writes_here, writes_on_pages}
+use Rattle.fitting_steps.proofs.Trying.{sees_kept, sees_written}
+use Rattle.fitting_steps.specs.Owed.{ClientFits, MessageOwed, Owed, SendsOwed, SentOwed, SettledOwed, VerdictOwed, if_commit, verdict_of, with_made}
+use Rattle.local_history.proofs.Listed.{some_and}
 use Rattle.local_history.specs.History.{Base}
+use Rattle.local_history.specs.Requests.{has_written}
+use Rattle.local_history.specs.Sound.{sound}
 use Rattle.message_outbox.specs.declared.answers.Asked as answer
 use Rattle.message_outbox.specs.declared.answers.Asked.TheVariants as answers
 use Rattle.message_outbox.specs.declared.answers.At.{At}
@@ -37,16 +44,21 @@ use Rattle.paused_eval.specs.Copies.{AreAmong}
 use Rattle.port.specs.Acting.{Connected as has_connected}
 use Rattle.port.specs.Views as views
 use Rattle.port.specs.Views.{Calm, Came, Halted, MayCome, Opened, View}
-use Rattle.port.specs.Works.{Answered, AskWork, CommitWork, DecideWork, Does, IsOutage, ReceiveWork, RefusedUnmarked}
-use Rattle.session_outbox.specs.Session.{Notice, Session, is_news, session, waiting as waits_for}
-use Rattle.session_outbox.specs.Trace.{Item}
-use Rattle.std.proofs.Common.{Bool, List, [], ap, arith, cond, false, inl, inr, refl, subst, sym, true, ◌∙◌, ◌≡◌, ◌≢◌, ℕ}
+use Rattle.port.specs.Works.{Answered, AskWork, CommitWork, DecideWork, Does, IsOutage, ReceiveWork, RefusedUnmarked, alone_entry}
+use Rattle.session_outbox.proofs.Taken.{after-mark}
+use Rattle.session_outbox.specs.Exact.{exact}
+use Rattle.session_outbox.specs.Notices.{lives, notice_of}
+use Rattle.session_outbox.specs.Session.{Notice, Session, is_news, place_of, session, waiting as waits_for}
+use Rattle.session_outbox.specs.Trace.{E, Item, entries}
+use Rattle.session_outbox.specs.Verdict.{verdict}
+use Rattle.session_outbox.specs.declared.mark.Mark.TheVariants as the
+use Rattle.std.proofs.Common.{Bool, List, [], ap, arith, cond, false, inl, inr, refl, subst, sym, true, ◌+◌, ◌++◌, ◌∙◌, ◌∷◌, ◌≡◌, ◌≢◌, ℕ}
 use Rattle.std.proofs.lemmas.Bool.Decides.{nat_tests}
 use Rattle.std.proofs.lemmas.Bool.{cases_eq}
 use Rattle.std.proofs.lemmas.Option.{same_Some}
 use Rattle.std.specs.List.{filter, list_any, slice_get}
 use Rattle.std.specs.Option.{IsSomeAnd, option_map}
-use Rattle.std.specs.Prelude.{Err, None, Ok, Option, Result, Some, length, nat_eq, not, ◌&&◌, ◌<◌, ◌≤◌, ◌⊎◌}
+use Rattle.std.specs.Prelude.{Err, None, Ok, Option, Result, Some, length, nat_eq, not, ◌&&◌, ◌<◌, ◌^◌, ◌≤◌, ◌⊎◌}
 use Rattle.thor_value.specs.declared.names.Oref.{Oref}
 use Rattle.thor_value.specs.declared.names.Ts.{Ts}
 use Rattle.thor_value.specs.declared.values.Obj.{Obj}
@@ -64,21 +76,61 @@ same_test m r e = grind (arith, nat_tests)
 off_page : (repo page : ℕ) (x : Oref) → x.repo ≢ repo → same_page (on repo page) (page_of x) ≡ false
 off_page repo page x away = ap (λ (t : Bool). t && nat_eq page x.page) (apart_test repo x.repo (λ e. away (sym e)))
 
-becomes : (repo : ℕ) (m : Message) (objects : ℕ → Option Obj) (old left : Contents) → IsSpelled repo m objects → CopiesTaken repo m old left → Becomes repo objects m (kept old) (kept left)
-becomes repo (Page page bytes place) objects old left spelled brought = λ x. brought objects spelled x
-becomes repo (Grant page place) objects old left spelled brought = λ x. brought x
-becomes repo (Invalid names place) objects old left spelled brought = λ x. brought x
-becomes repo (Upgrade number text place) objects old left spelled brought = λ x. brought x
+-- the copies behind a message: those of the repository changed, the others as they were
+abbrev taken_at : ℕ → Contents → Contents → Copies
+taken_at repo old left x = cond (nat_eq x.repo repo) (kept left x) (kept old x)
 
-others_stay : (repo : ℕ) (m : Message) (objects : ℕ → Option Obj) (old left : Contents) → IsSpelled repo m objects → CopiesTaken repo m old left → (x : Oref) → x.repo ≢ repo → kept left x ≡ kept old x
-others_stay repo (Page page bytes place) objects old left spelled brought x away = brought objects spelled x ∙ ap (λ (t : Bool). cond t (objects x.slot) (kept old x)) (off_page repo page x away)
-others_stay repo (Grant page place) objects old left spelled brought x away = brought x ∙ ap (λ (t : Bool). cond t None (kept old x)) (off_page repo page x away)
-others_stay repo (Invalid names place) objects old left spelled brought x away = brought x ∙ by (list_any (λ y. same_name y x) names) refl
-  where
-    by : (t : Bool) → list_any (λ y. same_name y x) names ≡ t → cond t None (kept old x) ≡ kept old x
-    by true e = absurd (away (spelled x e))
-    by false e = refl
-others_stay repo (Upgrade number text place) objects old left spelled brought x away = brought x
+module _ (repo : ℕ) (old left : Contents) where
+  changed_here : (x : Oref) → x.repo ≡ repo → taken_at repo old left x ≡ kept left x
+  changed_here x here = ap (λ (t : Bool). cond t (kept left x) (kept old x)) (same_test x.repo repo here)
+
+  stays_away : (x : Oref) → x.repo ≢ repo → taken_at repo old left x ≡ kept old x
+  stays_away x away = ap (λ (t : Bool). cond t (kept left x) (kept old x)) (apart_test x.repo repo away)
+
+  module _ (port : View) where
+    abbrev objects_in : (m : Message) → MessageOwed port repo m → ℕ → Option Obj
+    objects_in (Page page bytes place) owed = owed.objects
+    objects_in (Grant page place) owed = λ slot. None
+    objects_in (Invalid names place) owed = λ slot. None
+    objects_in (Upgrade number text place) owed = λ slot. None
+
+    brings_in : (m : Message) (owed : MessageOwed port repo m) → (port.opened.base repo).tells ≡ true → BringsContent (port.opened.base repo) (entries (port.seen repo)) (objects_in m owed) m
+    brings_in (Page page bytes place) owed tells = owed.brings tells
+    brings_in (Grant page place) owed tells = tt
+    brings_in (Invalid names place) owed tells = tt
+    brings_in (Upgrade number text place) owed tells = tt
+
+    short_in : (m : Message) → MessageOwed port repo m → repo < port.opened.repos → is_news (notice_of m) ≡ true → length (entries (port.seen repo)) < 2 ^ 64
+    short_in (Page page bytes place) owed inside news = cc
+    short_in (Grant page place) owed inside news = cc
+    short_in (Invalid names place) owed inside news = owed inside
+    short_in (Upgrade number text place) owed inside news = owed inside
+
+    becomes : (m : Message) (owed : MessageOwed port repo m) → CopiesTaken repo m old left → Becomes repo (objects_in m owed) m (kept old) (taken_at repo old left)
+    becomes (Page page bytes place) owed brought = λ x here. changed_here x here ∙ brought owed.objects owed.spelled x
+    becomes (Grant page place) owed brought = λ x here. changed_here x here ∙ brought x
+    becomes (Invalid names place) owed brought = λ x here. changed_here x here ∙ brought x
+    becomes (Upgrade number text place) owed brought = λ x here. changed_here x here ∙ brought x
+
+    -- of what lies elsewhere nothing comes
+    away_among : (m : Message) → MessageOwed port repo m → CopiesTaken repo m old left → (x : Oref) → x.repo ≢ repo → (kept left x ≡ kept old x) ⊎ (kept left x ≡ None)
+    away_among (Page page bytes place) owed brought x away = inl (brought owed.objects owed.spelled x ∙ ap (λ (t : Bool). cond t (owed.objects x.slot) (kept old x)) (off_page repo page x away))
+    away_among (Grant page place) owed brought x away = inl (brought x ∙ ap (λ (t : Bool). cond t None (kept old x)) (off_page repo page x away))
+    away_among (Invalid names place) owed brought x away = by (list_any (λ y. same_name y x) names) (brought x)
+      where
+        by : (t : Bool) → kept left x ≡ cond t None (kept old x) → (kept left x ≡ kept old x) ⊎ (kept left x ≡ None)
+        by true e = inr e
+        by false e = inl e
+    away_among (Upgrade number text place) owed brought x away = inl (brought x)
+
+    taken_among : (m : Message) → MessageOwed port repo m → CopiesTaken repo m old left → AreAmong (taken_at repo old left) (kept left)
+    taken_among m owed brought x = elim (cases_eq x.repo repo) [
+      | inl here ↦ inl (sym (changed_here x here))
+      | inr away ↦ elim (away_among m owed brought x away) [
+        | inl same ↦ inl (same ∙ sym (stays_away x away))
+        | inr none ↦ inr none
+      ]
+    ]
 
 -- ---- links behind a receive
 
@@ -137,7 +189,7 @@ module _ (old new : View) (before after : Held) (committed later : Ts → Bool) 
   numbered : (n : ℕ) → n < new.opened.repos → (new.opened.base n).repo ≡ n
   numbered n within = (right.each n within).numbered
 
-  then_client : after.client ≡ before.client → new.opened ≡ old.opened → Then → ClientFits new later after
+  pub then_client : after.client ≡ before.client → new.opened ≡ old.opened → Then → ClientFits new later after
   then_client same opened all = record {
     own = same ∙ fits.own ∙ ap (λ (o : Opened). o.client) (sym opened);
     few = subst (λ (o : Opened). o.repos ≤ 8) (sym opened) fits.few;
@@ -148,7 +200,7 @@ module _ (old new : View) (before after : Held) (committed later : Ts → Bool) 
   then_fewer left fewer fit = fewer_all new later after.links.items left (kept after.cache.cache) fewer fit
 
   -- the links stay
-  then_less : (left : Copies) → after.links.items ≡ links → AreAmong left (kept after.cache.cache) → LinksFit new later links left → Then
+  pub then_less : (left : Copies) → after.links.items ≡ links → AreAmong left (kept after.cache.cache) → LinksFit new later links left → Then
   then_less left same fewer fit = then_fewer left fewer (same_links new later links after.links.items left same fit)
 
   below : new.opened ≡ old.opened → (n : ℕ) → n < new.opened.repos → n < 8
@@ -219,6 +271,24 @@ module _ (old new : View) (before after : Held) (committed later : Ts → Bool) 
         nothing T Came a = absurd a.0
         nothing T Halted a = absurd a.0
 
+    -- there is a place behind that of news
+    news_low : (at : At) (m : Message) → Does {X = Option Message} old new at.repo (Ok (Some m)) (ReceiveWork at.session (Ok (Some m))) → MessageOwed new at.repo m → at.repo < new.opened.repos → is_news (notice_of m) ≡ true → place_of (notice_of m) + 1 < 2 ^ 64
+    news_low at m d owed inside news = by d.met d.answer
+      where
+        short : length (entries (new.seen at.repo)) < 2 ^ 64
+        short = short_in at.repo before.cache.cache before.cache.cache new m owed inside news
+
+        by : (met : views.Unsettled) → Answered {X = Option Message} at.repo (Ok (Some m)) met d.at (new.seen at.repo) (new.unsettled at.repo) (ReceiveWork at.session (Ok (Some m)) (old.opened.base at.repo) d.at (new.seen at.repo) (new.unsettled at.repo)) → place_of (notice_of m) + 1 < 2 ^ 64
+        by Calm w =
+            let v = some_and (session (old.opened.base at.repo) d.at at.session) (λ v. slice_get v.sent v.taken ≡ Some (notice_of m)) w.0 in
+            let low : place_of (notice_of m) < length (entries d.at) = news_below (old.opened.base at.repo) at.session d.at v.0 v.1 v.0.taken (notice_of m) v.2 news in
+            let same : entries (new.seen at.repo) ≡ entries d.at = ap entries w.2.0 ∙ after-mark (old.opened.base at.repo) d.at (the.Took at.session (place_of (notice_of m))) in
+            let most : length (entries d.at) < 2 ^ 64 = subst (λ (H : List Entry). length H < 2 ^ 64) same short in
+            omega arith
+        by (MayCome e) w = absurd w.0
+        by Came w = absurd w.0
+        by Halted w = absurd w.0
+
     stops : (at : At) (k : Refusal) → Does {X = Option Message} old new at.repo (Err k) (ReceiveWork at.session (Err k)) → IsOutage k → StopsWaiting at.repo before after → LinksFit new later links copies → LinksFit new later after.links.items copies
     stops at k d outage stop all = record {
       each = λ n within. elim (cases_eq n at.repo) [
@@ -250,11 +320,43 @@ module _ (old new : View) (before after : Held) (committed later : Ts → Bool) 
     acknowledges : (s : Sending) → IsOfSession links s → (upto : ℕ) (waits : Waits) → slice_get links s.at.repo ≡ Some (Joined s.request.session upto waits) → s.request.upto ≡ upto
     acknowledges s of upto waits is = of.upto (ap (is_session_of s.at.session) is ∙ same_test s.request.session s.at.session of.session) ∙ ap upto_in is
 
-    commits : (s : Sending) (place : ℕ) (made : Copies) (d : Does {X = ℕ} old new s.at.repo (Ok place) (CommitWork s.at.session s.request (Ok place))) → IsOfSession links s → NoneAwaits 8 links → CommitOwed old s.at d.at s.request later before made → LinksFit new later links made
-    commits s place made d of idle owed =
-        let h : HasSession s.at (slice_get links s.at.repo) = has_session s.at (slice_get links s.at.repo) owed.session in
-        let up : s.request.upto ≡ h.upto = acknowledges s of h.upto h.waits (h.is ∙ ap (λ (n : ℕ). Some (Joined n h.upto h.waits)) (sym of.session)) in
-        committed_inside old new s.at h.upto h.waits links copies later right h.is fit made owed.elsewhere s.request place d up (λ inside. quiet d.called.same idle s.at.repo (Joined s.at.session h.upto h.waits) inside h.is) owed.settled owed.pages owed.wrote
+    module _ (s : Sending) (place : ℕ) (d : Does {X = ℕ} old new s.at.repo (Ok place) (CommitWork s.at.session s.request (Ok place))) (of : IsOfSession links s) (its : InSession s.at before) (idle_all : NoneAwaits 8 links) (sent : SentOwed old s.at s.request before) where
+      abbrev base : Base
+      base = old.opened.base s.at.repo
+
+      inside_now : s.at.repo < new.opened.repos
+      inside_now = subst (λ (o : Opened). s.at.repo < o.repos) (sym d.called.same) sent.there
+
+      -- the trace behind the call, which ends with the request's entry
+      accepted : verdict base d.at s.at.session s.request ≡ None × (new.seen s.at.repo ≡ d.at ++ E (alone_entry s.request) ∷ [])
+      accepted = by d.met d.answer
+        where
+          by : (met : views.Unsettled) → Answered {X = ℕ} s.at.repo (Ok place) met d.at (new.seen s.at.repo) (new.unsettled s.at.repo) (CommitWork s.at.session s.request (Ok place) base d.at (new.seen s.at.repo) (new.unsettled s.at.repo))
+              → verdict base d.at s.at.session s.request ≡ None × (new.seen s.at.repo ≡ d.at ++ E (alone_entry s.request) ∷ [])
+          by Calm w = (w.0, w.2.0)
+          by (MayCome e) w = absurd w.0
+          by Came w = absurd w.0
+          by Halted w = absurd w.0
+
+      exact_behind : exact base (d.at ++ E (alone_entry s.request) ∷ [])
+      exact_behind = subst (exact base) accepted.1 (exact_now old new s.at.repo later d.called.same (right.each s.at.repo inside_now))
+
+      sound_behind : sound base (entries (d.at ++ E (alone_entry s.request) ∷ []))
+      sound_behind = subst (λ (T : List Item). sound base (entries T)) accepted.1 (sound_now old new s.at.repo later d.called.same (right.each s.at.repo inside_now))
+
+      number : base.repo ≡ s.at.repo
+      number = numbered_now old new s.at.repo later d.called.same (right.each s.at.repo inside_now)
+
+      writes_there : (x : Oref) → has_written s.request x ≡ true → x.repo ≡ s.at.repo
+      writes_there x wrote = writes_here base d.at s.request exact_behind sound_behind x wrote ∙ number
+
+      commits : (made : Copies) → SettledOwed new s.at.repo d.at s.at.session later → (base.tells ≡ true → SameCopies base made (with_writes s.request copies)) → ((x : Oref) → x.repo ≢ s.at.repo → made x ≡ copies x) → LinksFit new later links made
+      commits made settled wrote elsewhere =
+          let h : HasSession s.at (slice_get links s.at.repo) = has_session s.at (slice_get links s.at.repo) its in
+          let up : s.request.upto ≡ h.upto = acknowledges s of h.upto h.waits (h.is ∙ ap (λ (n : ℕ). Some (Joined n h.upto h.waits)) (sym of.session)) in
+          let k : Kept = record { session = s.at.session; upto = h.upto; awaits = is_reply h.waits; copies = copies } in
+          committed_inside old new s.at h.upto h.waits links copies later right h.is fit made elsewhere s.request place d up (λ inside. quiet d.called.same idle_all s.at.repo (Joined s.at.session h.upto h.waits) inside h.is) (subst (λ (o : Opened). s.at.repo < new.opened.repos → new.unsettled s.at.repo ≡ Calm → lives (session (o.base s.at.repo) (new.seen s.at.repo) s.at.session) ≡ true → NoneToFinish (o.base s.at.repo) (entries d.at) s.at.session later) d.called.same settled)
+          (λ fits tells. writes_on_pages base d.at s.request exact_behind sound_behind old.opened.client later k fits accepted.0 of.session sent.held tells) wrote
 
     leaves : (n : ℕ) → LinkAt new n later (slice_get links n) copies → AreAmong copies (kept after.cache.cache) → n < new.opened.repos → (slice_get after.links.items n ≡ slice_get links n) ⊎ HasLeft n after → LinkAt new n later (slice_get after.links.items n) (kept after.cache.cache)
     leaves n h fewer within (inl same) = subst (λ (o : Option Link). LinkAt new n later o (kept after.cache.cache)) (sym same) (one (slice_get links n) h)
@@ -283,7 +385,7 @@ module _ (old new : View) (before after : Held) (committed later : Ts → Bool) 
       then_client ends.0 d.called.same (then_less copies ends.1 ends.2
       (decided_by_any old new at.repo at.session t v links copies later d right (λ e. let f : false ≡ true = sym is ∙ e in cc) (others_told old links committed later copies told fits.links)))
 
-  asks : (r : ℕ) (t : Ts) (v : Verdict) → Does {X = answer.Asked} old new r (Ok (answers.Settled v)) (AskWork t (Ok (answers.Settled v))) → (x : Bool) → v.commit ≡ x → EndsSo x before after → VerdictOwed x old committed later t before → OutcomesTold old links (if_commit x t) committed later → ClientFits new later after
+  pub asks : (r : ℕ) (t : Ts) (v : Verdict) → Does {X = answer.Asked} old new r (Ok (answers.Settled v)) (AskWork t (Ok (answers.Settled v))) → (x : Bool) → v.commit ≡ x → EndsSo x before after → VerdictOwed x old committed later t before → OutcomesTold old links (if_commit x t) committed later → ClientFits new later after
   asks r t v d true is ends owed told =
       then_client ends.0 d.called.same (then_less (seen before.cache.cache) ends.1 ends.2
       (ask_all old new r links (seen before.cache.cache) later right (own_told old links committed later t copies (seen before.cache.cache) told owed fits.links) t (Ok (answers.Settled v)) d))
@@ -299,9 +401,11 @@ module _ (old new : View) (before after : Held) (committed later : Ts → Bool) 
   step (Unsent a) owed told = sends (fit_later told) a owed
   step (Received at m d there takes same) owed told =
       let h : HasSession at (slice_get links at.repo) = has_session at (slice_get links at.repo) there in
-      then_client same d.called.same (then_fewer (kept takes.left) takes.fewer (same_links new later (at_repo links at.repo (took m)) after.links.items (kept takes.left) takes.links
-      (message_all old new at h.upto h.waits links copies later right h.is (fit_later told) (kept takes.left) (others_stay at.repo m owed.objects before.cache.cache takes.left owed.spelled takes.brought) m owed.objects d owed.low owed.brings
-      (becomes at.repo m owed.objects before.cache.cache takes.left owed.spelled takes.brought))))
+      let held : Contents = before.cache.cache in
+      then_client same d.called.same (then_fewer (kept takes.left) takes.fewer (fewer_all new later after.links.items (taken_at at.repo held takes.left) (kept takes.left) (taken_among at.repo held takes.left new m owed takes.brought)
+      (same_links new later (at_repo links at.repo (took m)) after.links.items (taken_at at.repo held takes.left) takes.links
+      (message_inside old new at h.upto h.waits links copies later right h.is (fit_later told) (taken_at at.repo held takes.left) (stays_away at.repo held takes.left) m (objects_in at.repo held takes.left new m owed) d (news_low (fit_later told) at m d owed)
+      (brings_in at.repo held takes.left new m owed) (becomes at.repo held takes.left new m owed takes.brought)))))
   step (ReceivedNone at d there waits same fewer) owed told =
       let h : HasSession at (slice_get links at.repo) = has_session at (slice_get links at.repo) there in
       then_client same d.called.same (then_fewer copies fewer (none_came (fit_later told) at h d (none_all old new at h.upto h.waits links copies later right h.is (fit_later told) d) waits))
@@ -313,15 +417,17 @@ module _ (old new : View) (before after : Held) (committed later : Ts → Bool) 
       let h : HasSession at (slice_get links at.repo) = has_session at (slice_get links at.repo) there in
       then_client same d.called.same (then_fewer copies fewer (stops (fit_later told) at k d outage stop (refused_all old new at h.upto h.waits links copies later right h.is (fit_later told) k d)))
   step (Prepared s place d of less) owed told =
-      then_client less.0 d.called.same (then_less copies less.1 less.2 (prepared_in_any old new s.at.repo links copies later right (fit_later told) s.at.session s.request (Ok place) d (acknowledges (fit_later told) s of) owed))
+      then_client less.0 d.called.same (then_less copies less.1 less.2 (prepared_in_any old new s.at.repo links copies later right (fit_later told) s.at.session s.request (Ok place) d (acknowledges (fit_later told) s of) (λ p is inside. owed inside)))
   step (PrepareRefused s k d of idle learns same) owed told =
       then_client same d.called.same (then_fewer (kept learns.left) learns.fewer (same_links new later (links_learnt k s.at.repo links) after.links.items (kept learns.left) learns.links
-      (learn_all new later s.at.repo links before.cache.cache learns.left numbered (prepared_in_any old new s.at.repo links copies later right (fit_later told) s.at.session s.request (Err k) d (acknowledges (fit_later told) s of) owed) k
+      (learn_all new later s.at.repo links before.cache.cache learns.left numbered (prepared_in_any old new s.at.repo links copies later right (fit_later told) s.at.session s.request (Err k) d (acknowledges (fit_later told) s of) (λ p is inside. cc)) k
       (λ link within is. quiet d.called.same idle s.at.repo link within is) learns.kept_so)))
-  step (Committed s place d of idle keeps) owed told =
-      then_client keeps.0 d.called.same (then_less (seen before.cache.cache) keeps.1 keeps.2 (commits (fit_later told) s place (seen before.cache.cache) d of idle owed))
-  step (Transformed s place oref made d of writes idle keeps) owed told =
-      then_client keeps.0 d.called.same (then_less (with_made oref made before) keeps.1 keeps.2 (commits (fit_later told) s place (with_made oref made before) d of idle owed))
+  step (Committed s place d of wrote idle keeps) owed told =
+      then_client keeps.0 d.called.same (then_less (seen before.cache.cache) keeps.1 keeps.2 (commits (fit_later told) s place d of owed.1 idle owed.2 (seen before.cache.cache) owed.0
+      (λ tells x here. sees_written before.cache.cache s.request s.at.repo wrote x (here ∙ number (fit_later told) s place d of owed.1 idle owed.2)) (λ x away. sees_kept before.cache.cache s.request s.at.repo wrote x away)))
+  step (Transformed s place oref made d of session writes idle keeps) owed told =
+      then_client keeps.0 d.called.same (then_less (with_made oref made before) keeps.1 keeps.2 (commits (fit_later told) s place d of session idle owed.1 (with_made oref made before) owed.0
+      (λ tells x here. made_written s.request oref made writes copies x) (made_elsewhere s.request oref made writes s.at.repo (writes_there (fit_later told) s place d of session idle owed.1) copies)))
   step (CommitRefused s k d of idle learns same) owed told =
       then_client same d.called.same (then_fewer (kept learns.left) learns.fewer (same_links new later (links_learnt k s.at.repo links) after.links.items (kept learns.left) learns.links
       (learn_all new later s.at.repo links before.cache.cache learns.left numbered (uncommitted_in_any old new s.at.repo links copies later right (fit_later told) s.at.session s.request k d) k

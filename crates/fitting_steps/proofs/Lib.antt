@@ -1,5 +1,14 @@
+pub mod Alone
 pub mod Calls
 pub mod Changes
+pub mod Granting
 pub mod Losing
+pub mod OneCopies
+pub mod OneRun
+pub mod OneStep
+pub mod Paging
+pub mod Quieting
+pub mod Rising
 pub mod Running
 pub mod Standing
+pub mod Trying

@@ -1,9 +1,9 @@
 -- A session that was lost is no link's again.
-use Rattle.client_laws.proofs.Leaving.{HasCalled, acts, adds_front}
+use Rattle.client_laws.proofs.Leaving.{acts, behind_call}
 use Rattle.client_laws.proofs.Lending.{Front, changes_here, none_more}
 use Rattle.client_laws.proofs.Stepping.{opened_stays}
 use Rattle.client_laws.proofs.Whole.{at_other}
-use Rattle.client_state.specs.Calling.{is_session_of, links_asked, links_drawn, links_joined, links_refused, upto_in}
+use Rattle.client_state.specs.Calling.{is_session_of, links_asked, links_drawn, links_joined, links_refused}
 use Rattle.client_state.specs.Learning.{is_session, links_learnt, without_session}
 use Rattle.client_state.specs.Links.{acknowledged, answered, at_repo, changed_at, session_in, stopped, waiting}
 use Rattle.client_state.specs.Moving.{Aborted, Asked, AskedInVain, AskedOwn, CommitRefused, Committed, Connected, Decided, DecideRefused, Drawn, EndsSo, Fetched, Finished, Forgot, Granted, LeavesSome, Learns, Loses, Moves, PrepareRefused, Prepared, ReceiveRefused, ReceiveStopped, Received, ReceivedNone, Rested, SendsNothing, Settled, StopsWaiting, Transformed, Unsent}
@@ -13,14 +13,13 @@ use Rattle.client_state.specs.declared.link.Link.TheVariants.{Apart, Joined, Uns
 use Rattle.client_state.specs.declared.link.Link.{Link}
 use Rattle.client_state.specs.declared.link.Waits.TheVariants.{Epoch, Idle, Past, Reply}
 use Rattle.client_state.specs.declared.link.Waits.{Waits}
+use Rattle.fitting_steps.specs.Acting.{acts_of}
 use Rattle.fitting_steps.specs.Lost.{HasLost}
 use Rattle.fitting_steps.specs.Runs.{Leads, Moment, Stepped, Turn, Waited}
 use Rattle.local_history.specs.History.{Base}
-use Rattle.message_outbox.specs.declared.answers.Asked.TheVariants as answers
 use Rattle.message_outbox.specs.declared.answers.Welcome.{Welcome}
 use Rattle.message_outbox.specs.declared.message.Message.TheVariants.{Grant, Invalid, Page, Upgrade}
 use Rattle.message_outbox.specs.declared.message.Message.{Message}
-use Rattle.port.specs.Acting as acting
 use Rattle.port.specs.Acting.{Acts}
 use Rattle.port.specs.Growing.{Grew}
 use Rattle.port.specs.Views as views
@@ -30,45 +29,14 @@ use Rattle.refusal_reasons.specs.declared.reason.Reason.TheVariants as reasons
 use Rattle.session_outbox.proofs.Exactness.{sessions-rise}
 use Rattle.session_outbox.specs.Calls.{last_session}
 use Rattle.session_outbox.specs.Trace.{Item}
-use Rattle.std.proofs.Common.{Bool, List, [], ap, arith, cond, false, inl, inr, refl, subst, sym, true, ◌∷◌, ◌≡◌, ◌≢◌, ◌≤◌, ℕ}
-use Rattle.std.proofs.lemmas.Bool.Decides.{nat_tests}
-use Rattle.std.proofs.lemmas.Bool.{cases_eq}
+use Rattle.std.proofs.Common.{Bool, List, [], ap, append_assoc, arith, cond, false, inl, inr, refl, subst, sym, true, ◌++◌, ◌∙◌, ◌∷◌, ◌≡◌, ◌≤◌, ℕ}
+use Rattle.std.proofs.lemmas.Bool.{cases_eq, eqb-true}
 use Rattle.std.specs.List.{slice_get}
 use Rattle.std.specs.Option.{option_map}
-use Rattle.std.specs.Prelude.{Err, None, Ok, Option, Result, Some, nat_eq, ◌<◌, ◌⊎◌}
+use Rattle.std.specs.Prelude.{Err, None, Ok, Option, Result, Some, nat_eq, ◌<◌}
 use Rattle.thor_value.specs.declared.names.Ts.{Ts}
 use Rattle.validation_window.specs.declared.refusal.Refusal.TheVariants as refused
 use Rattle.validation_window.specs.declared.refusal.Refusal.{Refusal}
-
--- ---- what was called
-
-sends_acts : (old new : View) (before after : Held) → SendsNothing old new before after → Acts old new
-sends_acts old new before after (Rested same less) = acting.Rests same
-sends_acts old new before after (Connected repo f apart same fewer) = acting.Connected repo before.client f.result (f.call refl)
-sends_acts old new before after (Fetched at page left f idle same fewer) = acting.Fetched at.repo at.session page (upto_in (slice_get before.links.items at.repo)) f.result (f.call refl)
-sends_acts old new before after (Granted at left f idle same fewer) = acting.Granted at.repo at.session f.result (f.call refl)
-sends_acts old new before after (Drawn at answer left f there same fewer) = acting.Drew at.repo at.session f.floor f.result (f.call refl)
-sends_acts old new before after (Asked r t result d less) = acting.Asked r t result d
-sends_acts old new before after (Settled r t v sent index d there links same fewer) = acting.Asked r t (Ok (answers.Settled v)) d
-
-moves_acts : (old new : View) (before after : Held) → Moves old new before after → Acts old new
-moves_acts old new before after (Unsent a) = sends_acts old new before after a
-moves_acts old new before after (Received at m d there takes same) = acting.Received at.repo at.session (Ok (Some m)) d
-moves_acts old new before after (ReceivedNone at d there waits same fewer) = acting.Received at.repo at.session (Ok None) d
-moves_acts old new before after (ReceiveRefused at k d there loses same) = acting.Received at.repo at.session (Err k) d
-moves_acts old new before after (ReceiveStopped at k d there outage stops same fewer) = acting.Received at.repo at.session (Err k) d
-moves_acts old new before after (Prepared s place d of less) = acting.Prepared s.at.repo s.at.session s.request (Ok place) d
-moves_acts old new before after (PrepareRefused s k d of idle learns same) = acting.Prepared s.at.repo s.at.session s.request (Err k) d
-moves_acts old new before after (Committed s place d of idle keeps) = acting.Committed s.at.repo s.at.session s.request (Ok place) d
-moves_acts old new before after (Transformed s place oref made d of writes idle keeps) = acting.Committed s.at.repo s.at.session s.request (Ok place) d
-moves_acts old new before after (CommitRefused s k d of idle learns same) = acting.Committed s.at.repo s.at.session s.request (Err k) d
-moves_acts old new before after (Decided at t v d idle ends) = acting.Decided at.repo at.session t true (Ok v) d
-moves_acts old new before after (Aborted at t v d less) = acting.Decided at.repo at.session t false (Ok v) d
-moves_acts old new before after (DecideRefused at t commit k d loses same) = acting.Decided at.repo at.session t commit (Err k) d
-moves_acts old new before after (Finished r t commit result d less) = acting.Finished r t commit result d
-moves_acts old new before after (Forgot r t result d less) = acting.Forgot r t result d
-moves_acts old new before after (AskedOwn r t v d ends) = acting.Asked r t (Ok (answers.Settled v)) d
-moves_acts old new before after (AskedInVain r t result d leave same fewer) = acting.Asked r t result d
 
 -- ---- sessions are given with rising numbers
 
@@ -78,30 +46,27 @@ grew_rises b c u w T S g = subst (λ (x : List Item). last_session T ≤ last_se
 front_rises : (T S : List Item) → Front T S → last_session T ≤ last_session S
 front_rises T S f = subst (λ (x : List Item). last_session T ≤ last_session x) (sym f.1) (sessions-rise T f.0)
 
-seen_rises : (old new : View) → Acts old new → (n : ℕ) → last_session (old.seen n) ≤ last_session (new.seen n)
-seen_rises old new a n = elim (acts (λ e. false) old new a (λ e is. refl)) [
-  | inl same ↦ subst (λ (v : View). last_session (old.seen n) ≤ last_session (v.seen n)) (sym same) (itself (last_session (old.seen n)))
-  | inr c ↦ by c (cases_eq n c.r)
+-- what is seen of a repository grows
+pub seen_grows : (old new : View) → Acts old new → (n : ℕ) → Front (old.seen n) (new.seen n)
+seen_grows old new a n = elim (acts (λ e. false) old new a (λ e is. refl)) [
+  | inl same ↦ subst (λ (v : View). Front (old.seen n) (v.seen n)) (sym same) (none_more (old.seen n) (old.seen n) refl)
+  | inr c ↦ behind_call (λ e. false) old new c n (λ m. Front (old.seen m) (new.seen m)) (λ g. grown (old.opened.base n) (old.unsettled n) (new.unsettled n) (old.seen n) (new.seen n) g)
+      (λ g left front. fronts (old.seen n) c.at (new.seen n) (grown (old.opened.base n) (old.unsettled n) c.met (old.seen n) c.at g) front)
 ]
   where
-    itself : (m : ℕ) → m ≤ m
-    itself m = omega arith
+    grown : (b : Base) (u w : views.Unsettled) (T S : List Item) → Grew b old.opened.client u T w S → Front T S
+    grown b u w T S g = (g.gap, g.ends)
 
-    front : (c : HasCalled (λ e. false) old new) → Front c.at (new.seen c.r)
-    front c = elim c.left [
-      | inl x ↦ adds_front (λ e. false) c.at (new.seen c.r) (new.unsettled c.r) x.1
-      | inr x ↦ none_more c.at (new.seen c.r) x.1
-    ]
+    fronts : (T S R : List Item) → Front T S → Front S R → Front T R
+    fronts T S R f g = (f.0 ++ g.0, g.1 ∙ ap (λ (U : List Item). U ++ g.0) f.1 ∙ append_assoc T f.0 g.0)
 
-    here : (c : HasCalled (λ e. false) old new) → last_session (old.seen c.r) ≤ last_session (new.seen c.r)
-    here c =
-        let l : last_session (old.seen c.r) ≤ last_session c.at = grew_rises (old.opened.base c.r) old.opened.client (old.unsettled c.r) c.met (old.seen c.r) c.at c.called.reached in
-        let m : last_session c.at ≤ last_session (new.seen c.r) = front_rises c.at (new.seen c.r) (front c) in
-        omega arith
+seen_rises : (old new : View) → Acts old new → (n : ℕ) → last_session (old.seen n) ≤ last_session (new.seen n)
+seen_rises old new a n = front_rises (old.seen n) (new.seen n) (seen_grows old new a n)
 
-    by : (c : HasCalled (λ e. false) old new) → (n ≡ c.r) ⊎ (n ≢ c.r) → last_session (old.seen n) ≤ last_session (new.seen n)
-    by c (inl e) = subst (λ (m : ℕ). last_session (old.seen m) ≤ last_session (new.seen m)) (sym e) (here c)
-    by c (inr ne) = grew_rises (old.opened.base n) old.opened.client (old.unsettled n) (new.unsettled n) (old.seen n) (new.seen n) (c.called.others n ne)
+-- The session was the link's before, or the client was told it as it connected there.
+pub data From (s : ℕ) (old new : View) (before : Held) (r : ℕ) : Type 0 where
+  WasIts : is_session_of s (slice_get before.links.items r) ≡ true → From s old new before r
+  IsGiven : (w : Welcome) → Does {X = Welcome} old new r (Ok w) (ConnectWork before.client (Ok w)) → w.session ≡ s → From s old new before r
 
 -- ---- links
 
@@ -193,48 +158,52 @@ module _ (s : ℕ) where
 
   -- ---- a step
 
-  module _ (old new : View) (before after : Held) (r : ℕ) (given : s ≤ last_session (old.seen r)) (h : Not (slice_get before.links.items r)) where
+  back : (x y : Bool) → (x ≡ false → y ≡ false) → y ≡ true → x ≡ true
+  back true y keeps e = refl
+  back false y keeps e = let f : false ≡ true = sym (keeps refl) ∙ e in cc
+
+  module _ (old new : View) (before after : Held) (r : ℕ) (here : is_session_of s (slice_get after.links.items r) ≡ true) where
     abbrev links : List Link
     links = before.links.items
 
-    same : after.links.items ≡ links → Not (slice_get after.links.items r)
-    same e = subst (λ (ls : List Link). Not (slice_get ls r)) (sym e) h
+    abbrev Before : Type 0
+    Before = From s old new before r
 
-    so : (ls : List Link) → after.links.items ≡ ls → Not (slice_get ls r) → Not (slice_get after.links.items r)
-    so ls e n = subst (λ (xs : List Link). Not (slice_get xs r)) (sym e) n
+    so : (ls : List Link) → after.links.items ≡ ls → (Not (slice_get links r) → Not (slice_get ls r)) → Before
+    so ls e keeps = WasIts (back (is_session_of s (slice_get links r)) (is_session_of s (slice_get ls r)) keeps (subst (λ (xs : List Link). is_session_of s (slice_get xs r) ≡ true) e here))
 
-    other_number : (n : ℕ) → s < n → nat_eq n s ≡ false
-    other_number n l = grind (arith, nat_tests)
+    same : after.links.items ≡ links → Before
+    same e = so links e (λ h. h)
 
-    joins : (repo c : ℕ) (result : Result Welcome Refusal) → Does old new repo result (ConnectWork c result) → Not (slice_get (links_joined result repo links) r)
-    joins repo c (Err k) d = h
-    joins repo c (Ok w) d = at_keeps links repo r (λ l. Joined w.session w.place Idle) (λ e l was. other_number w.session (by e d.met d.answer)) h
-      where
-        by : r ≡ repo → (m : views.Unsettled) → Answered {X = Welcome} repo (Ok w) m d.at (new.seen repo) (new.unsettled repo) (ConnectWork c (Ok w) (old.opened.base repo) d.at (new.seen repo) (new.unsettled repo)) → s < w.session
-        by e Calm a =
-            let l : s ≤ last_session (old.seen repo) = subst (λ (n : ℕ). s ≤ last_session (old.seen n)) e given in
-            let m : last_session (old.seen repo) ≤ last_session d.at = grew_rises (old.opened.base repo) old.opened.client (old.unsettled repo) d.met (old.seen repo) d.at d.called.reached in
-            let number = a.0.session in
-            omega (arith, number)
-        by e (MayCome i) a = absurd a.0
-        by e Came a = absurd a.0
-        by e Halted a = absurd a.0
-
-    stops : (repo : ℕ) → StopsWaiting repo before after → Not (slice_get after.links.items r)
-    stops repo stop = elim (cases_eq r repo) [
-      | inl e ↦ subst (λ (n : ℕ). Not (slice_get after.links.items n)) (sym e) (subst Not (sym stop.here) (one (waiting Idle) (waiting_keeps Idle) (slice_get links repo) (subst (λ (n : ℕ). Not (slice_get links n)) e h)))
-      | inr ne ↦ subst Not (sym (stop.others r ne)) (one stopped stopped_keeps (slice_get links r) h)
+    joins : (repo : ℕ) (result : Result Welcome Refusal) → Does old new repo result (ConnectWork before.client result) → after.links.items ≡ links_joined result repo links → Before
+    joins repo (Err k) d e = same e
+    joins repo (Ok w) d e = elim (cases_eq r repo) [
+      | inl is ↦ by (slice_get links repo) refl is
+      | inr ne ↦ so (at_repo links repo (λ l. Joined w.session w.place Idle)) e (λ h. subst Not (sym (at_other links repo r (λ l. Joined w.session w.place Idle) ne)) h)
     ]
+      where
+        by : (o : Option Link) → slice_get links repo ≡ o → r ≡ repo → Before
+        by None none is = same (e ∙ ap (changed_at links repo (λ l. Joined w.session w.place Idle)) none)
+        by (Some l) some is =
+            let there : is_session_of s (slice_get (at_repo links repo (λ l. Joined w.session w.place Idle)) repo) ≡ true = subst (λ (n : ℕ). is_session_of s (slice_get (at_repo links repo (λ l. Joined w.session w.place Idle)) n) ≡ true) is (subst (λ (xs : List Link). is_session_of s (slice_get xs r) ≡ true) e here) in
+            let number : nat_eq w.session s ≡ true = ap (is_session_of s) (sym (changes_here links repo (λ l. Joined w.session w.place Idle) l some)) ∙ there in
+            IsGiven w (subst (λ (n : ℕ). Does {X = Welcome} old new n (Ok w) (ConnectWork before.client (Ok w))) (sym is) d) (eqb-true w.session s number)
+
+    stops : (repo : ℕ) → StopsWaiting repo before after → Before
+    stops repo stop = WasIts (back (is_session_of s (slice_get links r)) (is_session_of s (slice_get after.links.items r)) by here)
       where
         one : (f : Link → Link) → ((l : Link) → is_session s l ≡ false → is_session s (f l) ≡ false) → (o : Option Link) → Not o → Not (option_map f o)
         one f keeps None n = refl
         one f keeps (Some l) n = keeps l n
 
-    leaves : LeavesSome before after → Not (slice_get after.links.items r)
-    leaves leave = elim (leave r) [
-      | inl e ↦ subst Not (sym e) h
-      | inr left ↦ apart (slice_get after.links.items r) left.apart
-    ]
+        by : Not (slice_get links r) → Not (slice_get after.links.items r)
+        by h = elim (cases_eq r repo) [
+          | inl e ↦ subst (λ (n : ℕ). Not (slice_get after.links.items n)) (sym e) (subst Not (sym stop.here) (one (waiting Idle) (waiting_keeps Idle) (slice_get links repo) (subst (λ (n : ℕ). Not (slice_get links n)) e h)))
+          | inr ne ↦ subst Not (sym (stop.others r ne)) (one stopped stopped_keeps (slice_get links r) h)
+        ]
+
+    leaves : LeavesSome before after → Before
+    leaves leave = WasIts (back (is_session_of s (slice_get links r)) (is_session_of s (slice_get after.links.items r)) by here)
       where
         apart : (o : Option Link) → session_in r o ≡ None → Not o
         apart None e = refl
@@ -242,47 +211,71 @@ module _ (s : ℕ) where
         apart (Some (Joined n upto waits)) e = cc
         apart (Some (Unsettled sent index)) e = refl
 
-    ends : (x : Bool) → EndsSo x before after → Not (slice_get after.links.items r)
+        by : Not (slice_get links r) → Not (slice_get after.links.items r)
+        by h = elim (leave r) [
+          | inl e ↦ subst Not (sym e) h
+          | inr left ↦ apart (slice_get after.links.items r) left.apart
+        ]
+
+    ends : (x : Bool) → EndsSo x before after → Before
     ends true e = same e.1
     ends false e = same e.1
 
-    sends : SendsNothing old new before after → Not (slice_get after.links.items r)
+    sends : SendsNothing old new before after → Before
     sends (Rested stays less) = same less.1
-    sends (Connected repo f apart stays fewer) = so (links_joined f.result repo links) f.links (joins repo before.client f.result (f.call refl))
-    sends (Fetched at page left f idle stays fewer) = so (links_asked f.result at.repo links) f.links (asked_keeps links at.repo r h f.result)
-    sends (Granted at left f idle stays fewer) = so (links_asked f.result at.repo links) f.links (asked_keeps links at.repo r h f.result)
-    sends (Drawn at answer left f there stays fewer) = so (links_drawn f.result at.repo links) f.links (drawn_keeps links at.repo r h f.result)
+    sends (Connected repo f apart stays fewer) = joins repo f.result (f.call refl) f.links
+    sends (Fetched at page left f idle stays fewer) = so (links_asked f.result at.repo links) f.links (λ h. asked_keeps links at.repo r h f.result)
+    sends (Granted at left f idle stays fewer) = so (links_asked f.result at.repo links) f.links (λ h. asked_keeps links at.repo r h f.result)
+    sends (Drawn at answer left f there stays fewer) = so (links_drawn f.result at.repo links) f.links (λ h. drawn_keeps links at.repo r h f.result)
     sends (Asked n t result d less) = same less.1
-    sends (Settled n t v sent index d there e stays fewer) = so (at_repo links n (λ l. Apart)) e (at_keeps links n r (λ l. Apart) (λ e l was. refl) h)
+    sends (Settled n t v sent index d there e stays fewer) = so (at_repo links n (λ l. Apart)) e (λ h. at_keeps links n r (λ l. Apart) (λ e l was. refl) h)
 
-    steps : Moves old new before after → Not (slice_get after.links.items r)
+    pub steps : Moves old new before after → Before
     steps (Unsent a) = sends a
-    steps (Received at m d there takes stays) = so (at_repo links at.repo (took m)) takes.links (at_keeps links at.repo r (took m) (λ e. took_keeps m) h)
+    steps (Received at m d there takes stays) = so (at_repo links at.repo (took m)) takes.links (λ h. at_keeps links at.repo r (took m) (λ e. took_keeps m) h)
     steps (ReceivedNone at d there (inl e) stays fewer) = same e
-    steps (ReceivedNone at d there (inr e) stays fewer) = so (at_repo links at.repo (waiting Idle)) e (at_keeps links at.repo r (waiting Idle) (λ e. waiting_keeps Idle) h)
-    steps (ReceiveRefused at k d there loses stays) = so (links_refused k at.repo links) loses.links (refused_keeps links at.repo r h k)
+    steps (ReceivedNone at d there (inr e) stays fewer) = so (at_repo links at.repo (waiting Idle)) e (λ h. at_keeps links at.repo r (waiting Idle) (λ e. waiting_keeps Idle) h)
+    steps (ReceiveRefused at k d there loses stays) = so (links_refused k at.repo links) loses.links (λ h. refused_keeps links at.repo r h k)
     steps (ReceiveStopped at k d there outage stop stays fewer) = stops at.repo stop
     steps (Prepared x place d of less) = same less.1
-    steps (PrepareRefused x k d of idle learns stays) = so (links_learnt k x.at.repo links) learns.links (learnt_keeps links x.at.repo r h k)
-    steps (Committed x place d of idle keeps) = same keeps.1
-    steps (Transformed x place oref made d of writes idle keeps) = same keeps.1
-    steps (CommitRefused x k d of idle learns stays) = so (links_learnt k x.at.repo links) learns.links (learnt_keeps links x.at.repo r h k)
+    steps (PrepareRefused x k d of idle learns stays) = so (links_learnt k x.at.repo links) learns.links (λ h. learnt_keeps links x.at.repo r h k)
+    steps (Committed x place d of wrote idle keeps) = same keeps.1
+    steps (Transformed x place oref made d of session writes idle keeps) = same keeps.1
+    steps (CommitRefused x k d of idle learns stays) = so (links_learnt k x.at.repo links) learns.links (λ h. learnt_keeps links x.at.repo r h k)
     steps (Decided at t v d idle e) = ends v.commit e
     steps (Aborted at t v d less) = same less.1
-    steps (DecideRefused at t commit k d loses stays) = so (links_refused k at.repo links) loses.links (refused_keeps links at.repo r h k)
+    steps (DecideRefused at t commit k d loses stays) = so (links_refused k at.repo links) loses.links (λ h. refused_keeps links at.repo r h k)
     steps (Finished n t commit result d less) = same less.1
     steps (Forgot n t result d less) = same less.1
     steps (AskedOwn n t v d e) = ends v.commit e
     steps (AskedInVain n t result d leave stays fewer) = leaves leave
 
+-- a session that was given isn't given again
+given_once : (old new : View) (before : Held) (r s : ℕ) → s ≤ last_session (old.seen r) → is_session_of s (slice_get before.links.items r) ≡ false → From s old new before r → ⊥
+given_once old new before r s given gone (WasIts e) = let f : false ≡ true = sym gone ∙ e in cc
+given_once old new before r s given gone (IsGiven w d is) = by d.met d.answer
+  where
+    by : (m : views.Unsettled) → Answered {X = Welcome} r (Ok w) m d.at (new.seen r) (new.unsettled r) (ConnectWork before.client (Ok w) (old.opened.base r) d.at (new.seen r) (new.unsettled r)) → ⊥
+    by Calm a =
+        let up : last_session (old.seen r) ≤ last_session d.at = grew_rises (old.opened.base r) old.opened.client (old.unsettled r) d.met (old.seen r) d.at d.called.reached in
+        let number = a.0.session in
+        absurd (omega (arith, number, is))
+    by (MayCome i) a = absurd a.0
+    by Came a = absurd a.0
+    by Halted a = absurd a.0
+
 -- ---- a run
 
 turn_lost : (a z : Moment) (r s : ℕ) → Turn a z → r < a.port.opened.repos → HasLost r s a → HasLost r s z
 turn_lost a z r s (Stepped moves owed told right) within lost = record {
-  given = rises (last_session (a.port.seen r)) (last_session (z.port.seen r)) lost.given (seen_rises a.port z.port (moves_acts a.port z.port a.held z.held moves) r);
-  gone = steps s a.port z.port a.held z.held r lost.given lost.gone moves;
+  given = rises (last_session (a.port.seen r)) (last_session (z.port.seen r)) lost.given (seen_rises a.port z.port (acts_of a.port z.port a.held z.held moves) r);
+  gone = by (is_session_of s (slice_get z.held.links.items r)) refl;
 }
   where
+    by : (x : Bool) → is_session_of s (slice_get z.held.links.items r) ≡ x → x ≡ false
+    by false e = refl
+    by true e = absurd (given_once a.port z.port a.held r s lost.given lost.gone (steps s a.port z.port a.held z.held r e moves))
+
     rises : (n m : ℕ) → s ≤ n → n ≤ m → s ≤ m
     rises n m l k = omega arith
 turn_lost a z r s (Waited same opened grew told right) within lost = record {
@@ -294,7 +287,7 @@ turn_lost a z r s (Waited same opened grew told right) within lost = record {
     rises n m l k = omega arith
 
 same_opened : (a z : Moment) → Turn a z → z.port.opened ≡ a.port.opened
-same_opened a z (Stepped moves owed told right) = opened_stays a.port z.port (moves_acts a.port z.port a.held z.held moves)
+same_opened a z (Stepped moves owed told right) = opened_stays a.port z.port (acts_of a.port z.port a.held z.held moves)
 same_opened a z (Waited same opened grew told right) = opened
 
 pub ever_lost : (a z : Moment) (between : List Moment) (r s : ℕ) → Leads a between z → r < a.port.opened.repos → HasLost r s a → HasLost r s z

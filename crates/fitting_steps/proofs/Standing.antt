@@ -1,8 +1,9 @@
 -- What an accepted request of a fitting client has read is what stands there.
 use Rattle.client_cache.specs.Copies.{kept}
-use Rattle.client_laws.proofs.Lending.{Front, answered_front, met_fits, one_more, sound_now}
+use Rattle.client_laws.proofs.Lending.{Front, answered_front, met_standing, one_more, sound_now}
 use Rattle.client_laws.proofs.Resting.{rests}
-use Rattle.client_laws.specs.Fitting.{FitsAt, Kept}
+use Rattle.client_laws.proofs.Staying.{moved_stands}
+use Rattle.client_laws.specs.Fitting.{FitsAt, Kept, stands}
 use Rattle.client_laws.specs.Seen.{IsSeenRight, LinkAt, LinkIn}
 use Rattle.client_state.specs.Calling.{upto_in}
 use Rattle.client_state.specs.Links.{is_reply}
@@ -10,28 +11,39 @@ use Rattle.client_state.specs.Moving.{InSession}
 use Rattle.client_state.specs.declared.held.Held.{Held}
 use Rattle.client_state.specs.declared.link.Link.TheVariants.{Joined}
 use Rattle.client_state.specs.declared.link.Link.{Link}
-use Rattle.commit_log.specs.declared.entry.Entry.TheVariants.{Prepared}
+use Rattle.commit_log.specs.declared.entry.Entry.TheVariants.{One, Prepared, Upgraded}
+use Rattle.commit_log.specs.declared.entry.Entry.{Entry}
 use Rattle.commit_log.specs.declared.request.Request.{Request}
 use Rattle.fitting_steps.proofs.Changes.{HasSession, has_session}
+use Rattle.fitting_steps.proofs.Paging.{accepted_lives}
 use Rattle.fitting_steps.specs.Owed.{ClientFits}
 use Rattle.local_history.proofs.Growth.{sound-beginning}
-use Rattle.local_history.specs.History.{Base, known_by, state}
-use Rattle.local_history.specs.Requests.{has_read}
+use Rattle.local_history.specs.History.{Base, is_life, known_by, state}
+use Rattle.local_history.specs.Requests.{has_read, is_upgrade}
 use Rattle.local_history.specs.Sound.{sound}
 use Rattle.message_outbox.specs.declared.answers.At.{At}
 use Rattle.port.specs.Growing.{Called}
 use Rattle.port.specs.Views.{Calm, Came, Halted, MayCome, Opened, Unsettled, View}
 use Rattle.port.specs.Works.{Answered, CommitWork, Does, PrepareWork, alone_entry}
+use Rattle.session_outbox.proofs.Sessions.{session-end}
 use Rattle.session_outbox.proofs.Traces.{entries-append}
+use Rattle.session_outbox.specs.Session.{Session, lives_on, meet, session}
 use Rattle.session_outbox.specs.Trace.{E, Item, entries}
-use Rattle.session_outbox.specs.Verdict.{verdict}
-use Rattle.std.proofs.Common.{Bool, ap, refl, subst, sym, true, ◌∙◌, ◌≡◌, ℕ}
+use Rattle.session_outbox.specs.Verdict.{verdict, verdict_by}
+use Rattle.std.proofs.Common.{Bool, [], ap, cond, false, refl, subst, sym, true, ◌++◌, ◌∙◌, ◌∷◌, ◌≡◌, ℕ}
 use Rattle.std.specs.List.{slice_get}
 use Rattle.std.specs.Prelude.{List, None, Ok, Option, Some, ◌<◌}
 use Rattle.thor_value.specs.FiniteMap.{get}
 use Rattle.thor_value.specs.declared.names.Oref.{Oref}
 use Rattle.thor_value.specs.declared.names.Ts.{Ts}
 use Rattle.thor_value.specs.declared.values.Obj.{Obj}
+
+no_life : (q : Request) → is_life (alone_entry q) ≡ false
+no_life q = by (is_upgrade q)
+  where
+    by : (t : Bool) → is_life (cond t (Upgraded q) (One q)) ≡ false
+    by true = refl
+    by false = refl
 
 module _ (old new : View) (at : At) (q : Request) (held : Held) (committed : Ts → Bool) (seen : IsSeenRight new at.repo committed) (within : at.repo < old.opened.repos) (there : InSession at held) (up : q.upto ≡ upto_in (slice_get held.links.items at.repo))
     (tells : (old.opened.base at.repo).tells ≡ true) (fits : ClientFits old committed held) (x : Oref) (o : Obj) (here : x.repo ≡ at.repo) (read : has_read q x ≡ true) (copy : kept held.cache.cache x ≡ Some o) where
@@ -41,12 +53,24 @@ module _ (old new : View) (at : At) (q : Request) (held : Held) (committed : Ts 
   abbrev Stands : List Item → Type 0
   Stands T = get (state b (entries T)).objects x ≡ Some o
 
-  accepted : (T : List Item) (met : Unsettled) → Called old new at.repo T met → Front T (new.seen at.repo) → met ≡ Calm → verdict b T at.session q ≡ None → known_by b (entries T) q.tx ≡ None → Stands T
-  accepted T met called front calm ok once =
+  -- the session hasn't ended behind the entry
+  still_there : (T : List Item) (e : Entry) → is_life e ≡ false → new.seen at.repo ≡ T ++ E e ∷ [] → verdict b T at.session q ≡ None → stands (session b (new.seen at.repo) at.session) ≡ true
+  still_there T e plain behind ok = ap (λ (S : List Item). stands (session b S at.session)) behind ∙ by (session b T at.session) refl ok
+    where
+      on : (v : Session) → lives_on v.client (E e) ≡ true
+      on v = ap (λ (t : Bool). cond t false true) plain
+
+      by : (o : Option Session) → session b T at.session ≡ o → verdict_by b (entries T) at.session q o ≡ None → stands (session b (T ++ E e ∷ []) at.session) ≡ true
+      by None is v = cc
+      by (Some v) is accepts =
+          ap stands (session-end b T (E e) at.session ∙ ap (λ (u : Option Session). meet b at.session (state b (entries T)) u (E e)) is) ∙ moved_stands b at.session (state b (entries T)) (E e) v (accepted_lives b T at.session q v accepts) (on v)
+
+  accepted : (T : List Item) (met : Unsettled) → Called old new at.repo T met → Front T (new.seen at.repo) → met ≡ Calm → new.unsettled at.repo ≡ Calm → stands (session b (new.seen at.repo) at.session) ≡ true → verdict b T at.session q ≡ None → known_by b (entries T) q.tx ≡ None → Stands T
+  accepted T met called front calm settled on ok once =
       let h : HasSession at (slice_get held.links.items at.repo) = has_session at (slice_get held.links.items at.repo) there in
       let link : LinkIn old at.repo committed (Joined at.session h.upto h.waits) (kept held.cache.cache) = subst (λ (l : Option Link). LinkAt old at.repo committed l (kept held.cache.cache)) h.is (fits.links.each at.repo within) in
       let k : Kept = record { session = at.session; upto = h.upto; awaits = is_reply h.waits; copies = kept held.cache.cache } in
-      let now : FitsAt old.opened.client b met T committed k = met_fits old new at.repo committed T met called seen front k link in
+      let now : FitsAt old.opened.client b met T committed k = met_standing old new at.repo committed T met called seen front k link settled on in
       let sd : sound b (entries T) = sound-beginning b (entries T) (entries front.0) (subst (sound b) (ap entries front.1 ∙ entries-append T front.0) (sound_now old new at.repo committed called.same seen)) in
       rests old.opened.client b T committed k q sd once (subst (λ (u : Unsettled). FitsAt old.opened.client b u T committed k) calm now) ok (up ∙ ap upto_in h.is) tells x o
       (here ∙ sym (subst (λ (z : Opened). (z.base at.repo).repo ≡ at.repo) called.same seen.numbered)) read copy
@@ -58,7 +82,7 @@ module _ (old new : View) (at : At) (q : Request) (held : Held) (committed : Ts 
       front = answered_front {X = ℕ} at.repo (Ok place) d.met d.at (new.seen at.repo) (new.unsettled at.repo) (CommitWork at.session q (Ok place) b d.at (new.seen at.repo) (new.unsettled at.repo)) (λ w. one_more d.at (new.seen at.repo) (E (alone_entry q)) w.2.0) d.answer
 
       by : (m : Unsettled) → d.met ≡ m → Answered {X = ℕ} at.repo (Ok place) m d.at (new.seen at.repo) (new.unsettled at.repo) (CommitWork at.session q (Ok place) b d.at (new.seen at.repo) (new.unsettled at.repo)) → Stands d.at
-      by Calm e w = accepted d.at d.met d.called front e w.0 once
+      by Calm e w = accepted d.at d.met d.called front e w.2.1 (still_there d.at (alone_entry q) (no_life q) w.2.0 w.0) w.0 once
       by (MayCome i) e w = absurd w.0
       by Came e w = absurd w.0
       by Halted e w = absurd w.0
@@ -70,7 +94,7 @@ module _ (old new : View) (at : At) (q : Request) (held : Held) (committed : Ts 
       front = answered_front {X = ℕ} at.repo (Ok place) d.met d.at (new.seen at.repo) (new.unsettled at.repo) (PrepareWork at.session q (Ok place) b d.at (new.seen at.repo) (new.unsettled at.repo)) (λ w. one_more d.at (new.seen at.repo) (E (Prepared q)) w.2.0) d.answer
 
       by : (m : Unsettled) → d.met ≡ m → Answered {X = ℕ} at.repo (Ok place) m d.at (new.seen at.repo) (new.unsettled at.repo) (PrepareWork at.session q (Ok place) b d.at (new.seen at.repo) (new.unsettled at.repo)) → Stands d.at
-      by Calm e w = accepted d.at d.met d.called front e w.0 once
+      by Calm e w = accepted d.at d.met d.called front e w.2.1 (still_there d.at (Prepared q) refl w.2.0 w.0) w.0 once
       by (MayCome i) e w = absurd w.0
       by Came e w = absurd w.0
       by Halted e w = absurd w.0

@@ -2,22 +2,23 @@
 use Rattle.client_cache.specs.Copies.{kept, seen}
 use Rattle.client_cache.specs.Pages.{same_name}
 use Rattle.client_cache.specs.Placing.{IsPageOf}
-use Rattle.client_laws.specs.Fitting.{Copies, NoneToFinish, SameCopies, WritesOnPages, with_writes}
+use Rattle.client_laws.specs.Fitting.{Copies, NoneToFinish}
 use Rattle.client_laws.specs.Links.{BringsContent}
 use Rattle.client_laws.specs.Steps.{LinksFit}
 use Rattle.client_laws.specs.Verdicts.{TakesAll}
 use Rattle.client_state.specs.declared.held.Held.{Held}
 use Rattle.commit_log.specs.declared.request.Request.{Request}
 use Rattle.client_state.specs.Moving.{Aborted, Asked, AskedInVain, AskedOwn, CommitRefused, Committed, Connected, Decided, DecideRefused, Drawn, Fetched, Finished, Forgot, Granted, InSession, Moves, PrepareRefused, Prepared, ReceiveRefused, ReceiveStopped, Received, ReceivedNone, Rested, SendsNothing, Settled, Transformed, Unsent}
+use Rattle.local_history.specs.Requests.{has_created, has_written}
 use Rattle.message_outbox.specs.declared.answers.At.{At}
 use Rattle.message_outbox.specs.declared.message.Message.TheVariants.{Grant, Invalid, Page, Upgrade}
 use Rattle.message_outbox.specs.declared.message.Message.{Message}
-use Rattle.port.specs.Views.{View}
-use Rattle.session_outbox.specs.Notices.{notice_of}
-use Rattle.session_outbox.specs.Session.{place_of}
+use Rattle.port.specs.Views.{Calm, View}
+use Rattle.session_outbox.specs.Notices.{lives}
+use Rattle.session_outbox.specs.Session.{session}
 use Rattle.session_outbox.specs.Trace.{Item, entries}
-use Rattle.std.specs.List.{list_any}
-use Rattle.std.specs.Prelude.{Bool, List, None, Option, Some, cond, false, true, ℕ, ◌+◌, ◌<◌, ◌^◌, ◌≡◌, ◌≢◌, ◌≤◌}
+use Rattle.std.specs.Option.{is_some}
+use Rattle.std.specs.Prelude.{Bool, List, None, Option, Some, cond, false, length, true, ℕ, ◌<◌, ◌^◌, ◌≡◌, ◌≤◌}
 use Rattle.thor_value.specs.declared.names.Oref.{Oref}
 use Rattle.thor_value.specs.declared.names.Ts.{Ts}
 use Rattle.thor_value.specs.declared.values.Obj.{Obj}
@@ -43,8 +44,8 @@ verdict_of old new before after (ReceiveRefused at k does there loses same) = No
 verdict_of old new before after (ReceiveStopped at k does there outage stops same fewer) = None
 verdict_of old new before after (Prepared s place does of less) = None
 verdict_of old new before after (PrepareRefused s k does of idle learns same) = None
-verdict_of old new before after (Committed s place does of idle keeps) = None
-verdict_of old new before after (Transformed s place oref made does of writes idle keeps) = None
+verdict_of old new before after (Committed s place does of wrote idle keeps) = None
+verdict_of old new before after (Transformed s place oref made does of session writes idle keeps) = None
 verdict_of old new before after (CommitRefused s k does of idle learns same) = None
 verdict_of old new before after (Decided at t v does idle ends) = if_commit v.commit t
 verdict_of old new before after (Aborted at t v does less) = None
@@ -56,28 +57,28 @@ verdict_of old new before after (AskedInVain r t result does leaves same fewer) 
 
 -- ---- what it asks
 
--- The bytes of a page's message spell these objects, and what a message names are objects of its repository.
-abbrev pub IsSpelled : ℕ → Message → (ℕ → Option Obj) → Type 0
-IsSpelled repo (Page page bytes place) objects = IsPageOf bytes page objects
-IsSpelled repo (Grant page place) objects = Unit {0}
-IsSpelled repo (Invalid names place) objects = (x : Oref) → list_any (λ y. same_name y x) names ≡ true → x.repo ≡ repo
-IsSpelled repo (Upgrade number text place) objects = Unit {0}
-
--- A message's place is below the last that there may be, and a page brings the objects that stood there at its place.
-pub record MessageOwed (port : View) (repo : ℕ) (m : Message) : Type 0 where
+-- A page's message brings what stood at its place: its bytes spell objects, and where the repository's disk tells what it holds, these
+-- are the objects of the page as they stood there.
+pub record PageOwed (port : View) (repo page : ℕ) (bytes : List ℕ) (place : ℕ) : Type 0 where
   pub objects : ℕ → Option Obj
-  pub low : place_of (notice_of m) + 1 < 2 ^ 64
-  pub brings : BringsContent (port.opened.base repo) (entries (port.seen repo)) objects m
-  pub spelled : IsSpelled repo m objects
+  pub spelled : IsPageOf bytes page objects
+  pub brings : (port.opened.base repo).tells ≡ true → BringsContent (port.opened.base repo) (entries (port.seen repo)) objects (Page page bytes place)
 
--- A request that commits at one repository, in the trace `at`, was sent in the link's session. Nothing is left to finish there,
--- what it wrote lies on pages of the session, and the try has written that and nothing else.
-pub record CommitOwed (port : View) (at : At) (T : List Item) (q : Request) (committed : Ts → Bool) (before : Held) (made : Copies) : Type 0 where
-  pub session : InSession at before
-  pub settled : NoneToFinish (port.opened.base at.repo) (entries T) at.session committed
-  pub pages : WritesOnPages (port.opened.base at.repo) T at.session q
-  pub wrote : (port.opened.base at.repo).tells ≡ true → SameCopies (port.opened.base at.repo) made (with_writes q (kept before.cache.cache))
-  pub elsewhere : (x : Oref) → x.repo ≢ at.repo → made x ≡ kept before.cache.cache x
+-- A page brings what stood at its place. Where a message tells of a commit, the repository has fewer entries than a place can tell.
+abbrev pub MessageOwed : View → ℕ → Message → Type 0
+MessageOwed port repo (Page page bytes place) = PageOwed port repo page bytes place
+MessageOwed port repo (Grant page place) = Unit {0}
+MessageOwed port repo (Invalid names place) = repo < port.opened.repos → length (entries (port.seen repo)) < 2 ^ 64
+MessageOwed port repo (Upgrade number text place) = repo < port.opened.repos → length (entries (port.seen repo)) < 2 ^ 64
+
+-- Where the repository is there, the session live and nothing unsettled, nothing was left to finish in the session, in the trace T.
+abbrev pub SettledOwed : View → ℕ → List Item → ℕ → (Ts → Bool) → Type 0
+SettledOwed port repo T s committed = repo < port.opened.repos → port.unsettled repo ≡ Calm → lives (session (port.opened.base repo) (port.seen repo) s) ≡ true → NoneToFinish (port.opened.base repo) (entries T) s committed
+
+-- A request that commits at one repository was sent to one that is there. Of what it writes and hasn't created the client holds copies.
+pub record SentOwed (port : View) (at : At) (q : Request) (before : Held) : Type 0 where
+  pub there : at.repo < port.opened.repos
+  pub held : (x : Oref) → has_written q x ≡ true → has_created q x ≡ false → is_some (kept before.cache.cache x) ≡ true
 
 -- what the client has once a transform's object is written
 abbrev pub with_made : Oref → Obj → Held → Copies
@@ -91,7 +92,7 @@ VerdictOwed false old committed later t before = Unit {0}
 abbrev pub SendsOwed : (old new : View) (before after : Held) → (Ts → Bool) → SendsNothing old new before after → Type 0
 SendsOwed old new before after later (Rested same less) = Unit {0}
 SendsOwed old new before after later (Connected repo connects apart same fewer) = Unit {0}
-SendsOwed old new before after later (Fetched at page left fetches idle same fewer) = NoneToFinish (new.opened.base at.repo) (entries (new.seen at.repo)) at.session later
+SendsOwed old new before after later (Fetched at page left fetches idle same fewer) = SettledOwed new at.repo (new.seen at.repo) at.session later
 SendsOwed old new before after later (Granted at left grants idle same fewer) = Unit {0}
 SendsOwed old new before after later (Drawn at answer left draws there same fewer) = Unit {0}
 SendsOwed old new before after later (Asked r t result does less) = Unit {0}
@@ -105,10 +106,10 @@ Owed old new before after committed later (Received at m does there takes same) 
 Owed old new before after committed later (ReceivedNone at does there waits same fewer) = Unit {0}
 Owed old new before after committed later (ReceiveRefused at k does there loses same) = Unit {0}
 Owed old new before after committed later (ReceiveStopped at k does there outage stops same fewer) = Unit {0}
-Owed old new before after committed later (Prepared s place does of less) = later s.request.tx ≡ false
-Owed old new before after committed later (PrepareRefused s k does of idle learns same) = later s.request.tx ≡ false
-Owed old new before after committed later (Committed s place does of idle keeps) = CommitOwed old s.at does.at s.request later before (seen before.cache.cache)
-Owed old new before after committed later (Transformed s place oref made does of writes idle keeps) = CommitOwed old s.at does.at s.request later before (with_made oref made before)
+Owed old new before after committed later (Prepared s place does of less) = s.at.repo < new.opened.repos → later s.request.tx ≡ false
+Owed old new before after committed later (PrepareRefused s k does of idle learns same) = Unit {0}
+Owed old new before after committed later (Committed s place does of wrote idle keeps) = SettledOwed new s.at.repo does.at s.at.session later × InSession s.at before × SentOwed old s.at s.request before
+Owed old new before after committed later (Transformed s place oref made does of session writes idle keeps) = SettledOwed new s.at.repo does.at s.at.session later × SentOwed old s.at s.request before
 Owed old new before after committed later (CommitRefused s k does of idle learns same) = Unit {0}
 Owed old new before after committed later (Decided at t v does idle ends) = VerdictOwed v.commit old committed later t before
 Owed old new before after committed later (Aborted at t v does less) = Unit {0}

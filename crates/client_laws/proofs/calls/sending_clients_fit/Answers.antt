@@ -9,6 +9,6 @@ returns c = record {
   draw_refused = λ client b committed at after u kept floor r sd none h. marked_fits client b committed at after u kept sd none h r;
   prepare = λ client b committed at after u kept q place sd none h. prepared client b committed at after u kept sd none h q place;
   prepare_refused = λ client b committed at after u kept q r sd none h. request_fits client b committed at after u kept sd none h (Prepared q) q r;
-  commit_one = λ client b committed at after u kept q place copies sd none h. committed_one client b committed at after u kept sd none h q place copies;
+  commit_one = λ client b committed at after u kept q place copies sd none h upto idle settled pages become w. committed_one client b committed at after u kept sd none h q place copies upto idle settled (λ tells. pages) become w;
   commit_refused = λ client b committed at after u kept q r sd none h. request_fits client b committed at after u kept sd none h (alone_entry q) q r;
 }

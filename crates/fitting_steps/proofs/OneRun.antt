@@ -1,0 +1,215 @@
+-- The small run over a store's only repository is one: each step is a client's, and meets what is asked of it.
+use Rattle.client_cache.specs.Copies.{kept, seen}
+use Rattle.client_laws.specs.Examples.{no_copy}
+use Rattle.client_laws.specs.Fitting.{with_writes}
+use Rattle.client_state.specs.Calling.{links_joined, upto_in}
+use Rattle.client_state.specs.Links.{NoneAwaits, at_repo, awaits_reply, session_in, waiting}
+use Rattle.client_state.specs.Moving.{Committed, Connected, Drawn, Granted, InSession, Moves, Received, Unsent}
+use Rattle.client_state.specs.Taking.{took}
+use Rattle.client_state.specs.declared.calls.Drew.TheVariants as drew
+use Rattle.client_state.specs.declared.held.Held.{Held}
+use Rattle.client_state.specs.declared.link.Link.TheVariants.{Apart, Joined}
+use Rattle.client_state.specs.declared.link.Link.{Link}
+use Rattle.client_state.specs.declared.link.Waits.TheVariants.{Idle, Reply}
+use Rattle.client_state.specs.declared.link.Waits.{Waits}
+use Rattle.client_state.specs.declared.requests.Sending.{Sending}
+use Rattle.fitting_steps.proofs.Trying.{sees_kept, sees_written}
+use Rattle.fitting_steps.proofs.OneStep.{begins}
+use Rattle.fitting_steps.specs.Owed.{SentOwed}
+use Rattle.fitting_steps.specs.OneExample.{HoldsOnTheWay, HoldsThis, behind, made, seeing, whole}
+use Rattle.fitting_steps.specs.OneRepository.{FitsOne, HasOneRepository, Leads, Stepped, Waited}
+use Rattle.local_history.proofs.Decided.{decides_sound}
+use Rattle.local_history.proofs.Growth.{sound-beginning}
+use Rattle.local_history.specs.Examples.{at, box, only, z}
+use Rattle.local_history.specs.History.{Base}
+use Rattle.local_history.specs.Requests.{has_created, has_written, written}
+use Rattle.local_history.specs.Sound.{sound}
+use Rattle.message_outbox.specs.declared.answers.At.{At}
+use Rattle.message_outbox.specs.declared.answers.Welcome.{Welcome}
+use Rattle.message_outbox.specs.declared.message.Message.TheVariants as messages
+use Rattle.message_outbox.specs.declared.message.Message.{Message}
+use Rattle.paused_eval.specs.Copies.{AreAmong}
+use Rattle.port.specs.Growing.{Called, Grew}
+use Rattle.port.specs.Views.{Calm}
+use Rattle.port.specs.Works.{CommitWork, ConnectWork, Does, DrawWork, GrantWork, ReceiveWork}
+use Rattle.session_outbox.proofs.Exactness.{exact-beginning}
+use Rattle.session_outbox.proofs.Traces.{entries-append}
+use Rattle.session_outbox.specs.Calls.{welcome}
+use Rattle.session_outbox.specs.Exact.{exact}
+use Rattle.session_outbox.specs.Trace.{Item, M, entries}
+use Rattle.session_outbox.specs.declared.mark.Mark.TheVariants as the
+use Rattle.std.proofs.Common.{rules, Bool, List, [], ap, arith, cond, drop, false, inl, inr, refl, subst, suc, sym, take, true, zero, ◌++◌, ◌<◌, ◌^◌, ◌∙◌, ◌∷◌, ◌≡◌, ◌≢◌, ℕ}
+use Rattle.std.proofs.lemmas.Bool.{cases_eq, eqb-true}
+use Rattle.std.proofs.lemmas.List.{append-nil}
+use Rattle.std.proofs.lemmas.Map.Views.{tells_apart}
+use Rattle.std.proofs.lemmas.Option.{same_Some}
+use Rattle.std.specs.List.{slice_get}
+use Rattle.std.specs.Option.{is_some, option_or}
+use Rattle.std.specs.Prelude.{None, Ok, Option, Some, length, nat_eq, ◌||◌}
+use Rattle.thor_value.proofs.FiniteMap.{get-insert}
+use Rattle.thor_value.proofs.NameOrders.{oref_exact, oref_total}
+use Rattle.thor_value.specs.FiniteMap.{empty, get}
+use Rattle.thor_value.specs.Names.{same_oref}
+use Rattle.thor_value.specs.declared.names.Oref.{Oref}
+use Rattle.thor_value.specs.declared.names.Ts.{Ts}
+use Rattle.thor_value.specs.declared.values.Obj.{Obj}
+
+-- ---- what is seen
+
+exact_whole : exact only whole
+exact_whole = search rules
+
+sound_whole : sound only (entries whole)
+sound_whole = (decides_sound only (entries whole)).0 refl
+
+one_at : (T more : List Item) → T ++ more ≡ whole → length (entries T) < 2 ^ 64 → HasOneRepository (seeing T)
+one_at T more e short = record {
+  one = refl;
+  numbered = refl;
+  counted = refl;
+  owed = sound-beginning only (entries T) (entries more) (subst (sound only) (ap entries (sym e) ∙ entries-append T more) sound_whole);
+  kept = exact-beginning only T more (subst (exact only) (sym e) exact_whole);
+  short = short;
+}
+
+still : (b : Base) (T : List Item) → Grew b 1 Calm T Calm T
+still b T = record { gap = []; gains = tt; ends = sym (append-nil T) }
+
+-- a call of client 1
+called : (T S : List Item) → Called (seeing T) (seeing S) 0 T Calm
+called T S = record {
+  same = refl;
+  reached = still only T;
+  others = λ n other. by n (nat_eq n 0) refl other;
+  alone = λ e. cc;
+  alone_others = λ e. cc;
+}
+  where
+    by : (n : ℕ) (t : Bool) → nat_eq n 0 ≡ t → n ≢ 0 → Grew only 1 Calm (cond t T []) Calm (cond t S [])
+    by n true e other = absurd (other (eqb-true n 0 e))
+    by n false e other = still only []
+
+-- ---- the steps
+
+abbrev there : At
+there = record { repo = 0; session = 1 }
+
+module _ (link : Link) (held : Held) (h : HoldsThis link no_copy held) where
+  none_after : (copies : Oref → Option Obj) → AreAmong copies (kept held.cache.cache)
+  none_after copies x = inr (h.copies_are x)
+
+module _ (waits : Waits) (copies : Oref → Option Obj) (held : Held) (h : HoldsThis (Joined 1 1 waits) copies held) where
+  in_session : InSession there held
+  in_session = ap (λ (ls : List Link). session_in 0 (slice_get ls 0)) h.links
+
+none_awaits : (copies : Oref → Option Obj) (held : Held) → HoldsThis (Joined 1 1 Idle) copies held → NoneAwaits 8 held.links.items
+none_awaits copies held h = subst (NoneAwaits 8) (sym h.links) by
+  where
+    by : NoneAwaits 8 (Joined 1 1 Idle ∷ [])
+    by zero l low is = ap awaits_reply (sym (same_Some (Joined 1 1 Idle) l is))
+    by (suc n) l low is = cc
+
+abbrev welcomed : Welcome
+welcomed = record { session = (welcome only (take 1 whole)).session; epoch = (welcome only (take 1 whole)).epoch; threshold = (welcome only (take 1 whole)).threshold; place = (welcome only (take 1 whole)).place; upgrades = (welcome only (take 1 whole)).upgrades }
+
+module _ (first joined drawn waits taken last : Held) (h : HoldsOnTheWay first joined drawn waits taken last) where
+  connects : Moves (seeing (take 1 whole)) (seeing (take 2 whole)) first joined
+  connects = Unsent (Connected 0 (record { result = Ok welcomed; call = λ e. subst (λ (c : ℕ). Does {X = Welcome} (seeing (take 1 whole)) (seeing (take 2 whole)) 0 (Ok welcomed) (ConnectWork c (Ok welcomed))) (sym h.begins.client) does; links = h.connects.links ∙ ap (links_joined (Ok welcomed) 0) (sym h.begins.links) })
+      (λ link is. sym (same_Some Apart link (sym (ap (λ (ls : List Link). slice_get ls 0) h.begins.links) ∙ is))) (h.connects.client ∙ sym h.begins.client) (none_after (Joined 1 1 Idle) joined h.connects (kept first.cache.cache)))
+    where
+      does : Does {X = Welcome} (seeing (take 1 whole)) (seeing (take 2 whole)) 0 (Ok welcomed) (ConnectWork 1 (Ok welcomed))
+      does = record { at = take 1 whole; met = Calm; called = called (take 1 whole) (take 2 whole); answer = (record { session = refl; epoch = refl; threshold = refl; place = refl; upgrades = refl }, (refl, refl)) }
+
+  draws : Moves (seeing (take 2 whole)) (seeing (take 3 whole)) joined drawn
+  draws = Unsent (Drawn there (Ok (drew.Ts (at 1))) joined.cache.cache (record { floor = 0; result = Ok (at 1); call = λ e. does; told = refl; links = h.draws.links ∙ sym h.connects.links; kept_so = λ x. refl })
+      (in_session Idle no_copy joined h.connects) (h.draws.client ∙ sym h.connects.client) (none_after (Joined 1 1 Idle) drawn h.draws (kept joined.cache.cache)))
+    where
+      does : Does {X = Ts} (seeing (take 2 whole)) (seeing (take 3 whole)) 0 (Ok (at 1)) (DrawWork 1 0 (Ok (at 1)))
+      does = record { at = take 2 whole; met = Calm; called = called (take 2 whole) (take 3 whole); answer = (refl, record { time = (1, 0, refl); below = omega arith; repo = refl; life = refl }, omega arith, (refl, refl)) }
+
+  asks : Moves (seeing (take 3 whole)) (seeing (take 4 whole)) drawn waits
+  asks = Unsent (Granted there drawn.cache.cache (record { result = Ok tt; call = λ e. does; links = h.asks.links ∙ ap (λ (ls : List Link). at_repo ls 0 (waiting Reply)) (sym h.draws.links); kept_so = λ x. refl })
+      (in_session Idle no_copy drawn h.draws, none_awaits no_copy drawn h.draws) (h.asks.client ∙ sym h.draws.client) (none_after (Joined 1 1 Reply) waits h.asks (kept drawn.cache.cache)))
+    where
+      does : Does {X = Unit {0}} (seeing (take 3 whole)) (seeing (take 4 whole)) 0 (Ok tt) (GrantWork 1 (Ok tt))
+      does = record { at = take 3 whole; met = Calm; called = called (take 3 whole) (take 4 whole); answer = (refl, omega arith, (refl, refl)) }
+
+  takes : Moves (seeing (take 4 whole)) (seeing (take 5 whole)) waits taken
+  takes = Received there (messages.Grant 1 1) does (in_session Reply no_copy waits h.asks)
+      (record { left = taken.cache.cache; links = h.takes.links ∙ ap (λ (ls : List Link). at_repo ls 0 (took (messages.Grant 1 1))) (sym h.asks.links); brought = λ x. h.takes.copies_are x ∙ sym (by _ (h.asks.copies_are x)); fewer = λ x. inl refl }) (h.takes.client ∙ sym h.asks.client)
+    where
+      does : Does {X = Option Message} (seeing (take 4 whole)) (seeing (take 5 whole)) 0 (Ok (Some (messages.Grant 1 1))) (ReceiveWork 1 (Ok (Some (messages.Grant 1 1))))
+      does = record { at = take 4 whole; met = Calm; called = called (take 4 whole) (take 5 whole); answer = (refl, refl, (refl, refl)) }
+
+      by : {o : Option Obj} (t : Bool) → o ≡ None → cond t None o ≡ None
+      by true e = refl
+      by false e = e
+
+  at_z : (x : Oref) → get (written made) x ≡ cond (same_oref x z) (Some (box 7)) None
+  at_z x = get-insert oref_total empty z (box 7) x
+
+  none_away : (x : Oref) → x.repo ≢ 0 → get (written made) x ≡ None
+  none_away x away = by (same_oref x z) refl
+    where
+      by : (t : Bool) → same_oref x z ≡ t → get (written made) x ≡ None
+      by true e = absurd (away (ap (λ (y : Oref). y.repo) (tells_apart oref_exact x z e)))
+      by false e = at_z x ∙ ap (λ (t : Bool). cond t (Some (box 7)) None) e
+
+  -- what the try has written lies at the repository
+  seen_written : (x : Oref) → seen taken.cache.cache x ≡ with_writes made (kept taken.cache.cache) x
+  seen_written x = elim (cases_eq x.repo 0) [
+    | inl here ↦ sees_written taken.cache.cache made 0 h.wrote x here
+    | inr away ↦ sees_kept taken.cache.cache made 0 h.wrote x away ∙ ap (λ (o : Option Obj). option_or o (kept taken.cache.cache x)) (sym (none_away x away))
+  ]
+
+  abbrev sending : Sending
+  sending = record { at = there; request = made }
+
+  commits : Moves (seeing (take 5 whole)) (seeing (take 6 whole)) taken last
+  commits = Committed sending 1 does (record { session = refl; upto = λ e. sym (ap (λ (ls : List Link). upto_in (slice_get ls 0)) h.takes.links) }) h.wrote (none_awaits no_copy taken h.takes)
+      (h.commits.client ∙ sym h.takes.client, h.commits.links ∙ sym h.takes.links, λ x. inl (h.commits.copies_are x ∙ sym (written_seen x)))
+    where
+      does : Does {X = ℕ} (seeing (take 5 whole)) (seeing (take 6 whole)) 0 (Ok 1) (CommitWork 1 made (Ok 1))
+      does = record { at = take 5 whole; met = Calm; called = called (take 5 whole) (take 6 whole); answer = (refl, refl, (refl, refl)) }
+
+      written_seen : (x : Oref) → seen taken.cache.cache x ≡ with_writes made no_copy x
+      written_seen x = seen_written x ∙ ap (λ (o : Option Obj). option_or (get (written made) x) o) (h.takes.copies_are x)
+
+  sent : SentOwed (seeing (take 5 whole)) there made taken
+  sent = record { there = omega arith; held = held }
+    where
+      held : (x : Oref) → has_written made x ≡ true → has_created made x ≡ false → is_some (kept taken.cache.cache x) ≡ true
+      held x wrote new = by (same_oref x z) refl
+        where
+          by : (t : Bool) → same_oref x z ≡ t → is_some (kept taken.cache.cache x) ≡ true
+          by true e = let f : false ≡ true = sym new ∙ ap (λ (t : Bool). t || false) e in cc
+          by false e = let f : false ≡ true = ap is_some (sym (at_z x ∙ ap (λ (t : Bool). cond t (Some (box 7)) None) e)) ∙ wrote in cc
+
+  others : Grew only 1 Calm (take 6 whole) Calm (take 7 whole)
+  others = record { gap = M (the.Connected 2 2) ∷ []; gains = (Calm, ((λ e. cc), refl), tt); ends = refl }
+
+  pub run : Leads (behind 1 first) (behind 2 joined ∷ behind 3 drawn ∷ behind 4 waits ∷ behind 5 taken ∷ behind 6 last ∷ []) (behind 7 last)
+  unfolding connects draws asks takes commits
+  run = (
+    Stepped connects tt (one_at (take 2 whole) (drop 2 whole) refl (omega arith)),
+    (
+      Stepped draws tt (one_at (take 3 whole) (drop 3 whole) refl (omega arith)),
+      (
+        Stepped asks tt (one_at (take 4 whole) (drop 4 whole) refl (omega arith)),
+        (
+          Stepped takes tt (one_at (take 5 whole) (drop 5 whole) refl (omega arith)),
+          (
+            Stepped commits (in_session Idle no_copy taken h.takes, sent) (one_at (take 6 whole) (drop 6 whole) refl (omega arith)),
+            Waited refl refl others (one_at (take 7 whole) (drop 7 whole) refl (omega arith)),
+          ),
+        ),
+      ),
+    ),
+  )
+
+  pub starts : FitsOne (behind 1 first)
+  starts = begins (behind 1 first) (one_at (take 1 whole) (drop 1 whole) refl (omega arith)) h.begins.client (λ n link is. apart n link (ap (λ (ls : List Link). slice_get ls n) (sym h.begins.links) ∙ is)) h.begins.copies_are
+    where
+      apart : (n : ℕ) (link : Link) → slice_get (Apart ∷ []) n ≡ Some link → link ≡ Apart
+      apart zero link is = sym (same_Some Apart link is)
+      apart (suc n) link is = cc

@@ -1,0 +1,223 @@
+-- A client of a store that has one repository fits it behind each of its steps, and at the end of each run.
+use Rattle.atomic_histories.specs.Several.{is_committed_part}
+use Rattle.call_naming.specs.Justified.{AllHavePrepared}
+use Rattle.client_cache.specs.Copies.{kept, seen}
+use Rattle.client_laws.proofs.Lending.{Front}
+use Rattle.client_laws.proofs.OwnVerdicts.{others_told}
+use Rattle.client_laws.proofs.Showing.{in_front}
+use Rattle.client_laws.proofs.Stepping.{opened_stays, waiting_fits}
+use Rattle.client_laws.proofs.Whole.{ask_all}
+use Rattle.client_laws.specs.Fitting.{NoneToFinish}
+use Rattle.client_laws.specs.Seen.{LinkAt}
+use Rattle.client_laws.specs.Steps.{AllSeenRight, LinksFit}
+use Rattle.client_laws.specs.Verdicts.{OutcomesTold}
+use Rattle.client_state.specs.Moving.{Aborted, Asked, AskedInVain, AskedOwn, CommitRefused, Committed, Connected, Decided, DecideRefused, Drawn, EndsSo, Fetched, Finished, Forgot, Granted, Moves, PrepareRefused, Prepared, ReceiveRefused, ReceiveStopped, Received, ReceivedNone, Rested, SendsNothing, Settled, Transformed, Unsent}
+use Rattle.client_state.specs.declared.held.Held.{Held}
+use Rattle.client_state.specs.declared.link.Link.TheVariants as links
+use Rattle.client_state.specs.declared.link.Link.{Link}
+use Rattle.commit_log.specs.declared.entry.Entry.TheVariants as entry
+use Rattle.commit_log.specs.declared.entry.Entry.{Entry}
+use Rattle.commit_log.specs.declared.request.Request.{Request}
+use Rattle.fitting_steps.proofs.Alone.{all_right, never_prepared, none_open, of_each, still_committed}
+use Rattle.fitting_steps.proofs.Calls.{asks, step_fits, then_client, then_less}
+use Rattle.fitting_steps.proofs.Losing.{seen_grows}
+use Rattle.fitting_steps.proofs.Running.{new_client}
+use Rattle.fitting_steps.specs.Acting.{acts_of}
+use Rattle.fitting_steps.specs.OneRepository.{AsksRightly, BringsWhatStood, DecidesRightly, FitsOne, HasEnded, HasOneRepository, Leads, Position, StepOwed, Stepped, Turn, Waited, committed_there}
+use Rattle.fitting_steps.specs.Owed.{ClientFits, MessageOwed, Owed, SendsOwed, SettledOwed, VerdictOwed, verdict_of}
+use Rattle.local_history.proofs.Growth.{kept_by-parts, sound-beginning}
+use Rattle.local_history.specs.History.{Base, known_by, start, state}
+use Rattle.local_history.specs.Sound.{owes, sound}
+use Rattle.message_outbox.specs.declared.answers.Asked as answer
+use Rattle.message_outbox.specs.declared.answers.Asked.TheVariants as answers
+use Rattle.message_outbox.specs.declared.answers.At.{At}
+use Rattle.message_outbox.specs.declared.answers.Verdict.{Verdict}
+use Rattle.message_outbox.specs.declared.message.Message.TheVariants.{Grant, Invalid, Page, Upgrade}
+use Rattle.message_outbox.specs.declared.message.Message.{Message}
+use Rattle.port.specs.Growing.{Grew}
+use Rattle.port.specs.Views as views
+use Rattle.port.specs.Views.{Calm, Came, Halted, MayCome, Opened, View}
+use Rattle.port.specs.Works.{Answered, AskWork, CommitWork, Does, PrepareWork, alone_entry}
+use Rattle.session_outbox.proofs.Traces.{entries-append}
+use Rattle.session_outbox.specs.Notices.{lives}
+use Rattle.session_outbox.specs.Trace.{E, Item, entries}
+use Rattle.std.proofs.Common.{Bool, List, [], ap, arith, false, refl, subst, sym, true, ◌++◌, ◌∙◌, ◌∷◌, ◌≡◌, ℕ}
+use Rattle.std.specs.List.{slice_get}
+use Rattle.std.specs.Prelude.{None, Ok, Option, Some, length, ◌<◌, ◌^◌, ◌≤◌}
+use Rattle.thor_value.specs.declared.names.Oref.{Oref}
+use Rattle.thor_value.specs.declared.names.Ts.{Ts}
+
+-- ---- what is never shown
+
+module _ (b : Base) (one : b.repos ≡ 1) (first : b.repo ≡ 0) where
+  -- no entry of a sound trace prepares a transaction
+  none_prepared : (x y : List Item) (q : Request) → sound b (entries (x ++ E (entry.Prepared q) ∷ y)) → ⊥
+  none_prepared x y q sd =
+      let split : sound b (entries x ++ entry.Prepared q ∷ entries y) = subst (sound b) (entries-append x (E (entry.Prepared q) ∷ y)) sd in
+      never_prepared b one first (state b (entries x)) q (owed (entries x) (entry.Prepared q) (entries y) split)
+    where
+      owed : (H : List Entry) (e : Entry) (more : List Entry) → sound b (H ++ e ∷ more) → owes b (state b H) e
+      owed H e more s = (kept_by-parts b (start b) H (e ∷ more) s).1.0
+
+  -- and nothing shows that all have prepared one
+  never_shown : (traces : ℕ → List Item) (t : Ts) → sound b (entries (traces 0)) → AllHavePrepared traces 0 t → ⊥
+  never_shown traces t sd h =
+      let found = in_front t (traces 0) h.1.0 h.1.1.0 h.0 h.1.1.1 h.1.2 in
+      none_prepared found.0.0 found.0.1 h.0 (subst (λ (T : List Item). sound b (entries T)) found.0.2 sd)
+
+-- ---- a step
+
+module _ (old new : View) (same : new.opened ≡ old.opened) (one : HasOneRepository old) (then_one : HasOneRepository new) (grows : Front (old.seen 0) (new.seen 0)) where
+  abbrev b : Base
+  b = old.opened.base 0
+
+  owed_now : sound b (entries (new.seen 0))
+  owed_now = subst (λ (o : Opened). sound (o.base 0) (entries (new.seen 0))) same then_one.owed
+
+  -- what has committed still has
+  more : (t : Ts) → committed_there old t ≡ true → committed_there new t ≡ true
+  more t e =
+      let split : entries (new.seen 0) ≡ entries (old.seen 0) ++ entries grows.0 = ap entries grows.1 ∙ entries-append (old.seen 0) grows.0 in
+      subst (λ (o : Opened). is_committed_part (known_by (o.base 0) (entries (new.seen 0)) t) ≡ true) (sym same)
+      (subst (λ (H : List Entry). is_committed_part (known_by b H t) ≡ true) (sym split) (still_committed b one.counted one.numbered (entries (old.seen 0)) (entries grows.0) (subst (sound b) split owed_now) t e))
+
+  pub outcomes : (ls : List Link) (verdict : Option Ts) → OutcomesTold old ls verdict (committed_there old) (committed_there new)
+  outcomes ls verdict = record {
+    more = more;
+    own = λ r s upto waits t o within there is open' mine l. absurd (of_each old one (λ n. known_by (old.opened.base n) (entries (old.seen n)) t ≡ Some o → ⊥) (λ k. none_open b one.counted one.numbered (entries (old.seen 0)) one.owed t o k open') r within is);
+  }
+
+  module _ (before after : Held) where
+    abbrev committed : Ts → Bool
+    committed = committed_there old
+
+    abbrev later : Ts → Bool
+    later = committed_there new
+
+    right : AllSeenRight new later
+    right = all_right new then_one
+
+    -- nothing is left to finish
+    settled_now : (r s : ℕ) → SettledOwed new r (new.seen r) s later
+    settled_now r s inside calm live = of_each new then_one (λ n. NoneToFinish (new.opened.base n) (entries (new.seen n)) s later) (λ t o is open' mine. absurd (none_open (new.opened.base 0) then_one.counted then_one.numbered (entries (new.seen 0)) then_one.owed t o is open')) r inside
+
+    settled_at : (r s : ℕ) (T : List Item) → Front T (new.seen r) → SettledOwed new r T s later
+    settled_at r s T front inside calm live = λ t o is open' mine.
+        absurd (none_open (new.opened.base r) (of_each new then_one (λ n. (new.opened.base n).repos ≡ 1) then_one.counted r inside) (of_each new then_one (λ n. (new.opened.base n).repo ≡ 0) then_one.numbered r inside) (entries T) sound_there t o is open')
+      where
+        sound_there : sound (new.opened.base r) (entries T)
+        sound_there =
+            let all : sound (new.opened.base r) (entries (new.seen r)) = of_each new then_one (λ n. sound (new.opened.base n) (entries (new.seen n))) then_one.owed r inside in
+            sound-beginning (new.opened.base r) (entries T) (entries front.0) (subst (sound (new.opened.base r)) (ap entries front.1 ∙ entries-append T front.0) all)
+
+    sends : (a : SendsNothing old new before after) → SendsOwed old new before after later a
+    sends (Rested stays less) = tt
+    sends (Connected repo f apart stays fewer) = tt
+    sends (Fetched at page left f idle stays fewer) = settled_now at.repo at.session
+    sends (Granted at left f idle stays fewer) = tt
+    sends (Drawn at answer left f there stays fewer) = tt
+    sends (Asked r t result d less) = tt
+    sends (Settled r t v sent index d there stays links' fewer) = tt
+
+    message : (r : ℕ) (m : Message) → BringsWhatStood new r m → MessageOwed new r m
+    message r (Page page bytes place) o = o
+    message r (Grant page place) o = tt
+    message r (Invalid names place) o = λ inside. of_each new then_one (λ n. length (entries (new.seen n)) < 2 ^ 64) then_one.short r inside
+    message r (Upgrade number text place) o = λ inside. of_each new then_one (λ n. length (entries (new.seen n)) < 2 ^ 64) then_one.short r inside
+
+    commit_front : (r s : ℕ) (q : Request) (place : ℕ) (d : Does {X = ℕ} old new r (Ok place) (CommitWork s q (Ok place))) → Front d.at (new.seen r)
+    commit_front r s q place d = by d.met d.answer
+      where
+        by : (met : views.Unsettled) → Answered {X = ℕ} r (Ok place) met d.at (new.seen r) (new.unsettled r) (CommitWork s q (Ok place) (old.opened.base r) d.at (new.seen r) (new.unsettled r)) → Front d.at (new.seen r)
+        by Calm w = (E (alone_entry q) ∷ [], w.2.0)
+        by (MayCome e) w = absurd w.0
+        by Came w = absurd w.0
+        by Halted w = absurd w.0
+
+    -- nothing is prepared
+    unprepared : (r s : ℕ) (q : Request) (place : ℕ) → Does {X = ℕ} old new r (Ok place) (PrepareWork s q (Ok place)) → r < new.opened.repos → ⊥
+    unprepared r s q place d inside = by d.met d.answer
+      where
+        by : (met : views.Unsettled) → Answered {X = ℕ} r (Ok place) met d.at (new.seen r) (new.unsettled r) (PrepareWork s q (Ok place) (old.opened.base r) d.at (new.seen r) (new.unsettled r)) → ⊥
+        by Calm w =
+            let all : sound (new.opened.base r) (entries (new.seen r)) = of_each new then_one (λ n. sound (new.opened.base n) (entries (new.seen n))) then_one.owed r inside in
+            none_prepared (new.opened.base r) (of_each new then_one (λ n. (new.opened.base n).repos ≡ 1) then_one.counted r inside) (of_each new then_one (λ n. (new.opened.base n).repo ≡ 0) then_one.numbered r inside) d.at [] q
+            (subst (λ (T : List Item). sound (new.opened.base r) (entries T)) w.2.0 all)
+        by (MayCome e) w = absurd w.0
+        by Came w = absurd w.0
+        by Halted w = absurd w.0
+
+    decided : (x : Bool) (at : At) (t : Ts) → DecidesRightly x old at t → VerdictOwed x old committed later t before
+    decided false at t o = tt
+    decided true at t o = absurd (of_each old one (λ n. AllHavePrepared old.seen n t → ⊥) (never_shown b one.counted one.numbered old.seen t one.owed) at.repo o.there o.shown.1)
+
+    module _ (fits : ClientFits old committed before) where
+      -- what the try has written is the client's, where its session has ended
+      ended : HasEnded old 0 (slice_get before.links.items 0) (seen before.cache.cache) → LinksFit old later before.links.items (seen before.cache.cache)
+      ended h = record { each = of_each old one (λ n. LinkAt old n later (slice_get before.links.items n) (seen before.cache.cache)) (by (slice_get before.links.items 0) h (fits.links.each 0 first)) }
+        where
+          first : 0 < old.opened.repos
+          first = subst (λ (n : ℕ). 0 < n) (sym one.one) (omega arith)
+
+          by : (o : Option Link) → HasEnded old 0 o (seen before.cache.cache) → LinkAt old 0 committed o (kept before.cache.cache) → LinkAt old 0 later o (seen before.cache.cache)
+          by None e f = tt
+          by (Some links.Apart) e f = e
+          by (Some (links.Joined s upto waits)) e f = record { v = f.v; there = f.there; own = f.own; keeps = λ calm live. absurd (e calm (ap lives f.there ∙ live)) }
+          by (Some (links.Unsettled sent index)) e f = e
+
+      asked : (r : ℕ) (t : Ts) (v : Verdict) → Does {X = answer.Asked} old new r (Ok (answers.Settled v)) (AskWork t (Ok (answers.Settled v))) → (x : Bool) → v.commit ≡ x → EndsSo x before after → AsksRightly x old before → ClientFits new later after
+      asked r t v d true is ends o =
+          then_client old new before after committed later right fits ends.0 d.called.same (then_less old new before after committed later right fits (seen before.cache.cache) ends.1 ends.2
+          (ask_all old new r before.links.items (seen before.cache.cache) later right (ended o) t (Ok (answers.Settled v)) d))
+      asked r t v d false is ends o = asks old new before after committed later right fits r t v d false is ends tt (outcomes before.links.items None)
+
+      by_owed : (moves : Moves old new before after) → Owed old new before after committed later moves → ClientFits new later after
+      by_owed moves owed = step_fits old new before after committed later moves owed (outcomes before.links.items (verdict_of old new before after moves)) right fits
+
+      pub step : (moves : Moves old new before after) → StepOwed old new before after moves → ClientFits new later after
+      step (Unsent a) o = by_owed (Unsent a) (sends a)
+      step (Received at m d there takes stays) o = by_owed (Received at m d there takes stays) (message at.repo m o)
+      step (ReceivedNone at d there waits stays fewer) o = by_owed (ReceivedNone at d there waits stays fewer) tt
+      step (ReceiveRefused at k d there loses stays) o = by_owed (ReceiveRefused at k d there loses stays) tt
+      step (ReceiveStopped at k d there outage stops stays fewer) o = by_owed (ReceiveStopped at k d there outage stops stays fewer) tt
+      step (Prepared s place d of less) o = by_owed (Prepared s place d of less) (λ inside. absurd (unprepared s.at.repo s.at.session s.request place d inside))
+      step (PrepareRefused s k d of idle learns stays) o = by_owed (PrepareRefused s k d of idle learns stays) tt
+      step (Committed s place d of wrote idle keeps) o = by_owed (Committed s place d of wrote idle keeps) (settled_at s.at.repo s.at.session d.at (commit_front s.at.repo s.at.session s.request place d), o.0, o.1)
+      step (Transformed s place oref made d of session writes idle keeps) o = by_owed (Transformed s place oref made d of session writes idle keeps) (settled_at s.at.repo s.at.session d.at (commit_front s.at.repo s.at.session s.request place d), o)
+      step (CommitRefused s k d of idle learns stays) o = by_owed (CommitRefused s k d of idle learns stays) tt
+      step (Decided at t v d idle ends) o = by_owed (Decided at t v d idle ends) (decided v.commit at t o)
+      step (Aborted at t v d less) o = by_owed (Aborted at t v d less) tt
+      step (DecideRefused at t commit k d loses stays) o = by_owed (DecideRefused at t commit k d loses stays) tt
+      step (Finished r t commit result d less) o = by_owed (Finished r t commit result d less) tt
+      step (Forgot r t result d less) o = by_owed (Forgot r t result d less) tt
+      step (AskedOwn r t v d ends) o = asked r t v d v.commit refl ends o
+      step (AskedInVain r t result d leave stays fewer) o = by_owed (AskedInVain r t result d leave stays fewer) tt
+
+-- ---- a run
+
+turn : (a z : Position) → Turn a z → FitsOne a → FitsOne z
+turn a z (Stepped moves o one) f =
+    let acts = acts_of a.port z.port a.held z.held moves in
+    record { only = one; fits = step a.port z.port (opened_stays a.port z.port acts) f.only one (seen_grows a.port z.port acts 0) a.held z.held f.fits moves o }
+turn a z (Waited same opened grew one) f = record { only = one; fits = waited }
+  where
+    told : OutcomesTold a.port a.held.links.items None (committed_there a.port) (committed_there z.port)
+    told = outcomes a.port z.port opened f.only one (grew.gap, grew.ends) a.held.links.items None
+
+    waited : ClientFits z.port (committed_there z.port) z.held
+    waited = record {
+      own = ap (λ (h : Held). h.client) same ∙ f.fits.own ∙ ap (λ (o : Opened). o.client) (sym opened);
+      few = subst (λ (o : Opened). o.repos ≤ 8) (sym opened) f.fits.few;
+      links = subst (λ (h : Held). LinksFit z.port (committed_there z.port) h.links.items (kept h.cache.cache)) (sym same)
+          (waiting_fits a.port z.port (committed_there z.port) a.held.links.items (kept a.held.cache.cache) opened
+          (of_each a.port f.only (λ r. Grew (a.port.opened.base r) a.port.opened.client (a.port.unsettled r) (a.port.seen r) (z.port.unsettled r) (z.port.seen r)) grew) (all_right z.port one)
+          (others_told a.port a.held.links.items (committed_there a.port) (committed_there z.port) (kept a.held.cache.cache) told f.fits.links));
+    }
+
+pub running : (a z : Position) (between : List Position) → Leads a between z → FitsOne a → FitsOne z
+running a z [] t f = turn a z t f
+running a z (p ∷ ps) t f = running p z ps t.1 (turn a p t.0 f)
+
+pub begins : (p : Position) → HasOneRepository p.port → p.held.client ≡ p.port.opened.client → ((n : ℕ) (link : Link) → slice_get p.held.links.items n ≡ Some link → link ≡ links.Apart)
+    → ((x : Oref) → kept p.held.cache.cache x ≡ None) → FitsOne p
+begins p one own apart none = record { only = one; fits = new_client p.port (committed_there p.port) p.held own (subst (λ (n : ℕ). n ≤ 8) (sym one.one) (omega arith)) apart none }
