@@ -1,5 +1,4 @@
 -- A page of the small run brings what stood at its place.
-use Rattle.client_cache.specs.Placing.{Brings, IsPageOf}
 use Rattle.fitting_steps.specs.OneExample.{first_page, seeing, whole}
 use Rattle.fitting_steps.specs.Owed.{PageOwed}
 use Rattle.local_history.specs.Examples.{box, only, x, y}
@@ -7,13 +6,13 @@ use Rattle.local_history.specs.History.{objects_at}
 use Rattle.object_codec.specs.Spelling.{ObjFits, obj_bytes}
 use Rattle.page_format.specs.Pages as page
 use Rattle.session_outbox.specs.Trace.{entries}
-use Rattle.std.proofs.Common.{rules, Bool, Equal, Greater, Less, Ordering, [], ap, arith, cond, false, is_eq, refl, subst, sym, take, true, ◌<◌, ◌∙◌, ◌∷◌, ◌≡◌, ℕ}
+use Rattle.std.proofs.Common.{rules, Bool, Equal, Greater, Less, Ordering, ap, arith, cond, false, is_eq, refl, subst, sym, take, true, ◌<◌, ◌∙◌, ◌≡◌, ℕ}
 use Rattle.std.proofs.lemmas.Map.Lookups.{exact_unsigned}
 use Rattle.std.proofs.lemmas.Option.{same_Some}
 use Rattle.std.specs.Cmp.{nat_cmp_total}
 use Rattle.std.specs.Option.{option_map}
 use Rattle.std.specs.Ordering.{eq_by_cmp, nat_cmp}
-use Rattle.std.specs.Prelude.{List, None, Option, Some}
+use Rattle.std.specs.Prelude.{None, Option, Some}
 use Rattle.thor_value.proofs.FiniteMap.{get-insert}
 use Rattle.thor_value.proofs.NameOrders.{oref_total}
 use Rattle.thor_value.specs.FiniteMap.{empty, get, insert}
