@@ -19,7 +19,6 @@ use Rattle.paused_eval.specs.Writing.{WrittenBy}
 use Rattle.std.proofs.Common.{List, [], ap, cond, nat_eq, refl, subst, suc, sym, zero, ℕ, ℤ, ◌∷◌, ◌≡◌, ◌∙◌}
 use Rattle.std.proofs.lemmas.Option.{same_Some}
 use Rattle.std.specs.List.{slice_get}
-use Rattle.std.specs.Option.{option_map}
 use Rattle.std.specs.Prelude.{Err, IfOk, None, Ok, Option, Result, Some}
 use Rattle.thor_value.specs.declared.memory.NoMemory.{NoMemory}
 use Rattle.thor_value.specs.declared.names.Oref.{Oref}

@@ -5,6 +5,7 @@ ghost use Rattle.client_state.specs.Learning.{KeepsBounds, Rises, without_sessio
 ghost use Rattle.client_state.specs.Links.{CountsUnsettled, NoneAwaits, NoneIsBehind, at_repo, awaits_reply, is_behind, link_in, session_in, stopped, waiting};
 ghost use Rattle.client_state.specs.Moving.{HoldsLess, InSession, IsApart, KeepsMade, KeepsTry, LeavesSome, StopsWaiting};
 ghost use Rattle.client_state.specs.Taking.{BringsPage};
+ghost use Rattle.client_state.specs.Writing.{WritesStay};
 ghost use Rattle.client_state.specs.declared.link.Link.{Link};
 ghost use Rattle.client_state.specs.declared.link.Link.TheVariants.{Apart};
 ghost use Rattle.client_cache.specs.Copies.{changed, kept, seen};

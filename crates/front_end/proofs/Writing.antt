@@ -1,7 +1,7 @@
 -- What a client's try has written stays what its transaction writes, until that is sent.
 use Rattle.client_cache.specs.Copies.{changed}
 use Rattle.client_state.proofs.Writing.{nothing_unsent, still_writes}
-use Rattle.client_state.specs.Writing.{PhaseWrites, unsent}
+use Rattle.client_state.specs.Writing.{unsent}
 use Rattle.front_end.specs.Writing.{ClientWrites}
 use Rattle.front_end.specs.declared.client.Client.{Client}
 use Rattle.paused_eval.specs.declared.copies.Copies.{Copies}

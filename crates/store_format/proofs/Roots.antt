@@ -74,18 +74,18 @@ not_at page end apart = elim (cases_lt page end) [
         let b : nat_lt page end ≡ true = grind (arith, nat_tests, below) in
         a ∙ sym b
 
+    by_more : end < page → nat_lt page (end + 1) ≡ nat_lt page end
+    by_more more =
+        let a : nat_lt page (end + 1) ≡ false = grind (arith, nat_tests, more) in
+        let b : nat_lt page end ≡ false = grind (arith, nat_tests, more) in
+        a ∙ sym b
+
     by_above : end ≤ page → nat_lt page (end + 1) ≡ nat_lt page end
     by_above above =
         elim (eq-or-lt_of_le above) [
           | inl at ↦ absurd (apart (sym at))
           | inr more ↦ by_more more
         ]
-
-    by_more : end < page → nat_lt page (end + 1) ≡ nat_lt page end
-    by_more more =
-        let a : nat_lt page (end + 1) ≡ false = grind (arith, nat_tests, more) in
-        let b : nat_lt page end ≡ false = grind (arith, nat_tests, more) in
-        a ∙ sym b
 
 pub one_written : (old new : Disks) (before after : List (ℕ × ℕ)) (end repo : ℕ) (setup : Setup) → OnDisk old new 2 → PutsPage old new before after end (first_page repo setup end) → WhereTold old 2 (HasRootsTo end repo setup before) → WhereTold new 2 (HasRootsTo (end + 1) repo setup after)
 one_written old new before after end repo setup alone puts had = λ disk told.
@@ -103,11 +103,11 @@ one_written old new before after end repo setup alone puts had = λ disk told.
 
 behind_grows : (repo : ℕ) (roots : List Root) (n : ℕ) → n ≤ fold (page_behind repo) n roots
 behind_grows repo [] n = omega arith
-behind_grows repo (r ∷ rs) n = by (nat_eq r.oref.repo repo)
+behind_grows repo (r ∷ rs) n = by (nat_eq r.oref.repo repo) (behind_grows repo rs (max n (r.oref.page + 1))) (behind_grows repo rs n)
   where
-    by : (b : Bool) → n ≤ fold (page_behind repo) (cond b (max n (r.oref.page + 1)) n) rs
-    by true = let more = behind_grows repo rs (max n (r.oref.page + 1)) in omega (arith, more)
-    by false = behind_grows repo rs n
+    by : (b : Bool) → max n (r.oref.page + 1) ≤ fold (page_behind repo) (max n (r.oref.page + 1)) rs → n ≤ fold (page_behind repo) n rs → n ≤ fold (page_behind repo) (cond b (max n (r.oref.page + 1)) n) rs
+    by true more same = omega (arith, more)
+    by false more same = same
 
 -- a root of a page below
 lies_off : (repo page n : ℕ) (r : Root) (b : Bool) → nat_eq r.oref.repo repo ≡ b → cond b (max n (r.oref.page + 1)) n ≤ page → lies_on repo page r ≡ false
@@ -129,14 +129,14 @@ none_lies classes repo page n (r ∷ rs) made low =
     ∙ none_lies classes repo page (page_behind repo n r) rs made low
 
 -- all are written
-pub all_written : (repo : ℕ) (setup : Setup) (sides : List (ℕ × ℕ)) (disk : List ℕ) → HasRootsTo (page_count repo setup.roots) repo setup sides disk → HasRoots repo setup sides disk
-all_written repo setup sides disk has = record { each = λ page. by page (nat_lt page (page_count repo setup.roots)) refl (has.each page) }
+pub all_written : (end repo : ℕ) (setup : Setup) (sides : List (ℕ × ℕ)) (disk : List ℕ) → page_count repo setup.roots ≤ end → HasRootsTo end repo setup sides disk → HasRoots repo setup sides disk
+all_written end repo setup sides disk whole has = record { each = λ page. by page (nat_lt page end) refl (has.each page) }
   where
-    by : (page : ℕ) (b : Bool) → nat_lt page (page_count repo setup.roots) ≡ b → Shows disk (side_in_use sides page) page (cond b (first_page repo setup page) (empty_page page)) → Shows disk (side_in_use sides page) page (first_page repo setup page)
+    by : (page : ℕ) (b : Bool) → nat_lt page end ≡ b → Shows disk (side_in_use sides page) page (cond b (first_page repo setup page) (empty_page page)) → Shows disk (side_in_use sides page) page (first_page repo setup page)
     by page true test shows = shows
     by page false test shows =
-        let low : page_count repo setup.roots ≤ page = grind (arith, nat_tests, test) in
-        subst (λ (c : Contents). Shows disk (side_in_use sides page) page c) (sym (none_lies setup.schema.classes repo page 0 setup.roots (empty_page page) low)) shows
+        let past : end ≤ page = grind (arith, nat_tests, test) in
+        subst (λ (c : Contents). Shows disk (side_in_use sides page) page c) (sym (none_lies setup.schema.classes repo page 0 setup.roots (empty_page page) (below (page_count repo setup.roots) end page whole past))) shows
 
 -- ---- fields
 
