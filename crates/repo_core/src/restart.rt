@@ -94,6 +94,7 @@ impl<P: Parts> Repo<P> {
         ensures begins { OnOk result (BeginsLife self.old.held self.old.memory self.new.memory) }
         ensures left { OnErr result (GoesDown self.old self.new (Some (life_behind self.old))) }
         ensures stopped { (n : ℕ) → IsErrOf result (IsStopped n) → HasFailed (faults_of self.old) (faults_of self.new) }
+        ensures pages { self.new.pages ≡ self.old.pages }
         ensures clock { self.new.clock ≡ self.old.clock }
         ensures damaged { (n place : ℕ) → IsErrOf result (IsDamaged n place) → ⊥ }
         ensures opened { self.new.opened_in ≡ self.old.opened_in }
