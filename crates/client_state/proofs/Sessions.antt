@@ -1,9 +1,11 @@
 -- The session of a link is one of its repository.
 use Rattle.client_state.proofs.Moving.{session_is_here}
 use Rattle.client_state.specs.Links.{session_at, session_in}
+use Rattle.client_state.specs.declared.link.Link.TheVariants.{Apart, Joined, Unsettled}
 use Rattle.client_state.specs.declared.link.Link.{Link}
 use Rattle.message_outbox.specs.declared.answers.At.{At}
 use Rattle.std.proofs.Common.{List, ap, sym, ◌≡◌, ◌∙◌, ℕ}
+use Rattle.std.proofs.lemmas.Option.{same_Some}
 use Rattle.std.specs.Prelude.{IfSome, None, Option, Some, slice_get}
 
 pub in_session : (links : List Link) (r : ℕ) (link : Link) (o : Option At) → slice_get links r ≡ Some link → o ≡ session_at r link → IfSome o (λ at. session_in at.repo (slice_get links at.repo) ≡ Some at)
@@ -13,3 +15,13 @@ in_session links r link (Some at) is h = session_is_here links r at (ap (session
 pub none_in_session : (links : List Link) (o : Option At) → o ≡ None → IfSome o (λ at. session_in at.repo (slice_get links at.repo) ≡ Some at)
 none_in_session links None h = tt
 none_in_session links (Some at) h = cc
+
+-- the session of this number at the link's repository
+pub same_session : (repo : ℕ) (link : Option Link) (here at : At) → session_in repo link ≡ Some here → here.session ≡ at.session → at.repo ≡ repo → session_in repo link ≡ Some at
+same_session repo None here at e s r = cc
+same_session repo (Some Apart) here at e s r = cc
+same_session repo (Some (Unsettled sent index)) here at e s r = cc
+same_session repo (Some (Joined n upto waits)) here at e s r =
+    let h : record { repo = repo; session = n } ≡ here = same_Some (record { repo = repo; session = n }) here e in
+    ap (λ (m : ℕ). Some (record { repo = repo; session = m })) (ap (λ (a : At). a.session) h ∙ s)
+    ∙ ap (λ (q : ℕ). Some (record { repo = q; session = at.session })) (sym r)

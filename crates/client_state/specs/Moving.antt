@@ -170,7 +170,7 @@ pub data Moves (old new : View) (before after : Held) : Type 0 where
       → NoneAwaits 8 before.links.items → Learns k s.at.repo before after → after.client ≡ before.client → Moves old new before after
   -- the request writes what the try has written
   Committed : (s : Sending) (place : ℕ) → Does {X = ℕ} old new s.at.repo (Ok place) (CommitWork s.at.session s.request (Ok place)) → IsOfSession before.links.items s
-      → WritesThere s.at.repo s.request.writes before.cache.cache → NoneAwaits 8 before.links.items → KeepsTry before after → Moves old new before after
+      → InSession s.at before → WritesThere s.at.repo s.request.writes before.cache.cache → NoneAwaits 8 before.links.items → KeepsTry before after → Moves old new before after
   -- the transaction was that of a transform, which has written the object alone
   Transformed : (s : Sending) (place : ℕ) (oref : Oref) (made : Obj) → Does {X = ℕ} old new s.at.repo (Ok place) (CommitWork s.at.session s.request (Ok place)) → IsOfSession before.links.items s
       → InSession s.at before → s.request.writes ≡ (oref, made) ∷ [] → NoneAwaits 8 before.links.items → KeepsMade oref made before after → Moves old new before after

@@ -39,8 +39,8 @@ module _ (shows : Bool) (old new : View) (before after : Held) where
       pub by_prepare_refused : (k : Refusal) → (shows ≡ true → Does {X = ℕ} old new s.at.repo (Err k) (PrepareWork s.at.session s.request (Err k))) → Learns k s.at.repo before after → after.client ≡ before.client → MovesIf shows old new before after
       by_prepare_refused k call learns client = λ w. PrepareRefused s k (call w) of idle learns client
 
-      pub by_commit : (place : ℕ) → (shows ≡ true → Does {X = ℕ} old new s.at.repo (Ok place) (CommitWork s.at.session s.request (Ok place))) → WritesThere s.at.repo s.request.writes before.cache.cache → KeepsTry before after → MovesIf shows old new before after
-      by_commit place call wrote keeps = λ w. Committed s place (call w) of wrote idle keeps
+      pub by_commit : (place : ℕ) → (shows ≡ true → Does {X = ℕ} old new s.at.repo (Ok place) (CommitWork s.at.session s.request (Ok place))) → InSession s.at before → WritesThere s.at.repo s.request.writes before.cache.cache → KeepsTry before after → MovesIf shows old new before after
+      by_commit place call joined wrote keeps = λ w. Committed s place (call w) of joined wrote idle keeps
 
       pub by_transform : (place : ℕ) (oref : Oref) (made : Obj) → (shows ≡ true → Does {X = ℕ} old new s.at.repo (Ok place) (CommitWork s.at.session s.request (Ok place)))
           → InSession s.at before → s.request.writes ≡ (oref, made) ∷ [] → KeepsMade oref made before after → MovesIf shows old new before after

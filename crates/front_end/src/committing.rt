@@ -4,12 +4,12 @@ ghost use Rattle.client_state.specs.Writing.{WritesShares, WritesThere, unsent};
 ghost use Rattle.front_end.specs.Writing.{ClientWrites};
 ghost use Rattle.client_state.specs.Learning.{Rises};
 ghost use Rattle.client_state.specs.Links.{NoneAwaits};
-ghost use Rattle.client_state.specs.Moving.{Loses, MovesIf, SendsNothingIf};
+ghost use Rattle.client_state.specs.Moving.{InSession, Loses, MovesIf, SendsNothingIf};
 ghost use Rattle.client_state.specs.Sending.{IsOfSession};
 ghost use Rattle.front_end.specs.Showing.{ShownIf};
 ghost use Rattle.port.specs.Acting.{ActsIf};
 ghost use Rattle.item_progress.specs.declared.news.News.TheVariants as news;
-ghost use Rattle.std.specs.Prelude.{IfOk, OnOk, ℕ, ◌≡◌, None, []};
+ghost use Rattle.std.specs.Prelude.{IfOk, OnOk, ℕ, ◌≡◌, None, [], IsTrue};
 
 use crate::client::Client;
 use client_state::{Drew, Phase, Sending, Sent, Transaction};
@@ -85,7 +85,7 @@ impl Client {
         }
     }
 
-    /// Where nothing else is to be sent, it commits; else the coordinator prepares it.
+    /// It goes out in the session that there is. Where its session is another one, the evaluation begins anew.
     fn send_first<Q: Port>(
         &mut self,
         port: &mut Q,
@@ -97,6 +97,39 @@ impl Client {
         ensures acts { ActsIf Q.shows (Q.view port.old) (Q.view port.new) }
         ensures shown { sending.request.tx ≡ ts → ShownIf Q.shows (Q.view port.old) (Q.view port.new) opened.now.repos result }
         ensures moves { (transaction.shares.items ≡ [] → WritesThere sending.at.repo sending.request.writes self.old.held.cache.cache) → IsOfSession self.old.held.links.items sending → NoneAwaits 8 self.old.held.links.items → OnOk result (MovesIf Q.shows (Q.view port.old) (Q.view port.new) self.old.held self.new.held) }
+        ensures writes { unsent self.old.phase ≡ None → ClientWrites self.new }
+        ensures rises { Rises self.old.held self.new.held }
+    {
+        if !self.is_in_session(sending.at) {
+            self.begin_anew();
+            return Ok(News::Nothing);
+        }
+        self.send_in_session(port, opened, ts, transaction, sending)
+    }
+
+    /// Whether this is the session that there is at its repository.
+    #[tactic(auto, using(client_state::proofs::Sessions::same_session))]
+    fn is_in_session(&self, at: At) -> bool
+        ensures { IsTrue result → InSession at self.now.held }
+    {
+        match self.held.at(at.repo) {
+            Some(here) => here.session == at.session,
+            None => false,
+        }
+    }
+
+    /// Where nothing else is to be sent, it commits; else the coordinator prepares it.
+    fn send_in_session<Q: Port>(
+        &mut self,
+        port: &mut Q,
+        opened: &Opened,
+        ts: Ts,
+        transaction: Transaction,
+        sending: Sending,
+    ) -> Result<News, NoMemory>
+        ensures acts { ActsIf Q.shows (Q.view port.old) (Q.view port.new) }
+        ensures shown { sending.request.tx ≡ ts → ShownIf Q.shows (Q.view port.old) (Q.view port.new) opened.now.repos result }
+        ensures moves { InSession sending.at self.old.held → (transaction.shares.items ≡ [] → WritesThere sending.at.repo sending.request.writes self.old.held.cache.cache) → IsOfSession self.old.held.links.items sending → NoneAwaits 8 self.old.held.links.items → OnOk result (MovesIf Q.shows (Q.view port.old) (Q.view port.new) self.old.held self.new.held) }
         ensures writes { unsent self.old.phase ≡ None → ClientWrites self.new }
         ensures rises { Rises self.old.held self.new.held }
     {
@@ -115,7 +148,7 @@ impl Client {
     ) -> Result<News, NoMemory>
         ensures acts { ActsIf Q.shows (Q.view port.old) (Q.view port.new) }
         ensures shown { sending.request.tx ≡ sent.ts → ShownIf Q.shows (Q.view port.old) (Q.view port.new) opened.now.repos result }
-        ensures moves { WritesThere sending.at.repo sending.request.writes self.old.held.cache.cache → IsOfSession self.old.held.links.items sending → NoneAwaits 8 self.old.held.links.items → MovesIf Q.shows (Q.view port.old) (Q.view port.new) self.old.held self.new.held }
+        ensures moves { InSession sending.at self.old.held → WritesThere sending.at.repo sending.request.writes self.old.held.cache.cache → IsOfSession self.old.held.links.items sending → NoneAwaits 8 self.old.held.links.items → MovesIf Q.shows (Q.view port.old) (Q.view port.new) self.old.held self.new.held }
         ensures writes { unsent self.old.phase ≡ None → ClientWrites self.new }
         ensures rises { Rises self.old.held self.new.held }
     {

@@ -1,10 +1,9 @@
-use Rattle.front_end.proofs.Receiving.{whenever}
-use Rattle.front_end.proofs.Writing.{none_left}
+use Rattle.client_state.specs.Moving.{Rested, Unsent}
 use Rattle.front_end.proofs.client.Client.send_first.Goals as goal
-use Rattle.std.proofs.Common.{rules}
+use Rattle.std.proofs.Common.{refl}
 
-pub returns-then-is_empty-clause-moves : goal.returns-then-is_empty-clause-moves
-returns-then-is_empty-clause-moves g c = λ wrote of idle. whenever c.commit_one.result (c.commit_one.ensures.moves (wrote (search (none_left, rules))) of idle)
+pub returns-then-not-is_in_session-clause-moves : goal.returns-then-not-is_in_session-clause-moves
+returns-then-not-is_in_session-clause-moves g c = λ wrote of idle s. Unsent (Rested refl c.begin_anew.ensures.less)
 
 pub returns-clause-moves : goal.returns-clause-moves
-returns-clause-moves g c = λ wrote of idle. whenever c.prepare_first.result (c.prepare_first.ensures.moves of idle)
+returns-clause-moves g c = c.send_in_session.ensures.moves (c.if-not-is_in_session.ensures refl)
