@@ -61,7 +61,7 @@ use Rattle.session_outbox.specs.Exact.{exact}
 use Rattle.session_outbox.specs.Notices.{lives}
 use Rattle.session_outbox.specs.Session.{Session, session}
 use Rattle.session_outbox.specs.Trace.{entries}
-use Rattle.session_outbox.specs.Verdict.{verdict, verdict_by}
+use Rattle.session_outbox.specs.Verdict.{verdict_by}
 use Rattle.std.proofs.Common.{Bool, List, [], ap, arith, cond, false, inl, inr, refl, subst, suc, sym, true, zero, ◌++◌, ◌∙◌, ◌∷◌, ◌≡◌, ℕ}
 use Rattle.std.proofs.lemmas.Bool.Decides.{nat_tests}
 use Rattle.std.proofs.lemmas.Option.{same_Some}
