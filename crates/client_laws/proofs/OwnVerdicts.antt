@@ -65,8 +65,8 @@ module _ (c : ℕ) (b : Base) (u : views.Unsettled) (T : List Item) (committed l
 
   module _ (more : (t : Ts) → committed t ≡ true → later t ≡ true) where
     -- nothing of the session's own is told
-    others_here : ((t : Ts) (o : Known) → known_by b (entries T) t ≡ Some o → o.fate ≡ Open → o.request.session ≡ s → later t ≡ true → committed t ≡ true) → (copies : Copies) → FitsAt c b u T committed (holding copies) → FitsAt c b u T later (holding copies)
-    others_here own copies h = then_told copies copies h (λ calm live g. fits_told c b T committed later (holding copies) more own g)
+    others_here : (u ≡ Calm → lives (session b T s) ≡ true → (t : Ts) (o : Known) → known_by b (entries T) t ≡ Some o → o.fate ≡ Open → o.request.session ≡ s → later t ≡ true → committed t ≡ true) → (copies : Copies) → FitsAt c b u T committed (holding copies) → FitsAt c b u T later (holding copies)
+    others_here own copies h = then_told copies copies h (λ calm live g. fits_told c b T committed later (holding copies) more (own calm (ap lives h.there ∙ live)) g)
 
     module _ (t : Ts) (own : (w : Ts) (o : Known) → known_by b (entries T) w ≡ Some o → o.fate ≡ Open → o.request.session ≡ s → later w ≡ true → (committed w ≡ true) ⊎ (Some t ≡ Some w)) (new : committed t ≡ false) (told : later t ≡ true) where
       -- t isn't undecided in the session
@@ -141,8 +141,9 @@ module _ (c : ℕ) (b : Base) (u : views.Unsettled) (T : List Item) (committed l
           fits_learnt c b T (but t later) later (holding copies) t o (fits_told c b T committed (but t later) (holding copies) without before_it h) is open' own' only told (λ w l. first (later w) (not (same_ts w t)) l)
           idle (settled owed) pages left become
 
-      own_here : (copies left : Copies) → (u ≡ Calm → lives (session b T s) ≡ true → TakesWrites b T s awaits committed t copies left) → FitsAt c b u T committed (holding copies) → FitsAt c b u T later (holding left)
-      own_here copies left w h = then_told copies left h (λ calm live g. takes copies left (w calm (ap lives h.there ∙ live)) g)
+    own_here : (t : Ts) → (u ≡ Calm → lives (session b T s) ≡ true → (w : Ts) (o : Known) → known_by b (entries T) w ≡ Some o → o.fate ≡ Open → o.request.session ≡ s → later w ≡ true → (committed w ≡ true) ⊎ (Some t ≡ Some w)) → committed t ≡ false → later t ≡ true
+        → (copies left : Copies) → (u ≡ Calm → lives (session b T s) ≡ true → TakesWrites b T s awaits committed t copies left) → FitsAt c b u T committed (holding copies) → FitsAt c b u T later (holding left)
+    own_here t own new told copies left w h = then_told copies left h (λ calm live g. let on : lives (session b T s) ≡ true = ap lives h.there ∙ live in takes t (own calm on) new told copies left (w calm on) g)
 
 -- ---- all links
 
@@ -155,7 +156,7 @@ others_told port links committed later copies told fit = record { each = λ r wi
     by r within (Some (Unsettled sent index)) e h = h
     by r within (Some (Joined s upto waits)) e h =
         others_here port.opened.client (port.opened.base r) (port.unsettled r) (port.seen r) committed later s upto (is_reply waits) told.more
-        (λ t o is open' mine l. elim (told.own r s upto waits t o within e is open' mine l) [ inl before ↦ before | inr e ↦ let never : None ≡ Some t = e in cc ]) copies h
+        (λ calm live t o is open' mine l. elim (told.own r s upto waits t o within e calm live is open' mine l) [ inl before ↦ before | inr e ↦ let never : None ≡ Some t = e in cc ]) copies h
 
 pub own_told : (port : View) (links : List Link) (committed later : Ts → Bool) (t : Ts) (copies left : Copies) → OutcomesTold port links (Some t) committed later → TakesAll port links committed later t copies left → LinksFit port committed links copies → LinksFit port later links left
 own_told port links committed later t copies left told takes fit = record { each = λ r within. by r within (slice_get links r) refl (takes.each r within) (fit.each r within) }
@@ -166,4 +167,4 @@ own_told port links committed later t copies left told takes fit = record { each
     by r within (Some (Unsettled sent index)) e w h = w
     by r within (Some (Joined s upto waits)) e w h =
         own_here port.opened.client (port.opened.base r) (port.unsettled r) (port.seen r) committed later s upto (is_reply waits) told.more t
-        (λ x o is open' mine l. told.own r s upto waits x o within e is open' mine l) takes.new takes.told copies left w h
+        (λ calm live x o is open' mine l. told.own r s upto waits x o within e calm live is open' mine l) takes.new takes.told copies left w h

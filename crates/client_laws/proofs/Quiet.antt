@@ -13,6 +13,7 @@ use Rattle.port.specs.Acting.{Acts}
 use Rattle.client_laws.specs.Doomed.{ActsWithin, IsDoomed, IsQuiet, concerns, decides, entry_asked}
 use Rattle.client_laws.specs.Seen.{IsSeenRight}
 use Rattle.local_history.proofs.Growth.{owed-end, sound-beginning}
+use Rattle.local_history.proofs.Listed.{recorded}
 use Rattle.local_history.proofs.Places.{came_end}
 use Rattle.local_history.specs.History.{Base, Committed, Known, Open, State, commit_of, known_by, state}
 use Rattle.local_history.specs.Laws.{Asks}
@@ -27,7 +28,7 @@ use Rattle.session_outbox.specs.Gaps.{client_in, maker}
 use Rattle.session_outbox.specs.Notices.{lives}
 use Rattle.session_outbox.specs.Session.{Session, move, session, session_lives}
 use Rattle.session_outbox.specs.Trace.{E, Item, M, entries}
-use Rattle.std.proofs.Common.{Bool, List, [], ap, append_assoc, false, inl, inr, is_eq, length, refl, subst, sym, true, ◌++◌, ◌∙◌, ◌∷◌, ◌≡◌, ◌≢◌, ℕ}
+use Rattle.std.proofs.Common.{Bool, List, [], ap, append_assoc, arith, false, inl, inr, is_eq, length, refl, subst, sym, true, ◌++◌, ◌∙◌, ◌∷◌, ◌≡◌, ◌≢◌, ◌≤◌, ℕ}
 use Rattle.std.proofs.lemmas.Cmp.{tied_itself}
 use Rattle.std.proofs.lemmas.List.{append-nil}
 use Rattle.std.specs.Prelude.{Some, ◌⊎◌}
@@ -49,7 +50,7 @@ asks_concern b S (Decided u k) q t x e = absurd x
 asks_concern b S (Finished u k) q t x e = absurd x
 asks_concern b S (Upgraded r) q t x e = inr (ap (λ (z : Request). (S.length, z) ∷ []) x)
 
-undecided : (t : Ts) (e : Entry) → concerns t e ≡ false → decides t e ≡ false
+pub undecided : (t : Ts) (e : Entry) → concerns t e ≡ false → decides t e ≡ false
 undecided t (Life n) h = refl
 undecided t (One q) h = refl
 undecided t (Prepared q) h = refl
@@ -184,7 +185,17 @@ module _ (c : ℕ) (b : Base) (s : ℕ) where
 
 -- ---- a call of a port
 
-module _ (old new : View) (r s : ℕ) (running committed : Ts → Bool) (seen : (n : ℕ) → IsSeenRight new n committed) (a : Acts old new) (within : ActsWithin old new a running) (q : IsQuiet old r s running) where
+module _ (old new : View) (r s : ℕ) (running committed : Ts → Bool) (seen : (n : ℕ) → n ≤ r → IsSeenRight new n committed) (a : Acts old new) (within : ActsWithin old new a running) (q : IsQuiet old r s running) where
+  itself : (n : ℕ) → n ≤ n
+  itself n = omega arith
+
+  -- the coordinator of what is known isn't above the repository
+  coordinated : (t : Ts) (o : Known) → known_by (new.opened.base r) (entries (new.seen r)) t ≡ Some o → t.repo ≤ r
+  coordinated t o there =
+      let right = seen r (itself r) in
+      let k = recorded (new.opened.base r) (entries (new.seen r)) right.owed t o there in
+      subst (λ (n : ℕ). t.repo ≤ n) right.numbered (subst (λ (u : Ts). u.repo ≤ (new.opened.base r).repo) k.named k.judged.vouched.participants.least.0)
+
   -- what isn't running the call isn't concerned with
   unconcerned : (t : Ts) → running t ≡ false → (e : Entry) → entry_asked old new a ≡ Some e → concerns t e ≡ false
   unconcerned t not e is = by (concerns t e) refl
@@ -198,7 +209,7 @@ module _ (old new : View) (r s : ℕ) (running committed : Ts → Bool) (seen : 
 
   was : (t : Ts) (h : HasCalled (concerns t) old new) → WasOpen t r
   was t h =
-      let right = seen_right old new r committed h.called.same (seen r) in
+      let right = seen_right old new r committed h.called.same (seen r (itself r)) in
       let c : ℕ = old.opened.client in
       let b : Base = old.opened.base r in
       behind_call (concerns t) old new h r (WasOpen t)
@@ -213,7 +224,7 @@ module _ (old new : View) (r s : ℕ) (running committed : Ts → Bool) (seen : 
 
   mine : (h : HasCalled (λ e. false) old new) → client_in (old.opened.base r) (new.seen r) s ≡ Some old.opened.client
   mine h =
-      let right = seen_right old new r committed h.called.same (seen r) in
+      let right = seen_right old new r committed h.called.same (seen r (itself r)) in
       let c : ℕ = old.opened.client in
       let b : Base = old.opened.base r in
       behind_call (λ e. false) old new h r (λ n. client_in (old.opened.base n) (new.seen n) s ≡ Some c)
@@ -239,7 +250,7 @@ module _ (old new : View) (r s : ℕ) (running committed : Ts → Bool) (seen : 
           record { o = o; there = subst (λ (d : Opened). known_by (d.base r) (entries (new.seen r)) t ≡ Some o) same there; open' = open'; own = own },
         ) in
         let y = was t h now in
-        acted old new t committed (seen t.repo) (q.doomed y.0 y.1 t y.2.o y.2.there y.2.open' y.2.own not) a (λ e is. undecided t e (unconcerned t not e is))
+        acted old new t committed (seen t.repo (coordinated t o there)) (q.doomed y.0 y.1 t y.2.o y.2.there y.2.open' y.2.own not) a (λ e is. undecided t e (unconcerned t not e is))
   ]
 
   pub stays_quiet : IsQuiet new r s running

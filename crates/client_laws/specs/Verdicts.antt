@@ -15,11 +15,12 @@ use Rattle.std.specs.List.{slice_get}
 use Rattle.std.specs.Prelude.{Bool, List, None, Option, Some, false, true, ℕ, ◌<◌, ◌≡◌, ◌⊎◌}
 use Rattle.thor_value.specs.declared.names.Ts.{Ts}
 
--- What had committed still has. Of what is undecided in the sessions of these links no more has committed, but for the
--- transaction of the verdict that the client is told, where it is told one.
+-- What had committed still has. Of what is undecided in the live sessions of these links, while nothing is unsettled, no more has
+-- committed, but for the transaction of the verdict that the client is told, where it is told one.
 pub record OutcomesTold (port : View) (links : List Link) (verdict : Option Ts) (committed later : Ts → Bool) : Type 0 where
   pub more : (t : Ts) → committed t ≡ true → later t ≡ true
   pub own : (r s upto : ℕ) (waits : Waits) (t : Ts) (o : Known) → r < port.opened.repos → slice_get links r ≡ Some (Joined s upto waits)
+      → port.unsettled r ≡ Calm → lives (session (port.opened.base r) (port.seen r) s) ≡ true
       → known_by (port.opened.base r) (entries (port.seen r)) t ≡ Some o → o.fate ≡ Open → o.request.session ≡ s → later t ≡ true → (committed t ≡ true) ⊎ (verdict ≡ Some t)
 
 -- The client is told that its transaction t has committed. Where its session s has prepared it at the repository and it is

@@ -64,6 +64,13 @@ by_part : (o : Option Known) → is_committed_part o ≡ true → (w : Known) ×
 by_part None e = cc
 by_part (Some w) e = (w, refl, by_test w.fate e)
 
+-- what has committed still has where the history has grown
+pub still_committed : (b : Base) (H more : List Entry) → sound b (H ++ more) → (t : Ts) → is_committed_part (known_by b H t) ≡ true → is_committed_part (known_by b (H ++ more) t) ≡ true
+still_committed b H more s t e =
+    let o = by_part (known_by b H t) e in
+    let w = stays b H more s t o.0 o.1 in
+    ap is_committed_part w.1 ∙ tested w.0.fate (committed_later o.0.fate w.0.fate w.2.fate o.2)
+
 module _ (b : Base) (one : b.repos ≡ 1) (first : b.repo ≡ 0) where
   -- a request has no other participant
   pub alone : (q : Request) → HasParticipants b q → q.others ≡ []
@@ -102,13 +109,6 @@ module _ (b : Base) (one : b.repos ≡ 1) (first : b.repo ≡ 0) where
   -- nothing is undecided
   pub none_open : (H : List Entry) → sound b H → (t : Ts) (o : Known) → known_by b H t ≡ Some o → o.fate ≡ Open → ⊥
   none_open H s t o is e = never_open o.fate (all_committed H s t o is) e
-
-  -- what has committed still has where the history has grown
-  pub still_committed : (H more : List Entry) → sound b (H ++ more) → (t : Ts) → is_committed_part (known_by b H t) ≡ true → is_committed_part (known_by b (H ++ more) t) ≡ true
-  still_committed H more s t e =
-      let o = by_part (known_by b H t) e in
-      let w = stays b H more s t o.0 o.1 in
-      ap is_committed_part w.1 ∙ tested w.0.fate (committed_later o.0.fate w.0.fate w.2.fate o.2)
 
 -- ---- a port
 

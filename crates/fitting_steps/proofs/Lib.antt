@@ -8,6 +8,7 @@ pub mod OnePage
 pub mod OneRun
 pub mod OneStep
 pub mod Paging
+pub mod PartStep
 pub mod Quieting
 pub mod Rising
 pub mod Running

@@ -7,7 +7,8 @@ use Rattle.client_state.specs.declared.link.Link.TheVariants.{Joined}
 use Rattle.client_state.specs.declared.link.Link.{Link}
 use Rattle.client_state.specs.declared.link.Waits.{Waits}
 use Rattle.fitting_steps.proofs.Alone.{none_open}
-use Rattle.fitting_steps.specs.OneRepository.{FitsOne, IsRightOrTold, Position, committed_there}
+use Rattle.fitting_steps.specs.OneRepository.{FitsOne, IsRightOrTold, committed_there}
+use Rattle.fitting_steps.specs.Positions.{Position}
 use Rattle.local_history.proofs.Listed.{is_some_and}
 use Rattle.local_history.specs.History.{Base}
 use Rattle.port.specs.Views.{Calm}

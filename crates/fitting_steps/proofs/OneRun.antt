@@ -17,7 +17,8 @@ use Rattle.fitting_steps.proofs.Trying.{sees_kept, sees_written}
 use Rattle.fitting_steps.proofs.OneStep.{begins}
 use Rattle.fitting_steps.specs.Owed.{SentOwed}
 use Rattle.fitting_steps.specs.OneExample.{HoldsOnTheWay, HoldsThis, behind, made, seeing, whole}
-use Rattle.fitting_steps.specs.OneRepository.{FitsOne, HasOneRepository, Leads, Stepped, Waited}
+use Rattle.fitting_steps.specs.OneRepository.{FitsOne, HasOneRepository, Leads}
+use Rattle.fitting_steps.specs.Positions.{Stepped, Waited}
 use Rattle.local_history.proofs.Decided.{decides_sound}
 use Rattle.local_history.proofs.Growth.{sound-beginning}
 use Rattle.local_history.specs.Examples.{at, box, only, z}
@@ -185,8 +186,12 @@ module _ (first joined drawn waits taken last : Held) (h : HoldsOnTheWay first j
           by true e = let f : false ≡ true = sym new ∙ ap (λ (t : Bool). t || false) e in cc
           by false e = let f : false ≡ true = ap is_some (sym (at_z x ∙ ap (λ (t : Bool). cond t (Some (box 7)) None) e)) ∙ wrote in cc
 
-  others : Grew only 1 Calm (take 6 whole) Calm (take 7 whole)
-  others = record { gap = M (the.Connected 2 2) ∷ []; gains = (Calm, ((λ e. cc), refl), tt); ends = refl }
+  others : (n : ℕ) → n < 1 → Grew only 1 Calm (cond (nat_eq n 0) (take 6 whole) []) Calm (cond (nat_eq n 0) (take 7 whole) [])
+  others n low = by (nat_eq n 0)
+    where
+      by : (t : Bool) → Grew only 1 Calm (cond t (take 6 whole) []) Calm (cond t (take 7 whole) [])
+      by true = record { gap = M (the.Connected 2 2) ∷ []; gains = (Calm, ((λ e. cc), refl), tt); ends = refl }
+      by false = still only []
 
   pub run : Leads (behind 1 first) (behind 2 joined ∷ behind 3 drawn ∷ behind 4 waits ∷ behind 5 taken ∷ behind 6 last ∷ []) (behind 7 last)
   unfolding connects draws asks takes commits

@@ -7,7 +7,7 @@ use Rattle.client_laws.proofs.OwnVerdicts.{others_told}
 use Rattle.client_laws.proofs.Showing.{in_front}
 use Rattle.client_laws.proofs.Stepping.{opened_stays, waiting_fits}
 use Rattle.client_laws.proofs.Whole.{ask_all}
-use Rattle.client_laws.specs.Fitting.{NoneToFinish}
+use Rattle.client_laws.specs.Fitting.{Copies, NoneToFinish}
 use Rattle.client_laws.specs.Seen.{LinkAt}
 use Rattle.client_laws.specs.Steps.{AllSeenRight, LinksFit}
 use Rattle.client_laws.specs.Verdicts.{OutcomesTold}
@@ -23,7 +23,8 @@ use Rattle.fitting_steps.proofs.Calls.{asks, step_fits, then_client, then_less}
 use Rattle.fitting_steps.proofs.Losing.{seen_grows}
 use Rattle.fitting_steps.proofs.Running.{new_client}
 use Rattle.fitting_steps.specs.Acting.{acts_of}
-use Rattle.fitting_steps.specs.OneRepository.{AsksRightly, BringsWhatStood, DecidesRightly, FitsOne, HasEnded, HasOneRepository, Leads, Position, StepOwed, Stepped, Turn, Waited, committed_there}
+use Rattle.fitting_steps.specs.OneRepository.{AsksRightly, BringsWhatStood, DecidesRightly, FitsOne, HasEnded, HasOneRepository, Leads, StepOwed, committed_there}
+use Rattle.fitting_steps.specs.Positions.{Position, Stepped, TurnBy, Waited}
 use Rattle.fitting_steps.specs.Owed.{ClientFits, MessageOwed, Owed, SendsOwed, SettledOwed, VerdictOwed, verdict_of}
 use Rattle.local_history.proofs.Growth.{kept_by-parts, sound-beginning}
 use Rattle.local_history.specs.History.{Base, known_by, start, state}
@@ -34,7 +35,6 @@ use Rattle.message_outbox.specs.declared.answers.At.{At}
 use Rattle.message_outbox.specs.declared.answers.Verdict.{Verdict}
 use Rattle.message_outbox.specs.declared.message.Message.TheVariants.{Grant, Invalid, Page, Upgrade}
 use Rattle.message_outbox.specs.declared.message.Message.{Message}
-use Rattle.port.specs.Growing.{Grew}
 use Rattle.port.specs.Views as views
 use Rattle.port.specs.Views.{Calm, Came, Halted, MayCome, Opened, View}
 use Rattle.port.specs.Works.{Answered, AskWork, CommitWork, Does, PrepareWork, alone_entry}
@@ -65,7 +65,24 @@ module _ (b : Base) (one : b.repos ≡ 1) (first : b.repo ≡ 0) where
       let found = in_front t (traces 0) h.1.0 h.1.1.0 h.0 h.1.1.1 h.1.2 in
       none_prepared found.0.0 found.0.1 h.0 (subst (λ (T : List Item). sound b (entries T)) found.0.2 sd)
 
+-- ---- a session that has ended
+
+pub ended_at : (port : View) (r : ℕ) (committed later : Ts → Bool) (link : Option Link) (copies left : Copies) → HasEnded port r link left → LinkAt port r committed link copies → LinkAt port r later link left
+ended_at port r committed later None copies left e f = tt
+ended_at port r committed later (Some links.Apart) copies left e f = e
+ended_at port r committed later (Some (links.Joined s upto waits)) copies left e f = record { v = f.v; there = f.there; own = f.own; keeps = λ calm live. absurd (e calm (ap lives f.there ∙ live)) }
+ended_at port r committed later (Some (links.Unsettled sent index)) copies left e f = e
+
 -- ---- a step
+
+pub commit_front : (old new : View) (r s : ℕ) (q : Request) (place : ℕ) (d : Does {X = ℕ} old new r (Ok place) (CommitWork s q (Ok place))) → Front d.at (new.seen r)
+commit_front old new r s q place d = by d.met d.answer
+  where
+    by : (met : views.Unsettled) → Answered {X = ℕ} r (Ok place) met d.at (new.seen r) (new.unsettled r) (CommitWork s q (Ok place) (old.opened.base r) d.at (new.seen r) (new.unsettled r)) → Front d.at (new.seen r)
+    by Calm w = (E (alone_entry q) ∷ [], w.2.0)
+    by (MayCome e) w = absurd w.0
+    by Came w = absurd w.0
+    by Halted w = absurd w.0
 
 module _ (old new : View) (same : new.opened ≡ old.opened) (one : HasOneRepository old) (then_one : HasOneRepository new) (grows : Front (old.seen 0) (new.seen 0)) where
   abbrev b : Base
@@ -79,12 +96,12 @@ module _ (old new : View) (same : new.opened ≡ old.opened) (one : HasOneReposi
   more t e =
       let split : entries (new.seen 0) ≡ entries (old.seen 0) ++ entries grows.0 = ap entries grows.1 ∙ entries-append (old.seen 0) grows.0 in
       subst (λ (o : Opened). is_committed_part (known_by (o.base 0) (entries (new.seen 0)) t) ≡ true) (sym same)
-      (subst (λ (H : List Entry). is_committed_part (known_by b H t) ≡ true) (sym split) (still_committed b one.counted one.numbered (entries (old.seen 0)) (entries grows.0) (subst (sound b) split owed_now) t e))
+      (subst (λ (H : List Entry). is_committed_part (known_by b H t) ≡ true) (sym split) (still_committed b (entries (old.seen 0)) (entries grows.0) (subst (sound b) split owed_now) t e))
 
   pub outcomes : (ls : List Link) (verdict : Option Ts) → OutcomesTold old ls verdict (committed_there old) (committed_there new)
   outcomes ls verdict = record {
     more = more;
-    own = λ r s upto waits t o within there is open' mine l. absurd (of_each old one (λ n. known_by (old.opened.base n) (entries (old.seen n)) t ≡ Some o → ⊥) (λ k. none_open b one.counted one.numbered (entries (old.seen 0)) one.owed t o k open') r within is);
+    own = λ r s upto waits t o within there calm live is open' mine l. absurd (of_each old one (λ n. known_by (old.opened.base n) (entries (old.seen n)) t ≡ Some o → ⊥) (λ k. none_open b one.counted one.numbered (entries (old.seen 0)) one.owed t o k open') r within is);
   }
 
   module _ (before after : Held) where
@@ -125,15 +142,6 @@ module _ (old new : View) (same : new.opened ≡ old.opened) (one : HasOneReposi
     message r (Invalid names place) o = λ inside. of_each new then_one (λ n. length (entries (new.seen n)) < 2 ^ 64) then_one.short r inside
     message r (Upgrade number text place) o = λ inside. of_each new then_one (λ n. length (entries (new.seen n)) < 2 ^ 64) then_one.short r inside
 
-    commit_front : (r s : ℕ) (q : Request) (place : ℕ) (d : Does {X = ℕ} old new r (Ok place) (CommitWork s q (Ok place))) → Front d.at (new.seen r)
-    commit_front r s q place d = by d.met d.answer
-      where
-        by : (met : views.Unsettled) → Answered {X = ℕ} r (Ok place) met d.at (new.seen r) (new.unsettled r) (CommitWork s q (Ok place) (old.opened.base r) d.at (new.seen r) (new.unsettled r)) → Front d.at (new.seen r)
-        by Calm w = (E (alone_entry q) ∷ [], w.2.0)
-        by (MayCome e) w = absurd w.0
-        by Came w = absurd w.0
-        by Halted w = absurd w.0
-
     -- nothing is prepared
     unprepared : (r s : ℕ) (q : Request) (place : ℕ) → Does {X = ℕ} old new r (Ok place) (PrepareWork s q (Ok place)) → r < new.opened.repos → ⊥
     unprepared r s q place d inside = by d.met d.answer
@@ -154,16 +162,10 @@ module _ (old new : View) (same : new.opened ≡ old.opened) (one : HasOneReposi
     module _ (fits : ClientFits old committed before) where
       -- what the try has written is the client's, where its session has ended
       ended : HasEnded old 0 (slice_get before.links.items 0) (seen before.cache.cache) → LinksFit old later before.links.items (seen before.cache.cache)
-      ended h = record { each = of_each old one (λ n. LinkAt old n later (slice_get before.links.items n) (seen before.cache.cache)) (by (slice_get before.links.items 0) h (fits.links.each 0 first)) }
+      ended h = record { each = of_each old one (λ n. LinkAt old n later (slice_get before.links.items n) (seen before.cache.cache)) (ended_at old 0 committed later (slice_get before.links.items 0) (kept before.cache.cache) (seen before.cache.cache) h (fits.links.each 0 first)) }
         where
           first : 0 < old.opened.repos
           first = subst (λ (n : ℕ). 0 < n) (sym one.one) (omega arith)
-
-          by : (o : Option Link) → HasEnded old 0 o (seen before.cache.cache) → LinkAt old 0 committed o (kept before.cache.cache) → LinkAt old 0 later o (seen before.cache.cache)
-          by None e f = tt
-          by (Some links.Apart) e f = e
-          by (Some (links.Joined s upto waits)) e f = record { v = f.v; there = f.there; own = f.own; keeps = λ calm live. absurd (e calm (ap lives f.there ∙ live)) }
-          by (Some (links.Unsettled sent index)) e f = e
 
       asked : (r : ℕ) (t : Ts) (v : Verdict) → Does {X = answer.Asked} old new r (Ok (answers.Settled v)) (AskWork t (Ok (answers.Settled v))) → (x : Bool) → v.commit ≡ x → EndsSo x before after → AsksRightly x old before → ClientFits new later after
       asked r t v d true is ends o =
@@ -182,8 +184,8 @@ module _ (old new : View) (same : new.opened ≡ old.opened) (one : HasOneReposi
       step (ReceiveStopped at k d there outage stops stays fewer) o = by_owed (ReceiveStopped at k d there outage stops stays fewer) tt
       step (Prepared s place d of less) o = by_owed (Prepared s place d of less) (λ inside. absurd (unprepared s.at.repo s.at.session s.request place d inside))
       step (PrepareRefused s k d of idle learns stays) o = by_owed (PrepareRefused s k d of idle learns stays) tt
-      step (Committed s place d of wrote idle keeps) o = by_owed (Committed s place d of wrote idle keeps) (settled_at s.at.repo s.at.session d.at (commit_front s.at.repo s.at.session s.request place d), o.0, o.1)
-      step (Transformed s place oref made d of session writes idle keeps) o = by_owed (Transformed s place oref made d of session writes idle keeps) (settled_at s.at.repo s.at.session d.at (commit_front s.at.repo s.at.session s.request place d), o)
+      step (Committed s place d of wrote idle keeps) o = by_owed (Committed s place d of wrote idle keeps) (settled_at s.at.repo s.at.session d.at (commit_front old new s.at.repo s.at.session s.request place d), o.0, o.1)
+      step (Transformed s place oref made d of session writes idle keeps) o = by_owed (Transformed s place oref made d of session writes idle keeps) (settled_at s.at.repo s.at.session d.at (commit_front old new s.at.repo s.at.session s.request place d), o)
       step (CommitRefused s k d of idle learns stays) o = by_owed (CommitRefused s k d of idle learns stays) tt
       step (Decided at t v d idle ends) o = by_owed (Decided at t v d idle ends) (decided v.commit at t o)
       step (Aborted at t v d less) o = by_owed (Aborted at t v d less) tt
@@ -195,14 +197,17 @@ module _ (old new : View) (same : new.opened ≡ old.opened) (one : HasOneReposi
 
 -- ---- a run
 
-turn : (a z : Position) → Turn a z → FitsOne a → FitsOne z
+turn : (a z : Position) → TurnBy HasOneRepository StepOwed a z → FitsOne a → FitsOne z
 turn a z (Stepped moves o one) f =
     let acts = acts_of a.port z.port a.held z.held moves in
     record { only = one; fits = step a.port z.port (opened_stays a.port z.port acts) f.only one (seen_grows a.port z.port acts 0) a.held z.held f.fits moves o }
 turn a z (Waited same opened grew one) f = record { only = one; fits = waited }
   where
+    first : 0 < a.port.opened.repos
+    first = subst (λ (n : ℕ). 0 < n) (sym f.only.one) (omega arith)
+
     told : OutcomesTold a.port a.held.links.items None (committed_there a.port) (committed_there z.port)
-    told = outcomes a.port z.port opened f.only one (grew.gap, grew.ends) a.held.links.items None
+    told = outcomes a.port z.port opened f.only one ((grew 0 first).gap, (grew 0 first).ends) a.held.links.items None
 
     waited : ClientFits z.port (committed_there z.port) z.held
     waited = record {
@@ -210,7 +215,7 @@ turn a z (Waited same opened grew one) f = record { only = one; fits = waited }
       few = subst (λ (o : Opened). o.repos ≤ 8) (sym opened) f.fits.few;
       links = subst (λ (h : Held). LinksFit z.port (committed_there z.port) h.links.items (kept h.cache.cache)) (sym same)
           (waiting_fits a.port z.port (committed_there z.port) a.held.links.items (kept a.held.cache.cache) opened
-          (of_each a.port f.only (λ r. Grew (a.port.opened.base r) a.port.opened.client (a.port.unsettled r) (a.port.seen r) (z.port.unsettled r) (z.port.seen r)) grew) (all_right z.port one)
+          grew (all_right z.port one)
           (others_told a.port a.held.links.items (committed_there a.port) (committed_there z.port) (kept a.held.cache.cache) told f.fits.links));
     }
 

@@ -5,7 +5,7 @@ use Rattle.client_laws.proofs.Leaving.{SeenRight, seen_right}
 use Rattle.client_laws.proofs.Quiet.{grown_back, grown_client, stays_quiet}
 use Rattle.client_laws.proofs.Uncommitted.{grown_on}
 use Rattle.client_laws.specs.Doomed.{ActsWithin, IsDoomed, IsQuiet}
-use Rattle.client_laws.specs.Seen.{IsSeenRight}
+use Rattle.client_laws.specs.Steps.{AllSeenRight}
 use Rattle.client_state.specs.Calling.{is_session_of}
 use Rattle.client_state.specs.Moving.{Moves}
 use Rattle.client_state.specs.declared.held.Held.{Held}
@@ -14,6 +14,7 @@ use Rattle.fitting_steps.proofs.Losing.{From, IsGiven, WasIts, steps}
 use Rattle.fitting_steps.specs.Acting.{acts_of}
 use Rattle.fitting_steps.specs.Owed.{SettledOwed}
 use Rattle.fitting_steps.specs.Quiet.{AreQuiet, IsHandedOn}
+use Rattle.local_history.proofs.Listed.{recorded}
 use Rattle.local_history.specs.History.{Known, Open, known_by}
 use Rattle.message_outbox.specs.declared.answers.Welcome.{Welcome}
 use Rattle.port.specs.Growing.{Grew}
@@ -26,7 +27,7 @@ use Rattle.session_outbox.specs.Trace.{entries}
 use Rattle.std.proofs.Common.{Bool, List, ap, arith, false, inl, inr, refl, subst, sym, true, ◌∙◌, ◌≡◌, ℕ}
 use Rattle.std.proofs.lemmas.Bool.Decides.{nat_tests}
 use Rattle.std.specs.List.{slice_get}
-use Rattle.std.specs.Prelude.{Ok, Some, nat_eq, ◌&&◌, ◌<◌, ◌⊎◌}
+use Rattle.std.specs.Prelude.{Ok, Some, nat_eq, ◌&&◌, ◌<◌, ◌≤◌, ◌⊎◌}
 use Rattle.thor_value.specs.declared.names.Ts.{Ts}
 
 -- ---- what is running
@@ -60,36 +61,49 @@ changes_all port links running next goes q = record { each = λ r s within its. 
 
 -- ---- a step
 
+up : (n r k : ℕ) → n ≤ r → r < k → n < k
+up n r k p q = omega arith
+
 counts_more : (port : View) (r s : ℕ) (running : Ts → Bool) → IsQuiet port r s (λ t. false) → IsQuiet port r s running
 counts_more port r s running q = record { own = q.own; doomed = λ calm live t o there open' mine none. q.doomed calm live t o there open' mine refl }
 
-module _ (old new : View) (before after : Held) (running known : Ts → Bool) (moves : Moves old new before after) (within : ActsWithin old new (acts_of old new before after moves) running) (seen : (n : ℕ) → IsSeenRight new n known)
+module _ (old new : View) (before after : Held) (running known : Ts → Bool) (moves : Moves old new before after) (within : ActsWithin old new (acts_of old new before after moves) running) (seen : AllSeenRight new known)
     (own : before.client ≡ old.opened.client) (same : new.opened ≡ old.opened) where
-  from_quiet : (r s : ℕ) → r < old.opened.repos → AreQuiet old before.links.items running → From s old new before r → IsQuiet new r s running
-  from_quiet r s inside q (WasIts e) = stays_quiet old new r s running known seen (acts_of old new before after moves) within (q.each r s inside e)
+  now : (r : ℕ) → r < old.opened.repos → r < new.opened.repos
+  now r inside = subst (λ (o : Opened). r < o.repos) (sym same) inside
+
+  pub from_quiet : (r s : ℕ) → r < old.opened.repos → AreQuiet old before.links.items running → From s old new before r → IsQuiet new r s running
+  from_quiet r s inside q (WasIts e) = stays_quiet old new r s running known (λ n low. seen.each n (up n r new.opened.repos low (now r inside))) (acts_of old new before after moves) within (q.each r s inside e)
   from_quiet r s inside q (IsGiven w d e) =
-      counts_more new r s running (subst (λ (n : ℕ). IsQuiet new r n (λ t. false)) e (joined_quiet old new r w known (subst (λ (c : ℕ). Does {X = Welcome} old new r (Ok w) (ConnectWork c (Ok w))) own d) (seen r)))
+      counts_more new r s running (subst (λ (n : ℕ). IsQuiet new r n (λ t. false)) e (joined_quiet old new r w known (subst (λ (c : ℕ). Does {X = Welcome} old new r (Ok w) (ConnectWork c (Ok w))) own d) (seen.each r (now r inside))))
 
   pub stay_quiet : AreQuiet old before.links.items running → AreQuiet new after.links.items running
   stay_quiet q = record { each = λ r s inside its. from_quiet r s (subst (λ (o : Opened). r < o.repos) same inside) q (steps s old new before after r its moves) }
 
 -- ---- what others do
 
-module _ (old new : View) (known : Ts → Bool) (same : new.opened ≡ old.opened) (grew : (n : ℕ) → Grew (old.opened.base n) old.opened.client (old.unsettled n) (old.seen n) (new.unsettled n) (new.seen n)) (seen : (n : ℕ) → IsSeenRight new n known) where
-  right : (n : ℕ) → SeenRight old new n
-  right n = seen_right old new n known same (seen n)
+module _ (old new : View) (known : Ts → Bool) (same : new.opened ≡ old.opened) (grew : (n : ℕ) → n < old.opened.repos → Grew (old.opened.base n) old.opened.client (old.unsettled n) (old.seen n) (new.unsettled n) (new.seen n)) (seen : AllSeenRight new known) where
+  right : (n : ℕ) → n < old.opened.repos → SeenRight old new n
+  right n inside = seen_right old new n known same (seen.each n (subst (λ (o : Opened). n < o.repos) (sym same) inside))
 
-  grown_quiet : (r s : ℕ) (running : Ts → Bool) → IsQuiet old r s running → IsQuiet new r s running
-  grown_quiet r s running q = subst (λ (o : Opened). IsQuiet (record new { opened = o }) r s running) (sym same) (record {
-    own = grown_client old.opened.client (old.opened.base r) s (old.seen r) (new.seen r) (old.unsettled r) (new.unsettled r) (grew r) (right r).kept q.own;
+  -- the coordinator of what is known isn't above the repository
+  coordinated : (r : ℕ) (inside : r < old.opened.repos) (t : Ts) (o : Known) → known_by (old.opened.base r) (entries (new.seen r)) t ≡ Some o → t.repo < old.opened.repos
+  coordinated r inside t o there =
+      let k = recorded (old.opened.base r) (entries (new.seen r)) (right r inside).owed t o there in
+      up t.repo r old.opened.repos (subst (λ (n : ℕ). t.repo ≤ n) (right r inside).numbered (subst (λ (u : Ts). u.repo ≤ (old.opened.base r).repo) k.named k.judged.vouched.participants.least.0)) inside
+
+  grown_quiet : (r s : ℕ) (running : Ts → Bool) → r < old.opened.repos → IsQuiet old r s running → IsQuiet new r s running
+  grown_quiet r s running inside q = subst (λ (o : Opened). IsQuiet (record new { opened = o }) r s running) (sym same) (record {
+    own = grown_client old.opened.client (old.opened.base r) s (old.seen r) (new.seen r) (old.unsettled r) (new.unsettled r) (grew r inside) (right r inside).kept q.own;
     doomed = λ calm live t o there open' mine none.
-        let was = grown_back old.opened.client (old.opened.base r) s (old.seen r) (new.seen r) (old.unsettled r) (new.unsettled r) t (grew r) (right r).kept (right r).owed q.own (calm, live, record { o = o; there = there; open' = open'; own = mine }) in
-        grown_on old.opened.client (old.opened.base t.repo) (old.unsettled t.repo) (new.unsettled t.repo) (old.seen t.repo) (new.seen t.repo) t (grew t.repo) (right t.repo).kept (right t.repo).owed (sym (right t.repo).numbered)
+        let low : t.repo < old.opened.repos = coordinated r inside t o there in
+        let was = grown_back old.opened.client (old.opened.base r) s (old.seen r) (new.seen r) (old.unsettled r) (new.unsettled r) t (grew r inside) (right r inside).kept (right r inside).owed q.own (calm, live, record { o = o; there = there; open' = open'; own = mine }) in
+        grown_on old.opened.client (old.opened.base t.repo) (old.unsettled t.repo) (new.unsettled t.repo) (old.seen t.repo) (new.seen t.repo) t (grew t.repo low) (right t.repo low).kept (right t.repo low).owed (sym (right t.repo low).numbered)
         (q.doomed was.0 was.1 t was.2.o was.2.there was.2.open' was.2.own none);
   })
 
   pub waits_quiet : (links : List Link) (running : Ts → Bool) → AreQuiet old links running → AreQuiet new links running
-  waits_quiet links running q = record { each = λ r s inside its. grown_quiet r s running (q.each r s (subst (λ (o : Opened). r < o.repos) same inside) its) }
+  waits_quiet links running q = record { each = λ r s inside its. let was : r < old.opened.repos = subst (λ (o : Opened). r < o.repos) same inside in grown_quiet r s running was (q.each r s was its) }
 
 -- ---- before a fetch
 

@@ -3,5 +3,7 @@ pub mod Lost
 pub mod OneExample
 pub mod OneRepository
 pub mod Owed
+pub mod Positions
 pub mod Quiet
 pub mod Runs
+pub mod SingleParts

@@ -10,7 +10,7 @@ use Rattle.client_state.specs.declared.link.Link.{Link}
 use Rattle.client_state.specs.declared.link.Waits.TheVariants.{Idle, Reply}
 use Rattle.commit_log.specs.declared.entry.Entry.TheVariants.{Life, One}
 use Rattle.commit_log.specs.declared.request.Request.{Request}
-use Rattle.fitting_steps.specs.OneRepository.{Position}
+use Rattle.fitting_steps.specs.Positions.{Position}
 use Rattle.local_history.specs.Examples.{at, box, only, setting_x, z}
 use Rattle.object_codec.specs.Spelling.{obj_bytes}
 use Rattle.page_format.specs.Pages as page

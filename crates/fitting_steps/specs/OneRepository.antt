@@ -1,19 +1,19 @@
 -- A client of a store that has one repository: its steps, and what others make of the repository between (this project's).
 use Rattle.atomic_histories.specs.Several.{is_committed_part}
 use Rattle.call_naming.specs.declared.calls.CallKind.TheVariants as call
-use Rattle.client_cache.specs.Copies.{kept, seen}
+use Rattle.client_cache.specs.Copies.{seen}
 use Rattle.client_laws.specs.Fitting.{Copies, HoldsNone}
 use Rattle.client_state.specs.Moving.{Aborted, AskedInVain, AskedOwn, CommitRefused, Committed, Decided, DecideRefused, Finished, Forgot, InSession, Moves, PrepareRefused, Prepared, ReceiveRefused, ReceiveStopped, Received, ReceivedNone, Transformed, Unsent}
 use Rattle.client_state.specs.declared.held.Held.{Held}
 use Rattle.client_state.specs.declared.link.Link.TheVariants as links
 use Rattle.client_state.specs.declared.link.Link.{Link}
 use Rattle.fitting_steps.specs.Owed.{ClientFits, PageOwed, SentOwed}
+use Rattle.fitting_steps.specs.Positions.{LeadsBy, Position}
 use Rattle.local_history.specs.History.{known_by, state}
 use Rattle.local_history.specs.Sound.{sound}
 use Rattle.message_outbox.specs.declared.answers.At.{At}
 use Rattle.message_outbox.specs.declared.message.Message.TheVariants.{Grant, Invalid, Page, Upgrade}
 use Rattle.message_outbox.specs.declared.message.Message.{Message}
-use Rattle.port.specs.Growing.{Grew}
 use Rattle.port.specs.Views.{Calm, View}
 use Rattle.port_views.specs.Conditions.{MayCall}
 use Rattle.session_outbox.specs.Exact.{exact}
@@ -22,7 +22,7 @@ use Rattle.session_outbox.specs.Session.{invalid, session}
 use Rattle.session_outbox.specs.Trace.{entries}
 use Rattle.std.specs.List.{slice_get}
 use Rattle.std.specs.Option.{IsSomeAnd}
-use Rattle.std.specs.Prelude.{Bool, List, None, Option, Some, [], false, length, true, ℕ, ◌<◌, ◌^◌, ◌∷◌, ◌≡◌, ◌≤◌, ◌⊎◌}
+use Rattle.std.specs.Prelude.{Bool, List, None, Option, Some, false, length, true, ℕ, ◌<◌, ◌^◌, ◌≡◌, ◌≤◌, ◌⊎◌}
 use Rattle.thor_value.specs.FiniteMap.{get}
 use Rattle.thor_value.specs.declared.names.Oref.{Oref}
 use Rattle.thor_value.specs.declared.names.Ts.{Ts}
@@ -41,11 +41,6 @@ pub record HasOneRepository (port : View) : Type 0 where
 -- whether the transaction has committed there
 abbrev pub committed_there : View → Ts → Bool
 committed_there port t = is_committed_part (known_by (port.opened.base 0) (entries (port.seen 0)) t)
-
--- What a client's port shows, and what the client holds.
-pub record Position : Type 0 where
-  pub port : View
-  pub held : Held
 
 -- The client fits what it has seen of the only repository.
 pub record FitsOne (p : Position) : Type 0 where
@@ -109,13 +104,6 @@ StepOwed old new before after (AskedInVain r t result does leaves same fewer) = 
 
 -- ---- a run
 
--- From one position to the next the client has made a step, or others have acted and it holds what it held.
-pub data Turn (a z : Position) : Type 0 where
-  Stepped : (moves : Moves a.port z.port a.held z.held) → StepOwed a.port z.port a.held z.held moves → HasOneRepository z.port → Turn a z
-  Waited : z.held ≡ a.held → z.port.opened ≡ a.port.opened → Grew (a.port.opened.base 0) a.port.opened.client (a.port.unsettled 0) (a.port.seen 0) (z.port.unsettled 0) (z.port.seen 0)
-      → HasOneRepository z.port → Turn a z
-
 -- One position leads to another by these between.
 abbrev pub Leads : Position → List Position → Position → Type 0
-Leads a [] z = Turn a z
-Leads a (p ∷ ps) z = Turn a p × Leads p ps z
+Leads a between z = LeadsBy HasOneRepository StepOwed a between z

@@ -8,6 +8,7 @@ mod one_repository;
 mod quiet;
 mod reads;
 mod runs;
+mod single_parts;
 mod steps;
 
 pub use learnt::what_is_learnt_stays;
@@ -16,4 +17,5 @@ pub use one_repository::{a_run_over_one_repository, clients_of_one_repository_fi
 pub use quiet::{handed_on_is_settled, links_stay_quiet};
 pub use reads::accepted_reads_stand;
 pub use runs::{new_clients_fit_wholly, running_clients_fit};
+pub use single_parts::clients_of_single_parts_fit;
 pub use steps::moving_clients_fit;

@@ -6,7 +6,8 @@ ghost use Rattle.client_state.specs.declared.link.Link.TheVariants.{Apart, Joine
 ghost use Rattle.client_state.specs.declared.link.Link.{Link};
 ghost use Rattle.client_state.specs.declared.link.Waits.{Waits};
 ghost use Rattle.fitting_steps.specs.OneExample.{HoldsOnTheWay, behind, first_page, seeing, whole};
-ghost use Rattle.fitting_steps.specs.OneRepository.{FitsOne, HasOneRepository, IsRightOrTold, Leads, Position};
+ghost use Rattle.fitting_steps.specs.OneRepository.{FitsOne, HasOneRepository, IsRightOrTold, Leads};
+ghost use Rattle.fitting_steps.specs.Positions.{Position};
 ghost use Rattle.fitting_steps.specs.Owed.{PageOwed};
 ghost use Rattle.page_format.specs.Pages.{page_bytes};
 ghost use Rattle.port.specs.Views.{Calm};

@@ -2,7 +2,7 @@
 
 ghost use Rattle.atomic_histories.specs.Several.{committed};
 ghost use Rattle.client_laws.specs.Doomed.{ActsWithin, IsQuiet};
-ghost use Rattle.client_laws.specs.Seen.{IsSeenRight};
+ghost use Rattle.client_laws.specs.Steps.{AllSeenRight};
 ghost use Rattle.client_state.specs.Calling.{is_session_of};
 ghost use Rattle.client_state.specs.Moving.{Moves};
 ghost use Rattle.client_state.specs.declared.held.Held.{Held};
@@ -24,10 +24,10 @@ ghost use Rattle.thor_value.specs.declared.names.Ts.{Ts};
 /// and so they are whatever others do between. So while each of its transactions commits at one repository, nothing runs.
 /// What is undecided in none of its sessions any more needn't be counted among what is running.
 pub fn links_stay_quiet()
-    ensures step { (old new : View) (before after : Held) (running known : Ts → Bool) (moves : Moves old new before after) → ActsWithin old new (acts_of old new before after moves) running → ((n : ℕ) → IsSeenRight new n known) →
+    ensures step { (old new : View) (before after : Held) (running known : Ts → Bool) (moves : Moves old new before after) → ActsWithin old new (acts_of old new before after moves) running → AllSeenRight new known →
         before.client ≡ old.opened.client → new.opened ≡ old.opened → AreQuiet old before.links.items running → AreQuiet new after.links.items running }
-    ensures waits { (old new : View) (links : List Link) (running known : Ts → Bool) → new.opened ≡ old.opened → ((n : ℕ) → Grew (old.opened.base n) old.opened.client (old.unsettled n) (old.seen n) (new.unsettled n) (new.seen n)) →
-        ((n : ℕ) → IsSeenRight new n known) → AreQuiet old links running → AreQuiet new links running }
+    ensures waits { (old new : View) (links : List Link) (running known : Ts → Bool) → new.opened ≡ old.opened → ((n : ℕ) → n < old.opened.repos → Grew (old.opened.base n) old.opened.client (old.unsettled n) (old.seen n) (new.unsettled n) (new.seen n)) →
+        AllSeenRight new known → AreQuiet old links running → AreQuiet new links running }
     ensures ended { (port : View) (links : List Link) (running next : Ts → Bool) →
         ((r s : ℕ) → r < port.opened.repos → is_session_of s (slice_get links r) ≡ true → (t : Ts) → running t ≡ true → (next t ≡ true) ⊎ (is_prepared_by s (known_by (port.opened.base r) (entries (port.seen r)) t) ≡ false)) →
         AreQuiet port links running → AreQuiet port links next }
