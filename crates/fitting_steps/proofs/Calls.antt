@@ -422,9 +422,9 @@ module _ (old new : View) (before after : Held) (committed later : Ts → Bool) 
       then_client same d.called.same (then_fewer (kept learns.left) learns.fewer (same_links new later (links_learnt k s.at.repo links) after.links.items (kept learns.left) learns.links
       (learn_all new later s.at.repo links before.cache.cache learns.left numbered (prepared_in_any old new s.at.repo links copies later right (fit_later told) s.at.session s.request (Err k) d (acknowledges (fit_later told) s of) (λ p is inside. cc)) k
       (λ link within is. quiet d.called.same idle s.at.repo link within is) learns.kept_so)))
-  step (Committed s place d of wrote idle keeps) owed told =
-      then_client keeps.0 d.called.same (then_less (seen before.cache.cache) keeps.1 keeps.2 (commits (fit_later told) s place d of owed.1 idle owed.2 (seen before.cache.cache) owed.0
-      (λ tells x here. sees_written before.cache.cache s.request s.at.repo wrote x (here ∙ number (fit_later told) s place d of owed.1 idle owed.2)) (λ x away. sees_kept before.cache.cache s.request s.at.repo wrote x away)))
+  step (Committed s place d of in_it wrote idle keeps) owed told =
+      then_client keeps.0 d.called.same (then_less (seen before.cache.cache) keeps.1 keeps.2 (commits (fit_later told) s place d of in_it idle owed.1 (seen before.cache.cache) owed.0
+      (λ tells x here. sees_written before.cache.cache s.request s.at.repo wrote x (here ∙ number (fit_later told) s place d of in_it idle owed.1)) (λ x away. sees_kept before.cache.cache s.request s.at.repo wrote x away)))
   step (Transformed s place oref made d of session writes idle keeps) owed told =
       then_client keeps.0 d.called.same (then_less (with_made oref made before) keeps.1 keeps.2 (commits (fit_later told) s place d of session idle owed.1 (with_made oref made before) owed.0
       (λ tells x here. made_written s.request oref made writes copies x) (made_elsewhere s.request oref made writes s.at.repo (writes_there (fit_later told) s place d of session idle owed.1) copies)))

@@ -169,7 +169,7 @@ module _ (first joined drawn waits taken last : Held) (h : HoldsOnTheWay first j
   sending = record { at = there; request = made }
 
   commits : Moves (seeing (take 5 whole)) (seeing (take 6 whole)) taken last
-  commits = Committed sending 1 does (record { session = refl; upto = λ e. sym (ap (λ (ls : List Link). upto_in (slice_get ls 0)) h.takes.links) }) h.wrote (none_awaits no_copy taken h.takes)
+  commits = Committed sending 1 does (record { session = refl; upto = λ e. sym (ap (λ (ls : List Link). upto_in (slice_get ls 0)) h.takes.links) }) (in_session Idle no_copy taken h.takes) h.wrote (none_awaits no_copy taken h.takes)
       (h.commits.client ∙ sym h.takes.client, h.commits.links ∙ sym h.takes.links, λ x. inl (h.commits.copies_are x ∙ sym (written_seen x)))
     where
       does : Does {X = ℕ} (seeing (take 5 whole)) (seeing (take 6 whole)) 0 (Ok 1) (CommitWork 1 made (Ok 1))
@@ -206,7 +206,7 @@ module _ (first joined drawn waits taken last : Held) (h : HoldsOnTheWay first j
         (
           Stepped takes tt (one_at (take 5 whole) (drop 5 whole) refl (omega arith)),
           (
-            Stepped commits (in_session Idle no_copy taken h.takes, sent) (one_at (take 6 whole) (drop 6 whole) refl (omega arith)),
+            Stepped commits sent (one_at (take 6 whole) (drop 6 whole) refl (omega arith)),
             Waited refl refl others (one_at (take 7 whole) (drop 7 whole) refl (omega arith)),
           ),
         ),

@@ -3,7 +3,7 @@ use Rattle.atomic_histories.specs.Several.{is_committed_part}
 use Rattle.call_naming.specs.declared.calls.CallKind.TheVariants as call
 use Rattle.client_cache.specs.Copies.{seen}
 use Rattle.client_laws.specs.Fitting.{Copies, HoldsNone}
-use Rattle.client_state.specs.Moving.{Aborted, AskedInVain, AskedOwn, CommitRefused, Committed, Decided, DecideRefused, Finished, Forgot, InSession, Moves, PrepareRefused, Prepared, ReceiveRefused, ReceiveStopped, Received, ReceivedNone, Transformed, Unsent}
+use Rattle.client_state.specs.Moving.{Aborted, AskedInVain, AskedOwn, CommitRefused, Committed, Decided, DecideRefused, Finished, Forgot, Moves, PrepareRefused, Prepared, ReceiveRefused, ReceiveStopped, Received, ReceivedNone, Transformed, Unsent}
 use Rattle.client_state.specs.declared.held.Held.{Held}
 use Rattle.client_state.specs.declared.link.Link.TheVariants as links
 use Rattle.client_state.specs.declared.link.Link.{Link}
@@ -91,7 +91,7 @@ StepOwed old new before after (ReceiveRefused at k does there loses same) = Unit
 StepOwed old new before after (ReceiveStopped at k does there outage stops same fewer) = Unit {0}
 StepOwed old new before after (Prepared s place does of less) = Unit {0}
 StepOwed old new before after (PrepareRefused s k does of idle learns same) = Unit {0}
-StepOwed old new before after (Committed s place does of wrote idle keeps) = InSession s.at before × SentOwed old s.at s.request before
+StepOwed old new before after (Committed s place does of session wrote idle keeps) = SentOwed old s.at s.request before
 StepOwed old new before after (Transformed s place oref made does of session writes idle keeps) = SentOwed old s.at s.request before
 StepOwed old new before after (CommitRefused s k does of idle learns same) = Unit {0}
 StepOwed old new before after (Decided at t v does idle ends) = DecidesRightly v.commit old at t

@@ -8,7 +8,7 @@ use Rattle.client_laws.specs.Steps.{LinksFit}
 use Rattle.client_laws.specs.Verdicts.{TakesAll}
 use Rattle.client_state.specs.declared.held.Held.{Held}
 use Rattle.commit_log.specs.declared.request.Request.{Request}
-use Rattle.client_state.specs.Moving.{Aborted, Asked, AskedInVain, AskedOwn, CommitRefused, Committed, Connected, Decided, DecideRefused, Drawn, Fetched, Finished, Forgot, Granted, InSession, Moves, PrepareRefused, Prepared, ReceiveRefused, ReceiveStopped, Received, ReceivedNone, Rested, SendsNothing, Settled, Transformed, Unsent}
+use Rattle.client_state.specs.Moving.{Aborted, Asked, AskedInVain, AskedOwn, CommitRefused, Committed, Connected, Decided, DecideRefused, Drawn, Fetched, Finished, Forgot, Granted, Moves, PrepareRefused, Prepared, ReceiveRefused, ReceiveStopped, Received, ReceivedNone, Rested, SendsNothing, Settled, Transformed, Unsent}
 use Rattle.local_history.specs.Requests.{has_created, has_written}
 use Rattle.message_outbox.specs.declared.answers.At.{At}
 use Rattle.message_outbox.specs.declared.message.Message.TheVariants.{Grant, Invalid, Page, Upgrade}
@@ -44,7 +44,7 @@ verdict_of old new before after (ReceiveRefused at k does there loses same) = No
 verdict_of old new before after (ReceiveStopped at k does there outage stops same fewer) = None
 verdict_of old new before after (Prepared s place does of less) = None
 verdict_of old new before after (PrepareRefused s k does of idle learns same) = None
-verdict_of old new before after (Committed s place does of wrote idle keeps) = None
+verdict_of old new before after (Committed s place does of session wrote idle keeps) = None
 verdict_of old new before after (Transformed s place oref made does of session writes idle keeps) = None
 verdict_of old new before after (CommitRefused s k does of idle learns same) = None
 verdict_of old new before after (Decided at t v does idle ends) = if_commit v.commit t
@@ -108,7 +108,7 @@ Owed old new before after committed later (ReceiveRefused at k does there loses 
 Owed old new before after committed later (ReceiveStopped at k does there outage stops same fewer) = Unit {0}
 Owed old new before after committed later (Prepared s place does of less) = s.at.repo < new.opened.repos → later s.request.tx ≡ false
 Owed old new before after committed later (PrepareRefused s k does of idle learns same) = Unit {0}
-Owed old new before after committed later (Committed s place does of wrote idle keeps) = SettledOwed new s.at.repo does.at s.at.session later × InSession s.at before × SentOwed old s.at s.request before
+Owed old new before after committed later (Committed s place does of session wrote idle keeps) = SettledOwed new s.at.repo does.at s.at.session later × SentOwed old s.at s.request before
 Owed old new before after committed later (Transformed s place oref made does of session writes idle keeps) = SettledOwed new s.at.repo does.at s.at.session later × SentOwed old s.at s.request before
 Owed old new before after committed later (CommitRefused s k does of idle learns same) = Unit {0}
 Owed old new before after committed later (Decided at t v does idle ends) = VerdictOwed v.commit old committed later t before

@@ -2,7 +2,7 @@
 use Rattle.atomic_histories.specs.Several.{committed}
 use Rattle.client_cache.specs.Copies.{kept, seen}
 use Rattle.client_laws.specs.Fitting.{SameCopies}
-use Rattle.client_state.specs.Moving.{Aborted, AskedInVain, AskedOwn, CommitRefused, Committed, Decided, DecideRefused, Finished, Forgot, InSession, Moves, PrepareRefused, Prepared, ReceiveRefused, ReceiveStopped, Received, ReceivedNone, Transformed, Unsent}
+use Rattle.client_state.specs.Moving.{Aborted, AskedInVain, AskedOwn, CommitRefused, Committed, Decided, DecideRefused, Finished, Forgot, Moves, PrepareRefused, Prepared, ReceiveRefused, ReceiveStopped, Received, ReceivedNone, Transformed, Unsent}
 use Rattle.client_state.specs.declared.held.Held.{Held}
 use Rattle.fitting_steps.specs.OneRepository.{BringsWhatStood, HasEnded}
 use Rattle.fitting_steps.specs.Owed.{ClientFits, SentOwed}
@@ -45,7 +45,7 @@ PartOwed old new before after (ReceiveRefused at k does there loses same) = Unit
 PartOwed old new before after (ReceiveStopped at k does there outage stops same fewer) = Unit {0}
 PartOwed old new before after (Prepared s place does of less) = ⊥
 PartOwed old new before after (PrepareRefused s k does of idle learns same) = ⊥
-PartOwed old new before after (Committed s place does of wrote idle keeps) = InSession s.at before × SentOwed old s.at s.request before
+PartOwed old new before after (Committed s place does of session wrote idle keeps) = SentOwed old s.at s.request before
 PartOwed old new before after (Transformed s place oref made does of session writes idle keeps) = SentOwed old s.at s.request before
 PartOwed old new before after (CommitRefused s k does of idle learns same) = Unit {0}
 PartOwed old new before after (Decided at t v does idle ends) = ⊥
