@@ -225,7 +225,7 @@ module _ (first joined drawn waits taken last : Held) (h : HoldsOnTheWay first j
         (
           Stepped takes tt (among (take 5 whole) (one_at (take 5 whole) (drop 5 whole) refl (omega arith))),
           (
-            Stepped commits (in_session Idle no_copy taken h.takes, sent) (among (take 6 whole) (one_at (take 6 whole) (drop 6 whole) refl (omega arith))),
+            Stepped commits sent (among (take 6 whole) (one_at (take 6 whole) (drop 6 whole) refl (omega arith))),
             Waited refl refl others (among (take 7 whole) (one_at (take 7 whole) (drop 7 whole) refl (omega arith))),
           ),
         ),
