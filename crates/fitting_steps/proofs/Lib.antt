@@ -3,6 +3,7 @@ pub mod Calls
 pub mod Changes
 pub mod Granting
 pub mod Losing
+pub mod OneAmong
 pub mod OneCopies
 pub mod OnePage
 pub mod OneRun

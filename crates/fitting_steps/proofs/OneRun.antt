@@ -14,11 +14,13 @@ use Rattle.client_state.specs.declared.link.Waits.TheVariants.{Idle, Reply}
 use Rattle.client_state.specs.declared.link.Waits.{Waits}
 use Rattle.client_state.specs.declared.requests.Sending.{Sending}
 use Rattle.fitting_steps.proofs.Trying.{sees_kept, sees_written}
+use Rattle.fitting_steps.proofs.OneAmong.{among}
 use Rattle.fitting_steps.proofs.OneStep.{begins}
 use Rattle.fitting_steps.specs.Owed.{SentOwed}
 use Rattle.fitting_steps.specs.OneExample.{HoldsOnTheWay, HoldsThis, behind, made, seeing, whole}
 use Rattle.fitting_steps.specs.OneRepository.{FitsOne, HasOneRepository, Leads}
 use Rattle.fitting_steps.specs.Positions.{Stepped, Waited}
+use Rattle.fitting_steps.specs.SingleParts.{LeadsSingly}
 use Rattle.local_history.proofs.Decided.{decides_sound}
 use Rattle.local_history.proofs.Growth.{sound-beginning}
 use Rattle.local_history.specs.Examples.{at, box, only, z}
@@ -206,6 +208,25 @@ module _ (first joined drawn waits taken last : Held) (h : HoldsOnTheWay first j
           (
             Stepped commits sent (one_at (take 6 whole) (drop 6 whole) refl (omega arith)),
             Waited refl refl others (one_at (take 7 whole) (drop 7 whole) refl (omega arith)),
+          ),
+        ),
+      ),
+    ),
+  )
+
+  pub run_singly : LeadsSingly (behind 1 first) (behind 2 joined ∷ behind 3 drawn ∷ behind 4 waits ∷ behind 5 taken ∷ behind 6 last ∷ []) (behind 7 last)
+  unfolding connects draws asks takes commits
+  run_singly = (
+    Stepped connects tt (among (take 2 whole) (one_at (take 2 whole) (drop 2 whole) refl (omega arith))),
+    (
+      Stepped draws tt (among (take 3 whole) (one_at (take 3 whole) (drop 3 whole) refl (omega arith))),
+      (
+        Stepped asks tt (among (take 4 whole) (one_at (take 4 whole) (drop 4 whole) refl (omega arith))),
+        (
+          Stepped takes tt (among (take 5 whole) (one_at (take 5 whole) (drop 5 whole) refl (omega arith))),
+          (
+            Stepped commits sent (among (take 6 whole) (one_at (take 6 whole) (drop 6 whole) refl (omega arith))),
+            Waited refl refl others (among (take 7 whole) (one_at (take 7 whole) (drop 7 whole) refl (omega arith))),
           ),
         ),
       ),

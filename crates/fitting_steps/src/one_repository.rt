@@ -9,6 +9,7 @@ ghost use Rattle.fitting_steps.specs.OneExample.{HoldsOnTheWay, behind, first_pa
 ghost use Rattle.fitting_steps.specs.OneRepository.{FitsOne, HasOneRepository, IsRightOrTold, Leads};
 ghost use Rattle.fitting_steps.specs.Positions.{Position};
 ghost use Rattle.fitting_steps.specs.Owed.{PageOwed};
+ghost use Rattle.fitting_steps.specs.SingleParts.{LeadsSingly};
 ghost use Rattle.page_format.specs.Pages.{page_bytes};
 ghost use Rattle.port.specs.Views.{Calm};
 ghost use Rattle.session_outbox.specs.Notices.{lives};
@@ -30,11 +31,13 @@ pub fn clients_of_one_repository_fit()
 {}
 
 /// A run that meets all that is asked: a client connects, draws, is granted a page, takes its names, and commits an object that it
-/// creates there; then another client connects. What it holds on the way is given by what is said of it. And a page whose bytes
+/// creates there; then another client connects. It meets what is asked where each transaction commits at one repository. What it holds on the way is given by what is said of it. And a page whose bytes
 /// spell its two objects as they stood at the beginning.
 pub fn a_run_over_one_repository()
     ensures begins { (first joined drawn waits taken last : Held) → HoldsOnTheWay first joined drawn waits taken last → FitsOne (behind 1 first) }
     ensures leads { (first joined drawn waits taken last : Held) → HoldsOnTheWay first joined drawn waits taken last →
         Leads (behind 1 first) (behind 2 joined ∷ behind 3 drawn ∷ behind 4 waits ∷ behind 5 taken ∷ behind 6 last ∷ []) (behind 7 last) }
+    ensures singly { (first joined drawn waits taken last : Held) → HoldsOnTheWay first joined drawn waits taken last →
+        LeadsSingly (behind 1 first) (behind 2 joined ∷ behind 3 drawn ∷ behind 4 waits ∷ behind 5 taken ∷ behind 6 last ∷ []) (behind 7 last) }
     ensures page { PageOwed (seeing (take 1 whole)) 0 0 (page_bytes first_page) 1 }
 {}
