@@ -30,9 +30,9 @@ pub fn clients_of_one_repository_fit()
         lives (session (p.port.opened.base 0) (p.port.seen 0) s) ≡ true → (p.port.opened.base 0).tells ≡ true → x.repo ≡ 0 → kept p.held.cache.cache x ≡ Some o → IsRightOrTold p.port s upto x o }
 {}
 
-/// A run that meets all that is asked: a client connects, draws, is granted a page, takes its names, and commits an object that it
-/// creates there; then another client connects. It meets what is asked where each transaction commits at one repository. What it holds on the way is given by what is said of it. And a page whose bytes
-/// spell its two objects as they stood at the beginning.
+/// A run that meets all that is asked, and all that is asked where each transaction commits at one repository: a client connects,
+/// draws, is granted a page, takes its names, and commits an object that it creates there; then another client connects. What it
+/// holds on the way is given by what is said of it. And a page whose bytes spell its two objects as they stood at the beginning.
 pub fn a_run_over_one_repository()
     ensures begins { (first joined drawn waits taken last : Held) → HoldsOnTheWay first joined drawn waits taken last → FitsOne (behind 1 first) }
     ensures leads { (first joined drawn waits taken last : Held) → HoldsOnTheWay first joined drawn waits taken last →
