@@ -154,7 +154,8 @@ impl Paused {
         least
     }
 
-    /// Goes on from where it stopped, and answers as the transaction would from the start.
+    /// Goes on from where it stopped, and answers as the transaction would from the start. `methods` are the schema's, by its
+    /// classes.
     ///
     /// What the run writes goes into the copies, and what it names is given by `names`; behind a fault the caller
     /// undoes the one and resets the other. Behind an answer without a fault the copies have of each object that the run
