@@ -3,6 +3,7 @@ mod Holding
 pub mod Keeping
 pub mod Moving
 pub mod Owing
+pub mod Pending
 mod Schemas
 pub mod Sessions
 pub mod Sharing

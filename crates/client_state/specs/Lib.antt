@@ -4,6 +4,7 @@ pub mod Learning
 pub mod Links
 pub mod Moving
 pub mod Owing
+pub mod Pending
 pub mod Receiving
 pub mod Sending
 pub mod Showing

@@ -4,11 +4,13 @@ ghost use Rattle.client_state.specs.Calling.{Connects, CopiesRefused, Draws, Dra
 ghost use Rattle.client_state.specs.Learning.{KeepsBounds, Rises};
 ghost use Rattle.client_state.specs.Links.{at_repo, session_in};
 ghost use Rattle.client_state.specs.Moving.{CallsIdle, IsApart, SendsNothingIf};
+ghost use Rattle.client_state.specs.Pending.{IsWrittenIn};
 ghost use Rattle.client_state.specs.Receiving.{IsNotGone};
 ghost use Rattle.client_state.specs.Showing.{CameIf, CameShown, DrewIf};
 ghost use Rattle.client_state.specs.Writing.{CameStays, DrewStays};
 ghost use Rattle.client_state.specs.declared.link.Link.TheVariants.{Joined};
 ghost use Rattle.client_state.specs.declared.link.Waits.TheVariants.{Idle};
+ghost use Rattle.message_outbox.specs.declared.answers.At.{At};
 ghost use Rattle.port.specs.Acting.{Refuses};
 ghost use Rattle.port.specs.Views.{View};
 ghost use Rattle.std.specs.Prelude.{IfOk, IsTrue, OnErr, Some, not, slice_get, ◌≡◌};
@@ -165,6 +167,7 @@ impl Held {
     pub fn lose_gone(&mut self, repo: u8, refusal: Refusal) -> bool
         ensures links { self.new.links.items ≡ links_refused refusal repo self.old.links.items }
         ensures copies { CopiesRefused refusal repo self.old.links.items self.old.cache.cache self.new.cache.cache }
+        ensures written { (at : At) → IsWrittenIn at self.old → IsWrittenIn at self.new }
         ensures client { self.new.client ≡ self.old.client }
         ensures rest { IsTrue (not result) → self.new ≡ self.old }
         ensures gone { IsTrue (not result) → IsNotGone refusal }

@@ -4,6 +4,7 @@ ghost use Rattle.client_state.specs.Calling.{CopiesLost, CopiesStay, is_session_
 ghost use Rattle.client_state.specs.Learning.{KeepsBounds, Rises, without_session};
 ghost use Rattle.client_state.specs.Links.{CountsUnsettled, NoneAwaits, NoneIsBehind, at_repo, awaits_reply, is_behind, link_in, session_in, stopped, waiting};
 ghost use Rattle.client_state.specs.Moving.{HoldsLess, InSession, IsApart, KeepsMade, KeepsTry, LeavesSome, StopsWaiting};
+ghost use Rattle.client_state.specs.Pending.{IsWrittenIn};
 ghost use Rattle.client_state.specs.Taking.{BringsPage};
 ghost use Rattle.client_state.specs.Writing.{WritesStay};
 ghost use Rattle.client_state.specs.declared.link.Link.{Link};
@@ -13,6 +14,7 @@ ghost use Rattle.client_cache.specs.Pages.{same_name};
 ghost use Rattle.paused_eval.specs.Copies.{AreAmong};
 ghost use Rattle.std.specs.Option.{option_map};
 ghost use Rattle.std.specs.Prelude.{false, ◌≡◌, ◌<◌, ◌≤◌, IfSome, IsTrue, None, OnOk, Some, cond, max, nat_eq, not, slice_get, ℕ};
+ghost use Rattle.message_outbox.specs.declared.answers.At.{At};
 ghost use Rattle.thor_value.specs.declared.names.Oref.{Oref};
 
 use crate::link::{Link, Waits};
@@ -253,6 +255,7 @@ impl Held {
     /// The copies and the names of a repository are dropped.
     fn drop_held(&mut self, repo: u8)
         ensures copies { (x : Oref) → kept self.new.cache.cache x ≡ cond (nat_eq x.repo repo) None (kept self.old.cache.cache x) }
+        ensures wrote { (x : Oref) → changed self.new.cache.cache x ≡ cond (nat_eq x.repo repo) None (changed self.old.cache.cache x) }
         ensures links { self.new.links ≡ self.old.links }
         ensures floor { self.new.floor ≡ self.old.floor }
         ensures client { self.new.client ≡ self.old.client }
@@ -263,10 +266,12 @@ impl Held {
     }
 
     /// A session is gone. What was held by it is dropped.
+    #[tactic(auto, using(crate::proofs::Pending::lost_written, crate::proofs::Pending::not_lost_written))]
     pub fn lose(&mut self, repo: u8, session: u32)
         ensures links { self.new.links.items ≡ at_repo self.old.links.items repo (without_session session) }
         ensures floor { self.new.floor ≡ self.old.floor }
         ensures copies { CopiesLost session repo self.old.links.items self.old.cache.cache self.new.cache.cache }
+        ensures written { (at : At) → IsWrittenIn at self.old → IsWrittenIn at self.new }
         ensures client { self.new.client ≡ self.old.client }
         ensures bounds { KeepsBounds self.old self.new }
     {

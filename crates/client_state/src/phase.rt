@@ -1,6 +1,7 @@
 //! How far a try has come.
 
 ghost use Rattle.client_state.specs.Owing.{asking_in, calls_in, calls_of_abort};
+ghost use Rattle.client_state.specs.Pending.{pending_in};
 ghost use Rattle.client_cache.specs.Copies.{Contents};
 ghost use Rattle.client_state.specs.Sending.{DrawsPhase};
 ghost use Rattle.client_state.specs.Writing.{PhaseWrites, unsent};
@@ -108,7 +109,8 @@ impl Phase {
 
     /// An evaluation brings a due object to the epoch. Any other phase stays.
     pub fn transforming(self, transform: Transform) -> Phase
-        ensures { unsent result ≡ unsent self }
+        ensures shares { unsent result ≡ unsent self }
+        ensures pending { pending_in result ≡ pending_in self }
     {
         match self {
             Phase::Evaluating { run, .. } => Phase::Transforming { run, transform },
@@ -122,6 +124,7 @@ impl Phase {
     /// An evaluated transaction is drawn, with the sessions that there are. Any other phase stays.
     pub fn drawn(self, ts: Ts, links: &[Link]) -> Phase
         ensures draws { DrawsPhase ts links.now self result }
+        ensures pending { pending_in result ≡ pending_in self }
         ensures writes { (c : Contents) → PhaseWrites self c → PhaseWrites result c }
     {
         match self {
@@ -135,7 +138,8 @@ impl Phase {
 
     /// The page of an object that is needed next is asked for.
     pub fn await_page(&mut self, oref: Oref)
-        ensures { unsent self.new ≡ unsent self.old }
+        ensures shares { unsent self.new ≡ unsent self.old }
+        ensures pending { pending_in self.new ≡ pending_in self.old }
     {
         match self {
             Phase::Evaluating { awaited, .. } => {
@@ -153,7 +157,8 @@ impl Phase {
 
     /// A transform is drawn.
     pub fn draw_transform(&mut self, ts: Ts, becomes: Becomes)
-        ensures { unsent self.new ≡ unsent self.old }
+        ensures shares { unsent self.new ≡ unsent self.old }
+        ensures pending { pending_in self.new ≡ pending_in self.old }
     {
         if let Phase::Transforming { transform, .. } = self {
             transform.draw(ts, becomes);
@@ -162,7 +167,8 @@ impl Phase {
 
     /// A participant other than the coordinator has prepared the transaction.
     pub fn note_prepared(&mut self, repo: u8) -> Result<(), NoMemory>
-        ensures { unsent self.new ≡ unsent self.old }
+        ensures shares { unsent self.new ≡ unsent self.old }
+        ensures pending { pending_in self.new ≡ pending_in self.old }
     {
         match self {
             Phase::Preparing { prepared, .. } => prepared.push(repo),

@@ -45,6 +45,8 @@ pub struct Transaction {
 #[derive(Drop)]
 pub struct Sent {
     pub ts: Ts,
+    /// The session in which it was.
+    pub at: At,
     pub meaning: Meaning,
     /// The participants, rising. The first one coordinates.
     pub participants: Repos,
@@ -195,9 +197,10 @@ impl Transaction {
         others_of(&self.participants, repo)
     }
 
-    /// It is sent to be decided under its name.
-    pub fn sent(self, ts: Ts) -> Sent
-        ensures { result.ts ≡ ts }
+    /// It is sent in a session to be decided under its name.
+    pub fn sent(self, ts: Ts, at: At) -> Sent
+        ensures ts { result.ts ≡ ts }
+        ensures at { result.at ≡ at }
     {
         let Transaction {
             meaning,
@@ -206,6 +209,7 @@ impl Transaction {
         } = self;
         Sent {
             ts,
+            at,
             meaning,
             participants,
         }

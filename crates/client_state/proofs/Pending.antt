@@ -1,0 +1,133 @@
+-- What a try has written lies in a session, and stays there through what its client does while it asks for the verdict.
+use Rattle.client_cache.specs.Copies.{Contents, changed}
+use Rattle.client_state.proofs.Stopping.{at_here, at_other}
+use Rattle.client_state.specs.Calling.{is_session_of}
+use Rattle.client_state.specs.Learning.{is_session, without_session}
+use Rattle.client_state.specs.Links.{at_repo, session_in}
+use Rattle.client_state.specs.Moving.{InSession, Moves, MovesIf, SendsNothing, SendsNothingIf, Rested, Connected, Fetched, Granted, Drawn, Asked, Settled, Unsent}
+use Rattle.client_state.specs.Owing.{asking_in}
+use Rattle.client_state.specs.Pending.{IsAsking, IsWrittenIn, MovesSo, MovesSoIf, NonePending, Pending, SendsPending, StaysPending, pending_in}
+use Rattle.client_state.specs.Writing.{WritesStay, WritesThere}
+use Rattle.client_state.specs.declared.held.Held.{Held}
+use Rattle.client_state.specs.declared.link.Link.{Link}
+use Rattle.client_state.specs.declared.phase.Phase.TheVariants as phase
+use Rattle.client_state.specs.declared.phase.Phase.{Phase}
+use Rattle.client_state.specs.declared.transaction.Sent.{Sent}
+use Rattle.message_outbox.specs.declared.answers.At.{At}
+use Rattle.paused_eval.specs.Copies.{last_of}
+use Rattle.port.specs.Views.{View}
+use Rattle.std.proofs.Common.{Bool, List, ap, cond, false, inl, inr, nat_eq, refl, subst, sym, true, ◌≡◌, ◌≢◌, ◌∙◌, ℕ}
+use Rattle.std.proofs.lemmas.Bool.{cases_eq, eqb-false, eqb-true}
+use Rattle.std.proofs.lemmas.Option.{same_Some}
+use Rattle.std.specs.Option.{option_map}
+use Rattle.std.specs.Prelude.{None, Option, Some, slice_get, ◌⊎◌}
+use Rattle.thor_value.specs.declared.names.Oref.{Oref}
+use Rattle.thor_value.specs.declared.values.Obj.{Obj}
+
+-- ---- what the try has written
+
+-- the links and what is written stay
+pub still_written : (a b : Held) → b.links.items ≡ a.links.items → WritesStay a.cache.cache b.cache.cache → (at : At) → IsWrittenIn at a → IsWrittenIn at b
+still_written a b links stay at w x = by (w x)
+  where
+    by : (changed a.cache.cache x ≡ None) ⊎ ((x.repo ≡ at.repo) × InSession at a) → (changed b.cache.cache x ≡ None) ⊎ ((x.repo ≡ at.repo) × InSession at b)
+    by (inl none) = inl (stay x ∙ none)
+    by (inr h) = inr (h.0, ap (λ (ls : List Link). session_in at.repo (slice_get ls at.repo)) links ∙ h.1)
+
+-- what a request that commits alone writes lies in the session by which it is sent
+pub written_there : (at : At) (writes : List (Oref × Obj)) (a : Held) → InSession at a → WritesThere at.repo writes a.cache.cache → IsWrittenIn at a
+written_there at writes a joined wrote x = by (nat_eq at.repo x.repo) refl
+  where
+    by : (t : Bool) → nat_eq at.repo x.repo ≡ t → (changed a.cache.cache x ≡ None) ⊎ ((x.repo ≡ at.repo) × InSession at a)
+    by true e = inr (sym (eqb-true at.repo x.repo e), joined)
+    by false e = inl (wrote x ∙ ap (λ (t : Bool). cond t (last_of writes x) None) e)
+
+drops : (t : Bool) (o : Option Obj) → o ≡ None → cond t None o ≡ None
+drops true o h = refl
+drops false o h = h
+
+-- the session of a repository is gone, with what was held and written there
+pub lost_written : (repo session : ℕ) (a b c : Held) → b ≡ record a { links = b.links } → b.links.items ≡ at_repo a.links.items repo (without_session session) → c.links ≡ b.links
+    → ((x : Oref) → changed c.cache.cache x ≡ cond (nat_eq x.repo repo) None (changed b.cache.cache x)) → (at : At) → IsWrittenIn at a → IsWrittenIn at c
+lost_written repo session a b c rest links same wrote at w x = by (w x)
+  where
+    here : changed c.cache.cache x ≡ cond (nat_eq x.repo repo) None (changed a.cache.cache x)
+    here = wrote x ∙ ap (λ (h : Held). cond (nat_eq x.repo repo) None (changed h.cache.cache x)) rest
+
+    away : (t : Bool) → nat_eq x.repo repo ≡ t → (x.repo ≡ at.repo) × InSession at a → (changed c.cache.cache x ≡ None) ⊎ ((x.repo ≡ at.repo) × InSession at c)
+    away true e h = inl (here ∙ ap (λ (t : Bool). cond t None (changed a.cache.cache x)) e)
+    away false e h = inr (h.0, ap (λ (ls : List Link). session_in at.repo (slice_get ls at.repo)) (same_items ∙ links) ∙ (ap (session_in at.repo) (at_other (without_session session) a.links.items repo at.repo other) ∙ h.1))
+      where
+        other : at.repo ≢ repo
+        other k = eqb-false x.repo repo e (h.0 ∙ k)
+
+        same_items : c.links.items ≡ b.links.items
+        same_items = cc
+
+    by : (changed a.cache.cache x ≡ None) ⊎ ((x.repo ≡ at.repo) × InSession at a) → (changed c.cache.cache x ≡ None) ⊎ ((x.repo ≡ at.repo) × InSession at c)
+    by (inl none) = inl (here ∙ drops (nat_eq x.repo repo) (changed a.cache.cache x) none)
+    by (inr h) = away (nat_eq x.repo repo) refl h
+
+-- no other link's session is gone
+stays_in : (session : ℕ) (o : Option Link) → is_session_of session o ≡ false → option_map (without_session session) o ≡ o
+stays_in session None h = refl
+stays_in session (Some l) h = ap (λ (t : Bool). Some (cond t Apart l)) h
+
+pub not_lost_written : (repo session : ℕ) (a b : Held) (t : Bool) → t ≡ is_session_of session (slice_get a.links.items repo) → t ≡ false → b ≡ record a { links = b.links } → b.links.items ≡ at_repo a.links.items repo (without_session session)
+    → (at : At) → IsWrittenIn at a → IsWrittenIn at b
+not_lost_written repo session a b t answer no rest links at w x = by (w x)
+  where
+    there : slice_get b.links.items at.repo ≡ slice_get a.links.items at.repo
+    there = elim (cases_eq at.repo repo) [
+      | inl e ↦ ap (λ (ls : List Link). slice_get ls at.repo) links ∙ subst (λ (n : ℕ). slice_get (at_repo a.links.items n (without_session session)) at.repo ≡ slice_get a.links.items at.repo) e (at_here (without_session session) a.links.items at.repo ∙ stays_in session (slice_get a.links.items at.repo) (ap (λ (n : ℕ). is_session_of session (slice_get a.links.items n)) e ∙ (sym answer ∙ no)))
+      | inr other ↦ ap (λ (ls : List Link). slice_get ls at.repo) links ∙ at_other (without_session session) a.links.items repo at.repo other
+    ]
+
+    by : (changed a.cache.cache x ≡ None) ⊎ ((x.repo ≡ at.repo) × InSession at a) → (changed b.cache.cache x ≡ None) ⊎ ((x.repo ≡ at.repo) × InSession at b)
+    by (inl none) = inl (ap (λ (h : Held). changed h.cache.cache x) rest ∙ none)
+    by (inr h) = inr (h.0, ap (session_in at.repo) there ∙ h.1)
+
+-- ---- what is undecided
+
+pub asks_in : (p : Phase) (sent : Sent) (answers : ℕ) → asking_in p ≡ Some (sent, answers) → pending_in p ≡ IsAsking sent.at sent.ts
+asks_in phase.Between sent answers h = cc
+asks_in phase.Beginning sent answers h = cc
+asks_in (phase.Evaluating run awaited) sent answers h = cc
+asks_in (phase.Transforming run transform) sent answers h = cc
+asks_in (phase.Evaluated transaction) sent answers h = cc
+asks_in (phase.Drawn t transaction) sent answers h = cc
+asks_in (phase.Preparing t transaction coordinator prepared) sent answers h = cc
+asks_in (phase.Asking s n) sent answers h = ap (λ (k : Sent × ℕ). IsAsking k.0.at k.0.ts) (same_Some (s, n) (sent, answers) h)
+
+-- a step by which nothing that is undecided changes, nor what is held
+pub stays_itself : (a : Pending) (h : Held) → StaysPending a a h h
+stays_itself a h = inr (refl, λ at w. w)
+
+pub none_stays : (a z : Pending) (before after : Held) → z ≡ NonePending → StaysPending a z before after
+none_stays a z before after e = inl e
+
+-- the phase, the links and what is written stay
+pub same_stays : (p q : Phase) (before after : Held) → q ≡ p → after.links.items ≡ before.links.items → WritesStay before.cache.cache after.cache.cache → StaysPending (pending_in p) (pending_in q) before after
+same_stays p q before after e links stay = inr (ap pending_in e, still_written before after links stay)
+
+pub stays_twice : (a b c : Pending) (x y z : Held) → StaysPending a b x y → StaysPending b c y z → StaysPending a c x z
+stays_twice a b c x y z f (inl e) = inl e
+stays_twice a b c x y z (inl e) (inr g) = inl (g.0 ∙ e)
+stays_twice a b c x y z (inr f) (inr g) = inr (g.0 ∙ f.0, λ at w. g.1 at (f.1 at w))
+
+-- a call that sends nothing, behind which nothing is undecided
+pub sends_free : (old new : View) (before after : Held) (a z : Pending) (sends : SendsNothing old new before after) → z ≡ NonePending → SendsPending old new before after sends a z
+sends_free old new before after a z (Rested same less) e = inl e
+sends_free old new before after a z (Connected repo connects apart same fewer) e = e
+sends_free old new before after a z (Fetched at page left fetches idle same fewer) e = e
+sends_free old new before after a z (Granted at left grants idle same fewer) e = e
+sends_free old new before after a z (Drawn at answer left draws there same fewer) e = e
+sends_free old new before after a z (Asked r t result does less) e = inl e
+sends_free old new before after a z (Settled r t v sent index does there links same fewer) e = inl e
+
+pub free_so : (shows : Bool) (old new : View) (before after : Held) (a z : Pending) → SendsNothingIf shows old new before after → z ≡ NonePending → MovesSoIf shows old new before after a z
+free_so shows old new before after a z sends e = λ s. record { moves = Unsent (sends s); pends = sends_free old new before after a z (sends s) e }
+
+-- what is said of a step without what is undecided
+pub moves_so : (shows : Bool) (old new : View) (before after : Held) (a z : Pending) → MovesSoIf shows old new before after a z → MovesIf shows old new before after
+moves_so shows old new before after a z m = λ s. (m s).moves

@@ -1,0 +1,111 @@
+-- What of its try's transaction is undecided as far as a client knows, and what becomes of that by a step (this project's).
+use Rattle.client_cache.specs.Copies.{changed}
+use Rattle.client_state.specs.Moving.{Aborted, Asked, AskedInVain, AskedOwn, CommitRefused, Committed, Connected, Decided, DecideRefused, Drawn, Fetched, Finished, Forgot, Granted, InSession, Moves, PrepareRefused, Prepared, ReceiveRefused, ReceiveStopped, Received, ReceivedNone, Rested, SendsNothing, Settled, Transformed, Unsent}
+use Rattle.client_state.specs.declared.held.Held.{Held}
+use Rattle.client_state.specs.declared.phase.Phase.TheVariants as phase
+use Rattle.client_state.specs.declared.phase.Phase.{Phase}
+use Rattle.client_state.specs.declared.requests.Sending.{Sending}
+use Rattle.message_outbox.specs.declared.answers.At.{At}
+use Rattle.port.specs.Views.{View}
+use Rattle.std.specs.Prelude.{Bool, None, false, true, ℕ, ◌≡◌, ◌⊎◌}
+use Rattle.thor_value.specs.declared.names.Oref.{Oref}
+use Rattle.thor_value.specs.declared.names.Ts.{Ts}
+use Rattle.validation_window.specs.declared.refusal.Refusal.TheVariants as refused
+use Rattle.validation_window.specs.declared.refusal.Refusal.{Refusal}
+
+-- What of the try's transaction is undecided, as far as the client knows.
+pub data Pending : Type 0 where
+  -- nothing
+  NonePending : Pending
+  -- in this session its coordinator has prepared it, and is to decide
+  IsPreparing : At → Ts → Pending
+  -- in this session it was sent to be decided, and its verdict is asked for
+  IsAsking : At → Ts → Pending
+
+-- what is in a phase of the try
+abbrev pub pending_in : Phase → Pending
+pending_in phase.Between = NonePending
+pending_in phase.Beginning = NonePending
+pending_in (phase.Evaluating run awaited) = NonePending
+pending_in (phase.Transforming run transform) = NonePending
+pending_in (phase.Evaluated transaction) = NonePending
+pending_in (phase.Drawn t transaction) = NonePending
+pending_in (phase.Preparing t transaction coordinator prepared) = IsPreparing coordinator t
+pending_in (phase.Asking sent answers) = IsAsking sent.at sent.ts
+
+abbrev pub is_preparing : Pending → Bool
+is_preparing NonePending = false
+is_preparing (IsPreparing at t) = true
+is_preparing (IsAsking at t) = false
+
+-- What the try has written lies at the session's repository, and the session is the link's.
+abbrev pub IsWrittenIn : At → Held → Type 0
+IsWrittenIn at held = (x : Oref) → (changed held.cache.cache x ≡ None) ⊎ ((x.repo ≡ at.repo) × InSession at held)
+
+-- ---- what becomes of it by a step
+
+-- Nothing is undecided any more; or the same still is, and what the try has written in a session still lies in it.
+abbrev pub StaysPending : Pending → Pending → Held → Held → Type 0
+StaysPending a z before after = (z ≡ NonePending) ⊎ ((z ≡ a) × ((at : At) → IsWrittenIn at before → IsWrittenIn at after))
+
+-- The call stopped.
+abbrev pub HasStopped : Refusal → Type 0
+HasStopped (refused.Reason r) = ⊥
+HasStopped (refused.Down r) = ⊥
+HasStopped (refused.Stopped r) = Unit {0}
+HasStopped (refused.Damaged r k) = ⊥
+HasStopped refused.NoMemory = ⊥
+
+-- A call that was to commit the transaction was refused: its verdict is asked for only where the call stopped. Then the try has
+-- written nothing but in the call's session.
+abbrev pub AsksBehind : Sending → Refusal → Pending → Held → Type 0
+AsksBehind s k z after = (z ≡ NonePending) ⊎ ((z ≡ IsAsking s.at s.request.tx) × HasStopped k × IsWrittenIn s.at after)
+
+-- The verdict on this transaction is asked for.
+abbrev pub IsAskingFor : Ts → Pending → Type 0
+IsAskingFor t a = (at : At) × (a ≡ IsAsking at t)
+
+-- The coordinator has refused to decide so: to commit what it has prepared, whose verdict is asked for then, or to abort.
+abbrev pub RefusesToDecide : Bool → At → Ts → Pending → Pending → Held → Held → Type 0
+RefusesToDecide true at t a z before after = (a ≡ IsPreparing at t) × (z ≡ IsAsking at t)
+RefusesToDecide false at t a z before after = StaysPending a z before after
+
+-- A call of a session comes only where nothing is left undecided.
+abbrev pub SendsPending : (old new : View) (before after : Held) → SendsNothing old new before after → Pending → Pending → Type 0
+SendsPending old new before after (Rested same less) a z = StaysPending a z before after
+SendsPending old new before after (Connected repo connects apart same fewer) a z = z ≡ NonePending
+SendsPending old new before after (Fetched at page left fetches idle same fewer) a z = z ≡ NonePending
+SendsPending old new before after (Granted at left grants idle same fewer) a z = z ≡ NonePending
+SendsPending old new before after (Drawn at answer left draws there same fewer) a z = z ≡ NonePending
+SendsPending old new before after (Asked r t result does less) a z = StaysPending a z before after
+SendsPending old new before after (Settled r t v sent index does there links same fewer) a z = StaysPending a z before after
+
+-- What is undecided behind a step. A decision to commit is asked for only of what the coordinator has prepared, and the try's own verdict is
+-- told only where it is asked for.
+abbrev pub PendsSo : (old new : View) (before after : Held) → Moves old new before after → Pending → Pending → Type 0
+PendsSo old new before after (Unsent sends) a z = SendsPending old new before after sends a z
+PendsSo old new before after (Received at m does there takes same) a z = StaysPending a z before after
+PendsSo old new before after (ReceivedNone at does there waits same fewer) a z = StaysPending a z before after
+PendsSo old new before after (ReceiveRefused at k does there loses same) a z = StaysPending a z before after
+PendsSo old new before after (ReceiveStopped at k does there outage stops same fewer) a z = StaysPending a z before after
+PendsSo old new before after (Prepared s place does of less) a z = (z ≡ IsPreparing s.at s.request.tx) ⊎ ((z ≡ a) × (is_preparing a ≡ true))
+PendsSo old new before after (PrepareRefused s k does of idle learns same) a z = StaysPending a z before after
+PendsSo old new before after (Committed s place does of session wrote idle keeps) a z = z ≡ NonePending
+PendsSo old new before after (Transformed s place oref made does of session writes idle keeps) a z = z ≡ NonePending
+PendsSo old new before after (CommitRefused s k does of idle learns same) a z = AsksBehind s k z after
+PendsSo old new before after (Decided at t v does idle ends) a z = (a ≡ IsPreparing at t) × (z ≡ NonePending)
+PendsSo old new before after (Aborted at t v does less) a z = StaysPending a z before after
+PendsSo old new before after (DecideRefused at t commit k does loses same) a z = RefusesToDecide commit at t a z before after
+PendsSo old new before after (Finished r t commit result does less) a z = StaysPending a z before after
+PendsSo old new before after (Forgot r t result does less) a z = StaysPending a z before after
+PendsSo old new before after (AskedOwn r t v does ends) a z = IsAskingFor t a × (z ≡ NonePending)
+PendsSo old new before after (AskedInVain r t result does leaves same fewer) a z = IsAskingFor t a × StaysPending a z before after
+
+-- The client has made a step, by which what is undecided became what is so behind it.
+pub record MovesSo (old new : View) (before after : Held) (a z : Pending) : Type 0 where
+  pub moves : Moves old new before after
+  pub pends : PendsSo old new before after moves a z
+
+-- the same of a port that may show nothing
+abbrev pub MovesSoIf : Bool → View → View → Held → Held → Pending → Pending → Type 0
+MovesSoIf shows old new before after a z = shows ≡ true → MovesSo old new before after a z
