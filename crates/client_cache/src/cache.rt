@@ -2,7 +2,7 @@ ghost use Rattle.std.specs.BTreeMap.{is_at};
 ghost use Rattle.std.specs.BTreeSet.{Updates, insert_key};
 ghost use Rattle.std.specs.List.{filter, list_any};
 ghost use Rattle.std.specs.Map.{keys_of};
-ghost use Rattle.std.specs.Prelude.{◌≡◌, ◌<◌, ◌↔◌, ℕ, [], false, true, cond, not, nat_eq, option_map, Option, Some, None, IfOk, IsTrue, OnOk, OnErr, take};
+ghost use Rattle.std.specs.Prelude.{◌≡◌, ◌<◌, ◌↔◌, ℕ, [], false, true, cond, is_some, not, nat_eq, option_map, Option, Some, None, IfOk, IsTrue, OnOk, OnErr, take};
 ghost use Rattle.thor_value.specs.Names.{oref_cmp};
 ghost use Rattle.thor_value.specs.declared.names.Oref.{Oref};
 ghost use Rattle.thor_value.specs.declared.values.Obj.{Obj};
@@ -71,6 +71,17 @@ impl Cache {
                 None => Looked::NoSlot,
             },
             None => Looked::NoPage,
+        }
+    }
+
+    /// Whether there is a copy of an object as it was before the try: what the try has made of it doesn't count. The order
+    /// of the pages stays as it is.
+    pub fn has_copy(&self, oref: Oref) -> bool
+        ensures { result ≡ is_some (kept self.now oref) }
+    {
+        match self.pages.get(PageName::of(oref)) {
+            Some(slots) => slots.has_copy(oref.slot),
+            None => false,
         }
     }
 

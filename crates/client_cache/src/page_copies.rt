@@ -1,4 +1,4 @@
-ghost use Rattle.std.specs.Prelude.{◌≡◌, ◌<◌, ◌≤◌, ℕ, nat_eq, cond, Some, None, length, IfOk, option_map};
+ghost use Rattle.std.specs.Prelude.{◌≡◌, ◌<◌, ◌≤◌, ℕ, nat_eq, cond, Some, None, length, IfOk, is_some, option_map};
 ghost use Rattle.std.specs.Option.{option_copied};
 ghost use Rattle.std.specs.List.{list_all};
 ghost use Rattle.client_cache.specs.Slots.{dated, dated_in, is_bare, kept_in, no_copies, seen_in, settled, written_in};
@@ -95,6 +95,16 @@ impl Slots {
         match &slot.written {
             Some(obj) => Some(obj),
             None => slot.kept.as_ref(),
+        }
+    }
+
+    /// Whether there is a copy in a slot. What the try has made of it doesn't count.
+    pub fn has_copy(&self, slot: u8) -> bool
+        ensures { result ≡ is_some (kept_in self.now slot) }
+    {
+        match self.slots.get(usize::from(slot)) {
+            Some(slot) => slot.kept.is_some(),
+            None => false,
         }
     }
 

@@ -1,4 +1,5 @@
 pub mod Carrying
+pub mod Copied
 mod Holding
 pub mod Keeping
 pub mod Moving

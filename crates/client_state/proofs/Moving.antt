@@ -61,7 +61,7 @@ module _ (shows : Bool) (old new : View) (before after : Held) where
 
 -- ---- sessions
 
-here : (r : ℕ) (at : At) (link : Option Link) → session_in r link ≡ Some at → r ≡ at.repo
+pub here : (r : ℕ) (at : At) (link : Option Link) → session_in r link ≡ Some at → r ≡ at.repo
 here r at None h = cc
 here r at (Some Apart) h = cc
 here r at (Some (Joined s upto waits)) h = ap (λ (a : At). a.repo) (same_Some (record { repo = r; session = s }) at h)

@@ -6,7 +6,7 @@ use Rattle.client_state.specs.Learning.{links_learnt}
 use Rattle.client_state.specs.Links.{NoneAwaits, at_repo, session_in, stopped, waiting}
 use Rattle.client_state.specs.Sending.{IsOfSession}
 use Rattle.client_state.specs.Taking.{BringsPage, Without, took}
-use Rattle.client_state.specs.Writing.{WritesThere}
+use Rattle.client_state.specs.Writing.{HoldsWritten, WritesThere}
 use Rattle.client_state.specs.declared.calls.Drew.{Drew}
 use Rattle.client_state.specs.declared.held.Held.{Held}
 use Rattle.client_state.specs.declared.link.Link.TheVariants.{Apart, Unsettled}
@@ -168,12 +168,12 @@ pub data Moves (old new : View) (before after : Held) : Type 0 where
       → HoldsLess before after → Moves old new before after
   PrepareRefused : (s : Sending) (k : Refusal) → Does {X = ℕ} old new s.at.repo (Err k) (PrepareWork s.at.session s.request (Err k)) → IsOfSession before.links.items s
       → NoneAwaits 8 before.links.items → Learns k s.at.repo before after → after.client ≡ before.client → Moves old new before after
-  -- the request writes what the try has written
+  -- the request writes what the try has written, and of that the client has copies, or it is created
   Committed : (s : Sending) (place : ℕ) → Does {X = ℕ} old new s.at.repo (Ok place) (CommitWork s.at.session s.request (Ok place)) → IsOfSession before.links.items s
-      → InSession s.at before → WritesThere s.at.repo s.request.writes before.cache.cache → NoneAwaits 8 before.links.items → KeepsTry before after → Moves old new before after
-  -- the transaction was that of a transform, which has written the object alone
+      → InSession s.at before → WritesThere s.at.repo s.request.writes before.cache.cache → HoldsWritten s.request before.cache.cache → NoneAwaits 8 before.links.items → KeepsTry before after → Moves old new before after
+  -- the transaction was that of a transform, which has written the object alone, an object of the repository of which the client has a copy
   Transformed : (s : Sending) (place : ℕ) (oref : Oref) (made : Obj) → Does {X = ℕ} old new s.at.repo (Ok place) (CommitWork s.at.session s.request (Ok place)) → IsOfSession before.links.items s
-      → InSession s.at before → s.request.writes ≡ (oref, made) ∷ [] → NoneAwaits 8 before.links.items → KeepsMade oref made before after → Moves old new before after
+      → InSession s.at before → s.request.writes ≡ (oref, made) ∷ [] → oref.repo ≡ s.at.repo → HoldsWritten s.request before.cache.cache → NoneAwaits 8 before.links.items → KeepsMade oref made before after → Moves old new before after
   CommitRefused : (s : Sending) (k : Refusal) → Does {X = ℕ} old new s.at.repo (Err k) (CommitWork s.at.session s.request (Err k)) → IsOfSession before.links.items s
       → NoneAwaits 8 before.links.items → Learns k s.at.repo before after → after.client ≡ before.client → Moves old new before after
   Decided : (at : At) (t : Ts) (v : Verdict) → Does {X = Verdict} old new at.repo (Ok v) (DecideWork at.session t true (Ok v))

@@ -1,5 +1,5 @@
 -- What the shares of a transaction write, and that it is what the try has written (this project's).
-use Rattle.client_cache.specs.Copies.{Contents, changed}
+use Rattle.client_cache.specs.Copies.{Contents, changed, kept}
 use Rattle.client_state.specs.declared.calls.Came.TheVariants as came
 use Rattle.client_state.specs.declared.calls.Came.{Came}
 use Rattle.client_state.specs.declared.calls.Drew.TheVariants as drew
@@ -7,8 +7,10 @@ use Rattle.client_state.specs.declared.calls.Drew.{Drew}
 use Rattle.client_state.specs.declared.phase.Phase.TheVariants.{Asking, Beginning, Between, Drawn, Evaluated, Evaluating, Preparing, Transforming}
 use Rattle.client_state.specs.declared.phase.Phase.{Phase}
 use Rattle.client_state.specs.declared.transaction.Share.{Share}
+use Rattle.commit_log.specs.declared.request.Request.{Request}
+use Rattle.local_history.specs.Requests.{has_created, has_written}
 use Rattle.paused_eval.specs.Copies.{last_of}
-use Rattle.std.specs.Prelude.{Bool, List, None, Option, Some, [], cond, false, nat_eq, slice_get, slice_set, true, ℕ, ◌++◌, ◌<◌, ◌∷◌, ◌≡◌}
+use Rattle.std.specs.Prelude.{Bool, List, None, Option, Some, [], cond, false, is_some, nat_eq, slice_get, slice_set, true, ℕ, ◌++◌, ◌<◌, ◌∷◌, ◌≡◌, ◌||◌}
 use Rattle.thor_value.specs.declared.names.Oref.{Oref}
 use Rattle.thor_value.specs.declared.values.Obj.{Obj}
 
@@ -71,6 +73,14 @@ WritesShares shares c = (x : Oref) → changed c x ≡ shares_write shares x
 -- The try has written what these writes make of the objects of a repository, and nothing elsewhere.
 abbrev pub WritesThere : ℕ → List (Oref × Obj) → Contents → Type 0
 WritesThere repo writes c = (x : Oref) → changed c x ≡ cond (nat_eq repo x.repo) (last_of writes x) None
+
+-- whether the client has a copy of an object, or a request creates it
+abbrev pub is_held_or_created : Request → Contents → Oref → Bool
+is_held_or_created q c x = is_some (kept c x) || has_created q x
+
+-- Of what a request writes, and hasn't created, the client has copies.
+abbrev pub HoldsWritten : Request → Contents → Type 0
+HoldsWritten q c = (x : Oref) → has_written q x ≡ true → has_created q x ≡ false → is_some (kept c x) ≡ true
 
 -- the shares of a transaction that was evaluated and of which nothing is sent yet
 abbrev pub unsent : Phase → Option (List Share)

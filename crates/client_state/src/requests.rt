@@ -3,15 +3,16 @@
 ghost use Rattle.client_state.specs.Calling.{upto_in};
 ghost use Rattle.client_state.specs.Sending.{IsOfSession, IsOfShare, SendsFirst, upto_behind};
 ghost use Rattle.client_cache.specs.Copies.{Contents};
-ghost use Rattle.client_state.specs.Writing.{WritesShares, WritesThere};
-ghost use Rattle.std.specs.Prelude.{IfOk, IfSome, [], slice_get, ◌∷◌, ◌≡◌};
+ghost use Rattle.client_state.specs.Writing.{HoldsWritten, WritesShares, WritesThere, is_held_or_created};
+ghost use Rattle.local_history.specs.Requests.{has_created};
+ghost use Rattle.std.specs.Prelude.{IfOk, IfSome, IsTrue, [], slice_get, ◌∷◌, ◌↔◌, ◌≡◌};
 
 use crate::held::Held;
 use crate::transaction::{Share, Transaction};
 use crate::transform::{Becomes, transform_request};
 use commit_log::Request;
 use message_outbox::At;
-use thor_value::{NoMemory, Obj, TryCopy, Ts, Who};
+use thor_value::{NoMemory, Obj, Oref, TryCopy, Ts, Who};
 
 /// What a participant is sent.
 #[derive(Drop)]
@@ -55,6 +56,25 @@ impl Held {
         let at = share.at();
         let request = self.request(who, ts, transaction, share)?;
         Ok(Sending { at, request })
+    }
+
+    /// Whether the client has copies of all that a request writes and hasn't created.
+    #[tactic(auto, using(crate::proofs::Copied::holds_each, crate::proofs::Copied::all_held))]
+    pub fn holds_written(&self, request: &Request) -> bool
+        ensures { IsTrue result ↔ HoldsWritten request.now self.now.cache.cache }
+    {
+        request
+            .writes
+            .as_slice()
+            .iter()
+            .all(|(oref, _)| self.holds_or_creates(request, *oref))
+    }
+
+    /// Whether the client has a copy of an object, or a request creates it.
+    fn holds_or_creates(&self, request: &Request, oref: Oref) -> bool
+        ensures { result ≡ is_held_or_created request.now self.now.cache.cache oref }
+    {
+        self.cache.cache.has_copy(oref) || creates(request, oref)
     }
 
     /// The request of a transform in a session, and what its object becomes.
@@ -118,4 +138,15 @@ impl Held {
             Some(_) | None => before,
         }
     }
+}
+
+/// Whether a request creates an object.
+fn creates(request: &Request, oref: Oref) -> bool
+    ensures { result ≡ has_created request.now oref }
+{
+    request
+        .fresh
+        .as_slice()
+        .iter()
+        .any(|created| oref == *created)
 }

@@ -5,8 +5,8 @@ use Rattle.client_laws.proofs.AnySession.{decided_by_any, given_up_in_any, prepa
 use Rattle.client_laws.proofs.Learned.{fewer_fit}
 use Rattle.client_laws.proofs.Lending.{changes_here, exact_now, numbered_now, sound_now}
 use Rattle.client_laws.proofs.OwnVerdicts.{others_told, own_told}
-use Rattle.client_laws.proofs.Whole.{ask_all, as_it_is, at_other, committed_inside, connect_all, draw_all, fetch_inside, finish_all, forget_all, grant_inside, message_inside, none_all, refused_all}
-use Rattle.client_laws.specs.Fitting.{Copies, HoldsNone, Kept, NoneToFinish, SameCopies, with_writes}
+use Rattle.client_laws.proofs.Whole.{all_inside, ask_all, as_it_is, at_other, committed_inside, connect_all, draw_all, fetch_inside, finish_all, forget_all, grant_inside, message_inside, none_all, refused_all}
+use Rattle.client_laws.specs.Fitting.{Copies, HoldsNone, Kept, NoneToFinish, with_writes}
 use Rattle.client_laws.specs.Links.{Becomes, BringsContent}
 use Rattle.client_laws.specs.Seen.{LinkAt, LinkIn}
 use Rattle.client_laws.specs.Steps.{AllSeenRight, LinksFit}
@@ -16,6 +16,7 @@ use Rattle.client_state.specs.Learning.{links_learnt}
 use Rattle.client_state.specs.Links.{NoneAwaits, at_repo, awaits_reply, changed_at, is_reply, session_in, stopped, waiting, without_messages}
 use Rattle.client_state.specs.Sending.{IsOfSession}
 use Rattle.client_state.specs.Taking.{took}
+use Rattle.client_state.specs.Writing.{HoldsWritten}
 use Rattle.client_state.specs.declared.held.Held.{Held}
 use Rattle.client_state.specs.declared.link.Link.TheVariants.{Apart, Joined, Unsettled}
 use Rattle.client_state.specs.declared.link.Link.{Link}
@@ -26,12 +27,11 @@ use Rattle.commit_log.specs.declared.entry.Entry.{Entry}
 use Rattle.fitting_steps.proofs.Changes.{HasSession, changes_one, fewer_all, has_session, learn_all, lose_all, same_awaits, same_links}
 use Rattle.client_state.specs.Moving.{Aborted, Asked, AskedInVain, AskedOwn, CommitRefused, Committed, Connected, CopiesTaken, Decided, DecideRefused, Drawn, EndsSo, Fetched, Finished, Forgot, Granted, HasLeft, InSession, IsApart, Moves, PrepareRefused, Prepared, ReceiveRefused, ReceiveStopped, Received, ReceivedNone, Rested, SendsNothing, Settled, StopsWaiting, Transformed, Unsent}
 use Rattle.fitting_steps.proofs.Granting.{news_below}
-use Rattle.fitting_steps.proofs.Paging.{made_elsewhere, made_written, writes_here, writes_on_pages}
+use Rattle.fitting_steps.proofs.Paging.{made_elsewhere, made_written, writes_on_pages}
 use Rattle.fitting_steps.proofs.Trying.{sees_kept, sees_written}
-use Rattle.fitting_steps.specs.Owed.{ClientFits, MessageOwed, Owed, SendsOwed, SentOwed, SettledOwed, VerdictOwed, if_commit, verdict_of, with_made}
+use Rattle.fitting_steps.specs.Owed.{ClientFits, MessageOwed, Owed, SendsOwed, SettledOwed, VerdictOwed, if_commit, verdict_of, with_made}
 use Rattle.local_history.proofs.Listed.{some_and}
 use Rattle.local_history.specs.History.{Base}
-use Rattle.local_history.specs.Requests.{has_written}
 use Rattle.local_history.specs.Sound.{sound}
 use Rattle.message_outbox.specs.declared.answers.Asked as answer
 use Rattle.message_outbox.specs.declared.answers.Asked.TheVariants as answers
@@ -41,7 +41,7 @@ use Rattle.message_outbox.specs.declared.answers.Welcome.{Welcome}
 use Rattle.message_outbox.specs.declared.message.Message.TheVariants.{Grant, Invalid, Page, Upgrade}
 use Rattle.message_outbox.specs.declared.message.Message.{Message}
 use Rattle.paused_eval.specs.Copies.{AreAmong}
-use Rattle.port.specs.Acting.{Connected as has_connected}
+use Rattle.port.specs.Acting.{Committed as has_committed, Connected as has_connected}
 use Rattle.port.specs.Views as views
 use Rattle.port.specs.Views.{Calm, Came, Halted, MayCome, Opened, View}
 use Rattle.port.specs.Works.{Answered, AskWork, CommitWork, DecideWork, Does, IsOutage, ReceiveWork, RefusedUnmarked, alone_entry}
@@ -320,12 +320,9 @@ module _ (old new : View) (before after : Held) (committed later : Ts → Bool) 
     acknowledges : (s : Sending) → IsOfSession links s → (upto : ℕ) (waits : Waits) → slice_get links s.at.repo ≡ Some (Joined s.request.session upto waits) → s.request.upto ≡ upto
     acknowledges s of upto waits is = of.upto (ap (is_session_of s.at.session) is ∙ same_test s.request.session s.at.session of.session) ∙ ap upto_in is
 
-    module _ (s : Sending) (place : ℕ) (d : Does {X = ℕ} old new s.at.repo (Ok place) (CommitWork s.at.session s.request (Ok place))) (of : IsOfSession links s) (its : InSession s.at before) (idle_all : NoneAwaits 8 links) (sent : SentOwed old s.at s.request before) where
+    module _ (s : Sending) (place : ℕ) (d : Does {X = ℕ} old new s.at.repo (Ok place) (CommitWork s.at.session s.request (Ok place))) (of : IsOfSession links s) (its : InSession s.at before) (idle_all : NoneAwaits 8 links) (held : HoldsWritten s.request before.cache.cache) where
       abbrev base : Base
       base = old.opened.base s.at.repo
-
-      inside_now : s.at.repo < new.opened.repos
-      inside_now = subst (λ (o : Opened). s.at.repo < o.repos) (sym d.called.same) sent.there
 
       -- the trace behind the call, which ends with the request's entry
       accepted : verdict base d.at s.at.session s.request ≡ None × (new.seen s.at.repo ≡ d.at ++ E (alone_entry s.request) ∷ [])
@@ -338,25 +335,30 @@ module _ (old new : View) (before after : Held) (committed later : Ts → Bool) 
           by Came w = absurd w.0
           by Halted w = absurd w.0
 
-      exact_behind : exact base (d.at ++ E (alone_entry s.request) ∷ [])
-      exact_behind = subst (exact base) accepted.1 (exact_now old new s.at.repo later d.called.same (right.each s.at.repo inside_now))
+      -- where the repository is there
+      module _ (inside_now : s.at.repo < new.opened.repos) where
+        exact_behind : exact base (d.at ++ E (alone_entry s.request) ∷ [])
+        exact_behind = subst (exact base) accepted.1 (exact_now old new s.at.repo later d.called.same (right.each s.at.repo inside_now))
 
-      sound_behind : sound base (entries (d.at ++ E (alone_entry s.request) ∷ []))
-      sound_behind = subst (λ (T : List Item). sound base (entries T)) accepted.1 (sound_now old new s.at.repo later d.called.same (right.each s.at.repo inside_now))
+        sound_behind : sound base (entries (d.at ++ E (alone_entry s.request) ∷ []))
+        sound_behind = subst (λ (T : List Item). sound base (entries T)) accepted.1 (sound_now old new s.at.repo later d.called.same (right.each s.at.repo inside_now))
 
-      number : base.repo ≡ s.at.repo
-      number = numbered_now old new s.at.repo later d.called.same (right.each s.at.repo inside_now)
+        number : base.repo ≡ s.at.repo
+        number = numbered_now old new s.at.repo later d.called.same (right.each s.at.repo inside_now)
 
-      writes_there : (x : Oref) → has_written s.request x ≡ true → x.repo ≡ s.at.repo
-      writes_there x wrote = writes_here base d.at s.request exact_behind sound_behind x wrote ∙ number
+        commits_there : (made : Copies) → SettledOwed new s.at.repo d.at s.at.session later → ((x : Oref) → x.repo ≡ s.at.repo → made x ≡ with_writes s.request copies x) → ((x : Oref) → x.repo ≢ s.at.repo → made x ≡ copies x) → LinksFit new later links made
+        commits_there made settled wrote elsewhere =
+            let h : HasSession s.at (slice_get links s.at.repo) = has_session s.at (slice_get links s.at.repo) its in
+            let up : s.request.upto ≡ h.upto = acknowledges s of h.upto h.waits (h.is ∙ ap (λ (n : ℕ). Some (Joined n h.upto h.waits)) (sym of.session)) in
+            let k : Kept = record { session = s.at.session; upto = h.upto; awaits = is_reply h.waits; copies = copies } in
+            committed_inside old new s.at h.upto h.waits links copies later right h.is fit made elsewhere s.request place d up (λ inside. quiet d.called.same idle_all s.at.repo (Joined s.at.session h.upto h.waits) inside h.is) (subst (λ (o : Opened). s.at.repo < new.opened.repos → new.unsettled s.at.repo ≡ Calm → lives (session (o.base s.at.repo) (new.seen s.at.repo) s.at.session) ≡ true → NoneToFinish (o.base s.at.repo) (entries d.at) s.at.session later) d.called.same settled)
+            (λ fits tells. writes_on_pages base d.at s.request exact_behind sound_behind old.opened.client later k fits accepted.0 of.session held tells) (λ tells x here. wrote x (here ∙ number))
 
-      commits : (made : Copies) → SettledOwed new s.at.repo d.at s.at.session later → (base.tells ≡ true → SameCopies base made (with_writes s.request copies)) → ((x : Oref) → x.repo ≢ s.at.repo → made x ≡ copies x) → LinksFit new later links made
+      -- elsewhere nothing is asked
+      commits : (made : Copies) → SettledOwed new s.at.repo d.at s.at.session later → ((x : Oref) → x.repo ≡ s.at.repo → made x ≡ with_writes s.request copies x) → ((x : Oref) → x.repo ≢ s.at.repo → made x ≡ copies x) → LinksFit new later links made
       commits made settled wrote elsewhere =
-          let h : HasSession s.at (slice_get links s.at.repo) = has_session s.at (slice_get links s.at.repo) its in
-          let up : s.request.upto ≡ h.upto = acknowledges s of h.upto h.waits (h.is ∙ ap (λ (n : ℕ). Some (Joined n h.upto h.waits)) (sym of.session)) in
-          let k : Kept = record { session = s.at.session; upto = h.upto; awaits = is_reply h.waits; copies = copies } in
-          committed_inside old new s.at h.upto h.waits links copies later right h.is fit made elsewhere s.request place d up (λ inside. quiet d.called.same idle_all s.at.repo (Joined s.at.session h.upto h.waits) inside h.is) (subst (λ (o : Opened). s.at.repo < new.opened.repos → new.unsettled s.at.repo ≡ Calm → lives (session (o.base s.at.repo) (new.seen s.at.repo) s.at.session) ≡ true → NoneToFinish (o.base s.at.repo) (entries d.at) s.at.session later) d.called.same settled)
-          (λ fits tells. writes_on_pages base d.at s.request exact_behind sound_behind old.opened.client later k fits accepted.0 of.session sent.held tells) wrote
+          all_inside old new s.at.repo later links links copies made right (λ n other. refl) elsewhere fit (has_committed s.at.repo s.at.session s.request (Ok place) d) refl
+          (λ inside seen h. (commits_there inside made settled wrote elsewhere).each s.at.repo inside)
 
     leaves : (n : ℕ) → LinkAt new n later (slice_get links n) copies → AreAmong copies (kept after.cache.cache) → n < new.opened.repos → (slice_get after.links.items n ≡ slice_get links n) ⊎ HasLeft n after → LinkAt new n later (slice_get after.links.items n) (kept after.cache.cache)
     leaves n h fewer within (inl same) = subst (λ (o : Option Link). LinkAt new n later o (kept after.cache.cache)) (sym same) (one (slice_get links n) h)
@@ -422,12 +424,12 @@ module _ (old new : View) (before after : Held) (committed later : Ts → Bool) 
       then_client same d.called.same (then_fewer (kept learns.left) learns.fewer (same_links new later (links_learnt k s.at.repo links) after.links.items (kept learns.left) learns.links
       (learn_all new later s.at.repo links before.cache.cache learns.left numbered (prepared_in_any old new s.at.repo links copies later right (fit_later told) s.at.session s.request (Err k) d (acknowledges (fit_later told) s of) (λ p is inside. cc)) k
       (λ link within is. quiet d.called.same idle s.at.repo link within is) learns.kept_so)))
-  step (Committed s place d of in_it wrote idle keeps) owed told =
-      then_client keeps.0 d.called.same (then_less (seen before.cache.cache) keeps.1 keeps.2 (commits (fit_later told) s place d of in_it idle owed.1 (seen before.cache.cache) owed.0
-      (λ tells x here. sees_written before.cache.cache s.request s.at.repo wrote x (here ∙ number (fit_later told) s place d of in_it idle owed.1)) (λ x away. sees_kept before.cache.cache s.request s.at.repo wrote x away)))
-  step (Transformed s place oref made d of session writes idle keeps) owed told =
-      then_client keeps.0 d.called.same (then_less (with_made oref made before) keeps.1 keeps.2 (commits (fit_later told) s place d of session idle owed.1 (with_made oref made before) owed.0
-      (λ tells x here. made_written s.request oref made writes copies x) (made_elsewhere s.request oref made writes s.at.repo (writes_there (fit_later told) s place d of session idle owed.1) copies)))
+  step (Committed s place d of in_it wrote held idle keeps) owed told =
+      then_client keeps.0 d.called.same (then_less (seen before.cache.cache) keeps.1 keeps.2 (commits (fit_later told) s place d of in_it idle held (seen before.cache.cache) owed
+      (λ x here. sees_written before.cache.cache s.request s.at.repo wrote x here) (λ x away. sees_kept before.cache.cache s.request s.at.repo wrote x away)))
+  step (Transformed s place oref made d of session writes here held idle keeps) owed told =
+      then_client keeps.0 d.called.same (then_less (with_made oref made before) keeps.1 keeps.2 (commits (fit_later told) s place d of session idle held (with_made oref made before) owed
+      (λ x there. made_written s.request oref made writes copies x) (made_elsewhere oref made s.at.repo here copies)))
   step (CommitRefused s k d of idle learns same) owed told =
       then_client same d.called.same (then_fewer (kept learns.left) learns.fewer (same_links new later (links_learnt k s.at.repo links) after.links.items (kept learns.left) learns.links
       (learn_all new later s.at.repo links before.cache.cache learns.left numbered (uncommitted_in_any old new s.at.repo links copies later right (fit_later told) s.at.session s.request k d) k

@@ -239,8 +239,8 @@ module _ (s : ℕ) where
     steps (ReceiveStopped at k d there outage stop stays fewer) = stops at.repo stop
     steps (Prepared x place d of less) = same less.1
     steps (PrepareRefused x k d of idle learns stays) = so (links_learnt k x.at.repo links) learns.links (λ h. learnt_keeps links x.at.repo r h k)
-    steps (Committed x place d of in_it wrote idle keeps) = same keeps.1
-    steps (Transformed x place oref made d of session writes idle keeps) = same keeps.1
+    steps (Committed x place d of in_it wrote held idle keeps) = same keeps.1
+    steps (Transformed x place oref made d of session writes here held idle keeps) = same keeps.1
     steps (CommitRefused x k d of idle learns stays) = so (links_learnt k x.at.repo links) learns.links (λ h. learnt_keeps links x.at.repo r h k)
     steps (Decided at t v d idle e) = ends v.commit e
     steps (Aborted at t v d less) = same less.1

@@ -6,6 +6,7 @@ use Rattle.client_state.specs.Calling.{links_joined, upto_in}
 use Rattle.client_state.specs.Links.{NoneAwaits, at_repo, awaits_reply, session_in, waiting}
 use Rattle.client_state.specs.Moving.{Committed, Connected, Drawn, Granted, InSession, Moves, Received, Unsent}
 use Rattle.client_state.specs.Taking.{took}
+use Rattle.client_state.specs.Writing.{HoldsWritten}
 use Rattle.client_state.specs.declared.calls.Drew.TheVariants as drew
 use Rattle.client_state.specs.declared.held.Held.{Held}
 use Rattle.client_state.specs.declared.link.Link.TheVariants.{Apart, Joined}
@@ -16,7 +17,6 @@ use Rattle.client_state.specs.declared.requests.Sending.{Sending}
 use Rattle.fitting_steps.proofs.Trying.{sees_kept, sees_written}
 use Rattle.fitting_steps.proofs.OneAmong.{among}
 use Rattle.fitting_steps.proofs.OneStep.{begins}
-use Rattle.fitting_steps.specs.Owed.{SentOwed}
 use Rattle.fitting_steps.specs.OneExample.{HoldsOnTheWay, HoldsThis, behind, made, seeing, whole}
 use Rattle.fitting_steps.specs.OneRepository.{FitsOne, HasOneRepository, Leads}
 use Rattle.fitting_steps.specs.Positions.{Stepped, Waited}
@@ -25,7 +25,7 @@ use Rattle.local_history.proofs.Decided.{decides_sound}
 use Rattle.local_history.proofs.Growth.{sound-beginning}
 use Rattle.local_history.specs.Examples.{at, box, only, z}
 use Rattle.local_history.specs.History.{Base}
-use Rattle.local_history.specs.Requests.{has_created, has_written, written}
+use Rattle.local_history.specs.Requests.{written}
 use Rattle.local_history.specs.Sound.{sound}
 use Rattle.message_outbox.specs.declared.answers.At.{At}
 use Rattle.message_outbox.specs.declared.answers.Welcome.{Welcome}
@@ -165,11 +165,19 @@ module _ (first joined drawn waits taken last : Held) (h : HoldsOnTheWay first j
     | inr away ↦ sees_kept taken.cache.cache made 0 h.wrote x away ∙ ap (λ (o : Option Obj). option_or o (kept taken.cache.cache x)) (sym (none_away x away))
   ]
 
+  -- what its request writes it creates
+  held : HoldsWritten made taken.cache.cache
+  held x wrote new = by (same_oref x z) refl
+    where
+      by : (t : Bool) → same_oref x z ≡ t → is_some (kept taken.cache.cache x) ≡ true
+      by true e = let f : false ≡ true = sym new ∙ ap (λ (t : Bool). t || false) e in cc
+      by false e = let f : false ≡ true = ap is_some (sym (at_z x ∙ ap (λ (t : Bool). cond t (Some (box 7)) None) e)) ∙ wrote in cc
+
   abbrev sending : Sending
   sending = record { at = there; request = made }
 
   commits : Moves (seeing (take 5 whole)) (seeing (take 6 whole)) taken last
-  commits = Committed sending 1 does (record { session = refl; upto = λ e. sym (ap (λ (ls : List Link). upto_in (slice_get ls 0)) h.takes.links) }) (in_session Idle no_copy taken h.takes) h.wrote (none_awaits no_copy taken h.takes)
+  commits = Committed sending 1 does (record { session = refl; upto = λ e. sym (ap (λ (ls : List Link). upto_in (slice_get ls 0)) h.takes.links) }) (in_session Idle no_copy taken h.takes) h.wrote held (none_awaits no_copy taken h.takes)
       (h.commits.client ∙ sym h.takes.client, h.commits.links ∙ sym h.takes.links, λ x. inl (h.commits.copies_are x ∙ sym (written_seen x)))
     where
       does : Does {X = ℕ} (seeing (take 5 whole)) (seeing (take 6 whole)) 0 (Ok 1) (CommitWork 1 made (Ok 1))
@@ -177,16 +185,6 @@ module _ (first joined drawn waits taken last : Held) (h : HoldsOnTheWay first j
 
       written_seen : (x : Oref) → seen taken.cache.cache x ≡ with_writes made no_copy x
       written_seen x = seen_written x ∙ ap (λ (o : Option Obj). option_or (get (written made) x) o) (h.takes.copies_are x)
-
-  sent : SentOwed (seeing (take 5 whole)) there made taken
-  sent = record { there = omega arith; held = held }
-    where
-      held : (x : Oref) → has_written made x ≡ true → has_created made x ≡ false → is_some (kept taken.cache.cache x) ≡ true
-      held x wrote new = by (same_oref x z) refl
-        where
-          by : (t : Bool) → same_oref x z ≡ t → is_some (kept taken.cache.cache x) ≡ true
-          by true e = let f : false ≡ true = sym new ∙ ap (λ (t : Bool). t || false) e in cc
-          by false e = let f : false ≡ true = ap is_some (sym (at_z x ∙ ap (λ (t : Bool). cond t (Some (box 7)) None) e)) ∙ wrote in cc
 
   others : (n : ℕ) → n < 1 → Grew only 1 Calm (cond (nat_eq n 0) (take 6 whole) []) Calm (cond (nat_eq n 0) (take 7 whole) [])
   others n low = by (nat_eq n 0)
@@ -206,7 +204,7 @@ module _ (first joined drawn waits taken last : Held) (h : HoldsOnTheWay first j
         (
           Stepped takes tt (one_at (take 5 whole) (drop 5 whole) refl (omega arith)),
           (
-            Stepped commits sent (one_at (take 6 whole) (drop 6 whole) refl (omega arith)),
+            Stepped commits tt (one_at (take 6 whole) (drop 6 whole) refl (omega arith)),
             Waited refl refl others (one_at (take 7 whole) (drop 7 whole) refl (omega arith)),
           ),
         ),
@@ -225,7 +223,7 @@ module _ (first joined drawn waits taken last : Held) (h : HoldsOnTheWay first j
         (
           Stepped takes tt (among (take 5 whole) (one_at (take 5 whole) (drop 5 whole) refl (omega arith))),
           (
-            Stepped commits sent (among (take 6 whole) (one_at (take 6 whole) (drop 6 whole) refl (omega arith))),
+            Stepped commits tt (among (take 6 whole) (one_at (take 6 whole) (drop 6 whole) refl (omega arith))),
             Waited refl refl others (among (take 7 whole) (one_at (take 7 whole) (drop 7 whole) refl (omega arith))),
           ),
         ),

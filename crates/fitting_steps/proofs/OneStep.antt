@@ -184,8 +184,8 @@ module _ (old new : View) (same : new.opened ≡ old.opened) (one : HasOneReposi
       step (ReceiveStopped at k d there outage stops stays fewer) o = by_owed (ReceiveStopped at k d there outage stops stays fewer) tt
       step (Prepared s place d of less) o = by_owed (Prepared s place d of less) (λ inside. absurd (unprepared s.at.repo s.at.session s.request place d inside))
       step (PrepareRefused s k d of idle learns stays) o = by_owed (PrepareRefused s k d of idle learns stays) tt
-      step (Committed s place d of in_it wrote idle keeps) o = by_owed (Committed s place d of in_it wrote idle keeps) (settled_at s.at.repo s.at.session d.at (commit_front old new s.at.repo s.at.session s.request place d), o)
-      step (Transformed s place oref made d of session writes idle keeps) o = by_owed (Transformed s place oref made d of session writes idle keeps) (settled_at s.at.repo s.at.session d.at (commit_front old new s.at.repo s.at.session s.request place d), o)
+      step (Committed s place d of in_it wrote held idle keeps) o = by_owed (Committed s place d of in_it wrote held idle keeps) (settled_at s.at.repo s.at.session d.at (commit_front old new s.at.repo s.at.session s.request place d))
+      step (Transformed s place oref made d of session writes here held idle keeps) o = by_owed (Transformed s place oref made d of session writes here held idle keeps) (settled_at s.at.repo s.at.session d.at (commit_front old new s.at.repo s.at.session s.request place d))
       step (CommitRefused s k d of idle learns stays) o = by_owed (CommitRefused s k d of idle learns stays) tt
       step (Decided at t v d idle ends) o = by_owed (Decided at t v d idle ends) (decided v.commit at t o)
       step (Aborted at t v d less) o = by_owed (Aborted at t v d less) tt

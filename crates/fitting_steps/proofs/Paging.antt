@@ -1,5 +1,5 @@
 -- What a request that commits has written: it lies on pages of its session, and what a transform makes is what its request writes.
-use Rattle.client_cache.specs.Pages.{same_name}
+use Rattle.client_cache.specs.Pages.{page_of, same_name, same_page}
 use Rattle.client_laws.proofs.Linked.{named_at}
 use Rattle.client_laws.specs.Fitting.{Copies, FitsAt, Kept, WritesOnPages, with_writes}
 use Rattle.commit_log.specs.declared.entry.Entry.TheVariants.{One, Upgraded}
@@ -24,7 +24,8 @@ use Rattle.session_outbox.specs.Trace.{E, Item, entries}
 use Rattle.session_outbox.specs.Verdict.{stale, verdict, verdict_by}
 use Rattle.std.proofs.Common.{Bool, List, [], ap, cond, false, refl, subst, sym, true, ◌++◌, ◌∙◌, ◌∷◌, ◌≡◌, ◌≢◌, ℕ}
 use Rattle.std.specs.Option.{is_some, option_or}
-use Rattle.std.specs.Prelude.{None, Option, Some}
+use Rattle.std.proofs.lemmas.Bool.{and_parts, eqb-true}
+use Rattle.std.specs.Prelude.{None, Option, Some, nat_eq}
 use Rattle.thor_value.proofs.FiniteMap.{get-insert}
 use Rattle.thor_value.proofs.NameOrders.{oref_total}
 use Rattle.thor_value.specs.FiniteMap.{empty, get, has, overwrite}
@@ -107,9 +108,13 @@ made_written q oref made is copies x = by (same_name oref x) ∙ ap (λ (o : Opt
     by true = refl
     by false = refl
 
-pub made_elsewhere : (q : Request) (oref : Oref) (made : Obj) → q.writes ≡ (oref, made) ∷ [] → (r : ℕ) → ((x : Oref) → has_written q x ≡ true → x.repo ≡ r) → (copies : Copies) (x : Oref) → x.repo ≢ r → cond (same_name oref x) (Some made) (copies x) ≡ copies x
-made_elsewhere q oref made is r here copies x away = by (same_name oref x) refl
+same_place : (oref x : Oref) → same_name oref x ≡ true → oref.repo ≡ x.repo
+same_place oref x e = eqb-true oref.repo x.repo (and_parts (nat_eq oref.repo x.repo) (nat_eq oref.page x.page) (and_parts (same_page (page_of oref) (page_of x)) (nat_eq oref.slot x.slot) e).0).0
+
+-- what a transform makes lies in the repository of its object
+pub made_elsewhere : (oref : Oref) (made : Obj) (r : ℕ) → oref.repo ≡ r → (copies : Copies) (x : Oref) → x.repo ≢ r → cond (same_name oref x) (Some made) (copies x) ≡ copies x
+made_elsewhere oref made r here copies x away = by (same_name oref x) refl
   where
     by : (t : Bool) → same_name oref x ≡ t → cond t (Some made) (copies x) ≡ copies x
-    by true e = absurd (away (here x (ap is_some (made_at q oref made is x ∙ ap (λ (t : Bool). cond t (Some made) None) e))))
+    by true e = absurd (away (sym (same_place oref x e) ∙ here))
     by false e = refl

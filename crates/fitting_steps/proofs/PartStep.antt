@@ -185,8 +185,8 @@ module _ (old new : View) (before after : Held) where
   asks_nothing (ReceiveStopped at k d there outage stops stays fewer) o = none
   asks_nothing (Prepared s place d of less) o = absurd o
   asks_nothing (PrepareRefused s k d of idle learns stays) o = absurd o
-  asks_nothing (Committed s place d of in_it wrote idle keeps) o = alone s.request
-  asks_nothing (Transformed s place oref made d of session writes idle keeps) o = alone s.request
+  asks_nothing (Committed s place d of in_it wrote held idle keeps) o = alone s.request
+  asks_nothing (Transformed s place oref made d of session writes here held idle keeps) o = alone s.request
   asks_nothing (CommitRefused s k d of idle learns stays) o = alone s.request
   asks_nothing (Decided at t v d idle ends) o = absurd o
   asks_nothing (Aborted at t v d less) o = abort t false refl
@@ -311,10 +311,10 @@ module _ (old new : View) (before after : Held) (one : HasRepositories old) (the
   step (ReceiveStopped at k d there outage stops stays fewer) o = by_owed old new before after one then_one (ReceiveStopped at k d there outage stops stays fewer) o fits quiet tt
   step (Prepared s place d of less) o = absurd o
   step (PrepareRefused s k d of idle learns stays) o = absurd o
-  step (Committed s place d of in_it wrote idle keeps) o =
-      by_owed old new before after one then_one (Committed s place d of in_it wrote idle keeps) o fits quiet (settled_commit old new before after one then_one (Committed s place d of in_it wrote idle keeps) o fits quiet s place d in_it, o)
-  step (Transformed s place oref made d of in_it writes idle keeps) o =
-      by_owed old new before after one then_one (Transformed s place oref made d of in_it writes idle keeps) o fits quiet (settled_commit old new before after one then_one (Transformed s place oref made d of in_it writes idle keeps) o fits quiet s place d in_it, o)
+  step (Committed s place d of in_it wrote held idle keeps) o =
+      by_owed old new before after one then_one (Committed s place d of in_it wrote held idle keeps) o fits quiet (settled_commit old new before after one then_one (Committed s place d of in_it wrote held idle keeps) o fits quiet s place d in_it)
+  step (Transformed s place oref made d of in_it writes here held idle keeps) o =
+      by_owed old new before after one then_one (Transformed s place oref made d of in_it writes here held idle keeps) o fits quiet (settled_commit old new before after one then_one (Transformed s place oref made d of in_it writes here held idle keeps) o fits quiet s place d in_it)
   step (CommitRefused s k d of idle learns stays) o = by_owed old new before after one then_one (CommitRefused s k d of idle learns stays) o fits quiet tt
   step (Decided at t v d idle ends) o = absurd o
   step (Aborted at t v d less) o = by_owed old new before after one then_one (Aborted at t v d less) o fits quiet tt

@@ -7,7 +7,7 @@ use Rattle.client_state.specs.Moving.{Aborted, AskedInVain, AskedOwn, CommitRefu
 use Rattle.client_state.specs.declared.held.Held.{Held}
 use Rattle.client_state.specs.declared.link.Link.TheVariants as links
 use Rattle.client_state.specs.declared.link.Link.{Link}
-use Rattle.fitting_steps.specs.Owed.{ClientFits, PageOwed, SentOwed}
+use Rattle.fitting_steps.specs.Owed.{ClientFits, PageOwed}
 use Rattle.fitting_steps.specs.Positions.{LeadsBy, Position}
 use Rattle.local_history.specs.History.{known_by, state}
 use Rattle.local_history.specs.Sound.{sound}
@@ -81,8 +81,7 @@ abbrev pub AsksRightly : Bool → View → Held → Type 0
 AsksRightly true port before = HasEnded port 0 (slice_get before.links.items 0) (seen before.cache.cache)
 AsksRightly false port before = Unit {0}
 
--- What is asked of a step: of the port that pages bring what stood there, and of the client that it commits in its session, and decides
--- and asks rightly.
+-- What is asked of a step: of the port that pages bring what stood there, and of the client that it decides and asks rightly.
 abbrev pub StepOwed : (old new : View) (before after : Held) → Moves old new before after → Type 0
 StepOwed old new before after (Unsent sends) = Unit {0}
 StepOwed old new before after (Received at m does there takes same) = BringsWhatStood new at.repo m
@@ -91,8 +90,8 @@ StepOwed old new before after (ReceiveRefused at k does there loses same) = Unit
 StepOwed old new before after (ReceiveStopped at k does there outage stops same fewer) = Unit {0}
 StepOwed old new before after (Prepared s place does of less) = Unit {0}
 StepOwed old new before after (PrepareRefused s k does of idle learns same) = Unit {0}
-StepOwed old new before after (Committed s place does of session wrote idle keeps) = SentOwed old s.at s.request before
-StepOwed old new before after (Transformed s place oref made does of session writes idle keeps) = SentOwed old s.at s.request before
+StepOwed old new before after (Committed s place does of session wrote held idle keeps) = Unit {0}
+StepOwed old new before after (Transformed s place oref made does of session writes here held idle keeps) = Unit {0}
 StepOwed old new before after (CommitRefused s k does of idle learns same) = Unit {0}
 StepOwed old new before after (Decided at t v does idle ends) = DecidesRightly v.commit old at t
 StepOwed old new before after (Aborted at t v does less) = Unit {0}

@@ -7,17 +7,13 @@ use Rattle.client_laws.specs.Links.{BringsContent}
 use Rattle.client_laws.specs.Steps.{LinksFit}
 use Rattle.client_laws.specs.Verdicts.{TakesAll}
 use Rattle.client_state.specs.declared.held.Held.{Held}
-use Rattle.commit_log.specs.declared.request.Request.{Request}
 use Rattle.client_state.specs.Moving.{Aborted, Asked, AskedInVain, AskedOwn, CommitRefused, Committed, Connected, Decided, DecideRefused, Drawn, Fetched, Finished, Forgot, Granted, Moves, PrepareRefused, Prepared, ReceiveRefused, ReceiveStopped, Received, ReceivedNone, Rested, SendsNothing, Settled, Transformed, Unsent}
-use Rattle.local_history.specs.Requests.{has_created, has_written}
-use Rattle.message_outbox.specs.declared.answers.At.{At}
 use Rattle.message_outbox.specs.declared.message.Message.TheVariants.{Grant, Invalid, Page, Upgrade}
 use Rattle.message_outbox.specs.declared.message.Message.{Message}
 use Rattle.port.specs.Views.{Calm, View}
 use Rattle.session_outbox.specs.Notices.{lives}
 use Rattle.session_outbox.specs.Session.{session}
 use Rattle.session_outbox.specs.Trace.{Item, entries}
-use Rattle.std.specs.Option.{is_some}
 use Rattle.std.specs.Prelude.{Bool, List, None, Option, Some, cond, false, length, true, ℕ, ◌<◌, ◌^◌, ◌≡◌, ◌≤◌}
 use Rattle.thor_value.specs.declared.names.Oref.{Oref}
 use Rattle.thor_value.specs.declared.names.Ts.{Ts}
@@ -44,8 +40,8 @@ verdict_of old new before after (ReceiveRefused at k does there loses same) = No
 verdict_of old new before after (ReceiveStopped at k does there outage stops same fewer) = None
 verdict_of old new before after (Prepared s place does of less) = None
 verdict_of old new before after (PrepareRefused s k does of idle learns same) = None
-verdict_of old new before after (Committed s place does of session wrote idle keeps) = None
-verdict_of old new before after (Transformed s place oref made does of session writes idle keeps) = None
+verdict_of old new before after (Committed s place does of session wrote held idle keeps) = None
+verdict_of old new before after (Transformed s place oref made does of session writes here held idle keeps) = None
 verdict_of old new before after (CommitRefused s k does of idle learns same) = None
 verdict_of old new before after (Decided at t v does idle ends) = if_commit v.commit t
 verdict_of old new before after (Aborted at t v does less) = None
@@ -75,11 +71,6 @@ MessageOwed port repo (Upgrade number text place) = repo < port.opened.repos →
 abbrev pub SettledOwed : View → ℕ → List Item → ℕ → (Ts → Bool) → Type 0
 SettledOwed port repo T s committed = repo < port.opened.repos → port.unsettled repo ≡ Calm → lives (session (port.opened.base repo) (port.seen repo) s) ≡ true → NoneToFinish (port.opened.base repo) (entries T) s committed
 
--- A request that commits at one repository was sent to one that is there. Of what it writes and hasn't created the client holds copies.
-pub record SentOwed (port : View) (at : At) (q : Request) (before : Held) : Type 0 where
-  pub there : at.repo < port.opened.repos
-  pub held : (x : Oref) → has_written q x ≡ true → has_created q x ≡ false → is_some (kept before.cache.cache x) ≡ true
-
 -- what the client has once a transform's object is written
 abbrev pub with_made : Oref → Obj → Held → Copies
 with_made oref made before x = cond (same_name oref x) (Some made) (kept before.cache.cache x)
@@ -108,8 +99,8 @@ Owed old new before after committed later (ReceiveRefused at k does there loses 
 Owed old new before after committed later (ReceiveStopped at k does there outage stops same fewer) = Unit {0}
 Owed old new before after committed later (Prepared s place does of less) = s.at.repo < new.opened.repos → later s.request.tx ≡ false
 Owed old new before after committed later (PrepareRefused s k does of idle learns same) = Unit {0}
-Owed old new before after committed later (Committed s place does of session wrote idle keeps) = SettledOwed new s.at.repo does.at s.at.session later × SentOwed old s.at s.request before
-Owed old new before after committed later (Transformed s place oref made does of session writes idle keeps) = SettledOwed new s.at.repo does.at s.at.session later × SentOwed old s.at s.request before
+Owed old new before after committed later (Committed s place does of session wrote held idle keeps) = SettledOwed new s.at.repo does.at s.at.session later
+Owed old new before after committed later (Transformed s place oref made does of session writes here held idle keeps) = SettledOwed new s.at.repo does.at s.at.session later
 Owed old new before after committed later (CommitRefused s k does of idle learns same) = Unit {0}
 Owed old new before after committed later (Decided at t v does idle ends) = VerdictOwed v.commit old committed later t before
 Owed old new before after committed later (Aborted at t v does less) = Unit {0}

@@ -5,7 +5,7 @@ use Rattle.client_laws.specs.Fitting.{SameCopies}
 use Rattle.client_state.specs.Moving.{Aborted, AskedInVain, AskedOwn, CommitRefused, Committed, Decided, DecideRefused, Finished, Forgot, Moves, PrepareRefused, Prepared, ReceiveRefused, ReceiveStopped, Received, ReceivedNone, Transformed, Unsent}
 use Rattle.client_state.specs.declared.held.Held.{Held}
 use Rattle.fitting_steps.specs.OneRepository.{BringsWhatStood, HasEnded}
-use Rattle.fitting_steps.specs.Owed.{ClientFits, SentOwed}
+use Rattle.fitting_steps.specs.Owed.{ClientFits}
 use Rattle.fitting_steps.specs.Positions.{LeadsBy, Position}
 use Rattle.fitting_steps.specs.Quiet.{AreQuiet}
 use Rattle.port.specs.Views.{View}
@@ -45,8 +45,8 @@ PartOwed old new before after (ReceiveRefused at k does there loses same) = Unit
 PartOwed old new before after (ReceiveStopped at k does there outage stops same fewer) = Unit {0}
 PartOwed old new before after (Prepared s place does of less) = ⊥
 PartOwed old new before after (PrepareRefused s k does of idle learns same) = ⊥
-PartOwed old new before after (Committed s place does of session wrote idle keeps) = SentOwed old s.at s.request before
-PartOwed old new before after (Transformed s place oref made does of session writes idle keeps) = SentOwed old s.at s.request before
+PartOwed old new before after (Committed s place does of session wrote held idle keeps) = Unit {0}
+PartOwed old new before after (Transformed s place oref made does of session writes here held idle keeps) = Unit {0}
 PartOwed old new before after (CommitRefused s k does of idle learns same) = Unit {0}
 PartOwed old new before after (Decided at t v does idle ends) = ⊥
 PartOwed old new before after (Aborted at t v does less) = Unit {0}

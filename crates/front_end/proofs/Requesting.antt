@@ -8,7 +8,7 @@ use Rattle.client_state.specs.Learning.{links_learnt}
 use Rattle.client_state.specs.Links.{NoneAwaits}
 use Rattle.client_state.specs.Moving.{CommitRefused, Committed, DecideRefused, Decided, EndsSo, HoldsLess, InSession, KeepsMade, KeepsTry, Learns, Loses, MovesIf, PrepareRefused, Prepared, Rested, Transformed, Unsent}
 use Rattle.client_state.specs.Sending.{IsOfSession}
-use Rattle.client_state.specs.Writing.{WritesThere}
+use Rattle.client_state.specs.Writing.{HoldsWritten, WritesThere}
 use Rattle.client_state.specs.declared.held.Held.{Held}
 use Rattle.client_state.specs.declared.link.Link.{Link}
 use Rattle.client_state.specs.declared.requests.Sending.{Sending}
@@ -39,12 +39,12 @@ module _ (shows : Bool) (old new : View) (before after : Held) where
       pub by_prepare_refused : (k : Refusal) → (shows ≡ true → Does {X = ℕ} old new s.at.repo (Err k) (PrepareWork s.at.session s.request (Err k))) → Learns k s.at.repo before after → after.client ≡ before.client → MovesIf shows old new before after
       by_prepare_refused k call learns client = λ w. PrepareRefused s k (call w) of idle learns client
 
-      pub by_commit : (place : ℕ) → (shows ≡ true → Does {X = ℕ} old new s.at.repo (Ok place) (CommitWork s.at.session s.request (Ok place))) → InSession s.at before → WritesThere s.at.repo s.request.writes before.cache.cache → KeepsTry before after → MovesIf shows old new before after
-      by_commit place call joined wrote keeps = λ w. Committed s place (call w) of joined wrote idle keeps
+      pub by_commit : (place : ℕ) → (shows ≡ true → Does {X = ℕ} old new s.at.repo (Ok place) (CommitWork s.at.session s.request (Ok place))) → InSession s.at before → WritesThere s.at.repo s.request.writes before.cache.cache → HoldsWritten s.request before.cache.cache → KeepsTry before after → MovesIf shows old new before after
+      by_commit place call joined wrote held keeps = λ w. Committed s place (call w) of joined wrote held idle keeps
 
       pub by_transform : (place : ℕ) (oref : Oref) (made : Obj) → (shows ≡ true → Does {X = ℕ} old new s.at.repo (Ok place) (CommitWork s.at.session s.request (Ok place)))
-          → InSession s.at before → s.request.writes ≡ (oref, made) ∷ [] → KeepsMade oref made before after → MovesIf shows old new before after
-      by_transform place oref made call joined writes keeps = λ w. Transformed s place oref made (call w) of joined writes idle keeps
+          → InSession s.at before → s.request.writes ≡ (oref, made) ∷ [] → oref.repo ≡ s.at.repo → HoldsWritten s.request before.cache.cache → KeepsMade oref made before after → MovesIf shows old new before after
+      by_transform place oref made call joined writes here held keeps = λ w. Transformed s place oref made (call w) of joined writes here held idle keeps
 
       pub by_commit_refused : (k : Refusal) → (shows ≡ true → Does {X = ℕ} old new s.at.repo (Err k) (CommitWork s.at.session s.request (Err k))) → Learns k s.at.repo before after → after.client ≡ before.client → MovesIf shows old new before after
       by_commit_refused k call learns client = λ w. CommitRefused s k (call w) of idle learns client

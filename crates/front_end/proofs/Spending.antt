@@ -40,8 +40,8 @@ module _ (old new : View) (a b after : Held) where
   other_names (ReceiveStopped at k d joined out s client f) = ReceiveStopped at k d joined out (stops at.repo s) client f
   other_names (Prepared s place d of less) = Prepared s place d of less
   other_names (PrepareRefused s k d of idle l client) = PrepareRefused s k d of idle (learns k s.at.repo l) client
-  other_names (Committed s place d of joined wrote idle keeps) = Committed s place d of joined wrote idle keeps
-  other_names (Transformed s place oref made d of joined writes idle keeps) = Transformed s place oref made d of joined writes idle keeps
+  other_names (Committed s place d of joined wrote held idle keeps) = Committed s place d of joined wrote held idle keeps
+  other_names (Transformed s place oref made d of joined writes here held idle keeps) = Transformed s place oref made d of joined writes here held idle keeps
   other_names (CommitRefused s k d of idle l client) = CommitRefused s k d of idle (learns k s.at.repo l) client
   other_names (Decided at t v d idle e) = Decided at t v d idle (ends v.commit e)
   other_names (Aborted at t v d less) = Aborted at t v d less

@@ -1,6 +1,6 @@
 //! How a transaction is drawn, sent and decided.
 
-ghost use Rattle.client_state.specs.Writing.{WritesShares, WritesThere, unsent};
+ghost use Rattle.client_state.specs.Writing.{HoldsWritten, WritesShares, WritesThere, unsent};
 ghost use Rattle.front_end.specs.Writing.{ClientWrites};
 ghost use Rattle.client_state.specs.Learning.{Rises};
 ghost use Rattle.client_state.specs.Links.{NoneAwaits};
@@ -134,9 +134,31 @@ impl Client {
         ensures rises { Rises self.old.held self.new.held }
     {
         if transaction.shares.is_empty() {
-            return self.commit_one(port, opened, transaction.sent(ts), sending);
+            return self.commit_held(port, opened, transaction.sent(ts), sending);
         }
         self.prepare_first(port, ts, transaction, sending)
+    }
+
+    /// It commits where the client has copies of all that it writes and hasn't created. Where a page has come that lacks such
+    /// an object, the evaluation begins anew.
+    fn commit_held<Q: Port>(
+        &mut self,
+        port: &mut Q,
+        opened: &Opened,
+        sent: Sent,
+        sending: Sending,
+    ) -> Result<News, NoMemory>
+        ensures acts { ActsIf Q.shows (Q.view port.old) (Q.view port.new) }
+        ensures shown { sending.request.tx ≡ sent.ts → ShownIf Q.shows (Q.view port.old) (Q.view port.new) opened.now.repos result }
+        ensures moves { InSession sending.at self.old.held → WritesThere sending.at.repo sending.request.writes self.old.held.cache.cache → IsOfSession self.old.held.links.items sending → NoneAwaits 8 self.old.held.links.items → OnOk result (MovesIf Q.shows (Q.view port.old) (Q.view port.new) self.old.held self.new.held) }
+        ensures writes { unsent self.old.phase ≡ None → ClientWrites self.new }
+        ensures rises { Rises self.old.held self.new.held }
+    {
+        if !self.held.holds_written(&sending.request) {
+            self.begin_anew();
+            return Ok(News::Nothing);
+        }
+        self.commit_one(port, opened, sent, sending)
     }
 
     fn commit_one<Q: Port>(
@@ -148,7 +170,7 @@ impl Client {
     ) -> Result<News, NoMemory>
         ensures acts { ActsIf Q.shows (Q.view port.old) (Q.view port.new) }
         ensures shown { sending.request.tx ≡ sent.ts → ShownIf Q.shows (Q.view port.old) (Q.view port.new) opened.now.repos result }
-        ensures moves { InSession sending.at self.old.held → WritesThere sending.at.repo sending.request.writes self.old.held.cache.cache → IsOfSession self.old.held.links.items sending → NoneAwaits 8 self.old.held.links.items → MovesIf Q.shows (Q.view port.old) (Q.view port.new) self.old.held self.new.held }
+        ensures moves { InSession sending.at self.old.held → WritesThere sending.at.repo sending.request.writes self.old.held.cache.cache → HoldsWritten sending.request self.old.held.cache.cache → IsOfSession self.old.held.links.items sending → NoneAwaits 8 self.old.held.links.items → MovesIf Q.shows (Q.view port.old) (Q.view port.new) self.old.held self.new.held }
         ensures writes { unsent self.old.phase ≡ None → ClientWrites self.new }
         ensures rises { Rises self.old.held self.new.held }
     {

@@ -2,7 +2,7 @@
 //!
 //! Lazy transforms are those of Boyapati and others (OOPSLA 2003).
 
-ghost use Rattle.client_state.specs.Writing.{unsent};
+ghost use Rattle.client_state.specs.Writing.{HoldsWritten, unsent};
 ghost use Rattle.front_end.specs.Writing.{ClientWrites};
 ghost use Rattle.client_state.specs.Learning.{Rises};
 ghost use Rattle.client_state.specs.Links.{NoneAwaits, session_in};
@@ -168,13 +168,36 @@ impl Client {
         match self.held.at(oref.repo) {
             Some(at) => {
                 let (request, made) = self.held.transform_request(at, ts, becomes)?;
-                self.send_transform(port, at, ts, request, oref, made)
+                self.send_held(port, at, ts, request, oref, made)
             }
             None => {
                 self.begin_anew();
                 Ok(News::Nothing)
             }
         }
+    }
+
+    /// It is sent where the client still has a copy of the object; else the evaluation begins anew.
+    fn send_held<Q: Port>(
+        &mut self,
+        port: &mut Q,
+        at: At,
+        ts: Ts,
+        request: Request,
+        oref: Oref,
+        made: Obj,
+    ) -> Result<News, NoMemory>
+        ensures acts { ActsIf Q.shows (Q.view port.old) (Q.view port.new) }
+        ensures shown { (repos : ℕ) → ShownIf Q.shows (Q.view port.old) (Q.view port.new) repos result }
+        ensures moves { InSession at self.old.held → IsOfSession self.old.held.links.items (record { at = at; request = request }) → request.writes ≡ (oref, made) ∷ [] → oref.repo ≡ at.repo → NoneAwaits 8 self.old.held.links.items → OnOk result (MovesIf Q.shows (Q.view port.old) (Q.view port.new) self.old.held self.new.held) }
+        ensures writes { unsent self.old.phase ≡ None → ClientWrites self.new }
+        ensures rises { Rises self.old.held self.new.held }
+    {
+        if !self.held.holds_written(&request) {
+            self.begin_anew();
+            return Ok(News::Nothing);
+        }
+        self.send_transform(port, at, ts, request, oref, made)
     }
 
     fn send_transform<Q: Port>(
@@ -188,7 +211,7 @@ impl Client {
     ) -> Result<News, NoMemory>
         ensures acts { ActsIf Q.shows (Q.view port.old) (Q.view port.new) }
         ensures shown { (repos : ℕ) → ShownIf Q.shows (Q.view port.old) (Q.view port.new) repos result }
-        ensures moves { InSession at self.old.held → IsOfSession self.old.held.links.items (record { at = at; request = request }) → request.writes ≡ (oref, made) ∷ [] → NoneAwaits 8 self.old.held.links.items → OnOk result (MovesIf Q.shows (Q.view port.old) (Q.view port.new) self.old.held self.new.held) }
+        ensures moves { InSession at self.old.held → IsOfSession self.old.held.links.items (record { at = at; request = request }) → request.writes ≡ (oref, made) ∷ [] → oref.repo ≡ at.repo → HoldsWritten request self.old.held.cache.cache → NoneAwaits 8 self.old.held.links.items → OnOk result (MovesIf Q.shows (Q.view port.old) (Q.view port.new) self.old.held self.new.held) }
         ensures writes { unsent self.old.phase ≡ None → ClientWrites self.new }
         ensures rises { Rises self.old.held self.new.held }
     {

@@ -4,7 +4,7 @@ use Rattle.front_end.proofs.client.Client.send_in_session.Goals as goal
 use Rattle.std.proofs.Common.{rules}
 
 pub returns-then-is_empty-clause-moves : goal.returns-then-is_empty-clause-moves
-returns-then-is_empty-clause-moves g c = λ joined wrote of idle. whenever c.commit_one.result (c.commit_one.ensures.moves joined (wrote (search (none_left, rules))) of idle)
+returns-then-is_empty-clause-moves g c = λ joined wrote. c.commit_held.ensures.moves joined (wrote (search (none_left, rules)))
 
 pub returns-clause-moves : goal.returns-clause-moves
 returns-clause-moves g c = λ joined wrote of idle. whenever c.prepare_first.result (c.prepare_first.ensures.moves of idle)
