@@ -2,25 +2,30 @@
 use Rattle.client_cache.specs.Copies.{Contents, changed}
 use Rattle.client_state.proofs.Stopping.{at_here, at_other}
 use Rattle.client_state.specs.Calling.{is_session_of}
-use Rattle.client_state.specs.Learning.{is_session, without_session}
-use Rattle.client_state.specs.Links.{at_repo, session_in}
-use Rattle.client_state.specs.Moving.{InSession, Moves, MovesIf, SendsNothing, SendsNothingIf, Rested, Connected, Fetched, Granted, Drawn, Asked, Settled, Unsent}
+use Rattle.client_state.specs.Learning.{without_session}
+use Rattle.client_state.specs.Links.{at_repo, session_at, session_in, waiting}
+use Rattle.client_state.specs.Moving.{Asked, Connected, Drawn, Fetched, Granted, InSession, MovesIf, Rested, SendsNothing, SendsNothingIf, Settled, Unsent}
 use Rattle.client_state.specs.Owing.{asking_in}
-use Rattle.client_state.specs.Pending.{IsAsking, IsWrittenIn, MovesSo, MovesSoIf, NonePending, Pending, SendsPending, StaysPending, pending_in}
+use Rattle.client_state.specs.Pending.{IsAsking, IsWrittenIn, MovesSoIf, NonePending, Pending, SendsPending, StaysPending, pending_in}
+use Rattle.client_state.specs.Taking.{links_behind, took}
 use Rattle.client_state.specs.Writing.{WritesStay, WritesThere}
 use Rattle.client_state.specs.declared.held.Held.{Held}
+use Rattle.client_state.specs.declared.link.Link.TheVariants.{Apart, Joined, Unsettled}
 use Rattle.client_state.specs.declared.link.Link.{Link}
+use Rattle.client_state.specs.declared.link.Waits.{Waits}
 use Rattle.client_state.specs.declared.phase.Phase.TheVariants as phase
 use Rattle.client_state.specs.declared.phase.Phase.{Phase}
 use Rattle.client_state.specs.declared.transaction.Sent.{Sent}
 use Rattle.message_outbox.specs.declared.answers.At.{At}
+use Rattle.message_outbox.specs.declared.message.Message.TheVariants.{Grant, Invalid, Page, Upgrade}
+use Rattle.message_outbox.specs.declared.message.Message.{Message}
 use Rattle.paused_eval.specs.Copies.{last_of}
 use Rattle.port.specs.Views.{View}
 use Rattle.std.proofs.Common.{Bool, List, ap, cond, false, inl, inr, nat_eq, refl, subst, sym, true, ◌≡◌, ◌≢◌, ◌∙◌, ℕ}
 use Rattle.std.proofs.lemmas.Bool.{cases_eq, eqb-false, eqb-true}
 use Rattle.std.proofs.lemmas.Option.{same_Some}
 use Rattle.std.specs.Option.{option_map}
-use Rattle.std.specs.Prelude.{None, Option, Some, slice_get, ◌⊎◌}
+use Rattle.std.specs.Prelude.{None, Ok, Option, Some, slice_get, ◌⊎◌}
 use Rattle.thor_value.specs.declared.names.Oref.{Oref}
 use Rattle.thor_value.specs.declared.values.Obj.{Obj}
 
@@ -87,6 +92,74 @@ not_lost_written repo session a b t answer no rest links at w x = by (w x)
     by (inl none) = inl (ap (λ (h : Held). changed h.cache.cache x) rest ∙ none)
     by (inr h) = inr (h.0, ap (session_in at.repo) there ∙ h.1)
 
+-- ---- links that change, but for their sessions
+
+module _ (f : Link → Link) (same : (r : ℕ) (l : Link) → session_at r (f l) ≡ session_at r l) where
+  mapped : (r : ℕ) (o : Option Link) → session_in r (option_map f o) ≡ session_in r o
+  mapped r None = refl
+  mapped r (Some l) = same r l
+
+  session_kept : (links : List Link) (k n : ℕ) → session_in n (slice_get (at_repo links k f) n) ≡ session_in n (slice_get links n)
+  session_kept links k n = elim (cases_eq n k) [
+    | inl e ↦ subst (λ (m : ℕ). session_in n (slice_get (at_repo links m f) n) ≡ session_in n (slice_get links n)) e (ap (session_in n) (at_here f links n) ∙ mapped n (slice_get links n))
+    | inr other ↦ ap (session_in n) (at_other f links k n other)
+  ]
+
+module _ (a b : Held) (copies : b.cache.cache ≡ a.cache.cache) (sessions : (n : ℕ) → session_in n (slice_get b.links.items n) ≡ session_in n (slice_get a.links.items n)) (at : At) where
+  in_sessions : IsWrittenIn at a → IsWrittenIn at b
+  in_sessions w x = by (w x)
+    where
+      by : (changed a.cache.cache x ≡ None) ⊎ ((x.repo ≡ at.repo) × InSession at a) → (changed b.cache.cache x ≡ None) ⊎ ((x.repo ≡ at.repo) × InSession at b)
+      by (inl none) = inl (ap (λ (c : Contents). changed c x) copies ∙ none)
+      by (inr h) = inr (h.0, sessions at.repo ∙ h.1)
+
+waits_same : (w : Waits) (r : ℕ) (l : Link) → session_at r (waiting w l) ≡ session_at r l
+waits_same w r Apart = refl
+waits_same w r (Joined s upto waits) = refl
+waits_same w r (Unsettled sent index) = refl
+
+-- the client waits for something else
+pub waits_written : (r : ℕ) (w : Waits) (a b : Held) → b.links.items ≡ at_repo a.links.items r (waiting w) → b.cache.cache ≡ a.cache.cache → (at : At) → IsWrittenIn at a → IsWrittenIn at b
+waits_written r w a b links copies at = in_sessions a b copies (λ n. ap (λ (ls : List Link). session_in n (slice_get ls n)) links ∙ session_kept (waiting w) (waits_same w) a.links.items r n) at
+
+took_same : (m : Message) (r : ℕ) (l : Link) → session_at r (took m l) ≡ session_at r l
+took_same (Page page bytes place) r Apart = refl
+took_same (Page page bytes place) r (Joined s upto waits) = refl
+took_same (Page page bytes place) r (Unsettled sent index) = refl
+took_same (Grant page place) r Apart = refl
+took_same (Grant page place) r (Joined s upto waits) = refl
+took_same (Grant page place) r (Unsettled sent index) = refl
+took_same (Invalid names place) r Apart = refl
+took_same (Invalid names place) r (Joined s upto waits) = refl
+took_same (Invalid names place) r (Unsettled sent index) = refl
+took_same (Upgrade number text place) r Apart = refl
+took_same (Upgrade number text place) r (Joined s upto waits) = refl
+took_same (Upgrade number text place) r (Unsettled sent index) = refl
+
+behind_same : (o : Option Message) (links : List Link) (r n : ℕ) → session_in n (slice_get (links_behind (Ok o) r links) n) ≡ session_in n (slice_get links n)
+behind_same None links r n = refl
+behind_same (Some m) links r n = session_kept (took m) (took_same m) links r n
+
+-- a message was taken, or none
+pub taken_written : (r : ℕ) (o : Option Message) (a b : Held) → b.links.items ≡ links_behind (Ok o) r a.links.items → b.cache.cache ≡ a.cache.cache → (at : At) → IsWrittenIn at a → IsWrittenIn at b
+taken_written r o a b links copies at = in_sessions a b copies (λ n. ap (λ (ls : List Link). session_in n (slice_get ls n)) links ∙ behind_same o a.links.items r n) at
+
+-- the verdict on an Unknown item was learnt, which is told of no session
+pub settled_written : (r : ℕ) (sent : Sent) (index : ℕ) (a b : Held) → slice_get a.links.items r ≡ Some (Unsettled sent index) → b.links.items ≡ at_repo a.links.items r (λ l. Apart) → WritesStay a.cache.cache b.cache.cache
+    → (at : At) → IsWrittenIn at a → IsWrittenIn at b
+settled_written r sent index a b there links stay at w x = by (w x)
+  where
+    sessions : (at.repo ≡ r) ⊎ (at.repo ≢ r) → session_in at.repo (slice_get b.links.items at.repo) ≡ session_in at.repo (slice_get a.links.items at.repo)
+    sessions (inl e) =
+        let here : slice_get a.links.items at.repo ≡ Some (Unsettled sent index) = ap (λ (n : ℕ). slice_get a.links.items n) e ∙ there in
+        let apart : slice_get b.links.items at.repo ≡ Some Apart = ap (λ (ls : List Link). slice_get ls at.repo) links ∙ (ap (λ (n : ℕ). slice_get (at_repo a.links.items n (λ l. Apart)) at.repo) (sym e) ∙ (at_here (λ l. Apart) a.links.items at.repo ∙ ap (λ (o : Option Link). option_map (λ (l : Link). Apart) o) here)) in
+        ap (session_in at.repo) apart ∙ sym (ap (session_in at.repo) here)
+    sessions (inr other) = ap (λ (ls : List Link). session_in at.repo (slice_get ls at.repo)) links ∙ ap (session_in at.repo) (at_other (λ l. Apart) a.links.items r at.repo other)
+
+    by : (changed a.cache.cache x ≡ None) ⊎ ((x.repo ≡ at.repo) × InSession at a) → (changed b.cache.cache x ≡ None) ⊎ ((x.repo ≡ at.repo) × InSession at b)
+    by (inl none) = inl (stay x ∙ none)
+    by (inr h) = inr (h.0, sessions (cases_eq at.repo r) ∙ h.1)
+
 -- ---- what is undecided
 
 pub asks_in : (p : Phase) (sent : Sent) (answers : ℕ) → asking_in p ≡ Some (sent, answers) → pending_in p ≡ IsAsking sent.at sent.ts
@@ -131,3 +204,8 @@ free_so shows old new before after a z sends e = λ s. record { moves = Unsent (
 -- what is said of a step without what is undecided
 pub moves_so : (shows : Bool) (old new : View) (before after : Held) (a z : Pending) → MovesSoIf shows old new before after a z → MovesIf shows old new before after
 moves_so shows old new before after a z m = λ s. (m s).moves
+
+-- behind what leaves nothing undecided nothing is
+pub stays_free : (a z : Pending) (before after : Held) → a ≡ NonePending → StaysPending a z before after → z ≡ NonePending
+stays_free a z before after e (inl n) = n
+stays_free a z before after e (inr f) = f.0 ∙ e

@@ -1,10 +1,12 @@
 -- What is held behind a call that takes a message.
-use Rattle.client_cache.specs.Copies.{Contents, kept}
+use Rattle.client_cache.specs.Copies.{Contents, changed, kept}
 use Rattle.client_cache.specs.Placing.{IsPageOf}
 use Rattle.client_state.proofs.Moving.{fewer_among}
+use Rattle.client_state.proofs.Pending.{still_written, taken_written, waits_written}
 use Rattle.client_state.specs.Calling.{CopiesRefused, links_refused}
 use Rattle.client_state.specs.Links.{at_repo, waiting, stopped}
-use Rattle.client_state.specs.Moving.{CopiesTaken, HoldsLess, InSession, Loses, Moves, MovesIf, ReceiveRefused, ReceiveStopped, Received, ReceivedNone, StopsWaiting}
+use Rattle.client_state.specs.Moving.{CopiesTaken, HoldsLess, InSession, Loses, Moves, ReceiveRefused, ReceiveStopped, Received, ReceivedNone, StopsWaiting}
+use Rattle.client_state.specs.Pending.{MovesSo, MovesSoIf, Pending, StaysPending}
 use Rattle.client_state.specs.Receiving.{EndsReceive, IsNotGone, LosesThere, ReceivesNone, StopsThere, TakesCopies}
 use Rattle.client_state.specs.Taking.{BringsPage, links_behind, took}
 use Rattle.client_state.specs.declared.held.Held.{Held}
@@ -31,6 +33,11 @@ use Rattle.validation_window.specs.declared.refusal.Refusal.{Refusal}
 pub whenever : {T E P : Type 0} (r : Result T E) → P → OnOk r P
 whenever (Ok x) p = p
 whenever (Err e) p = tt
+
+-- two that hold of an answer
+pub both_ok : {T E P Q R : Type 0} (r : Result T E) → (P → Q → R) → OnOk r P → OnOk r Q → OnOk r R
+both_ok (Ok x) f p q = f p q
+both_ok (Err e) f p q = tt
 
 -- ---- a message and the copies
 
@@ -118,10 +125,15 @@ module _ (old new : View) (at : At) (before mid after : Held) (rest : mid ≡ re
   taken : (m : Message) → Does {X = Option Message} old new at.repo (Ok (Some m)) (ReceiveWork at.session (Ok (Some m))) → mid.links.items ≡ at_repo before.links.items at.repo (took m) → TakesCopies at.repo m mid after → Moves old new before after
   taken m d links t = Received at m d joined (record { left = t.left; links = t.links ∙ links; brought = subst (λ (c : Contents). CopiesTaken at.repo m c t.left) same_copies t.brought; fewer = t.fewer }) (t.client ∙ same_client)
 
+  -- what is undecided stays so as by what comes behind the call
+  behind_taken : (p z : Pending) (o : Option Message) → mid.links.items ≡ links_behind (Ok o) at.repo before.links.items → StaysPending p z mid after → StaysPending p z before after
+  behind_taken p z o links (inl e) = inl e
+  behind_taken p z o links (inr f) = inr (f.0, λ k w. f.1 k (taken_written at.repo o before mid links same_copies k w))
+
   -- a message was taken
   pub by_message : (shows : Bool) (o : Option Message) (m : Message) → o ≡ Some m → (shows ≡ true → Does {X = Option Message} old new at.repo (Ok o) (ReceiveWork at.session (Ok o)))
-      → mid.links.items ≡ links_behind (Ok o) at.repo before.links.items → TakesCopies at.repo m mid after → MovesIf shows old new before after
-  by_message shows o m is call links t = λ s. taken m (subst (λ (x : Option Message). Does {X = Option Message} old new at.repo (Ok x) (ReceiveWork at.session (Ok x))) is (call s)) (subst (λ (x : Option Message). mid.links.items ≡ links_behind (Ok x) at.repo before.links.items) is links) t
+      → mid.links.items ≡ links_behind (Ok o) at.repo before.links.items → TakesCopies at.repo m mid after → (p z : Pending) → StaysPending p z mid after → MovesSoIf shows old new before after p z
+  by_message shows o m is call links t p z stays = λ s. record { moves = taken m (subst (λ (x : Option Message). Does {X = Option Message} old new at.repo (Ok x) (ReceiveWork at.session (Ok x))) is (call s)) (subst (λ (x : Option Message). mid.links.items ≡ links_behind (Ok x) at.repo before.links.items) is links) t; pends = behind_taken p z o links stays }
 
   loses_there : (k : Refusal) → mid.links.items ≡ before.links.items → Loses k at.repo mid after → Loses k at.repo before after
   loses_there k links l = record {
@@ -138,10 +150,15 @@ module _ (old new : View) (at : At) (before mid after : Held) (rest : mid ≡ re
     others = λ n other. s.others n other ∙ ap (λ (ls : List Link). option_map stopped (slice_get ls n)) links;
   }) (client ∙ same_client) (subst (λ (c : Contents). AreAmong (kept c) (kept after.cache.cache)) same_copies f)
 
+  refused_pends : (k : Refusal) → Does {X = Option Message} old new at.repo (Err k) (ReceiveWork at.session (Err k)) → mid.links.items ≡ before.links.items → EndsReceive k at.repo mid after
+      → (p z : Pending) → StaysPending p z before after → MovesSo old new before after p z
+  refused_pends k d links (LosesThere l client) p z stays = record { moves = refused_so k d links (LosesThere l client); pends = stays }
+  refused_pends k d links (StopsThere g s client f) p z stays = record { moves = refused_so k d links (StopsThere g s client f); pends = stays }
+
   -- it was refused
   pub by_refusal : (shows : Bool) (k : Refusal) → (shows ≡ true → Does {X = Option Message} old new at.repo (Err k) (ReceiveWork at.session (Err k))) → mid.links.items ≡ before.links.items
-      → EndsReceive k at.repo mid after → MovesIf shows old new before after
-  by_refusal shows k call links e = λ s. refused_so k (call s) links e
+      → EndsReceive k at.repo mid after → (p z : Pending) → StaysPending p z mid after → MovesSoIf shows old new before after p z
+  by_refusal shows k call links e p z stays = λ s. refused_pends k (call s) links e p z (behind_taken p z None links stays)
 
 -- none waits
 pub no_message : (shows : Bool) (old new : View) (at : At) (before mid : Held) → mid ≡ record before { links = mid.links } → (o : Option Message) → o ≡ None
@@ -154,9 +171,9 @@ no_message shows old new at before mid rest o is call links = record {
 }
 
 module _ (shows : Bool) (old new : View) (at : At) (before mid : Held) (k : ReceivesNone shows old new at before mid) (joined : InSession at before) where
-  pub by_none : MovesIf shows old new before mid
-  by_none = λ s. ReceivedNone at (k.call s) joined (inl k.links) k.client (λ x. inl (ap (λ (c : Contents). kept c x) k.copies))
+  pub by_none : (p z : Pending) → z ≡ p → MovesSoIf shows old new before mid p z
+  by_none p z e = λ s. record { moves = ReceivedNone at (k.call s) joined (inl k.links) k.client (λ x. inl (ap (λ (c : Contents). kept c x) k.copies)); pends = inr (e, still_written before mid k.links (λ x. ap (λ (c : Contents). changed c x) k.copies)) }
 
   -- and the client waits no more
-  pub by_none_idle : (after : Held) → after ≡ record mid { links = after.links } → after.links.items ≡ at_repo mid.links.items at.repo (waiting Idle) → MovesIf shows old new before after
-  by_none_idle after rest links = λ s. ReceivedNone at (k.call s) joined (inr (links ∙ ap (λ (ls : List Link). at_repo ls at.repo (waiting Idle)) k.links)) (ap (λ (h : Held). h.client) rest ∙ k.client) (λ x. inl (ap (λ (c : Contents). kept c x) (ap (λ (h : Held). h.cache.cache) rest ∙ k.copies)))
+  pub by_none_idle : (after : Held) → after ≡ record mid { links = after.links } → after.links.items ≡ at_repo mid.links.items at.repo (waiting Idle) → (p z : Pending) → z ≡ p → MovesSoIf shows old new before after p z
+  by_none_idle after rest links p z e = λ s. record { moves = ReceivedNone at (k.call s) joined (inr (links ∙ ap (λ (ls : List Link). at_repo ls at.repo (waiting Idle)) k.links)) (ap (λ (h : Held). h.client) rest ∙ k.client) (λ x. inl (ap (λ (c : Contents). kept c x) (ap (λ (h : Held). h.cache.cache) rest ∙ k.copies))); pends = inr (e, waits_written at.repo Idle before after (links ∙ ap (λ (ls : List Link). at_repo ls at.repo (waiting Idle)) k.links) (ap (λ (h : Held). h.cache.cache) rest ∙ k.copies)) }

@@ -1,9 +1,12 @@
 -- A call is the same for a client of which the names that it may give are others.
 use Rattle.client_state.specs.Moving.{Aborted, Asked, AskedInVain, AskedOwn, CommitRefused, Committed, Connected, DecideRefused, Decided, Drawn, EndsSo, Fetched, Finished, Forgot, Granted, Learns, Loses, Moves, PrepareRefused, Prepared, ReceiveRefused, ReceiveStopped, Received, ReceivedNone, Rested, SendsNothing, Settled, StopsWaiting, Takes, Transformed, Unsent}
+use Rattle.client_state.specs.Pending.{MovesSo, Pending, PendsSo, RefusesToDecide, SendsPending}
 use Rattle.client_state.specs.declared.held.Held.{Held}
+use Rattle.message_outbox.specs.declared.answers.At.{At}
 use Rattle.message_outbox.specs.declared.message.Message.{Message}
 use Rattle.port.specs.Views.{View}
 use Rattle.std.proofs.Common.{Bool, false, true, ℕ}
+use Rattle.thor_value.specs.declared.names.Ts.{Ts}
 use Rattle.validation_window.specs.declared.refusal.Refusal.{Refusal}
 
 module _ (old new : View) (a b after : Held) where
@@ -32,7 +35,7 @@ module _ (old new : View) (a b after : Held) where
   ends true e = e
   ends false e = e
 
-  pub other_names : Moves old new (record a { names = b.names }) after → Moves old new a after
+  other_names : Moves old new (record a { names = b.names }) after → Moves old new a after
   other_names (Unsent m) = Unsent (unsent m)
   other_names (Received at m d joined t client) = Received at m d joined (takes at.repo m t) client
   other_names (ReceivedNone at d joined links client f) = ReceivedNone at d joined links client f
@@ -50,3 +53,39 @@ module _ (old new : View) (a b after : Held) where
   other_names (Forgot r t result d less) = Forgot r t result d less
   other_names (AskedOwn r t v d e) = AskedOwn r t v d (ends v.commit e)
   other_names (AskedInVain r t result d leaves client f) = AskedInVain r t result d leaves client f
+
+  -- what is undecided is so, too
+  unsent_pends : (m : SendsNothing old new (record a { names = b.names }) after) (p z : Pending) → SendsPending old new (record a { names = b.names }) after m p z → SendsPending old new a after (unsent m) p z
+  unsent_pends (Rested same less) p z h = h
+  unsent_pends (Connected repo k apart client f) p z h = h
+  unsent_pends (Fetched at page left k idle client f) p z h = h
+  unsent_pends (Granted at left k idle client f) p z h = h
+  unsent_pends (Drawn at answer left k joined client f) p z h = h
+  unsent_pends (Asked r t result d less) p z h = h
+  unsent_pends (Settled r t v sent index d there links client f) p z h = h
+
+  refuses : (commit : Bool) (at : At) (t : Ts) (p z : Pending) → RefusesToDecide commit at t p z (record a { names = b.names }) after → RefusesToDecide commit at t p z a after
+  refuses true at t p z h = h
+  refuses false at t p z h = h
+
+  pends : (m : Moves old new (record a { names = b.names }) after) (p z : Pending) → PendsSo old new (record a { names = b.names }) after m p z → PendsSo old new a after (other_names m) p z
+  pends (Unsent m) p z h = unsent_pends m p z h
+  pends (Received at m d joined t client) p z h = h
+  pends (ReceivedNone at d joined links client f) p z h = h
+  pends (ReceiveRefused at k d joined l client) p z h = h
+  pends (ReceiveStopped at k d joined out s client f) p z h = h
+  pends (Prepared s place d of less) p z h = h
+  pends (PrepareRefused s k d of idle l client) p z h = h
+  pends (Committed s place d of joined wrote held idle keeps) p z h = h
+  pends (Transformed s place oref made d of joined writes here held idle keeps) p z h = h
+  pends (CommitRefused s k d of idle l client) p z h = h
+  pends (Decided at t v d idle e) p z h = h
+  pends (Aborted at t v d less) p z h = h
+  pends (DecideRefused at t commit k d l client) p z h = refuses commit at t p z h
+  pends (Finished r t commit result d less) p z h = h
+  pends (Forgot r t result d less) p z h = h
+  pends (AskedOwn r t v d e) p z h = h
+  pends (AskedInVain r t result d leaves client f) p z h = h
+
+  pub other_names_so : (p z : Pending) → MovesSo old new (record a { names = b.names }) after p z → MovesSo old new a after p z
+  other_names_so p z m = record { moves = other_names m.moves; pends = pends m.moves p z m.pends }

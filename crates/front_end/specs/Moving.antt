@@ -1,6 +1,7 @@
 -- What is left for a client to do, which falls at each step by which it moves on (this project's).
 use Rattle.client_state.specs.Links.{at_repo}
 use Rattle.client_state.specs.Owing.{calls_in, owed}
+use Rattle.client_state.specs.Pending.{Pending, pending_in}
 use Rattle.client_state.specs.declared.held.Held.{Held}
 use Rattle.client_state.specs.declared.link.Link.TheVariants.{Apart, Unsettled}
 use Rattle.client_state.specs.declared.transaction.Sent.{Sent}
@@ -21,6 +22,10 @@ course_of f = f.progress
 -- what it holds of its repositories
 abbrev pub held_of : FrontEnd → Held
 held_of f = f.client.held
+
+-- what of its try's transaction is undecided, as far as it knows
+abbrev pub pending_of : FrontEnd → Pending
+pending_of f = pending_in f.client.phase
 
 abbrev pub standing_of : FrontEnd → Standing
 standing_of f = record { course = f.progress; attempts = f.attempts }

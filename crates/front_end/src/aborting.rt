@@ -1,9 +1,10 @@
 //! Before the rules: a transaction that its coordinator has prepared and whose try has ended is aborted
 //! there.
 
+ghost use Rattle.client_state.specs.Pending.{MovesSoIf, StaysPending, pending_in};
 ghost use Rattle.front_end.specs.Writing.{ClientWrites};
 ghost use Rattle.client_state.specs.Learning.{Rises};
-ghost use Rattle.client_state.specs.Moving.{Loses, MovesIf};
+ghost use Rattle.client_state.specs.Moving.{Loses};
 ghost use Rattle.client_state.specs.Owing.{count_of};
 ghost use Rattle.port.specs.Acting.{ActsIf};
 ghost use Rattle.front_end.specs.Moving.{uncounted};
@@ -21,7 +22,7 @@ impl Client {
     pub fn abort<Q: Port>(&mut self, port: &mut Q, abort: Abort) -> Result<(), NoMemory>
         ensures owed { OnOk result ((tries : ℕ) → uncounted tries self.new ≤ uncounted tries self.old + (count_of abort.prepared + 1)) }
         ensures acts { ActsIf Q.shows (Q.view port.old) (Q.view port.new) }
-        ensures moves { MovesIf Q.shows (Q.view port.old) (Q.view port.new) self.old.held self.new.held }
+        ensures moves { MovesSoIf Q.shows (Q.view port.old) (Q.view port.new) self.old.held self.new.held (pending_in self.old.phase) (pending_in self.new.phase) }
         ensures writes { ClientWrites self.old → ClientWrites self.new }
         ensures rises { Rises self.old.held self.new.held }
     {
@@ -40,6 +41,7 @@ impl Client {
     fn leave_prepared(&mut self, repo: u8, refusal: Refusal) -> Result<(), NoMemory>
         ensures loses { Loses refusal repo self.old.held self.new.held }
         ensures client { self.new.held.client ≡ self.old.held.client }
+        ensures stays { StaysPending (pending_in self.old.phase) (pending_in self.new.phase) self.old.held self.new.held }
         ensures left { (tries : ℕ) → uncounted tries self.new ≤ uncounted tries self.old }
         ensures writes { ClientWrites self.old → ClientWrites self.new }
         ensures rises { Rises self.old.held self.new.held }

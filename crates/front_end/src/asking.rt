@@ -1,9 +1,10 @@
 //! The fourth rule: the client asks for its own transaction, which was sent to be decided.
 
+ghost use Rattle.client_state.specs.Pending.{IsAsking, MovesSoIf, NonePending, StaysPending, pending_in};
 ghost use Rattle.client_state.specs.Writing.{unsent};
 ghost use Rattle.front_end.specs.Writing.{ClientWrites};
 ghost use Rattle.client_state.specs.Learning.{Rises};
-ghost use Rattle.client_state.specs.Moving.{EndsSo, LeavesLess, MovesIf};
+ghost use Rattle.client_state.specs.Moving.{EndsSo, LeavesLess};
 ghost use Rattle.client_state.specs.Owing.{asking_in, calls_in, count_of};
 ghost use Rattle.client_state.specs.declared.phase.Phase.TheVariants as phase;
 ghost use Rattle.client_state.specs.Showing.{IsToldBy};
@@ -33,7 +34,7 @@ impl Client {
         ensures owed { IsSome (asking_in self.old.phase) → OnOk result (uncounted task.entry.tries self.new < uncounted task.entry.tries self.old) }
         ensures acts { ActsIf Q.shows (Q.view port.old) (Q.view port.new) }
         ensures shown { ShownIf Q.shows (Q.view port.old) (Q.view port.new) opened.now.repos result }
-        ensures moves { OnOk result (MovesIf Q.shows (Q.view port.old) (Q.view port.new) self.old.held self.new.held) }
+        ensures moves { OnOk result (MovesSoIf Q.shows (Q.view port.old) (Q.view port.new) self.old.held self.new.held (pending_in self.old.phase) (pending_in self.new.phase)) }
         ensures writes { ClientWrites self.new }
         ensures rises { Rises self.old.held self.new.held }
     {
@@ -54,7 +55,7 @@ impl Client {
         ensures owed { OnOk result (uncounted task.entry.tries self.new < uncounted task.entry.tries self.old + calls_in task.entry.tries (phase.Asking sent answers)) }
         ensures acts { ActsIf Q.shows (Q.view port.old) (Q.view port.new) }
         ensures shown { ShownIf Q.shows (Q.view port.old) (Q.view port.new) opened.now.repos result }
-        ensures moves { OnOk result (MovesIf Q.shows (Q.view port.old) (Q.view port.new) self.old.held self.new.held) }
+        ensures moves { pending_in self.old.phase ≡ NonePending → OnOk result (MovesSoIf Q.shows (Q.view port.old) (Q.view port.new) self.old.held self.new.held (IsAsking sent.at sent.ts) (pending_in self.new.phase)) }
         ensures writes { unsent self.old.phase ≡ None → ClientWrites self.new }
         ensures rises { Rises self.old.held self.new.held }
     {
@@ -79,6 +80,7 @@ impl Client {
         ensures owed { OnOk result ((tries : ℕ) → uncounted tries self.new ≤ uncounted tries self.old + (count_of sent.participants + 1)) }
         ensures shown { IfOk result (λ news. (old new : View) (repos : ℕ) → IsToldBy old new coordinator sent.ts verdict.commit → NewsShown old new repos news) }
         ensures ends { OnOk result (EndsSo verdict.commit self.old.held self.new.held) }
+        ensures free { pending_in self.old.phase ≡ NonePending → OnOk result (pending_in self.new.phase ≡ NonePending) }
         ensures writes { unsent self.old.phase ≡ None → ClientWrites self.new }
         ensures rises { Rises self.old.held self.new.held }
     {
@@ -94,6 +96,7 @@ impl Client {
         ensures owed { (before : ℕ) → (answers < task.entry.tries → before < answers) → uncounted task.entry.tries self.new < uncounted task.entry.tries self.old + calls_in task.entry.tries (phase.Asking sent before) }
         ensures shown { (old new : View) (repos : ℕ) → NewsShown old new repos result }
         ensures leaves { LeavesLess self.old.held self.new.held }
+        ensures stays { pending_in self.old.phase ≡ NonePending → StaysPending (IsAsking sent.at sent.ts) (pending_in self.new.phase) self.old.held self.new.held }
         ensures writes { unsent self.old.phase ≡ None → ClientWrites self.new }
         ensures rises { Rises self.old.held self.new.held }
     {

@@ -1,5 +1,6 @@
 //! How the transaction of an item is evaluated.
 
+ghost use Rattle.client_state.specs.Pending.{NonePending, pending_in};
 ghost use Rattle.client_state.specs.Writing.{unsent};
 ghost use Rattle.front_end.specs.Writing.{ClientWrites};
 ghost use Rattle.paused_eval.specs.Writing.{HasWritten};
@@ -31,6 +32,7 @@ impl Client {
         ensures acts { ActsIf Q.shows (Q.view port.old) (Q.view port.new) }
         ensures shown { ShownIf Q.shows (Q.view port.old) (Q.view port.new) opened.now.repos result }
         ensures moves { NoneAwaits 8 self.old.held.links.items → OnOk result (SendsNothingIf Q.shows (Q.view port.old) (Q.view port.new) self.old.held self.new.held) }
+        ensures free { pending_in self.new.phase ≡ NonePending }
         ensures writes { ClientWrites self.new }
         ensures rises { Rises self.old.held self.new.held }
     {
@@ -50,6 +52,7 @@ impl Client {
         ensures acts { ActsIf Q.shows (Q.view port.old) (Q.view port.new) }
         ensures shown { ShownIf Q.shows (Q.view port.old) (Q.view port.new) opened.now.repos result }
         ensures moves { NoneAwaits 8 self.old.held.links.items → OnOk result (SendsNothingIf Q.shows (Q.view port.old) (Q.view port.new) self.old.held self.new.held) }
+        ensures free { pending_in self.old.phase ≡ NonePending → pending_in self.new.phase ≡ NonePending }
         ensures writes { unsent self.old.phase ≡ None → HasWritten ran self.old.held.cache.cache → ClientWrites self.new }
         ensures rises { Rises self.old.held self.new.held }
     {
@@ -79,6 +82,7 @@ impl Client {
         ensures acts { ActsIf Q.shows (Q.view port.old) (Q.view port.new) }
         ensures shown { ShownIf Q.shows (Q.view port.old) (Q.view port.new) opened.now.repos result }
         ensures moves { NoneAwaits 8 self.old.held.links.items → OnOk result (SendsNothingIf Q.shows (Q.view port.old) (Q.view port.new) self.old.held self.new.held) }
+        ensures free { pending_in self.old.phase ≡ NonePending → pending_in self.new.phase ≡ NonePending }
         ensures writes { unsent self.old.phase ≡ None → ClientWrites self.new }
         ensures rises { Rises self.old.held self.new.held }
     {
@@ -98,6 +102,7 @@ impl Client {
         ensures acts { ActsIf Q.shows (Q.view port.old) (Q.view port.new) }
         ensures shown { ShownIf Q.shows (Q.view port.old) (Q.view port.new) opened.now.repos result }
         ensures moves { NoneAwaits 8 self.old.held.links.items → OnOk result (SendsNothingIf Q.shows (Q.view port.old) (Q.view port.new) self.old.held self.new.held) }
+        ensures free { pending_in self.old.phase ≡ NonePending → pending_in self.new.phase ≡ NonePending }
         ensures writes { unsent self.old.phase ≡ None → ClientWrites self.new }
         ensures rises { Rises self.old.held self.new.held }
     {
@@ -119,6 +124,7 @@ impl Client {
         ensures acts { ActsIf Q.shows (Q.view port.old) (Q.view port.new) }
         ensures shown { ShownIf Q.shows (Q.view port.old) (Q.view port.new) opened.now.repos result }
         ensures moves { NoneAwaits 8 self.old.held.links.items → OnOk result (SendsNothingIf Q.shows (Q.view port.old) (Q.view port.new) self.old.held self.new.held) }
+        ensures free { pending_in self.old.phase ≡ NonePending → pending_in self.new.phase ≡ NonePending }
         ensures writes { unsent self.old.phase ≡ None → ClientWrites self.new }
         ensures rises { Rises self.old.held self.new.held }
     {

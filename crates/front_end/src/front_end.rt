@@ -48,7 +48,8 @@ impl FrontEnd {
     ghost use Rattle.client_state.specs.Learning.{Rises};
     ghost use Rattle.client_state.specs.Moving.{InSession, MovesIf};
     ghost use Rattle.client_state.specs.Owing.{asking_in};
-    ghost use Rattle.front_end.specs.Moving.{GoesOn, Keeps, MovesOn, course_of, held_of, left_of, standing_of, steps_left, tries_of, uncounted};
+    ghost use Rattle.client_state.specs.Pending.{MovesSoIf};
+    ghost use Rattle.front_end.specs.Moving.{GoesOn, Keeps, MovesOn, course_of, held_of, left_of, pending_of, standing_of, steps_left, tries_of, uncounted};
     ghost use Rattle.front_end.specs.Rules.{MayFollow};
     ghost use Rattle.front_end.specs.Showing.{GoesShown, ItemsShown};
     ghost use Rattle.front_end.specs.declared.front_end.Step.TheVariants as step;
@@ -93,6 +94,7 @@ impl FrontEnd {
         ensures acts { ActsIf Q.shows (Q.view port.old) (Q.view port.new) }
         ensures shown { ItemsShown Q.shows (Q.view port.old) (Q.view port.new) opened.now.repos self.old self.new }
         ensures moves { OnOk result (MovesIf Q.shows (Q.view port.old) (Q.view port.new) (held_of self.old) (held_of self.new)) }
+        ensures pends { OnOk result (MovesSoIf Q.shows (Q.view port.old) (Q.view port.new) (held_of self.old) (held_of self.new) (pending_of self.old) (pending_of self.new)) }
         ensures rises { Rises (held_of self.old) (held_of self.new) }
     {
         if self.has_ended() {
@@ -118,7 +120,7 @@ impl FrontEnd {
         ensures falls { MovesOn self.old → OnOk result (Falls (left_of self.old) (left_of self.new)) }
         ensures acts { ActsIf Q.shows (Q.view port.old) (Q.view port.new) }
         ensures shown { ItemsShown Q.shows (Q.view port.old) (Q.view port.new) opened.now.repos self.old self.new }
-        ensures moves { OnOk result (MovesIf Q.shows (Q.view port.old) (Q.view port.new) (held_of self.old) (held_of self.new)) }
+        ensures moves { OnOk result (MovesSoIf Q.shows (Q.view port.old) (Q.view port.new) (held_of self.old) (held_of self.new) (pending_of self.old) (pending_of self.new)) }
         ensures rises { Rises (held_of self.old) (held_of self.new) }
     {
         match self.client.duties.abort.take() {
@@ -135,7 +137,7 @@ impl FrontEnd {
         ensures falls { GoesOn self.old → OnOk result (Falls (left_of self.old) (left_of self.new)) }
         ensures acts { ActsIf Q.shows (Q.view port.old) (Q.view port.new) }
         ensures shown { ItemsShown Q.shows (Q.view port.old) (Q.view port.new) opened.now.repos self.old self.new }
-        ensures moves { OnOk result (MovesIf Q.shows (Q.view port.old) (Q.view port.new) (held_of self.old) (held_of self.new)) }
+        ensures moves { OnOk result (MovesSoIf Q.shows (Q.view port.old) (Q.view port.new) (held_of self.old) (held_of self.new) (pending_of self.old) (pending_of self.new)) }
         ensures rises { Rises (held_of self.old) (held_of self.new) }
     {
         match self.client.next_rule(opened) {
@@ -158,7 +160,7 @@ impl FrontEnd {
         ensures falls { GoesOn self.old → OnOk result (Falls (left_of self.old) (left_of self.new)) }
         ensures acts { ActsIf Q.shows (Q.view port.old) (Q.view port.new) }
         ensures shown { ItemsShown Q.shows (Q.view port.old) (Q.view port.new) opened.now.repos self.old self.new }
-        ensures moves { MayFollow rule (held_of self.old) → OnOk result (MovesIf Q.shows (Q.view port.old) (Q.view port.new) (held_of self.old) (held_of self.new)) }
+        ensures moves { MayFollow rule (held_of self.old) → OnOk result (MovesSoIf Q.shows (Q.view port.old) (Q.view port.new) (held_of self.old) (held_of self.new) (pending_of self.old) (pending_of self.new)) }
         ensures rises { Rises (held_of self.old) (held_of self.new) }
     {
         if !self.count_call() {
@@ -176,6 +178,7 @@ impl FrontEnd {
         ensures none { IsTrue (not result) → self.new ≡ self.old }
         ensures used_up { IsTrue (not result) → most_calls ≤ self.old.attempts.calls }
         ensures held { held_of self.new ≡ held_of self.old }
+        ensures pending { pending_of self.new ≡ pending_of self.old }
     {
         self.attempts.count_call()
     }
@@ -192,7 +195,7 @@ impl FrontEnd {
         ensures left { OnOk result (NeverRises (standing_of self.old) (standing_of self.new)) }
         ensures acts { ActsIf Q.shows (Q.view port.old) (Q.view port.new) }
         ensures shown { (calls : ℕ) → GoesShown Q.shows (Q.view port.old) (Q.view port.new) opened.now.repos (tries_of self.old) calls (course_of self.old) (course_of self.new) }
-        ensures moves { MayFollow rule (held_of self.old) → OnOk result (MovesIf Q.shows (Q.view port.old) (Q.view port.new) (held_of self.old) (held_of self.new)) }
+        ensures moves { MayFollow rule (held_of self.old) → OnOk result (MovesSoIf Q.shows (Q.view port.old) (Q.view port.new) (held_of self.old) (held_of self.new) (pending_of self.old) (pending_of self.new)) }
         ensures rises { Rises (held_of self.old) (held_of self.new) }
     {
         let task = self.progress.task(opened, self.attempts.each);
@@ -208,7 +211,7 @@ impl FrontEnd {
         ensures falls { IsSome (asking_in self.old.client.phase) → OnOk result (Falls (left_of self.old) (left_of self.new)) }
         ensures acts { ActsIf Q.shows (Q.view port.old) (Q.view port.new) }
         ensures shown { ItemsShown Q.shows (Q.view port.old) (Q.view port.new) opened.now.repos self.old self.new }
-        ensures moves { OnOk result (MovesIf Q.shows (Q.view port.old) (Q.view port.new) (held_of self.old) (held_of self.new)) }
+        ensures moves { OnOk result (MovesSoIf Q.shows (Q.view port.old) (Q.view port.new) (held_of self.old) (held_of self.new) (pending_of self.old) (pending_of self.new)) }
         ensures rises { Rises (held_of self.old) (held_of self.new) }
     {
         let task = self.progress.task(opened, self.attempts.each);
@@ -225,7 +228,7 @@ impl FrontEnd {
         ensures falls { GoesOn self.old → OnOk result (Falls (left_of self.old) (left_of self.new)) }
         ensures acts { ActsIf Q.shows (Q.view port.old) (Q.view port.new) }
         ensures shown { (repos : ℕ) → most_calls ≤ self.old.attempts.calls → ItemsShown Q.shows (Q.view port.old) (Q.view port.new) repos self.old self.new }
-        ensures moves { OnOk result (MovesIf Q.shows (Q.view port.old) (Q.view port.new) (held_of self.old) (held_of self.new)) }
+        ensures moves { OnOk result (MovesSoIf Q.shows (Q.view port.old) (Q.view port.new) (held_of self.old) (held_of self.new) (pending_of self.old) (pending_of self.new)) }
         ensures rises { Rises (held_of self.old) (held_of self.new) }
     {
         if self.progress.has_ended() {
@@ -263,6 +266,7 @@ impl FrontEnd {
         ensures acts { ActsIf Q.shows (Q.view port.old) (Q.view port.new) }
         ensures shown { ItemsShown Q.shows (Q.view port.old) (Q.view port.new) opened.now.repos self.old self.new }
         ensures moves { OnOk result (MovesIf Q.shows (Q.view port.old) (Q.view port.new) (held_of self.old) (held_of self.new)) }
+        ensures pends { OnOk result (MovesSoIf Q.shows (Q.view port.old) (Q.view port.new) (held_of self.old) (held_of self.new) (pending_of self.old) (pending_of self.new)) }
         ensures rises { Rises (held_of self.old) (held_of self.new) }
     {
         match self.client.held.at(repo) {
@@ -278,7 +282,7 @@ impl FrontEnd {
         ensures keeps { OnOk result (Keeps (left_of self.old) (left_of self.new)) }
         ensures acts { ActsIf Q.shows (Q.view port.old) (Q.view port.new) }
         ensures shown { ItemsShown Q.shows (Q.view port.old) (Q.view port.new) opened.now.repos self.old self.new }
-        ensures moves { InSession at (held_of self.old) → OnOk result (MovesIf Q.shows (Q.view port.old) (Q.view port.new) (held_of self.old) (held_of self.new)) }
+        ensures moves { InSession at (held_of self.old) → OnOk result (MovesSoIf Q.shows (Q.view port.old) (Q.view port.new) (held_of self.old) (held_of self.new) (pending_of self.old) (pending_of self.new)) }
         ensures rises { Rises (held_of self.old) (held_of self.new) }
     {
         let news = self.client.receive_delivered(port, opened, at)?;

@@ -1,10 +1,11 @@
 //! The sixth rule: the try goes on.
 
+ghost use Rattle.client_state.specs.Pending.{MovesSoIf, NonePending, pending_in};
 ghost use Rattle.client_state.specs.Writing.{unsent};
 ghost use Rattle.front_end.specs.Writing.{ClientWrites};
 ghost use Rattle.client_state.specs.Learning.{Rises};
 ghost use Rattle.client_state.specs.Links.{NoneAwaits};
-ghost use Rattle.client_state.specs.Moving.{MovesIf, SendsNothingIf};
+ghost use Rattle.client_state.specs.Moving.{SendsNothingIf};
 ghost use Rattle.front_end.specs.Showing.{ShownIf};
 ghost use Rattle.port.specs.Acting.{ActsIf};
 ghost use Rattle.std.specs.Prelude.{OnOk, None, ◌≡◌};
@@ -27,7 +28,7 @@ impl Client {
     ) -> Result<News, NoMemory>
         ensures acts { ActsIf Q.shows (Q.view port.old) (Q.view port.new) }
         ensures shown { ShownIf Q.shows (Q.view port.old) (Q.view port.new) opened.now.repos result }
-        ensures moves { ClientWrites self.old → NoneAwaits 8 self.old.held.links.items → OnOk result (MovesIf Q.shows (Q.view port.old) (Q.view port.new) self.old.held self.new.held) }
+        ensures moves { ClientWrites self.old → NoneAwaits 8 self.old.held.links.items → OnOk result (MovesSoIf Q.shows (Q.view port.old) (Q.view port.new) self.old.held self.new.held (pending_in self.old.phase) (pending_in self.new.phase)) }
         ensures writes { ClientWrites self.old → ClientWrites self.new }
         ensures rises { Rises self.old.held self.new.held }
     {
@@ -70,6 +71,7 @@ impl Client {
         ensures acts { ActsIf Q.shows (Q.view port.old) (Q.view port.new) }
         ensures shown { ShownIf Q.shows (Q.view port.old) (Q.view port.new) opened.now.repos result }
         ensures moves { NoneAwaits 8 self.old.held.links.items → OnOk result (SendsNothingIf Q.shows (Q.view port.old) (Q.view port.new) self.old.held self.new.held) }
+        ensures free { pending_in self.old.phase ≡ NonePending → pending_in self.new.phase ≡ NonePending }
         ensures writes { unsent self.old.phase ≡ None → ClientWrites self.new }
         ensures rises { Rises self.old.held self.new.held }
     {

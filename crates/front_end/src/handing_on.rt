@@ -1,8 +1,9 @@
 //! The fifth rule: verdicts are handed on.
 
+ghost use Rattle.client_state.specs.Pending.{MovesSoIf, Pending, pending_in};
 ghost use Rattle.front_end.specs.Writing.{ClientWrites};
 ghost use Rattle.client_state.specs.Learning.{Rises};
-ghost use Rattle.client_state.specs.Moving.{MovesIf};
+
 ghost use Rattle.client_state.specs.Owing.{calls_of, count_of};
 ghost use Rattle.client_state.specs.declared.held.Held.{Held};
 ghost use Rattle.port.specs.Acting.{ActsIf};
@@ -21,7 +22,7 @@ impl Client {
     pub fn hand_on<Q: Port>(&mut self, port: &mut Q) -> Result<(), NoMemory>
         ensures owed { 0 < length self.old.duties.verdicts → OnOk result ((tries : ℕ) → uncounted tries self.new < uncounted tries self.old) }
         ensures acts { ActsIf Q.shows (Q.view port.old) (Q.view port.new) }
-        ensures moves { MovesIf Q.shows (Q.view port.old) (Q.view port.new) self.old.held self.new.held }
+        ensures moves { MovesSoIf Q.shows (Q.view port.old) (Q.view port.new) self.old.held self.new.held (pending_in self.old.phase) (pending_in self.new.phase) }
         ensures writes { ClientWrites self.old → ClientWrites self.new }
         ensures rises { Rises self.old.held self.new.held }
     {
@@ -35,7 +36,7 @@ impl Client {
     fn do_next<Q: Port>(&mut self, port: &mut Q, duty: Duty) -> Result<(), NoMemory>
         ensures owed { OnOk result ((tries : ℕ) → uncounted tries self.new < uncounted tries self.old + calls_of duty) }
         ensures acts { ActsIf Q.shows (Q.view port.old) (Q.view port.new) }
-        ensures moves { MovesIf Q.shows (Q.view port.old) (Q.view port.new) self.old.held self.new.held }
+        ensures moves { MovesSoIf Q.shows (Q.view port.old) (Q.view port.new) self.old.held self.new.held (pending_in self.old.phase) (pending_in self.new.phase) }
         ensures writes { ClientWrites self.old → ClientWrites self.new }
         ensures rises { Rises self.old.held self.new.held }
     {
@@ -59,7 +60,7 @@ impl Client {
     ) -> Result<(), NoMemory>
         ensures owed { OnOk result ((tries : ℕ) → uncounted tries self.new < uncounted tries self.old + (count_of to + 1)) }
         ensures acts { ActsIf Q.shows (Q.view port.old) (Q.view port.new) }
-        ensures moves { MovesIf Q.shows (Q.view port.old) (Q.view port.new) self.old.held self.new.held }
+        ensures moves { MovesSoIf Q.shows (Q.view port.old) (Q.view port.new) self.old.held self.new.held (pending_in self.old.phase) (pending_in self.new.phase) }
         ensures writes { ClientWrites self.old → ClientWrites self.new }
         ensures rises { Rises self.old.held self.new.held }
     {
@@ -87,7 +88,7 @@ fn take_next(to: &mut Repos) -> Option<u8>
 /// Tells a participant the verdict. It answers whether it has taken it.
 fn tell<Q: Port>(port: &mut Q, repo: u8, verdict: &Verdict) -> Result<bool, NoMemory>
     ensures acts { ActsIf Q.shows (Q.view port.old) (Q.view port.new) }
-    ensures moves { (held : Held) → MovesIf Q.shows (Q.view port.old) (Q.view port.new) held held }
+    ensures moves { (held : Held) (a : Pending) → MovesSoIf Q.shows (Q.view port.old) (Q.view port.new) held held a a }
 {
     match port.finish(repo, verdict) {
         Ok(_) => Ok(true),
@@ -99,7 +100,7 @@ fn tell<Q: Port>(port: &mut Q, repo: u8, verdict: &Verdict) -> Result<bool, NoMe
 /// Has the coordinator forget a decision. A refusal leaves it there.
 fn forget<Q: Port>(port: &mut Q, ts: Ts) -> Result<(), NoMemory>
     ensures acts { ActsIf Q.shows (Q.view port.old) (Q.view port.new) }
-    ensures moves { (held : Held) → MovesIf Q.shows (Q.view port.old) (Q.view port.new) held held }
+    ensures moves { (held : Held) (a : Pending) → MovesSoIf Q.shows (Q.view port.old) (Q.view port.new) held held a a }
 {
     match port.forget(ts.repo, ts) {
         Ok(()) => Ok(()),

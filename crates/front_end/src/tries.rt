@@ -1,5 +1,6 @@
 //! How a try goes on behind a call, begins anew, and ends.
 
+ghost use Rattle.client_state.specs.Pending.{NonePending, StaysPending, pending_in};
 ghost use Rattle.client_state.specs.Writing.{CameStays, PhaseWrites};
 ghost use Rattle.client_cache.specs.Copies.{Contents};
 ghost use Rattle.front_end.specs.Writing.{ClientWrites};
@@ -53,6 +54,7 @@ impl Client {
     pub fn go_behind(&mut self, came: Came) -> News
         ensures shown { (old new : View) (repos : ℕ) → CameShown old new came → NewsShown old new repos result }
         ensures less { HoldsLess self.old.held self.new.held }
+        ensures free { pending_in self.old.phase ≡ NonePending → pending_in self.new.phase ≡ NonePending }
         ensures writes { (before : Contents) → CameStays came before self.old.held.cache.cache → PhaseWrites self.old.phase before → ClientWrites self.new }
         ensures rises { Rises self.old.held self.new.held }
     {
@@ -72,6 +74,7 @@ impl Client {
     fn take_learnt(&mut self, learnt: Learnt) -> News
         ensures shown { (old new : View) (repos : ℕ) → IsLearnt old new learnt.settled → NewsShown old new repos result }
         ensures less { HoldsLess self.old.held self.new.held }
+        ensures free { pending_in self.old.phase ≡ NonePending → pending_in self.new.phase ≡ NonePending }
         ensures writes { ClientWrites self.old → ClientWrites self.new }
         ensures rises { Rises self.old.held self.new.held }
     {
@@ -130,6 +133,7 @@ impl Client {
         ensures floor { OnOk result (self.new.held.floor ≡ floor_learnt refusal self.old.held.floor) }
         ensures learns { Learns refusal repo self.old.held self.new.held }
         ensures client { self.new.held.client ≡ self.old.held.client }
+        ensures stays { StaysPending (pending_in self.old.phase) (pending_in self.new.phase) self.old.held self.new.held }
         ensures writes { ClientWrites self.old → ClientWrites self.new }
         ensures rises { Rises self.old.held self.new.held }
     {
@@ -146,6 +150,7 @@ impl Client {
     pub fn stop_waiting(&mut self, repo: u8)
         ensures stops { StopsWaiting repo self.old.held self.new.held }
         ensures held { self.new.held ≡ record self.old.held { links = self.new.held.links } }
+        ensures phase { self.new.phase ≡ self.old.phase }
         ensures uncounted { (tries : ℕ) → uncounted tries self.new ≡ uncounted tries self.old }
         ensures writes { ClientWrites self.old → ClientWrites self.new }
         ensures rises { Rises self.old.held self.new.held }

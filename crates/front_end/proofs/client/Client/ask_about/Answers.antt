@@ -1,12 +1,11 @@
-use Rattle.client_state.proofs.Moving.{less_itself}
-use Rattle.client_state.specs.Moving.{Unsent}
+use Rattle.client_state.specs.Pending.{pending_in}
 use Rattle.front_end.proofs.Acting.{by_ask}
-use Rattle.front_end.proofs.Calling.{asked_nothing, asked_settled}
+use Rattle.front_end.proofs.Calling.{asked_so, settled_so}
 use Rattle.front_end.proofs.Showing.{learnt_of}
 use Rattle.front_end.proofs.client.Client.ask_about.Goals as goal
 use Rattle.item_progress.specs.Courses.{IsDownAt, is_committed}
 use Rattle.item_progress.specs.declared.news.Learnt.{Learnt}
-use Rattle.std.proofs.Common.{subst, ◌≡◌}
+use Rattle.std.proofs.Common.{ap, refl, subst, ◌≡◌}
 use Rattle.std.specs.Prelude.{IfSome, Option}
 
 pub returns-in_err-settled-in-Ok-Settled-clause-acts : goal.returns-in_err-settled-in-Ok-Settled-clause-acts
@@ -31,13 +30,13 @@ pub returns-in-Some-clause-shown : goal.returns-in-Some-clause-shown
 returns-in-Some-clause-shown g c = learnt_of _ _ _ _ c.args.ts c.in-Ok-Settled.field-0 c.in-Ok-Settled.verdict c.in-Ok-Settled.field-0-is c.in-Ok-Settled.ensures.call c.in-Some.field-0.settled (subst (λ (o : Option Learnt). IfSome o (λ l. l.settled.ts ≡ c.in-Ok-Settled.verdict.tx)) c.in-Some.is c.in_ok-settled-in-Ok-Settled.ensures.tx) (subst (λ (o : Option Learnt). IfSome o (λ l. is_committed l.settled.outcome ≡ c.in-Ok-Settled.verdict.commit)) c.in-Some.is c.in_ok-settled-in-Ok-Settled.ensures.stands) (subst (λ (o : Option Learnt). IfSome o (λ l. IsDownAt c.args.ts.repo l.settled.outcome)) c.in-Some.is c.in_ok-settled-in-Ok-Settled.ensures.down)
 
 pub returns-in-Some-clause-moves : goal.returns-in-Some-clause-moves
-returns-in-Some-clause-moves g c = λ s. Unsent (asked_settled _ _ _ _ c.args.ts c.in-Ok-Settled.field-0 c.in-Ok-Settled.verdict c.in-Ok-Settled.field-0-is c.in-Ok-Settled.ensures.call _ _ c.in_ok-settled-in-Ok-Settled.ensures.settles s)
+returns-in-Some-clause-moves g c = settled_so _ _ _ _ c.args.ts c.in-Ok-Settled.field-0 c.in-Ok-Settled.verdict c.in-Ok-Settled.field-0-is c.in-Ok-Settled.ensures.call _ _ _ _ (ap pending_in c.in_ok-settled-in-Ok-Settled.ensures.phase) c.in_ok-settled-in-Ok-Settled.ensures.cache c.in_ok-settled-in-Ok-Settled.ensures.settles
 
 pub returns-in-None-clause-moves : goal.returns-in-None-clause-moves
-returns-in-None-clause-moves g c = λ s. Unsent (asked_settled _ _ _ _ c.args.ts c.in-Ok-Settled.field-0 c.in-Ok-Settled.verdict c.in-Ok-Settled.field-0-is c.in-Ok-Settled.ensures.call _ _ c.in_ok-settled-in-Ok-Settled.ensures.settles s)
+returns-in-None-clause-moves g c = settled_so _ _ _ _ c.args.ts c.in-Ok-Settled.field-0 c.in-Ok-Settled.verdict c.in-Ok-Settled.field-0-is c.in-Ok-Settled.ensures.call _ _ _ _ (ap pending_in c.in_ok-settled-in-Ok-Settled.ensures.phase) c.in_ok-settled-in-Ok-Settled.ensures.cache c.in_ok-settled-in-Ok-Settled.ensures.settles
 
 pub returns-in-Ok-Undecided-clause-moves : goal.returns-in-Ok-Undecided-clause-moves
-returns-in-Ok-Undecided-clause-moves g c = λ s. Unsent (asked_nothing _ _ _ _ c.args.ts c.ask.result _ _ c.ask.ensures.call (less_itself c.args.self.now.held) s)
+returns-in-Ok-Undecided-clause-moves g c = asked_so _ _ _ _ c.args.ts c.ask.result c.args.self.now.held _ _ refl c.ask.ensures.call
 
 pub returns-in-Err-clause-moves : goal.returns-in-Err-clause-moves
-returns-in-Err-clause-moves g c = λ s. Unsent (asked_nothing _ _ _ _ c.args.ts c.ask.result _ _ c.ask.ensures.call (less_itself c.args.self.now.held) s)
+returns-in-Err-clause-moves g c = asked_so _ _ _ _ c.args.ts c.ask.result c.args.self.now.held _ _ refl c.ask.ensures.call

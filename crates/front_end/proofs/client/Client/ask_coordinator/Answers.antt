@@ -21,10 +21,10 @@ pub returns-in-Ok-Undecided-clause-shown : goal.returns-in-Ok-Undecided-clause-s
 returns-in-Ok-Undecided-clause-shown g c = λ s. c.ask_again.ensures.shown _ _ _
 
 pub returns-in-Ok-Settled-clause-moves : goal.returns-in-Ok-Settled-clause-moves
-returns-in-Ok-Settled-clause-moves g c = asked_own _ _ _ _ c.args.sent.ts c.in-Ok-Settled.field-0 c.in-Ok-Settled.verdict c.in-Ok-Settled.field-0-is c.in-Ok-Settled.ensures.call _ _ c.learn_own.result c.learn_own.ensures.ends
+returns-in-Ok-Settled-clause-moves g c = λ none. asked_own _ _ _ _ c.args.sent.ts c.in-Ok-Settled.field-0 c.in-Ok-Settled.verdict c.in-Ok-Settled.field-0-is c.in-Ok-Settled.ensures.call _ _ c.learn_own.result c.args.sent.at _ c.learn_own.ensures.ends (c.learn_own.ensures.free none)
 
 pub returns-in-Ok-Undecided-clause-moves : goal.returns-in-Ok-Undecided-clause-moves
-returns-in-Ok-Undecided-clause-moves g c = asked_in_vain _ _ _ _ c.args.sent.ts c.ask.result _ _ c.ask.ensures.call c.ask_again.ensures.leaves
+returns-in-Ok-Undecided-clause-moves g c = λ none. asked_in_vain _ _ _ _ c.args.sent.ts c.ask.result c.args.sent.at _ _ _ c.ask.ensures.call c.ask_again.ensures.leaves (c.ask_again.ensures.stays none)
 
 pub returns-in-Err-NoMemory-clause-writes : goal.returns-in-Err-NoMemory-clause-writes
 returns-in-Err-NoMemory-clause-writes g c = λ none. nothing_unsent _ _ none

@@ -16,3 +16,6 @@ returns-in_err-reads-clause-writes g c = λ none. nothing_unsent _ _ none
 
 pub returns-in-Part-clause-writes : goal.returns-in-Part-clause-writes
 returns-in-Part-clause-writes g c = λ none. c.fetch_needed.ensures.writes (c.go_on_with.ensures.phase ∙ none)
+
+pub returns-in-Part-clause-free : goal.returns-in-Part-clause-free
+returns-in-Part-clause-free g c = λ none. c.fetch_needed.ensures.free (c.go_on_with.ensures.pending ∙ none)

@@ -1,9 +1,11 @@
 use Rattle.client_state.proofs.Moving.{sends_then_drops, session_is_here}
 use Rattle.client_state.proofs.Writing.{drew_refused, drew_ts, still_writes}
+use Rattle.client_state.specs.Pending.{pending_in}
 use Rattle.client_state.specs.Showing.{DrewShown}
 use Rattle.front_end.proofs.Acting.{by_draw}
 use Rattle.front_end.proofs.client.Client.draw.Goals as goal
-use Rattle.std.proofs.Common.{refl, subst, sym}
+use Rattle.front_end.specs.declared.client.Client.{Client}
+use Rattle.std.proofs.Common.{ap, refl, subst, sym, ◌∙◌}
 
 pub returns-in_err-ts-clause-acts : goal.returns-in_err-ts-clause-acts
 returns-in_err-ts-clause-acts g c = by_draw _ _ _ _ _ _ _ _ _ c.draw.ensures.call
@@ -31,3 +33,12 @@ returns-in-Ts-clause-writes g c = λ w. rw (c.set_phase.ensures, c.take_phase.en
 
 pub returns-in-Refused-clause-writes : goal.returns-in-Refused-clause-writes
 returns-in-Refused-clause-writes g c = λ w. c.go_behind.ensures.writes c.args.self.now.held.cache.cache (drew_refused _ _ _ _ c.in-Refused.is c.in_ok-ts.ensures.stays) w
+
+pub returns-in-Ts-clause-free : goal.returns-in-Ts-clause-free
+returns-in-Ts-clause-free g c = λ none. ap (λ (k : Client). pending_in k.phase) c.set_phase.ensures ∙ (c.drawn-phase.ensures.pending ∙ (ap pending_in c.take_phase.ensures.phase ∙ none))
+
+pub returns-in-Refused-clause-free : goal.returns-in-Refused-clause-free
+returns-in-Refused-clause-free g c = λ none. c.go_behind.ensures.free none
+
+pub returns-in_err-ts-clause-free : goal.returns-in_err-ts-clause-free
+returns-in_err-ts-clause-free g c = λ none. none

@@ -24,7 +24,16 @@ pub returns-in_err-ts-clause-writes : goal.returns-in_err-ts-clause-writes
 returns-in_err-ts-clause-writes g c = λ none. nothing_unsent _ _ none
 
 pub returns-in-Ts-clause-writes : goal.returns-in-Ts-clause-writes
-returns-in-Ts-clause-writes g c = λ none. nothing_unsent _ _ (c.draw_transform.ensures ∙ none)
+returns-in-Ts-clause-writes g c = λ none. nothing_unsent _ _ (c.draw_transform.ensures.shares ∙ none)
 
 pub returns-in-Refused-clause-writes : goal.returns-in-Refused-clause-writes
 returns-in-Refused-clause-writes g c = λ none. c.go_behind.ensures.writes _ (came_itself _ c.draw.new.self.cache.cache) (nothing_unsent _ _ none)
+
+pub returns-in-Ts-clause-free : goal.returns-in-Ts-clause-free
+returns-in-Ts-clause-free g c = λ none. c.draw_transform.ensures.pending ∙ none
+
+pub returns-in-Refused-clause-free : goal.returns-in-Refused-clause-free
+returns-in-Refused-clause-free g c = λ none. c.go_behind.ensures.free none
+
+pub returns-in_err-ts-clause-free : goal.returns-in_err-ts-clause-free
+returns-in_err-ts-clause-free g c = λ none. none

@@ -10,3 +10,12 @@ returns-in_ok-becomes-in-Some-clause-writes g c = λ none. c.draw_made.ensures.w
 
 pub returns-in-None-clause-writes : goal.returns-in-None-clause-writes
 returns-in-None-clause-writes g c = λ none. c.join_behind.ensures.writes (nothing_unsent _ _ (c.go_on_with-in-None.ensures.phase ∙ none))
+
+pub returns-in_err-becomes-in-Some-clause-free : goal.returns-in_err-becomes-in-Some-clause-free
+returns-in_err-becomes-in-Some-clause-free g c = λ none. c.go_on_with.ensures.pending ∙ none
+
+pub returns-in_ok-becomes-in-Some-clause-free : goal.returns-in_ok-becomes-in-Some-clause-free
+returns-in_ok-becomes-in-Some-clause-free g c = λ none. c.draw_made.ensures.free (c.go_on_with.ensures.pending ∙ none)
+
+pub returns-in-None-clause-free : goal.returns-in-None-clause-free
+returns-in-None-clause-free g c = λ none. c.join_behind.ensures.free (c.go_on_with-in-None.ensures.pending ∙ none)

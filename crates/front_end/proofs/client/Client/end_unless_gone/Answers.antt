@@ -3,7 +3,7 @@ use Rattle.client_state.specs.declared.held.Held.{Held}
 use Rattle.front_end.proofs.Showing.{try_shown}
 use Rattle.front_end.proofs.client.Client.end_unless_gone.Goals as goal
 use Rattle.front_end.specs.Showing.{ByRefusal}
-use Rattle.std.proofs.Common.{Bool, ap, subst}
+use Rattle.std.proofs.Common.{Bool, ap, inl, subst}
 use Rattle.std.specs.Prelude.{not}
 
 pub returns-clause-shown : goal.returns-clause-shown
@@ -14,3 +14,9 @@ returns-then-lose_session-clause-ends c = LosesThere c.lose_session.ensures.lose
 
 pub returns-clause-ends : goal.returns-clause-ends
 returns-clause-ends c = subst (λ (h : Held). EndsReceive c.args.refusal c.args.repo h c.end_in_outage.new.self.held) (c.lose_session.ensures.rest (ap (λ (b : Bool). not b) c.if-lose_session.false)) (c.end_in_outage.ensures.ends c.args.refusal (c.lose_session.ensures.gone (ap (λ (b : Bool). not b) c.if-lose_session.false)))
+
+pub returns-clause-stays : goal.returns-clause-stays
+returns-clause-stays c = inl c.end_in_outage.ensures.free
+
+pub returns-then-lose_session-clause-stays : goal.returns-then-lose_session-clause-stays
+returns-then-lose_session-clause-stays c = c.lose_session.ensures.stays

@@ -1,5 +1,6 @@
 use Rattle.client_state.proofs.Writing.{nothing_unsent}
 use Rattle.client_state.specs.Moving.{HoldsSame}
+use Rattle.client_state.specs.Pending.{pending_in}
 use Rattle.client_state.specs.Writing.{unsent}
 use Rattle.front_end.proofs.Calling.{same_sends_idle}
 use Rattle.front_end.proofs.client.Client.evaluate.Goals as goal
@@ -14,3 +15,9 @@ returns-in_err-ran-clause-writes g c = nothing_unsent _ _ (ap (λ (k : Client). 
 
 pub returns-clause-writes : goal.returns-clause-writes
 returns-clause-writes g c = c.go_behind_run.ensures.writes (ap (λ (k : Client). unsent k.phase) c.set_phase.ensures) (rw (c.set_phase.ensures) c.in_ok-ran.ensures.wrote)
+
+pub returns-in_err-ran-clause-free : goal.returns-in_err-ran-clause-free
+returns-in_err-ran-clause-free g c = ap (λ (k : Client). pending_in k.phase) c.set_phase.ensures
+
+pub returns-clause-free : goal.returns-clause-free
+returns-clause-free g c = c.go_behind_run.ensures.free (ap (λ (k : Client). pending_in k.phase) c.set_phase.ensures)

@@ -1,6 +1,7 @@
 use Rattle.client_state.proofs.Moving.{sends_then_drops}
 use Rattle.client_state.proofs.Writing.{came_itself, nothing_unsent}
 use Rattle.client_state.specs.Moving.{Rested}
+use Rattle.client_state.specs.Pending.{pending_in}
 use Rattle.client_state.specs.Writing.{unsent}
 use Rattle.front_end.proofs.Showing.{try_shown}
 use Rattle.front_end.proofs.client.Client.fetch_needed.Goals as goal
@@ -20,7 +21,16 @@ pub returns-clause-moves : goal.returns-clause-moves
 returns-clause-moves g c = λ idle s. sends_then_drops (g.Q.Port.view c.args.port.now) (g.Q.Port.view c.fetch.new.port) c.args.self.now.held c.fetch.new.self.held c.go_behind.new.self.held c.go_behind.ensures.less (c.in_ok-came.ensures.moves idle s)
 
 pub returns-in_err-came-clause-writes : goal.returns-in_err-came-clause-writes
-returns-in_err-came-clause-writes g c = λ none. nothing_unsent _ _ (ap unsent c.fetch.ensures.phase ∙ (c.await_page.ensures ∙ none))
+returns-in_err-came-clause-writes g c = λ none. nothing_unsent _ _ (ap unsent c.fetch.ensures.phase ∙ (c.await_page.ensures.shares ∙ none))
 
 pub returns-clause-writes : goal.returns-clause-writes
-returns-clause-writes g c = λ none. c.go_behind.ensures.writes _ (came_itself _ c.fetch.new.self.held.cache.cache) (nothing_unsent _ _ (ap unsent c.fetch.ensures.phase ∙ (c.await_page.ensures ∙ none)))
+returns-clause-writes g c = λ none. c.go_behind.ensures.writes _ (came_itself _ c.fetch.new.self.held.cache.cache) (nothing_unsent _ _ (ap unsent c.fetch.ensures.phase ∙ (c.await_page.ensures.shares ∙ none)))
+
+pub returns-in_err-came-clause-free : goal.returns-in_err-came-clause-free
+returns-in_err-came-clause-free g c = λ none. ap pending_in c.fetch.ensures.phase ∙ (c.await_page.ensures.pending ∙ none)
+
+pub returns-clause-free : goal.returns-clause-free
+returns-clause-free g c = λ none. c.go_behind.ensures.free (ap pending_in c.fetch.ensures.phase ∙ (c.await_page.ensures.pending ∙ none))
+
+pub returns-then-oref-opened-clause-free : goal.returns-then-oref-opened-clause-free
+returns-then-oref-opened-clause-free g c = λ none. ap pending_in c.end_try.ensures.phase

@@ -1,7 +1,8 @@
 use Rattle.client_state.proofs.Writing.{came_learnt, came_well, still_writes}
+use Rattle.client_state.specs.Pending.{pending_in}
 use Rattle.client_state.specs.Showing.{CameShown}
 use Rattle.front_end.proofs.client.Client.go_behind.Goals as goal
-use Rattle.std.proofs.Common.{refl, subst}
+use Rattle.std.proofs.Common.{ap, refl, subst}
 
 pub returns-in-Learnt-clause-shown : goal.returns-in-Learnt-clause-shown
 returns-in-Learnt-clause-shown c = λ old new repos h. c.take_learnt.ensures.shown old new repos (subst (CameShown old new) c.in-Learnt.is h)
@@ -11,3 +12,9 @@ returns-in-Well-clause-writes c = λ before stays w. still_writes _ _ before _ r
 
 pub returns-in-Learnt-clause-writes : goal.returns-in-Learnt-clause-writes
 returns-in-Learnt-clause-writes c = λ before stays w. c.take_learnt.ensures.writes (still_writes _ _ before _ refl (came_learnt _ _ _ _ c.in-Learnt.is stays) w)
+
+pub returns-in-Anew-clause-free : goal.returns-in-Anew-clause-free
+returns-in-Anew-clause-free c = λ none. ap pending_in c.begin_anew.ensures.phase
+
+pub returns-in-Refused-clause-free : goal.returns-in-Refused-clause-free
+returns-in-Refused-clause-free c = λ none. ap pending_in c.end_try.ensures.phase

@@ -1,7 +1,11 @@
+use Rattle.client_state.specs.Pending.{pending_in}
 use Rattle.client_state.specs.Writing.{unsent}
 use Rattle.front_end.proofs.client.Client.go_on_with.Goals as goal
 use Rattle.front_end.specs.declared.client.Client.{Client}
 use Rattle.std.proofs.Common.{ap, ◌∙◌}
 
 pub returns-clause-phase : goal.returns-clause-phase
-returns-clause-phase c = ap (λ (k : Client). unsent k.phase) c.set_phase.ensures ∙ (c.transforming-phase.ensures ∙ ap unsent c.take_phase.ensures.phase)
+returns-clause-phase c = ap (λ (k : Client). unsent k.phase) c.set_phase.ensures ∙ (c.transforming-phase.ensures.shares ∙ ap unsent c.take_phase.ensures.phase)
+
+pub returns-clause-pending : goal.returns-clause-pending
+returns-clause-pending c = ap (λ (k : Client). pending_in k.phase) c.set_phase.ensures ∙ (c.transforming-phase.ensures.pending ∙ ap pending_in c.take_phase.ensures.phase)

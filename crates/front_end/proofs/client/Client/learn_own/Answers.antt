@@ -1,5 +1,6 @@
 use Rattle.client_state.proofs.Writing.{nothing_unsent}
 use Rattle.client_state.specs.Moving.{EndsSo}
+use Rattle.client_state.specs.Pending.{pending_in}
 use Rattle.client_state.specs.Writing.{unsent}
 use Rattle.front_end.proofs.Showing.{abort_shown, decided_so, told_decided, try_shown}
 use Rattle.front_end.proofs.client.Client.learn_own.Goals as goal
@@ -26,3 +27,9 @@ returns-in_err-hand_on-clause-writes c = λ none. nothing_unsent _ _ none
 
 pub returns-then-commit-clause-writes : goal.returns-then-commit-clause-writes
 returns-then-commit-clause-writes c = λ none. nothing_unsent _ _ (ap (λ (k : Client). unsent k.phase) c.end_committed.ensures.rest ∙ none)
+
+pub returns-then-commit-clause-free : goal.returns-then-commit-clause-free
+returns-then-commit-clause-free c = λ none. ap (λ (k : Client). pending_in k.phase) c.end_committed.ensures.rest ∙ none
+
+pub returns-clause-free : goal.returns-clause-free
+returns-clause-free c = λ none. ap pending_in c.end_try.ensures.phase

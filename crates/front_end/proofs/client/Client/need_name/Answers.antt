@@ -1,6 +1,7 @@
 use Rattle.client_state.proofs.Moving.{sends_then_drops}
 use Rattle.client_state.proofs.Writing.{came_itself, nothing_unsent}
 use Rattle.client_state.specs.Moving.{Rested}
+use Rattle.client_state.specs.Pending.{pending_in}
 use Rattle.client_state.specs.Writing.{unsent}
 use Rattle.front_end.proofs.Showing.{try_shown}
 use Rattle.front_end.proofs.client.Client.need_name.Goals as goal
@@ -24,3 +25,12 @@ returns-in_err-came-clause-writes g c = λ none. nothing_unsent _ _ (ap unsent c
 
 pub returns-clause-writes : goal.returns-clause-writes
 returns-clause-writes g c = λ none. c.go_behind.ensures.writes _ (came_itself _ c.ask_for_names.new.self.held.cache.cache) (nothing_unsent _ _ (ap unsent c.ask_for_names.ensures.phase ∙ none))
+
+pub returns-in_err-came-clause-free : goal.returns-in_err-came-clause-free
+returns-in_err-came-clause-free g c = λ none. ap pending_in c.ask_for_names.ensures.phase ∙ none
+
+pub returns-clause-free : goal.returns-clause-free
+returns-clause-free g c = λ none. c.go_behind.ensures.free (ap pending_in c.ask_for_names.ensures.phase ∙ none)
+
+pub returns-then-repo-opened-clause-free : goal.returns-then-repo-opened-clause-free
+returns-then-repo-opened-clause-free g c = λ none. ap pending_in c.end_try.ensures.phase

@@ -3,6 +3,7 @@ use Rattle.front_end.proofs.Receiving.{by_message, by_none, by_refusal, no_messa
 use Rattle.front_end.proofs.Showing.{taken_so}
 use Rattle.front_end.proofs.client.Client.receive.Goals as goal
 use Rattle.port.specs.Acting.{RefusesReceive}
+use Rattle.std.proofs.Common.{refl}
 
 pub returns-in_err-take-in-Ok-Some-clause-acts : goal.returns-in_err-take-in-Ok-Some-clause-acts
 returns-in_err-take-in-Ok-Some-clause-acts g c = by_receive _ _ _ _ _ _ c.receive.ensures.call
@@ -26,16 +27,16 @@ pub returns-in_ok-end_unless_gone-in-Err-clause-shown : goal.returns-in_ok-end_u
 returns-in_ok-end_unless_gone-in-Err-clause-shown g c = λ s. c.in_ok-end_unless_gone-in-Err.ensures.shown _ _ _ (RefusesReceive c.args.at.session (c.in-Err.ensures.call s))
 
 pub returns-in_ok-take-in-Ok-Some-clause-moves : goal.returns-in_ok-take-in-Ok-Some-clause-moves
-returns-in_ok-take-in-Ok-Some-clause-moves g c = λ joined. by_message _ _ c.args.at c.args.self.now.held c.receive.new.self c.take.new.self.held c.receive.ensures.rest joined _ c.in-Ok-Some.field-0 c.in-Ok-Some.message c.in-Ok-Some.field-0-is c.in-Ok-Some.ensures.call c.in-Ok-Some.ensures.links c.in_ok-take-in-Ok-Some.ensures.takes
+returns-in_ok-take-in-Ok-Some-clause-moves g c = λ joined. by_message _ _ c.args.at c.args.self.now.held c.receive.new.self c.take.new.self.held c.receive.ensures.rest joined _ c.in-Ok-Some.field-0 c.in-Ok-Some.message c.in-Ok-Some.field-0-is c.in-Ok-Some.ensures.call c.in-Ok-Some.ensures.links c.in_ok-take-in-Ok-Some.ensures.takes _ _ c.in_ok-take-in-Ok-Some.ensures.stays
 
 pub returns-in-Ok-None-clause-moves : goal.returns-in-Ok-None-clause-moves
-returns-in-Ok-None-clause-moves g c = λ joined. by_none _ _ _ c.args.at c.args.self.now.held c.receive.new.self (no_message _ _ _ c.args.at c.args.self.now.held c.receive.new.self c.receive.ensures.rest c.in-Ok-None.field-0 c.in-Ok-None.field-0-is c.in-Ok-None.ensures.call c.in-Ok-None.ensures.links) joined
+returns-in-Ok-None-clause-moves g c = λ joined. by_none _ _ _ c.args.at c.args.self.now.held c.receive.new.self (no_message _ _ _ c.args.at c.args.self.now.held c.receive.new.self c.receive.ensures.rest c.in-Ok-None.field-0 c.in-Ok-None.field-0-is c.in-Ok-None.ensures.call c.in-Ok-None.ensures.links) joined _ _ refl
 
 pub returns-in-Ok-None-clause-none : goal.returns-in-Ok-None-clause-none
 returns-in-Ok-None-clause-none g c = λ none. no_message _ _ _ c.args.at c.args.self.now.held c.receive.new.self c.receive.ensures.rest c.in-Ok-None.field-0 c.in-Ok-None.field-0-is c.in-Ok-None.ensures.call c.in-Ok-None.ensures.links
 
 pub returns-in_ok-end_unless_gone-in-Err-clause-moves : goal.returns-in_ok-end_unless_gone-in-Err-clause-moves
-returns-in_ok-end_unless_gone-in-Err-clause-moves g c = λ joined. by_refusal _ _ c.args.at c.args.self.now.held c.receive.new.self c.end_unless_gone.new.self.held c.receive.ensures.rest joined _ c.in-Err.refusal c.in-Err.ensures.call c.in-Err.ensures.links c.in_ok-end_unless_gone-in-Err.ensures.ends
+returns-in_ok-end_unless_gone-in-Err-clause-moves g c = λ joined. by_refusal _ _ c.args.at c.args.self.now.held c.receive.new.self c.end_unless_gone.new.self.held c.receive.ensures.rest joined _ c.in-Err.refusal c.in-Err.ensures.call c.in-Err.ensures.links c.in_ok-end_unless_gone-in-Err.ensures.ends _ _ c.in_ok-end_unless_gone-in-Err.ensures.stays
 
 pub returns-in_err-take-in-Ok-Some-clause-writes : goal.returns-in_err-take-in-Ok-Some-clause-writes
 returns-in_err-take-in-Ok-Some-clause-writes g c = λ w. c.take.ensures.writes (rw (c.receive.ensures.rest) w)

@@ -1,4 +1,6 @@
+use Rattle.client_state.proofs.Pending.{stays_free}
 use Rattle.client_state.proofs.Writing.{nothing_unsent}
+use Rattle.client_state.specs.Pending.{pending_in}
 use Rattle.client_state.specs.Writing.{unsent}
 use Rattle.client_state.specs.declared.held.Held.{Held}
 use Rattle.front_end.proofs.Requesting.{learns_from}
@@ -13,3 +15,6 @@ returns-clause-client c = c.end_refused.ensures.client ∙ ap (λ (h : Held). h.
 
 pub returns-clause-writes : goal.returns-clause-writes
 returns-clause-writes c = λ none. c.end_refused.ensures.writes (nothing_unsent _ _ (ap unsent c.count_if_stopped.ensures.phase ∙ none))
+
+pub returns-clause-free : goal.returns-clause-free
+returns-clause-free c = λ none. stays_free _ _ _ _ (ap pending_in c.count_if_stopped.ensures.phase ∙ none) c.end_refused.ensures.stays

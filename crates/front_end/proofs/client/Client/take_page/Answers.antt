@@ -1,9 +1,11 @@
+use Rattle.client_state.proofs.Pending.{still_written}
 use Rattle.client_state.proofs.Writing.{still_writes}
+use Rattle.client_state.specs.Pending.{pending_in}
 use Rattle.client_state.specs.declared.held.Held.{Held}
 use Rattle.front_end.proofs.Receiving.{takes_so, takes_then_less}
 use Rattle.front_end.proofs.Showing.{page_shown, try_shown}
 use Rattle.front_end.proofs.client.Client.take_page.Goals as goal
-use Rattle.std.proofs.Common.{Bool, ap, refl}
+use Rattle.std.proofs.Common.{Bool, ap, inl, inr, refl}
 use Rattle.std.specs.Prelude.{not}
 
 pub returns-in-Some-clause-shown : goal.returns-in-Some-clause-shown
@@ -20,3 +22,9 @@ returns-in_err-place-clause-writes c = λ w. still_writes _ _ _ _ refl c.place.e
 
 pub returns-in-Some-2-clause-writes : goal.returns-in-Some-2-clause-writes
 returns-in-Some-2-clause-writes c = λ w. still_writes _ _ _ _ refl c.place.ensures.writes w
+
+pub returns-in-Some-clause-stays : goal.returns-in-Some-clause-stays
+returns-in-Some-clause-stays c = inl (ap pending_in c.end_try.ensures.phase)
+
+pub returns-in-Some-2-clause-stays : goal.returns-in-Some-2-clause-stays
+returns-in-Some-2-clause-stays c = inr (refl, still_written c.args.self.now.held c.place.new.self (ap (λ (h : Held). h.links.items) c.place.ensures.rest) c.place.ensures.writes)

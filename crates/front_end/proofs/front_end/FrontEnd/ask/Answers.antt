@@ -11,4 +11,4 @@ pub returns-clause-shown : goal.returns-clause-shown
 returns-clause-shown g c = goes_shown _ _ _ _ _ _ _ _ _ c.in_ok-news.ensures.shown c.take_down.ensures.told
 
 pub returns-clause-moves : goal.returns-clause-moves
-returns-clause-moves g c = moves_down _ _ _ c.args.self.now.client.held c.ask.new.self c.take_down.new.self.client c.take_down.ensures.client c.take_down.result (c.in_ok-news.ensures.moves)
+returns-clause-moves g c = moves_down _ _ _ c.args.self.now.client.held _ c.ask.new.self c.take_down.new.self.client c.take_down.ensures.client c.take_down.result c.in_ok-news.ensures.moves

@@ -1,5 +1,5 @@
 use Rattle.client_state.specs.Moving.{Unsent}
-use Rattle.front_end.proofs.Calling.{moves_down}
+use Rattle.front_end.proofs.Calling.{shown_down}
 use Rattle.front_end.proofs.Moving.{keeps_behind, nothing_owed}
 use Rattle.front_end.proofs.Showing.{goes_shown}
 use Rattle.front_end.proofs.front_end.FrontEnd.ask_last.Goals as goal
@@ -12,4 +12,4 @@ pub returns-clause-shown : goal.returns-clause-shown
 returns-clause-shown g c = goes_shown _ _ _ _ _ _ _ _ _ c.in_ok-news.ensures.shown c.take_down.ensures.told
 
 pub returns-clause-moves : goal.returns-clause-moves
-returns-clause-moves g c = moves_down _ _ _ c.args.self.now.client.held c.ask_last.new.self c.take_down.new.self.client c.take_down.ensures.client c.take_down.result (λ s. Unsent (c.in_ok-news.ensures.moves s))
+returns-clause-moves g c = shown_down _ _ _ c.args.self.now.client.held c.ask_last.new.self c.take_down.new.self.client c.take_down.ensures.client c.take_down.result (λ s. Unsent (c.in_ok-news.ensures.moves s))

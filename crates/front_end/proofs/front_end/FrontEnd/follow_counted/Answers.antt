@@ -5,7 +5,7 @@ use Rattle.front_end.proofs.Showing.{shown_counted, shown_used}
 use Rattle.front_end.proofs.front_end.FrontEnd.follow_counted.Goals as goal
 use Rattle.front_end.specs.Moving.{held_of, standing_of}
 use Rattle.item_progress.proofs.Falling.{then_never_rises}
-use Rattle.std.proofs.Common.{refl, subst}
+use Rattle.std.proofs.Common.{refl, subst, sym}
 use Rattle.std.proofs.lemmas.Result.{on_ok_weaker}
 
 pub returns-clause-falls : goal.returns-clause-falls
@@ -21,7 +21,7 @@ pub returns-clause-rises : goal.returns-clause-rises
 returns-clause-rises g c = subst (λ (h : Held). Rises h (held_of c.make_counted.new.self)) c.count_call.ensures.held c.make_counted.ensures.rises
 
 pub returns-clause-moves : goal.returns-clause-moves
-returns-clause-moves g c = moves_from _ _ _ _ _ _ c.count_call.ensures.held c.args.rule c.make_counted.result c.make_counted.ensures.moves
+returns-clause-moves g c = moves_from _ _ _ _ _ _ c.count_call.ensures.held _ _ _ (sym c.count_call.ensures.pending) c.args.rule c.make_counted.result c.make_counted.ensures.moves
 
 pub returns-then-not-count_call-clause-moves : goal.returns-then-not-count_call-clause-moves
-returns-then-not-count_call-clause-moves g c = λ may. moves_same _ _ _ _ _ _ c.count_call.ensures.held c.run_out_of_calls.result c.run_out_of_calls.ensures.moves
+returns-then-not-count_call-clause-moves g c = λ may. moves_same _ _ _ _ _ _ c.count_call.ensures.held _ _ _ (sym c.count_call.ensures.pending) c.run_out_of_calls.result c.run_out_of_calls.ensures.moves

@@ -1,5 +1,5 @@
-use Rattle.client_state.specs.Moving.{Rested, Unsent}
-use Rattle.front_end.proofs.Calling.{moves_down, on_any}
+use Rattle.client_state.specs.Pending.{pending_in}
+use Rattle.front_end.proofs.Calling.{moves_down, on_any, rests_so}
 use Rattle.front_end.proofs.Showing.{used_up}
 use Rattle.front_end.proofs.front_end.FrontEnd.run_out_of_calls.Goals as goal
 use Rattle.item_progress.specs.Ending.{ends_try}
@@ -13,7 +13,7 @@ pub returns-clause-shown : goal.returns-clause-shown
 returns-clause-shown g c = λ repos most. used_up _ _ _ repos _ _ _ _ _ c.end_try-news.ensures.news most c.take_down.ensures.told
 
 pub returns-clause-moves : goal.returns-clause-moves
-returns-clause-moves g c = moves_down _ _ _ c.args.self.now.client.held c.end_try-news.new.self c.take_down.new.self.client c.take_down.ensures.client c.take_down.result (λ s. Unsent (Rested refl c.end_try-news.ensures.less))
+returns-clause-moves g c = moves_down _ _ _ c.args.self.now.client.held _ c.end_try-news.new.self c.take_down.new.self.client c.take_down.ensures.client c.take_down.result (rests_so _ _ c.args.self.now.client.held c.end_try-news.new.self.held _ _ c.end_try-news.ensures.less (ap pending_in c.end_try-news.ensures.phase))
 
 pub returns-then-has_ended-clause-moves : goal.returns-then-has_ended-clause-moves
 returns-then-has_ended-clause-moves g c = on_any c.hand_on.result _ c.hand_on.ensures.moves
