@@ -38,20 +38,20 @@ more (w ∷ ws) m x h = more ws (insert m w.0 w.1) x (by (eq_by_cmp oref_cmp x w
 itself : (m : Map oref_cmp Obj) (x : Oref) (o : Obj) → has (insert m x o) x ≡ true
 itself m x o = put m x x o true ((eq_by_cmp_equiv oref_total).refl x)
 
+both : (a b : Bool) → a ≡ true → b ≡ true → (a && b) ≡ true
+both true b e f = f
+both false b e f = cc
+
 module _ (P : Oref → Bool) where
   all_pass : (ws : List (Oref × Obj)) (m : Map oref_cmp Obj) → ((x : Oref) → has (overwrite m ws) x ≡ true → P x ≡ true) → list_all (λ w. P w.0) ws ≡ true
   all_pass [] m h = refl
-  all_pass (w ∷ ws) m h = by (P w.0) (h w.0 (more ws (insert m w.0 w.1) w.0 (itself m w.0 w.1)))
-    where
-      by : (t : Bool) → t ≡ true → (t && list_all (λ w. P w.0) ws) ≡ true
-      by true e = all_pass ws (insert m w.0 w.1) h
-      by false e = cc
+  all_pass (w ∷ ws) m h = both (P w.0) (list_all (λ w. P w.0) ws) (h w.0 (more ws (insert m w.0 w.1) w.0 (itself m w.0 w.1))) (all_pass ws (insert m w.0 w.1) h)
 
   each_passes : (ws : List (Oref × Obj)) (m : Map oref_cmp Obj) (x : Oref) → list_all (λ w. P w.0) ws ≡ true → (has m x ≡ true → P x ≡ true) → has (overwrite m ws) x ≡ true → P x ≡ true
   each_passes [] m x all before h = before h
   each_passes (w ∷ ws) m x all before h =
-      let both : (P w.0 ≡ true) × (list_all (λ w. P w.0) ws ≡ true) = and_parts (P w.0) (list_all (λ w. P w.0) ws) all in
-      each_passes ws (insert m w.0 w.1) x both.1 (by (eq_by_cmp oref_cmp x w.0) refl both.0) h
+      let parts : (P w.0 ≡ true) × (list_all (λ w. P w.0) ws ≡ true) = and_parts (P w.0) (list_all (λ w. P w.0) ws) all in
+      each_passes ws (insert m w.0 w.1) x parts.1 (by (eq_by_cmp oref_cmp x w.0) refl parts.0) h
     where
       by : (t : Bool) → eq_by_cmp oref_cmp x w.0 ≡ t → P w.0 ≡ true → has (insert m w.0 w.1) x ≡ true → P x ≡ true
       by true e p g = subst (λ (y : Oref). P y ≡ true) (sym (oref_exact x w.0 (equal_of (oref_cmp x w.0) e))) p

@@ -5,6 +5,7 @@ ghost use Rattle.client_state.specs.Sending.{IsOfSession, IsOfShare, SendsFirst,
 ghost use Rattle.client_cache.specs.Copies.{Contents};
 ghost use Rattle.client_state.specs.Writing.{HoldsWritten, WritesShares, WritesThere, is_held_or_created};
 ghost use Rattle.local_history.specs.Requests.{has_created};
+ghost use Rattle.std.specs.List.{list_all};
 ghost use Rattle.std.specs.Prelude.{IfOk, IfSome, IsTrue, [], slice_get, ◌∷◌, ◌↔◌, ◌≡◌};
 
 use crate::held::Held;
@@ -59,9 +60,15 @@ impl Held {
     }
 
     /// Whether the client has copies of all that a request writes and hasn't created.
-    #[tactic(auto, using(crate::proofs::Copied::holds_each, crate::proofs::Copied::all_held))]
     pub fn holds_written(&self, request: &Request) -> bool
         ensures { IsTrue result ↔ HoldsWritten request.now self.now.cache.cache }
+    {
+        self.holds_each(request)
+    }
+
+    /// The same, told write by write.
+    fn holds_each(&self, request: &Request) -> bool
+        ensures { result ≡ list_all (λ w. is_held_or_created request.now self.now.cache.cache w.0) request.now.writes }
     {
         request
             .writes
