@@ -4,6 +4,7 @@ pub mod AtOnce
 pub mod Beginning
 pub mod Committing
 pub mod Elsewhere
+pub mod Ended
 pub mod Falls
 pub mod Fits
 pub mod Growing

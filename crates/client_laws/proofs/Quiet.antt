@@ -109,11 +109,11 @@ module _ (c : ℕ) (b : Base) (s : ℕ) where
       let y = of_client c b (session b T s) mine in
       (y.0, y.1, ap lives (sym (unbegun c b T s y.0 i y.1 k)) ∙ live)
 
-  lives_back : (T : List Item) (i : Item) → ItemIsExact b T i → client_in b T s ≡ Some c → lives (session b (T ++ i ∷ []) s) ≡ true → lives (session b T s) ≡ true
+  pub lives_back : (T : List Item) (i : Item) → ItemIsExact b T i → client_in b T s ≡ Some c → lives (session b (T ++ i ∷ []) s) ≡ true → lives (session b T s) ≡ true
   lives_back T i k mine live = let y = lived T i k mine live in ap lives y.1 ∙ was_live b s (state b (entries T)) i y.0 y.2
 
   -- none is live behind a Life
-  ends : (T : List Item) (n : ℕ) → ItemIsExact b T (E (Life n)) → client_in b T s ≡ Some c → lives (session b (T ++ E (Life n) ∷ []) s) ≡ true → ⊥
+  pub ends : (T : List Item) (n : ℕ) → ItemIsExact b T (E (Life n)) → client_in b T s ≡ Some c → lives (session b (T ++ E (Life n) ∷ []) s) ≡ true → ⊥
   ends T n k mine live = let y = lived T (E (Life n)) k mine live in let f : false ≡ true = (move-lives b s (state b (entries T)) (E (Life n)) y.0 y.2).1 in cc
 
   -- ---- growth
@@ -122,10 +122,10 @@ module _ (c : ℕ) (b : Base) (s : ℕ) where
   abbrev pub Was : Unsettled → List Item → Ts → Type 0
   Was u T t = (u ≡ Calm) × (lives (session b T s) ≡ true) × StandsOpen T t
 
-  came_calm : (w : Unsettled) → w ≡ Came → w ≡ Calm → ⊥
+  pub came_calm : (w : Unsettled) → w ≡ Came → w ≡ Calm → ⊥
   came_calm w e f = let g : Came ≡ Calm = sym e ∙ f in cc
 
-  halted_calm : (w : Unsettled) → w ≡ Halted → w ≡ Calm → ⊥
+  pub halted_calm : (w : Unsettled) → w ≡ Halted → w ≡ Calm → ⊥
   halted_calm w e f = let g : Halted ≡ Calm = sym e ∙ f in cc
 
   one_back : (T : List Item) (u w : Unsettled) (i : Item) (t : Ts) → Gains b c u T i w → ItemIsExact b T i → sound b (entries (T ++ i ∷ [])) → client_in b T s ≡ Some c → Was w (T ++ i ∷ []) t → Was u T t
@@ -152,7 +152,7 @@ module _ (c : ℕ) (b : Base) (s : ℕ) where
   one_back T Halted w (E (Finished v d)) t g k sd mine was = absurd (halted_calm w g.1 was.0)
   one_back T Halted w (E (Upgraded q)) t g k sd mine was = absurd (halted_calm w g.1 was.0)
 
-  calm_back : (u w : Unsettled) → MayHalt u w → w ≡ Calm → u ≡ Calm
+  pub calm_back : (u w : Unsettled) → MayHalt u w → w ≡ Calm → u ≡ Calm
   calm_back Calm w m e = refl
   calm_back (MayCome d) w m e = let g : MayCome d ≡ Calm = sym m ∙ e in cc
   calm_back Came w m e = absurd (came_calm w m e)

@@ -48,7 +48,7 @@ use Rattle.std.proofs.lemmas.Map.Views.{tells_apart}
 use Rattle.std.proofs.lemmas.Option.{same_Some}
 use Rattle.std.specs.List.{slice_get}
 use Rattle.std.specs.Option.{is_some, option_or}
-use Rattle.std.specs.Prelude.{None, Ok, Option, Some, length, nat_eq, ◌||◌}
+use Rattle.std.specs.Prelude.{None, Ok, Option, Some, length, nat_eq, ◌||◌, ◌≤◌}
 use Rattle.thor_value.proofs.FiniteMap.{get-insert}
 use Rattle.thor_value.proofs.NameOrders.{oref_exact, oref_total}
 use Rattle.thor_value.specs.FiniteMap.{empty, get}
@@ -65,8 +65,16 @@ exact_whole = search rules
 sound_whole : sound only (entries whole)
 sound_whole = (decides_sound only (entries whole)).0 refl
 
+outside : (T : List Item) (r : ℕ) (b : Bool) → nat_eq r 0 ≡ b → 1 ≤ r → entries (cond b T []) ≡ []
+outside T r true is l = absurd (none r (eqb-true r 0 is) l)
+  where
+    none : (n : ℕ) → n ≡ 0 → 1 ≤ n → ⊥
+    none n e l = omega arith
+outside T r false is l = refl
+
 one_at : (T more : List Item) → T ++ more ≡ whole → length (entries T) < 2 ^ 64 → HasOneRepository (seeing T)
 one_at T more e short = record {
+  outside = λ r l. outside T r (nat_eq r 0) refl l;
   one = refl;
   numbered = refl;
   counted = refl;
@@ -196,16 +204,16 @@ module _ (first joined drawn waits taken last : Held) (h : HoldsOnTheWay first j
   pub run : Leads (behind 1 first) (behind 2 joined ∷ behind 3 drawn ∷ behind 4 waits ∷ behind 5 taken ∷ behind 6 last ∷ []) (behind 7 last)
   unfolding connects draws asks takes commits
   run = (
-    Stepped connects tt (one_at (take 2 whole) (drop 2 whole) refl (omega arith)),
+    Stepped connects refl tt (one_at (take 2 whole) (drop 2 whole) refl (omega arith)),
     (
-      Stepped draws tt (one_at (take 3 whole) (drop 3 whole) refl (omega arith)),
+      Stepped draws refl tt (one_at (take 3 whole) (drop 3 whole) refl (omega arith)),
       (
-        Stepped asks tt (one_at (take 4 whole) (drop 4 whole) refl (omega arith)),
+        Stepped asks refl tt (one_at (take 4 whole) (drop 4 whole) refl (omega arith)),
         (
-          Stepped takes tt (one_at (take 5 whole) (drop 5 whole) refl (omega arith)),
+          Stepped takes refl tt (one_at (take 5 whole) (drop 5 whole) refl (omega arith)),
           (
-            Stepped commits tt (one_at (take 6 whole) (drop 6 whole) refl (omega arith)),
-            Waited refl refl others (one_at (take 7 whole) (drop 7 whole) refl (omega arith)),
+            Stepped commits refl tt (one_at (take 6 whole) (drop 6 whole) refl (omega arith)),
+            Waited refl refl refl others (one_at (take 7 whole) (drop 7 whole) refl (omega arith)),
           ),
         ),
       ),
@@ -215,16 +223,16 @@ module _ (first joined drawn waits taken last : Held) (h : HoldsOnTheWay first j
   pub run_singly : LeadsSingly (behind 1 first) (behind 2 joined ∷ behind 3 drawn ∷ behind 4 waits ∷ behind 5 taken ∷ behind 6 last ∷ []) (behind 7 last)
   unfolding connects draws asks takes commits
   run_singly = (
-    Stepped connects tt (among (take 2 whole) (one_at (take 2 whole) (drop 2 whole) refl (omega arith))),
+    Stepped connects refl tt (among (take 2 whole) (one_at (take 2 whole) (drop 2 whole) refl (omega arith))),
     (
-      Stepped draws tt (among (take 3 whole) (one_at (take 3 whole) (drop 3 whole) refl (omega arith))),
+      Stepped draws refl tt (among (take 3 whole) (one_at (take 3 whole) (drop 3 whole) refl (omega arith))),
       (
-        Stepped asks tt (among (take 4 whole) (one_at (take 4 whole) (drop 4 whole) refl (omega arith))),
+        Stepped asks refl tt (among (take 4 whole) (one_at (take 4 whole) (drop 4 whole) refl (omega arith))),
         (
-          Stepped takes tt (among (take 5 whole) (one_at (take 5 whole) (drop 5 whole) refl (omega arith))),
+          Stepped takes refl tt (among (take 5 whole) (one_at (take 5 whole) (drop 5 whole) refl (omega arith))),
           (
-            Stepped commits tt (among (take 6 whole) (one_at (take 6 whole) (drop 6 whole) refl (omega arith))),
-            Waited refl refl others (among (take 7 whole) (one_at (take 7 whole) (drop 7 whole) refl (omega arith))),
+            Stepped commits refl tt (among (take 6 whole) (one_at (take 6 whole) (drop 6 whole) refl (omega arith))),
+            Waited refl refl refl others (among (take 7 whole) (one_at (take 7 whole) (drop 7 whole) refl (omega arith))),
           ),
         ),
       ),
@@ -232,7 +240,7 @@ module _ (first joined drawn waits taken last : Held) (h : HoldsOnTheWay first j
   )
 
   pub starts : FitsOne (behind 1 first)
-  starts = begins (behind 1 first) (one_at (take 1 whole) (drop 1 whole) refl (omega arith)) h.begins.client (λ n link is. apart n link (ap (λ (ls : List Link). slice_get ls n) (sym h.begins.links) ∙ is)) h.begins.copies_are
+  starts = begins (behind 1 first) (one_at (take 1 whole) (drop 1 whole) refl (omega arith)) h.begins.client (λ n link is. apart n link (ap (λ (ls : List Link). slice_get ls n) (sym h.begins.links) ∙ is)) h.begins.copies_are refl
     where
       apart : (n : ℕ) (link : Link) → slice_get (Apart ∷ []) n ≡ Some link → link ≡ Apart
       apart zero link is = sym (same_Some Apart link is)

@@ -12,20 +12,24 @@ use Rattle.client_laws.specs.Seen.{LinkAt}
 use Rattle.client_laws.specs.Steps.{AllSeenRight, LinksFit}
 use Rattle.client_laws.specs.Verdicts.{OutcomesTold}
 use Rattle.client_state.specs.Moving.{Aborted, Asked, AskedInVain, AskedOwn, CommitRefused, Committed, Connected, Decided, DecideRefused, Drawn, EndsSo, Fetched, Finished, Forgot, Granted, Moves, PrepareRefused, Prepared, ReceiveRefused, ReceiveStopped, Received, ReceivedNone, Rested, SendsNothing, Settled, Transformed, Unsent}
+use Rattle.client_state.specs.Pending.{IsAskingFor, NonePending, Pending, PendsSo}
 use Rattle.client_state.specs.declared.held.Held.{Held}
 use Rattle.client_state.specs.declared.link.Link.TheVariants as links
 use Rattle.client_state.specs.declared.link.Link.{Link}
+use Rattle.client_state.specs.declared.requests.Sending.{Sending}
 use Rattle.commit_log.specs.declared.entry.Entry.TheVariants as entry
 use Rattle.commit_log.specs.declared.entry.Entry.{Entry}
 use Rattle.commit_log.specs.declared.request.Request.{Request}
 use Rattle.fitting_steps.proofs.Alone.{all_right, never_prepared, none_open, of_each, still_committed}
+use Rattle.fitting_steps.proofs.Asked.{NonePrepared, step_stops, stopped_links, waits_stops}
 use Rattle.fitting_steps.proofs.Calls.{asks, step_fits, then_client, then_less}
 use Rattle.fitting_steps.proofs.Losing.{seen_grows}
 use Rattle.fitting_steps.proofs.Running.{new_client}
 use Rattle.fitting_steps.specs.Acting.{acts_of}
-use Rattle.fitting_steps.specs.OneRepository.{AsksRightly, BringsWhatStood, DecidesRightly, FitsOne, HasEnded, HasOneRepository, Leads, StepOwed, committed_there}
-use Rattle.fitting_steps.specs.Positions.{Position, Stepped, TurnBy, Waited}
+use Rattle.fitting_steps.specs.OneRepository.{BringsWhatStood, FitsOne, HasOneRepository, Leads, StepOwed, committed_there}
 use Rattle.fitting_steps.specs.Owed.{ClientFits, MessageOwed, Owed, SendsOwed, SettledOwed, VerdictOwed, verdict_of}
+use Rattle.fitting_steps.specs.Positions.{Position, Stepped, TurnBy, Waited}
+use Rattle.fitting_steps.specs.Undecided.{HasStoppedIn, StopsAlone}
 use Rattle.local_history.proofs.Growth.{kept_by-parts, sound-beginning}
 use Rattle.local_history.specs.History.{Base, known_by, start, state}
 use Rattle.local_history.specs.Sound.{owes, sound}
@@ -41,13 +45,17 @@ use Rattle.port.specs.Works.{Answered, AskWork, CommitWork, Does, PrepareWork, a
 use Rattle.session_outbox.proofs.Traces.{entries-append}
 use Rattle.session_outbox.specs.Notices.{lives}
 use Rattle.session_outbox.specs.Trace.{E, Item, entries}
-use Rattle.std.proofs.Common.{Bool, List, [], ap, arith, false, refl, subst, sym, true, ◌++◌, ◌∙◌, ◌∷◌, ◌≡◌, ℕ}
+use Rattle.std.proofs.Common.{Bool, List, [], ap, arith, false, inl, inr, refl, subst, suc, sym, true, zero, ◌++◌, ◌∙◌, ◌∷◌, ◌≡◌, ℕ}
 use Rattle.std.specs.List.{slice_get}
-use Rattle.std.specs.Prelude.{None, Ok, Option, Some, length, ◌<◌, ◌^◌, ◌≤◌}
+use Rattle.std.specs.Prelude.{None, Ok, Option, Some, length, ◌<◌, ◌^◌, ◌≤◌, ◌⊎◌}
 use Rattle.thor_value.specs.declared.names.Oref.{Oref}
 use Rattle.thor_value.specs.declared.names.Ts.{Ts}
 
 -- ---- what is never shown
+
+first_or_not : (r : ℕ) → (r < 1) ⊎ (1 ≤ r)
+first_or_not zero = inl (omega arith)
+first_or_not (suc r) = inr (omega arith)
 
 module _ (b : Base) (one : b.repos ≡ 1) (first : b.repo ≡ 0) where
   -- no entry of a sound trace prepares a transaction
@@ -58,20 +66,6 @@ module _ (b : Base) (one : b.repos ≡ 1) (first : b.repo ≡ 0) where
     where
       owed : (H : List Entry) (e : Entry) (more : List Entry) → sound b (H ++ e ∷ more) → owes b (state b H) e
       owed H e more s = (kept_by-parts b (start b) H (e ∷ more) s).1.0
-
-  -- and nothing shows that all have prepared one
-  never_shown : (traces : ℕ → List Item) (t : Ts) → sound b (entries (traces 0)) → AllHavePrepared traces 0 t → ⊥
-  never_shown traces t sd h =
-      let found = in_front t (traces 0) h.1.0 h.1.1.0 h.0 h.1.1.1 h.1.2 in
-      none_prepared found.0.0 found.0.1 h.0 (subst (λ (T : List Item). sound b (entries T)) found.0.2 sd)
-
--- ---- a session that has ended
-
-pub ended_at : (port : View) (r : ℕ) (committed later : Ts → Bool) (link : Option Link) (copies left : Copies) → HasEnded port r link left → LinkAt port r committed link copies → LinkAt port r later link left
-ended_at port r committed later None copies left e f = tt
-ended_at port r committed later (Some links.Apart) copies left e f = e
-ended_at port r committed later (Some (links.Joined s upto waits)) copies left e f = record { v = f.v; there = f.there; own = f.own; keeps = λ calm live. absurd (e calm (ap lives f.there ∙ live)) }
-ended_at port r committed later (Some (links.Unsettled sent index)) copies left e f = e
 
 -- ---- a step
 
@@ -143,65 +137,99 @@ module _ (old new : View) (same : new.opened ≡ old.opened) (one : HasOneReposi
     message r (Upgrade number text place) o = λ inside. of_each new then_one (λ n. length (entries (new.seen n)) < 2 ^ 64) then_one.short r inside
 
     -- nothing is prepared
-    unprepared : (r s : ℕ) (q : Request) (place : ℕ) → Does {X = ℕ} old new r (Ok place) (PrepareWork s q (Ok place)) → r < new.opened.repos → ⊥
-    unprepared r s q place d inside = by d.met d.answer
+    unprepared : (s : Sending) (place : ℕ) → Does {X = ℕ} old new s.at.repo (Ok place) (PrepareWork s.at.session s.request (Ok place)) → ⊥
+    unprepared s place d = by d.met d.answer
       where
-        by : (met : views.Unsettled) → Answered {X = ℕ} r (Ok place) met d.at (new.seen r) (new.unsettled r) (PrepareWork s q (Ok place) (old.opened.base r) d.at (new.seen r) (new.unsettled r)) → ⊥
-        by Calm w =
-            let all : sound (new.opened.base r) (entries (new.seen r)) = of_each new then_one (λ n. sound (new.opened.base n) (entries (new.seen n))) then_one.owed r inside in
-            none_prepared (new.opened.base r) (of_each new then_one (λ n. (new.opened.base n).repos ≡ 1) then_one.counted r inside) (of_each new then_one (λ n. (new.opened.base n).repo ≡ 0) then_one.numbered r inside) d.at [] q
-            (subst (λ (T : List Item). sound (new.opened.base r) (entries T)) w.2.0 all)
+        prepares : new.seen s.at.repo ≡ d.at ++ E (entry.Prepared s.request) ∷ [] → (s.at.repo < 1) ⊎ (1 ≤ s.at.repo) → ⊥
+        prepares e (inl low) =
+            let inside : s.at.repo < new.opened.repos = subst (λ (n : ℕ). s.at.repo < n) (sym then_one.one) low in
+            let all : sound (new.opened.base s.at.repo) (entries (new.seen s.at.repo)) = of_each new then_one (λ n. sound (new.opened.base n) (entries (new.seen n))) then_one.owed s.at.repo inside in
+            none_prepared (new.opened.base s.at.repo) (of_each new then_one (λ n. (new.opened.base n).repos ≡ 1) then_one.counted s.at.repo inside) (of_each new then_one (λ n. (new.opened.base n).repo ≡ 0) then_one.numbered s.at.repo inside) d.at [] s.request
+            (subst (λ (T : List Item). sound (new.opened.base s.at.repo) (entries T)) e all)
+        prepares e (inr high) = entered (entries d.at) (sym (entries-append d.at (E (entry.Prepared s.request) ∷ [])) ∙ (ap entries (sym e) ∙ then_one.outside s.at.repo high))
+          where
+            entered : (H : List Entry) → H ++ entry.Prepared s.request ∷ [] ≡ [] → ⊥
+            entered [] k = cc
+            entered (x ∷ H) k = cc
+
+        by : (met : views.Unsettled) → Answered {X = ℕ} s.at.repo (Ok place) met d.at (new.seen s.at.repo) (new.unsettled s.at.repo) (PrepareWork s.at.session s.request (Ok place) (old.opened.base s.at.repo) d.at (new.seen s.at.repo) (new.unsettled s.at.repo)) → ⊥
+        by Calm w = prepares w.2.0 (first_or_not s.at.repo)
         by (MayCome e) w = absurd w.0
         by Came w = absurd w.0
         by Halted w = absurd w.0
 
-    decided : (x : Bool) (at : At) (t : Ts) → DecidesRightly x old at t → VerdictOwed x old committed later t before
-    decided false at t o = tt
-    decided true at t o = absurd (of_each old one (λ n. AllHavePrepared old.seen n t → ⊥) (never_shown b one.counted one.numbered old.seen t one.owed) at.repo o.there o.shown.1)
+    prepares_none : (moves : Moves old new before after) → NonePrepared old new before after moves
+    prepares_none (Unsent sends) = tt
+    prepares_none (Received at m does there takes same') = tt
+    prepares_none (ReceivedNone at does there waits same' fewer) = tt
+    prepares_none (ReceiveRefused at k does there loses same') = tt
+    prepares_none (ReceiveStopped at k does there outage stops same' fewer) = tt
+    prepares_none (Prepared s place does of less) = unprepared s place does
+    prepares_none (PrepareRefused s k does of idle learns same') = tt
+    prepares_none (Committed s place does of session wrote held idle keeps) = tt
+    prepares_none (Transformed s place oref made does of session writes here held idle keeps) = tt
+    prepares_none (CommitRefused s k does of idle learns same') = tt
+    prepares_none (Decided at t v does idle ends) = tt
+    prepares_none (Aborted at t v does less) = tt
+    prepares_none (DecideRefused at t commit k does loses same') = tt
+    prepares_none (Finished r t commit result does less) = tt
+    prepares_none (Forgot r t result does less) = tt
+    prepares_none (AskedOwn r t v does ends) = tt
+    prepares_none (AskedInVain r t result does leaves same' fewer) = tt
 
     module _ (fits : ClientFits old committed before) where
-      -- what the try has written is the client's, where its session has ended
-      ended : HasEnded old 0 (slice_get before.links.items 0) (seen before.cache.cache) → LinksFit old later before.links.items (seen before.cache.cache)
-      ended h = record { each = of_each old one (λ n. LinkAt old n later (slice_get before.links.items n) (seen before.cache.cache)) (ended_at old 0 committed later (slice_get before.links.items 0) (kept before.cache.cache) (seen before.cache.cache) h (fits.links.each 0 first)) }
-        where
-          first : 0 < old.opened.repos
-          first = subst (λ (n : ℕ). 0 < n) (sym one.one) (omega arith)
+      abbrev Stops : Pending → Type 0
+      Stops p = StopsAlone p old before
 
-      asked : (r : ℕ) (t : Ts) (v : Verdict) → Does {X = answer.Asked} old new r (Ok (answers.Settled v)) (AskWork t (Ok (answers.Settled v))) → (x : Bool) → v.commit ≡ x → EndsSo x before after → AsksRightly x old before → ClientFits new later after
-      asked r t v d true is ends o =
+      -- what the try has written is the client's, where its session has ended
+      stopped : (at : At) → HasStoppedIn at old before → LinksFit old later before.links.items (seen before.cache.cache)
+      stopped at h = stopped_links old before committed later (λ r within. of_each old one (λ n. (old.opened.base n).repo ≡ n) one.numbered r within) (outcomes before.links.items None) fits.links at h
+
+      asked : (r : ℕ) (t : Ts) (v : Verdict) → Does {X = answer.Asked} old new r (Ok (answers.Settled v)) (AskWork t (Ok (answers.Settled v))) → (x : Bool) → v.commit ≡ x → EndsSo x before after → (p : Pending) → IsAskingFor t p → Stops p → ClientFits new later after
+      asked r t v d true is ends p asking stops =
           then_client old new before after committed later right fits ends.0 d.called.same (then_less old new before after committed later right fits (seen before.cache.cache) ends.1 ends.2
-          (ask_all old new r before.links.items (seen before.cache.cache) later right (ended o) t (Ok (answers.Settled v)) d))
-      asked r t v d false is ends o = asks old new before after committed later right fits r t v d false is ends tt (outcomes before.links.items None)
+          (ask_all old new r before.links.items (seen before.cache.cache) later right (stopped asking.0 (subst Stops asking.1 stops)) t (Ok (answers.Settled v)) d))
+      asked r t v d false is ends p asking stops = asks old new before after committed later right fits r t v d false is ends tt (outcomes before.links.items None)
 
       by_owed : (moves : Moves old new before after) → Owed old new before after committed later moves → ClientFits new later after
       by_owed moves owed = step_fits old new before after committed later moves owed (outcomes before.links.items (verdict_of old new before after moves)) right fits
 
-      pub step : (moves : Moves old new before after) → StepOwed old new before after moves → ClientFits new later after
-      step (Unsent a) o = by_owed (Unsent a) (sends a)
-      step (Received at m d there takes stays) o = by_owed (Received at m d there takes stays) (message at.repo m o)
-      step (ReceivedNone at d there waits stays fewer) o = by_owed (ReceivedNone at d there waits stays fewer) tt
-      step (ReceiveRefused at k d there loses stays) o = by_owed (ReceiveRefused at k d there loses stays) tt
-      step (ReceiveStopped at k d there outage stops stays fewer) o = by_owed (ReceiveStopped at k d there outage stops stays fewer) tt
-      step (Prepared s place d of less) o = by_owed (Prepared s place d of less) (λ inside. absurd (unprepared s.at.repo s.at.session s.request place d inside))
-      step (PrepareRefused s k d of idle learns stays) o = by_owed (PrepareRefused s k d of idle learns stays) tt
-      step (Committed s place d of in_it wrote held idle keeps) o = by_owed (Committed s place d of in_it wrote held idle keeps) (settled_at s.at.repo s.at.session d.at (commit_front old new s.at.repo s.at.session s.request place d))
-      step (Transformed s place oref made d of session writes here held idle keeps) o = by_owed (Transformed s place oref made d of session writes here held idle keeps) (settled_at s.at.repo s.at.session d.at (commit_front old new s.at.repo s.at.session s.request place d))
-      step (CommitRefused s k d of idle learns stays) o = by_owed (CommitRefused s k d of idle learns stays) tt
-      step (Decided at t v d idle ends) o = by_owed (Decided at t v d idle ends) (decided v.commit at t o)
-      step (Aborted at t v d less) o = by_owed (Aborted at t v d less) tt
-      step (DecideRefused at t commit k d loses stays) o = by_owed (DecideRefused at t commit k d loses stays) tt
-      step (Finished r t commit result d less) o = by_owed (Finished r t commit result d less) tt
-      step (Forgot r t result d less) o = by_owed (Forgot r t result d less) tt
-      step (AskedOwn r t v d ends) o = asked r t v d v.commit refl ends o
-      step (AskedInVain r t result d leave stays fewer) o = by_owed (AskedInVain r t result d leave stays fewer) tt
+      pub step : (moves : Moves old new before after) (p z : Pending) → PendsSo old new before after moves p z → Stops p → StepOwed old new before after moves → ClientFits new later after
+      step (Unsent a) p z h k o = by_owed (Unsent a) (sends a)
+      step (Received at m d there takes stays) p z h k o = by_owed (Received at m d there takes stays) (message at.repo m o)
+      step (ReceivedNone at d there waits stays fewer) p z h k o = by_owed (ReceivedNone at d there waits stays fewer) tt
+      step (ReceiveRefused at k d there loses stays) p z h k o = by_owed (ReceiveRefused at k d there loses stays) tt
+      step (ReceiveStopped at k d there outage stops stays fewer) p z h k o = by_owed (ReceiveStopped at k d there outage stops stays fewer) tt
+      step (Prepared s place d of less) p z h k o = absurd (unprepared s place d)
+      step (PrepareRefused s k d of idle learns stays) p z h k o = by_owed (PrepareRefused s k d of idle learns stays) tt
+      step (Committed s place d of in_it wrote held idle keeps) p z h k o = by_owed (Committed s place d of in_it wrote held idle keeps) (settled_at s.at.repo s.at.session d.at (commit_front old new s.at.repo s.at.session s.request place d))
+      step (Transformed s place oref made d of session writes here held idle keeps) p z h k o = by_owed (Transformed s place oref made d of session writes here held idle keeps) (settled_at s.at.repo s.at.session d.at (commit_front old new s.at.repo s.at.session s.request place d))
+      step (CommitRefused s k d of idle learns stays) p z h k o = by_owed (CommitRefused s k d of idle learns stays) tt
+      step (Decided at t v d idle ends) p z h k o = absurd (subst Stops h.0 k)
+      step (Aborted at t v d less) p z h k o = by_owed (Aborted at t v d less) tt
+      step (DecideRefused at t commit k d loses stays) p z h k o = by_owed (DecideRefused at t commit k d loses stays) tt
+      step (Finished r t commit result d less) p z h k o = by_owed (Finished r t commit result d less) tt
+      step (Forgot r t result d less) p z h k o = by_owed (Forgot r t result d less) tt
+      step (AskedOwn r t v d ends) p z h k o = asked r t v d v.commit refl ends p h.0 k
+      step (AskedInVain r t result d leave stays fewer) p z h k o = by_owed (AskedInVain r t result d leave stays fewer) tt
 
 -- ---- a run
 
 turn : (a z : Position) → TurnBy HasOneRepository StepOwed a z → FitsOne a → FitsOne z
-turn a z (Stepped moves o one) f =
+turn a z (Stepped moves pends o one) f =
     let acts = acts_of a.port z.port a.held z.held moves in
-    record { only = one; fits = step a.port z.port (opened_stays a.port z.port acts) f.only one (seen_grows a.port z.port acts 0) a.held z.held f.fits moves o }
-turn a z (Waited same opened grew one) f = record { only = one; fits = waited }
+    let same = opened_stays a.port z.port acts in
+    let grows = seen_grows a.port z.port acts 0 in
+    record {
+      only = one;
+      fits = step a.port z.port same f.only one grows a.held z.held f.fits moves a.pending z.pending pends f.stops o;
+      stops = step_stops a.port z.port a.held z.held same (committed_there a.port) (committed_there z.port) (all_right z.port one) f.fits moves (prepares_none a.port z.port same f.only one grows a.held z.held moves) a.pending z.pending pends f.stops;
+    }
+turn a z (Waited same undecided opened grew one) f = record {
+  only = one;
+  fits = waited;
+  stops = subst (λ (h : Held). StopsAlone z.pending z.port h) (sym same) (subst (λ (q : Pending). StopsAlone q z.port a.held) (sym undecided) (waits_stops a.port z.port a.held opened grew (committed_there a.port) (committed_there z.port) (all_right z.port one) f.fits a.pending f.stops));
+}
   where
     first : 0 < a.port.opened.repos
     first = subst (λ (n : ℕ). 0 < n) (sym f.only.one) (omega arith)
@@ -224,5 +252,5 @@ running a z [] t f = turn a z t f
 running a z (p ∷ ps) t f = running p z ps t.1 (turn a p t.0 f)
 
 pub begins : (p : Position) → HasOneRepository p.port → p.held.client ≡ p.port.opened.client → ((n : ℕ) (link : Link) → slice_get p.held.links.items n ≡ Some link → link ≡ links.Apart)
-    → ((x : Oref) → kept p.held.cache.cache x ≡ None) → FitsOne p
-begins p one own apart none = record { only = one; fits = new_client p.port (committed_there p.port) p.held own (subst (λ (n : ℕ). n ≤ 8) (sym one.one) (omega arith)) apart none }
+    → ((x : Oref) → kept p.held.cache.cache x ≡ None) → p.pending ≡ NonePending → FitsOne p
+begins p one own apart none free = record { only = one; fits = new_client p.port (committed_there p.port) p.held own (subst (λ (n : ℕ). n ≤ 8) (sym one.one) (omega arith)) apart none; stops = subst (λ (q : Pending). StopsAlone q p.port p.held) (sym free) tt }

@@ -18,6 +18,7 @@ use Rattle.client_laws.specs.Steps.{AllSeenRight, LinksFit}
 use Rattle.client_laws.specs.Verdicts.{OutcomesTold}
 use Rattle.client_state.specs.Calling.{is_session_of}
 use Rattle.client_state.specs.Moving.{Aborted, Asked, AskedInVain, AskedOwn, CommitRefused, Committed, Connected, Decided, DecideRefused, Drawn, EndsSo, Fetched, Finished, Forgot, Granted, InSession, Moves, PrepareRefused, Prepared, ReceiveRefused, ReceiveStopped, Received, ReceivedNone, Rested, SendsNothing, Settled, Transformed, Unsent}
+use Rattle.client_state.specs.Pending.{NonePending, Pending, PendsSo, RefusesToDecide}
 use Rattle.client_state.specs.declared.held.Held.{Held}
 use Rattle.client_state.specs.declared.link.Link.TheVariants as links
 use Rattle.client_state.specs.declared.link.Link.{Link}
@@ -26,10 +27,11 @@ use Rattle.commit_log.specs.declared.entry.Entry.TheVariants as entry
 use Rattle.commit_log.specs.declared.entry.Entry.{Entry}
 use Rattle.commit_log.specs.declared.request.Request.{Request}
 use Rattle.fitting_steps.proofs.Alone.{still_committed}
+use Rattle.fitting_steps.proofs.Asked.{NonePrepared, step_stops, stopped_links, waits_stops}
 use Rattle.fitting_steps.proofs.Calls.{asks, step_fits, then_client, then_less}
 use Rattle.fitting_steps.proofs.Changes.{HasSession, has_session}
 use Rattle.fitting_steps.proofs.Losing.{WasIts, seen_grows}
-use Rattle.fitting_steps.proofs.OneStep.{commit_front, ended_at}
+use Rattle.fitting_steps.proofs.OneStep.{commit_front}
 use Rattle.fitting_steps.proofs.Paging.{accepted_lives}
 use Rattle.fitting_steps.proofs.Quieting.{from_quiet, settles, stay_quiet, waits_quiet}
 use Rattle.fitting_steps.proofs.Running.{new_client}
@@ -38,7 +40,8 @@ use Rattle.fitting_steps.specs.OneRepository.{BringsWhatStood}
 use Rattle.fitting_steps.specs.Owed.{ClientFits, MessageOwed, Owed, SendsOwed, SettledOwed, verdict_of}
 use Rattle.fitting_steps.specs.Positions.{Position, Stepped, TurnBy, Waited}
 use Rattle.fitting_steps.specs.Quiet.{AreQuiet}
-use Rattle.fitting_steps.specs.SingleParts.{AsksOnlyEnded, FitsAll, HasRepositories, LeadsSingly, PartOwed}
+use Rattle.fitting_steps.specs.SingleParts.{FitsAll, HasRepositories, LeadsSingly, PartOwed}
+use Rattle.fitting_steps.specs.Undecided.{HasStoppedIn, StopsAlone}
 use Rattle.local_history.proofs.Growth.{sound-beginning}
 use Rattle.local_history.proofs.Listed.{recorded}
 use Rattle.local_history.specs.History.{Known, Open, known_by}
@@ -144,6 +147,71 @@ module _ (old new : View) (same : new.opened ≡ old.opened) (one : HasRepositor
 
 -- ---- what a step asks for
 
+-- what is asked of a step, with what follows where nothing is ever prepared: it isn't decided to commit, and what is asked about was sent by a call
+-- that stopped
+abbrev PartMay : (old new : View) (before after : Held) → Moves old new before after → Type 0
+PartMay old new before after (Unsent sends) = Unit {0}
+PartMay old new before after (Received at m does there takes same) = BringsWhatStood new at.repo m
+PartMay old new before after (ReceivedNone at does there waits same fewer) = Unit {0}
+PartMay old new before after (ReceiveRefused at k does there loses same) = Unit {0}
+PartMay old new before after (ReceiveStopped at k does there outage stops same fewer) = Unit {0}
+PartMay old new before after (Prepared s place does of less) = ⊥
+PartMay old new before after (PrepareRefused s k does of idle learns same) = ⊥
+PartMay old new before after (Committed s place does of session wrote held idle keeps) = Unit {0}
+PartMay old new before after (Transformed s place oref made does of session writes here held idle keeps) = Unit {0}
+PartMay old new before after (CommitRefused s k does of idle learns same) = Unit {0}
+PartMay old new before after (Decided at t v does idle ends) = ⊥
+PartMay old new before after (Aborted at t v does less) = Unit {0}
+PartMay old new before after (DecideRefused at t commit k does loses same) = commit ≡ false
+PartMay old new before after (Finished r t commit result does less) = Unit {0}
+PartMay old new before after (Forgot r t result does less) = Unit {0}
+PartMay old new before after (AskedOwn r t v does ends) = (at : At) × HasStoppedIn at old before
+PartMay old new before after (AskedInVain r t result does leaves same fewer) = Unit {0}
+
+module _ (old new : View) (before after : Held) where
+  decides_so : (commit : Bool) (at : At) (t : Ts) (p z : Pending) → RefusesToDecide commit at t p z before after → StopsAlone p old before → commit ≡ false
+  decides_so true at t p z h k = absurd (subst (λ (q : Pending). StopsAlone q old before) h.0 k)
+  decides_so false at t p z h k = refl
+
+  may : (moves : Moves old new before after) (p z : Pending) → PendsSo old new before after moves p z → StopsAlone p old before → PartOwed old new before after moves → PartMay old new before after moves
+  may (Unsent sends) p z h k o = tt
+  may (Received at m does there takes same) p z h k o = o
+  may (ReceivedNone at does there waits same fewer) p z h k o = tt
+  may (ReceiveRefused at e does there loses same) p z h k o = tt
+  may (ReceiveStopped at e does there outage stops same fewer) p z h k o = tt
+  may (Prepared s place does of less) p z h k o = o
+  may (PrepareRefused s e does of idle learns same) p z h k o = o
+  may (Committed s place does of session wrote held idle keeps) p z h k o = tt
+  may (Transformed s place oref made does of session writes here held idle keeps) p z h k o = tt
+  may (CommitRefused s e does of idle learns same) p z h k o = tt
+  may (Decided at t v does idle ends) p z h k o = subst (λ (q : Pending). StopsAlone q old before) h.0 k
+  may (Aborted at t v does less) p z h k o = tt
+  may (DecideRefused at t commit e does loses same) p z h k o = decides_so commit at t p z h k
+  may (Finished r t commit result does less) p z h k o = tt
+  may (Forgot r t result does less) p z h k o = tt
+  may (AskedOwn r t v does ends) p z h k o = (h.0.0, subst (λ (q : Pending). StopsAlone q old before) h.0.1 k)
+  may (AskedInVain r t result does leaves same fewer) p z h k o = tt
+
+  -- no step prepares anything
+  unprepared : (moves : Moves old new before after) → PartOwed old new before after moves → NonePrepared old new before after moves
+  unprepared (Unsent sends) o = tt
+  unprepared (Received at m does there takes same) o = tt
+  unprepared (ReceivedNone at does there waits same fewer) o = tt
+  unprepared (ReceiveRefused at e does there loses same) o = tt
+  unprepared (ReceiveStopped at e does there outage stops same fewer) o = tt
+  unprepared (Prepared s place does of less) o = absurd o
+  unprepared (PrepareRefused s e does of idle learns same) o = tt
+  unprepared (Committed s place does of session wrote held idle keeps) o = tt
+  unprepared (Transformed s place oref made does of session writes here held idle keeps) o = tt
+  unprepared (CommitRefused s e does of idle learns same) o = tt
+  unprepared (Decided at t v does idle ends) o = tt
+  unprepared (Aborted at t v does less) o = tt
+  unprepared (DecideRefused at t commit e does loses same) o = tt
+  unprepared (Finished r t commit result does less) o = tt
+  unprepared (Forgot r t result does less) o = tt
+  unprepared (AskedOwn r t v does ends) o = tt
+  unprepared (AskedInVain r t result does leaves same fewer) o = tt
+
 no_request : (q : Request) (t : Ts) → concerns t (alone_entry q) ≡ false
 no_request q t = by (is_upgrade q)
   where
@@ -177,7 +245,7 @@ module _ (old new : View) (before after : Held) where
   sends_nothing (Asked r t result d less) = none
   sends_nothing (Settled r t v sent index d there stays links' fewer) = none
 
-  asks_nothing : (moves : Moves old new before after) → PartOwed old new before after moves → Nothing (entry_asked old new (acts_of old new before after moves))
+  asks_nothing : (moves : Moves old new before after) → PartMay old new before after moves → Nothing (entry_asked old new (acts_of old new before after moves))
   asks_nothing (Unsent a) o = sends_nothing a
   asks_nothing (Received at m d there takes stays) o = none
   asks_nothing (ReceivedNone at d there waits stays fewer) o = none
@@ -198,7 +266,7 @@ module _ (old new : View) (before after : Held) where
 
 -- ---- a step
 
-module _ (old new : View) (before after : Held) (one : HasRepositories old) (then_one : HasRepositories new) (moves : Moves old new before after) (owed : PartOwed old new before after moves)
+module _ (old new : View) (before after : Held) (one : HasRepositories old) (then_one : HasRepositories new) (moves : Moves old new before after) (owed : PartMay old new before after moves)
     (fits : ClientFits old (committed (seen_histories old)) before) (quiet : AreQuiet old before.links.items (λ t. false)) where
   abbrev behind : Ts → Bool
   behind = committed (seen_histories new)
@@ -279,31 +347,22 @@ module _ (old new : View) (before after : Held) (one : HasRepositories old) (the
   message r (Upgrade number text place) o = λ inside. then_one.short r inside
 
   -- what the try has written, where its session has ended, and elsewhere what was held
-  ended : AsksOnlyEnded true old before → LinksFit old behind before.links.items (seen before.cache.cache)
-  ended h = record {
-    each = λ r within. elim (h r within) [
-      | inl e ↦ ended_at old r (committed (seen_histories old)) behind (slice_get before.links.items r) (kept before.cache.cache) (seen before.cache.cache) e (fits.links.each r within)
-      | inr same ↦ by r (slice_get before.links.items r) same ((others_told old before.links.items (committed (seen_histories old)) behind (kept before.cache.cache) (told None) fits.links).each r within)
-    ];
-  }
-    where
-      by : (r : ℕ) (o : Option Link) → SameCopies (old.opened.base r) (seen before.cache.cache) (kept before.cache.cache) → LinkAt old r behind o (kept before.cache.cache) → LinkAt old r behind o (seen before.cache.cache)
-      by r None same f = tt
-      by r (Some link) same f = same_there old r behind link (kept before.cache.cache) (seen before.cache.cache) same f
+  ended : (at : At) → HasStoppedIn at old before → LinksFit old behind before.links.items (seen before.cache.cache)
+  ended at h = stopped_links old before (committed (seen_histories old)) behind one.numbered (told None) fits.links at h
 
-  asked : (r : ℕ) (t : Ts) (v : Verdict) → Does {X = answer.Asked} old new r (Ok (answers.Settled v)) (AskWork t (Ok (answers.Settled v))) → (x : Bool) → v.commit ≡ x → EndsSo x before after → AsksOnlyEnded x old before → ClientFits new behind after
-  asked r t v d true is ends o =
+  asked : (r : ℕ) (t : Ts) (v : Verdict) → Does {X = answer.Asked} old new r (Ok (answers.Settled v)) (AskWork t (Ok (answers.Settled v))) → (x : Bool) → v.commit ≡ x → EndsSo x before after → (at : At) → HasStoppedIn at old before → ClientFits new behind after
+  asked r t v d true is ends at h =
       then_client old new before after (committed (seen_histories old)) behind right fits ends.0 d.called.same (then_less old new before after (committed (seen_histories old)) behind right fits (seen before.cache.cache) ends.1 ends.2
-      (ask_all old new r before.links.items (seen before.cache.cache) behind right (ended o) t (Ok (answers.Settled v)) d))
-  asked r t v d false is ends o = asks old new before after (committed (seen_histories old)) behind right fits r t v d false is ends tt (told None)
+      (ask_all old new r before.links.items (seen before.cache.cache) behind right (ended at h) t (Ok (answers.Settled v)) d))
+  asked r t v d false is ends at h = asks old new before after (committed (seen_histories old)) behind right fits r t v d false is ends tt (told None)
 
-by_owed : (old new : View) (before after : Held) (one : HasRepositories old) (then_one : HasRepositories new) (moves : Moves old new before after) (part : PartOwed old new before after moves)
+by_owed : (old new : View) (before after : Held) (one : HasRepositories old) (then_one : HasRepositories new) (moves : Moves old new before after) (part : PartMay old new before after moves)
     (fits : ClientFits old (committed (seen_histories old)) before) (quiet : AreQuiet old before.links.items (λ t. false)) → Owed old new before after (committed (seen_histories old)) (committed (seen_histories new)) moves → ClientFits new (committed (seen_histories new)) after
 by_owed old new before after one then_one moves part fits quiet owed =
     step_fits old new before after (committed (seen_histories old)) (committed (seen_histories new)) moves owed (told old new before after one then_one moves part fits quiet (verdict_of old new before after moves)) (all_right new then_one) fits
 
 module _ (old new : View) (before after : Held) (one : HasRepositories old) (then_one : HasRepositories new) (fits : ClientFits old (committed (seen_histories old)) before) (quiet : AreQuiet old before.links.items (λ t. false)) where
-  step : (moves : Moves old new before after) → PartOwed old new before after moves → ClientFits new (committed (seen_histories new)) after
+  step : (moves : Moves old new before after) → PartMay old new before after moves → ClientFits new (committed (seen_histories new)) after
   step (Unsent a) o = by_owed old new before after one then_one (Unsent a) o fits quiet (sends old new before after one then_one (Unsent a) o fits quiet a)
   step (Received at m d there takes stays) o = by_owed old new before after one then_one (Received at m d there takes stays) o fits quiet (message old new before after one then_one (Received at m d there takes stays) o fits quiet at.repo m o)
   step (ReceivedNone at d there waits stays fewer) o = by_owed old new before after one then_one (ReceivedNone at d there waits stays fewer) o fits quiet tt
@@ -321,18 +380,32 @@ module _ (old new : View) (before after : Held) (one : HasRepositories old) (the
   step (DecideRefused at t commit k d loses stays) o = by_owed old new before after one then_one (DecideRefused at t commit k d loses stays) o fits quiet tt
   step (Finished r t commit result d less) o = by_owed old new before after one then_one (Finished r t commit result d less) o fits quiet tt
   step (Forgot r t result d less) o = by_owed old new before after one then_one (Forgot r t result d less) o fits quiet tt
-  step (AskedOwn r t v d ends) o = asked old new before after one then_one (AskedOwn r t v d ends) o fits quiet r t v d v.commit refl ends o
+  step (AskedOwn r t v d ends) o = asked old new before after one then_one (AskedOwn r t v d ends) o fits quiet r t v d v.commit refl ends o.0 o.1
   step (AskedInVain r t result d leave stays fewer) o = by_owed old new before after one then_one (AskedInVain r t result d leave stays fewer) o fits quiet tt
 
 -- ---- a run
 
+-- what is asked about stays so, where nothing is prepared
+stops_on : (old new : View) (before after : Held) → HasRepositories new → ClientFits old (committed (seen_histories old)) before → (moves : Moves old new before after) (p z : Pending) → PendsSo old new before after moves p z → StopsAlone p old before → PartOwed old new before after moves
+    → StopsAlone z new after
+stops_on old new before after then_one fits moves p z h k o =
+    step_stops old new before after (opened_stays old new (acts_of old new before after moves)) (committed (seen_histories old)) (committed (seen_histories new)) (all_right new then_one) fits moves (unprepared old new before after moves o) p z h k
+
 turn : (a z : Position) → TurnBy HasRepositories PartOwed a z → FitsAll a → FitsAll z
-turn a z (Stepped moves o one) f = record {
+turn a z (Stepped moves pends o one) f =
+    let m : PartMay a.port z.port a.held z.held moves = may a.port z.port a.held z.held moves a.pending z.pending pends f.stops o in
+    record {
+      there = one;
+      fits = step a.port z.port a.held z.held f.there one f.fits f.quiet moves m;
+      quiet = quiet_now a.port z.port a.held z.held f.there one moves m f.fits f.quiet;
+      stops = stops_on a.port z.port a.held z.held one f.fits moves a.pending z.pending pends f.stops o;
+    }
+turn a z (Waited same undecided opened grew one) f = record {
   there = one;
-  fits = step a.port z.port a.held z.held f.there one f.fits f.quiet moves o;
-  quiet = quiet_now a.port z.port a.held z.held f.there one moves o f.fits f.quiet;
+  fits = waited;
+  stops = subst (λ (h : Held). StopsAlone z.pending z.port h) (sym same) (subst (λ (q : Pending). StopsAlone q z.port a.held) (sym undecided) (waits_stops a.port z.port a.held opened grew (committed (seen_histories a.port)) (committed (seen_histories z.port)) (all_right z.port one) f.fits a.pending f.stops));
+  quiet = subst (λ (h : Held). AreQuiet z.port h.links.items (λ t. false)) (sym same) (waits_quiet a.port z.port (committed (seen_histories z.port)) opened grew (all_right z.port one) a.held.links.items (λ t. false) f.quiet);
 }
-turn a z (Waited same opened grew one) f = record { there = one; fits = waited; quiet = subst (λ (h : Held). AreQuiet z.port h.links.items (λ t. false)) (sym same) (waits_quiet a.port z.port (committed (seen_histories z.port)) opened grew (all_right z.port one) a.held.links.items (λ t. false) f.quiet) }
   where
     still_doomed : (t : Ts) → t.repo < a.port.opened.repos → IsDoomed a.port t → IsDoomed z.port t
     still_doomed t within d =
@@ -357,11 +430,12 @@ running a z [] t f = turn a z t f
 running a z (p ∷ ps) t f = running p z ps t.1 (turn a p t.0 f)
 
 pub begins : (p : Position) → HasRepositories p.port → p.held.client ≡ p.port.opened.client → ((n : ℕ) (link : Link) → slice_get p.held.links.items n ≡ Some link → link ≡ links.Apart)
-    → ((x : Oref) → kept p.held.cache.cache x ≡ None) → FitsAll p
-begins p one own apart none = record {
+    → ((x : Oref) → kept p.held.cache.cache x ≡ None) → p.pending ≡ NonePending → FitsAll p
+begins p one own apart none free = record {
   there = one;
   fits = new_client p.port (committed (seen_histories p.port)) p.held own one.few apart none;
   quiet = record { each = λ r s within its. absurd (by r s (slice_get p.held.links.items r) refl its) };
+  stops = subst (λ (q : Pending). StopsAlone q p.port p.held) (sym free) tt;
 }
   where
     by : (r s : ℕ) (o : Option Link) → slice_get p.held.links.items r ≡ o → is_session_of s o ≡ true → ⊥

@@ -7,3 +7,4 @@ pub mod Positions
 pub mod Quiet
 pub mod Runs
 pub mod SingleParts
+pub mod Undecided

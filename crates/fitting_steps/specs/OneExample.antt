@@ -3,6 +3,7 @@
 use Rattle.client_cache.specs.Copies.{kept}
 use Rattle.client_laws.specs.Examples.{no_copy}
 use Rattle.client_laws.specs.Fitting.{Copies, with_writes}
+use Rattle.client_state.specs.Pending.{NonePending}
 use Rattle.client_state.specs.Writing.{WritesThere}
 use Rattle.client_state.specs.declared.held.Held.{Held}
 use Rattle.client_state.specs.declared.link.Link.TheVariants.{Apart, Joined}
@@ -38,9 +39,9 @@ seeing T = record {
   unsettled = λ r. Calm;
 }
 
--- the position behind the first items
+-- the position behind the first items, where nothing is undecided
 abbrev pub behind : ℕ → Held → Position
-behind n held = record { port = seeing (take n whole); held = held }
+behind n held = record { port = seeing (take n whole); held = held; pending = NonePending }
 
 -- Client 1 has this link with the repository, and these copies.
 pub record HoldsThis (link : Link) (copies : Copies) (held : Held) : Type 0 where

@@ -1,18 +1,16 @@
 -- A client over several repositories, each of whose transactions commits at one of them (this project's).
 use Rattle.atomic_histories.specs.Several.{committed}
-use Rattle.client_cache.specs.Copies.{kept, seen}
-use Rattle.client_laws.specs.Fitting.{SameCopies}
 use Rattle.client_state.specs.Moving.{Aborted, AskedInVain, AskedOwn, CommitRefused, Committed, Decided, DecideRefused, Finished, Forgot, Moves, PrepareRefused, Prepared, ReceiveRefused, ReceiveStopped, Received, ReceivedNone, Transformed, Unsent}
 use Rattle.client_state.specs.declared.held.Held.{Held}
-use Rattle.fitting_steps.specs.OneRepository.{BringsWhatStood, HasEnded}
+use Rattle.fitting_steps.specs.OneRepository.{BringsWhatStood}
 use Rattle.fitting_steps.specs.Owed.{ClientFits}
 use Rattle.fitting_steps.specs.Positions.{LeadsBy, Position}
 use Rattle.fitting_steps.specs.Quiet.{AreQuiet}
+use Rattle.fitting_steps.specs.Undecided.{StopsAlone}
 use Rattle.port.specs.Views.{View}
 use Rattle.port_views.specs.Conditions.{AreRight, seen_histories}
 use Rattle.session_outbox.specs.Trace.{entries}
-use Rattle.std.specs.List.{slice_get}
-use Rattle.std.specs.Prelude.{Bool, List, [], false, length, true, ℕ, ◌<◌, ◌^◌, ◌≡◌, ◌≤◌, ◌⊎◌}
+use Rattle.std.specs.Prelude.{List, [], false, length, ℕ, ◌<◌, ◌^◌, ◌≡◌, ◌≤◌}
 
 -- The port reaches as many repositories as a store may have, and no others. Their traces are right, each and together, and have
 -- fewer entries than a place can tell.
@@ -23,20 +21,15 @@ pub record HasRepositories (port : View) : Type 0 where
   pub right : AreRight port
   pub short : (r : ℕ) → r < port.opened.repos → length (entries (port.seen r)) < 2 ^ 64
 
--- The client fits what it has seen, where what has committed is what is seen so at coordinators, and its sessions are quiet with nothing
--- running.
+-- The client fits what it has seen, where what has committed is what is seen so at coordinators, its sessions are quiet with nothing
+-- running, and what it asks about was sent by a call that stopped.
 pub record FitsAll (p : Position) : Type 0 where
   pub there : HasRepositories p.port
   pub fits : ClientFits p.port (committed (seen_histories p.port)) p.held
   pub quiet : AreQuiet p.port p.held.links.items (λ t. false)
+  pub stops : StopsAlone p.pending p.port p.held
 
--- A client is told by a question that its own try has committed only where the call which sent that had stopped, so that its
--- session has ended; elsewhere it has written nothing.
-abbrev pub AsksOnlyEnded : Bool → View → Held → Type 0
-AsksOnlyEnded true port before = (r : ℕ) → r < port.opened.repos → HasEnded port r (slice_get before.links.items r) (seen before.cache.cache) ⊎ SameCopies (port.opened.base r) (seen before.cache.cache) (kept before.cache.cache)
-AsksOnlyEnded false port before = Unit {0}
-
--- What is asked of a step: the client prepares nothing, and decides nothing to commit; the rest is as over one repository.
+-- What is asked of a step: the client prepares nothing; the rest is as over one repository.
 abbrev pub PartOwed : (old new : View) (before after : Held) → Moves old new before after → Type 0
 PartOwed old new before after (Unsent sends) = Unit {0}
 PartOwed old new before after (Received at m does there takes same) = BringsWhatStood new at.repo m
@@ -48,12 +41,12 @@ PartOwed old new before after (PrepareRefused s k does of idle learns same) = �
 PartOwed old new before after (Committed s place does of session wrote held idle keeps) = Unit {0}
 PartOwed old new before after (Transformed s place oref made does of session writes here held idle keeps) = Unit {0}
 PartOwed old new before after (CommitRefused s k does of idle learns same) = Unit {0}
-PartOwed old new before after (Decided at t v does idle ends) = ⊥
+PartOwed old new before after (Decided at t v does idle ends) = Unit {0}
 PartOwed old new before after (Aborted at t v does less) = Unit {0}
-PartOwed old new before after (DecideRefused at t commit k does loses same) = commit ≡ false
+PartOwed old new before after (DecideRefused at t commit k does loses same) = Unit {0}
 PartOwed old new before after (Finished r t commit result does less) = Unit {0}
 PartOwed old new before after (Forgot r t result does less) = Unit {0}
-PartOwed old new before after (AskedOwn r t v does ends) = AsksOnlyEnded v.commit old before
+PartOwed old new before after (AskedOwn r t v does ends) = Unit {0}
 PartOwed old new before after (AskedInVain r t result does leaves same fewer) = Unit {0}
 
 -- One position leads to another by these between.

@@ -1,6 +1,7 @@
 //! That a client of a store with one repository fits it, whatever others do.
 
 ghost use Rattle.client_cache.specs.Copies.{kept};
+ghost use Rattle.client_state.specs.Pending.{NonePending};
 ghost use Rattle.client_state.specs.declared.held.Held.{Held};
 ghost use Rattle.client_state.specs.declared.link.Link.TheVariants.{Apart, Joined};
 ghost use Rattle.client_state.specs.declared.link.Link.{Link};
@@ -24,7 +25,7 @@ ghost use Rattle.thor_value.specs.declared.values.Obj.{Obj};
 /// and nothing is unsettled, each of its copies is what stands there now, or the client is about to be told that it isn't.
 pub fn clients_of_one_repository_fit()
     ensures begins { (p : Position) → HasOneRepository p.port → p.held.client ≡ p.port.opened.client → ((n : ℕ) (link : Link) → slice_get p.held.links.items n ≡ Some link → link ≡ Apart) →
-        ((x : Oref) → kept p.held.cache.cache x ≡ None) → FitsOne p }
+        ((x : Oref) → kept p.held.cache.cache x ≡ None) → p.pending ≡ NonePending → FitsOne p }
     ensures runs { (a z : Position) (between : List Position) → Leads a between z → FitsOne a → FitsOne z }
     ensures copies { (p : Position) (s upto : ℕ) (waits : Waits) (x : Oref) (o : Obj) → FitsOne p → slice_get p.held.links.items 0 ≡ Some (Joined s upto waits) → p.port.unsettled 0 ≡ Calm →
         lives (session (p.port.opened.base 0) (p.port.seen 0) s) ≡ true → (p.port.opened.base 0).tells ≡ true → x.repo ≡ 0 → kept p.held.cache.cache x ≡ Some o → IsRightOrTold p.port s upto x o }

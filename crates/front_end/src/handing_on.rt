@@ -3,7 +3,6 @@
 ghost use Rattle.client_state.specs.Pending.{MovesSoIf, Pending, pending_in};
 ghost use Rattle.front_end.specs.Writing.{ClientWrites};
 ghost use Rattle.client_state.specs.Learning.{Rises};
-
 ghost use Rattle.client_state.specs.Owing.{calls_of, count_of};
 ghost use Rattle.client_state.specs.declared.held.Held.{Held};
 ghost use Rattle.port.specs.Acting.{ActsIf};

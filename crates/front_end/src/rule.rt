@@ -4,7 +4,6 @@ ghost use Rattle.client_state.specs.Pending.{MovesSoIf, pending_in};
 ghost use Rattle.front_end.specs.Writing.{ClientWrites};
 ghost use Rattle.client_state.specs.Learning.{Rises};
 ghost use Rattle.client_state.specs.Links.{NoneAwaits};
-
 ghost use Rattle.front_end.specs.Showing.{ShownIf};
 ghost use Rattle.port.specs.Acting.{ActsIf};
 ghost use Rattle.client_state.specs.Owing.{asking_in};
