@@ -133,6 +133,7 @@ module _ (old new : View) (at : At) (before mid after : Held) (rest : mid ≡ re
   -- a message was taken
   pub by_message : (shows : Bool) (o : Option Message) (m : Message) → o ≡ Some m → (shows ≡ true → Does {X = Option Message} old new at.repo (Ok o) (ReceiveWork at.session (Ok o)))
       → mid.links.items ≡ links_behind (Ok o) at.repo before.links.items → TakesCopies at.repo m mid after → (p z : Pending) → StaysPending p z mid after → MovesSoIf shows old new before after p z
+  unfolding taken
   by_message shows o m is call links t p z stays = λ s. record { moves = taken m (subst (λ (x : Option Message). Does {X = Option Message} old new at.repo (Ok x) (ReceiveWork at.session (Ok x))) is (call s)) (subst (λ (x : Option Message). mid.links.items ≡ links_behind (Ok x) at.repo before.links.items) is links) t; pends = behind_taken p z o links stays }
 
   loses_there : (k : Refusal) → mid.links.items ≡ before.links.items → Loses k at.repo mid after → Loses k at.repo before after
@@ -152,6 +153,7 @@ module _ (old new : View) (at : At) (before mid after : Held) (rest : mid ≡ re
 
   refused_pends : (k : Refusal) → Does {X = Option Message} old new at.repo (Err k) (ReceiveWork at.session (Err k)) → mid.links.items ≡ before.links.items → EndsReceive k at.repo mid after
       → (p z : Pending) → StaysPending p z before after → MovesSo old new before after p z
+  unfolding refused_so
   refused_pends k d links (LosesThere l client) p z stays = record { moves = refused_so k d links (LosesThere l client); pends = stays }
   refused_pends k d links (StopsThere g s client f) p z stays = record { moves = refused_so k d links (StopsThere g s client f); pends = stays }
 

@@ -56,6 +56,7 @@ module _ (old new : View) (a b after : Held) where
 
   -- what is undecided is so, too
   unsent_pends : (m : SendsNothing old new (record a { names = b.names }) after) (p z : Pending) → SendsPending old new (record a { names = b.names }) after m p z → SendsPending old new a after (unsent m) p z
+  unfolding unsent
   unsent_pends (Rested same less) p z h = h
   unsent_pends (Connected repo k apart client f) p z h = h
   unsent_pends (Fetched at page left k idle client f) p z h = h
@@ -69,6 +70,7 @@ module _ (old new : View) (a b after : Held) where
   refuses false at t p z h = h
 
   pends : (m : Moves old new (record a { names = b.names }) after) (p z : Pending) → PendsSo old new (record a { names = b.names }) after m p z → PendsSo old new a after (other_names m) p z
+  unfolding other_names
   pends (Unsent m) p z h = unsent_pends m p z h
   pends (Received at m d joined t client) p z h = h
   pends (ReceivedNone at d joined links client f) p z h = h

@@ -1,6 +1,6 @@
 use Rattle.client_state.specs.Pending.{pending_in}
 use Rattle.front_end.proofs.Acting.{by_ask}
-use Rattle.front_end.proofs.Calling.{asked_so, settled_so}
+use Rattle.front_end.proofs.Calling.{asked_so, nothing_done, settled_so}
 use Rattle.front_end.proofs.Showing.{learnt_of}
 use Rattle.front_end.proofs.client.Client.ask_about.Goals as goal
 use Rattle.item_progress.specs.Courses.{IsDownAt, is_committed}
@@ -40,3 +40,6 @@ returns-in-Ok-Undecided-clause-moves g c = asked_so _ _ _ _ c.args.ts c.ask.resu
 
 pub returns-in-Err-clause-moves : goal.returns-in-Err-clause-moves
 returns-in-Err-clause-moves g c = asked_so _ _ _ _ c.args.ts c.ask.result c.args.self.now.held _ _ refl c.ask.ensures.call
+
+pub returns-then-ts-opened-clause-moves : goal.returns-then-ts-opened-clause-moves
+returns-then-ts-opened-clause-moves g c = nothing_done _ _ c.args.self.now.held _ _ refl
