@@ -80,12 +80,12 @@ stays_in session (Some l) h = ap (λ (t : Bool). Some (cond t Apart l)) h
 
 pub not_lost_written : (repo session : ℕ) (a b : Held) (t : Bool) → t ≡ is_session_of session (slice_get a.links.items repo) → t ≡ false → b ≡ record a { links = b.links } → b.links.items ≡ at_repo a.links.items repo (without_session session)
     → (at : At) → IsWrittenIn at a → IsWrittenIn at b
-not_lost_written repo session a b t answer no rest links at w x = by (w x)
+not_lost_written repo session a b t answer other rest links at w x = by (w x)
   where
     there : slice_get b.links.items at.repo ≡ slice_get a.links.items at.repo
     there = elim (cases_eq at.repo repo) [
-      | inl e ↦ ap (λ (ls : List Link). slice_get ls at.repo) links ∙ subst (λ (n : ℕ). slice_get (at_repo a.links.items n (without_session session)) at.repo ≡ slice_get a.links.items at.repo) e (at_here (without_session session) a.links.items at.repo ∙ stays_in session (slice_get a.links.items at.repo) (ap (λ (n : ℕ). is_session_of session (slice_get a.links.items n)) e ∙ (sym answer ∙ no)))
-      | inr other ↦ ap (λ (ls : List Link). slice_get ls at.repo) links ∙ at_other (without_session session) a.links.items repo at.repo other
+      | inl e ↦ ap (λ (ls : List Link). slice_get ls at.repo) links ∙ subst (λ (n : ℕ). slice_get (at_repo a.links.items n (without_session session)) at.repo ≡ slice_get a.links.items at.repo) e (at_here (without_session session) a.links.items at.repo ∙ stays_in session (slice_get a.links.items at.repo) (ap (λ (n : ℕ). is_session_of session (slice_get a.links.items n)) e ∙ (sym answer ∙ other)))
+      | inr away ↦ ap (λ (ls : List Link). slice_get ls at.repo) links ∙ at_other (without_session session) a.links.items repo at.repo away
     ]
 
     by : (changed a.cache.cache x ≡ None) ⊎ ((x.repo ≡ at.repo) × InSession at a) → (changed b.cache.cache x ≡ None) ⊎ ((x.repo ≡ at.repo) × InSession at b)

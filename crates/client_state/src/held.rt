@@ -266,7 +266,6 @@ impl Held {
     }
 
     /// A session is gone. What was held by it is dropped.
-    #[tactic(auto, using(crate::proofs::Pending::lost_written, crate::proofs::Pending::not_lost_written))]
     pub fn lose(&mut self, repo: u8, session: u32)
         ensures links { self.new.links.items ≡ at_repo self.old.links.items repo (without_session session) }
         ensures floor { self.new.floor ≡ self.old.floor }

@@ -210,7 +210,7 @@ module _ (first joined drawn waits taken last : Held) (h : HoldsOnTheWay first j
       (
         Stepped asks refl tt (one_at (take 4 whole) (drop 4 whole) refl (omega arith)),
         (
-          Stepped takes refl tt (one_at (take 5 whole) (drop 5 whole) refl (omega arith)),
+          Stepped takes (inl refl) tt (one_at (take 5 whole) (drop 5 whole) refl (omega arith)),
           (
             Stepped commits refl tt (one_at (take 6 whole) (drop 6 whole) refl (omega arith)),
             Waited refl refl refl others (one_at (take 7 whole) (drop 7 whole) refl (omega arith)),
@@ -229,7 +229,7 @@ module _ (first joined drawn waits taken last : Held) (h : HoldsOnTheWay first j
       (
         Stepped asks refl tt (among (take 4 whole) (one_at (take 4 whole) (drop 4 whole) refl (omega arith))),
         (
-          Stepped takes refl tt (among (take 5 whole) (one_at (take 5 whole) (drop 5 whole) refl (omega arith))),
+          Stepped takes (inl refl) tt (among (take 5 whole) (one_at (take 5 whole) (drop 5 whole) refl (omega arith))),
           (
             Stepped commits refl tt (among (take 6 whole) (one_at (take 6 whole) (drop 6 whole) refl (omega arith))),
             Waited refl refl refl others (among (take 7 whole) (one_at (take 7 whole) (drop 7 whole) refl (omega arith))),

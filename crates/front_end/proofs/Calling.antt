@@ -57,9 +57,9 @@ module _ (shows : Bool) (old new : View) where
   pub shown_down : {X : Type 0} (a : Held) (k m : Client) → m ≡ k → (result : Result X NoMemory) → MovesIf shows old new a k.held → OnOk result (MovesIf shows old new a m.held)
   shown_down a k m same result f = on_any result (MovesIf shows old new a m.held) (subst (λ (n : Client). MovesIf shows old new a n.held) (sym same) f)
 
-  module _ (a b c : Held) (same : b ≡ a) (p q z : Pending) (as : p ≡ q) {X : Type 0} where
+  module _ (a b c : Held) (same : b ≡ a) (p q z : Pending) (equal : p ≡ q) {X : Type 0} where
     pub moves_same : (result : Result X NoMemory) → OnOk result (MovesSoIf shows old new b c q z) → OnOk result (MovesSoIf shows old new a c p z)
-    moves_same result f = subst (λ (h : Held). OnOk result (MovesSoIf shows old new h c p z)) same (subst (λ (r : Pending). OnOk result (MovesSoIf shows old new b c r z)) (sym as) f)
+    moves_same result f = subst (λ (h : Held). OnOk result (MovesSoIf shows old new h c p z)) same (subst (λ (r : Pending). OnOk result (MovesSoIf shows old new b c r z)) (sym equal) f)
 
     pub moves_idle : (result : Result X NoMemory) → (NoneAwaits 8 b.links.items → OnOk result (MovesSoIf shows old new b c q z)) → NoneAwaits 8 a.links.items → OnOk result (MovesSoIf shows old new a c p z)
     moves_idle result f idle = moves_same result (f (subst (λ (h : Held). NoneAwaits 8 h.links.items) (sym same) idle))

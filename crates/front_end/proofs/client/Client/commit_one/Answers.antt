@@ -32,7 +32,7 @@ pub returns-in-Err-Stopped-clause-moves : goal.returns-in-Err-Stopped-clause-mov
 returns-in-Err-Stopped-clause-moves g c = λ none tx at joined wrote held of idle. rw (c.begin_asking.ensures.held) (by_commit_refused _ _ _ c.args.self.now.held c.args.self.now.held _ _ c.args.sending of idle _ c.in-Err-Stopped.ensures.call (stopped_learns _ _ _ c.args.self.now.held c.in-Err-Stopped.field-0-is) refl (stopped_asks c.args.sending _ _ c.args.self.now.held _ _ _ c.in-Err-Stopped.field-0-is joined wrote c.begin_asking.ensures.asks at tx))
 
 pub returns-in-Err-clause-moves : goal.returns-in-Err-clause-moves
-returns-in-Err-clause-moves g c = λ none tx at joined wrote held of idle. by_commit_refused _ _ _ c.args.self.now.held c.end_refused.new.self.held _ _ c.args.sending of idle c.in-Err.refusal (commit_as _ _ _ c.args.sending.at c.args.sending.request c.in-Err.refusal _ c.in-Err.refusal-is c.in-Err.ensures.call) c.end_refused.ensures.learns c.end_refused.ensures.client (inl (stays_free _ _ _ _ none c.end_refused.ensures.stays))
+returns-in-Err-clause-moves g c = λ none tx at joined wrote held of idle. by_commit_refused _ _ _ c.args.self.now.held c.end_refused.new.self.held _ _ c.args.sending of idle c.in-Err.refusal (commit_as _ _ _ c.args.sending.at c.args.sending.request c.in-Err.refusal _ c.in-Err.refusal-is c.in-Err.ensures.call) c.end_refused.ensures.learns c.end_refused.ensures.client (inl (stays_free _ _ c.args.self.now.held c.end_refused.new.self.held none c.end_refused.ensures.stays))
 
 pub returns-in-Ok-clause-writes : goal.returns-in-Ok-clause-writes
 returns-in-Ok-clause-writes g c = λ none. nothing_unsent _ _ (ap (λ (k : Client). unsent k.phase) c.end_committed.ensures.rest ∙ none)

@@ -6,8 +6,11 @@ use Rattle.std.proofs.Common.{ap, inl, inr, refl}
 pub returns-then-not-lose_gone-clause-loses : goal.returns-then-not-lose_gone-clause-loses
 returns-then-not-lose_gone-clause-loses c = loses_so c.args.refusal c.args.repo c.args.self.now.held c.lose_gone.new.self c.lose_gone.ensures.links c.lose_gone.ensures.copies
 
-pub returns-clause-stays : goal.returns-clause-stays
-returns-clause-stays c = elim c.if-runs_unprepared.branch [ then-runs_unprepared w ↦ rw (w.self-is) (inl (ap pending_in c.begin_anew.ensures.phase)) | else-runs_unprepared w ↦ rw (w.self-is) (inr (refl, c.lose_gone.ensures.written)) ]
+pub returns-then-runs_unprepared-clause-stays : goal.returns-then-runs_unprepared-clause-stays
+returns-then-runs_unprepared-clause-stays c = inl (ap pending_in c.begin_anew.ensures.phase)
+
+pub returns-else-runs_unprepared-clause-stays : goal.returns-else-runs_unprepared-clause-stays
+returns-else-runs_unprepared-clause-stays c = inr (refl, c.lose_gone.ensures.written)
 
 pub returns-then-not-lose_gone-clause-stays : goal.returns-then-not-lose_gone-clause-stays
 returns-then-not-lose_gone-clause-stays c = inr (refl, c.lose_gone.ensures.written)

@@ -24,7 +24,7 @@ pub returns-in-Ok-clause-moves : goal.returns-in-Ok-clause-moves
 returns-in-Ok-clause-moves g c = λ none tx of idle. rw (c.set_phase.ensures) (moves_by_prepare _ _ _ c.args.self.now.held c.args.self.now.held _ _ c.args.sending of c.in-Ok.field-0 c.in-Ok.ensures.call (less_itself c.args.self.now.held) (inl (ap (IsPreparing c.args.sending.at) (sym tx))))
 
 pub returns-in-Err-clause-moves : goal.returns-in-Err-clause-moves
-returns-in-Err-clause-moves g c = λ none tx of idle. by_prepare_refused _ _ _ c.args.self.now.held c.end_refused.new.self.held _ _ c.args.sending of idle c.in-Err.refusal c.in-Err.ensures.call c.end_refused.ensures.learns c.end_refused.ensures.client (inl (stays_free _ _ _ _ none c.end_refused.ensures.stays))
+returns-in-Err-clause-moves g c = λ none tx of idle. by_prepare_refused _ _ _ c.args.self.now.held c.end_refused.new.self.held _ _ c.args.sending of idle c.in-Err.refusal c.in-Err.ensures.call c.end_refused.ensures.learns c.end_refused.ensures.client (inl (stays_free _ _ c.args.self.now.held c.end_refused.new.self.held none c.end_refused.ensures.stays))
 
 pub returns-in-Ok-clause-writes : goal.returns-in-Ok-clause-writes
 returns-in-Ok-clause-writes g c = λ none. nothing_unsent _ _ (ap (λ (k : Client). unsent k.phase) c.set_phase.ensures)

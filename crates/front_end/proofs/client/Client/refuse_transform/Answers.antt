@@ -17,4 +17,4 @@ pub returns-clause-writes : goal.returns-clause-writes
 returns-clause-writes c = λ none. c.end_refused.ensures.writes (nothing_unsent _ _ (ap unsent c.count_if_stopped.ensures.phase ∙ none))
 
 pub returns-clause-free : goal.returns-clause-free
-returns-clause-free c = λ none. stays_free _ _ _ _ (ap pending_in c.count_if_stopped.ensures.phase ∙ none) c.end_refused.ensures.stays
+returns-clause-free c = λ none. stays_free _ _ c.count_if_stopped.new.self.held c.end_refused.new.self.held (ap pending_in c.count_if_stopped.ensures.phase ∙ none) c.end_refused.ensures.stays

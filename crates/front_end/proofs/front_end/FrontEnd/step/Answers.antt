@@ -1,4 +1,5 @@
-use Rattle.front_end.proofs.Calling.{nothing_done, so_ok}
+use Rattle.client_state.proofs.Pending.{moves_so}
+use Rattle.front_end.proofs.Calling.{nothing_done}
 use Rattle.front_end.proofs.Steps.{steps_fall}
 use Rattle.front_end.proofs.front_end.FrontEnd.step.Goals as goal
 use Rattle.front_end.specs.Moving.{held_of}
@@ -11,4 +12,4 @@ pub returns-then-has_ended-clause-pends : goal.returns-then-has_ended-clause-pen
 returns-then-has_ended-clause-pends g c = nothing_done _ _ (held_of c.args.self.now) _ _ refl
 
 pub returns-clause-moves : goal.returns-clause-moves
-returns-clause-moves g c = so_ok _ _ _ _ _ _ _ _ c.move_on.ensures.moves
+returns-clause-moves g c = moves_so _ _ _ _ _ _ _ c.in_ok-move_on.ensures.moves
