@@ -29,7 +29,7 @@ use Rattle.session_outbox.specs.Gaps.{client_in}
 use Rattle.session_outbox.specs.Notices.{lives}
 use Rattle.session_outbox.specs.Session.{Session, session}
 use Rattle.session_outbox.specs.Verdict.{verdict}
-use Rattle.std.proofs.Common.{Bool, List, ap, arith, inl, inr, refl, subst, suc, sym, true, zero, ◌∙◌, ◌≡◌, ◌≢◌, ℕ}
+use Rattle.std.proofs.Common.{Bool, List, ap, arith, false, inl, inr, refl, subst, suc, sym, true, zero, ◌∙◌, ◌≡◌, ◌≢◌, ℕ}
 use Rattle.std.proofs.lemmas.Bool.{cases_eq}
 use Rattle.std.proofs.lemmas.Option.{same_Some}
 use Rattle.std.specs.List.{slice_get}
@@ -54,7 +54,7 @@ joined_or_not at (Some (links.Joined s upto waits)) = elim (cases_eq s at.sessio
 joined_or_not at (Some (links.Unsettled sent index)) = inr (λ e. cc)
 
 -- a session that the link isn't in
-other_session : Option Link → ℕ
+abbrev other_session : Option Link → ℕ
 other_session None = 0
 other_session (Some links.Apart) = 0
 other_session (Some (links.Joined s upto waits)) = suc s
@@ -123,7 +123,6 @@ NonePrepared old new before after (Finished r t commit result does less) = Unit 
 NonePrepared old new before after (Forgot r t result does less) = Unit {0}
 NonePrepared old new before after (AskedOwn r t v does ends) = Unit {0}
 NonePrepared old new before after (AskedInVain r t result does leaves same fewer) = Unit {0}
-
 
 -- the session of a link that fits is the client's
 own_in : (port : View) (committed : Ts → Bool) (copies : Copies) (at : At) (o : Option Link) → session_in at.repo o ≡ Some at → LinkAt port at.repo committed o copies
