@@ -8,6 +8,9 @@ use Rattle.std.proofs.lemmas.Result.{IfOk-weaker, on_ok_weaker}
 pub returns-in-Page-clause-shown : goal.returns-in-Page-clause-shown
 returns-in-Page-clause-shown c = IfOk-weaker c.take_page.result _ _ (λ n told old new repos taken. told old new repos c.in-Page.place (subst (IsTaken old new c.args.repo) c.in-Page.is taken)) c.take_page.ensures.shown
 
+pub returns-in-Grant-clause-shown : goal.returns-in-Grant-clause-shown
+returns-in-Grant-clause-shown c = IfOk-weaker c.take_grant.result _ _ (λ n told old new repos taken. told old new repos) c.take_grant.ensures.shown
+
 pub returns-in-Invalid-clause-shown : goal.returns-in-Invalid-clause-shown
 returns-in-Invalid-clause-shown c = λ old new repos taken. c.take_invalid.ensures.shown old new repos c.args.repo (subst (IsTaken old new c.args.repo) c.in-Invalid.is taken)
 
