@@ -2,7 +2,7 @@
 ghost use Rattle.std.specs.Prelude.{◌≡◌, ◌+◌, ◌-◌, ◌^◌, ◌≤◌, ◌<◌, ℕ, List, length, IfOk, OnOk, IsErrOf};
 ghost use Rattle.disk_trait.specs.Disks.{Disks, OnDisk, Leaves, WhereTold, IsSettled, Rose};
 ghost use Rattle.log_frame.specs.Log.{Opened, Stands, IsBeforeOrAfter, with_body, closed_record, end_of};
-ghost use Rattle.log_frame.specs.declared.fault.LogFault.TheVariants.{Damaged, Failed};
+ghost use Rattle.log_frame.specs.declared.fault.LogFault.TheVariants.{Damaged, Failed, NoMemory as OutOfMemory};
 
 use crate::fault::LogFault;
 use crate::reading::{CLOSED, OPEN};
@@ -46,6 +46,8 @@ pub(crate) fn append_at<P: Parts>(
     ensures near { OnOk result (end + 1 + length put.now ≤ 2 ^ 40) }
     ensures damaged { (place : ℕ) → IsErrOf result (Damaged place) → ⊥ }
     ensures failed { IsErrOf result Failed → Rose ((P.disks parts.old).faults disk) ((P.disks parts.new).faults disk) }
+    ensures steady { OnOk result ((P.disks parts.new).faults disk ≡ (P.disks parts.old).faults disk) }
+    ensures wanting { IsErrOf result OutOfMemory → (P.disks parts.new).faults disk ≡ (P.disks parts.old).faults disk }
 {
     parts.write_at(disk, end + 1, put)?;
     parts.sync(disk)?;

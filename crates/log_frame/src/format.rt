@@ -2,7 +2,7 @@
 ghost use Rattle.std.specs.Prelude.{◌≡◌, ◌≢◌, ◌+◌, ◌-◌, ◌^◌, ◌≤◌, ◌<◌, ℕ, List, length, slice_index, true, false, IfOk, OnOk, IsErrOf, Ok};
 ghost use Rattle.disk_trait.specs.Disks.{Disks, OnDisk, Leaves, WhereTold, MayLeave, IsSettled, NoNewImage, Rose};
 ghost use Rattle.log_frame.specs.Log.{Stands, new_log, header_bytes, IsShut, MayBeOpen, IsOldOrShut, IsShutOrNew, IsOldOrNew};
-ghost use Rattle.log_frame.specs.declared.fault.LogFault.TheVariants.{Damaged, Failed};
+ghost use Rattle.log_frame.specs.declared.fault.LogFault.TheVariants.{Damaged, Failed, NoMemory as OutOfMemory};
 ghost use Rattle.log_frame.specs.declared.format.Header.TheVariants.{Shut, OpenOrShort};
 
 use crate::append::closed_record;
@@ -46,6 +46,8 @@ fn look<P: Parts>(parts: &mut P, disk: u8) -> Result<Header, LogFault>
     ensures open { result ≡ Ok OpenOrShort → WhereTold (P.disks parts.old) disk MayBeOpen }
     ensures damaged { (place : ℕ) → IsErrOf result (Damaged place) → ⊥ }
     ensures failed { IsErrOf result Failed → Rose ((P.disks parts.old).faults disk) ((P.disks parts.new).faults disk) }
+    ensures steady { OnOk result ((P.disks parts.new).faults disk ≡ (P.disks parts.old).faults disk) }
+    ensures wanting { IsErrOf result OutOfMemory → (P.disks parts.new).faults disk ≡ (P.disks parts.old).faults disk }
 {
     if parts.len(disk)? < 2 {
         return Ok(Header::OpenOrShort);
@@ -66,6 +68,8 @@ fn look_at_gate<P: Parts>(parts: &mut P, disk: u8) -> Result<Header, LogFault>
     ensures open { result ≡ Ok OpenOrShort → WhereTold (P.disks parts.old) disk MayBeOpen }
     ensures damaged { (place : ℕ) → IsErrOf result (Damaged place) → ⊥ }
     ensures failed { IsErrOf result Failed → Rose ((P.disks parts.old).faults disk) ((P.disks parts.new).faults disk) }
+    ensures steady { OnOk result ((P.disks parts.new).faults disk ≡ (P.disks parts.old).faults disk) }
+    ensures wanting { IsErrOf result OutOfMemory → (P.disks parts.new).faults disk ≡ (P.disks parts.old).faults disk }
 {
     let mut gate = [CLOSED];
     parts.read_at(disk, 0, &mut gate)?;
@@ -88,6 +92,8 @@ fn shut<P: Parts>(parts: &mut P, disk: u8) -> Result<(), LogFault>
     ensures settled { OnOk result (IsSettled (P.disks parts.new) disk) }
     ensures damaged { (place : ℕ) → IsErrOf result (Damaged place) → ⊥ }
     ensures failed { IsErrOf result Failed → Rose ((P.disks parts.old).faults disk) ((P.disks parts.new).faults disk) }
+    ensures steady { OnOk result ((P.disks parts.new).faults disk ≡ (P.disks parts.old).faults disk) }
+    ensures wanting { IsErrOf result OutOfMemory → (P.disks parts.new).faults disk ≡ (P.disks parts.old).faults disk }
 {
     parts.write_at(disk, 0, &[CLOSED])?;
     parts.sync(disk)?;
@@ -105,6 +111,8 @@ pub(crate) fn close_header<P: Parts>(parts: &mut P, disk: u8) -> Result<(), LogF
     ensures settled { OnOk result (IsSettled (P.disks parts.new) disk) }
     ensures damaged { (place : ℕ) → IsErrOf result (Damaged place) → ⊥ }
     ensures failed { IsErrOf result Failed → Rose ((P.disks parts.old).faults disk) ((P.disks parts.new).faults disk) }
+    ensures steady { OnOk result ((P.disks parts.new).faults disk ≡ (P.disks parts.old).faults disk) }
+    ensures wanting { IsErrOf result OutOfMemory → (P.disks parts.new).faults disk ≡ (P.disks parts.old).faults disk }
 {
     match look(parts, disk)? {
         // A crash could open a closed header that is written over.
@@ -126,6 +134,8 @@ pub(crate) fn open_header<P: Parts>(parts: &mut P, disk: u8, put: &[u8]) -> Resu
     ensures near { OnOk result (1 + length put.now ≤ 2 ^ 40) }
     ensures damaged { (place : ℕ) → IsErrOf result (Damaged place) → ⊥ }
     ensures failed { IsErrOf result Failed → Rose ((P.disks parts.old).faults disk) ((P.disks parts.new).faults disk) }
+    ensures steady { OnOk result ((P.disks parts.new).faults disk ≡ (P.disks parts.old).faults disk) }
+    ensures wanting { IsErrOf result OutOfMemory → (P.disks parts.new).faults disk ≡ (P.disks parts.old).faults disk }
 {
     parts.write_at(disk, 1, put)?;
     parts.sync(disk)?;
@@ -146,6 +156,8 @@ pub(crate) fn write_log<P: Parts>(parts: &mut P, disk: u8, put: &[u8]) -> Result
     ensures near { OnOk result (1 + length put.now ≤ 2 ^ 40) }
     ensures damaged { (place : ℕ) → IsErrOf result (Damaged place) → ⊥ }
     ensures failed { IsErrOf result Failed → Rose ((P.disks parts.old).faults disk) ((P.disks parts.new).faults disk) }
+    ensures steady { OnOk result ((P.disks parts.new).faults disk ≡ (P.disks parts.old).faults disk) }
+    ensures wanting { IsErrOf result OutOfMemory → (P.disks parts.new).faults disk ≡ (P.disks parts.old).faults disk }
 {
     close_header(parts, disk)?;
     open_header(parts, disk, put)

@@ -1,7 +1,7 @@
 ghost use Rattle.std.specs.Prelude.{◌≡◌, ◌+◌, ◌^◌, ◌≤◌, ◌<◌, ℕ, List, length, IfOk, IfErr, IfSome, OnOk, IsErrOf, Some, None, Ok, Err};
 ghost use Rattle.disk_trait.specs.Disks.{Disks, OnDisk, Leaves, WhereTold, MayLeave, IsSettled, NoNewImage, Rose};
 ghost use Rattle.log_frame.specs.Log.{Opened, Place, Stands, Agrees, IsFound, IsBeforeOrAfter, IsOldOrNew, with_body, new_log, read_log};
-ghost use Rattle.log_frame.specs.declared.fault.LogFault.TheVariants.{Damaged, Failed};
+ghost use Rattle.log_frame.specs.declared.fault.LogFault.TheVariants.{Damaged, Failed, NoMemory as OutOfMemory};
 
 use crate::append::{append_at, closed_record};
 use crate::fault::LogFault;
@@ -57,6 +57,9 @@ impl Log {
         ensures disk { IfOk result (λ found. IfSome found (λ f. f.0.disk ≡ disk)) }
         ensures damaged { (place : ℕ) → IsErrOf result (Damaged place) → WhereTold (P.disks parts.old) disk (λ bytes. read_log bytes ≡ Some (Err place)) }
         ensures failed { IsErrOf result Failed → Rose ((P.disks parts.old).faults disk) ((P.disks parts.new).faults disk) }
+        ensures steady { OnOk result ((P.disks parts.new).faults disk ≡ (P.disks parts.old).faults disk) }
+        ensures wanting { IsErrOf result OutOfMemory → (P.disks parts.new).faults disk ≡ (P.disks parts.old).faults disk }
+        ensures harmed { (place : ℕ) → IsErrOf result (Damaged place) → (P.disks parts.new).faults disk ≡ (P.disks parts.old).faults disk }
     {
         let bytes = read_disk(alloc, parts, disk)?;
         match parse(alloc, &bytes)? {
@@ -103,6 +106,8 @@ impl Log {
         ensures sequence { IfOk result (λ log. log.sequence ≡ sequence) }
         ensures damaged { (place : ℕ) → IsErrOf result (Damaged place) → ⊥ }
         ensures failed { IsErrOf result Failed → Rose ((P.disks parts.old).faults disk) ((P.disks parts.new).faults disk) }
+        ensures steady { OnOk result ((P.disks parts.new).faults disk ≡ (P.disks parts.old).faults disk) }
+        ensures wanting { IsErrOf result OutOfMemory → (P.disks parts.new).faults disk ≡ (P.disks parts.old).faults disk }
     {
         let put = spell_header(alloc, sequence, head)?;
         write_log(parts, disk, &put)?;
@@ -132,6 +137,8 @@ impl Log {
         ensures calls { OnOk result ((P.disks parts.old).time + 4 < 2 ^ 64 → (P.disks parts.new).time ≡ (P.disks parts.old).time + 4) }
         ensures damaged { (place : ℕ) → IsErrOf result (Damaged place) → ⊥ }
         ensures failed { IsErrOf result Failed → Rose ((P.disks parts.old).faults self.old.disk) ((P.disks parts.new).faults self.old.disk) }
+        ensures steady { OnOk result ((P.disks parts.new).faults self.old.disk ≡ (P.disks parts.old).faults self.old.disk) }
+        ensures wanting { IsErrOf result OutOfMemory → (P.disks parts.new).faults self.old.disk ≡ (P.disks parts.old).faults self.old.disk }
     {
         let put = closed_record(self.alloc, body)?;
         append_at(parts, self.disk, self.end, &put)?;
@@ -166,6 +173,8 @@ fn read_disk<P: Parts>(alloc: Global, parts: &mut P, disk: u8) -> Result<Vec<u8>
     ensures all { IfOk result (λ all. WhereTold (P.disks parts.old) disk (λ bytes. all.items ≡ bytes)) }
     ensures damaged { (place : ℕ) → IsErrOf result (Damaged place) → ⊥ }
     ensures failed { IsErrOf result Failed → Rose ((P.disks parts.old).faults disk) ((P.disks parts.new).faults disk) }
+    ensures steady { OnOk result ((P.disks parts.new).faults disk ≡ (P.disks parts.old).faults disk) }
+    ensures wanting { IsErrOf result OutOfMemory → (P.disks parts.new).faults disk ≡ (P.disks parts.old).faults disk }
 {
     let len = parts.len(disk)?;
     let mut bytes = zeros(alloc, len)?;

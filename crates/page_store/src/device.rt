@@ -5,7 +5,7 @@ ghost use Rattle.disk_trait.specs.Disks.{Disks, OnDisk, Leaves, WhereTold, MayLe
 ghost use Rattle.page_format.specs.Pages.{Contents, page_size};
 ghost use Rattle.page_store.specs.Objects.{Spells, HasObjects};
 ghost use Rattle.page_store.specs.Sides.{place_of, side_bytes};
-ghost use Rattle.page_store.specs.declared.fault.StoreFault.TheVariants.{Damaged, Failed};
+ghost use Rattle.page_store.specs.declared.fault.StoreFault.TheVariants.{Damaged, Failed, NoMemory as OutOfMemory};
 
 use crate::fault::StoreFault;
 use crate::objects::page_of_objects;
@@ -43,6 +43,9 @@ pub(crate) fn read_side<P: Parts>(
     ensures place { (place : ℕ) → IsErrOf result (Damaged place) → place ≡ place_of page side }
     ensures damaged { (place : ℕ) → IsErrOf result (Damaged place) → WhereTold (P.disks parts.old) 2 (λ disk. (found : Contents) → Spells (side_bytes disk page side) page found → ⊥) }
     ensures failed { IsErrOf result Failed → Rose ((P.disks parts.old).faults 2) ((P.disks parts.new).faults 2) }
+    ensures steady { OnOk result ((P.disks parts.new).faults 2 ≡ (P.disks parts.old).faults 2) }
+    ensures wanting { IsErrOf result OutOfMemory → (P.disks parts.new).faults 2 ≡ (P.disks parts.old).faults 2 }
+    ensures harmed { (place : ℕ) → IsErrOf result (Damaged place) → (P.disks parts.new).faults 2 ≡ (P.disks parts.old).faults 2 }
 {
     let bytes = read_bytes(alloc, parts, page, side)?;
     match page_of_objects(alloc, &bytes, page)? {
@@ -70,6 +73,8 @@ fn read_bytes<P: Parts>(
     ensures calls { OnOk result ((P.disks parts.old).time + 1 < 2 ^ 64 → (P.disks parts.new).time ≡ (P.disks parts.old).time + 1) }
     ensures damaged { (place : ℕ) → IsErrOf result (Damaged place) → ⊥ }
     ensures failed { IsErrOf result Failed → Rose ((P.disks parts.old).faults 2) ((P.disks parts.new).faults 2) }
+    ensures steady { OnOk result ((P.disks parts.new).faults 2 ≡ (P.disks parts.old).faults 2) }
+    ensures wanting { IsErrOf result OutOfMemory → (P.disks parts.new).faults 2 ≡ (P.disks parts.old).faults 2 }
 {
     let mut bytes = zeros(alloc)?;
     parts.read_at(PAGES, place_of(page, side), &mut bytes)?;
@@ -102,6 +107,8 @@ pub(crate) fn write_side<P: Parts>(
     ensures calls { OnOk result ((P.disks parts.old).time + 2 < 2 ^ 64 → (P.disks parts.new).time ≡ (P.disks parts.old).time + 2) }
     ensures damaged { (place : ℕ) → IsErrOf result (Damaged place) → ⊥ }
     ensures failed { IsErrOf result Failed → Rose ((P.disks parts.old).faults 2) ((P.disks parts.new).faults 2) }
+    ensures steady { OnOk result ((P.disks parts.new).faults 2 ≡ (P.disks parts.old).faults 2) }
+    ensures wanting { IsErrOf result OutOfMemory → (P.disks parts.new).faults 2 ≡ (P.disks parts.old).faults 2 }
 {
     parts.write_at(PAGES, place_of(page, side), bytes)?;
     parts.sync(PAGES)?;

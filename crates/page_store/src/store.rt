@@ -10,7 +10,7 @@ ghost use Rattle.page_format.specs.Sides.{SidesFit, side_in_use};
 ghost use Rattle.page_store.specs.Objects.{HasObjects, Spells, empty_page};
 ghost use Rattle.page_store.specs.Sides.{KeepsSides, ReachesSides, Shows, next_side, place_of, side_bytes};
 ghost use Rattle.page_store.specs.Store.{Agrees, IsDamage, ReachesSide, held_page, reads_of, refreshed, with_held, with_place, with_side, IsStaged};
-ghost use Rattle.page_store.specs.declared.fault.StoreFault.TheVariants.{Damaged, Failed};
+ghost use Rattle.page_store.specs.declared.fault.StoreFault.TheVariants.{Damaged, Failed, NoMemory as OutOfMemory};
 
 use crate::device::{read_side, write_side};
 use crate::fault::StoreFault;
@@ -86,6 +86,9 @@ impl PageStore {
         ensures calls { OnOk result ((P.disks parts.old).time + 1 < 2 ^ 64 → (P.disks parts.new).time ≡ (P.disks parts.old).time + reads_of self.old page) }
         ensures damaged { (place : ℕ) → IsErrOf result (Damaged place) → IsDamage (P.disks parts.old) self.old.sides page place }
         ensures failed { IsErrOf result Failed → Rose ((P.disks parts.old).faults 2) ((P.disks parts.new).faults 2) }
+        ensures steady { OnOk result ((P.disks parts.new).faults 2 ≡ (P.disks parts.old).faults 2) }
+        ensures wanting { IsErrOf result OutOfMemory → (P.disks parts.new).faults 2 ≡ (P.disks parts.old).faults 2 }
+        ensures harmed { (place : ℕ) → IsErrOf result (Damaged place) → (P.disks parts.new).faults 2 ≡ (P.disks parts.old).faults 2 }
     {
         self.hold(parts, page)?;
         self.held(page).ok_or(StoreFault::NoMemory)
@@ -108,6 +111,9 @@ impl PageStore {
         ensures calls { OnOk result ((P.disks parts.old).time + 1 < 2 ^ 64 → (P.disks parts.new).time ≡ (P.disks parts.old).time + reads_of self.old page) }
         ensures damaged { (place : ℕ) → IsErrOf result (Damaged place) → IsDamage (P.disks parts.old) self.old.sides page place }
         ensures failed { IsErrOf result Failed → Rose ((P.disks parts.old).faults 2) ((P.disks parts.new).faults 2) }
+        ensures steady { OnOk result ((P.disks parts.new).faults 2 ≡ (P.disks parts.old).faults 2) }
+        ensures wanting { IsErrOf result OutOfMemory → (P.disks parts.new).faults 2 ≡ (P.disks parts.old).faults 2 }
+        ensures harmed { (place : ℕ) → IsErrOf result (Damaged place) → (P.disks parts.new).faults 2 ≡ (P.disks parts.old).faults 2 }
     {
         if self.holds(page) {
             self.held.promote(&page);
@@ -159,6 +165,8 @@ impl PageStore {
         ensures calls { OnOk result ((P.disks parts.old).time + 2 < 2 ^ 64 → (P.disks parts.new).time ≡ (P.disks parts.old).time + 2) }
         ensures damaged { (place : ℕ) → IsErrOf result (Damaged place) → ⊥ }
         ensures failed { IsErrOf result Failed → Rose ((P.disks parts.old).faults 2) ((P.disks parts.new).faults 2) }
+        ensures steady { OnOk result ((P.disks parts.new).faults 2 ≡ (P.disks parts.old).faults 2) }
+        ensures wanting { IsErrOf result OutOfMemory → (P.disks parts.new).faults 2 ≡ (P.disks parts.old).faults 2 }
     {
         let (side, bytes) = self.stage(page)?;
         write_side(parts, page.number(), side, bytes.as_slice())?;
@@ -258,6 +266,9 @@ fn fetch<P: Parts>(
     ensures calls { OnOk result ((P.disks parts.old).time + 1 < 2 ^ 64 → (P.disks parts.new).time ≡ (P.disks parts.old).time + (if is_some in_use then 1 else 0)) }
     ensures damaged { (place : ℕ) (sides : List (ℕ × ℕ)) → IsErrOf result (Damaged place) → side_in_use sides page ≡ in_use → IsDamage (P.disks parts.old) sides page place }
     ensures failed { IsErrOf result Failed → Rose ((P.disks parts.old).faults 2) ((P.disks parts.new).faults 2) }
+    ensures steady { OnOk result ((P.disks parts.new).faults 2 ≡ (P.disks parts.old).faults 2) }
+    ensures wanting { IsErrOf result OutOfMemory → (P.disks parts.new).faults 2 ≡ (P.disks parts.old).faults 2 }
+    ensures harmed { (place : ℕ) → IsErrOf result (Damaged place) → (P.disks parts.new).faults 2 ≡ (P.disks parts.old).faults 2 }
 {
     match in_use {
         Some(side) => read_side(alloc, parts, page, side),
