@@ -1,11 +1,12 @@
 -- A disk failed in a call that answers Stopped.
+use Rattle.disk_trait.specs.AllDisks.{NoFault}
 use Rattle.disk_trait.specs.Disks.{Disks, Rose}
 use Rattle.refusal_reasons.specs.declared.reason.Reason.TheVariants.{Gone}
 use Rattle.repo_core.proofs.Refused.{no_fault}
 use Rattle.repo_core.specs.Behind.{is_marked}
 use Rattle.repo_core.specs.Shown.{Shown, count_at, faults_of}
 use Rattle.stable_store.proofs.Failing.{failed_behind, fewer_none}
-use Rattle.stable_store.specs.Failing.{CountsStay, HasFailed, NoFewer}
+use Rattle.stable_store.specs.Failing.{HasFailed, NoFewer}
 use Rattle.stable_store.specs.Kept.{is_fault}
 use Rattle.std.proofs.Common.{Err, Ok, Result, ap, arith, refl, subst, suc, sym, true, zero, ℕ, ◌<◌, ◌∙◌, ◌≡◌}
 use Rattle.std.specs.Prelude.{IfErr, IsErrOf, false}
@@ -51,7 +52,7 @@ fewer_same x y same = subst (λ (p : ℕ × ℕ × ℕ). NoFewer (faults_of x) (
 -- ---- counts that stay
 
 -- those of the disks stay, and so do those that are shown
-pub counts_between : (old new : Disks) (x y : Shown) → counts_in old ≡ x.faults → counts_in new ≡ y.faults → CountsStay old.faults new.faults → y.faults ≡ x.faults
+pub counts_between : (old new : Disks) (x y : Shown) → counts_in old ≡ x.faults → counts_in new ≡ y.faults → NoFault old new → y.faults ≡ x.faults
 counts_between old new x y was is same = sym is ∙ (each (old.faults 0) (old.faults 1) (old.faults 2) (new.faults 0) (new.faults 1) (new.faults 2) (same 0) (same 1) (same 2) ∙ was)
   where
     each : (a b c d e f : ℕ) → d ≡ a → e ≡ b → f ≡ c → ◌≡◌ {A = ℕ × ℕ × ℕ} (d, e, f) (a, b, c)

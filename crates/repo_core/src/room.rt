@@ -1,5 +1,6 @@
 //! Room in the buffer of modified objects.
 
+ghost use Rattle.disk_trait.specs.AllDisks.{NoFault};
 ghost use Rattle.std.specs.List.{AllByRecursion};
 ghost use Rattle.std.specs.Prelude.{◌≡◌, IfErr, IsErrOf, false, true, OnErr, Option, None, OnOk, ◌<◌, ◌≤◌, ℕ};
 ghost use Rattle.held_state.specs.Keeps.{Keeps};
@@ -11,7 +12,7 @@ ghost use Rattle.stable_store.specs.Saying.{IsSaid};
 ghost use Rattle.commit_log.specs.declared.entry.Entry.{Entry as AnEntry};
 ghost use Rattle.repo_core.specs.Refusing.{Leaves};
 ghost use Rattle.repo_core.specs.Shown.{faults_of};
-ghost use Rattle.stable_store.specs.Failing.{CountsStay, HasFailed, NoFewer, is_stopped};
+ghost use Rattle.stable_store.specs.Failing.{HasFailed, NoFewer, is_stopped};
 ghost use Rattle.stable_store.specs.Flushes.{HasFlushed};
 ghost use Rattle.refusal_reasons.specs.declared.reason.Reason.TheVariants.{Full as IsFull};
 ghost use Rattle.validation_window.specs.declared.refusal.Refusal.TheVariants.{Reason as IsReason, Stopped as IsStopped};
@@ -105,8 +106,8 @@ fn make_room<P: Parts>(stable: &mut Stable<P>, writes: &Writes) -> Result<(), Re
     ensures rests { OnErr result (RestsWith None stable.new) }
     ensures names { IfErr result (λ r. repo_named (held_of stable.old).repo r ≡ (held_of stable.old).repo) }
     ensures stopped { (n : ℕ) → IsErrOf result (IsStopped n) → HasFailed (disks_of P.disks stable.old).faults (disks_of P.disks stable.new).faults }
-    ensures steady { OnOk result (CountsStay (disks_of P.disks stable.old).faults (disks_of P.disks stable.new).faults) }
-    ensures quiet { IfErr result (λ r. is_stopped r ≡ false → CountsStay (disks_of P.disks stable.old).faults (disks_of P.disks stable.new).faults) }
+    ensures steady { OnOk result (NoFault (disks_of P.disks stable.old) (disks_of P.disks stable.new)) }
+    ensures quiet { IfErr result (λ r. is_stopped r ≡ false → NoFault (disks_of P.disks stable.old) (disks_of P.disks stable.new)) }
     ensures faults { NoFewer (disks_of P.disks stable.old).faults (disks_of P.disks stable.new).faults }
     ensures clock { (disks_of P.disks stable.new).clock ≡ (disks_of P.disks stable.old).clock }
 {
@@ -133,8 +134,8 @@ fn flush_for<P: Parts>(stable: &mut Stable<P>, writes: &Writes) -> Result<(), Re
     ensures rests { OnErr result (RestsWith None stable.new) }
     ensures names { IfErr result (λ r. repo_named (held_of stable.old).repo r ≡ (held_of stable.old).repo) }
     ensures stopped { (n : ℕ) → IsErrOf result (IsStopped n) → HasFailed (disks_of P.disks stable.old).faults (disks_of P.disks stable.new).faults }
-    ensures steady { OnOk result (CountsStay (disks_of P.disks stable.old).faults (disks_of P.disks stable.new).faults) }
-    ensures quiet { IfErr result (λ r. is_stopped r ≡ false → CountsStay (disks_of P.disks stable.old).faults (disks_of P.disks stable.new).faults) }
+    ensures steady { OnOk result (NoFault (disks_of P.disks stable.old) (disks_of P.disks stable.new)) }
+    ensures quiet { IfErr result (λ r. is_stopped r ≡ false → NoFault (disks_of P.disks stable.old) (disks_of P.disks stable.new)) }
     ensures faults { NoFewer (disks_of P.disks stable.old).faults (disks_of P.disks stable.new).faults }
     ensures clock { (disks_of P.disks stable.new).clock ≡ (disks_of P.disks stable.old).clock }
 {
@@ -166,8 +167,8 @@ fn make_room_for<P: Parts>(stable: &mut Stable<P>, tx: Ts) -> Result<(), Refusal
     ensures rests { OnErr result (RestsWith None stable.new) }
     ensures names { IfErr result (λ r. repo_named (held_of stable.old).repo r ≡ (held_of stable.old).repo) }
     ensures stopped { (n : ℕ) → IsErrOf result (IsStopped n) → HasFailed (disks_of P.disks stable.old).faults (disks_of P.disks stable.new).faults }
-    ensures steady { OnOk result (CountsStay (disks_of P.disks stable.old).faults (disks_of P.disks stable.new).faults) }
-    ensures quiet { IfErr result (λ r. is_stopped r ≡ false → CountsStay (disks_of P.disks stable.old).faults (disks_of P.disks stable.new).faults) }
+    ensures steady { OnOk result (NoFault (disks_of P.disks stable.old) (disks_of P.disks stable.new)) }
+    ensures quiet { IfErr result (λ r. is_stopped r ≡ false → NoFault (disks_of P.disks stable.old) (disks_of P.disks stable.new)) }
     ensures faults { NoFewer (disks_of P.disks stable.old).faults (disks_of P.disks stable.new).faults }
     ensures clock { (disks_of P.disks stable.new).clock ≡ (disks_of P.disks stable.old).clock }
 {
@@ -192,8 +193,8 @@ fn flush_open<P: Parts>(stable: &mut Stable<P>, tx: Ts) -> Result<(), Refusal>
     ensures rests { OnErr result (RestsWith None stable.new) }
     ensures names { IfErr result (λ r. repo_named (held_of stable.old).repo r ≡ (held_of stable.old).repo) }
     ensures stopped { (n : ℕ) → IsErrOf result (IsStopped n) → HasFailed (disks_of P.disks stable.old).faults (disks_of P.disks stable.new).faults }
-    ensures steady { OnOk result (CountsStay (disks_of P.disks stable.old).faults (disks_of P.disks stable.new).faults) }
-    ensures quiet { IfErr result (λ r. is_stopped r ≡ false → CountsStay (disks_of P.disks stable.old).faults (disks_of P.disks stable.new).faults) }
+    ensures steady { OnOk result (NoFault (disks_of P.disks stable.old) (disks_of P.disks stable.new)) }
+    ensures quiet { IfErr result (λ r. is_stopped r ≡ false → NoFault (disks_of P.disks stable.old) (disks_of P.disks stable.new)) }
     ensures faults { NoFewer (disks_of P.disks stable.old).faults (disks_of P.disks stable.new).faults }
     ensures clock { (disks_of P.disks stable.new).clock ≡ (disks_of P.disks stable.old).clock }
 {

@@ -1,4 +1,5 @@
 -- Counts of faults that stay, where no call answered that its disk failed.
+use Rattle.disk_trait.specs.AllDisks.{NoFault}
 use Rattle.disk_trait.specs.Disks.{Disks, OnDisk}
 use Rattle.disk_trait.specs.declared.parts.Outage.TheVariants as outage
 use Rattle.disk_trait.specs.declared.parts.Outage.{Outage}
@@ -9,23 +10,28 @@ use Rattle.page_store.specs.declared.fault.StoreFault.{StoreFault}
 use Rattle.recovery.specs.declared.fault.RecoverFault.TheVariants as recover
 use Rattle.recovery.specs.declared.fault.RecoverFault.{RecoverFault}
 use Rattle.stable_store.specs.Causes.{is_log_failed, is_outage_failed, is_pages_failed, is_recovery_failed}
-use Rattle.stable_store.specs.Failing.{CountsStay}
-use Rattle.std.proofs.Common.{Err, Result, false, inl, inr, refl, subst, sym, ℕ, ◌∙◌, ◌≡◌}
+use Rattle.stable_store.specs.Kept.{disks_of, down_with}
+use Rattle.stable_store.specs.declared.stable.Stable.{Stable}
+use Rattle.std.proofs.Common.{Err, None, Result, false, inl, inr, refl, subst, sym, ℕ, ◌∙◌, ◌≡◌}
 use Rattle.std.proofs.lemmas.Bool.{cases_eq}
 use Rattle.std.specs.Prelude.{IsErrOf}
 
 -- the count of one disk stays, and no other was called
-pub stays_on : (old new : Disks) (disk : ℕ) → OnDisk old new disk → new.faults disk ≡ old.faults disk → CountsStay old.faults new.faults
+pub stays_on : (old new : Disks) (disk : ℕ) → OnDisk old new disk → new.faults disk ≡ old.faults disk → NoFault old new
 stays_on old new disk alone same d = elim (cases_eq d disk) [
   | inl is ↦ subst (λ (n : ℕ). new.faults n ≡ old.faults n) (sym is) same
   | inr other ↦ alone.others_faults d other
 ]
 
-pub stays_none : (counts : ℕ → ℕ) → CountsStay counts counts
-stays_none counts d = refl
+pub stays_none : (disks : Disks) → NoFault disks disks
+stays_none disks d = refl
 
-pub stays_then : (old mid new : ℕ → ℕ) → CountsStay old mid → CountsStay mid new → CountsStay old new
+pub stays_then : (old mid new : Disks) → NoFault old mid → NoFault mid new → NoFault old new
 stays_then old mid new first then d = then d ∙ first d
+
+-- the log was taken out before
+pub stays_taken : {P : Type 0} (disks : P → Disks) (old mid : Stable P) (new : Disks) → mid ≡ down_with old None → NoFault (disks_of disks mid) new → NoFault (disks_of disks old) new
+stays_taken {P = P} disks old mid new same stays = subst (λ (s : Stable P). NoFault (disks_of disks s) new) same stays
 
 -- ---- a fault of a layer below that tells of no disk
 

@@ -1,6 +1,6 @@
 -- Calls in which a disk failed, by the counts of faults of the disks.
 use Rattle.disk_trait.specs.Disks.{Rose}
-use Rattle.std.specs.Prelude.{Bool, false, true, ℕ, ◌<◌, ◌≡◌, ◌≤◌}
+use Rattle.std.specs.Prelude.{Bool, false, true, ℕ, ◌<◌, ◌≤◌}
 use Rattle.validation_window.specs.declared.refusal.Refusal.TheVariants as refused
 use Rattle.validation_window.specs.declared.refusal.Refusal.{Refusal}
 
@@ -13,10 +13,6 @@ pub record HasFailed (old new : ℕ → ℕ) : Type 0 where
 -- no count fell
 abbrev pub NoFewer : (ℕ → ℕ) → (ℕ → ℕ) → Type 0
 NoFewer old new = (d : ℕ) → old d ≤ new d
-
--- each count is as it was
-abbrev pub CountsStay : (ℕ → ℕ) → (ℕ → ℕ) → Type 0
-CountsStay old new = (d : ℕ) → new d ≡ old d
 
 -- a refusal that tells of a disk that failed
 abbrev pub is_stopped : Refusal → Bool
