@@ -3,7 +3,7 @@
 ghost use Rattle.std.specs.Prelude.{◌<◌, ℕ, List, OnOk, IsErrOf};
 ghost use Rattle.disk_trait.specs.AllDisks.{AllSettled, LeavesAll, MayLeaveAll, NoFault, ReadsAs};
 ghost use Rattle.disk_trait.specs.Disks.{Rose};
-ghost use Rattle.disk_trait.specs.declared.parts.Outage.TheVariants.{Failed};
+ghost use Rattle.disk_trait.specs.declared.parts.Outage.TheVariants.{Failed, NoMemory};
 
 use crate::parts::{Outage, Parts};
 
@@ -14,6 +14,7 @@ pub fn restart_all<P: Parts>(parts: &mut P, pick: u64) -> Result<(), Outage>
     ensures any_moment { LeavesAll (P.disks parts.old) (P.disks parts.new) (MayLeaveAll (P.disks parts.old) (P.disks parts.old).time) }
     ensures settled { OnOk result (AllSettled (P.disks parts.new)) }
     ensures steady { OnOk result (NoFault (P.disks parts.old) (P.disks parts.new)) }
+    ensures wanting { IsErrOf result NoMemory → NoFault (P.disks parts.old) (P.disks parts.new) }
     ensures failed { IsErrOf result Failed → (d : ℕ) × (d < 3) × Rose ((P.disks parts.old).faults d) ((P.disks parts.new).faults d) }
 {
     parts.restart(0, pick)?;
