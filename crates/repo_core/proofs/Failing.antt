@@ -1,4 +1,5 @@
 -- A disk failed in a call that answers Stopped.
+use Rattle.disk_trait.specs.AllDisks.{NoFault}
 use Rattle.disk_trait.specs.Disks.{Disks, Rose}
 use Rattle.refusal_reasons.specs.declared.reason.Reason.TheVariants.{Gone}
 use Rattle.repo_core.proofs.Refused.{no_fault}
@@ -47,6 +48,15 @@ failed_same x y z same failed = subst (λ (p : ℕ × ℕ × ℕ). HasFailed (co
 
 pub fewer_same : (x y : Shown) → y.faults ≡ x.faults → NoFewer (faults_of x) (faults_of y)
 fewer_same x y same = subst (λ (p : ℕ × ℕ × ℕ). NoFewer (faults_of x) (count_at p)) (sym same) (fewer_none (faults_of x) (faults_of x) (λ d. refl))
+
+-- ---- counts that stay
+
+-- those of the disks stay, and so do those that are shown
+pub counts_between : (old new : Disks) (x y : Shown) → counts_in old ≡ x.faults → counts_in new ≡ y.faults → NoFault old new → y.faults ≡ x.faults
+counts_between old new x y was is same = sym is ∙ (each (old.faults 0) (old.faults 1) (old.faults 2) (new.faults 0) (new.faults 1) (new.faults 2) (same 0) (same 1) (same 2) ∙ was)
+  where
+    each : (a b c d e f : ℕ) → d ≡ a → e ≡ b → f ≡ c → ◌≡◌ {A = ℕ × ℕ × ℕ} (d, e, f) (a, b, c)
+    each a b c d e f p q r = cc
 
 -- ---- a call that is refused so didn't answer Stopped
 

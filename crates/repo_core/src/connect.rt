@@ -27,6 +27,7 @@ impl<P: Parts> Repo<P> {
         ensures why { IfErr result (CanRefuse self.old HasNoReason ⊥) }
         ensures pages { self.new.pages ≡ self.old.pages }
         ensures clock { self.new.clock ≡ self.old.clock }
+        ensures faults { self.new.faults ≡ self.old.faults }
         ensures opened { self.new.opened_in ≡ self.old.opened_in }
         ensures begun { IfOk result (λ w. self.new.memory ≡ record self.old.memory { sessions = begun self.old.memory.sessions client w.session }) }
         ensures number { IfOk result (λ w. w.session ≡ self.old.memory.sessions.last + 1) }
@@ -71,6 +72,7 @@ impl<P: Parts> Repo<P> {
         ensures torn { self.new.is_torn ≡ self.old.is_torn }
         ensures pages { self.new.pages ≡ self.old.pages }
         ensures clock { self.new.clock ≡ self.old.clock }
+        ensures faults { self.new.faults ≡ self.old.faults }
         ensures opened { self.new.opened_in ≡ self.old.opened_in }
     {
         let upgrades = self.stable.held().upgrades().copy()?;

@@ -44,6 +44,7 @@ impl<P: Parts> Repo<P> {
         ensures idle { IfErr result (λ r. r ≡ IsDown self.old.held.repo → self.new.clock ≡ self.old.clock) }
         ensures time { IfOk result (λ ts. IsDrawn self.old self.new floor ts.time) }
         ensures pages { self.new.pages ≡ self.old.pages }
+        ensures faults { self.new.faults ≡ self.old.faults }
         ensures opened { self.new.opened_in ≡ self.old.opened_in }
     {
         self.check_up()?;
@@ -93,6 +94,7 @@ impl<P: Parts> Repo<P> {
         ensures left { IfErr result (Leaves self.old self.new None) }
         ensures refusal { IfErr result (λ r. r ≡ IsNoMemory) }
         ensures pages { self.new.pages ≡ self.old.pages }
+        ensures faults { self.new.faults ≡ self.old.faults }
         ensures clock { self.new.clock ≡ self.old.clock }
         ensures opened { self.new.opened_in ≡ self.old.opened_in }
     {

@@ -70,6 +70,7 @@ impl<P: Parts> Repo<P> {
         ensures leaves { IfErr result (λ r. (e : Option AnEntry) → Leaves self.old self.new e r) }
         ensures pages { self.new.pages ≡ self.old.pages }
         ensures clock { self.new.clock ≡ self.old.clock }
+        ensures faults { self.new.faults ≡ self.old.faults }
         ensures opened { self.new.opened_in ≡ self.old.opened_in }
     {
         let marked = match happened {

@@ -7,7 +7,7 @@ ghost use Rattle.thor_value.specs.Spelling.{TsFits};
 ghost use Rattle.repository_laws.specs.Coming.{Moves};
 ghost use Rattle.thor_value.specs.FiniteMap.{has};
 ghost use Rattle.repo_core.specs.Shown.{faults_of};
-ghost use Rattle.stable_store.specs.Failing.{HasFailed};
+ghost use Rattle.stable_store.specs.Failing.{HasFailed, is_stopped};
 ghost use Rattle.trace_record.specs.Recorded.{with_entry};
 ghost use Rattle.two_phase.specs.Contents.{open_at};
 ghost use Rattle.repo_core.specs.Moving.{HasRoomFor};
@@ -41,6 +41,8 @@ impl<P: Parts> Repo<P> {
         ensures pages { HasRoomFor self.old.held verdict.now.tx verdict.now.commit → self.new.pages ≡ self.old.pages }
         ensures damaged { (n place : ℕ) → IsErrOf result (IsDamaged n place) → GoesDown self.old self.new None }
         ensures stopped { (n : ℕ) → IsErrOf result (IsStopped n) → HasFailed (faults_of self.old) (faults_of self.new) }
+        ensures steady { OnOk result (self.new.faults ≡ self.old.faults) }
+        ensures quiet { IfErr result (λ r. is_stopped r ≡ false → self.new.faults ≡ self.old.faults) }
         ensures clock { self.new.clock ≡ self.old.clock }
         ensures opened { self.new.opened_in ≡ self.old.opened_in }
     {

@@ -39,6 +39,7 @@ impl<P: Parts> Repo<P> {
         ensures left { IfErr result (Leaves self.old self.new None) }
         ensures pages { self.new.pages ≡ self.old.pages }
         ensures clock { self.new.clock ≡ self.old.clock }
+        ensures faults { self.new.faults ≡ self.old.faults }
         ensures opened { self.new.opened_in ≡ self.old.opened_in }
     {
         self.check_up()?;
@@ -78,6 +79,7 @@ impl<P: Parts> Repo<P> {
         ensures refusal { IfErr result (λ r. r ≡ IsNoMemory) }
         ensures pages { self.new.pages ≡ self.old.pages }
         ensures clock { self.new.clock ≡ self.old.clock }
+        ensures faults { self.new.faults ≡ self.old.faults }
         ensures opened { self.new.opened_in ≡ self.old.opened_in }
     {
         let place = self.trace.place();
@@ -105,6 +107,7 @@ impl<P: Parts> Repo<P> {
         ensures refusal { IfErr result (λ r. r ≡ IsNoMemory) }
         ensures pages { self.new.pages ≡ self.old.pages }
         ensures clock { self.new.clock ≡ self.old.clock }
+        ensures faults { self.new.faults ≡ self.old.faults }
         ensures opened { self.new.opened_in ≡ self.old.opened_in }
     {
         self.mark(sent, Mark::Granted { session, page })?;

@@ -7,7 +7,7 @@ ghost use Rattle.repo_core.specs.Behind.{HasMoved, Stands, epoch_of, with_refusa
 ghost use Rattle.repo_core.specs.Calls.{MayRequest, judged};
 ghost use Rattle.repo_core.specs.Moving.{HasRoom};
 ghost use Rattle.repo_core.specs.Shown.{faults_of};
-ghost use Rattle.stable_store.specs.Failing.{HasFailed};
+ghost use Rattle.stable_store.specs.Failing.{HasFailed, is_stopped};
 ghost use Rattle.trace_record.specs.Recorded.{with_entry};
 ghost use Rattle.volatile_state.specs.Volatile.{entered, verdict};
 ghost use Rattle.repo_core.specs.Refusing.{CanRefuse, GoesDown, Leaves, made_of};
@@ -40,6 +40,8 @@ impl<P: Parts> Repo<P> {
         ensures left { IfErr result (Leaves self.old self.new (made_of (judged self.old.held self.old.memory session request) (Prepares request))) }
         ensures damaged { (n place : ℕ) → IsErrOf result (IsDamaged n place) → GoesDown self.old self.new None }
         ensures stopped { (n : ℕ) → IsErrOf result (IsStopped n) → HasFailed (faults_of self.old) (faults_of self.new) }
+        ensures steady { OnOk result (self.new.faults ≡ self.old.faults) }
+        ensures quiet { IfErr result (λ r. is_stopped r ≡ false → self.new.faults ≡ self.old.faults) }
         ensures clock { self.new.clock ≡ self.old.clock }
         ensures opened { self.new.opened_in ≡ self.old.opened_in }
     {

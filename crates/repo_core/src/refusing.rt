@@ -42,6 +42,7 @@ impl<P: Parts> Repo<P> {
         ensures left { (e : Option AnEntry) → Leaves self.old self.new e result }
         ensures pages { self.new.pages ≡ self.old.pages }
         ensures clock { self.new.clock ≡ self.old.clock }
+        ensures faults { self.new.faults ≡ self.old.faults }
         ensures opened { self.new.opened_in ≡ self.old.opened_in }
     {
         let mark = Mark::Refused {

@@ -1,5 +1,6 @@
 //! Room in the buffer of modified objects.
 
+ghost use Rattle.disk_trait.specs.AllDisks.{NoFault};
 ghost use Rattle.std.specs.List.{AllByRecursion};
 ghost use Rattle.std.specs.Prelude.{◌≡◌, IfErr, IsErrOf, false, true, OnErr, Option, None, OnOk, ◌<◌, ◌≤◌, ℕ};
 ghost use Rattle.held_state.specs.Keeps.{Keeps};
@@ -11,7 +12,7 @@ ghost use Rattle.stable_store.specs.Saying.{IsSaid};
 ghost use Rattle.commit_log.specs.declared.entry.Entry.{Entry as AnEntry};
 ghost use Rattle.repo_core.specs.Refusing.{Leaves};
 ghost use Rattle.repo_core.specs.Shown.{faults_of};
-ghost use Rattle.stable_store.specs.Failing.{HasFailed, NoFewer};
+ghost use Rattle.stable_store.specs.Failing.{HasFailed, NoFewer, is_stopped};
 ghost use Rattle.stable_store.specs.Flushes.{HasFlushed};
 ghost use Rattle.refusal_reasons.specs.declared.reason.Reason.TheVariants.{Full as IsFull};
 ghost use Rattle.validation_window.specs.declared.refusal.Refusal.TheVariants.{Reason as IsReason, Stopped as IsStopped};
@@ -43,7 +44,7 @@ impl<P: Parts> Repo<P> {
     }
 
     /// Flushes pages until writes fit into the buffer beside what is there, or it is empty.
-    #[tactic(auto, using(crate::proofs::Refused::leaves_down, crate::proofs::Refused::falls_with, crate::proofs::Refused::lasts_same, crate::proofs::Failing::failed_between, crate::proofs::Failing::fewer_between, crate::proofs::Failing::fewer_same, stable_store::proofs::Flushes::flushed_none))]
+    #[tactic(auto, using(crate::proofs::Refused::leaves_down, crate::proofs::Refused::falls_with, crate::proofs::Refused::lasts_same, crate::proofs::Failing::failed_between, crate::proofs::Failing::counts_between, crate::proofs::Failing::fewer_between, crate::proofs::Failing::fewer_same, stable_store::proofs::Flushes::flushed_none))]
     pub(crate) fn make_room(&mut self, writes: &Writes) -> Result<(), Refusal>
         requires up { self.old.is_up ≡ true }
         requires fits { AllByRecursion CanStand writes.now }
@@ -54,6 +55,8 @@ impl<P: Parts> Repo<P> {
         ensures left { IfErr result (λ r. (e : Option AnEntry) → Leaves self.old self.new e r) }
         ensures names { IfErr result (λ r. repo_named self.old.held.repo r ≡ self.old.held.repo) }
         ensures stopped { (n : ℕ) → IsErrOf result (IsStopped n) → HasFailed (faults_of self.old) (faults_of self.new) }
+        ensures steady { OnOk result (self.new.faults ≡ self.old.faults) }
+        ensures quiet { IfErr result (λ r. is_stopped r ≡ false → self.new.faults ≡ self.old.faults) }
         ensures faults { NoFewer (faults_of self.old) (faults_of self.new) }
         ensures clock { self.new.clock ≡ self.old.clock }
         ensures opened { self.new.opened_in ≡ self.old.opened_in }
@@ -62,7 +65,7 @@ impl<P: Parts> Repo<P> {
     }
 
     /// Does so for the writes of a transaction that is open here, where it commits.
-    #[tactic(auto, using(crate::proofs::Refused::leaves_down, crate::proofs::Refused::falls_with, crate::proofs::Refused::lasts_same, crate::proofs::Failing::failed_between, crate::proofs::Failing::fewer_between, crate::proofs::Failing::fewer_same, stable_store::proofs::Flushes::flushed_none))]
+    #[tactic(auto, using(crate::proofs::Refused::leaves_down, crate::proofs::Refused::falls_with, crate::proofs::Refused::lasts_same, crate::proofs::Failing::failed_between, crate::proofs::Failing::counts_between, crate::proofs::Failing::fewer_between, crate::proofs::Failing::fewer_same, stable_store::proofs::Flushes::flushed_none))]
     pub(crate) fn make_room_for(&mut self, tx: Ts, commit: bool) -> Result<(), Refusal>
         requires { self.old.is_up ≡ true }
         ensures stands { Stands true result self.new.is_up }
@@ -72,6 +75,8 @@ impl<P: Parts> Repo<P> {
         ensures left { IfErr result (λ r. (e : Option AnEntry) → Leaves self.old self.new e r) }
         ensures names { IfErr result (λ r. repo_named self.old.held.repo r ≡ self.old.held.repo) }
         ensures stopped { (n : ℕ) → IsErrOf result (IsStopped n) → HasFailed (faults_of self.old) (faults_of self.new) }
+        ensures steady { OnOk result (self.new.faults ≡ self.old.faults) }
+        ensures quiet { IfErr result (λ r. is_stopped r ≡ false → self.new.faults ≡ self.old.faults) }
         ensures faults { NoFewer (faults_of self.old) (faults_of self.new) }
         ensures clock { self.new.clock ≡ self.old.clock }
         ensures opened { self.new.opened_in ≡ self.old.opened_in }
@@ -84,7 +89,7 @@ impl<P: Parts> Repo<P> {
     }
 }
 
-#[tactic(auto, using(stable_store::proofs::Failing::fewer_none, stable_store::proofs::Flushes::flushed_none))]
+#[tactic(auto, using(stable_store::proofs::Failing::fewer_none, stable_store::proofs::Counting::stays_none, stable_store::proofs::Counting::stays_then, stable_store::proofs::Flushes::flushed_none))]
 fn make_room<P: Parts>(stable: &mut Stable<P>, writes: &Writes) -> Result<(), Refusal>
     requires kept { IsKept P.disks stable.old }
     requires says { IsSaid P.disks stable.old }
@@ -101,6 +106,8 @@ fn make_room<P: Parts>(stable: &mut Stable<P>, writes: &Writes) -> Result<(), Re
     ensures rests { OnErr result (RestsWith None stable.new) }
     ensures names { IfErr result (λ r. repo_named (held_of stable.old).repo r ≡ (held_of stable.old).repo) }
     ensures stopped { (n : ℕ) → IsErrOf result (IsStopped n) → HasFailed (disks_of P.disks stable.old).faults (disks_of P.disks stable.new).faults }
+    ensures steady { OnOk result (NoFault (disks_of P.disks stable.old) (disks_of P.disks stable.new)) }
+    ensures quiet { IfErr result (λ r. is_stopped r ≡ false → NoFault (disks_of P.disks stable.old) (disks_of P.disks stable.new)) }
     ensures faults { NoFewer (disks_of P.disks stable.old).faults (disks_of P.disks stable.new).faults }
     ensures clock { (disks_of P.disks stable.new).clock ≡ (disks_of P.disks stable.old).clock }
 {
@@ -111,7 +118,7 @@ fn make_room<P: Parts>(stable: &mut Stable<P>, writes: &Writes) -> Result<(), Re
 }
 
 /// Flushes pages until the buffer keeps its limit with these writes, or it is empty.
-#[tactic(auto, using(stable_store::proofs::Failing::fewer_none, stable_store::proofs::Failing::fewer_then, stable_store::proofs::Failing::failed_behind, stable_store::proofs::Flushes::flushed_none, stable_store::proofs::Flushes::flushed_then, stable_store::proofs::Flushes::flushed_same))]
+#[tactic(auto, using(stable_store::proofs::Failing::fewer_none, stable_store::proofs::Counting::stays_none, stable_store::proofs::Counting::stays_then, stable_store::proofs::Failing::fewer_then, stable_store::proofs::Failing::failed_behind, stable_store::proofs::Flushes::flushed_none, stable_store::proofs::Flushes::flushed_then, stable_store::proofs::Flushes::flushed_same))]
 fn flush_for<P: Parts>(stable: &mut Stable<P>, writes: &Writes) -> Result<(), Refusal>
     requires kept { IsKept P.disks stable.old }
     requires says { IsSaid P.disks stable.old }
@@ -127,6 +134,8 @@ fn flush_for<P: Parts>(stable: &mut Stable<P>, writes: &Writes) -> Result<(), Re
     ensures rests { OnErr result (RestsWith None stable.new) }
     ensures names { IfErr result (λ r. repo_named (held_of stable.old).repo r ≡ (held_of stable.old).repo) }
     ensures stopped { (n : ℕ) → IsErrOf result (IsStopped n) → HasFailed (disks_of P.disks stable.old).faults (disks_of P.disks stable.new).faults }
+    ensures steady { OnOk result (NoFault (disks_of P.disks stable.old) (disks_of P.disks stable.new)) }
+    ensures quiet { IfErr result (λ r. is_stopped r ≡ false → NoFault (disks_of P.disks stable.old) (disks_of P.disks stable.new)) }
     ensures faults { NoFewer (disks_of P.disks stable.old).faults (disks_of P.disks stable.new).faults }
     ensures clock { (disks_of P.disks stable.new).clock ≡ (disks_of P.disks stable.old).clock }
 {
@@ -142,7 +151,7 @@ fn flush_for<P: Parts>(stable: &mut Stable<P>, writes: &Writes) -> Result<(), Re
 }
 
 /// Flushes pages until the writes of a transaction that is open fit into the buffer, or it is empty.
-#[tactic(auto, using(stable_store::proofs::Failing::fewer_none, stable_store::proofs::Flushes::flushed_none))]
+#[tactic(auto, using(stable_store::proofs::Failing::fewer_none, stable_store::proofs::Counting::stays_none, stable_store::proofs::Counting::stays_then, stable_store::proofs::Flushes::flushed_none))]
 fn make_room_for<P: Parts>(stable: &mut Stable<P>, tx: Ts) -> Result<(), Refusal>
     requires kept { IsKept P.disks stable.old }
     requires says { IsSaid P.disks stable.old }
@@ -158,6 +167,8 @@ fn make_room_for<P: Parts>(stable: &mut Stable<P>, tx: Ts) -> Result<(), Refusal
     ensures rests { OnErr result (RestsWith None stable.new) }
     ensures names { IfErr result (λ r. repo_named (held_of stable.old).repo r ≡ (held_of stable.old).repo) }
     ensures stopped { (n : ℕ) → IsErrOf result (IsStopped n) → HasFailed (disks_of P.disks stable.old).faults (disks_of P.disks stable.new).faults }
+    ensures steady { OnOk result (NoFault (disks_of P.disks stable.old) (disks_of P.disks stable.new)) }
+    ensures quiet { IfErr result (λ r. is_stopped r ≡ false → NoFault (disks_of P.disks stable.old) (disks_of P.disks stable.new)) }
     ensures faults { NoFewer (disks_of P.disks stable.old).faults (disks_of P.disks stable.new).faults }
     ensures clock { (disks_of P.disks stable.new).clock ≡ (disks_of P.disks stable.old).clock }
 {
@@ -167,7 +178,7 @@ fn make_room_for<P: Parts>(stable: &mut Stable<P>, tx: Ts) -> Result<(), Refusal
     flush_open(stable, tx)
 }
 
-#[tactic(auto, using(stable_store::proofs::Failing::fewer_none, stable_store::proofs::Failing::fewer_then, stable_store::proofs::Failing::failed_behind, stable_store::proofs::Flushes::flushed_none, stable_store::proofs::Flushes::flushed_then, stable_store::proofs::Flushes::flushed_same))]
+#[tactic(auto, using(stable_store::proofs::Failing::fewer_none, stable_store::proofs::Counting::stays_none, stable_store::proofs::Counting::stays_then, stable_store::proofs::Failing::fewer_then, stable_store::proofs::Failing::failed_behind, stable_store::proofs::Flushes::flushed_none, stable_store::proofs::Flushes::flushed_then, stable_store::proofs::Flushes::flushed_same))]
 fn flush_open<P: Parts>(stable: &mut Stable<P>, tx: Ts) -> Result<(), Refusal>
     requires kept { IsKept P.disks stable.old }
     requires says { IsSaid P.disks stable.old }
@@ -182,6 +193,8 @@ fn flush_open<P: Parts>(stable: &mut Stable<P>, tx: Ts) -> Result<(), Refusal>
     ensures rests { OnErr result (RestsWith None stable.new) }
     ensures names { IfErr result (λ r. repo_named (held_of stable.old).repo r ≡ (held_of stable.old).repo) }
     ensures stopped { (n : ℕ) → IsErrOf result (IsStopped n) → HasFailed (disks_of P.disks stable.old).faults (disks_of P.disks stable.new).faults }
+    ensures steady { OnOk result (NoFault (disks_of P.disks stable.old) (disks_of P.disks stable.new)) }
+    ensures quiet { IfErr result (λ r. is_stopped r ≡ false → NoFault (disks_of P.disks stable.old) (disks_of P.disks stable.new)) }
     ensures faults { NoFewer (disks_of P.disks stable.old).faults (disks_of P.disks stable.new).faults }
     ensures clock { (disks_of P.disks stable.new).clock ≡ (disks_of P.disks stable.old).clock }
 {

@@ -1,3 +1,4 @@
+pub mod Counting
 pub mod Failing
 pub mod Flushes
 pub mod Forgetting

@@ -1,5 +1,6 @@
 //! How a repository that is down comes up.
 
+ghost use Rattle.disk_trait.specs.AllDisks.{NoFault};
 ghost use Rattle.std.specs.Prelude.{◌≡◌, IfErr, IfOk, IsErrOf, OnErr, OnOk, Option, false, true, ℕ};
 ghost use Rattle.commit_log.specs.declared.entry.Entry.{Entry as AnyEntry};
 ghost use Rattle.disk_trait.specs.AllDisks.{GoesOn, SameContent, TellsAll};
@@ -9,7 +10,7 @@ ghost use Rattle.held_state.specs.Said.{said};
 ghost use Rattle.page_store.specs.Sides.{ReachesSides};
 ghost use Rattle.stable_store.specs.Agreeing.{CanEnter, IsTaken};
 ghost use Rattle.disk_trait.specs.Fused.{armed};
-ghost use Rattle.stable_store.specs.Failing.{HasFailed};
+ghost use Rattle.stable_store.specs.Failing.{HasFailed, is_stopped};
 ghost use Rattle.stable_store.specs.Kept.{IsKept, IsOpen, IsResting, disks_of, held_of, is_fault, is_torn, is_up, lowered, parts_in, pending};
 ghost use Rattle.stable_store.specs.Saying.{FindsOneOf, ImagesSay, IsOneOf, IsSaid, LeavesNoMore, SaysTaken};
 ghost use Rattle.stable_store.specs.declared.stable.Phase.TheVariants.{Down as IsDown, Up as IsUp};
@@ -98,6 +99,8 @@ impl<P: Parts> Stable<P> {
         ensures stays_said { IsSaid P.disks self.old → OnErr result (IsSaid P.disks self.new) }
         ensures goes { GoesOn (disks_of P.disks self.old) (disks_of P.disks self.new) }
         ensures stopped { (r : ℕ) → IsErrOf result (IsStopped r) → HasFailed (disks_of P.disks self.old).faults (disks_of P.disks self.new).faults }
+        ensures steady { OnOk result (NoFault (disks_of P.disks self.old) (disks_of P.disks self.new)) }
+        ensures quiet { IfErr result (λ r. is_stopped r ≡ false → NoFault (disks_of P.disks self.old) (disks_of P.disks self.new)) }
         ensures torn { is_torn self.old ≡ true → IsErrOf result IsNoMemory × (self.new ≡ record self.old { parts = armed (parts_in self.old) 0 }) }
         ensures damaged { (r place : ℕ) → IsErrOf result (IsDamaged r place) → IsSaid P.disks self.old → TellsAll (disks_of P.disks self.old) → ⊥ }
     {
@@ -145,6 +148,8 @@ impl<P: Parts> Stable<P> {
         ensures found { IfOk result (λ r. FindsOneOf (disks_of P.disks self.old) (disks_of P.disks self.new) (held_of self.old) (said r.state)) }
         ensures goes { GoesOn (disks_of P.disks self.old) (disks_of P.disks self.new) }
         ensures stopped { (r : ℕ) → IsErrOf result (IsStopped r) → HasFailed (disks_of P.disks self.old).faults (disks_of P.disks self.new).faults }
+        ensures steady { OnOk result (NoFault (disks_of P.disks self.old) (disks_of P.disks self.new)) }
+        ensures quiet { IfErr result (λ r. is_stopped r ≡ false → NoFault (disks_of P.disks self.old) (disks_of P.disks self.new)) }
         ensures damaged { (r place : ℕ) → IsErrOf result (IsDamaged r place) → (pending : Option AnyEntry) → ImagesSay (disks_of P.disks self.old) (held_of self.old) pending → TellsAll (disks_of P.disks self.old) → ⊥ }
     {
         let repo = self.repo();
@@ -177,6 +182,8 @@ impl<P: Parts> Stable<P> {
         ensures same { IfOk result (λ r. r.state ≡ recovered.state) }
         ensures goes { GoesOn (disks_of P.disks self.old) (disks_of P.disks self.new) }
         ensures stopped { (r : ℕ) → IsErrOf result (IsStopped r) → HasFailed (disks_of P.disks self.old).faults (disks_of P.disks self.new).faults }
+        ensures steady { OnOk result (NoFault (disks_of P.disks self.old) (disks_of P.disks self.new)) }
+        ensures quiet { IfErr result (λ r. is_stopped r ≡ false → NoFault (disks_of P.disks self.old) (disks_of P.disks self.new)) }
         ensures damaged { (r place : ℕ) → IsErrOf result (IsDamaged r place) → WhereTold (disks_of P.disks self.old) 2 (λ disk. ReachesSides recovered.state.objects.pages.sides disk → ⊥) }
     {
         let repo = self.repo();

@@ -3,6 +3,8 @@ use Rattle.repo_core.proofs.Causes.{why_marked}
 use Rattle.repo_core.proofs.Judged.{refused_by}
 use Rattle.repo_core.proofs.Refused.{why_refused}
 use Rattle.repo_core.specs.Calls.{judged}
+use Rattle.repo_core.proofs.Told.{on_ok}
+use Rattle.repo_core.proofs.Refused.{if_err_on}
 use Rattle.repo_core.proofs.repo.Repo.prepare.Goals as goal
 
 pub returns-in-Err-clause-why : goal.returns-in-Err-clause-why
@@ -17,3 +19,9 @@ returns-in-Err-clause-only g c =
 
 pub returns-in_err-make_room-in-Ok-clause-damaged : goal.returns-in_err-make_room-in-Ok-clause-damaged
 returns-in_err-make_room-in-Ok-clause-damaged g c = λ n place is. (c.in_err-make_room-in-Ok.ensures.left None).fault c.in_err-make_room-in-Ok.ensures.fault.0
+
+pub returns-in_ok-make_room-in-Ok-clause-steady : goal.returns-in_ok-make_room-in-Ok-clause-steady
+returns-in_ok-make_room-in-Ok-clause-steady g c = on_ok c.write.result _ _ (λ same. same ∙ c.in_ok-make_room-in-Ok.ensures.steady) c.write.ensures.steady
+
+pub returns-in_ok-make_room-in-Ok-clause-quiet : goal.returns-in_ok-make_room-in-Ok-clause-quiet
+returns-in_ok-make_room-in-Ok-clause-quiet g c = if_err_on c.write.result _ _ (λ r quiet other. quiet other ∙ c.in_ok-make_room-in-Ok.ensures.steady) c.write.ensures.quiet

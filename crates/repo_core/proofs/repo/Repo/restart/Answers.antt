@@ -1,5 +1,8 @@
 use Rattle.repo_core.proofs.Failing.{failed_same, failed_shown}
 use Rattle.repo_core.specs.Shown.{Shown}
+use Rattle.std.proofs.Common.{◌∙◌}
+use Rattle.repo_core.proofs.Refused.{if_err_on}
+use Rattle.repo_core.proofs.Told.{on_ok}
 use Rattle.repo_core.proofs.repo.Repo.restart.Goals as goal
 
 pub returns-clause-stopped : goal.returns-clause-stopped
@@ -8,3 +11,9 @@ returns-clause-stopped g c = λ n is.
     let z : Shown = c.drop_decisions.new.self in
     let w : Shown = c.write_life.new.self in
     failed_shown c.args.self.now y w c.take_over.ensures.faults (failed_same y z w c.drop_decisions.ensures.faults (c.write_life.ensures.stopped n is))
+
+pub returns-clause-steady : goal.returns-clause-steady
+returns-clause-steady g c = on_ok c.write_life.result _ _ (λ same. same ∙ c.drop_decisions.ensures.faults ∙ c.in_ok-take_over.ensures.steady) c.write_life.ensures.steady
+
+pub returns-clause-quiet : goal.returns-clause-quiet
+returns-clause-quiet g c = if_err_on c.write_life.result _ _ (λ r quiet other. quiet other ∙ c.drop_decisions.ensures.faults ∙ c.in_ok-take_over.ensures.steady) c.write_life.ensures.quiet
