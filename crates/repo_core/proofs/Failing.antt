@@ -6,10 +6,10 @@ use Rattle.repo_core.proofs.Refused.{no_fault}
 use Rattle.repo_core.specs.Behind.{is_marked}
 use Rattle.repo_core.specs.Shown.{Shown, count_at, faults_of}
 use Rattle.stable_store.proofs.Failing.{failed_behind, fewer_none}
-use Rattle.stable_store.specs.Failing.{HasFailed, NoFewer}
+use Rattle.stable_store.specs.Failing.{HasFailed, NoFewer, is_stopped}
 use Rattle.stable_store.specs.Kept.{is_fault}
 use Rattle.std.proofs.Common.{Err, Ok, Result, ap, arith, refl, subst, suc, sym, true, zero, ℕ, ◌<◌, ◌∙◌, ◌≡◌}
-use Rattle.std.specs.Prelude.{IfErr, IsErrOf, false}
+use Rattle.std.specs.Prelude.{IfErr, IsErrOf, OnOk, false}
 use Rattle.validation_window.specs.declared.refusal.Refusal.TheVariants as refused
 use Rattle.validation_window.specs.declared.refusal.Refusal.{Refusal}
 
@@ -57,6 +57,15 @@ counts_between old new x y was is same = sym is ∙ (each (old.faults 0) (old.fa
   where
     each : (a b c d e f : ℕ) → d ≡ a → e ≡ b → f ≡ c → ◌≡◌ {A = ℕ × ℕ × ℕ} (d, e, f) (a, b, c)
     each a b c d e f p q r = cc
+
+-- where a call of the disks answers so, so do those that are shown
+pub ok_shown : {T : Type 0} (result : Result T Refusal) (old new : Disks) (x y : Shown) → counts_in old ≡ x.faults → counts_in new ≡ y.faults → OnOk result (NoFault old new) → OnOk result (y.faults ≡ x.faults)
+ok_shown (Ok t) old new x y was is steady = counts_between old new x y was is steady
+ok_shown (Err r) old new x y was is steady = tt
+
+pub err_shown : {T : Type 0} (result : Result T Refusal) (old new : Disks) (x y : Shown) → counts_in old ≡ x.faults → counts_in new ≡ y.faults → IfErr result (λ r. is_stopped r ≡ false → NoFault old new) → IfErr result (λ r. is_stopped r ≡ false → y.faults ≡ x.faults)
+err_shown (Ok t) old new x y was is quiet = tt
+err_shown (Err r) old new x y was is quiet = λ other. counts_between old new x y was is (quiet other)
 
 -- ---- a call that is refused so didn't answer Stopped
 

@@ -15,7 +15,7 @@ use validation_window::Refusal;
 impl<P: Parts> Repo<P> {
     /// Begins a log on the other log disk with all that the present one stands for, but for decisions that are
     /// forgotten or of earlier openings.
-    #[tactic(auto, using(crate::proofs::Refused::rests_down, crate::proofs::Refused::rests_so, crate::proofs::Causes::why_down, crate::proofs::Causes::stands_refused, crate::proofs::Failing::stopped_none, crate::proofs::Failing::failed_between, crate::proofs::Failing::counts_between, crate::proofs::Failing::failed_same, crate::proofs::Causes::damaged_none))]
+    #[tactic(auto, using(crate::proofs::Refused::rests_down, crate::proofs::Refused::rests_so, crate::proofs::Causes::why_down, crate::proofs::Causes::stands_refused, crate::proofs::Failing::stopped_none, crate::proofs::Failing::failed_between, crate::proofs::Failing::failed_same, crate::proofs::Causes::damaged_none))]
     pub fn checkpoint(&mut self) -> Result<(), Refusal>
         ensures stands { Stands self.old.is_up result self.new.is_up }
         ensures memory { self.new.memory ≡ self.old.memory }

@@ -69,6 +69,7 @@ impl<P: Parts> Repo<P> {
         ensures asked { IsErrOf result (IsReason IsClockEnd) → WasAsked self.old self.new floor }
         ensures unasked { IsErrOf result (IsReason (IsGone session)) → self.new.clock ≡ self.old.clock }
         ensures drawn { IfOk result (IsDrawn self.old self.new floor) }
+        ensures faults { self.new.faults ≡ self.old.faults }
         ensures opened { self.new.opened_in ≡ self.old.opened_in }
     {
         self.check_live(session)?;

@@ -20,7 +20,7 @@ use validation_window::Refusal;
 impl<P: Parts> Repo<P> {
     /// Puts a page into the session's outbox, as it stands behind all entries. The messages below `upto` are
     /// acknowledged. Refusal: `Gone`.
-    #[tactic(auto, using(crate::proofs::Refused::leaves_down, crate::proofs::Refused::falls_with, crate::proofs::Refused::leaves_read, crate::proofs::Refused::moved_none, crate::proofs::Refused::lasts_same, crate::proofs::Causes::why_down, crate::proofs::Causes::why_reason, crate::proofs::Causes::why_after, crate::proofs::Causes::lacks_memory, crate::proofs::Failing::stopped_none, crate::proofs::Failing::stopped_gone, crate::proofs::Failing::stopped_memory, crate::proofs::Failing::failed_between, crate::proofs::Failing::counts_between, crate::proofs::Causes::damaged_none, crate::proofs::Causes::damaged_gone, crate::proofs::Damage::damaged_memory))]
+    #[tactic(auto, using(crate::proofs::Refused::leaves_down, crate::proofs::Refused::falls_with, crate::proofs::Refused::leaves_read, crate::proofs::Refused::moved_none, crate::proofs::Refused::lasts_same, crate::proofs::Causes::why_down, crate::proofs::Causes::why_reason, crate::proofs::Causes::why_after, crate::proofs::Causes::lacks_memory, crate::proofs::Failing::stopped_none, crate::proofs::Failing::stopped_gone, crate::proofs::Failing::stopped_memory, crate::proofs::Failing::failed_between, crate::proofs::Causes::damaged_none, crate::proofs::Causes::damaged_gone, crate::proofs::Damage::damaged_memory))]
     pub fn fetch(&mut self, session: u32, page: u32, upto: u64) -> Result<(), Refusal>
         ensures stands { Stands self.old.is_up result self.new.is_up }
         ensures live { OnOk result (is_live self.old.memory.sessions session ≡ true) }

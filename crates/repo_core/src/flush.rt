@@ -17,7 +17,7 @@ use validation_window::Refusal;
 impl<P: Parts> Repo<P> {
     /// Writes the page of the oldest buffered object, with all its buffered objects, to the side of it that
     /// isn't in use, and has that side in use. No object changes.
-    #[tactic(auto, using(crate::proofs::Refused::rests_down, crate::proofs::Refused::rests_so, crate::proofs::Causes::stands_refused, crate::proofs::Failing::failed_between, crate::proofs::Failing::counts_between))]
+    #[tactic(auto, using(crate::proofs::Refused::rests_down, crate::proofs::Refused::rests_so, crate::proofs::Causes::stands_refused, crate::proofs::Failing::failed_between))]
     pub fn flush(&mut self) -> Result<Flushed, Refusal>
         ensures stands { Stands self.old.is_up result self.new.is_up }
         ensures held { MovesObjects self.old.held self.new.held }

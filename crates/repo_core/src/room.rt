@@ -44,7 +44,7 @@ impl<P: Parts> Repo<P> {
     }
 
     /// Flushes pages until writes fit into the buffer beside what is there, or it is empty.
-    #[tactic(auto, using(crate::proofs::Refused::leaves_down, crate::proofs::Refused::falls_with, crate::proofs::Refused::lasts_same, crate::proofs::Failing::failed_between, crate::proofs::Failing::counts_between, crate::proofs::Failing::fewer_between, crate::proofs::Failing::fewer_same, stable_store::proofs::Flushes::flushed_none))]
+    #[tactic(auto, using(crate::proofs::Refused::leaves_down, crate::proofs::Refused::falls_with, crate::proofs::Refused::lasts_same, crate::proofs::Failing::failed_between, crate::proofs::Failing::ok_shown, crate::proofs::Failing::err_shown, crate::proofs::Failing::fewer_between, crate::proofs::Failing::fewer_same, stable_store::proofs::Flushes::flushed_none))]
     pub(crate) fn make_room(&mut self, writes: &Writes) -> Result<(), Refusal>
         requires up { self.old.is_up ≡ true }
         requires fits { AllByRecursion CanStand writes.now }
@@ -65,7 +65,7 @@ impl<P: Parts> Repo<P> {
     }
 
     /// Does so for the writes of a transaction that is open here, where it commits.
-    #[tactic(auto, using(crate::proofs::Refused::leaves_down, crate::proofs::Refused::falls_with, crate::proofs::Refused::lasts_same, crate::proofs::Failing::failed_between, crate::proofs::Failing::counts_between, crate::proofs::Failing::fewer_between, crate::proofs::Failing::fewer_same, stable_store::proofs::Flushes::flushed_none))]
+    #[tactic(auto, using(crate::proofs::Refused::leaves_down, crate::proofs::Refused::falls_with, crate::proofs::Refused::lasts_same, crate::proofs::Failing::failed_between, crate::proofs::Failing::ok_shown, crate::proofs::Failing::err_shown, crate::proofs::Failing::fewer_between, crate::proofs::Failing::fewer_same, stable_store::proofs::Flushes::flushed_none))]
     pub(crate) fn make_room_for(&mut self, tx: Ts, commit: bool) -> Result<(), Refusal>
         requires { self.old.is_up ≡ true }
         ensures stands { Stands true result self.new.is_up }
@@ -118,7 +118,7 @@ fn make_room<P: Parts>(stable: &mut Stable<P>, writes: &Writes) -> Result<(), Re
 }
 
 /// Flushes pages until the buffer keeps its limit with these writes, or it is empty.
-#[tactic(auto, using(stable_store::proofs::Failing::fewer_none, stable_store::proofs::Counting::stays_none, stable_store::proofs::Counting::stays_then, stable_store::proofs::Failing::fewer_then, stable_store::proofs::Failing::failed_behind, stable_store::proofs::Flushes::flushed_none, stable_store::proofs::Flushes::flushed_then, stable_store::proofs::Flushes::flushed_same))]
+#[tactic(auto, using(stable_store::proofs::Failing::fewer_none, stable_store::proofs::Counting::stays_none, stable_store::proofs::Counting::stays_then, stable_store::proofs::Counting::err_behind, stable_store::proofs::Failing::fewer_then, stable_store::proofs::Failing::failed_behind, stable_store::proofs::Flushes::flushed_none, stable_store::proofs::Flushes::flushed_then, stable_store::proofs::Flushes::flushed_same))]
 fn flush_for<P: Parts>(stable: &mut Stable<P>, writes: &Writes) -> Result<(), Refusal>
     requires kept { IsKept P.disks stable.old }
     requires says { IsSaid P.disks stable.old }
@@ -178,7 +178,7 @@ fn make_room_for<P: Parts>(stable: &mut Stable<P>, tx: Ts) -> Result<(), Refusal
     flush_open(stable, tx)
 }
 
-#[tactic(auto, using(stable_store::proofs::Failing::fewer_none, stable_store::proofs::Counting::stays_none, stable_store::proofs::Counting::stays_then, stable_store::proofs::Failing::fewer_then, stable_store::proofs::Failing::failed_behind, stable_store::proofs::Flushes::flushed_none, stable_store::proofs::Flushes::flushed_then, stable_store::proofs::Flushes::flushed_same))]
+#[tactic(auto, using(stable_store::proofs::Failing::fewer_none, stable_store::proofs::Counting::stays_none, stable_store::proofs::Counting::stays_then, stable_store::proofs::Counting::err_behind, stable_store::proofs::Failing::fewer_then, stable_store::proofs::Failing::failed_behind, stable_store::proofs::Flushes::flushed_none, stable_store::proofs::Flushes::flushed_then, stable_store::proofs::Flushes::flushed_same))]
 fn flush_open<P: Parts>(stable: &mut Stable<P>, tx: Ts) -> Result<(), Refusal>
     requires kept { IsKept P.disks stable.old }
     requires says { IsSaid P.disks stable.old }

@@ -21,6 +21,7 @@ impl<P: Parts> Repo<P> {
         ensures trace { self.new.trace ≡ self.old.trace }
         ensures pages { self.new.pages ≡ self.old.pages }
         ensures clock { self.new.clock ≡ self.old.clock }
+        ensures faults { self.new.faults ≡ self.old.faults }
     {
         self.stable.stop_after(calls);
     }
@@ -36,6 +37,7 @@ impl<P: Parts> Repo<P> {
         ensures trace { self.new.trace ≡ self.old.trace }
         ensures pages { self.new.pages ≡ self.old.pages }
         ensures clock { self.new.clock ≡ self.old.clock }
+        ensures faults { self.new.faults ≡ self.old.faults }
     {
         self.stable.disarm();
     }

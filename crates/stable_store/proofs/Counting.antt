@@ -9,12 +9,16 @@ use Rattle.page_store.specs.declared.fault.StoreFault.TheVariants as store
 use Rattle.page_store.specs.declared.fault.StoreFault.{StoreFault}
 use Rattle.recovery.specs.declared.fault.RecoverFault.TheVariants as recover
 use Rattle.recovery.specs.declared.fault.RecoverFault.{RecoverFault}
+use Rattle.disk_trait.specs.Fused.{fused_disks}
+use Rattle.disk_trait.specs.declared.fused.Fused.{Fused}
 use Rattle.stable_store.specs.Causes.{is_log_failed, is_outage_failed, is_pages_failed, is_recovery_failed}
+use Rattle.stable_store.specs.Failing.{is_stopped}
 use Rattle.stable_store.specs.Kept.{disks_of, down_with}
 use Rattle.stable_store.specs.declared.stable.Stable.{Stable}
-use Rattle.std.proofs.Common.{Err, None, Result, false, inl, inr, refl, subst, sym, ℕ, ◌∙◌, ◌≡◌}
+use Rattle.std.proofs.Common.{Err, None, Ok, Result, false, inl, inr, refl, subst, sym, ℕ, ◌∙◌, ◌≡◌}
 use Rattle.std.proofs.lemmas.Bool.{cases_eq}
-use Rattle.std.specs.Prelude.{IsErrOf}
+use Rattle.std.specs.Prelude.{IfErr, IsErrOf, OnOk}
+use Rattle.validation_window.specs.declared.refusal.Refusal.{Refusal}
 
 -- the count of one disk stays, and no other was called
 pub stays_on : (old new : Disks) (disk : ℕ) → OnDisk old new disk → new.faults disk ≡ old.faults disk → NoFault old new
@@ -53,3 +57,23 @@ pub recovery_quiet : {T : Type 0} (result : Result T RecoverFault) (fault : Reco
 recovery_quiet result recover.NoMemory A is wanting harmed quiet = wanting is
 recovery_quiet result (recover.Damaged d place) A is wanting harmed quiet = harmed d place is
 recovery_quiet result (recover.Failed d) A is wanting harmed quiet = absurd (cc)
+
+-- ---- calls in a row
+
+-- while the log was taken out, these parts were called and are put back
+pub stays_between : {P : Type 0} (disks : P → Disks) (old mid new : Stable P) (parts : Fused P) → mid ≡ down_with old None → new.parts ≡ parts → NoFault (disks_of disks mid) (fused_disks disks parts) → NoFault (disks_of disks old) (disks_of disks new)
+stays_between {P = P} disks old mid new parts taken back stays =
+    subst (λ (p : Fused P). NoFault (disks_of disks old) (fused_disks disks p)) (sym back) (stays_taken disks old mid (fused_disks disks parts) taken stays)
+
+-- no disk failed before a call, nor in it
+pub ok_behind : {T : Type 0} (result : Result T Refusal) (old mid new : Disks) → NoFault old mid → OnOk result (NoFault mid new) → OnOk result (NoFault old new)
+ok_behind (Ok x) old mid new before steady = stays_then old mid new before steady
+ok_behind (Err r) old mid new before steady = tt
+
+pub err_behind : {T : Type 0} (result : Result T Refusal) (old mid new : Disks) → NoFault old mid → IfErr result (λ r. is_stopped r ≡ false → NoFault mid new) → IfErr result (λ r. is_stopped r ≡ false → NoFault old new)
+err_behind (Ok x) old mid new before quiet = tt
+err_behind (Err r) old mid new before quiet = λ other. stays_then old mid new before (quiet other)
+
+pub if_err_any : {T : Type 0} (result : Result T Refusal) (A : Type 0) → A → IfErr result (λ r. is_stopped r ≡ false → A)
+if_err_any (Ok x) A a = tt
+if_err_any (Err r) A a = λ other. a

@@ -6,6 +6,10 @@ use Rattle.validation_window.specs.declared.refusal.Refusal.TheVariants.{Damaged
 use Rattle.repo_core.proofs.Refused.{if_err_on, leaves_read}
 use Rattle.repo_core.specs.Shown.{Shown, shown}
 use Rattle.std.specs.Prelude.{None}
+use Rattle.repo_core.proofs.Failing.{counts_between, err_shown}
+use Rattle.stable_store.proofs.Counting.{if_err_any}
+use Rattle.stable_store.proofs.Returning.{on_ok_any}
+use Rattle.std.proofs.Common.{◌∙◌}
 use Rattle.repo_core.proofs.repo.Repo.fetch.Goals as goal
 
 pub returns-clause-left : goal.returns-clause-left
@@ -34,3 +38,18 @@ returns-in_err-image-clause-damaged g c = λ n place is.
 
 pub returns-clause-damaged : goal.returns-clause-damaged
 returns-clause-damaged g c = λ n place is. damaged_memory c.mark.result n place _ c.mark.ensures.refusal is
+
+pub returns-in_err-image-clause-quiet : goal.returns-in_err-image-clause-quiet
+returns-in_err-image-clause-quiet g c =
+    let i = c.self.inside in
+    err_shown c.from_residual-in_err-image.result (disks_of g.P.Parts.disks i.stable) (disks_of g.P.Parts.disks c.page_image.new.self) c.args.self.now (shown g.P.Parts.disks c.page_image.new.self i.memory i.trace i.opened_in) (ap (λ (s : Shown). s.faults) c.self.view_is) refl (search rules)
+
+pub returns-clause-steady : goal.returns-clause-steady
+returns-clause-steady g c =
+    let i = c.self.inside in
+    on_ok_any c.mark.result _ (c.mark.ensures.faults ∙ counts_between (disks_of g.P.Parts.disks i.stable) (disks_of g.P.Parts.disks c.page_image.new.self) c.args.self.now (shown g.P.Parts.disks c.page_image.new.self c.send_page-sent.new.self i.trace i.opened_in) (ap (λ (s : Shown). s.faults) c.self.view_is) refl (c.in_ok-image.ensures.steady))
+
+pub returns-clause-quiet : goal.returns-clause-quiet
+returns-clause-quiet g c =
+    let i = c.self.inside in
+    if_err_any c.mark.result _ (c.mark.ensures.faults ∙ counts_between (disks_of g.P.Parts.disks i.stable) (disks_of g.P.Parts.disks c.page_image.new.self) c.args.self.now (shown g.P.Parts.disks c.page_image.new.self c.send_page-sent.new.self i.trace i.opened_in) (ap (λ (s : Shown). s.faults) c.self.view_is) refl (c.in_ok-image.ensures.steady))

@@ -1,11 +1,8 @@
 use Rattle.repo_core.proofs.Damage.{oldest_shown}
-use Rattle.repo_core.proofs.Failing.{failed_between}
+use Rattle.repo_core.proofs.Failing.{err_shown, failed_between, ok_shown}
 use Rattle.repo_core.specs.Shown.{Shown, shown}
 use Rattle.stable_store.specs.Kept.{disks_of}
 use Rattle.std.proofs.Common.{ap, refl}
-use Rattle.repo_core.proofs.Failing.{counts_between}
-use Rattle.repo_core.proofs.Refused.{if_err_on}
-use Rattle.repo_core.proofs.Told.{on_ok}
 use Rattle.repo_core.proofs.repo.Repo.flush.Goals as goal
 
 pub returns-clause-stopped : goal.returns-clause-stopped
@@ -22,9 +19,9 @@ returns-clause-damaged g c = λ n place is.
 pub returns-clause-steady : goal.returns-clause-steady
 returns-clause-steady g c =
     let i = c.self.inside in
-    on_ok c.flush_page.result _ _ (counts_between (disks_of g.P.Parts.disks i.stable) (disks_of g.P.Parts.disks c.flush_page.new.self) c.args.self.now (shown g.P.Parts.disks c.flush_page.new.self i.memory i.trace i.opened_in) (ap (λ (s : Shown). s.faults) c.self.view_is) refl) c.flush_page.ensures.steady
+    ok_shown c.flush_page.result (disks_of g.P.Parts.disks i.stable) (disks_of g.P.Parts.disks c.flush_page.new.self) c.args.self.now (shown g.P.Parts.disks c.flush_page.new.self i.memory i.trace i.opened_in) (ap (λ (s : Shown). s.faults) c.self.view_is) refl c.flush_page.ensures.steady
 
 pub returns-clause-quiet : goal.returns-clause-quiet
 returns-clause-quiet g c =
     let i = c.self.inside in
-    if_err_on c.flush_page.result _ _ (λ r quiet other. counts_between (disks_of g.P.Parts.disks i.stable) (disks_of g.P.Parts.disks c.flush_page.new.self) c.args.self.now (shown g.P.Parts.disks c.flush_page.new.self i.memory i.trace i.opened_in) (ap (λ (s : Shown). s.faults) c.self.view_is) refl (quiet other)) c.flush_page.ensures.quiet
+    err_shown c.flush_page.result (disks_of g.P.Parts.disks i.stable) (disks_of g.P.Parts.disks c.flush_page.new.self) c.args.self.now (shown g.P.Parts.disks c.flush_page.new.self i.memory i.trace i.opened_in) (ap (λ (s : Shown). s.faults) c.self.view_is) refl c.flush_page.ensures.quiet

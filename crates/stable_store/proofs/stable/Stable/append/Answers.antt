@@ -7,6 +7,9 @@ use Rattle.stable_store.proofs.Saying.{ahead_up, images_written, log_more, said_
 use Rattle.stable_store.proofs.Staying.{kept_up, taken_follows, taken_open}
 use Rattle.stable_store.specs.Kept.{disks_of}
 use Rattle.std.specs.Prelude.{Some}
+use Rattle.stable_store.proofs.Counting.{log_quiet, stays_between}
+use Rattle.stable_store.specs.Kept.{parts_in}
+use Rattle.std.proofs.Common.{ap, sym, ◌∙◌}
 use Rattle.stable_store.proofs.stable.Stable.append.Goals as goal
 
 pub append-requires-clause-holds : goal.append-requires-clause-holds
@@ -42,3 +45,11 @@ returns-in-Err-clause-says g c = λ is.
     said_resting g.P.Parts.disks (record mid { parts = c.append.new.parts }) c.set_phase-in-Err.new.self (Some c.args.entry) c.set_phase-in-Err.ensures
     (images_written (disks_of g.P.Parts.disks mid) now c.in-Some.log mid.held c.args.entry says c.append.ensures.goes c.append.ensures.any_moment
     (reach_still (disks_of g.P.Parts.disks mid) now mid.held.objects.pages.sides c.append.ensures.goes c.append.ensures.still reach))
+
+pub returns-in-Ok-clause-steady : goal.returns-in-Ok-clause-steady
+returns-in-Ok-clause-steady g c = stays_between g.P.Parts.disks c.args.self.now c.take_log.new.self c.set_phase.new.self c.append.new.parts c.in-Some.ensures.some.1 (ap parts_in c.set_phase.ensures) c.in-Ok.ensures.steady
+
+pub returns-in-Err-clause-quiet : goal.returns-in-Err-clause-quiet
+returns-in-Err-clause-quiet g c = λ other.
+    stays_between g.P.Parts.disks c.args.self.now c.take_log.new.self c.set_phase-in-Err.new.self c.append.new.parts c.in-Some.ensures.some.1 (ap parts_in c.set_phase-in-Err.ensures)
+    (log_quiet c.append.result c.in-Err.fault _ c.in-Err.is c.append.ensures.wanting (λ place w. absurd (c.append.ensures.damaged place w)) (sym c.of_log.ensures.stops ∙ other))

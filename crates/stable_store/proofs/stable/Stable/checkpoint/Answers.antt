@@ -1,5 +1,9 @@
 use Rattle.stable_store.proofs.Saying.{said_anew, said_begun, said_out}
 use Rattle.stable_store.proofs.Staying.{taken_open}
+use Rattle.stable_store.proofs.Counting.{log_quiet, stays_between, stays_taken}
+use Rattle.disk_trait.specs.Fused.{fused_disks}
+use Rattle.stable_store.specs.Kept.{parts_in}
+use Rattle.std.proofs.Common.{ap, sym, ◌∙◌}
 use Rattle.stable_store.proofs.stable.Stable.checkpoint.Goals as goal
 
 pub returns-then-sequence-clause-says : goal.returns-then-sequence-clause-says
@@ -22,3 +26,11 @@ pub returns-clause-says : goal.returns-clause-says
 returns-clause-says g c = λ is.
     let taken = c.in-Some.ensures.some in
     said_anew g.P.Parts.disks c.args.self.now c.take_log.new.self c.set_phase.new.self c.checkpoint-begun.new.parts c.checkpoint-begun.new.self c.in-Ok.state taken.1 taken.2.keeps c.in-Ok.ensures.spelled c.set_phase.ensures c.in_default-begun.ensures.done
+
+pub returns-in-Err-begun-clause-quiet : goal.returns-in-Err-begun-clause-quiet
+returns-in-Err-begun-clause-quiet g c = λ other.
+    stays_taken g.P.Parts.disks c.args.self.now c.take_log.new.self (fused_disks g.P.Parts.disks c.checkpoint-begun.new.parts) c.in-Some.ensures.some.1
+    (log_quiet c.checkpoint-begun.result c.in-Err-begun.fault _ c.in-Err-begun.is c.checkpoint-begun.ensures.wanting (λ place w. absurd (c.checkpoint-begun.ensures.damaged place w)) (sym c.of_log.ensures.stops ∙ other))
+
+pub returns-clause-steady : goal.returns-clause-steady
+returns-clause-steady g c = stays_between g.P.Parts.disks c.args.self.now c.take_log.new.self c.set_phase.new.self c.checkpoint-begun.new.parts c.in-Some.ensures.some.1 (ap parts_in c.set_phase.ensures) c.in_default-begun.ensures.steady

@@ -9,6 +9,8 @@ use Rattle.stable_store.proofs.Pages.{reach_written}
 use Rattle.stable_store.proofs.Saying.{images_beside, log_beside, log_same}
 use Rattle.stable_store.specs.Kept.{disks_of}
 use Rattle.std.proofs.Common.{ap}
+use Rattle.stable_store.proofs.Counting.{err_behind, ok_behind, stays_on, store_quiet}
+use Rattle.std.proofs.Common.{sym, ◌∙◌}
 use Rattle.stable_store.proofs.stable.Stable.flush_into.Goals as goal
 
 pub put_flushed-requires-clause-opened : goal.put_flushed-requires-clause-opened
@@ -48,3 +50,21 @@ returns-in-Ok-clause-buffer g c = left_from c.put_flushed.result _ _ _ (ap (λ (
 pub returns-in-Ok-clause-oldest : goal.returns-in-Ok-clause-oldest
 returns-in-Ok-clause-oldest g c =
     oldest_then c.put_flushed.result c.in-Ok.flushed _ (oldest_is c.in-Ok.flushed c.args.self.now.held.objects.mob.objects c.flush_one.result c.in-Ok.is c.flush_one.ensures.nothing c.flush_one.ensures.oldest) c.put_flushed.ensures.same
+
+pub returns-in-Ok-clause-steady : goal.returns-in-Ok-clause-steady
+returns-in-Ok-clause-steady g c =
+    let old = disks_of g.P.Parts.disks c.args.self.now in
+    let mid = fused_disks g.P.Parts.disks c.flush_one.new.parts in
+    ok_behind c.put_flushed.result old mid (disks_of g.P.Parts.disks c.put_flushed.new.self) (stays_on old mid 2 c.flush_one.ensures.alone c.in-Ok.ensures.steady) c.put_flushed.ensures.steady
+
+pub returns-in-Ok-clause-quiet : goal.returns-in-Ok-clause-quiet
+returns-in-Ok-clause-quiet g c =
+    let old = disks_of g.P.Parts.disks c.args.self.now in
+    let mid = fused_disks g.P.Parts.disks c.flush_one.new.parts in
+    err_behind c.put_flushed.result old mid (disks_of g.P.Parts.disks c.put_flushed.new.self) (stays_on old mid 2 c.flush_one.ensures.alone c.in-Ok.ensures.steady) c.put_flushed.ensures.quiet
+
+pub returns-in-Err-clause-quiet : goal.returns-in-Err-clause-quiet
+returns-in-Err-clause-quiet g c = λ other.
+    let old = disks_of g.P.Parts.disks c.args.self.now in
+    let now = fused_disks g.P.Parts.disks c.flush_one.new.parts in
+    store_quiet c.flush_one.result c.in-Err.fault _ c.in-Err.is (λ w. stays_on old now 2 c.flush_one.ensures.alone (c.flush_one.ensures.wanting w)) (λ place w. stays_on old now 2 c.flush_one.ensures.alone (c.flush_one.ensures.harmed place w)) (sym c.of_store.ensures.stops ∙ other)

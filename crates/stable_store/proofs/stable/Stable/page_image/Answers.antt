@@ -6,6 +6,8 @@ use Rattle.stable_store.proofs.Saying.{log_beside, log_same, said_unread, said_u
 use Rattle.stable_store.proofs.Staying.{kept_up, taken_open}
 use Rattle.stable_store.specs.Kept.{disks_of}
 use Rattle.std.proofs.Common.{ap}
+use Rattle.stable_store.proofs.Counting.{stays_between, stays_on, stays_taken, store_quiet}
+use Rattle.stable_store.specs.Kept.{parts_in}
 use Rattle.stable_store.proofs.stable.Stable.page_image.Goals as goal
 
 pub returns-in-Ok-clause-kept : goal.returns-in-Ok-clause-kept
@@ -32,3 +34,16 @@ returns-in-Err-clause-says g c = λ is.
     let taken = c.in-Some.ensures.some in
     let stood = taken_open g.P.Parts.disks c.args.self.now c.take_log.new.self c.in-Some.log taken.1 taken.2 in
     said_unread g.P.Parts.disks c.args.self.now c.take_log.new.self c.page_image.new.parts c.page_image.new.self c.in-Some.log taken.0 taken.1 is stood c.page_image.ensures.alone c.page_image.ensures.crash c.page_image.ensures.said
+
+pub returns-in-Ok-clause-steady : goal.returns-in-Ok-clause-steady
+returns-in-Ok-clause-steady g c =
+    let old = disks_of g.P.Parts.disks c.take_log.new.self in
+    let now = fused_disks g.P.Parts.disks c.page_image.new.parts in
+    stays_between g.P.Parts.disks c.args.self.now c.take_log.new.self c.set_phase.new.self c.page_image.new.parts c.in-Some.ensures.some.1 (ap parts_in c.set_phase.ensures) (stays_on old now 2 c.page_image.ensures.alone c.in-Ok.ensures.steady)
+
+pub returns-in-Err-clause-quiet : goal.returns-in-Err-clause-quiet
+returns-in-Err-clause-quiet g c = λ other.
+    let old = disks_of g.P.Parts.disks c.take_log.new.self in
+    let now = fused_disks g.P.Parts.disks c.page_image.new.parts in
+    stays_taken g.P.Parts.disks c.args.self.now c.take_log.new.self now c.in-Some.ensures.some.1
+    (store_quiet c.page_image.result c.in-Err.fault _ c.in-Err.is (λ w. stays_on old now 2 c.page_image.ensures.alone (c.page_image.ensures.wanting w)) (λ place w. stays_on old now 2 c.page_image.ensures.alone (c.page_image.ensures.harmed place w)) (sym c.of_store.ensures.stops ∙ other))

@@ -11,6 +11,8 @@ use Rattle.state_log.specs.Recovered.{after}
 use Rattle.std.proofs.Common.{ap, refl, subst}
 use Rattle.std.specs.BTreeMap.{insert_entry}
 use Rattle.std.specs.Ordering.{nat_cmp}
+use Rattle.stable_store.proofs.Counting.{log_quiet}
+use Rattle.std.proofs.Common.{sym, ◌∙◌}
 use Rattle.stable_store.proofs.stable.Stable.put_flushed.Goals as goal
 
 pub returns-clause-opened : goal.returns-clause-opened
@@ -42,3 +44,6 @@ returns-then-side-ge-SIDES-clause-images g c = λ says. images_of_log (disks_of 
 
 pub returns-clause-buffer : goal.returns-clause-buffer
 returns-clause-buffer g c = ap (λ (s : State). s.mob) c.settle.ensures.said
+
+pub returns-in-Err-clause-quiet : goal.returns-in-Err-clause-quiet
+returns-in-Err-clause-quiet g c = λ other. log_quiet c.installed.result c.in-Err.fault _ c.in-Err.is c.installed.ensures.wanting (λ place w. absurd (c.installed.ensures.damaged place w)) (sym c.of_log.ensures.stops ∙ other)

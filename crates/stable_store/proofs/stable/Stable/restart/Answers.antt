@@ -5,7 +5,7 @@ use Rattle.disk_trait.specs.Fused.{fused_disks}
 use Rattle.disk_trait.specs.declared.fused.Fused.{Fused}
 use Rattle.held_state.specs.Said.{said}
 use Rattle.stable_store.proofs.Failing.{before_down, not_torn, stays_torn}
-use Rattle.stable_store.specs.Failing.{HasFailed}
+use Rattle.stable_store.specs.Failing.{HasFailed, is_stopped}
 use Rattle.stable_store.proofs.Returning.{fails_said, on_err_any, on_err_two, on_ok_any, restart_finds, restart_never, restart_stays, tells_armed, tells_down}
 use Rattle.stable_store.proofs.Saying.{phase_of, said_armed}
 use Rattle.stable_store.proofs.Lowered.{none_torn, pending_of}
@@ -15,8 +15,10 @@ use Rattle.stable_store.specs.declared.stable.Stable.{Stable}
 use Rattle.stable_store.specs.Taking.{TakesFrom}
 use Rattle.commit_log.specs.declared.entry.Entry.{Entry}
 use Rattle.held_state.specs.declared.held.Held.{Held}
-use Rattle.std.proofs.Common.{IfOk, IsErrOf, Option, ap, refl, rules, subst, sym, ◌∙◌}
+use Rattle.std.proofs.Common.{IfErr, IfOk, IsErrOf, Option, ap, false, refl, rules, subst, sym, ◌∙◌, ◌≡◌}
 use Rattle.validation_window.specs.declared.refusal.Refusal.TheVariants.{Damaged as IsDamaged, Stopped as IsStopped}
+use Rattle.stable_store.proofs.Counting.{if_err_any, stays_none}
+use Rattle.disk_trait.specs.AllDisks.{NoFault}
 use Rattle.stable_store.proofs.stable.Stable.restart.Goals as goal
 
 pub returns-in_err-recovered-clause-stays_said : goal.returns-in_err-recovered-clause-stays_said
@@ -110,3 +112,32 @@ returns-in-Torn-clause-goes g c =
 
 pub returns-in-Torn-clause-torn : goal.returns-in-Torn-clause-torn
 returns-in-Torn-clause-torn g c = λ torn. absurd (not_torn c.args.self.now c.take_down.new.self c.disarm.new.self c.take_down.ensures.new (sym c.is_torn.ensures ∙ c.if-is_torn.false) torn)
+
+pub returns-in_err-recovered-clause-quiet : goal.returns-in_err-recovered-clause-quiet
+returns-in_err-recovered-clause-quiet g c =
+    let new = disks_of g.P.Parts.disks c.recover.new.self in
+    let quiet : IfErr c.from_residual.result (λ r. is_stopped r ≡ false → NoFault (disks_of g.P.Parts.disks c.take_down.new.self) new) = search rules in
+    before_down g.P.Parts.disks c.args.self.now c.take_down.new.self c.disarm.new.self (λ (d : Disks). IfErr c.from_residual.result (λ r. is_stopped r ≡ false → NoFault d new)) c.disarm.ensures c.take_down.ensures.new quiet
+
+pub returns-in-Down-clause-steady : goal.returns-in-Down-clause-steady
+returns-in-Down-clause-steady g c =
+    on_ok_any c.take_over.result _ (subst (λ (p : Fused _). NoFault (disks_of g.P.Parts.disks c.args.self.now) (fused_disks g.P.Parts.disks p)) (sym c.take_over.ensures.parts)
+    (before_down g.P.Parts.disks c.args.self.now c.take_down.new.self c.disarm.new.self (λ (d : Disks). NoFault d (disks_of g.P.Parts.disks c.recover.new.self)) c.disarm.ensures c.take_down.ensures.new (c.in_ok-recovered.ensures.steady)))
+
+pub returns-in-Down-clause-quiet : goal.returns-in-Down-clause-quiet
+returns-in-Down-clause-quiet g c =
+    if_err_any c.take_over.result _ (subst (λ (p : Fused _). NoFault (disks_of g.P.Parts.disks c.args.self.now) (fused_disks g.P.Parts.disks p)) (sym c.take_over.ensures.parts)
+    (before_down g.P.Parts.disks c.args.self.now c.take_down.new.self c.disarm.new.self (λ (d : Disks). NoFault d (disks_of g.P.Parts.disks c.recover.new.self)) c.disarm.ensures c.take_down.ensures.new (c.in_ok-recovered.ensures.steady)))
+
+pub returns-then-is_torn-clause-quiet : goal.returns-then-is_torn-clause-quiet
+returns-then-is_torn-clause-quiet g c = λ other.
+    before_down g.P.Parts.disks c.args.self.now c.take_down.new.self c.disarm.new.self (λ (d : Disks). NoFault d (disks_of g.P.Parts.disks c.take_down.new.self)) c.disarm.ensures c.take_down.ensures.new (stays_none (disks_of g.P.Parts.disks c.take_down.new.self))
+
+pub returns-in-Up-clause-quiet : goal.returns-in-Up-clause-quiet
+returns-in-Up-clause-quiet g c = λ other.
+    before_down g.P.Parts.disks c.args.self.now c.take_down.new.self c.disarm.new.self (λ (d : Disks). NoFault d (disks_of g.P.Parts.disks c.recover.new.self)) c.disarm.ensures c.take_down.ensures.new (c.in_ok-recovered.ensures.steady)
+
+pub returns-in-Torn-clause-quiet : goal.returns-in-Torn-clause-quiet
+returns-in-Torn-clause-quiet g c = λ other.
+    subst (λ (s : Stable _). NoFault (disks_of g.P.Parts.disks c.args.self.now) (disks_of g.P.Parts.disks s)) (sym c.set_phase.ensures)
+    (before_down g.P.Parts.disks c.args.self.now c.take_down.new.self c.disarm.new.self (λ (d : Disks). NoFault d (disks_of g.P.Parts.disks c.recover.new.self)) c.disarm.ensures c.take_down.ensures.new (c.in_ok-recovered.ensures.steady))
