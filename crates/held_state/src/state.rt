@@ -388,6 +388,7 @@ impl HeldState {
         ensures steady { OnOk result ((P.disks parts.new).faults 2 ≡ (P.disks parts.old).faults 2) }
         ensures wanting { IsErrOf result OutOfMemory → (P.disks parts.new).faults 2 ≡ (P.disks parts.old).faults 2 }
         ensures harmed { (place : ℕ) → IsErrOf result (Damaged place) → (P.disks parts.new).faults 2 ≡ (P.disks parts.old).faults 2 }
+        ensures content { (place : ℕ) → IsErrOf result (Damaged place) → (P.disks parts.new).content 2 ≡ (P.disks parts.old).content 2 }
     {
         self.held.objects.flush_one(parts)
     }

@@ -160,6 +160,7 @@ impl ObjectStore {
         ensures steady { OnOk result ((P.disks parts.new).faults 2 ≡ (P.disks parts.old).faults 2) }
         ensures wanting { IsErrOf result OutOfMemory → (P.disks parts.new).faults 2 ≡ (P.disks parts.old).faults 2 }
         ensures harmed { (place : ℕ) → IsErrOf result (Damaged place) → (P.disks parts.new).faults 2 ≡ (P.disks parts.old).faults 2 }
+        ensures content { (place : ℕ) → IsErrOf result (Damaged place) → (P.disks parts.new).content 2 ≡ (P.disks parts.old).content 2 }
     {
         let Some(oldest) = self.mob.oldest() else {
             return Ok(Flushed::Nothing);
@@ -273,6 +274,7 @@ fn install_image<P: Parts>(
     ensures steady { OnOk result ((P.disks parts.new).faults 2 ≡ (P.disks parts.old).faults 2) }
     ensures wanting { IsErrOf result OutOfMemory → (P.disks parts.new).faults 2 ≡ (P.disks parts.old).faults 2 }
     ensures harmed { (place : ℕ) → IsErrOf result (Damaged place) → (P.disks parts.new).faults 2 ≡ (P.disks parts.old).faults 2 }
+    ensures content { (place : ℕ) → IsErrOf result (Damaged place) → (P.disks parts.new).content 2 ≡ (P.disks parts.old).content 2 }
 {
     pages.hold(parts, oref.page)?;
     let image = match pages.held(oref.page) {
