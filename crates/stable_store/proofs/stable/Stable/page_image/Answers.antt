@@ -5,7 +5,7 @@ use Rattle.stable_store.proofs.Openings.{stands_where}
 use Rattle.stable_store.proofs.Saying.{log_beside, log_same, said_unread, said_up, taken_says}
 use Rattle.stable_store.proofs.Staying.{kept_up, taken_open}
 use Rattle.stable_store.specs.Kept.{disks_of}
-use Rattle.std.proofs.Common.{ap}
+use Rattle.std.proofs.Common.{ap, sym, ◌∙◌}
 use Rattle.stable_store.proofs.Counting.{stays_between, stays_on, stays_taken, store_quiet}
 use Rattle.stable_store.specs.Kept.{parts_in}
 use Rattle.stable_store.proofs.stable.Stable.page_image.Goals as goal
