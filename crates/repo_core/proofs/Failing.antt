@@ -67,6 +67,15 @@ pub err_shown : {T : Type 0} (result : Result T Refusal) (old new : Disks) (x y 
 err_shown (Ok t) old new x y was is quiet = tt
 err_shown (Err r) old new x y was is quiet = λ other. counts_between old new x y was is (quiet other)
 
+-- no count rose before a call, nor in it
+pub ok_before : {T : Type 0} (result : Result T Refusal) (x y z : ℕ × ℕ × ℕ) → y ≡ x → OnOk result (z ≡ y) → OnOk result (z ≡ x)
+ok_before (Ok t) x y z before steady = steady ∙ before
+ok_before (Err r) x y z before steady = tt
+
+pub err_before : {T : Type 0} (result : Result T Refusal) (x y z : ℕ × ℕ × ℕ) → y ≡ x → IfErr result (λ r. is_stopped r ≡ false → z ≡ y) → IfErr result (λ r. is_stopped r ≡ false → z ≡ x)
+err_before (Ok t) x y z before quiet = tt
+err_before (Err r) x y z before quiet = λ other. quiet other ∙ before
+
 -- ---- a call that is refused so didn't answer Stopped
 
 pub stopped_none : (r : Refusal) (n k : ℕ) (G : Type 0) → r ≡ refused.Down k → r ≡ refused.Stopped n → G

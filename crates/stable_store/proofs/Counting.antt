@@ -77,3 +77,11 @@ err_behind (Err r) old mid new before quiet = λ other. stays_then old mid new b
 pub if_err_any : {T : Type 0} (result : Result T Refusal) (A : Type 0) → A → IfErr result (λ r. is_stopped r ≡ false → A)
 if_err_any (Ok x) A a = tt
 if_err_any (Err r) A a = λ other. a
+
+-- a refusal that is handed on
+quiet_of : {S : Type 0} (call : Result S Refusal) (r : Refusal) (A : Type 0) → call ≡ Err r → IfErr call (λ r. is_stopped r ≡ false → A) → is_stopped r ≡ false → A
+quiet_of call r A is quiet = subst (λ (o : Result _ Refusal). IfErr o (λ r. is_stopped r ≡ false → A)) is quiet
+
+pub err_through : {S T : Type 0} (call : Result S Refusal) (result : Result T Refusal) (A : Type 0) → ((r : Refusal) → IsErrOf result r → IsErrOf call r) → IfErr call (λ r. is_stopped r ≡ false → A) → IfErr result (λ r. is_stopped r ≡ false → A)
+err_through call (Ok x) A of quiet = tt
+err_through call (Err r) A of quiet = quiet_of call r A (of r refl) quiet

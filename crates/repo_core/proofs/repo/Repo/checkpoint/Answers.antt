@@ -1,10 +1,7 @@
-use Rattle.repo_core.proofs.Failing.{failed_between, failed_same}
+use Rattle.repo_core.proofs.Failing.{err_before, err_shown, failed_between, failed_same, ok_before, ok_shown}
 use Rattle.repo_core.specs.Shown.{Shown, shown}
 use Rattle.stable_store.specs.Kept.{disks_of}
 use Rattle.std.proofs.Common.{ap, refl, ◌∙◌}
-use Rattle.repo_core.proofs.Failing.{counts_between}
-use Rattle.repo_core.proofs.Refused.{if_err_on}
-use Rattle.repo_core.proofs.Told.{on_ok}
 use Rattle.repo_core.proofs.repo.Repo.checkpoint.Goals as goal
 
 pub returns-clause-stopped : goal.returns-clause-stopped
@@ -18,9 +15,11 @@ returns-clause-stopped g c = λ n is.
 pub returns-clause-steady : goal.returns-clause-steady
 returns-clause-steady g c =
     let i = c.self.inside in
-    on_ok c.checkpoint.result _ _ (λ same. counts_between (disks_of g.P.Parts.disks i.stable) (disks_of g.P.Parts.disks c.checkpoint.new.self) c.drop_decisions.new.self (shown g.P.Parts.disks c.checkpoint.new.self i.memory i.trace i.opened_in) (ap (λ (s : Shown). s.faults) c.self.view_is) refl same ∙ c.drop_decisions.ensures.faults) c.checkpoint.ensures.steady
+    ok_before c.checkpoint.result c.args.self.now.faults c.drop_decisions.new.self.faults (shown g.P.Parts.disks c.checkpoint.new.self i.memory i.trace i.opened_in).faults c.drop_decisions.ensures.faults
+    (ok_shown c.checkpoint.result (disks_of g.P.Parts.disks i.stable) (disks_of g.P.Parts.disks c.checkpoint.new.self) c.drop_decisions.new.self (shown g.P.Parts.disks c.checkpoint.new.self i.memory i.trace i.opened_in) (ap (λ (s : Shown). s.faults) c.self.view_is) refl c.checkpoint.ensures.steady)
 
 pub returns-clause-quiet : goal.returns-clause-quiet
 returns-clause-quiet g c =
     let i = c.self.inside in
-    if_err_on c.checkpoint.result _ _ (λ r quiet other. counts_between (disks_of g.P.Parts.disks i.stable) (disks_of g.P.Parts.disks c.checkpoint.new.self) c.drop_decisions.new.self (shown g.P.Parts.disks c.checkpoint.new.self i.memory i.trace i.opened_in) (ap (λ (s : Shown). s.faults) c.self.view_is) refl (quiet other) ∙ c.drop_decisions.ensures.faults) c.checkpoint.ensures.quiet
+    err_before c.checkpoint.result c.args.self.now.faults c.drop_decisions.new.self.faults (shown g.P.Parts.disks c.checkpoint.new.self i.memory i.trace i.opened_in).faults c.drop_decisions.ensures.faults
+    (err_shown c.checkpoint.result (disks_of g.P.Parts.disks i.stable) (disks_of g.P.Parts.disks c.checkpoint.new.self) c.drop_decisions.new.self (shown g.P.Parts.disks c.checkpoint.new.self i.memory i.trace i.opened_in) (ap (λ (s : Shown). s.faults) c.self.view_is) refl c.checkpoint.ensures.quiet)

@@ -7,7 +7,7 @@ use Rattle.repo_core.proofs.Refused.{if_err_on, leaves_read}
 use Rattle.repo_core.specs.Shown.{Shown, shown}
 use Rattle.std.specs.Prelude.{None}
 use Rattle.repo_core.proofs.Failing.{counts_between, err_shown}
-use Rattle.stable_store.proofs.Counting.{if_err_any}
+use Rattle.stable_store.proofs.Counting.{err_through, if_err_any}
 use Rattle.stable_store.proofs.Returning.{on_ok_any}
 use Rattle.std.proofs.Common.{◌∙◌}
 use Rattle.repo_core.proofs.repo.Repo.fetch.Goals as goal
@@ -42,7 +42,7 @@ returns-clause-damaged g c = λ n place is. damaged_memory c.mark.result n place
 pub returns-in_err-image-clause-quiet : goal.returns-in_err-image-clause-quiet
 returns-in_err-image-clause-quiet g c =
     let i = c.self.inside in
-    err_shown c.from_residual-in_err-image.result (disks_of g.P.Parts.disks i.stable) (disks_of g.P.Parts.disks c.page_image.new.self) c.args.self.now (shown g.P.Parts.disks c.page_image.new.self i.memory i.trace i.opened_in) (ap (λ (s : Shown). s.faults) c.self.view_is) refl (search rules)
+    err_shown c.from_residual-in_err-image.result (disks_of g.P.Parts.disks i.stable) (disks_of g.P.Parts.disks c.page_image.new.self) c.args.self.now (shown g.P.Parts.disks c.page_image.new.self i.memory i.trace i.opened_in) (ap (λ (s : Shown). s.faults) c.self.view_is) refl (err_through c.page_image.result c.from_residual-in_err-image.result _ (λ r wrong. search rules) c.page_image.ensures.quiet)
 
 pub returns-clause-steady : goal.returns-clause-steady
 returns-clause-steady g c =

@@ -8,7 +8,7 @@ use Rattle.std.proofs.Common.{IsErrOf, OnOk, ap, refl, rules, subst}
 use Rattle.std.specs.Prelude.{OnErr}
 use Rattle.validation_window.specs.declared.refusal.Refusal.TheVariants.{Damaged as IsDamaged, Stopped as IsStopped}
 use Rattle.repo_core.proofs.Failing.{counts_between, err_shown}
-use Rattle.stable_store.proofs.Counting.{if_err_any, stays_then}
+use Rattle.stable_store.proofs.Counting.{err_through, if_err_any, stays_then}
 use Rattle.stable_store.proofs.Returning.{on_ok_any}
 use Rattle.repo_core.proofs.repo.Repo.take_over.Goals as goal
 
@@ -59,7 +59,7 @@ returns-in-Pending-clause-stopped g c = λ n is. stopped_memory c.take_pending.r
 pub returns-in_err-restart-clause-quiet : goal.returns-in_err-restart-clause-quiet
 returns-in_err-restart-clause-quiet g c =
     let i = c.self.inside in
-    err_shown c.from_residual.result (disks_of g.P.Parts.disks i.stable) (disks_of g.P.Parts.disks c.restart.new.self) c.args.self.now (shown g.P.Parts.disks c.restart.new.self i.memory i.trace i.opened_in) (ap (λ (s : Shown). s.faults) c.self.view_is) refl (search rules)
+    err_shown c.from_residual.result (disks_of g.P.Parts.disks i.stable) (disks_of g.P.Parts.disks c.restart.new.self) c.args.self.now (shown g.P.Parts.disks c.restart.new.self i.memory i.trace i.opened_in) (ap (λ (s : Shown). s.faults) c.self.view_is) refl (err_through c.restart.result c.from_residual.result _ (λ r wrong. search rules) c.restart.ensures.quiet)
 
 pub returns-in-Held-clause-steady : goal.returns-in-Held-clause-steady
 returns-in-Held-clause-steady g c =

@@ -12,7 +12,7 @@ use Rattle.std.proofs.Common.{IsErrOf, Ok, OnOk, Some, ap, false, rules, subst, 
 use Rattle.std.specs.Prelude.{OnErr}
 use Rattle.volatile_state.specs.Volatile.{Memory, entered}
 use Rattle.repo_core.proofs.Failing.{counts_between, err_shown}
-use Rattle.stable_store.proofs.Counting.{if_err_any, stays_then}
+use Rattle.stable_store.proofs.Counting.{err_through, if_err_any, stays_then}
 use Rattle.stable_store.proofs.Returning.{on_ok_any}
 use Rattle.repo_core.proofs.repo.Repo.write.Goals as goal
 
@@ -59,7 +59,7 @@ returns-clause-stopped g c = λ n is. stopped_memory c.record.result n _ c.recor
 pub returns-in_err-entry-clause-quiet : goal.returns-in_err-entry-clause-quiet
 returns-in_err-entry-clause-quiet g c =
     let i = c.self.inside in
-    err_shown c.from_residual.result (disks_of g.P.Parts.disks i.stable) (disks_of g.P.Parts.disks c.append.new.self) c.args.self.now (shown g.P.Parts.disks c.append.new.self i.memory c.reserve.new.self i.opened_in) (ap (λ (s : Shown). s.faults) c.self.view_is) refl (search rules)
+    err_shown c.from_residual.result (disks_of g.P.Parts.disks i.stable) (disks_of g.P.Parts.disks c.append.new.self) c.args.self.now (shown g.P.Parts.disks c.append.new.self i.memory c.reserve.new.self i.opened_in) (ap (λ (s : Shown). s.faults) c.self.view_is) refl (err_through c.append.result c.from_residual.result _ (λ r wrong. search rules) c.append.ensures.quiet)
 
 pub returns-clause-steady : goal.returns-clause-steady
 returns-clause-steady g c =

@@ -115,26 +115,26 @@ returns-in-Ok-Some-clause-steady g c =
     let old = disks_of g.P.Parts.disks c.args.self.now in
     let mid = fused_disks g.P.Parts.disks c.restart_all.new.parts in
     let read = fused_disks g.P.Parts.disks c.recover-found.new.parts in
-    ok_behind c.reached.result old read (disks_of g.P.Parts.disks c.reached.new.self) (stays_then old mid read c.in_default-restart_all.ensures.steady c.in-Ok-Some.ensures.steady) c.reached.ensures.steady
+    ok_behind c.reached.result old read (disks_of g.P.Parts.disks c.reached.new.self) (stays_then old mid read c.in_default.ensures.steady c.in-Ok-Some.ensures.steady) c.reached.ensures.steady
 
 pub returns-in-Ok-Some-clause-quiet : goal.returns-in-Ok-Some-clause-quiet
 returns-in-Ok-Some-clause-quiet g c =
     let old = disks_of g.P.Parts.disks c.args.self.now in
     let mid = fused_disks g.P.Parts.disks c.restart_all.new.parts in
     let read = fused_disks g.P.Parts.disks c.recover-found.new.parts in
-    err_behind c.reached.result old read (disks_of g.P.Parts.disks c.reached.new.self) (stays_then old mid read c.in_default-restart_all.ensures.steady c.in-Ok-Some.ensures.steady) c.reached.ensures.quiet
+    err_behind c.reached.result old read (disks_of g.P.Parts.disks c.reached.new.self) (stays_then old mid read c.in_default.ensures.steady c.in-Ok-Some.ensures.steady) c.reached.ensures.quiet
 
 pub returns-in-Ok-None-clause-quiet : goal.returns-in-Ok-None-clause-quiet
 returns-in-Ok-None-clause-quiet g c = λ other.
     let old = disks_of g.P.Parts.disks c.args.self.now in
     let mid = fused_disks g.P.Parts.disks c.restart_all.new.parts in
     let read = fused_disks g.P.Parts.disks c.recover-found.new.parts in
-    stays_then old mid read c.in_default-restart_all.ensures.steady c.in-Ok-None.ensures.steady
+    stays_then old mid read c.in_default.ensures.steady c.in-Ok-None.ensures.steady
 
 pub returns-in-Err-found-clause-quiet : goal.returns-in-Err-found-clause-quiet
 returns-in-Err-found-clause-quiet g c = λ other.
     let old = disks_of g.P.Parts.disks c.args.self.now in
     let mid = fused_disks g.P.Parts.disks c.restart_all.new.parts in
     let read = fused_disks g.P.Parts.disks c.recover-found.new.parts in
-    stays_then old mid read c.in_default-restart_all.ensures.steady
+    stays_then old mid read c.in_default.ensures.steady
     (recovery_quiet c.recover-found.result c.in-Err-found.fault _ c.in-Err-found.is c.recover-found.ensures.wanting c.recover-found.ensures.harmed (sym c.of_recovery.ensures.stops ∙ other))

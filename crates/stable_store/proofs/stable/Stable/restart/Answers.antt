@@ -17,7 +17,7 @@ use Rattle.commit_log.specs.declared.entry.Entry.{Entry}
 use Rattle.held_state.specs.declared.held.Held.{Held}
 use Rattle.std.proofs.Common.{IfErr, IfOk, IsErrOf, Option, ap, false, refl, rules, subst, sym, ◌∙◌, ◌≡◌}
 use Rattle.validation_window.specs.declared.refusal.Refusal.TheVariants.{Damaged as IsDamaged, Stopped as IsStopped}
-use Rattle.stable_store.proofs.Counting.{if_err_any, stays_none}
+use Rattle.stable_store.proofs.Counting.{err_through, if_err_any, stays_none}
 use Rattle.disk_trait.specs.AllDisks.{NoFault}
 use Rattle.stable_store.proofs.stable.Stable.restart.Goals as goal
 
@@ -116,8 +116,8 @@ returns-in-Torn-clause-torn g c = λ torn. absurd (not_torn c.args.self.now c.ta
 pub returns-in_err-recovered-clause-quiet : goal.returns-in_err-recovered-clause-quiet
 returns-in_err-recovered-clause-quiet g c =
     let new = disks_of g.P.Parts.disks c.recover.new.self in
-    let quiet : IfErr c.from_residual.result (λ r. is_stopped r ≡ false → NoFault (disks_of g.P.Parts.disks c.take_down.new.self) new) = search rules in
-    before_down g.P.Parts.disks c.args.self.now c.take_down.new.self c.disarm.new.self (λ (d : Disks). IfErr c.from_residual.result (λ r. is_stopped r ≡ false → NoFault d new)) c.disarm.ensures c.take_down.ensures.new quiet
+    before_down g.P.Parts.disks c.args.self.now c.take_down.new.self c.disarm.new.self (λ (d : Disks). IfErr c.from_residual.result (λ r. is_stopped r ≡ false → NoFault d new)) c.disarm.ensures c.take_down.ensures.new
+    (err_through c.recover.result c.from_residual.result _ (λ r wrong. search rules) c.recover.ensures.quiet)
 
 pub returns-in-Down-clause-steady : goal.returns-in-Down-clause-steady
 returns-in-Down-clause-steady g c =
