@@ -368,6 +368,7 @@ impl HeldState {
         ensures alone { OnDisk (P.disks parts.old) (P.disks parts.new) 2 }
         ensures any_moment { WhereTold (P.disks parts.old) 2 (λ disk. Leaves (P.disks parts.old) (P.disks parts.new) 2 (KeepsSides self.old.objects.pages.sides disk)) }
         ensures nothing { result ≡ Ok Nothing → self.old.objects.mob.objects ≡ [] }
+        ensures empty { self.old.objects.mob.objects ≡ [] → result ≡ Ok Nothing }
         ensures flushed { (page side : ℕ) → result ≡ Ok (AnInstall page side) → (repo : ℕ) × IsFlushed self.new.objects repo page side }
         ensures oldest { (page side : ℕ) → result ≡ Ok (AnInstall page side) → IfSome (slice_get self.old.objects.mob.objects 0) (λ q. q.0.page ≡ page) }
         ensures mob { self.new.objects.mob ≡ self.old.objects.mob }

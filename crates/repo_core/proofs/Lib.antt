@@ -10,6 +10,7 @@ pub mod Judged
 pub mod Letting
 pub mod Moves
 pub mod Others
+pub mod Readable
 pub mod Refused
 pub mod Stamps
 pub mod Stopped

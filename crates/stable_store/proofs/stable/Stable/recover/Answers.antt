@@ -6,7 +6,7 @@ use Rattle.held_state.specs.declared.held.Held.{Held}
 use Rattle.recovery.specs.declared.fault.RecoverFault.{RecoverFault}
 use Rattle.recovery.specs.declared.recovered.Recovered.{Recovered}
 use Rattle.stable_store.proofs.Failing.{failed_behind, failed_on}
-use Rattle.stable_store.proofs.Returning.{finds_one, finds_then, if_ok_on, more_run, more_then, none_fresh, none_lacks, none_lost, same_err}
+use Rattle.stable_store.proofs.Returning.{finds_one, finds_then, if_ok_on, more_run, more_then, none_fresh, none_lacks, none_lost, reads_same, same_err}
 use Rattle.std.proofs.Common.{Err, Ok, Option, ap, arith, refl, subst, sym, ◌∙◌, ◌≡◌}
 use Rattle.validation_window.specs.declared.refusal.Refusal.TheVariants.{Damaged as IsDamaged, Stopped as IsStopped}
 use Rattle.stable_store.specs.Kept.{disks_of, held_of}
@@ -105,3 +105,33 @@ returns-in-Err-found-clause-stopped g c = λ r wrong.
     let is = c.in-Err-found.is ∙ ap (λ (f : RecoverFault). Err f) at.1 in
     let within = c.recover-found.ensures.disk at.0 is in
     failed_behind old.faults mid.faults read.faults c.restart_all.ensures.any_moment.goes.faults (failed_on mid read at.0 (omega (arith, within)) (c.recover-found.ensures.failed at.0 is))
+
+pub returns-in-Ok-Some-clause-left : goal.returns-in-Ok-Some-clause-left
+returns-in-Ok-Some-clause-left g c = λ bytes reads.
+    let old = disks_of g.P.Parts.disks c.args.self.now in
+    let mid = fused_disks g.P.Parts.disks c.restart_all.new.parts in
+    let read = fused_disks g.P.Parts.disks c.recover-found.new.parts in
+    let more = more_then old mid read (more_run old mid c.restart_all.ensures.any_moment) (more_run mid read c.recover-found.ensures.any_moment) in
+    more.images bytes (c.content_is_left.ensures bytes (reads_same read (disks_of g.P.Parts.disks c.reached.new.self) bytes c.reached.ensures.content reads))
+
+pub returns-in-Ok-None-clause-left : goal.returns-in-Ok-None-clause-left
+returns-in-Ok-None-clause-left g c = λ bytes reads.
+    let old = disks_of g.P.Parts.disks c.args.self.now in
+    let mid = fused_disks g.P.Parts.disks c.restart_all.new.parts in
+    let read = fused_disks g.P.Parts.disks c.recover-found.new.parts in
+    let more = more_then old mid read (more_run old mid c.restart_all.ensures.any_moment) (more_run mid read c.recover-found.ensures.any_moment) in
+    more.images bytes (c.content_is_left.ensures bytes reads)
+
+pub returns-in-Err-found-clause-left : goal.returns-in-Err-found-clause-left
+returns-in-Err-found-clause-left g c = λ bytes reads.
+    let old = disks_of g.P.Parts.disks c.args.self.now in
+    let mid = fused_disks g.P.Parts.disks c.restart_all.new.parts in
+    let read = fused_disks g.P.Parts.disks c.recover-found.new.parts in
+    let more = more_then old mid read (more_run old mid c.restart_all.ensures.any_moment) (more_run mid read c.recover-found.ensures.any_moment) in
+    more.images bytes (c.content_is_left.ensures bytes reads)
+
+pub returns-in-Err-clause-left : goal.returns-in-Err-clause-left
+returns-in-Err-clause-left g c = λ bytes reads.
+    let old = disks_of g.P.Parts.disks c.args.self.now in
+    let mid = fused_disks g.P.Parts.disks c.restart_all.new.parts in
+    (more_run old mid c.restart_all.ensures.any_moment).images bytes (c.read_is_left.ensures bytes reads)
