@@ -14,7 +14,7 @@ ghost use Rattle.mob_flusher.specs.declared.store.Flushed.TheVariants.{Installed
 ghost use Rattle.page_store.specs.Objects.{HasObjects};
 ghost use Rattle.page_store.specs.Sides.{KeepsSides};
 ghost use Rattle.page_store.specs.Store.{Agrees, IsDamage};
-ghost use Rattle.page_store.specs.declared.fault.StoreFault.TheVariants.{Damaged, Failed};
+ghost use Rattle.page_store.specs.declared.fault.StoreFault.TheVariants.{Damaged, Failed, NoMemory as OutOfMemory};
 ghost use Rattle.state_log.specs.Recovered.{after, is_whole};
 ghost use Rattle.thor_value.specs.FiniteMap.{get};
 ghost use Rattle.two_phase.specs.Contents.{keeps, without};
@@ -336,6 +336,9 @@ impl HeldState {
         ensures agrees { WhereTold (P.disks parts.new) 2 (Agrees self.new.objects.pages) }
         ensures damaged { (place : ℕ) → IsErrOf result (Damaged place) → IsDamage (P.disks parts.old) self.old.objects.pages.sides oref.page place }
         ensures failed { IsErrOf result Failed → Rose ((P.disks parts.old).faults 2) ((P.disks parts.new).faults 2) }
+        ensures steady { OnOk result ((P.disks parts.new).faults 2 ≡ (P.disks parts.old).faults 2) }
+        ensures wanting { IsErrOf result OutOfMemory → (P.disks parts.new).faults 2 ≡ (P.disks parts.old).faults 2 }
+        ensures harmed { (place : ℕ) → IsErrOf result (Damaged place) → (P.disks parts.new).faults 2 ≡ (P.disks parts.old).faults 2 }
     {
         self.held.objects.get(parts, oref)
     }
@@ -356,6 +359,9 @@ impl HeldState {
         ensures agrees { WhereTold (P.disks parts.new) 2 (Agrees self.new.objects.pages) }
         ensures damaged { (place : ℕ) → IsErrOf result (Damaged place) → IsDamage (P.disks parts.old) self.old.objects.pages.sides page place }
         ensures failed { IsErrOf result Failed → Rose ((P.disks parts.old).faults 2) ((P.disks parts.new).faults 2) }
+        ensures steady { OnOk result ((P.disks parts.new).faults 2 ≡ (P.disks parts.old).faults 2) }
+        ensures wanting { IsErrOf result OutOfMemory → (P.disks parts.new).faults 2 ≡ (P.disks parts.old).faults 2 }
+        ensures harmed { (place : ℕ) → IsErrOf result (Damaged place) → (P.disks parts.new).faults 2 ≡ (P.disks parts.old).faults 2 }
     {
         self.held.objects.page_image(parts, page)
     }
@@ -372,6 +378,7 @@ impl HeldState {
         ensures flushed { (page side : ℕ) → result ≡ Ok (AnInstall page side) → (repo : ℕ) × IsFlushed self.new.objects repo page side }
         ensures oldest { (page side : ℕ) → result ≡ Ok (AnInstall page side) → IfSome (slice_get self.old.objects.mob.objects 0) (λ q. q.0.page ≡ page) }
         ensures mob { self.new.objects.mob ≡ self.old.objects.mob }
+        ensures sides { self.new.objects.pages.sides ≡ self.old.objects.pages.sides }
         ensures held { self.new ≡ record self.old { objects = self.new.objects } }
         ensures said { said self.new ≡ said self.old }
         ensures keeps { Keeps self.old → Keeps self.new }
@@ -380,6 +387,10 @@ impl HeldState {
         ensures same_map { OnOk result (WhereTold (P.disks parts.old) 2 (λ before. WhereTold (P.disks parts.new) 2 (λ after. (repo : ℕ) → SameMap before self.old.objects after self.new.objects repo))) }
         ensures damaged { (place : ℕ) → IsErrOf result (Damaged place) → IfSome (slice_get self.old.objects.mob.objects 0) (λ q. IsDamage (P.disks parts.old) self.old.objects.pages.sides q.0.page place) }
         ensures failed { IsErrOf result Failed → Rose ((P.disks parts.old).faults 2) ((P.disks parts.new).faults 2) }
+        ensures steady { OnOk result ((P.disks parts.new).faults 2 ≡ (P.disks parts.old).faults 2) }
+        ensures wanting { IsErrOf result OutOfMemory → (P.disks parts.new).faults 2 ≡ (P.disks parts.old).faults 2 }
+        ensures harmed { (place : ℕ) → IsErrOf result (Damaged place) → (P.disks parts.new).faults 2 ≡ (P.disks parts.old).faults 2 }
+        ensures content { (place : ℕ) → IsErrOf result (Damaged place) → (P.disks parts.new).content 2 ≡ (P.disks parts.old).content 2 }
     {
         self.held.objects.flush_one(parts)
     }

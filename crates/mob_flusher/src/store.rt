@@ -5,7 +5,7 @@ ghost use Rattle.disk_trait.specs.Disks.{Disks, OnDisk, Leaves, WhereTold, IsSet
 ghost use Rattle.page_store.specs.Objects.{HasObjects};
 ghost use Rattle.page_store.specs.Sides.{KeepsSides};
 ghost use Rattle.page_store.specs.Store.{Agrees, IsDamage};
-ghost use Rattle.page_store.specs.declared.fault.StoreFault.TheVariants.{Damaged, Failed};
+ghost use Rattle.page_store.specs.declared.fault.StoreFault.TheVariants.{Damaged, Failed, NoMemory as OutOfMemory};
 ghost use Rattle.page_format.specs.Pages.{page_size};
 ghost use Rattle.page_store.specs.Sides.{place_of};
 ghost use Rattle.mob_buffer.specs.Buffer.{AreOf, AreOneRepo, bytes_of, with_all, without_page};
@@ -67,6 +67,9 @@ impl ObjectStore {
         ensures agrees { WhereTold (P.disks parts.new) 2 (Agrees self.new.pages) }
         ensures damaged { (place : ℕ) → IsErrOf result (Damaged place) → IsDamage (P.disks parts.old) self.old.pages.sides oref.page place }
         ensures failed { IsErrOf result Failed → Rose ((P.disks parts.old).faults 2) ((P.disks parts.new).faults 2) }
+        ensures steady { OnOk result ((P.disks parts.new).faults 2 ≡ (P.disks parts.old).faults 2) }
+        ensures wanting { IsErrOf result OutOfMemory → (P.disks parts.new).faults 2 ≡ (P.disks parts.old).faults 2 }
+        ensures harmed { (place : ℕ) → IsErrOf result (Damaged place) → (P.disks parts.new).faults 2 ≡ (P.disks parts.old).faults 2 }
     {
         if let Some(object) = self.mob.get(oref) {
             return Ok(Some(object.copy()?));
@@ -112,6 +115,9 @@ impl ObjectStore {
         ensures agrees { WhereTold (P.disks parts.new) 2 (Agrees self.new.pages) }
         ensures damaged { (place : ℕ) → IsErrOf result (Damaged place) → IsDamage (P.disks parts.old) self.old.pages.sides page place }
         ensures failed { IsErrOf result Failed → Rose ((P.disks parts.old).faults 2) ((P.disks parts.new).faults 2) }
+        ensures steady { OnOk result ((P.disks parts.new).faults 2 ≡ (P.disks parts.old).faults 2) }
+        ensures wanting { IsErrOf result OutOfMemory → (P.disks parts.new).faults 2 ≡ (P.disks parts.old).faults 2 }
+        ensures harmed { (place : ℕ) → IsErrOf result (Damaged place) → (P.disks parts.new).faults 2 ≡ (P.disks parts.old).faults 2 }
     {
         self.pages.hold(parts, page)?;
         let image = self.held_image(page)?;
@@ -151,6 +157,10 @@ impl ObjectStore {
         ensures same_map { OnOk result (WhereTold (P.disks parts.old) 2 (λ before. WhereTold (P.disks parts.new) 2 (λ after. (repo : ℕ) → SameMap before self.old after self.new repo))) }
         ensures damaged { (place : ℕ) → IsErrOf result (Damaged place) → IfSome (slice_get self.old.mob.objects 0) (λ q. IsDamage (P.disks parts.old) self.old.pages.sides q.0.page place) }
         ensures failed { IsErrOf result Failed → Rose ((P.disks parts.old).faults 2) ((P.disks parts.new).faults 2) }
+        ensures steady { OnOk result ((P.disks parts.new).faults 2 ≡ (P.disks parts.old).faults 2) }
+        ensures wanting { IsErrOf result OutOfMemory → (P.disks parts.new).faults 2 ≡ (P.disks parts.old).faults 2 }
+        ensures harmed { (place : ℕ) → IsErrOf result (Damaged place) → (P.disks parts.new).faults 2 ≡ (P.disks parts.old).faults 2 }
+        ensures content { (place : ℕ) → IsErrOf result (Damaged place) → (P.disks parts.new).content 2 ≡ (P.disks parts.old).content 2 }
     {
         let Some(oldest) = self.mob.oldest() else {
             return Ok(Flushed::Nothing);
@@ -228,6 +238,9 @@ fn stored<P: Parts>(
     ensures agrees { WhereTold (P.disks parts.new) 2 (Agrees pages.new) }
     ensures damaged { (place : ℕ) → IsErrOf result (Damaged place) → IsDamage (P.disks parts.old) pages.old.sides oref.page place }
     ensures failed { IsErrOf result Failed → Rose ((P.disks parts.old).faults 2) ((P.disks parts.new).faults 2) }
+    ensures steady { OnOk result ((P.disks parts.new).faults 2 ≡ (P.disks parts.old).faults 2) }
+    ensures wanting { IsErrOf result OutOfMemory → (P.disks parts.new).faults 2 ≡ (P.disks parts.old).faults 2 }
+    ensures harmed { (place : ℕ) → IsErrOf result (Damaged place) → (P.disks parts.new).faults 2 ≡ (P.disks parts.old).faults 2 }
 {
     pages.hold(parts, oref.page)?;
     match pages.held(oref.page) {
@@ -258,6 +271,10 @@ fn install_image<P: Parts>(
     ensures agrees { OnOk result (WhereTold (P.disks parts.new) 2 (Agrees pages.new)) }
     ensures damaged { (place : ℕ) → IsErrOf result (Damaged place) → IsDamage (P.disks parts.old) pages.old.sides oref.page place }
     ensures failed { IsErrOf result Failed → Rose ((P.disks parts.old).faults 2) ((P.disks parts.new).faults 2) }
+    ensures steady { OnOk result ((P.disks parts.new).faults 2 ≡ (P.disks parts.old).faults 2) }
+    ensures wanting { IsErrOf result OutOfMemory → (P.disks parts.new).faults 2 ≡ (P.disks parts.old).faults 2 }
+    ensures harmed { (place : ℕ) → IsErrOf result (Damaged place) → (P.disks parts.new).faults 2 ≡ (P.disks parts.old).faults 2 }
+    ensures content { (place : ℕ) → IsErrOf result (Damaged place) → (P.disks parts.new).content 2 ≡ (P.disks parts.old).content 2 }
 {
     pages.hold(parts, oref.page)?;
     let image = match pages.held(oref.page) {

@@ -1,9 +1,8 @@
 -- Whether a log prepares what is decided, record by record.
-use Rattle.std.proofs.Common.{◌≡◌, Bool, List, None, Option, Some, [], ◌∷◌, ◌++◌, ap, false, get_or, length, map, refl, subst, sym, take, true, ℕ, ◌+◌, ◌<◌, ◌||◌, ◌∙◌}
+use Rattle.std.proofs.Common.{◌≡◌, Bool, List, None, Option, Some, [], ◌∷◌, ◌++◌, ap, false, get_or, length, map, refl, sym, take, true, ℕ, ◌+◌, ◌<◌, ◌||◌, ◌∙◌}
 use Rattle.std.proofs.lemmas.Map.Made.{is_some-lookup}
 use Rattle.std.specs.BTreeMap.{is_at}
 use Rattle.std.specs.List.{fold, list_any}
-use Rattle.std.specs.Map.{keys_of}
 use Rattle.std.specs.Option.{is_some, option_and_then}
 use Rattle.held_state.specs.Keeps.{Keeps}
 use Rattle.held_state.specs.Said.{said}
@@ -23,7 +22,7 @@ use Rattle.thor_value.specs.Names.{same_ts, ts_cmp}
 use Rattle.thor_value.specs.declared.names.Ts.{Ts}
 use Rattle.two_phase.proofs.Lists.{lookup_those}
 use Rattle.two_phase.specs.Contents.{keeps}
-use Rattle.two_phase.specs.Lists.{decision_of, kept_decisions, those}
+use Rattle.two_phase.specs.Lists.{decision_of, those}
 use Rattle.two_phase.specs.declared.transaction.Transaction.TheVariants as kept
 use Rattle.two_phase.specs.declared.transaction.Transaction.{Transaction}
 

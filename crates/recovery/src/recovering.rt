@@ -1,7 +1,7 @@
 ghost use Rattle.std.specs.List.{AllByRecursion, fold};
 ghost use Rattle.std.specs.Option.{IfSome, IsSome, option_and_then, option_map};
 ghost use Rattle.std.specs.Prelude.{◌≡◌, ◌<◌, ◌^◌, ◌≤◌, ◌⊎◌, Err, IfOk, IsErrOf, List, None, Ok, OnOk, Some, false, map, ℕ, ◌||◌};
-ghost use Rattle.disk_trait.specs.AllDisks.{AllSettled, LeavesAll, MayLeaveAll, ReadsAs, SameContent};
+ghost use Rattle.disk_trait.specs.AllDisks.{AllSettled, LeavesAll, MayLeaveAll, NoFault, ReadsAs, SameContent};
 ghost use Rattle.disk_trait.specs.Disks.{Disks, Rose};
 ghost use Rattle.commit_log.specs.declared.entry.Entry.{Entry as AnyEntry};
 ghost use Rattle.held_state.specs.Entering.{can_enter};
@@ -18,7 +18,7 @@ ghost use Rattle.page_store.specs.Store.{Agrees};
 ghost use Rattle.recovery.specs.Damage.{CantPut, Counted, Fault, IsBroken, IsDamaged, put_on};
 ghost use Rattle.recovery.specs.Found.{IsRecovered};
 ghost use Rattle.recovery.specs.Reopening.{prepares_kept, reopened, reopens, reopens_in};
-ghost use Rattle.recovery.specs.declared.fault.RecoverFault.TheVariants.{Damaged, Failed};
+ghost use Rattle.recovery.specs.declared.fault.RecoverFault.TheVariants.{Damaged, Failed, NoMemory as OutOfMemory};
 ghost use Rattle.state_log.specs.Holds.{Holds};
 ghost use Rattle.state_log.specs.Opening.{IsFresh, IsTorn, log_of};
 ghost use Rattle.state_log.specs.Recovered.{next, stands, state_in, whole};
@@ -64,6 +64,9 @@ pub fn recover<P: Parts>(
     ensures lost { (images : ℕ → List ℕ) (d place : ℕ) → ReadsAs (P.disks parts.old) images → IsErrOf result (Damaged d place) → stands images ≡ None }
     ensures failed { (d : ℕ) → IsErrOf result (Failed d) → Rose ((P.disks parts.old).faults d) ((P.disks parts.new).faults d) }
     ensures disk { (d : ℕ) → IsErrOf result (Failed d) → d < 2 }
+    ensures steady { OnOk result (NoFault (P.disks parts.old) (P.disks parts.new)) }
+    ensures wanting { IsErrOf result OutOfMemory → NoFault (P.disks parts.old) (P.disks parts.new) }
+    ensures harmed { (d place : ℕ) → IsErrOf result (Damaged d place) → NoFault (P.disks parts.old) (P.disks parts.new) }
 {
     match open_logs(alloc, parts) {
         Ok(found) => replay_found(alloc, found, mob_limit),

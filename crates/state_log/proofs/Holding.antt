@@ -159,3 +159,8 @@ pages_stay old new at disk is within alone = alone.others 2 (λ same. let no : 2
 -- and what a crash may leave of it
 pub pages_still : (old new : Disks) (at disk : ℕ) → disk ≡ at → at < 2 → OnDisk old new disk → NoNewImage old new 2
 pages_still old new at disk is within alone = λ image left. alone.others_images new.time 2 image (λ same. let no : 2 < 2 = omega (arith, same, is, within) in omega (arith, no)) alone.later (omega arith) left
+
+-- what holds behind a call that ended well
+pub ok_then : {T E A B : Type 0} (result : Result T E) → (A → B) → OnOk result A → OnOk result B
+ok_then (Ok x) f a = f a
+ok_then (Err e) f a = tt

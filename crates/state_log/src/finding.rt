@@ -1,15 +1,15 @@
 //! Which of two logs counts.
 
 ghost use Rattle.std.specs.Option.{IfSome, option_and_then, option_map};
-ghost use Rattle.std.specs.Prelude.{List, None, IfOk, IsErrOf, Ok, Some, Err, ◌<◌, ◌≡◌, ℕ};
-ghost use Rattle.disk_trait.specs.AllDisks.{AllSettled, LeavesAll, MayLeaveAll, ReadsAs, SameContent};
+ghost use Rattle.std.specs.Prelude.{List, None, IfOk, IsErrOf, Ok, OnOk, Some, Err, ◌<◌, ◌≡◌, ℕ};
+ghost use Rattle.disk_trait.specs.AllDisks.{AllSettled, LeavesAll, MayLeaveAll, NoFault, ReadsAs, SameContent};
 ghost use Rattle.disk_trait.specs.Disks.{Disks, Leaves, MayLeave, NoNewImage, OnDisk, Rose, WhereTold};
 ghost use Rattle.log_frame.specs.Log.{IsFound, Stands, read_log};
 ghost use Rattle.log_bytes.specs.declared.state.State.{State as AState};
 ghost use Rattle.state_log.specs.Holds.{Holds};
 ghost use Rattle.state_log.specs.Opening.{IsFresh, IsTorn, choice, fault_on, log_of};
 ghost use Rattle.state_log.specs.Recovered.{log_in, stands, state_in};
-ghost use Rattle.state_log.specs.declared.fault.FindFault.TheVariants.{Damaged, Failed};
+ghost use Rattle.state_log.specs.declared.fault.FindFault.TheVariants.{Damaged, Failed, NoMemory as OutOfMemory};
 
 use crate::fault::FindFault;
 use crate::open_log::CommitLog;
@@ -76,6 +76,9 @@ fn open_on<P: Parts>(
     ensures disk { IfOk result (λ found. IfSome found (λ f. f.0.disk ≡ disk)) }
     ensures damaged { (d place : ℕ) → IsErrOf result (Damaged d place) → (d ≡ disk) × WhereTold (P.disks parts.old) disk (λ bytes. read_log bytes ≡ Some (Err place)) }
     ensures failed { (d : ℕ) → IsErrOf result (Failed d) → (d ≡ disk) × Rose ((P.disks parts.old).faults disk) ((P.disks parts.new).faults disk) }
+    ensures steady { OnOk result ((P.disks parts.new).faults disk ≡ (P.disks parts.old).faults disk) }
+    ensures wanting { IsErrOf result OutOfMemory → (P.disks parts.new).faults disk ≡ (P.disks parts.old).faults disk }
+    ensures harmed { (d place : ℕ) → IsErrOf result (Damaged d place) → (P.disks parts.new).faults disk ≡ (P.disks parts.old).faults disk }
 {
     match Log::open(alloc, parts, disk) {
         Ok(found) => Ok(found),
@@ -101,6 +104,9 @@ pub fn open_logs<P: Parts>(
     ensures damaged { (images : ℕ → List ℕ) (d place : ℕ) → ReadsAs (P.disks parts.old) images → IsErrOf result (Damaged d place) → IsTorn images d place }
     ensures failed { (d : ℕ) → IsErrOf result (Failed d) → Rose ((P.disks parts.old).faults d) ((P.disks parts.new).faults d) }
     ensures disk { (d : ℕ) → IsErrOf result (Failed d) → d < 2 }
+    ensures steady { OnOk result (NoFault (P.disks parts.old) (P.disks parts.new)) }
+    ensures wanting { IsErrOf result OutOfMemory → NoFault (P.disks parts.old) (P.disks parts.new) }
+    ensures harmed { (d place : ℕ) → IsErrOf result (Damaged d place) → NoFault (P.disks parts.old) (P.disks parts.new) }
 {
     let first = open_on(alloc, parts, 0)?;
     let second = open_on(alloc, parts, 1)?;

@@ -1,8 +1,8 @@
 ghost use Rattle.std.specs.Prelude.{◌≡◌, ◌+◌, ◌<◌, ◌^◌, ℕ, None, IfOk, IsTrue, OnOk, IsErrOf};
-ghost use Rattle.disk_trait.specs.AllDisks.{AllSettled, GoesOn, LeavesAll, TellsAll};
+ghost use Rattle.disk_trait.specs.AllDisks.{AllSettled, GoesOn, LeavesAll, NoFault, TellsAll};
 ghost use Rattle.disk_trait.specs.Disks.{Disks, NoNewImage, Rose, WhereTold};
 ghost use Rattle.log_frame.specs.Log.{read_log};
-ghost use Rattle.log_frame.specs.declared.fault.LogFault.TheVariants.{Damaged, Failed};
+ghost use Rattle.log_frame.specs.declared.fault.LogFault.TheVariants.{Damaged, Failed, NoMemory as OutOfMemory};
 ghost use Rattle.log_bytes.specs.Checkpoint.{StateFits};
 ghost use Rattle.log_bytes.specs.Grammar.{BodyFits};
 ghost use Rattle.log_bytes.specs.declared.body.Body.TheVariants.{Entry as AnEntry, Installed as AnInstalled};
@@ -66,6 +66,8 @@ impl CommitLog {
         ensures clock { (P.disks parts.new).clock ≡ (P.disks parts.old).clock }
         ensures damaged { (place : ℕ) → IsErrOf result (Damaged place) → ⊥ }
         ensures failed { IsErrOf result Failed → Rose ((P.disks parts.old).faults 0) ((P.disks parts.new).faults 0) }
+        ensures steady { OnOk result (NoFault (P.disks parts.old) (P.disks parts.new)) }
+        ensures wanting { IsErrOf result OutOfMemory → NoFault (P.disks parts.old) (P.disks parts.new) }
     {
         let head = spell_state(alloc, state)?;
         let log = Log::format(alloc, parts, 0, 1, head.as_slice())?;
@@ -103,6 +105,8 @@ impl CommitLog {
         ensures clock { (P.disks parts.new).clock ≡ (P.disks parts.old).clock }
         ensures damaged { (place : ℕ) → IsErrOf result (Damaged place) → ⊥ }
         ensures failed { IsErrOf result Failed → Rose ((P.disks parts.old).faults self.old.disk) ((P.disks parts.new).faults self.old.disk) }
+        ensures steady { OnOk result (NoFault (P.disks parts.old) (P.disks parts.new)) }
+        ensures wanting { IsErrOf result OutOfMemory → NoFault (P.disks parts.old) (P.disks parts.new) }
     {
         let body = spell_entry(self.alloc, entry)?;
         self.log.append(parts, body.as_slice())
@@ -129,6 +133,8 @@ impl CommitLog {
         ensures clock { (P.disks parts.new).clock ≡ (P.disks parts.old).clock }
         ensures damaged { (place : ℕ) → IsErrOf result (Damaged place) → ⊥ }
         ensures failed { IsErrOf result Failed → Rose ((P.disks parts.old).faults self.old.disk) ((P.disks parts.new).faults self.old.disk) }
+        ensures steady { OnOk result (NoFault (P.disks parts.old) (P.disks parts.new)) }
+        ensures wanting { IsErrOf result OutOfMemory → NoFault (P.disks parts.old) (P.disks parts.new) }
     {
         let body = spell_installed(self.alloc, page, side)?;
         self.log.append(parts, body.as_slice())
@@ -154,6 +160,8 @@ impl CommitLog {
         ensures clock { (P.disks parts.new).clock ≡ (P.disks parts.old).clock }
         ensures damaged { (place : ℕ) → IsErrOf result (Damaged place) → ⊥ }
         ensures failed { IsErrOf result Failed → Rose ((P.disks parts.old).faults (beside self.old.disk)) ((P.disks parts.new).faults (beside self.old.disk)) }
+        ensures steady { OnOk result (NoFault (P.disks parts.old) (P.disks parts.new)) }
+        ensures wanting { IsErrOf result OutOfMemory → NoFault (P.disks parts.old) (P.disks parts.new) }
     {
         let head = spell_state(self.alloc, state)?;
         let disk = 1 - self.log.disk();

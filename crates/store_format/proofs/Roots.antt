@@ -6,7 +6,6 @@ use Rattle.class_defs.specs.declared.store.Root.{Root}
 use Rattle.class_defs.specs.declared.store.Setup.{Setup}
 use Rattle.disk_trait.specs.Disks.{Disks, OnDisk, WhereTold}
 use Rattle.log_frame.proofs.LogAppends.{told_on}
-use Rattle.mob_flusher.specs.Images.{overlaid}
 use Rattle.page_format.specs.Pages.{Contents}
 use Rattle.page_format.specs.Sides.{side_in_use}
 use Rattle.page_store.proofs.Stores.{in_use_here, in_use_other}

@@ -1,4 +1,4 @@
-use Rattle.std.proofs.Common.{◌≡◌, Err, Result, ap, inl, refl, sym, ℕ, ◌∙◌}
+use Rattle.std.proofs.Common.{◌≡◌, Err, Ok, OnOk, Result, ap, inl, refl, sym, ℕ, ◌∙◌}
 use Rattle.recovery.proofs.FoundLaws.{if_ok, inner_damaged, recovered_holds, recovered_keeps, recovered_pages, recovered_reopens, recovered_stands}
 use Rattle.recovery.proofs.Lost.{inner_lost}
 use Rattle.recovery.specs.Faults.{found_fault}
@@ -21,6 +21,34 @@ found_damaged : (fault : FindFault) (d place : ℕ) → found_fault fault ≡ re
 found_damaged (found.Failed disk) d place is = cc
 found_damaged (found.Damaged a b) d place is = ap (λ (x : ℕ). found.Damaged x b) (same_disk a b d place is) ∙ ap (λ (y : ℕ). found.Damaged d y) (same_place a b d place is)
 found_damaged found.NoMemory d place is = cc
+
+found_memory : (fault : FindFault) → found_fault fault ≡ recovered.NoMemory → fault ≡ found.NoMemory
+found_memory (found.Failed disk) is = cc
+found_memory (found.Damaged a b) is = cc
+found_memory found.NoMemory is = refl
+
+ok_so : {T E A : Type 0} (r : Result T E) → A → OnOk r A
+ok_so (Ok x) a = a
+ok_so (Err e) a = tt
+
+pub returns-in-Ok-clause-steady : goal.returns-in-Ok-clause-steady
+returns-in-Ok-clause-steady g c = ok_so c.replay_found.result c.in-Ok.ensures.steady
+
+pub returns-in-Ok-clause-wanting : goal.returns-in-Ok-clause-wanting
+returns-in-Ok-clause-wanting g c = λ wrong. c.in-Ok.ensures.steady
+
+pub returns-in-Ok-clause-harmed : goal.returns-in-Ok-clause-harmed
+returns-in-Ok-clause-harmed g c = λ d place wrong. c.in-Ok.ensures.steady
+
+pub returns-in-Err-clause-wanting : goal.returns-in-Err-clause-wanting
+returns-in-Err-clause-wanting g c = λ wrong.
+    let e : c.found_fault.result ≡ recovered.NoMemory = same_err _ c.found_fault.result recovered.NoMemory refl wrong in
+    c.open_logs.ensures.wanting (c.in-Err.is ∙ ap (λ (f : FindFault). Err f) (found_memory c.in-Err.fault (sym c.found_fault.ensures ∙ e)))
+
+pub returns-in-Err-clause-harmed : goal.returns-in-Err-clause-harmed
+returns-in-Err-clause-harmed g c = λ d place wrong.
+    let e : c.found_fault.result ≡ recovered.Damaged d place = same_err _ c.found_fault.result (recovered.Damaged d place) refl wrong in
+    c.open_logs.ensures.harmed d place (c.in-Err.is ∙ ap (λ (f : FindFault). Err f) (found_damaged c.in-Err.fault d place (sym c.found_fault.ensures ∙ e)))
 
 pub returns-in-Err-clause-damaged : goal.returns-in-Err-clause-damaged
 returns-in-Err-clause-damaged g c = λ images d place reads damaged.

@@ -1,7 +1,8 @@
-use Rattle.std.proofs.Common.{◌∙◌, arith, sym}
-use Rattle.disk_trait.proofs.Several.{settled_still, content_stays}
+use Rattle.std.proofs.Common.{◌∙◌, IsErrOf, arith, rules, sym}
+use Rattle.disk_trait.proofs.Several.{content_stays, no_fault_beside, settled_still}
 use Rattle.state_log.proofs.Opened.{counted, found_as, found_holds}
 use Rattle.state_log.proofs.finding.open_logs.Goals as goal
+use Rattle.state_log.specs.declared.fault.FindFault.TheVariants.{Damaged, NoMemory}
 
 pub returns-in_err-second-clause-settled : goal.returns-in_err-second-clause-settled
 returns-in_err-second-clause-settled g c =
@@ -32,3 +33,28 @@ returns-clause-counts g c = λ images reads.
     counted images c.in_ok-first.first c.in_ok-second.second (c.in_ok-first.ensures.found (images 0) (reads 0 (omega arith)))
     (c.in_ok-second.ensures.found (images 1) (content_stays _ _ 0 c.open_on.ensures.alone c.open_on.ensures.content 1 ∙ reads 1 (omega arith)))
     c.choose.result c.choose.ensures
+
+-- ---- counts of faults
+
+pub returns-clause-steady : goal.returns-clause-steady
+returns-clause-steady g c = λ d. no_fault_beside _ _ 1 c.open_on-2.ensures.alone c.in_ok-second.ensures.steady d ∙ no_fault_beside _ _ 0 c.open_on.ensures.alone c.in_ok-first.ensures.steady d
+
+pub returns-in_err-second-clause-wanting : goal.returns-in_err-second-clause-wanting
+returns-in_err-second-clause-wanting g c = λ wrong d.
+    let none : IsErrOf c.open_on-2.result NoMemory = search rules in
+    no_fault_beside _ _ 1 c.open_on-2.ensures.alone (c.open_on-2.ensures.wanting none) d ∙ no_fault_beside _ _ 0 c.open_on.ensures.alone c.in_ok-first.ensures.steady d
+
+pub returns-in_err-second-clause-harmed : goal.returns-in_err-second-clause-harmed
+returns-in_err-second-clause-harmed g c = λ disk place wrong d.
+    let harm : IsErrOf c.open_on-2.result (Damaged disk place) = search rules in
+    no_fault_beside _ _ 1 c.open_on-2.ensures.alone (c.open_on-2.ensures.harmed disk place harm) d ∙ no_fault_beside _ _ 0 c.open_on.ensures.alone c.in_ok-first.ensures.steady d
+
+pub returns-in_err-first-clause-wanting : goal.returns-in_err-first-clause-wanting
+returns-in_err-first-clause-wanting g c = λ wrong d.
+    let none : IsErrOf c.open_on.result NoMemory = search rules in
+    no_fault_beside _ _ 0 c.open_on.ensures.alone (c.open_on.ensures.wanting none) d
+
+pub returns-in_err-first-clause-harmed : goal.returns-in_err-first-clause-harmed
+returns-in_err-first-clause-harmed g c = λ disk place wrong d.
+    let harm : IsErrOf c.open_on.result (Damaged disk place) = search rules in
+    no_fault_beside _ _ 0 c.open_on.ensures.alone (c.open_on.ensures.harmed disk place harm) d

@@ -1,6 +1,5 @@
 use Rattle.mob_flusher.proofs.Fits.{put_has}
 use Rattle.object_codec.specs.Spelling.{obj_bytes}
-use Rattle.page_format.specs.Pages.{Contents}
 use Rattle.std.proofs.Common.{List, ap, ◌++◌, ◌∙◌, ◌≡◌, ℕ}
 use Rattle.store_format.proofs.pages.put_object.Goals as goal
 use Rattle.thor_value.specs.FiniteMap.{insert}

@@ -1,5 +1,4 @@
 use Rattle.disk_trait.proofs.Runs.{alone_none, alone_then}
-use Rattle.disk_trait.proofs.Several.{all_settled}
 use Rattle.std.proofs.Common.{List, ap, arith, subst, sym, ◌∙◌, ◌≡◌, ◌≤◌, ℕ}
 use Rattle.page_store.specs.Store.{Store}
 use Rattle.store_format.proofs.Empty.{reaches_none}

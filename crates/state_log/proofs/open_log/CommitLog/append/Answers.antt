@@ -3,6 +3,8 @@ use Rattle.log_bytes.specs.Format.{value_of}
 use Rattle.log_bytes.specs.Grammar.{body_format}
 use Rattle.log_bytes.specs.declared.body.Body.TheVariants.{Entry as AnEntry}
 use Rattle.state_log.proofs.Holding.{append_holds, append_says, none_says, ok_of_three, pages_stay, pages_still}
+use Rattle.disk_trait.proofs.Several.{no_fault_beside}
+use Rattle.state_log.proofs.Holding.{ok_then}
 use Rattle.state_log.proofs.open_log.CommitLog.append.Goals as goal
 
 pub returns-in_err-body-clause-any_moment : goal.returns-in_err-body-clause-any_moment
@@ -31,3 +33,9 @@ pub returns-clause-still : goal.returns-clause-still
 returns-clause-still g c =
     let holds = rw (← c.self.view_is) at c.requires.holds in
     pages_still (g.P.Parts.disks c.args.parts.now) (g.P.Parts.disks c.append.new.parts) c.self.inside.log.disk c.self.inside.log.disk refl holds.1.within c.append.ensures.alone
+
+pub returns-clause-steady : goal.returns-clause-steady
+returns-clause-steady g c = ok_then c.append.result (no_fault_beside (g.P.Parts.disks c.args.parts.now) (g.P.Parts.disks c.append.new.parts) c.self.inside.log.disk c.append.ensures.alone) c.append.ensures.steady
+
+pub returns-clause-wanting : goal.returns-clause-wanting
+returns-clause-wanting g c = λ wrong. no_fault_beside (g.P.Parts.disks c.args.parts.now) (g.P.Parts.disks c.append.new.parts) c.self.inside.log.disk c.append.ensures.alone (c.append.ensures.wanting wrong)

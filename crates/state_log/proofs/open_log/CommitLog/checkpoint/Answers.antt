@@ -1,9 +1,11 @@
-use Rattle.std.proofs.Common.{ap, ℕ, ◌+◌, ◌-◌, ◌∙◌}
+use Rattle.std.proofs.Common.{IsErrOf, ap, rules, ℕ, ◌+◌, ◌-◌, ◌∙◌}
 use Rattle.log_bytes.specs.Checkpoint.{state_format}
 use Rattle.log_bytes.specs.Format.{value_of}
 use Rattle.state_log.specs.Holds.{beside}
 use Rattle.state_log.proofs.Checkpoints.{holds_at, none_keeps, says_at}
 use Rattle.state_log.proofs.Holding.{is_log, pages_stay, pages_still}
+use Rattle.disk_trait.proofs.Several.{no_fault_beside}
+use Rattle.log_frame.specs.declared.fault.LogFault.TheVariants.{NoMemory}
 use Rattle.state_log.proofs.open_log.CommitLog.checkpoint.Goals as goal
 
 pub returns-in_err-head-clause-any_moment : goal.returns-in_err-head-clause-any_moment
@@ -45,3 +47,11 @@ pub returns-clause-still : goal.returns-clause-still
 returns-clause-still g c =
     let holds = rw (← c.self.view_is) at c.requires.holds in
     pages_still (g.P.Parts.disks c.args.parts.now) (g.P.Parts.disks c.format.new.parts) (beside c.self.inside.log.disk) (1 - c.disk-disk.result) (ap beside c.disk-disk.ensures.value) (is_log c.self.inside.log.disk holds.1.within) c.format.ensures.alone
+
+pub returns-in_err-self-inside-clause-wanting : goal.returns-in_err-self-inside-clause-wanting
+returns-in_err-self-inside-clause-wanting g c = λ wrong.
+    let none : IsErrOf c.format.result NoMemory = search rules in
+    no_fault_beside (g.P.Parts.disks c.args.parts.now) (g.P.Parts.disks c.format.new.parts) (1 - c.disk-disk.result) c.format.ensures.alone (c.format.ensures.wanting none)
+
+pub returns-clause-steady : goal.returns-clause-steady
+returns-clause-steady g c = no_fault_beside (g.P.Parts.disks c.args.parts.now) (g.P.Parts.disks c.format.new.parts) (1 - c.disk-disk.result) c.format.ensures.alone c.in_ok-self-inside.ensures.steady

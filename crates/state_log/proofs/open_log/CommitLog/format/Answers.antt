@@ -1,8 +1,10 @@
-use Rattle.std.proofs.Common.{ap, arith, refl, ◌∙◌}
+use Rattle.std.proofs.Common.{IsErrOf, ap, arith, refl, rules, ◌∙◌}
 use Rattle.log_bytes.specs.Checkpoint.{state_format}
 use Rattle.log_bytes.specs.Format.{value_of}
 use Rattle.state_log.proofs.Checkpoints.{format_holds, format_says, fresh_says}
 use Rattle.state_log.proofs.Holding.{pages_stay, pages_still}
+use Rattle.disk_trait.proofs.Several.{no_fault_beside}
+use Rattle.log_frame.specs.declared.fault.LogFault.TheVariants.{NoMemory}
 use Rattle.state_log.proofs.open_log.CommitLog.format.Goals as goal
 
 pub returns-in_err-head-clause-any_moment : goal.returns-in_err-head-clause-any_moment
@@ -32,3 +34,11 @@ returns-clause-pages g c = pages_stay (g.P.Parts.disks c.args.parts.now) (g.P.Pa
 
 pub returns-clause-still : goal.returns-clause-still
 returns-clause-still g c = pages_still (g.P.Parts.disks c.args.parts.now) (g.P.Parts.disks c.format.new.parts) 0 0 refl (omega arith) c.format.ensures.alone
+
+pub returns-in_err-log-clause-wanting : goal.returns-in_err-log-clause-wanting
+returns-in_err-log-clause-wanting g c = λ wrong.
+    let none : IsErrOf c.format.result NoMemory = search rules in
+    no_fault_beside (g.P.Parts.disks c.args.parts.now) (g.P.Parts.disks c.format.new.parts) 0 c.format.ensures.alone (c.format.ensures.wanting none)
+
+pub returns-clause-steady : goal.returns-clause-steady
+returns-clause-steady g c = no_fault_beside (g.P.Parts.disks c.args.parts.now) (g.P.Parts.disks c.format.new.parts) 0 c.format.ensures.alone c.in_ok-log.ensures.steady
