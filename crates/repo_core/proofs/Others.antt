@@ -21,15 +21,15 @@ use Rattle.two_phase.specs.Contents.{Contents, open_at, request_of}
 use Rattle.two_phase.specs.Walks.{behind, first_open, is_past}
 use Rattle.two_phase.specs.declared.transaction.Transaction.{Transaction}
 
--- what isn't past a timestamp and is open is the repository's own
+-- what isn't past a timestamp and is opened is the repository's own
 abbrev pub Passed : ℕ → Contents → Option Ts → Type 0
 Passed repo c after = (t : Ts) → is_past ts_cmp after t ≡ false → is_some (open_at c t) ≡ true → nat_eq t.repo repo ≡ true
 
 pub passed_none : (repo : ℕ) (c : Contents) → Passed repo c None
-passed_none repo c t past open = absurd (cc)
+passed_none repo c t past opened = absurd (cc)
 
 none_open : (o : Option Request) → o ≡ None → is_some o ≡ true → ⊥
-none_open o none open = let isnt : true ≡ false = sym open ∙ ap is_some none in cc
+none_open o none opened = let isnt : true ≡ false = sym opened ∙ ap is_some none in cc
 
 -- ---- fewer are left
 
@@ -86,29 +86,29 @@ module _ (p r : Ts → Bool) (fewer : (t : Ts) → r t ≡ true → p t ≡ true
 
 module _ (repo : ℕ) (c : Contents) (fits : TableFits repo c) (after : Option Ts) (passed : Passed repo c after) where
   pub passed_all : first_open (behind ts_cmp after c.transactions.pairs) ≡ None → AreOwn repo c
-  passed_all none t open = by (is_past ts_cmp after t) refl
+  passed_all none t opened = by (is_past ts_cmp after t) refl
     where
       by : (x : Bool) → is_past ts_cmp after t ≡ x → nat_eq t.repo repo ≡ true
-      by true e = absurd (none_open (open_at c t) (walk-none repo (is_past ts_cmp after) c.transactions.pairs fits.sorted none t e) open)
-      by false e = passed t e open
+      by true e = absurd (none_open (open_at c t) (walk-none repo (is_past ts_cmp after) c.transactions.pairs fits.sorted none t e) opened)
+      by false e = passed t e opened
 
   module _ (q : Request) (found : first_open (behind ts_cmp after c.transactions.pairs) ≡ Some q) where
     first : IsFirst (is_past ts_cmp after) c.transactions.pairs q
     first = walk-some repo (is_past ts_cmp after) c.transactions.pairs fits.sorted fits.each q found
 
     below : (t : Ts) → Before t q.tx → is_some (open_at c t) ≡ true → nat_eq t.repo repo ≡ true
-    below t before open = by (is_past ts_cmp after t) refl
+    below t before opened = by (is_past ts_cmp after t) refl
       where
         by : (x : Bool) → is_past ts_cmp after t ≡ x → nat_eq t.repo repo ≡ true
-        by true e = absurd (none_open (open_at c t) (first.first t e before) open)
-        by false e = passed t e open
+        by true e = absurd (none_open (open_at c t) (first.first t e before) opened)
+        by false e = passed t e opened
 
     pub found_least : nat_eq q.tx.repo repo ≡ false → IsLeastOfOthers repo c q.tx
     found_least other = record { other = other; prepared = ap is_some first.there; least = below }
 
     pub passed_on : nat_eq q.tx.repo repo ≡ true → Passed repo c (Some q.tx)
-    passed_on own t past open = elim (in_order t q.tx) [
-      | inl before ↦ below t before open
+    passed_on own t past opened = elim (in_order t q.tx) [
+      | inl before ↦ below t before opened
       | inr h ↦ elim h [
         | inl same ↦ subst (λ (u : Ts). nat_eq u.repo repo ≡ true) (sym same) own
         | inr behind ↦ absurd (let isnt : true ≡ false = sym (ap is_lt behind) ∙ past in cc)

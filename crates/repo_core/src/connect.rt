@@ -18,7 +18,7 @@ use validation_window::Refusal;
 
 impl<P: Parts> Repo<P> {
     /// Begins a session of the client, and ends its older one.
-    #[tactic(auto, using(crate::proofs::Refused::leaves_given_back, crate::proofs::Refused::leaves_down, crate::proofs::Refused::falls_with, crate::proofs::Refused::moved_none, volatile_state::proofs::Lasting::stayed, crate::proofs::Causes::why_down, crate::proofs::Causes::why_memory))]
+    #[tactic(auto, using(crate::proofs::Readable::shown_has, crate::proofs::Refused::leaves_given_back, crate::proofs::Refused::leaves_down, crate::proofs::Refused::falls_with, crate::proofs::Refused::moved_none, volatile_state::proofs::Lasting::stayed, crate::proofs::Causes::why_down, crate::proofs::Causes::why_memory))]
     pub fn connect(&mut self, client: u8) -> Result<Welcome, Refusal>
         ensures stands { Stands self.old.is_up result self.new.is_up }
         ensures readable { ShowsPages self.old → ShowsPages self.new }
@@ -61,6 +61,7 @@ impl<P: Parts> Repo<P> {
     }
 
     /// Begins a session. The answer is its number, and the texts of the installed upgrades.
+    #[tactic(auto, using(crate::proofs::Readable::shown_has))]
     fn begin_session(&mut self, client: u8) -> Result<(u32, Texts), NoMemory>
         ensures up { self.new.is_up ≡ self.old.is_up }
         ensures readable { ShowsPages self.old → ShowsPages self.new }

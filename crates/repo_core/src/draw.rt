@@ -56,7 +56,7 @@ impl<P: Parts> Repo<P> {
     }
 
     /// The time that is drawn next. It asks the clock, where the session is live.
-    #[tactic(auto, using(crate::proofs::Refused::stays_itself))]
+    #[tactic(auto, using(crate::proofs::Readable::shown_has, crate::proofs::Refused::stays_itself))]
     fn may_draw(&mut self, session: u32, floor: u64) -> Result<u64, Refusal>
         ensures up { self.new.is_up ≡ self.old.is_up }
         ensures readable { ShowsPages self.old → ShowsPages self.new }
@@ -84,7 +84,7 @@ impl<P: Parts> Repo<P> {
         }
     }
 
-    #[tactic(auto, using(crate::proofs::Refused::leaves_down))]
+    #[tactic(auto, using(crate::proofs::Readable::shown_has, crate::proofs::Refused::leaves_down))]
     fn take_time(&mut self, session: u32, time: u64) -> Result<Ts, Refusal>
         requires { self.old.is_up ≡ true }
         ensures stands { Stands true result self.new.is_up }

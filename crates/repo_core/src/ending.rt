@@ -53,7 +53,7 @@ impl<P: Parts> Repo<P> {
 
     /// Puts the mark of what has happened behind the trace, or takes the repository down where there was no
     /// memory for it or for what has happened.
-    #[tactic(auto, using(crate::proofs::Refused::leaves_down, crate::proofs::Refused::falls_with, crate::proofs::Refused::moved_none, crate::proofs::Refused::lasts_same))]
+    #[tactic(auto, using(crate::proofs::Readable::shown_has, crate::proofs::Refused::leaves_down, crate::proofs::Refused::falls_with, crate::proofs::Refused::moved_none, crate::proofs::Refused::lasts_same))]
     pub(crate) fn mark(&mut self, happened: Result<(), NoMemory>, mark: Mark) -> Result<(), Refusal>
         requires { self.old.is_up ≡ true }
         ensures happened { OnOk result (happened ≡ Ok tt) }

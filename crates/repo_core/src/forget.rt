@@ -16,7 +16,7 @@ use validation_window::Refusal;
 impl<P: Parts> Repo<P> {
     /// Forgets the decision to commit a transaction, which every other participant has finished. It leaves
     /// the log with the next checkpoint.
-    #[tactic(auto, using(crate::proofs::Refused::leaves_down, crate::proofs::Causes::why_down, crate::proofs::Causes::why_memory))]
+    #[tactic(auto, using(crate::proofs::Readable::shown_has, crate::proofs::Refused::leaves_down, crate::proofs::Causes::why_down, crate::proofs::Causes::why_memory))]
     pub fn forget(&mut self, tx: Ts) -> Result<(), Refusal>
         ensures stands { Stands self.old.is_up result self.new.is_up }
         ensures readable { ShowsPages self.old → ShowsPages self.new }

@@ -66,7 +66,7 @@ impl<P: Parts> Repo<P> {
         }
     }
 
-    #[tactic(auto, using(crate::proofs::Refused::leaves_read, crate::proofs::Refused::moved_none))]
+    #[tactic(auto, using(crate::proofs::Readable::shown_has, crate::proofs::Refused::leaves_read, crate::proofs::Refused::moved_none))]
     fn send_grant(&mut self, session: u32, page: u32) -> Result<(), Refusal>
         requires up { self.old.is_up ≡ true }
         requires next { page ≡ self.old.held.next_grant }
@@ -89,6 +89,7 @@ impl<P: Parts> Repo<P> {
     }
 
     /// Marks what was sent, and grants no page below the next one any more.
+    #[tactic(auto, using(crate::proofs::Readable::shown_has))]
     fn mark_granted(
         &mut self,
         sent: Result<(), NoMemory>,

@@ -70,7 +70,7 @@ impl<P: Parts> Repo<P> {
 }
 
 /// A repository over what is stable, behind the Life of its opening.
-#[tactic(auto, using(crate::proofs::Begun::begins_so, crate::proofs::Begun::memory_is))]
+#[tactic(auto, using(crate::proofs::Readable::shown_has, crate::proofs::Begun::begins_so, crate::proofs::Begun::memory_is))]
 fn begin<P: Parts>(alloc: Global, stable: Stable<P>) -> Result<Repo<P>, OpenFault<P>>
     requires kept { IsKept P.disks stable }
     requires up { is_up stable ≡ true }

@@ -20,7 +20,7 @@ use validation_window::Refusal;
 
 impl<P: Parts> Repo<P> {
     /// Takes the oldest message that waits for the session; `None` exactly where none does. Refusal: `Gone`.
-    #[tactic(auto, using(crate::proofs::Refused::leaves_read, crate::proofs::Refused::moved_none, volatile_state::proofs::Lasting::stayed, crate::proofs::Causes::why_down, crate::proofs::Causes::why_reason, crate::proofs::Causes::lacks_memory))]
+    #[tactic(auto, using(crate::proofs::Readable::shown_has, crate::proofs::Refused::leaves_read, crate::proofs::Refused::moved_none, volatile_state::proofs::Lasting::stayed, crate::proofs::Causes::why_down, crate::proofs::Causes::why_reason, crate::proofs::Causes::lacks_memory))]
     pub fn receive(&mut self, session: u32) -> Result<Option<Message>, Refusal>
         ensures stands { Stands self.old.is_up result self.new.is_up }
         ensures readable { ShowsPages self.old → ShowsPages self.new }
@@ -44,6 +44,7 @@ impl<P: Parts> Repo<P> {
     }
 
     /// Marks that a message was taken, where one was.
+    #[tactic(auto, using(crate::proofs::Readable::shown_has))]
     fn mark_taken(
         &mut self,
         session: u32,

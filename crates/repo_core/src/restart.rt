@@ -85,7 +85,7 @@ impl<P: Parts> Repo<P> {
     }
 
     /// Begins the next life.
-    #[tactic(auto, using(crate::proofs::Refused::falls_with, crate::proofs::Refused::moved_none, crate::proofs::Refused::lasts_same))]
+    #[tactic(auto, using(crate::proofs::Readable::shown_has, crate::proofs::Refused::falls_with, crate::proofs::Refused::moved_none, crate::proofs::Refused::lasts_same))]
     pub(crate) fn write_life(&mut self) -> Result<(), Refusal>
         requires { self.old.is_up ≡ true }
         ensures stands { Stands true result self.new.is_up }
@@ -116,6 +116,7 @@ impl<P: Parts> Repo<P> {
     }
 
     /// Lets go of the kept decisions of earlier openings: what they left is settled.
+    #[tactic(auto, using(crate::proofs::Readable::shown_has))]
     pub(crate) fn drop_decisions(&mut self)
         requires { self.old.is_up ≡ true }
         ensures up { self.new.is_up ≡ self.old.is_up }

@@ -9,7 +9,7 @@ use disk_trait::Parts;
 impl<P: Parts> Repo<P> {
     /// Takes the repository down: at once for 0, else behind so many disk calls from now, in the middle of an
     /// event. It takes the place of a stop that hasn't fallen.
-    #[tactic(auto, using(crate::proofs::Stopped::stop_pending, crate::proofs::Stopped::stop_none, crate::proofs::Stopped::stop_torn, crate::proofs::Stopped::stop_whole))]
+    #[tactic(auto, using(crate::proofs::Readable::shown_has, crate::proofs::Stopped::stop_pending, crate::proofs::Stopped::stop_none, crate::proofs::Stopped::stop_torn, crate::proofs::Stopped::stop_whole))]
     pub fn stop_after(&mut self, calls: u32)
         ensures up { self.new.is_up ≡ cond (nat_eq calls 0) false self.old.is_up }
         ensures readable { ShowsPages self.old → ShowsPages self.new }
@@ -28,6 +28,7 @@ impl<P: Parts> Repo<P> {
     }
 
     /// Takes back a stop that hasn't fallen.
+    #[tactic(auto, using(crate::proofs::Readable::shown_has))]
     pub fn disarm(&mut self)
         ensures up { self.new.is_up ≡ self.old.is_up }
         ensures readable { ShowsPages self.old → ShowsPages self.new }

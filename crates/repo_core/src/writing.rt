@@ -45,7 +45,7 @@ impl<P: Parts> Repo<P> {
     /// Writes an entry. The answer is its place.
     ///
     /// After a refusal the repository is down, and the entry is pending if the log may have it.
-    #[tactic(auto, using(crate::proofs::Falls::keeps_up, crate::proofs::Refused::falls_with, crate::proofs::Refused::falls_pending, crate::proofs::Refused::falls_behind, crate::proofs::Refused::moved_none, crate::proofs::Refused::lasts_same, crate::proofs::Failing::failed_between, crate::proofs::Failing::stopped_memory))]
+    #[tactic(auto, using(crate::proofs::Readable::shown_has, crate::proofs::Falls::keeps_up, crate::proofs::Refused::falls_with, crate::proofs::Refused::falls_pending, crate::proofs::Refused::falls_behind, crate::proofs::Refused::moved_none, crate::proofs::Refused::lasts_same, crate::proofs::Failing::failed_between, crate::proofs::Failing::stopped_memory))]
     pub(crate) fn write(&mut self, entry: Entry) -> Result<u64, Refusal>
         requires can { CanWrite self.old.held self.old.memory entry }
         requires up { self.old.is_up ≡ true }

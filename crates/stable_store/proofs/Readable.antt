@@ -1,12 +1,9 @@
 -- Sides in use that are pages stay so through each call.
-use Rattle.commit_log.specs.declared.entry.Entry.TheVariants.{Decided, Finished, Life, One, Prepared, Upgraded}
 use Rattle.commit_log.specs.declared.entry.Entry.{Entry}
-use Rattle.commit_log.specs.declared.request.Request.{Request}
 use Rattle.disk_trait.specs.AllDisks.{GoesOn, MayLeaveAll, ReadsAs, TellsAll}
 use Rattle.disk_trait.specs.Disks.{Disks, Leaves, OnDisk, WhereTold}
 use Rattle.disk_trait.specs.Fused.{armed, fused_disks}
 use Rattle.disk_trait.specs.declared.fused.Fused.{Fused}
-use Rattle.held_state.specs.Entering.{decided_by, entered, finished_by}
 use Rattle.held_state.specs.Said.{said}
 use Rattle.held_state.specs.declared.held.Held.{Held}
 use Rattle.log_bytes.specs.declared.body.Body.TheVariants.{Installed}
@@ -35,8 +32,6 @@ use Rattle.std.proofs.Common.{Bool, Err, IfSome, List, None, Ok, Option, Result,
 use Rattle.std.specs.BTreeMap.{insert_entry}
 use Rattle.std.specs.Ordering.{nat_cmp}
 use Rattle.std.specs.Prelude.{slice_get}
-use Rattle.thor_value.specs.declared.names.Ts.{Ts}
-use Rattle.two_phase.specs.Contents.{open_at}
 
 -- ---- disks that tell
 
@@ -120,6 +115,12 @@ pub torn_has : {P : Type 0} (disks : P → Disks) (old new : Stable P) (e : Entr
 torn_has disks old new e same has =
     subst (HasPages disks) (sym same) (still_has disks old (torn old e) (λ d. refl) refl refl (λ whole. absurd (never_torn whole)) has)
 
+-- torn, whatever is held
+pub fails_has : {P : Type 0} (disks : P → Disks) (store new : Stable P) (held : Held) (e : Entry) → new ≡ torn (record store { held = held }) e → HasPages disks store → HasPages disks new
+fails_has disks store new held e same has =
+    subst (HasPages disks) (sym same)
+    (told_on (is_torn store) true store.held.objects.pages.sides held.objects.pages.sides (disks_of disks store) (disks_of disks store) (λ d. refl) (λ whole. absurd (never_torn whole)) has)
+
 -- the stop is armed, or taken back
 pub armed_has : {P : Type 0} (disks : P → Disks) (store : Stable P) (parts : Fused P) (calls : ℕ) → parts ≡ armed store.parts calls → HasPages disks store → HasPages disks (record store { parts = parts })
 armed_has {P = P} disks store parts calls same has =
@@ -137,31 +138,6 @@ alike_has {P = P} disks old new parts phase sides has =
 -- all that is held but for its table
 pub tabled_has : {P : Type 0} (disks : P → Disks) (old new : Stable P) → parts_in new ≡ parts_in old → new.phase ≡ old.phase → held_of new ≡ record (held_of old) { table = (held_of new).table } → HasPages disks old → HasPages disks new
 tabled_has disks old new parts phase held has = alike_has disks old new parts phase (ap (λ (h : Held). h.objects.pages.sides) held) has
-
--- ---- entries
-
-decided_sides : (h : Held) (t : Ts) (c : Bool) (o : Option Request) → (decided_by h t c o).objects.pages.sides ≡ h.objects.pages.sides
-decided_sides h t false o = refl
-decided_sides h t true None = refl
-decided_sides h t true (Some q) = refl
-
-finished_sides : (h : Held) (t : Ts) (c : Bool) (o : Option Request) → (finished_by h t c o).objects.pages.sides ≡ h.objects.pages.sides
-finished_sides h t false None = refl
-finished_sides h t true None = refl
-finished_sides h t false (Some q) = refl
-finished_sides h t true (Some q) = refl
-
--- an entry puts no page in use
-pub entered_sides : (h : Held) (e : Entry) → (entered h e).objects.pages.sides ≡ h.objects.pages.sides
-entered_sides h (Life n) = refl
-entered_sides h (One q) = refl
-entered_sides h (Prepared q) = refl
-entered_sides h (Decided t c) = decided_sides h t c (open_at h.table t)
-entered_sides h (Finished t c) = finished_sides h t c (open_at h.table t)
-entered_sides h (Upgraded q) = refl
-
-pub entered_has : {P : Type 0} (disks : P → Disks) (store : Stable P) (held : Held) (e : Entry) → held ≡ entered store.held e → HasPages disks store → HasPages disks (record store { held = held })
-entered_has disks store held e is has = moved_has disks store held (ap (λ (h : Held). h.objects.pages.sides) is ∙ entered_sides store.held e) has
 
 -- ---- the log is taken out and put back
 

@@ -257,7 +257,7 @@ impl<P: Parts> Stable<P> {
     }
 
     /// Writes an entry into the log, and hands it back. After a fault it is pending.
-    #[tactic(auto, using(crate::proofs::Saying::said_same))]
+    #[tactic(auto, using(crate::proofs::Readable::same_has, crate::proofs::Saying::said_same))]
     pub fn append(&mut self, entry: Entry) -> Result<Entry, Refusal>
         requires fits { BodyFits (AnEntry entry) }
         requires takes { IsTrue (can_enter (held_of self.old) entry) }
@@ -349,7 +349,7 @@ impl<P: Parts> Stable<P> {
     }
 
     /// A page with all its objects.
-    #[tactic(auto, using(crate::proofs::Saying::said_same))]
+    #[tactic(auto, using(crate::proofs::Readable::same_has, crate::proofs::Saying::said_same))]
     pub fn page_image(&mut self, page: u32) -> Result<Page, Refusal>
         requires kept { IsKept P.disks self.old }
         ensures kept { IsKept P.disks self.new }
@@ -385,7 +385,7 @@ impl<P: Parts> Stable<P> {
     }
 
     /// Writes the page of the oldest buffered object with all its buffered objects, and has it in use.
-    #[tactic(auto, using(crate::proofs::Saying::said_same))]
+    #[tactic(auto, using(crate::proofs::Readable::same_has, crate::proofs::Saying::said_same))]
     pub fn flush_page(&mut self) -> Result<Flushed, Refusal>
         requires kept { IsKept P.disks self.old }
         ensures kept { IsKept P.disks self.new }
@@ -493,7 +493,7 @@ impl<P: Parts> Stable<P> {
 
     /// Begins a log on the other log disk with all that is held. Want of memory, too, where no sequence or no
     /// count is left, which no run comes to.
-    #[tactic(auto, using(crate::proofs::Saying::said_same, crate::proofs::Saying::said_out))]
+    #[tactic(auto, using(crate::proofs::Readable::same_has, crate::proofs::Saying::said_same, crate::proofs::Saying::said_out))]
     pub fn checkpoint(&mut self) -> Result<(), Refusal>
         requires kept { IsKept P.disks self.old }
         ensures kept { IsKept P.disks self.new }

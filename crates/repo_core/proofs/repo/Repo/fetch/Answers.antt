@@ -6,6 +6,7 @@ use Rattle.validation_window.specs.declared.refusal.Refusal.TheVariants.{Damaged
 use Rattle.repo_core.proofs.Refused.{if_err_on, leaves_read}
 use Rattle.repo_core.specs.Shown.{Shown, shown}
 use Rattle.std.specs.Prelude.{None}
+use Rattle.repo_core.proofs.Readable.{shown_has}
 use Rattle.repo_core.proofs.repo.Repo.fetch.Goals as goal
 
 pub returns-clause-left : goal.returns-clause-left
@@ -34,3 +35,22 @@ returns-in_err-image-clause-damaged g c = λ n place is.
 
 pub returns-clause-damaged : goal.returns-clause-damaged
 returns-clause-damaged g c = λ n place is. damaged_memory c.mark.result n place _ c.mark.ensures.refusal is
+
+pub returns-in_err-image-clause-readable : goal.returns-in_err-image-clause-readable
+returns-in_err-image-clause-readable g c = λ has.
+    let i = c.self.inside in
+    c.page_image.ensures.readable (shown_has g.P.Parts.disks i.stable i.memory i.trace i.opened_in c.args.self.now c.self.view_is has)
+
+pub returns-clause-readable : goal.returns-clause-readable
+returns-clause-readable g c = λ has.
+    let i = c.self.inside in
+    c.mark.ensures.readable (c.page_image.ensures.readable (shown_has g.P.Parts.disks i.stable i.memory i.trace i.opened_in c.args.self.now c.self.view_is has))
+
+pub returns-in_err-image-clause-never : goal.returns-in_err-image-clause-never
+returns-in_err-image-clause-never g c = λ n place is has.
+    let i = c.self.inside in
+    let wrong : IsErrOf c.page_image.result (IsDamaged n place) = search rules in
+    c.page_image.ensures.never n place wrong (shown_has g.P.Parts.disks i.stable i.memory i.trace i.opened_in c.args.self.now c.self.view_is has)
+
+pub returns-clause-never : goal.returns-clause-never
+returns-clause-never g c = λ n place is has. damaged_memory c.mark.result n place _ c.mark.ensures.refusal is

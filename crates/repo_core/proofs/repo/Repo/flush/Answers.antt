@@ -3,6 +3,7 @@ use Rattle.repo_core.proofs.Failing.{failed_between}
 use Rattle.repo_core.specs.Shown.{Shown, shown}
 use Rattle.stable_store.specs.Kept.{disks_of}
 use Rattle.std.proofs.Common.{ap, refl}
+use Rattle.repo_core.proofs.Readable.{shown_has}
 use Rattle.repo_core.proofs.repo.Repo.flush.Goals as goal
 
 pub returns-clause-stopped : goal.returns-clause-stopped
@@ -15,3 +16,13 @@ pub returns-clause-damaged : goal.returns-clause-damaged
 returns-clause-damaged g c = λ n place is.
     let i = c.self.inside in
     oldest_shown g.P.Parts.disks i.stable i.memory i.trace i.opened_in c.args.self.now place c.self.view_is (c.flush_page.ensures.damaged n place is)
+
+pub returns-clause-readable : goal.returns-clause-readable
+returns-clause-readable g c = λ has.
+    let i = c.self.inside in
+    c.flush_page.ensures.readable (shown_has g.P.Parts.disks i.stable i.memory i.trace i.opened_in c.args.self.now c.self.view_is has)
+
+pub returns-clause-never : goal.returns-clause-never
+returns-clause-never g c = λ n place is has.
+    let i = c.self.inside in
+    c.flush_page.ensures.never n place is (shown_has g.P.Parts.disks i.stable i.memory i.trace i.opened_in c.args.self.now c.self.view_is has)

@@ -7,6 +7,7 @@ use Rattle.stable_store.specs.Kept.{disks_of, pending}
 use Rattle.std.proofs.Common.{IsErrOf, OnOk, ap, refl, rules, subst}
 use Rattle.std.specs.Prelude.{OnErr}
 use Rattle.validation_window.specs.declared.refusal.Refusal.TheVariants.{Damaged as IsDamaged, Stopped as IsStopped}
+use Rattle.repo_core.proofs.Readable.{shown_has}
 use Rattle.repo_core.proofs.repo.Repo.take_over.Goals as goal
 
 pub returns-in-Pending-clause-takes : goal.returns-in-Pending-clause-takes
@@ -52,3 +53,18 @@ returns-in_err-restart-clause-stopped g c = λ n is.
 
 pub returns-in-Pending-clause-stopped : goal.returns-in-Pending-clause-stopped
 returns-in-Pending-clause-stopped g c = λ n is. stopped_memory c.take_pending.result n _ c.take_pending.ensures.refusal is
+
+pub returns-in_err-restart-clause-readable : goal.returns-in_err-restart-clause-readable
+returns-in_err-restart-clause-readable g c = λ has.
+    let i = c.self.inside in
+    c.restart.ensures.readable c.self.invariant.1 (shown_has g.P.Parts.disks i.stable i.memory i.trace i.opened_in c.args.self.now c.self.view_is has)
+
+pub returns-in-Held-clause-readable : goal.returns-in-Held-clause-readable
+returns-in-Held-clause-readable g c = λ has.
+    let i = c.self.inside in
+    c.restart.ensures.readable c.self.invariant.1 (shown_has g.P.Parts.disks i.stable i.memory i.trace i.opened_in c.args.self.now c.self.view_is has)
+
+pub returns-in-Pending-clause-readable : goal.returns-in-Pending-clause-readable
+returns-in-Pending-clause-readable g c = λ has.
+    let i = c.self.inside in
+    c.take_pending.ensures.readable (c.restart.ensures.readable c.self.invariant.1 (shown_has g.P.Parts.disks i.stable i.memory i.trace i.opened_in c.args.self.now c.self.view_is has))

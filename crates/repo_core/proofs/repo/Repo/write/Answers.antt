@@ -11,6 +11,7 @@ use Rattle.stable_store.specs.Kept.{disks_of, is_up}
 use Rattle.std.proofs.Common.{IsErrOf, Ok, OnOk, Some, ap, false, rules, subst, refl, sym, true, ◌∙◌, ◌≡◌}
 use Rattle.std.specs.Prelude.{OnErr}
 use Rattle.volatile_state.specs.Volatile.{Memory, entered}
+use Rattle.repo_core.proofs.Readable.{shown_has}
 use Rattle.repo_core.proofs.repo.Repo.write.Goals as goal
 
 pub returns-clause-ended : goal.returns-clause-ended
@@ -52,3 +53,13 @@ returns-in_err-entry-clause-stopped g c = λ n is.
 
 pub returns-clause-stopped : goal.returns-clause-stopped
 returns-clause-stopped g c = λ n is. stopped_memory c.record.result n _ c.record.ensures.refusal is
+
+pub returns-in_err-entry-clause-readable : goal.returns-in_err-entry-clause-readable
+returns-in_err-entry-clause-readable g c = λ has.
+    let i = c.self.inside in
+    c.append.ensures.readable (shown_has g.P.Parts.disks i.stable i.memory i.trace i.opened_in c.args.self.now c.self.view_is has)
+
+pub returns-clause-readable : goal.returns-clause-readable
+returns-clause-readable g c = λ has.
+    let i = c.self.inside in
+    c.record.ensures.readable (c.append.ensures.readable (shown_has g.P.Parts.disks i.stable i.memory i.trace i.opened_in c.args.self.now c.self.view_is has))

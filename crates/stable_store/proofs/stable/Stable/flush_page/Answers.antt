@@ -3,6 +3,7 @@ use Rattle.stable_store.proofs.Saying.{phase_of, said_in_phase, said_up, taken_s
 use Rattle.std.proofs.Common.{ap, ◌∙◌}
 use Rattle.std.specs.Prelude.{None}
 use Rattle.stable_store.proofs.Readable.{back_has, out_has, whole_out}
+use Rattle.stable_store.specs.Kept.{is_torn_in}
 use Rattle.stable_store.specs.declared.stable.Phase.TheVariants.{Up}
 use Rattle.stable_store.proofs.stable.Stable.flush_page.Goals as goal
 

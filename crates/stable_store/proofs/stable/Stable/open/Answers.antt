@@ -4,7 +4,7 @@ use Rattle.page_store.specs.Store.{Store}
 use Rattle.held_state.specs.Said.{said}
 use Rattle.stable_store.proofs.Openings.{opened_where, stands_where}
 use Rattle.stable_store.proofs.Saying.{log_just}
-use Rattle.std.proofs.Common.{ap, ◌∙◌}
+use Rattle.std.proofs.Common.{ap, sym, ◌∙◌}
 use Rattle.stable_store.proofs.Pages.{tells_on}
 use Rattle.stable_store.proofs.stable.Stable.open.Goals as goal
 

@@ -131,3 +131,6 @@ returns-in-Torn-clause-readable g c = λ is has. absurd (torn_never c.take_down.
 
 pub returns-in-Up-clause-readable : goal.returns-in-Up-clause-readable
 returns-in-Up-clause-readable g c = λ is has. absurd (none_up c.args.self.now.phase c.in-Up.log (sym (ap phase_of c.take_down.ensures.new) ∙ (sym c.recover.ensures.phase ∙ (sym c.replace.ensures.value ∙ c.in-Up.is))))
+
+pub returns-then-is_torn-clause-readable : goal.returns-then-is_torn-clause-readable
+returns-then-is_torn-clause-readable g c = λ is has. c.take_down.ensures.readable (armed_has g.P.Parts.disks c.args.self.now c.disarm.new.self 0 c.disarm.ensures has)
