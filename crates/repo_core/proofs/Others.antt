@@ -21,7 +21,7 @@ use Rattle.two_phase.specs.Contents.{Contents, open_at, request_of}
 use Rattle.two_phase.specs.Walks.{behind, first_open, is_past}
 use Rattle.two_phase.specs.declared.transaction.Transaction.{Transaction}
 
--- what isn't past a timestamp and is opened is the repository's own
+-- what isn't past a timestamp and is open is the repository's own
 abbrev pub Passed : ℕ → Contents → Option Ts → Type 0
 Passed repo c after = (t : Ts) → is_past ts_cmp after t ≡ false → is_some (open_at c t) ≡ true → nat_eq t.repo repo ≡ true
 

@@ -2,7 +2,7 @@
 use Rattle.commit_log.specs.declared.entry.Entry.{Entry}
 use Rattle.disk_trait.specs.AllDisks.{GoesOn, MayLeaveAll, ReadsAs, TellsAll}
 use Rattle.disk_trait.specs.Disks.{Disks, Leaves, OnDisk, WhereTold}
-use Rattle.disk_trait.specs.Fused.{armed, fused_disks}
+use Rattle.disk_trait.specs.Fused.{armed, fused_disks, parts_of}
 use Rattle.disk_trait.specs.declared.fused.Fused.{Fused}
 use Rattle.held_state.specs.Said.{said}
 use Rattle.held_state.specs.declared.held.Held.{Held}
@@ -44,26 +44,30 @@ is_told o bytes told = ap is_some told
 
 -- each disk tells
 pub all_told : (torn : Bool) (sides : List (ℕ × ℕ)) (disks : Disks) → PagesTold torn sides disks → TellsAll disks
-all_told fallen sides disks has zero within = told_at (disks.content 0) has.first_told
-all_told fallen sides disks has (suc zero) within = told_at (disks.content 1) has.second_told
-all_told fallen sides disks has (suc (suc zero)) within = told_at (disks.content 2) has.pages_told
-all_told fallen sides disks has (suc (suc (suc d))) within = let none : ⊥ = omega (arith, within) in absurd none
+all_told broken sides disks has zero within = told_at (disks.content 0) has.first_told
+all_told broken sides disks has (suc zero) within = told_at (disks.content 1) has.second_told
+all_told broken sides disks has (suc (suc zero)) within = told_at (disks.content 2) has.pages_told
+all_told broken sides disks has (suc (suc (suc d))) within = let none : ⊥ = omega (arith, within) in absurd none
 
 -- disks that tell, and their sides are pages
 pub told_pages : (torn : Bool) (sides : List (ℕ × ℕ)) (disks : Disks) → TellsAll disks → WhereTold disks 2 (ArePages sides) → PagesTold torn sides disks
-told_pages fallen sides disks tells are = record {
+told_pages broken sides disks tells are = record {
   first_told = is_told (disks.content 0) (tells 0 (omega arith)).0 (tells 0 (omega arith)).1;
   second_told = is_told (disks.content 1) (tells 1 (omega arith)).0 (tells 1 (omega arith)).1;
   pages_told = is_told (disks.content 2) (tells 2 (omega arith)).0 (tells 2 (omega arith)).1;
   are = λ whole. are;
 }
 
+-- parts that carry a stop
+pub fused_has : {P : Type 0} (disks : P → Disks) (parts : P) (fused : Fused P) (torn : Bool) (sides : List (ℕ × ℕ)) → parts_of fused ≡ parts → TellsAll (disks parts) → WhereTold (disks parts) 2 (ArePages sides) → PagesTold torn sides (fused_disks disks fused)
+fused_has {P = P} disks parts fused broken sides same tells are = subst (λ (p : P). PagesTold broken sides (disks p)) (sym same) (told_pages broken sides (disks parts) tells are)
+
 abbrev pub SameTold : Disks → Disks → Type 0
 SameTold old new = (d : ℕ) → is_some (new.content d) ≡ is_some (old.content d)
 
 -- what is told stays so, and the sides are pages
 pub told_on : (torn now' : Bool) (sides after' : List (ℕ × ℕ)) (old new : Disks) → SameTold old new → (now' ≡ false → WhereTold new 2 (ArePages after')) → PagesTold torn sides old → PagesTold now' after' new
-told_on fallen now' sides after' old new told are has = record {
+told_on broken now' sides after' old new told are has = record {
   first_told = told 0 ∙ has.first_told;
   second_told = told 1 ∙ has.second_told;
   pages_told = told 2 ∙ has.pages_told;
@@ -72,8 +76,8 @@ told_on fallen now' sides after' old new told are has = record {
 
 -- the disk of pages and the sides are the same
 pub told_still : (torn now' : Bool) (sides after' : List (ℕ × ℕ)) (old new : Disks) → SameTold old new → new.content 2 ≡ old.content 2 → after' ≡ sides → (now' ≡ false → torn ≡ false) → PagesTold torn sides old → PagesTold now' after' new
-told_still fallen now' sides after' old new told content same whole has =
-    told_on fallen now' sides after' old new told
+told_still broken now' sides after' old new told content same whole has =
+    told_on broken now' sides after' old new told
     (λ is disk told. subst (λ (ps : List (ℕ × ℕ)). ArePages ps disk) (sym same) (has.are (whole is) disk (sym content ∙ told))) has
 
 -- of a repository
@@ -190,16 +194,16 @@ put_has disks store parts held log repo page side told content stood flushed sam
 
 -- sides in use that are pages aren't damaged
 pub never_damage : (torn : Bool) (sides : List (ℕ × ℕ)) (disks : Disks) (page place : ℕ) → torn ≡ false → PagesTold torn sides disks → IsDamage disks sides page place → ⊥
-never_damage fallen sides disks page place whole has damage =
+never_damage broken sides disks page place whole has damage =
     let pages = told_at (disks.content 2) has.pages_told in
     let there = has.are whole pages.0 pages.1 page damage.side damage.in_use in
     damage.none pages.0 pages.1 there.0 there.1
 
 -- nor is the page of the oldest object, where a flush of none does nothing
-pub never_oldest : (objects : Objects) (disks : Disks) (fallen : Bool) (sides : List (ℕ × ℕ)) (place : ℕ) (result : Result Flushed StoreFault) → result ≡ Err (Damaged place) → (objects ≡ [] → result ≡ Ok Nothing) → fallen ≡ false → PagesTold fallen sides disks
+pub never_oldest : (objects : Objects) (disks : Disks) (broken : Bool) (sides : List (ℕ × ℕ)) (place : ℕ) (result : Result Flushed StoreFault) → result ≡ Err (Damaged place) → (objects ≡ [] → result ≡ Ok Nothing) → broken ≡ false → PagesTold broken sides disks
     → IfSome (slice_get objects 0) (λ q. IsDamage disks sides q.0.page place) → ⊥
-never_oldest [] disks fallen sides place result is empty whole has damage = (let done = empty refl in cc)
-never_oldest (q ∷ qs) disks fallen sides place result is empty whole has damage = never_damage fallen sides disks q.0.page place whole has damage
+never_oldest [] disks broken sides place result is empty whole has damage = (let done = empty refl in cc)
+never_oldest (q ∷ qs) disks broken sides place result is empty whole has damage = never_damage broken sides disks q.0.page place whole has damage
 
 -- ---- a restart
 
@@ -212,11 +216,11 @@ read_keeps old new h pending says read were tells before was disk told =
 
 -- it stays down
 pub stays_told : (torn : Bool) (old new : Disks) (h : Held) (pending : Option Entry) → ImagesSay old h pending → ReadIsLeft old new → SameTold old new → torn ≡ false → PagesTold torn h.objects.pages.sides old → PagesTold false h.objects.pages.sides new
-stays_told fallen old new h pending says read told whole has =
-    let were = all_told fallen h.objects.pages.sides old has in
+stays_told broken old new h pending says read told whole has =
+    let were = all_told broken h.objects.pages.sides old has in
     let before = were 2 (omega arith) in
     let tells : TellsAll new = λ d within. told_at (new.content d) (told d ∙ is_told (old.content d) (were d within).0 (were d within).1) in
-    told_on fallen false h.objects.pages.sides h.objects.pages.sides old new told
+    told_on broken false h.objects.pages.sides h.objects.pages.sides old new told
     (λ is disk there. pages_kept h.objects.pages.sides before.0 disk (read_keeps old new h pending says read were tells before.0 before.1 disk there) (has.are whole before.0 before.1)) has
 
 one_state : (s t : State) (o : Option State) → o ≡ Some s → o ≡ Some t → s ≡ t
@@ -224,9 +228,9 @@ one_state s t o a b = cc
 
 -- it comes up with what was found
 pub comes_told : (torn : Bool) (old new : Disks) (h found : Held) (pending : Option Entry) (log : Place) → ImagesSay old h pending → ReadIsLeft old new → ReadIsLeft new new → Holds new log (said found) → SameTold old new → torn ≡ false → PagesTold torn h.objects.pages.sides old → PagesTold false found.objects.pages.sides new
-comes_told fallen old new h found pending log says read here holds told whole has =
+comes_told broken old new h found pending log says read here holds told whole has =
     let sides = h.objects.pages.sides in
-    let were = all_told fallen sides old has in
+    let were = all_told broken sides old has in
     let before = were 2 (omega arith) in
     let tells : TellsAll new = λ d within. told_at (new.content d) (told d ∙ is_told (old.content d) (were d within).0 (were d within).1) in
     let now' = reads_of new tells in
@@ -234,7 +238,7 @@ comes_told fallen old new h found pending log says read here holds told whole ha
     let one = says.each were now'.0 (read now'.0 now'.1) in
     let stood : stands now'.0 ≡ Some (said found) = log_says new log (said found) holds tells now'.0 (λ d within. there d (omega (arith, within))) in
     let same : one.state ≡ said found = one_state one.state (said found) (stands now'.0) one.stands stood in
-    told_on fallen false sides found.objects.pages.sides old new told
+    told_on broken false sides found.objects.pages.sides old new told
     (λ is disk read_as.
         let reads : now'.0 2 ≡ disk = one_disk (new.content 2) (now'.0 2) disk (now'.1 2 (omega arith)) read_as in
         let keeps = says.keeps were now'.0 (read now'.0 now'.1) before.0 before.1 in

@@ -70,7 +70,6 @@ pub struct Stable<P> {
 
 impl<P: Parts> Stable<P> {
     /// A repository that is up.
-    #[tactic(auto, using(crate::proofs::Readable::told_pages))]
     pub fn new(parts: P, log: CommitLog, held: HeldState) -> Stable<P>
         requires { IsOpen (P.disks parts) log held }
         ensures kept { IsKept P.disks result }

@@ -8,7 +8,7 @@ use Rattle.stable_store.proofs.Opened.{holds_beside, opened_beside, repo_of}
 use Rattle.stable_store.proofs.Pages.{reach_written}
 use Rattle.stable_store.proofs.Saying.{images_beside, log_beside, log_same}
 use Rattle.stable_store.specs.Kept.{disks_of, is_torn}
-use Rattle.std.proofs.Common.{Err, ap, refl}
+use Rattle.std.proofs.Common.{Err, ap, refl, ◌∙◌}
 use Rattle.stable_store.proofs.Readable.{never_oldest, written_has}
 use Rattle.stable_store.proofs.Returning.{same_err}
 use Rattle.page_store.specs.declared.fault.StoreFault.{StoreFault}
