@@ -6,7 +6,7 @@ ghost use Rattle.repo_core.specs.Behind.{HasMoved, Stands};
 ghost use Rattle.thor_value.specs.Spelling.{TsFits};
 ghost use Rattle.repository_laws.specs.Coming.{Moves};
 ghost use Rattle.thor_value.specs.FiniteMap.{has};
-ghost use Rattle.repo_core.specs.Shown.{faults_of};
+ghost use Rattle.repo_core.specs.Shown.{faults_of, ShowsPages};
 ghost use Rattle.stable_store.specs.Failing.{HasFailed, is_stopped};
 ghost use Rattle.trace_record.specs.Recorded.{with_entry};
 ghost use Rattle.two_phase.specs.Contents.{open_at};
@@ -28,6 +28,8 @@ impl<P: Parts> Repo<P> {
     #[tactic(auto, using(crate::proofs::Refused::leaves_down, crate::proofs::Refused::leaves_finished, crate::proofs::Causes::why_down, crate::proofs::Causes::why_fault, crate::proofs::Causes::damaged_none, crate::proofs::Failing::stopped_none, crate::proofs::Failing::failed_shown))]
     pub fn finish(&mut self, verdict: &Verdict) -> Result<Option<u64>, Refusal>
         ensures stands { Stands self.old.is_up result self.new.is_up }
+        ensures readable { ShowsPages self.old → ShowsPages self.new }
+        ensures never { (n place : ℕ) → IsErrOf result (IsDamaged n place) → ShowsPages self.old → ⊥ }
         ensures held { OnOk result (is_some (open_at self.old.held.table verdict.now.tx) ≡ true → HasMoved self.old.held (Finishes verdict.now.tx verdict.now.commit) self.new.held) }
         ensures limit { OnOk result (self.new.held.objects.mob.limit ≡ self.old.held.objects.mob.limit) }
         ensures memory { is_some (open_at self.old.held.table verdict.now.tx) ≡ true → has self.old.memory.queue.members verdict.now.tx ≡ true → OnOk result (Moves self.old.held self.old.memory (Finishes verdict.now.tx verdict.now.commit) self.new.memory) }

@@ -11,11 +11,12 @@ ghost use Rattle.stable_store.specs.Kept.{IsKept, RestsWith, disks_of, held_of, 
 ghost use Rattle.stable_store.specs.Saying.{IsSaid};
 ghost use Rattle.commit_log.specs.declared.entry.Entry.{Entry as AnEntry};
 ghost use Rattle.repo_core.specs.Refusing.{Leaves};
-ghost use Rattle.repo_core.specs.Shown.{faults_of};
+ghost use Rattle.repo_core.specs.Shown.{faults_of, ShowsPages};
 ghost use Rattle.stable_store.specs.Failing.{HasFailed, NoFewer, is_stopped};
 ghost use Rattle.stable_store.specs.Flushes.{HasFlushed};
 ghost use Rattle.refusal_reasons.specs.declared.reason.Reason.TheVariants.{Full as IsFull};
-ghost use Rattle.validation_window.specs.declared.refusal.Refusal.TheVariants.{Reason as IsReason, Stopped as IsStopped};
+ghost use Rattle.validation_window.specs.declared.refusal.Refusal.TheVariants.{Reason as IsReason, Stopped as IsStopped, Damaged as IsDamaged};
+ghost use Rattle.stable_store.specs.Pages.{HasPages};
 
 use crate::repo::Repo;
 use disk_trait::Parts;
@@ -44,11 +45,13 @@ impl<P: Parts> Repo<P> {
     }
 
     /// Flushes pages until writes fit into the buffer beside what is there, or it is empty.
-    #[tactic(auto, using(crate::proofs::Refused::leaves_down, crate::proofs::Refused::falls_with, crate::proofs::Refused::lasts_same, crate::proofs::Failing::failed_between, crate::proofs::Failing::ok_shown, crate::proofs::Failing::err_shown, crate::proofs::Failing::fewer_between, crate::proofs::Failing::fewer_same, stable_store::proofs::Flushes::flushed_none))]
+    #[tactic(auto, using(crate::proofs::Refused::leaves_down, crate::proofs::Refused::falls_with, crate::proofs::Refused::lasts_same, crate::proofs::Failing::failed_between, crate::proofs::Failing::ok_shown, crate::proofs::Failing::err_shown, crate::proofs::Failing::fewer_between, crate::proofs::Failing::fewer_same, stable_store::proofs::Flushes::flushed_none, crate::proofs::Readable::shown_has))]
     pub(crate) fn make_room(&mut self, writes: &Writes) -> Result<(), Refusal>
         requires up { self.old.is_up ≡ true }
         requires fits { AllByRecursion CanStand writes.now }
         ensures stands { Stands true result self.new.is_up }
+        ensures readable { ShowsPages self.old → ShowsPages self.new }
+        ensures never { (n place : ℕ) → IsErrOf result (IsDamaged n place) → ShowsPages self.old → ⊥ }
         ensures fault { IfErr result (λ r. (is_fault r ≡ true) × (is_marked r ≡ false)) }
         ensures made { MakesRoom self.old self.new }
         ensures stays { HasRoom self.old.held writes.now → self.new ≡ self.old }
@@ -65,10 +68,12 @@ impl<P: Parts> Repo<P> {
     }
 
     /// Does so for the writes of a transaction that is open here, where it commits.
-    #[tactic(auto, using(crate::proofs::Refused::leaves_down, crate::proofs::Refused::falls_with, crate::proofs::Refused::lasts_same, crate::proofs::Failing::failed_between, crate::proofs::Failing::ok_shown, crate::proofs::Failing::err_shown, crate::proofs::Failing::fewer_between, crate::proofs::Failing::fewer_same, stable_store::proofs::Flushes::flushed_none))]
+    #[tactic(auto, using(crate::proofs::Refused::leaves_down, crate::proofs::Refused::falls_with, crate::proofs::Refused::lasts_same, crate::proofs::Failing::failed_between, crate::proofs::Failing::ok_shown, crate::proofs::Failing::err_shown, crate::proofs::Failing::fewer_between, crate::proofs::Failing::fewer_same, stable_store::proofs::Flushes::flushed_none, crate::proofs::Readable::shown_has))]
     pub(crate) fn make_room_for(&mut self, tx: Ts, commit: bool) -> Result<(), Refusal>
         requires { self.old.is_up ≡ true }
         ensures stands { Stands true result self.new.is_up }
+        ensures readable { ShowsPages self.old → ShowsPages self.new }
+        ensures never { (n place : ℕ) → IsErrOf result (IsDamaged n place) → ShowsPages self.old → ⊥ }
         ensures fault { IfErr result (λ r. (is_fault r ≡ true) × (is_marked r ≡ false)) }
         ensures made { MakesRoom self.old self.new }
         ensures stays { HasRoomFor self.old.held tx commit → self.new ≡ self.old }
@@ -96,6 +101,8 @@ fn make_room<P: Parts>(stable: &mut Stable<P>, writes: &Writes) -> Result<(), Re
     requires up { is_up stable.old ≡ true }
     requires fits { AllByRecursion CanStand writes.now }
     ensures kept { IsKept P.disks stable.new }
+    ensures readable { HasPages P.disks stable.old → HasPages P.disks stable.new }
+    ensures never { (n place : ℕ) → IsErrOf result (IsDamaged n place) → HasPages P.disks stable.old → ⊥ }
     ensures says { IsSaid P.disks stable.new }
     ensures stands { Stands true result (is_up stable.new) }
     ensures fault { IfErr result (λ r. (is_fault r ≡ true) × (is_marked r ≡ false)) }
@@ -125,6 +132,8 @@ fn flush_for<P: Parts>(stable: &mut Stable<P>, writes: &Writes) -> Result<(), Re
     requires up { is_up stable.old ≡ true }
     requires fits { AllByRecursion CanStand writes.now }
     ensures kept { IsKept P.disks stable.new }
+    ensures readable { HasPages P.disks stable.old → HasPages P.disks stable.new }
+    ensures never { (n place : ℕ) → IsErrOf result (IsDamaged n place) → HasPages P.disks stable.old → ⊥ }
     ensures says { IsSaid P.disks stable.new }
     ensures stands { Stands true result (is_up stable.new) }
     ensures fault { IfErr result (λ r. (is_fault r ≡ true) × (is_marked r ≡ false)) }
@@ -157,6 +166,8 @@ fn make_room_for<P: Parts>(stable: &mut Stable<P>, tx: Ts) -> Result<(), Refusal
     requires says { IsSaid P.disks stable.old }
     requires up { is_up stable.old ≡ true }
     ensures kept { IsKept P.disks stable.new }
+    ensures readable { HasPages P.disks stable.old → HasPages P.disks stable.new }
+    ensures never { (n place : ℕ) → IsErrOf result (IsDamaged n place) → HasPages P.disks stable.old → ⊥ }
     ensures says { IsSaid P.disks stable.new }
     ensures stands { Stands true result (is_up stable.new) }
     ensures fault { IfErr result (λ r. (is_fault r ≡ true) × (is_marked r ≡ false)) }
@@ -184,6 +195,8 @@ fn flush_open<P: Parts>(stable: &mut Stable<P>, tx: Ts) -> Result<(), Refusal>
     requires says { IsSaid P.disks stable.old }
     requires up { is_up stable.old ≡ true }
     ensures kept { IsKept P.disks stable.new }
+    ensures readable { HasPages P.disks stable.old → HasPages P.disks stable.new }
+    ensures never { (n place : ℕ) → IsErrOf result (IsDamaged n place) → HasPages P.disks stable.old → ⊥ }
     ensures says { IsSaid P.disks stable.new }
     ensures stands { Stands true result (is_up stable.new) }
     ensures fault { IfErr result (λ r. (is_fault r ≡ true) × (is_marked r ≡ false)) }

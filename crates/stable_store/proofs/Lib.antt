@@ -6,6 +6,7 @@ pub mod Lowered
 pub mod Opened
 pub mod Openings
 pub mod Pages
+pub mod Readable
 pub mod Reaching
 pub mod Remembering
 pub mod Returning

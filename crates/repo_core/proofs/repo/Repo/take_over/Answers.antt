@@ -10,6 +10,7 @@ use Rattle.validation_window.specs.declared.refusal.Refusal.TheVariants.{Damaged
 use Rattle.repo_core.proofs.Failing.{counts_between, err_shown}
 use Rattle.stable_store.proofs.Counting.{err_through, if_err_any, stays_then}
 use Rattle.stable_store.proofs.Returning.{on_ok_any}
+use Rattle.repo_core.proofs.Readable.{shown_has}
 use Rattle.repo_core.proofs.repo.Repo.take_over.Goals as goal
 
 pub returns-in-Pending-clause-takes : goal.returns-in-Pending-clause-takes
@@ -75,3 +76,18 @@ pub returns-in-Pending-clause-quiet : goal.returns-in-Pending-clause-quiet
 returns-in-Pending-clause-quiet g c =
     let i = c.self.inside in
     if_err_any c.take_pending.result _ (counts_between (disks_of g.P.Parts.disks i.stable) (disks_of g.P.Parts.disks c.take_pending.new.stable) c.args.self.now (shown g.P.Parts.disks c.take_pending.new.stable c.take_pending.new.memory c.take_pending.new.trace i.opened_in) (ap (λ (s : Shown). s.faults) c.self.view_is) refl (stays_then (disks_of g.P.Parts.disks i.stable) (disks_of g.P.Parts.disks c.restart.new.self) (disks_of g.P.Parts.disks c.take_pending.new.stable) c.in_ok-restart.ensures.steady c.take_pending.ensures.faults))
+
+pub returns-in_err-restart-clause-readable : goal.returns-in_err-restart-clause-readable
+returns-in_err-restart-clause-readable g c = λ has.
+    let i = c.self.inside in
+    c.restart.ensures.readable c.self.invariant.1 (shown_has g.P.Parts.disks i.stable i.memory i.trace i.opened_in c.args.self.now c.self.view_is has)
+
+pub returns-in-Held-clause-readable : goal.returns-in-Held-clause-readable
+returns-in-Held-clause-readable g c = λ has.
+    let i = c.self.inside in
+    c.restart.ensures.readable c.self.invariant.1 (shown_has g.P.Parts.disks i.stable i.memory i.trace i.opened_in c.args.self.now c.self.view_is has)
+
+pub returns-in-Pending-clause-readable : goal.returns-in-Pending-clause-readable
+returns-in-Pending-clause-readable g c = λ has.
+    let i = c.self.inside in
+    c.take_pending.ensures.readable (c.restart.ensures.readable c.self.invariant.1 (shown_has g.P.Parts.disks i.stable i.memory i.trace i.opened_in c.args.self.now c.self.view_is has))

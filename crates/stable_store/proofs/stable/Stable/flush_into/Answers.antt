@@ -11,6 +11,12 @@ use Rattle.stable_store.specs.Kept.{disks_of}
 use Rattle.std.proofs.Common.{ap}
 use Rattle.stable_store.proofs.Counting.{err_behind, ok_behind, stays_on, store_quiet}
 use Rattle.std.proofs.Common.{sym, ◌∙◌}
+use Rattle.stable_store.specs.Kept.{is_torn}
+use Rattle.std.proofs.Common.{Err, refl}
+use Rattle.stable_store.proofs.Readable.{never_oldest, written_has}
+use Rattle.stable_store.proofs.Returning.{same_err}
+use Rattle.page_store.specs.declared.fault.StoreFault.{StoreFault}
+use Rattle.validation_window.specs.declared.refusal.Refusal.TheVariants.{Damaged as IsDamaged}
 use Rattle.stable_store.proofs.stable.Stable.flush_into.Goals as goal
 
 pub put_flushed-requires-clause-opened : goal.put_flushed-requires-clause-opened
@@ -36,7 +42,7 @@ returns-in-Ok-clause-images g c = λ says.
 pub returns-in-Err-clause-images : goal.returns-in-Err-clause-images
 returns-in-Err-clause-images g c = λ says.
     images_beside (disks_of g.P.Parts.disks c.args.self.now) (fused_disks g.P.Parts.disks c.flush_one.new.parts) c.args.log.now c.args.self.now.held c.flush_one.new.self says c.flush_one.ensures.alone c.flush_one.ensures.said
-    (reach_written (disks_of g.P.Parts.disks c.args.self.now) (fused_disks g.P.Parts.disks c.flush_one.new.parts) c.args.log.now c.args.self.now.held c.requires.opened c.flush_one.ensures.alone c.flush_one.ensures.any_moment)
+    (reach_written (disks_of g.P.Parts.disks c.args.self.now) (fused_disks g.P.Parts.disks c.flush_one.new.parts) c.args.log.now c.args.self.now.held c.requires.opened c.flush_one.ensures.alone c.flush_one.ensures.any_moment c.read_is_left-in-Err.ensures)
 
 pub returns-in-Ok-clause-stopped : goal.returns-in-Ok-clause-stopped
 returns-in-Ok-clause-stopped g c = λ r wrong.
@@ -68,3 +74,25 @@ returns-in-Err-clause-quiet g c = λ other.
     let old = disks_of g.P.Parts.disks c.args.self.now in
     let now = fused_disks g.P.Parts.disks c.flush_one.new.parts in
     store_quiet c.flush_one.result c.in-Err.fault _ c.in-Err.is (λ w. stays_on old now 2 c.flush_one.ensures.alone (c.flush_one.ensures.wanting w)) (λ place w. stays_on old now 2 c.flush_one.ensures.alone (c.flush_one.ensures.harmed place w)) (sym c.of_store.ensures.stops ∙ other)
+
+pub returns-in-Ok-clause-readable : goal.returns-in-Ok-clause-readable
+returns-in-Ok-clause-readable g c = λ has.
+    let store = c.args.self.now in
+    let goes = goes_one (disks_of g.P.Parts.disks store) (fused_disks g.P.Parts.disks c.flush_one.new.parts) 2 c.flush_one.ensures.alone in
+    c.put_flushed.ensures.readable (written_has g.P.Parts.disks store c.flush_one.new.parts c.flush_one.new.self goes.told c.flush_one.ensures.alone c.flush_one.ensures.any_moment c.read_is_left.ensures c.flush_one.ensures.said has)
+
+pub returns-in-Err-clause-readable : goal.returns-in-Err-clause-readable
+returns-in-Err-clause-readable g c = λ has.
+    let store = c.args.self.now in
+    let goes = goes_one (disks_of g.P.Parts.disks store) (fused_disks g.P.Parts.disks c.flush_one.new.parts) 2 c.flush_one.ensures.alone in
+    written_has g.P.Parts.disks store c.flush_one.new.parts c.flush_one.new.self goes.told c.flush_one.ensures.alone c.flush_one.ensures.any_moment c.read_is_left-in-Err.ensures c.flush_one.ensures.said has
+
+pub returns-in-Err-clause-never : goal.returns-in-Err-clause-never
+returns-in-Err-clause-never g c = λ r place wrong whole has.
+    let store = c.args.self.now in
+    let is = c.of_store.ensures.damaged r place (same_err _ c.of_store.result (IsDamaged r place) refl wrong) in
+    let damaged = c.in-Err.is ∙ ap (λ (f : StoreFault). Err f) is in
+    never_oldest store.held.objects.mob.objects (disks_of g.P.Parts.disks store) (is_torn store) store.held.objects.pages.sides place c.flush_one.result damaged c.flush_one.ensures.empty whole has (c.flush_one.ensures.damaged place damaged)
+
+pub returns-in-Ok-clause-never : goal.returns-in-Ok-clause-never
+returns-in-Ok-clause-never g c = λ r place wrong whole has. c.put_flushed.ensures.damaged r place wrong

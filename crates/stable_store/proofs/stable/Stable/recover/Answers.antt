@@ -12,6 +12,7 @@ use Rattle.validation_window.specs.declared.refusal.Refusal.TheVariants.{Damaged
 use Rattle.stable_store.specs.Kept.{disks_of, held_of}
 use Rattle.stable_store.specs.Saying.{FindsOneOf}
 use Rattle.stable_store.proofs.Counting.{err_behind, ok_behind, outage_quiet, recovery_quiet, stays_then}
+use Rattle.stable_store.proofs.Returning.{reads_same}
 use Rattle.stable_store.proofs.stable.Stable.recover.Goals as goal
 
 pub returns-in-Ok-Some-clause-crash : goal.returns-in-Ok-Some-clause-crash
@@ -138,3 +139,33 @@ returns-in-Err-found-clause-quiet g c = λ other.
     let read = fused_disks g.P.Parts.disks c.recover-found.new.parts in
     stays_then old mid read c.in_default.ensures.steady
     (recovery_quiet c.recover-found.result c.in-Err-found.fault _ c.in-Err-found.is c.recover-found.ensures.wanting c.recover-found.ensures.harmed (sym c.of_recovery.ensures.stops ∙ other))
+
+pub returns-in-Ok-Some-clause-left : goal.returns-in-Ok-Some-clause-left
+returns-in-Ok-Some-clause-left g c = λ bytes reads.
+    let old = disks_of g.P.Parts.disks c.args.self.now in
+    let mid = fused_disks g.P.Parts.disks c.restart_all.new.parts in
+    let read = fused_disks g.P.Parts.disks c.recover-found.new.parts in
+    let more = more_then old mid read (more_run old mid c.restart_all.ensures.any_moment) (more_run mid read c.recover-found.ensures.any_moment) in
+    more.images bytes (c.content_is_left.ensures bytes (reads_same read (disks_of g.P.Parts.disks c.reached.new.self) bytes c.reached.ensures.content reads))
+
+pub returns-in-Ok-None-clause-left : goal.returns-in-Ok-None-clause-left
+returns-in-Ok-None-clause-left g c = λ bytes reads.
+    let old = disks_of g.P.Parts.disks c.args.self.now in
+    let mid = fused_disks g.P.Parts.disks c.restart_all.new.parts in
+    let read = fused_disks g.P.Parts.disks c.recover-found.new.parts in
+    let more = more_then old mid read (more_run old mid c.restart_all.ensures.any_moment) (more_run mid read c.recover-found.ensures.any_moment) in
+    more.images bytes (c.content_is_left.ensures bytes reads)
+
+pub returns-in-Err-found-clause-left : goal.returns-in-Err-found-clause-left
+returns-in-Err-found-clause-left g c = λ bytes reads.
+    let old = disks_of g.P.Parts.disks c.args.self.now in
+    let mid = fused_disks g.P.Parts.disks c.restart_all.new.parts in
+    let read = fused_disks g.P.Parts.disks c.recover-found.new.parts in
+    let more = more_then old mid read (more_run old mid c.restart_all.ensures.any_moment) (more_run mid read c.recover-found.ensures.any_moment) in
+    more.images bytes (c.content_is_left.ensures bytes reads)
+
+pub returns-in-Err-clause-left : goal.returns-in-Err-clause-left
+returns-in-Err-clause-left g c = λ bytes reads.
+    let old = disks_of g.P.Parts.disks c.args.self.now in
+    let mid = fused_disks g.P.Parts.disks c.restart_all.new.parts in
+    (more_run old mid c.restart_all.ensures.any_moment).images bytes (c.read_is_left.ensures bytes reads)
