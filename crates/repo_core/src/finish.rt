@@ -11,7 +11,7 @@ ghost use Rattle.stable_store.specs.Failing.{HasFailed, is_stopped};
 ghost use Rattle.trace_record.specs.Recorded.{with_entry};
 ghost use Rattle.two_phase.specs.Contents.{open_at};
 ghost use Rattle.repo_core.specs.Moving.{HasRoomFor};
-ghost use Rattle.repo_core.specs.Refusing.{CanRefuse, GoesDown, HasNoReason, Leaves};
+ghost use Rattle.repo_core.specs.Refusing.{CanRefuse, GoesDown, HasNoReason, IsPageDamage, Leaves};
 ghost use Rattle.repo_core.specs.Telling.{Tells};
 ghost use Rattle.validation_window.specs.declared.refusal.Refusal.TheVariants.{Damaged as IsDamaged, Stopped as IsStopped};
 
@@ -42,6 +42,7 @@ impl<P: Parts> Repo<P> {
         ensures left { IfErr result (Leaves self.old self.new (cond (is_some (open_at self.old.held.table verdict.now.tx)) (Some (Finishes verdict.now.tx verdict.now.commit)) None)) }
         ensures pages { HasRoomFor self.old.held verdict.now.tx verdict.now.commit → self.new.pages ≡ self.old.pages }
         ensures damaged { (n place : ℕ) → IsErrOf result (IsDamaged n place) → GoesDown self.old self.new None }
+        ensures page { (n place : ℕ) → IsErrOf result (IsDamaged n place) → (page : ℕ) × IsPageDamage self.new page place }
         ensures stopped { (n : ℕ) → IsErrOf result (IsStopped n) → HasFailed (faults_of self.old) (faults_of self.new) }
         ensures steady { OnOk result (self.new.faults ≡ self.old.faults) }
         ensures quiet { IfErr result (λ r. is_stopped r ≡ false → self.new.faults ≡ self.old.faults) }

@@ -10,7 +10,7 @@ ghost use Rattle.repo_core.specs.Shown.{faults_of, ShowsPages};
 ghost use Rattle.stable_store.specs.Failing.{HasFailed, is_stopped};
 ghost use Rattle.trace_record.specs.Recorded.{with_entry};
 ghost use Rattle.volatile_state.specs.Volatile.{entered, verdict};
-ghost use Rattle.repo_core.specs.Refusing.{CanRefuse, GoesDown, Leaves, made_of};
+ghost use Rattle.repo_core.specs.Refusing.{CanRefuse, GoesDown, IsPageDamage, Leaves, made_of};
 ghost use Rattle.validation_window.specs.declared.refusal.Refusal.TheVariants.{Damaged as IsDamaged, Stopped as IsStopped};
 
 use crate::repo::Repo;
@@ -41,6 +41,7 @@ impl<P: Parts> Repo<P> {
         ensures refused { IfErr result (λ r. self.new.trace ≡ with_refusal self.old.trace session (Some request) r) }
         ensures left { IfErr result (Leaves self.old self.new (made_of (judged self.old.held self.old.memory session request) (Prepares request))) }
         ensures damaged { (n place : ℕ) → IsErrOf result (IsDamaged n place) → GoesDown self.old self.new None }
+        ensures page { (n place : ℕ) → IsErrOf result (IsDamaged n place) → (page : ℕ) × IsPageDamage self.new page place }
         ensures stopped { (n : ℕ) → IsErrOf result (IsStopped n) → HasFailed (faults_of self.old) (faults_of self.new) }
         ensures steady { OnOk result (self.new.faults ≡ self.old.faults) }
         ensures quiet { IfErr result (λ r. is_stopped r ≡ false → self.new.faults ≡ self.old.faults) }

@@ -10,12 +10,13 @@ ghost use Rattle.repo_core.specs.Moving.{HasRoom, HasRoomFor, MakesRoom};
 ghost use Rattle.stable_store.specs.Kept.{IsKept, RestsWith, disks_of, held_of, is_fault, is_up, repo_named};
 ghost use Rattle.stable_store.specs.Saying.{IsSaid};
 ghost use Rattle.commit_log.specs.declared.entry.Entry.{Entry as AnEntry};
-ghost use Rattle.repo_core.specs.Refusing.{Leaves};
+ghost use Rattle.repo_core.specs.Refusing.{IsPageDamage, Leaves};
 ghost use Rattle.repo_core.specs.Shown.{faults_of, ShowsPages};
 ghost use Rattle.stable_store.specs.Failing.{HasFailed, NoFewer, is_stopped};
 ghost use Rattle.stable_store.specs.Flushes.{HasFlushed};
 ghost use Rattle.refusal_reasons.specs.declared.reason.Reason.TheVariants.{Full as IsFull};
 ghost use Rattle.validation_window.specs.declared.refusal.Refusal.TheVariants.{Reason as IsReason, Stopped as IsStopped, Damaged as IsDamaged};
+ghost use Rattle.page_store.specs.Store.{IsDamage};
 ghost use Rattle.stable_store.specs.Pages.{HasPages};
 
 use crate::repo::Repo;
@@ -45,7 +46,7 @@ impl<P: Parts> Repo<P> {
     }
 
     /// Flushes pages until writes fit into the buffer beside what is there, or it is empty.
-    #[tactic(auto, using(crate::proofs::Refused::leaves_down, crate::proofs::Refused::falls_with, crate::proofs::Refused::lasts_same, crate::proofs::Failing::failed_between, crate::proofs::Failing::ok_shown, crate::proofs::Failing::err_shown, crate::proofs::Failing::fewer_between, crate::proofs::Failing::fewer_same, stable_store::proofs::Flushes::flushed_none, crate::proofs::Readable::shown_has))]
+    #[tactic(auto, using(crate::proofs::Refused::leaves_down, crate::proofs::Refused::falls_with, crate::proofs::Refused::lasts_same, crate::proofs::Damage::some_shown, crate::proofs::Failing::failed_between, crate::proofs::Failing::ok_shown, crate::proofs::Failing::err_shown, crate::proofs::Failing::fewer_between, crate::proofs::Failing::fewer_same, stable_store::proofs::Flushes::flushed_none, crate::proofs::Readable::shown_has))]
     pub(crate) fn make_room(&mut self, writes: &Writes) -> Result<(), Refusal>
         requires up { self.old.is_up ≡ true }
         requires fits { AllByRecursion CanStand writes.now }
@@ -58,6 +59,7 @@ impl<P: Parts> Repo<P> {
         ensures left { IfErr result (λ r. (e : Option AnEntry) → Leaves self.old self.new e r) }
         ensures names { IfErr result (λ r. repo_named self.old.held.repo r ≡ self.old.held.repo) }
         ensures stopped { (n : ℕ) → IsErrOf result (IsStopped n) → HasFailed (faults_of self.old) (faults_of self.new) }
+        ensures page { (n place : ℕ) → IsErrOf result (IsDamaged n place) → (page : ℕ) × IsPageDamage self.new page place }
         ensures steady { OnOk result (self.new.faults ≡ self.old.faults) }
         ensures quiet { IfErr result (λ r. is_stopped r ≡ false → self.new.faults ≡ self.old.faults) }
         ensures faults { NoFewer (faults_of self.old) (faults_of self.new) }
@@ -68,7 +70,7 @@ impl<P: Parts> Repo<P> {
     }
 
     /// Does so for the writes of a transaction that is open here, where it commits.
-    #[tactic(auto, using(crate::proofs::Refused::leaves_down, crate::proofs::Refused::falls_with, crate::proofs::Refused::lasts_same, crate::proofs::Failing::failed_between, crate::proofs::Failing::ok_shown, crate::proofs::Failing::err_shown, crate::proofs::Failing::fewer_between, crate::proofs::Failing::fewer_same, stable_store::proofs::Flushes::flushed_none, crate::proofs::Readable::shown_has))]
+    #[tactic(auto, using(crate::proofs::Refused::leaves_down, crate::proofs::Refused::falls_with, crate::proofs::Refused::lasts_same, crate::proofs::Damage::some_shown, crate::proofs::Failing::failed_between, crate::proofs::Failing::ok_shown, crate::proofs::Failing::err_shown, crate::proofs::Failing::fewer_between, crate::proofs::Failing::fewer_same, stable_store::proofs::Flushes::flushed_none, crate::proofs::Readable::shown_has))]
     pub(crate) fn make_room_for(&mut self, tx: Ts, commit: bool) -> Result<(), Refusal>
         requires { self.old.is_up ≡ true }
         ensures stands { Stands true result self.new.is_up }
@@ -80,6 +82,7 @@ impl<P: Parts> Repo<P> {
         ensures left { IfErr result (λ r. (e : Option AnEntry) → Leaves self.old self.new e r) }
         ensures names { IfErr result (λ r. repo_named self.old.held.repo r ≡ self.old.held.repo) }
         ensures stopped { (n : ℕ) → IsErrOf result (IsStopped n) → HasFailed (faults_of self.old) (faults_of self.new) }
+        ensures page { (n place : ℕ) → IsErrOf result (IsDamaged n place) → (page : ℕ) × IsPageDamage self.new page place }
         ensures steady { OnOk result (self.new.faults ≡ self.old.faults) }
         ensures quiet { IfErr result (λ r. is_stopped r ≡ false → self.new.faults ≡ self.old.faults) }
         ensures faults { NoFewer (faults_of self.old) (faults_of self.new) }
@@ -113,6 +116,7 @@ fn make_room<P: Parts>(stable: &mut Stable<P>, writes: &Writes) -> Result<(), Re
     ensures rests { OnErr result (RestsWith None stable.new) }
     ensures names { IfErr result (λ r. repo_named (held_of stable.old).repo r ≡ (held_of stable.old).repo) }
     ensures stopped { (n : ℕ) → IsErrOf result (IsStopped n) → HasFailed (disks_of P.disks stable.old).faults (disks_of P.disks stable.new).faults }
+    ensures page { (n place : ℕ) → IsErrOf result (IsDamaged n place) → (page : ℕ) × IsDamage (disks_of P.disks stable.new) (held_of stable.new).objects.pages.sides page place }
     ensures steady { OnOk result (NoFault (disks_of P.disks stable.old) (disks_of P.disks stable.new)) }
     ensures quiet { IfErr result (λ r. is_stopped r ≡ false → NoFault (disks_of P.disks stable.old) (disks_of P.disks stable.new)) }
     ensures faults { NoFewer (disks_of P.disks stable.old).faults (disks_of P.disks stable.new).faults }
@@ -143,6 +147,7 @@ fn flush_for<P: Parts>(stable: &mut Stable<P>, writes: &Writes) -> Result<(), Re
     ensures rests { OnErr result (RestsWith None stable.new) }
     ensures names { IfErr result (λ r. repo_named (held_of stable.old).repo r ≡ (held_of stable.old).repo) }
     ensures stopped { (n : ℕ) → IsErrOf result (IsStopped n) → HasFailed (disks_of P.disks stable.old).faults (disks_of P.disks stable.new).faults }
+    ensures page { (n place : ℕ) → IsErrOf result (IsDamaged n place) → (page : ℕ) × IsDamage (disks_of P.disks stable.new) (held_of stable.new).objects.pages.sides page place }
     ensures steady { OnOk result (NoFault (disks_of P.disks stable.old) (disks_of P.disks stable.new)) }
     ensures quiet { IfErr result (λ r. is_stopped r ≡ false → NoFault (disks_of P.disks stable.old) (disks_of P.disks stable.new)) }
     ensures faults { NoFewer (disks_of P.disks stable.old).faults (disks_of P.disks stable.new).faults }
@@ -178,6 +183,7 @@ fn make_room_for<P: Parts>(stable: &mut Stable<P>, tx: Ts) -> Result<(), Refusal
     ensures rests { OnErr result (RestsWith None stable.new) }
     ensures names { IfErr result (λ r. repo_named (held_of stable.old).repo r ≡ (held_of stable.old).repo) }
     ensures stopped { (n : ℕ) → IsErrOf result (IsStopped n) → HasFailed (disks_of P.disks stable.old).faults (disks_of P.disks stable.new).faults }
+    ensures page { (n place : ℕ) → IsErrOf result (IsDamaged n place) → (page : ℕ) × IsDamage (disks_of P.disks stable.new) (held_of stable.new).objects.pages.sides page place }
     ensures steady { OnOk result (NoFault (disks_of P.disks stable.old) (disks_of P.disks stable.new)) }
     ensures quiet { IfErr result (λ r. is_stopped r ≡ false → NoFault (disks_of P.disks stable.old) (disks_of P.disks stable.new)) }
     ensures faults { NoFewer (disks_of P.disks stable.old).faults (disks_of P.disks stable.new).faults }
@@ -206,6 +212,7 @@ fn flush_open<P: Parts>(stable: &mut Stable<P>, tx: Ts) -> Result<(), Refusal>
     ensures rests { OnErr result (RestsWith None stable.new) }
     ensures names { IfErr result (λ r. repo_named (held_of stable.old).repo r ≡ (held_of stable.old).repo) }
     ensures stopped { (n : ℕ) → IsErrOf result (IsStopped n) → HasFailed (disks_of P.disks stable.old).faults (disks_of P.disks stable.new).faults }
+    ensures page { (n place : ℕ) → IsErrOf result (IsDamaged n place) → (page : ℕ) × IsDamage (disks_of P.disks stable.new) (held_of stable.new).objects.pages.sides page place }
     ensures steady { OnOk result (NoFault (disks_of P.disks stable.old) (disks_of P.disks stable.new)) }
     ensures quiet { IfErr result (λ r. is_stopped r ≡ false → NoFault (disks_of P.disks stable.old) (disks_of P.disks stable.new)) }
     ensures faults { NoFewer (disks_of P.disks stable.old).faults (disks_of P.disks stable.new).faults }

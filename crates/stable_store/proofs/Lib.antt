@@ -2,6 +2,7 @@ pub mod Counting
 pub mod Failing
 pub mod Flushes
 pub mod Forgetting
+pub mod Harmed
 pub mod Lowered
 pub mod Opened
 pub mod Openings

@@ -411,6 +411,7 @@ impl<P: Parts> Stable<P> {
         ensures steady { OnOk result (NoFault (disks_of P.disks self.old) (disks_of P.disks self.new)) }
         ensures quiet { IfErr result (λ r. is_stopped r ≡ false → NoFault (disks_of P.disks self.old) (disks_of P.disks self.new)) }
         ensures damaged { (r place : ℕ) → IsErrOf result (IsDamaged r place) → IfSome (slice_get (held_of self.old).objects.mob.objects 0) (λ q. IsDamage (disks_of P.disks self.old) (held_of self.old).objects.pages.sides q.0.page place) }
+        ensures page { (r place : ℕ) → IsErrOf result (IsDamaged r place) → (page : ℕ) × IsDamage (disks_of P.disks self.new) (held_of self.new).objects.pages.sides page place }
     {
         let Some(mut log) = self.take_log() else {
             return Err(Refusal::Down { repo: self.repo() });
@@ -450,6 +451,7 @@ impl<P: Parts> Stable<P> {
         ensures steady { OnOk result (NoFault (disks_of P.disks self.old) (disks_of P.disks self.new)) }
         ensures quiet { IfErr result (λ r. is_stopped r ≡ false → NoFault (disks_of P.disks self.old) (disks_of P.disks self.new)) }
         ensures damaged { (r place : ℕ) → IsErrOf result (IsDamaged r place) → IfSome (slice_get (held_of self.old).objects.mob.objects 0) (λ q. IsDamage (disks_of P.disks self.old) (held_of self.old).objects.pages.sides q.0.page place) }
+        ensures page { (r place : ℕ) → IsErrOf result (IsDamaged r place) → (page : ℕ) × IsDamage (disks_of P.disks self.new) (held_of self.new).objects.pages.sides page place }
     {
         match self.held.flush_one(&mut self.parts) {
             Ok(flushed) => {

@@ -3,6 +3,7 @@ use Rattle.disk_trait.specs.Fused.{fused_disks}
 use Rattle.held_state.specs.Said.{said}
 use Rattle.mob_buffer.specs.Buffer.{Buffer}
 use Rattle.stable_store.proofs.Failing.{failed_behind}
+use Rattle.stable_store.proofs.Harmed.{damage_told}
 use Rattle.stable_store.proofs.Flushes.{left_from, oldest_is, oldest_then}
 use Rattle.stable_store.proofs.Opened.{holds_beside, opened_beside, repo_of}
 use Rattle.stable_store.proofs.Pages.{reach_written}
@@ -96,3 +97,8 @@ returns-in-Err-clause-never g c = λ r place wrong whole has.
 
 pub returns-in-Ok-clause-never : goal.returns-in-Ok-clause-never
 returns-in-Ok-clause-never g c = λ r place wrong whole has. c.put_flushed.ensures.damaged r place wrong
+
+pub returns-in-Err-clause-page : goal.returns-in-Err-clause-page
+returns-in-Err-clause-page g c = λ r place wrong.
+    damage_told (disks_of g.P.Parts.disks c.args.self.now) (fused_disks g.P.Parts.disks c.flush_one.new.parts) c.args.self.now.held.objects.pages.sides c.flush_one.new.self.objects.pages.sides c.args.self.now.held.objects.mob.objects c.flush_one.result c.in-Err.fault
+    c.of_store.result _ r place c.in-Err.is (c.of_store.ensures.damaged r place) refl wrong c.flush_one.ensures.empty c.flush_one.ensures.damaged c.flush_one.ensures.content c.flush_one.ensures.sides
