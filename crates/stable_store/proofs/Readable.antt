@@ -173,9 +173,9 @@ written_has disks store parts held told alone any left same has =
     let before = were 2 (omega arith) in
     told_on (is_torn store) (is_torn store) store.held.objects.pages.sides held.objects.pages.sides old new told
     (λ whole disk is.
-        let tells : TellsAll new = λ d within. told_at (new.content d) (told d ∙ is_told (old.content d) (were d within).0 (were d within).1) in
-        let keeps = keeps_written old new store.held.objects.pages.sides alone any left tells before.0 before.1 disk is in
-        subst (λ (ps : List (ℕ × ℕ)). ArePages ps disk) (sym sides) (pages_kept store.held.objects.pages.sides before.0 disk keeps (has.are whole before.0 before.1))) has
+    let tells : TellsAll new = λ d within. told_at (new.content d) (told d ∙ is_told (old.content d) (were d within).0 (were d within).1) in
+    let keeps = keeps_written old new store.held.objects.pages.sides alone any left tells before.0 before.1 disk is in
+    subst (λ (ps : List (ℕ × ℕ)). ArePages ps disk) (sym sides) (pages_kept store.held.objects.pages.sides before.0 disk keeps (has.are whole before.0 before.1))) has
 
 -- it is in use
 pub put_has : {P : Type 0} (disks : P → Disks) (store : Stable P) (parts : Fused P) (held : Held) (log : Place) (repo page side : ℕ) → SameTold (disks_of disks store) (fused_disks disks parts) → (fused_disks disks parts).content 2 ≡ (disks_of disks store).content 2
@@ -187,8 +187,8 @@ put_has disks store parts held log repo page side told content stood flushed sam
     let sides : held.objects.pages.sides ≡ insert_entry nat_cmp was page side = ap (λ (s : State). s.installed) same in
     told_on (is_torn store) (is_torn store) was held.objects.pages.sides old new told
     (λ whole disk is.
-        let before = sym content ∙ is in
-        subst (λ (ps : List (ℕ × ℕ)). ArePages ps disk) (sym sides) (pages_put was disk page side (page_flushed old log store.held repo page side stood flushed disk before) (has.are whole disk before))) has
+    let before = sym content ∙ is in
+    subst (λ (ps : List (ℕ × ℕ)). ArePages ps disk) (sym sides) (pages_put was disk page side (page_flushed old log store.held repo page side stood flushed disk before) (has.are whole disk before))) has
 
 -- ---- damage
 
@@ -240,10 +240,10 @@ comes_told broken old new h found pending log says read here holds told whole ha
     let same : one.state ≡ said found = one_state one.state (said found) (stands now'.0) one.stands stood in
     told_on broken false sides found.objects.pages.sides old new told
     (λ is disk read_as.
-        let reads : now'.0 2 ≡ disk = one_disk (new.content 2) (now'.0 2) disk (now'.1 2 (omega arith)) read_as in
-        let keeps = says.keeps were now'.0 (read now'.0 now'.1) before.0 before.1 in
-        subst (ArePages found.objects.pages.sides) reads
-        (subst (λ (s : State). ArePages s.installed (now'.0 2)) same (pages_or sides one.state.installed before.0 (now'.0 2) keeps one.spells (has.are whole before.0 before.1)))) has
+    let reads : now'.0 2 ≡ disk = one_disk (new.content 2) (now'.0 2) disk (now'.1 2 (omega arith)) read_as in
+    let keeps = says.keeps were now'.0 (read now'.0 now'.1) before.0 before.1 in
+    subst (ArePages found.objects.pages.sides) reads
+    (subst (λ (s : State). ArePages s.installed (now'.0 2)) same (pages_or sides one.state.installed before.0 (now'.0 2) keeps one.spells (has.are whole before.0 before.1)))) has
 
 -- what is found is taken over
 pub found_has : {P : Type 0} (disks : P → Disks) (old new : Stable P) (found : Held) (log : Place) → new.parts ≡ old.parts → new.phase ≡ Up log → new.held.objects ≡ found.objects → PagesTold false found.objects.pages.sides (disks_of disks old) → HasPages disks new
@@ -274,9 +274,10 @@ pub restarted_has : {P : Type 0} (disks : P → Disks) (old new : Stable P) (pen
 restarted_has disks old new pending found log is down read here holds goes held has =
     let says : ImagesSay (disks_of disks old) old.held pending = subst (SaysIn (disks_of disks old) old.held) down is.says in
     let whole : is_torn old ≡ false = ap is_torn_in down in
-    let stays : PagesTold false old.held.objects.pages.sides (disks_of disks new) = stays_told (is_torn old) (disks_of disks old) (disks_of disks new) old.held pending says read goes.told whole has in
-    (comes_told (is_torn old) (disks_of disks old) (disks_of disks new) old.held found pending log says read here holds goes.told whole has,
-    subst (λ (h : Held). PagesTold false h.objects.pages.sides (disks_of disks new)) (sym held) stays)
+    let stays : PagesTold false old.held.objects.pages.sides (disks_of disks new) = stays_told (is_torn old) (disks_of disks old) (disks_of disks new) old.held pending says read goes.told whole has in (
+      comes_told (is_torn old) (disks_of disks old) (disks_of disks new) old.held found pending log says read here holds goes.told whole has,
+      subst (λ (h : Held). PagesTold false h.objects.pages.sides (disks_of disks new)) (sym held) stays,
+    )
 
 -- one that isn't torn doesn't become so
 pub torn_never : {P : Type 0} (store : Stable P) (e : Entry) → is_torn store ≡ false → store.phase ≡ Torn e → ⊥
