@@ -20,6 +20,11 @@ pub damage_shown : {P : Type 0} (disks : P → Disks) (store : Stable P) (M : Me
 damage_shown disks store M t n x page place is damage =
     subst (λ (s : Shown). IsPageDamage s page place) is (record { side = damage.side; in_use = damage.in_use; place_is = damage.place_is; none = damage.none })
 
+-- that of some page
+pub some_shown : {P : Type 0} (disks : P → Disks) (store : Stable P) (M : Memory) (t : Recorded) (n : ℕ) (x : Shown) (place : ℕ) → shown disks store M t n ≡ x
+    → (page : ℕ) × IsDamage (disks_of disks store) (held_of store).objects.pages.sides page place → (page : ℕ) × IsPageDamage x page place
+some_shown disks store M t n x place is some = (some.0, damage_shown disks store M t n x some.0 place is some.1)
+
 -- want of memory is no damage
 pub damaged_memory : {T : Type 0} (result : Result T Refusal) (n place : ℕ) (G : Type 0) → IfErr result (λ r. r ≡ refused.NoMemory) → IsErrOf result (refused.Damaged n place) → G
 damaged_memory (Ok t) n place G lacks is = absurd (cc)

@@ -1,14 +1,15 @@
 -- A disk failed in a call that answers Stopped.
+use Rattle.disk_trait.specs.AllDisks.{NoFault}
 use Rattle.disk_trait.specs.Disks.{Disks, Rose}
 use Rattle.refusal_reasons.specs.declared.reason.Reason.TheVariants.{Gone}
 use Rattle.repo_core.proofs.Refused.{no_fault}
 use Rattle.repo_core.specs.Behind.{is_marked}
 use Rattle.repo_core.specs.Shown.{Shown, count_at, faults_of}
 use Rattle.stable_store.proofs.Failing.{failed_behind, fewer_none}
-use Rattle.stable_store.specs.Failing.{HasFailed, NoFewer}
+use Rattle.stable_store.specs.Failing.{HasFailed, NoFewer, is_stopped}
 use Rattle.stable_store.specs.Kept.{is_fault}
 use Rattle.std.proofs.Common.{Err, Ok, Result, ap, arith, refl, subst, suc, sym, true, zero, ℕ, ◌<◌, ◌∙◌, ◌≡◌}
-use Rattle.std.specs.Prelude.{IfErr, IsErrOf, false}
+use Rattle.std.specs.Prelude.{IfErr, IsErrOf, OnOk, false}
 use Rattle.validation_window.specs.declared.refusal.Refusal.TheVariants as refused
 use Rattle.validation_window.specs.declared.refusal.Refusal.{Refusal}
 
@@ -47,6 +48,33 @@ failed_same x y z same failed = subst (λ (p : ℕ × ℕ × ℕ). HasFailed (co
 
 pub fewer_same : (x y : Shown) → y.faults ≡ x.faults → NoFewer (faults_of x) (faults_of y)
 fewer_same x y same = subst (λ (p : ℕ × ℕ × ℕ). NoFewer (faults_of x) (count_at p)) (sym same) (fewer_none (faults_of x) (faults_of x) (λ d. refl))
+
+-- ---- counts that stay
+
+-- those of the disks stay, and so do those that are shown
+pub counts_between : (old new : Disks) (x y : Shown) → counts_in old ≡ x.faults → counts_in new ≡ y.faults → NoFault old new → y.faults ≡ x.faults
+counts_between old new x y was is same = sym is ∙ (each (old.faults 0) (old.faults 1) (old.faults 2) (new.faults 0) (new.faults 1) (new.faults 2) (same 0) (same 1) (same 2) ∙ was)
+  where
+    each : (a b c d e f : ℕ) → d ≡ a → e ≡ b → f ≡ c → ◌≡◌ {A = ℕ × ℕ × ℕ} (d, e, f) (a, b, c)
+    each a b c d e f p q r = cc
+
+-- where a call of the disks answers so, so do those that are shown
+pub ok_shown : {T : Type 0} (result : Result T Refusal) (old new : Disks) (x y : Shown) → counts_in old ≡ x.faults → counts_in new ≡ y.faults → OnOk result (NoFault old new) → OnOk result (y.faults ≡ x.faults)
+ok_shown (Ok t) old new x y was is steady = counts_between old new x y was is steady
+ok_shown (Err r) old new x y was is steady = tt
+
+pub err_shown : {T : Type 0} (result : Result T Refusal) (old new : Disks) (x y : Shown) → counts_in old ≡ x.faults → counts_in new ≡ y.faults → IfErr result (λ r. is_stopped r ≡ false → NoFault old new) → IfErr result (λ r. is_stopped r ≡ false → y.faults ≡ x.faults)
+err_shown (Ok t) old new x y was is quiet = tt
+err_shown (Err r) old new x y was is quiet = λ other. counts_between old new x y was is (quiet other)
+
+-- no count rose before a call, nor in it
+pub ok_before : {T : Type 0} (result : Result T Refusal) (x y z : ℕ × ℕ × ℕ) → y ≡ x → OnOk result (z ≡ y) → OnOk result (z ≡ x)
+ok_before (Ok t) x y z before steady = steady ∙ before
+ok_before (Err r) x y z before steady = tt
+
+pub err_before : {T : Type 0} (result : Result T Refusal) (x y z : ℕ × ℕ × ℕ) → y ≡ x → IfErr result (λ r. is_stopped r ≡ false → z ≡ y) → IfErr result (λ r. is_stopped r ≡ false → z ≡ x)
+err_before (Ok t) x y z before quiet = tt
+err_before (Err r) x y z before quiet = λ other. quiet other ∙ before
 
 -- ---- a call that is refused so didn't answer Stopped
 

@@ -3,6 +3,7 @@ use Rattle.commit_log.specs.declared.entry.Entry.{Entry}
 use Rattle.disk_trait.specs.Disks.{Disks}
 use Rattle.held_state.specs.declared.held.Held.{Held}
 use Rattle.stable_store.specs.Kept.{disks_of, held_of, is_torn, is_up, pending}
+use Rattle.stable_store.specs.Pages.{TellsPages}
 use Rattle.stable_store.specs.declared.stable.Stable.{Stable}
 use Rattle.std.specs.Prelude.{Bool, List, Option, suc, zero, ℕ}
 use Rattle.trace_record.specs.Recorded.{Recorded}
@@ -56,3 +57,8 @@ count_at counts (suc (suc n)) = counts.2
 -- how often each disk has failed
 abbrev pub faults_of : Shown → ℕ → ℕ
 faults_of x = count_at x.faults
+
+-- Each of its disks tells its bytes, and each side in use is a page of objects, but where it is torn. Then no call of a page is
+-- damaged.
+abbrev pub ShowsPages : Shown → Type 0
+ShowsPages x = TellsPages x.is_torn x.held.objects.pages.sides x.logs.0 x.logs.1 x.pages

@@ -1,11 +1,11 @@
 //! A checkpoint is made.
 
-ghost use Rattle.std.specs.Prelude.{◌≡◌, IfErr, IsErrOf, ℕ};
+ghost use Rattle.std.specs.Prelude.{◌≡◌, IfErr, IsErrOf, OnOk, false, ℕ};
 ghost use Rattle.repo_core.specs.Behind.{Stands};
 ghost use Rattle.repo_core.specs.Refusing.{CanRefuse, HasNoReason, Rests};
 ghost use Rattle.repo_core.specs.Restarting.{DropsEarlier};
-ghost use Rattle.repo_core.specs.Shown.{faults_of};
-ghost use Rattle.stable_store.specs.Failing.{HasFailed};
+ghost use Rattle.repo_core.specs.Shown.{faults_of, ShowsPages};
+ghost use Rattle.stable_store.specs.Failing.{HasFailed, is_stopped};
 ghost use Rattle.validation_window.specs.declared.refusal.Refusal.TheVariants.{Damaged as IsDamaged, Stopped as IsStopped};
 
 use crate::repo::Repo;
@@ -18,6 +18,7 @@ impl<P: Parts> Repo<P> {
     #[tactic(auto, using(crate::proofs::Refused::rests_down, crate::proofs::Refused::rests_so, crate::proofs::Causes::why_down, crate::proofs::Causes::stands_refused, crate::proofs::Failing::stopped_none, crate::proofs::Failing::failed_between, crate::proofs::Failing::failed_same, crate::proofs::Causes::damaged_none))]
     pub fn checkpoint(&mut self) -> Result<(), Refusal>
         ensures stands { Stands self.old.is_up result self.new.is_up }
+        ensures readable { ShowsPages self.old → ShowsPages self.new }
         ensures memory { self.new.memory ≡ self.old.memory }
         ensures trace { self.new.trace ≡ self.old.trace }
         ensures held { DropsEarlier self.old self.new }
@@ -25,6 +26,8 @@ impl<P: Parts> Repo<P> {
         ensures rests { IfErr result (Rests self.old self.new) }
         ensures pages { self.new.pages ≡ self.old.pages }
         ensures stopped { (n : ℕ) → IsErrOf result (IsStopped n) → HasFailed (faults_of self.old) (faults_of self.new) }
+        ensures steady { OnOk result (self.new.faults ≡ self.old.faults) }
+        ensures quiet { IfErr result (λ r. is_stopped r ≡ false → self.new.faults ≡ self.old.faults) }
         ensures damaged { (n place : ℕ) → IsErrOf result (IsDamaged n place) → ⊥ }
         ensures clock { self.new.clock ≡ self.old.clock }
         ensures opened { self.new.opened_in ≡ self.old.opened_in }

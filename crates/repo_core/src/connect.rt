@@ -7,6 +7,7 @@ ghost use Rattle.session_outbox.specs.declared.mark.Mark.TheVariants.{Connected 
 ghost use Rattle.trace_record.specs.Recorded.{with_mark};
 ghost use Rattle.repo_core.specs.Refusing.{CanRefuse, HasNoReason, Leaves};
 ghost use Rattle.volatile_state.specs.Volatile.{Outlasts};
+ghost use Rattle.repo_core.specs.Shown.{ShowsPages};
 
 use crate::repo::Repo;
 use disk_trait::Parts;
@@ -17,9 +18,10 @@ use validation_window::Refusal;
 
 impl<P: Parts> Repo<P> {
     /// Begins a session of the client, and ends its older one.
-    #[tactic(auto, using(crate::proofs::Refused::leaves_given_back, crate::proofs::Refused::leaves_down, crate::proofs::Refused::falls_with, crate::proofs::Refused::moved_none, volatile_state::proofs::Lasting::stayed, crate::proofs::Causes::why_down, crate::proofs::Causes::why_memory))]
+    #[tactic(auto, using(crate::proofs::Readable::shown_has, crate::proofs::Refused::leaves_given_back, crate::proofs::Refused::leaves_down, crate::proofs::Refused::falls_with, crate::proofs::Refused::moved_none, volatile_state::proofs::Lasting::stayed, crate::proofs::Causes::why_down, crate::proofs::Causes::why_memory))]
     pub fn connect(&mut self, client: u8) -> Result<Welcome, Refusal>
         ensures stands { Stands self.old.is_up result self.new.is_up }
+        ensures readable { ShowsPages self.old → ShowsPages self.new }
         ensures held { self.new.held ≡ self.old.held }
         ensures trace { IfOk result (λ w. self.new.trace ≡ with_mark self.old.trace (Connects w.session client)) }
         ensures refused { OnErr result (self.new.trace ≡ self.old.trace) }
@@ -27,6 +29,7 @@ impl<P: Parts> Repo<P> {
         ensures why { IfErr result (CanRefuse self.old HasNoReason ⊥) }
         ensures pages { self.new.pages ≡ self.old.pages }
         ensures clock { self.new.clock ≡ self.old.clock }
+        ensures faults { self.new.faults ≡ self.old.faults }
         ensures opened { self.new.opened_in ≡ self.old.opened_in }
         ensures begun { IfOk result (λ w. self.new.memory ≡ record self.old.memory { sessions = begun self.old.memory.sessions client w.session }) }
         ensures number { IfOk result (λ w. w.session ≡ self.old.memory.sessions.last + 1) }
@@ -59,8 +62,10 @@ impl<P: Parts> Repo<P> {
     }
 
     /// Begins a session. The answer is its number, and the texts of the installed upgrades.
+    #[tactic(auto, using(crate::proofs::Readable::shown_has))]
     fn begin_session(&mut self, client: u8) -> Result<(u32, Texts), NoMemory>
         ensures up { self.new.is_up ≡ self.old.is_up }
+        ensures readable { ShowsPages self.old → ShowsPages self.new }
         ensures held { self.new.held ≡ self.old.held }
         ensures trace { self.new.trace ≡ self.old.trace }
         ensures begun { IfOk result (λ w. self.new.memory ≡ record self.old.memory { sessions = begun self.old.memory.sessions client w.0 }) }
@@ -71,6 +76,7 @@ impl<P: Parts> Repo<P> {
         ensures torn { self.new.is_torn ≡ self.old.is_torn }
         ensures pages { self.new.pages ≡ self.old.pages }
         ensures clock { self.new.clock ≡ self.old.clock }
+        ensures faults { self.new.faults ≡ self.old.faults }
         ensures opened { self.new.opened_in ≡ self.old.opened_in }
     {
         let upgrades = self.stable.held().upgrades().copy()?;

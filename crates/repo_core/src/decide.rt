@@ -6,12 +6,12 @@ ghost use Rattle.live_sessions.specs.Sessions.{is_live};
 ghost use Rattle.repo_core.specs.Behind.{HasMoved, IsVerdict, Stands, has_prepared, is_committed};
 ghost use Rattle.repository_laws.specs.Coming.{Moves};
 ghost use Rattle.thor_value.specs.FiniteMap.{has};
-ghost use Rattle.repo_core.specs.Shown.{faults_of};
-ghost use Rattle.stable_store.specs.Failing.{HasFailed};
+ghost use Rattle.repo_core.specs.Shown.{faults_of, ShowsPages};
+ghost use Rattle.stable_store.specs.Failing.{HasFailed, is_stopped};
 ghost use Rattle.trace_record.specs.Recorded.{with_entry};
 ghost use Rattle.two_phase.specs.Contents.{standing};
 ghost use Rattle.repo_core.specs.Moving.{HasRoomFor};
-ghost use Rattle.repo_core.specs.Refusing.{CanRefuse, GoesDown, IsGone, Leaves};
+ghost use Rattle.repo_core.specs.Refusing.{CanRefuse, GoesDown, IsGone, IsPageDamage, Leaves};
 ghost use Rattle.repo_core.specs.Telling.{Tells};
 ghost use Rattle.refusal_reasons.specs.declared.reason.Reason.TheVariants.{Gone as AGone};
 ghost use Rattle.validation_window.specs.declared.refusal.Refusal.TheVariants.{Damaged as IsDamaged, Reason as IsReason, Stopped as IsStopped};
@@ -30,6 +30,8 @@ impl<P: Parts> Repo<P> {
     #[tactic(auto, using(crate::proofs::Refused::leaves_down, crate::proofs::Refused::leaves_decided, crate::proofs::Causes::why_down, crate::proofs::Causes::why_reason, crate::proofs::Causes::why_fault, crate::proofs::Causes::damaged_none, crate::proofs::Causes::damaged_gone, crate::proofs::Failing::stopped_none, crate::proofs::Failing::stopped_gone, crate::proofs::Failing::failed_shown))]
     pub fn decide(&mut self, session: u32, tx: Ts, commit: bool) -> Result<Verdict, Refusal>
         ensures stands { Stands self.old.is_up result self.new.is_up }
+        ensures readable { ShowsPages self.old → ShowsPages self.new }
+        ensures never { (n place : ℕ) → IsErrOf result (IsDamaged n place) → ShowsPages self.old → ⊥ }
         ensures live { OnOk result (is_live self.old.memory.sessions session ≡ true) }
         ensures held { OnOk result (has_prepared self.old.held session tx ≡ true → HasMoved self.old.held (Decides tx commit) self.new.held) }
         ensures limit { OnOk result (self.new.held.objects.mob.limit ≡ self.old.held.objects.mob.limit) }
@@ -44,7 +46,10 @@ impl<P: Parts> Repo<P> {
         ensures left { IfErr result (Leaves self.old self.new (cond (is_live self.old.memory.sessions session) (cond (has_prepared self.old.held session tx) (Some (Decides tx commit)) None) None)) }
         ensures pages { HasRoomFor self.old.held tx commit → self.new.pages ≡ self.old.pages }
         ensures damaged { (n place : ℕ) → IsErrOf result (IsDamaged n place) → GoesDown self.old self.new None }
+        ensures page { (n place : ℕ) → IsErrOf result (IsDamaged n place) → (page : ℕ) × IsPageDamage self.new page place }
         ensures stopped { (n : ℕ) → IsErrOf result (IsStopped n) → HasFailed (faults_of self.old) (faults_of self.new) }
+        ensures steady { OnOk result (self.new.faults ≡ self.old.faults) }
+        ensures quiet { IfErr result (λ r. is_stopped r ≡ false → self.new.faults ≡ self.old.faults) }
         ensures clock { self.new.clock ≡ self.old.clock }
         ensures opened { self.new.opened_in ≡ self.old.opened_in }
     {

@@ -9,6 +9,7 @@ ghost use Rattle.repo_core.specs.Refusing.{CanRefuse, Leaves, StaysAsWas};
 ghost use Rattle.repo_core.specs.Calls.{DrawIsRefused, IsDrawn, WasAsked};
 ghost use Rattle.refusal_reasons.specs.declared.reason.Reason.TheVariants.{ClockEnd as IsClockEnd, Gone as IsGone};
 ghost use Rattle.validation_window.specs.declared.refusal.Refusal.TheVariants.{Down as IsDown, NoMemory as IsNoMemory, Reason as IsReason};
+ghost use Rattle.repo_core.specs.Shown.{ShowsPages};
 
 use crate::repo::Repo;
 use disk_trait::Parts;
@@ -26,6 +27,7 @@ impl<P: Parts> Repo<P> {
     #[tactic(auto, using(crate::proofs::Refused::leaves_down, crate::proofs::Refused::leaves_on, crate::proofs::Asking::asked_refused, crate::proofs::Asking::unasked_refused, crate::proofs::Causes::why_down, crate::proofs::Causes::why_marked, crate::proofs::Causes::lacks_memory))]
     pub fn draw(&mut self, session: u32, floor: u64) -> Result<Ts, Refusal>
         ensures stands { Stands self.old.is_up result self.new.is_up }
+        ensures readable { ShowsPages self.old → ShowsPages self.new }
         ensures live { OnOk result (is_live self.old.memory.sessions session ≡ true) }
         ensures held { self.new.held ≡ self.old.held }
         ensures above { IfOk result (λ ts. floor < ts.time) }
@@ -44,6 +46,7 @@ impl<P: Parts> Repo<P> {
         ensures idle { IfErr result (λ r. r ≡ IsDown self.old.held.repo → self.new.clock ≡ self.old.clock) }
         ensures time { IfOk result (λ ts. IsDrawn self.old self.new floor ts.time) }
         ensures pages { self.new.pages ≡ self.old.pages }
+        ensures faults { self.new.faults ≡ self.old.faults }
         ensures opened { self.new.opened_in ≡ self.old.opened_in }
     {
         self.check_up()?;
@@ -54,9 +57,10 @@ impl<P: Parts> Repo<P> {
     }
 
     /// The time that is drawn next. It asks the clock, where the session is live.
-    #[tactic(auto, using(crate::proofs::Refused::stays_itself))]
+    #[tactic(auto, using(crate::proofs::Readable::shown_has, crate::proofs::Refused::stays_itself))]
     fn may_draw(&mut self, session: u32, floor: u64) -> Result<u64, Refusal>
         ensures up { self.new.is_up ≡ self.old.is_up }
+        ensures readable { ShowsPages self.old → ShowsPages self.new }
         ensures held { self.new.held ≡ self.old.held }
         ensures memory { self.new.memory ≡ self.old.memory }
         ensures trace { self.new.trace ≡ self.old.trace }
@@ -68,6 +72,7 @@ impl<P: Parts> Repo<P> {
         ensures asked { IsErrOf result (IsReason IsClockEnd) → WasAsked self.old self.new floor }
         ensures unasked { IsErrOf result (IsReason (IsGone session)) → self.new.clock ≡ self.old.clock }
         ensures drawn { IfOk result (IsDrawn self.old self.new floor) }
+        ensures faults { self.new.faults ≡ self.old.faults }
         ensures opened { self.new.opened_in ≡ self.old.opened_in }
     {
         self.check_live(session)?;
@@ -81,10 +86,11 @@ impl<P: Parts> Repo<P> {
         }
     }
 
-    #[tactic(auto, using(crate::proofs::Refused::leaves_down))]
+    #[tactic(auto, using(crate::proofs::Readable::shown_has, crate::proofs::Refused::leaves_down))]
     fn take_time(&mut self, session: u32, time: u64) -> Result<Ts, Refusal>
         requires { self.old.is_up ≡ true }
         ensures stands { Stands true result self.new.is_up }
+        ensures readable { ShowsPages self.old → ShowsPages self.new }
         ensures held { self.new.held ≡ self.old.held }
         ensures named { IfOk result (λ ts. (ts.time ≡ time) × (ts.repo ≡ self.old.held.repo) × (ts.life ≡ self.old.held.life)) }
         ensures drawn { OnOk result (self.new.memory ≡ record self.old.memory { drawn = time }) }
@@ -93,6 +99,7 @@ impl<P: Parts> Repo<P> {
         ensures left { IfErr result (Leaves self.old self.new None) }
         ensures refusal { IfErr result (λ r. r ≡ IsNoMemory) }
         ensures pages { self.new.pages ≡ self.old.pages }
+        ensures faults { self.new.faults ≡ self.old.faults }
         ensures clock { self.new.clock ≡ self.old.clock }
         ensures opened { self.new.opened_in ≡ self.old.opened_in }
     {

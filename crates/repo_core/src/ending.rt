@@ -9,6 +9,7 @@ ghost use Rattle.live_sessions.specs.Sessions.{is_live};
 ghost use Rattle.trace_record.specs.Recorded.{with_mark};
 ghost use Rattle.refusal_reasons.specs.declared.reason.Reason.TheVariants.{Gone as IsGone};
 ghost use Rattle.validation_window.specs.declared.refusal.Refusal.TheVariants.{Down as IsDown, NoMemory as IsNoMemory, Reason as IsReason};
+ghost use Rattle.repo_core.specs.Shown.{ShowsPages};
 
 use crate::repo::Repo;
 use disk_trait::Parts;
@@ -52,10 +53,11 @@ impl<P: Parts> Repo<P> {
 
     /// Puts the mark of what has happened behind the trace, or takes the repository down where there was no
     /// memory for it or for what has happened.
-    #[tactic(auto, using(crate::proofs::Refused::leaves_down, crate::proofs::Refused::falls_with, crate::proofs::Refused::moved_none, crate::proofs::Refused::lasts_same))]
+    #[tactic(auto, using(crate::proofs::Readable::shown_has, crate::proofs::Refused::leaves_down, crate::proofs::Refused::falls_with, crate::proofs::Refused::moved_none, crate::proofs::Refused::lasts_same))]
     pub(crate) fn mark(&mut self, happened: Result<(), NoMemory>, mark: Mark) -> Result<(), Refusal>
         requires { self.old.is_up ≡ true }
         ensures happened { OnOk result (happened ≡ Ok tt) }
+        ensures readable { ShowsPages self.old → ShowsPages self.new }
         ensures up { OnOk result (self.new.is_up ≡ self.old.is_up) }
         ensures trace { OnOk result (self.new.trace ≡ with_mark self.old.trace mark) }
         ensures refusal { IfErr result (λ r. r ≡ IsNoMemory) }
@@ -70,6 +72,7 @@ impl<P: Parts> Repo<P> {
         ensures leaves { IfErr result (λ r. (e : Option AnEntry) → Leaves self.old self.new e r) }
         ensures pages { self.new.pages ≡ self.old.pages }
         ensures clock { self.new.clock ≡ self.old.clock }
+        ensures faults { self.new.faults ≡ self.old.faults }
         ensures opened { self.new.opened_in ≡ self.old.opened_in }
     {
         let marked = match happened {

@@ -1,11 +1,11 @@
 //! A page is flushed.
 
-ghost use Rattle.std.specs.Prelude.{◌≡◌, IfErr, IfOk, IsErrOf, OnErr, slice_get, ℕ};
+ghost use Rattle.std.specs.Prelude.{◌≡◌, IfErr, IfOk, IsErrOf, OnErr, OnOk, false, slice_get, ℕ};
 ghost use Rattle.std.specs.Option.{IfSome};
 ghost use Rattle.repo_core.specs.Behind.{MovesObjects, Stands};
 ghost use Rattle.repo_core.specs.Refusing.{CanRefuse, HasNoReason, IsPageDamage, Rests};
-ghost use Rattle.repo_core.specs.Shown.{faults_of};
-ghost use Rattle.stable_store.specs.Failing.{HasFailed};
+ghost use Rattle.repo_core.specs.Shown.{faults_of, ShowsPages};
+ghost use Rattle.stable_store.specs.Failing.{HasFailed, is_stopped};
 ghost use Rattle.stable_store.specs.Flushes.{IsOldest, left_by};
 ghost use Rattle.validation_window.specs.declared.refusal.Refusal.TheVariants.{Damaged as IsDamaged, Stopped as IsStopped};
 
@@ -20,6 +20,8 @@ impl<P: Parts> Repo<P> {
     #[tactic(auto, using(crate::proofs::Refused::rests_down, crate::proofs::Refused::rests_so, crate::proofs::Causes::stands_refused, crate::proofs::Failing::failed_between))]
     pub fn flush(&mut self) -> Result<Flushed, Refusal>
         ensures stands { Stands self.old.is_up result self.new.is_up }
+        ensures readable { ShowsPages self.old → ShowsPages self.new }
+        ensures never { (n place : ℕ) → IsErrOf result (IsDamaged n place) → ShowsPages self.old → ⊥ }
         ensures held { MovesObjects self.old.held self.new.held }
         ensures memory { self.new.memory ≡ self.old.memory }
         ensures limit { self.new.held.objects.mob.limit ≡ self.old.held.objects.mob.limit }
@@ -30,6 +32,8 @@ impl<P: Parts> Repo<P> {
         ensures why { IfErr result (CanRefuse self.old HasNoReason (Unit {0})) }
         ensures rests { IfErr result (Rests self.old self.new) }
         ensures stopped { (n : ℕ) → IsErrOf result (IsStopped n) → HasFailed (faults_of self.old) (faults_of self.new) }
+        ensures steady { OnOk result (self.new.faults ≡ self.old.faults) }
+        ensures quiet { IfErr result (λ r. is_stopped r ≡ false → self.new.faults ≡ self.old.faults) }
         ensures damaged { (n place : ℕ) → IsErrOf result (IsDamaged n place) → IfSome (slice_get self.old.held.objects.mob.objects 0) (λ q. IsPageDamage self.old q.0.page place) }
         ensures clock { self.new.clock ≡ self.old.clock }
         ensures opened { self.new.opened_in ≡ self.old.opened_in }

@@ -11,6 +11,7 @@ ghost use Rattle.repo_core.specs.Refusing.{CanRefuse, GoesDown, Leaves};
 ghost use Rattle.stable_store.specs.Kept.{is_fault};
 ghost use Rattle.repo_core.specs.Calls.{GrantIsRefused};
 ghost use Rattle.validation_window.specs.declared.refusal.Refusal.TheVariants.{NoMemory as IsNoMemory};
+ghost use Rattle.repo_core.specs.Shown.{ShowsPages};
 
 use crate::repo::Repo;
 use disk_trait::Parts;
@@ -28,6 +29,7 @@ impl<P: Parts> Repo<P> {
     #[tactic(auto, using(crate::proofs::Refused::leaves_down, crate::proofs::Refused::leaves_same, crate::proofs::Causes::why_down, crate::proofs::Causes::why_marked, crate::proofs::Causes::lacks_memory))]
     pub fn grant(&mut self, session: u32) -> Result<(), Refusal>
         ensures stands { Stands self.old.is_up result self.new.is_up }
+        ensures readable { ShowsPages self.old → ShowsPages self.new }
         ensures live { OnOk result (is_live self.old.memory.sessions session ≡ true) }
         ensures held { OnOk result (self.new.held ≡ record self.old.held { next_grant = self.old.held.next_grant + 1 }) }
         ensures below { OnOk result (self.old.held.next_grant < 65536) }
@@ -39,6 +41,7 @@ impl<P: Parts> Repo<P> {
         ensures left { IfErr result (Leaves self.old self.new None) }
         ensures pages { self.new.pages ≡ self.old.pages }
         ensures clock { self.new.clock ≡ self.old.clock }
+        ensures faults { self.new.faults ≡ self.old.faults }
         ensures opened { self.new.opened_in ≡ self.old.opened_in }
     {
         self.check_up()?;
@@ -64,12 +67,13 @@ impl<P: Parts> Repo<P> {
         }
     }
 
-    #[tactic(auto, using(crate::proofs::Refused::leaves_read, crate::proofs::Refused::moved_none))]
+    #[tactic(auto, using(crate::proofs::Readable::shown_has, crate::proofs::Refused::leaves_read, crate::proofs::Refused::moved_none))]
     fn send_grant(&mut self, session: u32, page: u32) -> Result<(), Refusal>
         requires up { self.old.is_up ≡ true }
         requires next { page ≡ self.old.held.next_grant }
         requires below { page < 65536 }
         ensures stands { Stands true result self.new.is_up }
+        ensures readable { ShowsPages self.old → ShowsPages self.new }
         ensures held { OnOk result (self.new.held ≡ record self.old.held { next_grant = page + 1 }) }
         ensures sent { OnOk result (self.new.memory ≡ record self.old.memory { sessions = sent self.old.memory.sessions session page (AGrant page (length self.old.trace.history)) }) }
         ensures trace { OnOk result (self.new.trace ≡ with_mark self.old.trace (Grants session page)) }
@@ -78,6 +82,7 @@ impl<P: Parts> Repo<P> {
         ensures refusal { IfErr result (λ r. r ≡ IsNoMemory) }
         ensures pages { self.new.pages ≡ self.old.pages }
         ensures clock { self.new.clock ≡ self.old.clock }
+        ensures faults { self.new.faults ≡ self.old.faults }
         ensures opened { self.new.opened_in ≡ self.old.opened_in }
     {
         let place = self.trace.place();
@@ -86,6 +91,7 @@ impl<P: Parts> Repo<P> {
     }
 
     /// Marks what was sent, and grants no page below the next one any more.
+    #[tactic(auto, using(crate::proofs::Readable::shown_has))]
     fn mark_granted(
         &mut self,
         sent: Result<(), NoMemory>,
@@ -96,6 +102,7 @@ impl<P: Parts> Repo<P> {
         requires next { page ≡ self.old.held.next_grant }
         requires below { page < 65536 }
         ensures stands { Stands true result self.new.is_up }
+        ensures readable { ShowsPages self.old → ShowsPages self.new }
         ensures held { OnOk result (self.new.held ≡ record self.old.held { next_grant = page + 1 }) }
         ensures memory { self.new.memory ≡ self.old.memory }
         ensures sent { OnOk result (sent ≡ Ok tt) }
@@ -105,6 +112,7 @@ impl<P: Parts> Repo<P> {
         ensures refusal { IfErr result (λ r. r ≡ IsNoMemory) }
         ensures pages { self.new.pages ≡ self.old.pages }
         ensures clock { self.new.clock ≡ self.old.clock }
+        ensures faults { self.new.faults ≡ self.old.faults }
         ensures opened { self.new.opened_in ≡ self.old.opened_in }
     {
         self.mark(sent, Mark::Granted { session, page })?;

@@ -2,7 +2,7 @@
 
 ghost use Rattle.std.specs.Prelude.{◌≡◌, ◌+◌, ◌≤◌, IfOk, List, Some, true, ℕ};
 ghost use Rattle.commit_log.specs.declared.entry.Entry.TheVariants.{Life as ALife};
-ghost use Rattle.disk_trait.specs.AllDisks.{AllSettled};
+ghost use Rattle.disk_trait.specs.AllDisks.{AllSettled, TellsAll};
 ghost use Rattle.held_state.specs.Keeps.{Keeps};
 ghost use Rattle.held_state.specs.Said.{said};
 ghost use Rattle.log_bytes.specs.declared.state.State.{State as AState};
@@ -13,6 +13,9 @@ ghost use Rattle.state_log.specs.Holds.{Holds};
 ghost use Rattle.store_format.specs.Pages.{HasRoots};
 ghost use Rattle.trace_record.specs.Recorded.{nothing, with_entry};
 ghost use Rattle.repo_core.specs.Restarting.{Begins, IsNew};
+ghost use Rattle.disk_trait.specs.Disks.{WhereTold};
+ghost use Rattle.stable_store.specs.Pages.{ArePages, HasPages};
+ghost use Rattle.repo_core.specs.Shown.{ShowsPages};
 
 use crate::repo::Repo;
 use class_defs::Setup;
@@ -34,6 +37,7 @@ impl<P: Parts> Repo<P> {
         requires keeps { Keeps recovered.state }
         requires pages { AgreesWhere recovered.state.objects.pages }
         ensures up { IfOk result (λ repo. repo.is_up ≡ true) }
+        ensures readable { TellsAll (P.disks parts) → WhereTold (P.disks parts) 2 (ArePages recovered.state.objects.pages.sides) → IfOk result ShowsPages }
         ensures trace { IfOk result (λ repo. repo.trace ≡ with_entry nothing (ALife (recovered.state.life + 1))) }
         ensures begins { IfOk result (λ repo. Begins recovered.state repo) }
         ensures clock { IfOk result (λ repo. repo.clock ≡ (P.disks parts).clock) }
@@ -54,6 +58,7 @@ impl<P: Parts> Repo<P> {
     ) -> Result<Repo<P>, OpenFault<P>>
         requires { AllSettled (P.disks parts) }
         ensures up { IfOk result (λ repo. repo.is_up ≡ true) }
+        ensures readable { TellsAll (P.disks parts) → IfOk result ShowsPages }
         ensures trace { IfOk result (λ repo. repo.trace ≡ with_entry nothing (ALife 1)) }
         ensures begins { IfOk result (λ x. IsNew repo repos setup.now mob x) }
         ensures roots { IfOk result (λ x. (disk : List ℕ) → x.pages ≡ Some disk → HasRoots repo setup.now x.held.objects.pages.sides disk) }
@@ -65,12 +70,13 @@ impl<P: Parts> Repo<P> {
 }
 
 /// A repository over what is stable, behind the Life of its opening.
-#[tactic(auto, using(crate::proofs::Begun::begins_so, crate::proofs::Begun::memory_is))]
+#[tactic(auto, using(crate::proofs::Readable::shown_has, crate::proofs::Begun::begins_so, crate::proofs::Begun::memory_is))]
 fn begin<P: Parts>(alloc: Global, stable: Stable<P>) -> Result<Repo<P>, OpenFault<P>>
     requires kept { IsKept P.disks stable }
     requires up { is_up stable ≡ true }
     requires says { IsSaid P.disks stable }
     ensures up { IfOk result (λ repo. repo.is_up ≡ true) }
+    ensures readable { HasPages P.disks stable → IfOk result ShowsPages }
     ensures trace { IfOk result (λ repo. repo.trace ≡ with_entry nothing (ALife ((held_of stable).life + 1))) }
     ensures begins { IfOk result (λ repo. Begins (held_of stable) repo) }
     ensures pages { IfOk result (λ repo. repo.pages ≡ (disks_of P.disks stable).content 2) }

@@ -10,6 +10,7 @@ ghost use Rattle.repo_core.specs.Refusing.{CanRefuse, GoesDown, IsGone, Leaves};
 ghost use Rattle.stable_store.specs.Kept.{is_fault};
 ghost use Rattle.validation_window.specs.declared.refusal.Refusal.TheVariants.{NoMemory as IsNoMemory, Reason as IsReason};
 ghost use Rattle.refusal_reasons.specs.declared.reason.Reason.TheVariants.{Gone as AGone};
+ghost use Rattle.repo_core.specs.Shown.{ShowsPages};
 
 use crate::repo::Repo;
 use disk_trait::Parts;
@@ -19,9 +20,10 @@ use validation_window::Refusal;
 
 impl<P: Parts> Repo<P> {
     /// Takes the oldest message that waits for the session; `None` exactly where none does. Refusal: `Gone`.
-    #[tactic(auto, using(crate::proofs::Refused::leaves_read, crate::proofs::Refused::moved_none, volatile_state::proofs::Lasting::stayed, crate::proofs::Causes::why_down, crate::proofs::Causes::why_reason, crate::proofs::Causes::lacks_memory))]
+    #[tactic(auto, using(crate::proofs::Readable::shown_has, crate::proofs::Refused::leaves_read, crate::proofs::Refused::moved_none, volatile_state::proofs::Lasting::stayed, crate::proofs::Causes::why_down, crate::proofs::Causes::why_reason, crate::proofs::Causes::lacks_memory))]
     pub fn receive(&mut self, session: u32) -> Result<Option<Message>, Refusal>
         ensures stands { Stands self.old.is_up result self.new.is_up }
+        ensures readable { ShowsPages self.old → ShowsPages self.new }
         ensures live { OnOk result (is_live self.old.memory.sessions session ≡ true) }
         ensures held { self.new.held ≡ self.old.held }
         ensures message { IfOk result (λ message. message ≡ first (waiting self.old.memory.sessions.waiting session)) }
@@ -33,6 +35,7 @@ impl<P: Parts> Repo<P> {
         ensures left { IfErr result (Leaves self.old self.new None) }
         ensures pages { self.new.pages ≡ self.old.pages }
         ensures clock { self.new.clock ≡ self.old.clock }
+        ensures faults { self.new.faults ≡ self.old.faults }
         ensures opened { self.new.opened_in ≡ self.old.opened_in }
     {
         self.check_up()?;
@@ -42,6 +45,7 @@ impl<P: Parts> Repo<P> {
     }
 
     /// Marks that a message was taken, where one was.
+    #[tactic(auto, using(crate::proofs::Readable::shown_has))]
     fn mark_taken(
         &mut self,
         session: u32,
@@ -49,6 +53,7 @@ impl<P: Parts> Repo<P> {
     ) -> Result<Option<Message>, Refusal>
         requires { self.old.is_up ≡ true }
         ensures stands { Stands true result self.new.is_up }
+        ensures readable { ShowsPages self.old → ShowsPages self.new }
         ensures held { self.new.held ≡ self.old.held }
         ensures memory { self.new.memory ≡ self.old.memory }
         ensures message { IfOk result (λ message. message ≡ taken) }
@@ -58,6 +63,7 @@ impl<P: Parts> Repo<P> {
         ensures refusal { IfErr result (λ r. r ≡ IsNoMemory) }
         ensures pages { self.new.pages ≡ self.old.pages }
         ensures clock { self.new.clock ≡ self.old.clock }
+        ensures faults { self.new.faults ≡ self.old.faults }
         ensures opened { self.new.opened_in ≡ self.old.opened_in }
     {
         match taken {

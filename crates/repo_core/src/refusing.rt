@@ -14,6 +14,7 @@ ghost use Rattle.repo_core.specs.Calls.{full_of, judged};
 ghost use Rattle.std.specs.Option.{option_or};
 ghost use Rattle.validation_window.specs.declared.refusal.Refusal.TheVariants.{NoMemory as IsNoMemory};
 ghost use Rattle.validation_window.specs.declared.refusal.Refusal.{Refusal as ARefusal};
+ghost use Rattle.repo_core.specs.Shown.{ShowsPages};
 
 use crate::repo::Repo;
 use commit_log::Request;
@@ -34,6 +35,7 @@ impl<P: Parts> Repo<P> {
         requires up { self.old.is_up ≡ true }
         requires marked { is_marked refusal ≡ true }
         ensures stands { self.new.is_up ≡ cond (is_fault result) false true }
+        ensures readable { ShowsPages self.old → ShowsPages self.new }
         ensures held { self.new.held ≡ self.old.held }
         ensures memory { self.new.memory ≡ self.old.memory }
         ensures trace { self.new.trace ≡ with_refusal self.old.trace session request result }
@@ -42,6 +44,7 @@ impl<P: Parts> Repo<P> {
         ensures left { (e : Option AnEntry) → Leaves self.old self.new e result }
         ensures pages { self.new.pages ≡ self.old.pages }
         ensures clock { self.new.clock ≡ self.old.clock }
+        ensures faults { self.new.faults ≡ self.old.faults }
         ensures opened { self.new.opened_in ≡ self.old.opened_in }
     {
         let mark = Mark::Refused {

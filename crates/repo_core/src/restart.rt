@@ -6,8 +6,8 @@ ghost use Rattle.live_sessions.specs.Sessions.{ended};
 ghost use Rattle.log_bytes.specs.Grammar.{BodyFits};
 ghost use Rattle.log_bytes.specs.declared.body.Body.TheVariants.{Entry as AnEntry};
 ghost use Rattle.repo_core.specs.Behind.{IsRecovered, IsRestarted, Stands, is_marked};
-ghost use Rattle.repo_core.specs.Shown.{faults_of};
-ghost use Rattle.stable_store.specs.Failing.{HasFailed, NoFewer};
+ghost use Rattle.repo_core.specs.Shown.{faults_of, ShowsPages};
+ghost use Rattle.stable_store.specs.Failing.{HasFailed, NoFewer, is_stopped};
 ghost use Rattle.stable_store.specs.Kept.{IsKept, disks_of, held_of, is_fault, is_up, parts_in};
 ghost use Rattle.stable_store.specs.Saying.{IsAhead, IsSaid};
 ghost use Rattle.trace_record.specs.Recorded.{with_entry};
@@ -19,6 +19,7 @@ ghost use Rattle.repository_laws.specs.Coming.{BeginsLife};
 ghost use Rattle.held_state.specs.Entering.{can_enter, entered};
 ghost use Rattle.validation_window.specs.declared.refusal.Refusal.TheVariants.{Damaged as IsDamaged, NoMemory as IsNoMemory, Stopped as IsStopped};
 ghost use Rattle.volatile_state.specs.Volatile.{Outlasts};
+ghost use Rattle.stable_store.specs.Pages.{HasPages};
 
 use crate::repo::Repo;
 use crate::writing::{note, record};
@@ -40,6 +41,7 @@ impl<P: Parts> Repo<P> {
     #[tactic(auto, using(crate::proofs::Taking::comes_up_so, crate::proofs::Taking::fails_so))]
     pub fn restart(&mut self, pick: u64) -> Result<(), Refusal>
         ensures up { OnOk result (self.new.is_up ≡ true) }
+        ensures readable { ShowsPages self.old → ShowsPages self.new }
         ensures down { OnErr result (self.new.is_up ≡ false) }
         ensures fault { IfErr result (λ r. is_fault r ≡ true) }
         ensures ended { OnOk result (self.new.memory.sessions ≡ ended self.old.memory.sessions) }
@@ -48,6 +50,8 @@ impl<P: Parts> Repo<P> {
         ensures comes_up { OnOk result (ComesUp self.old self.new) }
         ensures stays_down { OnErr result (StaysDown self.old self.new) }
         ensures stopped { (n : ℕ) → IsErrOf result (IsStopped n) → HasFailed (faults_of self.old) (faults_of self.new) }
+        ensures steady { OnOk result (self.new.faults ≡ self.old.faults) }
+        ensures quiet { IfErr result (λ r. is_stopped r ≡ false → self.new.faults ≡ self.old.faults) }
         ensures torn { self.old.is_torn ≡ true → IsErrOf result IsNoMemory × (self.new ≡ self.old) }
         ensures clock { self.old.clock ≤ self.new.clock }
         ensures damaged { (n place : ℕ) → IsErrOf result (IsDamaged n place) → AllTold self.old → ⊥ }
@@ -62,11 +66,14 @@ impl<P: Parts> Repo<P> {
     #[tactic(auto, using(crate::proofs::Taking::takes_held, crate::proofs::Taking::takes_pending, crate::proofs::Taking::down_with_it))]
     fn take_over(&mut self, pick: u64) -> Result<(), Refusal>
         ensures up { OnOk result (self.new.is_up ≡ true) }
+        ensures readable { ShowsPages self.old → ShowsPages self.new }
         ensures down { OnErr result (self.new.is_up ≡ false) }
         ensures fault { IfErr result (λ r. is_fault r ≡ true) }
         ensures takes { OnOk result (Takes self.old self.new) }
         ensures none { OnErr result (TakesNone self.old self.new) }
         ensures stopped { (n : ℕ) → IsErrOf result (IsStopped n) → HasFailed (faults_of self.old) (faults_of self.new) }
+        ensures steady { OnOk result (self.new.faults ≡ self.old.faults) }
+        ensures quiet { IfErr result (λ r. is_stopped r ≡ false → self.new.faults ≡ self.old.faults) }
         ensures torn { self.old.is_torn ≡ true → IsErrOf result IsNoMemory × (self.new ≡ self.old) }
         ensures clock { self.old.clock ≤ self.new.clock }
         ensures faults { NoFewer (faults_of self.old) (faults_of self.new) }
@@ -82,10 +89,11 @@ impl<P: Parts> Repo<P> {
     }
 
     /// Begins the next life.
-    #[tactic(auto, using(crate::proofs::Refused::falls_with, crate::proofs::Refused::moved_none, crate::proofs::Refused::lasts_same))]
+    #[tactic(auto, using(crate::proofs::Readable::shown_has, crate::proofs::Refused::falls_with, crate::proofs::Refused::moved_none, crate::proofs::Refused::lasts_same))]
     pub(crate) fn write_life(&mut self) -> Result<(), Refusal>
         requires { self.old.is_up ≡ true }
         ensures stands { Stands true result self.new.is_up }
+        ensures readable { ShowsPages self.old → ShowsPages self.new }
         ensures fault { IfErr result (λ r. is_fault r ≡ true) }
         ensures ended { OnOk result (self.new.memory.sessions ≡ ended self.old.memory.sessions) }
         ensures trace { OnOk result (self.new.trace ≡ with_entry self.old.trace (ALife (self.old.held.life + 1))) }
@@ -94,6 +102,8 @@ impl<P: Parts> Repo<P> {
         ensures begins { OnOk result (BeginsLife self.old.held self.old.memory self.new.memory) }
         ensures left { OnErr result (GoesDown self.old self.new (Some (life_behind self.old))) }
         ensures stopped { (n : ℕ) → IsErrOf result (IsStopped n) → HasFailed (faults_of self.old) (faults_of self.new) }
+        ensures steady { OnOk result (self.new.faults ≡ self.old.faults) }
+        ensures quiet { IfErr result (λ r. is_stopped r ≡ false → self.new.faults ≡ self.old.faults) }
         ensures pages { self.new.pages ≡ self.old.pages }
         ensures clock { self.new.clock ≡ self.old.clock }
         ensures damaged { (n place : ℕ) → IsErrOf result (IsDamaged n place) → ⊥ }
@@ -112,9 +122,11 @@ impl<P: Parts> Repo<P> {
     }
 
     /// Lets go of the kept decisions of earlier openings: what they left is settled.
+    #[tactic(auto, using(crate::proofs::Readable::shown_has))]
     pub(crate) fn drop_decisions(&mut self)
         requires { self.old.is_up ≡ true }
         ensures up { self.new.is_up ≡ self.old.is_up }
+        ensures readable { ShowsPages self.old → ShowsPages self.new }
         ensures life { self.new.held.life ≡ self.old.held.life }
         ensures memory { self.new.memory ≡ self.old.memory }
         ensures trace { self.new.trace ≡ self.old.trace }
@@ -144,6 +156,7 @@ fn take_pending<P: Parts>(
     requires kept { IsKept P.disks stable.old }
     requires ahead { IsAhead P.disks stable.old entry }
     ensures kept { IsKept P.disks stable.new }
+    ensures readable { HasPages P.disks stable.old → HasPages P.disks stable.new }
     ensures says { IsSaid P.disks stable.new }
     ensures stands { Stands true result (is_up stable.new) }
     ensures fault { IfErr result (λ r. is_fault r ≡ true) }
@@ -165,11 +178,13 @@ fn take_pending<P: Parts>(
 }
 
 /// Forgets the kept decisions of transactions of earlier lives than this one.
+#[tactic(auto, using(stable_store::proofs::Readable::tabled_has))]
 fn forget_before<P: Parts>(stable: &mut Stable<P>, life: u32)
     requires kept { IsKept P.disks stable.old }
     requires up { is_up stable.old ≡ true }
     requires says { IsSaid P.disks stable.old }
     ensures kept { IsKept P.disks stable.new }
+    ensures readable { HasPages P.disks stable.old → HasPages P.disks stable.new }
     ensures says { IsSaid P.disks stable.new }
     ensures up { is_up stable.new ≡ is_up stable.old }
     ensures life { (held_of stable.new).life ≡ (held_of stable.old).life }
@@ -189,12 +204,13 @@ fn forget_before<P: Parts>(stable: &mut Stable<P>, life: u32)
 }
 
 /// Forgets a kept decision, where its transaction is of an earlier life than this one.
-#[tactic(auto, using(crate::proofs::Letting::goes_itself))]
+#[tactic(auto, using(crate::proofs::Letting::goes_itself, stable_store::proofs::Readable::tabled_has))]
 fn forget_earlier<P: Parts>(stable: &mut Stable<P>, tx: Ts, life: u32)
     requires kept { IsKept P.disks stable.old }
     requires up { is_up stable.old ≡ true }
     requires says { IsSaid P.disks stable.old }
     ensures kept { IsKept P.disks stable.new }
+    ensures readable { HasPages P.disks stable.old → HasPages P.disks stable.new }
     ensures says { IsSaid P.disks stable.new }
     ensures phase { stable.new.phase ≡ stable.old.phase }
     ensures parts { parts_in stable.new ≡ parts_in stable.old }
@@ -207,13 +223,14 @@ fn forget_earlier<P: Parts>(stable: &mut Stable<P>, tx: Ts, life: u32)
 }
 
 /// Forgets a kept decision of a transaction of an earlier life than this one.
-#[tactic(auto, using(crate::proofs::Letting::one_goes_in, crate::proofs::Letting::table_alone))]
+#[tactic(auto, using(crate::proofs::Letting::one_goes_in, crate::proofs::Letting::table_alone, stable_store::proofs::Readable::tabled_has))]
 fn forget_one<P: Parts>(stable: &mut Stable<P>, tx: Ts, life: u32)
     requires kept { IsKept P.disks stable.old }
     requires up { is_up stable.old ≡ true }
     requires says { IsSaid P.disks stable.old }
     requires earlier { tx.life < life }
     ensures kept { IsKept P.disks stable.new }
+    ensures readable { HasPages P.disks stable.old → HasPages P.disks stable.new }
     ensures says { IsSaid P.disks stable.new }
     ensures phase { stable.new.phase ≡ stable.old.phase }
     ensures parts { parts_in stable.new ≡ parts_in stable.old }

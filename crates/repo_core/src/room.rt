@@ -1,5 +1,6 @@
 //! Room in the buffer of modified objects.
 
+ghost use Rattle.disk_trait.specs.AllDisks.{NoFault};
 ghost use Rattle.std.specs.List.{AllByRecursion};
 ghost use Rattle.std.specs.Prelude.{◌≡◌, IfErr, IsErrOf, false, true, OnErr, Option, None, OnOk, ◌<◌, ◌≤◌, ℕ};
 ghost use Rattle.held_state.specs.Keeps.{Keeps};
@@ -9,12 +10,14 @@ ghost use Rattle.repo_core.specs.Moving.{HasRoom, HasRoomFor, MakesRoom};
 ghost use Rattle.stable_store.specs.Kept.{IsKept, RestsWith, disks_of, held_of, is_fault, is_up, repo_named};
 ghost use Rattle.stable_store.specs.Saying.{IsSaid};
 ghost use Rattle.commit_log.specs.declared.entry.Entry.{Entry as AnEntry};
-ghost use Rattle.repo_core.specs.Refusing.{Leaves};
-ghost use Rattle.repo_core.specs.Shown.{faults_of};
-ghost use Rattle.stable_store.specs.Failing.{HasFailed, NoFewer};
+ghost use Rattle.repo_core.specs.Refusing.{IsPageDamage, Leaves};
+ghost use Rattle.repo_core.specs.Shown.{faults_of, ShowsPages};
+ghost use Rattle.stable_store.specs.Failing.{HasFailed, NoFewer, is_stopped};
 ghost use Rattle.stable_store.specs.Flushes.{HasFlushed};
 ghost use Rattle.refusal_reasons.specs.declared.reason.Reason.TheVariants.{Full as IsFull};
-ghost use Rattle.validation_window.specs.declared.refusal.Refusal.TheVariants.{Reason as IsReason, Stopped as IsStopped};
+ghost use Rattle.validation_window.specs.declared.refusal.Refusal.TheVariants.{Reason as IsReason, Stopped as IsStopped, Damaged as IsDamaged};
+ghost use Rattle.page_store.specs.Store.{IsDamage};
+ghost use Rattle.stable_store.specs.Pages.{HasPages};
 
 use crate::repo::Repo;
 use disk_trait::Parts;
@@ -43,17 +46,22 @@ impl<P: Parts> Repo<P> {
     }
 
     /// Flushes pages until writes fit into the buffer beside what is there, or it is empty.
-    #[tactic(auto, using(crate::proofs::Refused::leaves_down, crate::proofs::Refused::falls_with, crate::proofs::Refused::lasts_same, crate::proofs::Failing::failed_between, crate::proofs::Failing::fewer_between, crate::proofs::Failing::fewer_same, stable_store::proofs::Flushes::flushed_none))]
+    #[tactic(auto, using(crate::proofs::Refused::leaves_down, crate::proofs::Refused::falls_with, crate::proofs::Refused::lasts_same, crate::proofs::Damage::some_shown, crate::proofs::Failing::failed_between, crate::proofs::Failing::ok_shown, crate::proofs::Failing::err_shown, crate::proofs::Failing::fewer_between, crate::proofs::Failing::fewer_same, stable_store::proofs::Flushes::flushed_none, crate::proofs::Readable::shown_has))]
     pub(crate) fn make_room(&mut self, writes: &Writes) -> Result<(), Refusal>
         requires up { self.old.is_up ≡ true }
         requires fits { AllByRecursion CanStand writes.now }
         ensures stands { Stands true result self.new.is_up }
+        ensures readable { ShowsPages self.old → ShowsPages self.new }
+        ensures never { (n place : ℕ) → IsErrOf result (IsDamaged n place) → ShowsPages self.old → ⊥ }
         ensures fault { IfErr result (λ r. (is_fault r ≡ true) × (is_marked r ≡ false)) }
         ensures made { MakesRoom self.old self.new }
         ensures stays { HasRoom self.old.held writes.now → self.new ≡ self.old }
         ensures left { IfErr result (λ r. (e : Option AnEntry) → Leaves self.old self.new e r) }
         ensures names { IfErr result (λ r. repo_named self.old.held.repo r ≡ self.old.held.repo) }
         ensures stopped { (n : ℕ) → IsErrOf result (IsStopped n) → HasFailed (faults_of self.old) (faults_of self.new) }
+        ensures page { (n place : ℕ) → IsErrOf result (IsDamaged n place) → (page : ℕ) × IsPageDamage self.new page place }
+        ensures steady { OnOk result (self.new.faults ≡ self.old.faults) }
+        ensures quiet { IfErr result (λ r. is_stopped r ≡ false → self.new.faults ≡ self.old.faults) }
         ensures faults { NoFewer (faults_of self.old) (faults_of self.new) }
         ensures clock { self.new.clock ≡ self.old.clock }
         ensures opened { self.new.opened_in ≡ self.old.opened_in }
@@ -62,16 +70,21 @@ impl<P: Parts> Repo<P> {
     }
 
     /// Does so for the writes of a transaction that is open here, where it commits.
-    #[tactic(auto, using(crate::proofs::Refused::leaves_down, crate::proofs::Refused::falls_with, crate::proofs::Refused::lasts_same, crate::proofs::Failing::failed_between, crate::proofs::Failing::fewer_between, crate::proofs::Failing::fewer_same, stable_store::proofs::Flushes::flushed_none))]
+    #[tactic(auto, using(crate::proofs::Refused::leaves_down, crate::proofs::Refused::falls_with, crate::proofs::Refused::lasts_same, crate::proofs::Damage::some_shown, crate::proofs::Failing::failed_between, crate::proofs::Failing::ok_shown, crate::proofs::Failing::err_shown, crate::proofs::Failing::fewer_between, crate::proofs::Failing::fewer_same, stable_store::proofs::Flushes::flushed_none, crate::proofs::Readable::shown_has))]
     pub(crate) fn make_room_for(&mut self, tx: Ts, commit: bool) -> Result<(), Refusal>
         requires { self.old.is_up ≡ true }
         ensures stands { Stands true result self.new.is_up }
+        ensures readable { ShowsPages self.old → ShowsPages self.new }
+        ensures never { (n place : ℕ) → IsErrOf result (IsDamaged n place) → ShowsPages self.old → ⊥ }
         ensures fault { IfErr result (λ r. (is_fault r ≡ true) × (is_marked r ≡ false)) }
         ensures made { MakesRoom self.old self.new }
         ensures stays { HasRoomFor self.old.held tx commit → self.new ≡ self.old }
         ensures left { IfErr result (λ r. (e : Option AnEntry) → Leaves self.old self.new e r) }
         ensures names { IfErr result (λ r. repo_named self.old.held.repo r ≡ self.old.held.repo) }
         ensures stopped { (n : ℕ) → IsErrOf result (IsStopped n) → HasFailed (faults_of self.old) (faults_of self.new) }
+        ensures page { (n place : ℕ) → IsErrOf result (IsDamaged n place) → (page : ℕ) × IsPageDamage self.new page place }
+        ensures steady { OnOk result (self.new.faults ≡ self.old.faults) }
+        ensures quiet { IfErr result (λ r. is_stopped r ≡ false → self.new.faults ≡ self.old.faults) }
         ensures faults { NoFewer (faults_of self.old) (faults_of self.new) }
         ensures clock { self.new.clock ≡ self.old.clock }
         ensures opened { self.new.opened_in ≡ self.old.opened_in }
@@ -84,13 +97,15 @@ impl<P: Parts> Repo<P> {
     }
 }
 
-#[tactic(auto, using(stable_store::proofs::Failing::fewer_none, stable_store::proofs::Flushes::flushed_none))]
+#[tactic(auto, using(stable_store::proofs::Failing::fewer_none, stable_store::proofs::Counting::stays_none, stable_store::proofs::Counting::stays_then, stable_store::proofs::Flushes::flushed_none))]
 fn make_room<P: Parts>(stable: &mut Stable<P>, writes: &Writes) -> Result<(), Refusal>
     requires kept { IsKept P.disks stable.old }
     requires says { IsSaid P.disks stable.old }
     requires up { is_up stable.old ≡ true }
     requires fits { AllByRecursion CanStand writes.now }
     ensures kept { IsKept P.disks stable.new }
+    ensures readable { HasPages P.disks stable.old → HasPages P.disks stable.new }
+    ensures never { (n place : ℕ) → IsErrOf result (IsDamaged n place) → HasPages P.disks stable.old → ⊥ }
     ensures says { IsSaid P.disks stable.new }
     ensures stands { Stands true result (is_up stable.new) }
     ensures fault { IfErr result (λ r. (is_fault r ≡ true) × (is_marked r ≡ false)) }
@@ -101,6 +116,9 @@ fn make_room<P: Parts>(stable: &mut Stable<P>, writes: &Writes) -> Result<(), Re
     ensures rests { OnErr result (RestsWith None stable.new) }
     ensures names { IfErr result (λ r. repo_named (held_of stable.old).repo r ≡ (held_of stable.old).repo) }
     ensures stopped { (n : ℕ) → IsErrOf result (IsStopped n) → HasFailed (disks_of P.disks stable.old).faults (disks_of P.disks stable.new).faults }
+    ensures page { (n place : ℕ) → IsErrOf result (IsDamaged n place) → (page : ℕ) × IsDamage (disks_of P.disks stable.new) (held_of stable.new).objects.pages.sides page place }
+    ensures steady { OnOk result (NoFault (disks_of P.disks stable.old) (disks_of P.disks stable.new)) }
+    ensures quiet { IfErr result (λ r. is_stopped r ≡ false → NoFault (disks_of P.disks stable.old) (disks_of P.disks stable.new)) }
     ensures faults { NoFewer (disks_of P.disks stable.old).faults (disks_of P.disks stable.new).faults }
     ensures clock { (disks_of P.disks stable.new).clock ≡ (disks_of P.disks stable.old).clock }
 {
@@ -111,13 +129,15 @@ fn make_room<P: Parts>(stable: &mut Stable<P>, writes: &Writes) -> Result<(), Re
 }
 
 /// Flushes pages until the buffer keeps its limit with these writes, or it is empty.
-#[tactic(auto, using(stable_store::proofs::Failing::fewer_none, stable_store::proofs::Failing::fewer_then, stable_store::proofs::Failing::failed_behind, stable_store::proofs::Flushes::flushed_none, stable_store::proofs::Flushes::flushed_then, stable_store::proofs::Flushes::flushed_same))]
+#[tactic(auto, using(stable_store::proofs::Failing::fewer_none, stable_store::proofs::Counting::stays_none, stable_store::proofs::Counting::stays_then, stable_store::proofs::Counting::err_behind, stable_store::proofs::Failing::fewer_then, stable_store::proofs::Failing::failed_behind, stable_store::proofs::Flushes::flushed_none, stable_store::proofs::Flushes::flushed_then, stable_store::proofs::Flushes::flushed_same))]
 fn flush_for<P: Parts>(stable: &mut Stable<P>, writes: &Writes) -> Result<(), Refusal>
     requires kept { IsKept P.disks stable.old }
     requires says { IsSaid P.disks stable.old }
     requires up { is_up stable.old ≡ true }
     requires fits { AllByRecursion CanStand writes.now }
     ensures kept { IsKept P.disks stable.new }
+    ensures readable { HasPages P.disks stable.old → HasPages P.disks stable.new }
+    ensures never { (n place : ℕ) → IsErrOf result (IsDamaged n place) → HasPages P.disks stable.old → ⊥ }
     ensures says { IsSaid P.disks stable.new }
     ensures stands { Stands true result (is_up stable.new) }
     ensures fault { IfErr result (λ r. (is_fault r ≡ true) × (is_marked r ≡ false)) }
@@ -127,6 +147,9 @@ fn flush_for<P: Parts>(stable: &mut Stable<P>, writes: &Writes) -> Result<(), Re
     ensures rests { OnErr result (RestsWith None stable.new) }
     ensures names { IfErr result (λ r. repo_named (held_of stable.old).repo r ≡ (held_of stable.old).repo) }
     ensures stopped { (n : ℕ) → IsErrOf result (IsStopped n) → HasFailed (disks_of P.disks stable.old).faults (disks_of P.disks stable.new).faults }
+    ensures page { (n place : ℕ) → IsErrOf result (IsDamaged n place) → (page : ℕ) × IsDamage (disks_of P.disks stable.new) (held_of stable.new).objects.pages.sides page place }
+    ensures steady { OnOk result (NoFault (disks_of P.disks stable.old) (disks_of P.disks stable.new)) }
+    ensures quiet { IfErr result (λ r. is_stopped r ≡ false → NoFault (disks_of P.disks stable.old) (disks_of P.disks stable.new)) }
     ensures faults { NoFewer (disks_of P.disks stable.old).faults (disks_of P.disks stable.new).faults }
     ensures clock { (disks_of P.disks stable.new).clock ≡ (disks_of P.disks stable.old).clock }
 {
@@ -142,12 +165,14 @@ fn flush_for<P: Parts>(stable: &mut Stable<P>, writes: &Writes) -> Result<(), Re
 }
 
 /// Flushes pages until the writes of a transaction that is open fit into the buffer, or it is empty.
-#[tactic(auto, using(stable_store::proofs::Failing::fewer_none, stable_store::proofs::Flushes::flushed_none))]
+#[tactic(auto, using(stable_store::proofs::Failing::fewer_none, stable_store::proofs::Counting::stays_none, stable_store::proofs::Counting::stays_then, stable_store::proofs::Flushes::flushed_none))]
 fn make_room_for<P: Parts>(stable: &mut Stable<P>, tx: Ts) -> Result<(), Refusal>
     requires kept { IsKept P.disks stable.old }
     requires says { IsSaid P.disks stable.old }
     requires up { is_up stable.old ≡ true }
     ensures kept { IsKept P.disks stable.new }
+    ensures readable { HasPages P.disks stable.old → HasPages P.disks stable.new }
+    ensures never { (n place : ℕ) → IsErrOf result (IsDamaged n place) → HasPages P.disks stable.old → ⊥ }
     ensures says { IsSaid P.disks stable.new }
     ensures stands { Stands true result (is_up stable.new) }
     ensures fault { IfErr result (λ r. (is_fault r ≡ true) × (is_marked r ≡ false)) }
@@ -158,6 +183,9 @@ fn make_room_for<P: Parts>(stable: &mut Stable<P>, tx: Ts) -> Result<(), Refusal
     ensures rests { OnErr result (RestsWith None stable.new) }
     ensures names { IfErr result (λ r. repo_named (held_of stable.old).repo r ≡ (held_of stable.old).repo) }
     ensures stopped { (n : ℕ) → IsErrOf result (IsStopped n) → HasFailed (disks_of P.disks stable.old).faults (disks_of P.disks stable.new).faults }
+    ensures page { (n place : ℕ) → IsErrOf result (IsDamaged n place) → (page : ℕ) × IsDamage (disks_of P.disks stable.new) (held_of stable.new).objects.pages.sides page place }
+    ensures steady { OnOk result (NoFault (disks_of P.disks stable.old) (disks_of P.disks stable.new)) }
+    ensures quiet { IfErr result (λ r. is_stopped r ≡ false → NoFault (disks_of P.disks stable.old) (disks_of P.disks stable.new)) }
     ensures faults { NoFewer (disks_of P.disks stable.old).faults (disks_of P.disks stable.new).faults }
     ensures clock { (disks_of P.disks stable.new).clock ≡ (disks_of P.disks stable.old).clock }
 {
@@ -167,12 +195,14 @@ fn make_room_for<P: Parts>(stable: &mut Stable<P>, tx: Ts) -> Result<(), Refusal
     flush_open(stable, tx)
 }
 
-#[tactic(auto, using(stable_store::proofs::Failing::fewer_none, stable_store::proofs::Failing::fewer_then, stable_store::proofs::Failing::failed_behind, stable_store::proofs::Flushes::flushed_none, stable_store::proofs::Flushes::flushed_then, stable_store::proofs::Flushes::flushed_same))]
+#[tactic(auto, using(stable_store::proofs::Failing::fewer_none, stable_store::proofs::Counting::stays_none, stable_store::proofs::Counting::stays_then, stable_store::proofs::Counting::err_behind, stable_store::proofs::Failing::fewer_then, stable_store::proofs::Failing::failed_behind, stable_store::proofs::Flushes::flushed_none, stable_store::proofs::Flushes::flushed_then, stable_store::proofs::Flushes::flushed_same))]
 fn flush_open<P: Parts>(stable: &mut Stable<P>, tx: Ts) -> Result<(), Refusal>
     requires kept { IsKept P.disks stable.old }
     requires says { IsSaid P.disks stable.old }
     requires up { is_up stable.old ≡ true }
     ensures kept { IsKept P.disks stable.new }
+    ensures readable { HasPages P.disks stable.old → HasPages P.disks stable.new }
+    ensures never { (n place : ℕ) → IsErrOf result (IsDamaged n place) → HasPages P.disks stable.old → ⊥ }
     ensures says { IsSaid P.disks stable.new }
     ensures stands { Stands true result (is_up stable.new) }
     ensures fault { IfErr result (λ r. (is_fault r ≡ true) × (is_marked r ≡ false)) }
@@ -182,6 +212,9 @@ fn flush_open<P: Parts>(stable: &mut Stable<P>, tx: Ts) -> Result<(), Refusal>
     ensures rests { OnErr result (RestsWith None stable.new) }
     ensures names { IfErr result (λ r. repo_named (held_of stable.old).repo r ≡ (held_of stable.old).repo) }
     ensures stopped { (n : ℕ) → IsErrOf result (IsStopped n) → HasFailed (disks_of P.disks stable.old).faults (disks_of P.disks stable.new).faults }
+    ensures page { (n place : ℕ) → IsErrOf result (IsDamaged n place) → (page : ℕ) × IsDamage (disks_of P.disks stable.new) (held_of stable.new).objects.pages.sides page place }
+    ensures steady { OnOk result (NoFault (disks_of P.disks stable.old) (disks_of P.disks stable.new)) }
+    ensures quiet { IfErr result (λ r. is_stopped r ≡ false → NoFault (disks_of P.disks stable.old) (disks_of P.disks stable.new)) }
     ensures faults { NoFewer (disks_of P.disks stable.old).faults (disks_of P.disks stable.new).faults }
     ensures clock { (disks_of P.disks stable.new).clock ≡ (disks_of P.disks stable.old).clock }
 {

@@ -21,12 +21,13 @@ ghost use Rattle.two_phase.specs.Contents.{open_at};
 ghost use Rattle.validation_queue.specs.Contents.{cleared, with_one};
 ghost use Rattle.volatile_state.specs.Volatile.{entered as entered_memory, transaction_of, Outlasts};
 ghost use Rattle.repo_core.specs.Refusing.{GoesDown};
-ghost use Rattle.repo_core.specs.Shown.{faults_of};
+ghost use Rattle.repo_core.specs.Shown.{faults_of, ShowsPages};
 ghost use Rattle.repo_core.specs.Telling.{Tells, next_epoch};
-ghost use Rattle.stable_store.specs.Failing.{HasFailed};
+ghost use Rattle.stable_store.specs.Failing.{HasFailed, is_stopped};
 ghost use Rattle.volatile_state.specs.Telling.{CommitTold, TellsDecided};
 ghost use Rattle.repository_laws.specs.Running.{came_with};
 ghost use Rattle.validation_window.specs.declared.refusal.Refusal.TheVariants.{Damaged as IsDamaged, NoMemory as IsNoMemory, Stopped as IsStopped};
+ghost use Rattle.stable_store.specs.Pages.{HasPages};
 
 use crate::looks::epoch_of;
 use crate::repo::Repo;
@@ -44,11 +45,12 @@ impl<P: Parts> Repo<P> {
     /// Writes an entry. The answer is its place.
     ///
     /// After a refusal the repository is down, and the entry is pending if the log may have it.
-    #[tactic(auto, using(crate::proofs::Falls::keeps_up, crate::proofs::Refused::falls_with, crate::proofs::Refused::falls_pending, crate::proofs::Refused::falls_behind, crate::proofs::Refused::moved_none, crate::proofs::Refused::lasts_same, crate::proofs::Failing::failed_between, crate::proofs::Failing::stopped_memory))]
+    #[tactic(auto, using(crate::proofs::Readable::shown_has, crate::proofs::Falls::keeps_up, crate::proofs::Refused::falls_with, crate::proofs::Refused::falls_pending, crate::proofs::Refused::falls_behind, crate::proofs::Refused::moved_none, crate::proofs::Refused::lasts_same, crate::proofs::Failing::failed_between, crate::proofs::Failing::stopped_memory))]
     pub(crate) fn write(&mut self, entry: Entry) -> Result<u64, Refusal>
         requires can { CanWrite self.old.held self.old.memory entry }
         requires up { self.old.is_up ≡ true }
         ensures stands { Stands true result self.new.is_up }
+        ensures readable { ShowsPages self.old → ShowsPages self.new }
         ensures fault { IfErr result (λ r. (is_fault r ≡ true) × (is_marked r ≡ false)) }
         ensures place { IfOk result (λ place. place ≡ length self.old.trace.history) }
         ensures held { OnOk result (self.new.held ≡ entered self.old.held entry) }
@@ -64,6 +66,8 @@ impl<P: Parts> Repo<P> {
         ensures damaged { (n place : ℕ) → IsErrOf result (IsDamaged n place) → ⊥ }
         ensures pages { self.new.pages ≡ self.old.pages }
         ensures stopped { (n : ℕ) → IsErrOf result (IsStopped n) → HasFailed (faults_of self.old) (faults_of self.new) }
+        ensures steady { OnOk result (self.new.faults ≡ self.old.faults) }
+        ensures quiet { IfErr result (λ r. is_stopped r ≡ false → self.new.faults ≡ self.old.faults) }
         ensures clock { self.new.clock ≡ self.old.clock }
         ensures opened { self.new.opened_in ≡ self.old.opened_in }
     {
@@ -97,6 +101,7 @@ pub(crate) fn record<P: Parts>(
     requires kept { IsKept P.disks stable.old }
     requires ahead { IsAhead P.disks stable.old entry }
     ensures kept { IsKept P.disks stable.new }
+    ensures readable { HasPages P.disks stable.old → HasPages P.disks stable.new }
     ensures says { IsSaid P.disks stable.new }
     ensures stands { Stands true result (is_up stable.new) }
     ensures fault { IfErr result (λ r. (is_fault r ≡ true) × (is_marked r ≡ false)) }

@@ -1,10 +1,13 @@
+pub mod Counting
 pub mod Failing
 pub mod Flushes
 pub mod Forgetting
+pub mod Harmed
 pub mod Lowered
 pub mod Opened
 pub mod Openings
 pub mod Pages
+pub mod Readable
 pub mod Reaching
 pub mod Remembering
 pub mod Returning

@@ -16,14 +16,14 @@ use Rattle.log_bytes.specs.declared.body.Body.TheVariants.{Entry as AnEntry, Ins
 use Rattle.log_bytes.specs.declared.state.State.{State}
 use Rattle.log_frame.specs.Log.{Opened, Place, read_log}
 use Rattle.mob_flusher.specs.Map.{Kept}
-use Rattle.page_store.specs.Sides.{ReachesSides}
+use Rattle.page_store.specs.Sides.{ReachesSides, side_bytes}
 use Rattle.stable_store.proofs.Remembering.{comes_back, comes_behind, comes_installed}
-use Rattle.stable_store.proofs.Pages.{tells_before, tells_on}
+use Rattle.stable_store.proofs.Pages.{one_disk, reads_of, tells_before, tells_on}
 use Rattle.stable_store.proofs.Saying.{log_same, log_says, said_in_phase}
 use Rattle.stable_store.specs.Agreeing.{numbers_of}
 use Rattle.stable_store.specs.Kept.{disks_of, down, is_torn_in, lowered}
 use Rattle.stable_store.specs.Remembering.{Remembers}
-use Rattle.stable_store.specs.Saying.{FindsOneOf, ImagesSay, IsAhead, IsAheadIn, IsOneOf, IsSaid, LeavesNoMore, LogSays, SaysIn}
+use Rattle.stable_store.specs.Saying.{FindsOneOf, ImagesSay, IsAhead, IsAheadIn, IsOneOf, IsSaid, LeavesNoMore, LogSays, ReadIsLeft, SaysIn}
 use Rattle.stable_store.specs.declared.agreement.Numbers.{Numbers}
 use Rattle.stable_store.specs.declared.stable.Phase.TheVariants.{Down, Torn, Up}
 use Rattle.stable_store.specs.declared.stable.Phase.{Phase}
@@ -31,7 +31,7 @@ use Rattle.stable_store.specs.declared.stable.Stable.{Stable}
 use Rattle.state_log.specs.Holds.{Holds}
 use Rattle.state_log.specs.Opening.{IsFresh}
 use Rattle.state_log.specs.Recovered.{after, chosen, closed, decided, kept_by, opened_without, stands, state_in}
-use Rattle.std.proofs.Common.{Bool, Err, List, None, Ok, Option, Result, Some, ap, arith, false, inl, inr, length, refl, true, suc, zero, subst, sym, ◌+◌, ◌<◌, ◌∙◌, ◌≡◌, ◌⊎◌, ℕ}
+use Rattle.std.proofs.Common.{Bool, Err, List, None, Ok, Option, Result, Some, ap, arith, false, inl, inr, length, refl, true, subst, sym, ◌+◌, ◌<◌, ◌∙◌, ◌≡◌, ◌⊎◌, ℕ}
 use Rattle.std.proofs.lemmas.Bool.{cases_eq}
 use Rattle.std.specs.Option.{IfSome, IsSome, option_and_then}
 use Rattle.std.specs.Prelude.{IfOk, OnErr, OnOk}
@@ -69,28 +69,23 @@ more_read old new alone crash = record {
   goes_on = λ tells. tells_on old new (goes_one old new 2 alone) tells;
 }
 
-pub images_more : (old new : Disks) (h : Held) (pending : Option Entry) → LeavesNoMore old new → ImagesSay old h pending → ImagesSay new h pending
-images_more old new h pending more says = record { each = λ tells images left. says.each (more.tells tells) images (more.images images left) }
+pub images_more : (old new : Disks) (h : Held) (pending : Option Entry) → LeavesNoMore old new → ReadIsLeft old new → ImagesSay old h pending → ImagesSay new h pending
+images_more old new h pending more read says = record {
+  each = λ tells images left. says.each (more.tells tells) images (more.images images left);
+  keeps = λ tells images left disk told page side used.
+      let was = more.tells tells in
+      let before = was 2 (omega arith) in
+      let now' = reads_of new tells in
+      let here = says.keeps was images (more.images images left) before.0 before.1 page side used in
+      let there = says.keeps was now'.0 (read now'.0 now'.1) before.0 before.1 page side used in
+      let same : now'.0 2 ≡ disk = one_disk (new.content 2) (now'.0 2) disk (now'.1 2 (omega arith)) told in
+      here ∙ sym (subst (λ (bytes : List ℕ). side_bytes bytes page side ≡ side_bytes before.0 page side) same there);
+}
 
 -- ---- what is found
 
 one_state : (s t : State) (o : Option State) → o ≡ Some s → o ≡ Some t → s ≡ t
 one_state s t o a b = cc
-
--- the bytes of each disk, where all tell
-reads_of : (disks : Disks) → TellsAll disks → (bytes : ℕ → List ℕ) × ReadsAs disks bytes
-reads_of disks tells = (bytes, reads)
-  where
-    bytes : ℕ → List ℕ
-    bytes zero = (tells 0 (omega arith)).0
-    bytes (suc zero) = (tells 1 (omega arith)).0
-    bytes (suc (suc n)) = (tells 2 (omega arith)).0
-
-    reads : (d : ℕ) → d < 3 → disks.content d ≡ Some (bytes d)
-    reads zero within = (tells 0 (omega arith)).1
-    reads (suc zero) within = (tells 1 (omega arith)).1
-    reads (suc (suc zero)) within = (tells 2 (omega arith)).1
-    reads (suc (suc (suc n))) within = let none : ⊥ = omega (arith, within) in absurd none
 
 pub finds_one : (old new : Disks) (log : Place) (h : Held) (s : State) → LeavesNoMore old new → Holds new log s → ((bytes : ℕ → List ℕ) → ReadsAs new bytes → MayLeaveAll new new.time bytes) → FindsOneOf old new h s
 finds_one old new log h s more holds left = λ pending says tells.
@@ -112,7 +107,7 @@ fresh_none images is = ap (λ (o : Option (Result Opened ℕ)). option_and_then 
 never_none : (s : State) (o : Option State) → o ≡ Some s → o ≡ None → ⊥
 never_none s o some none = cc
 
-reads_same : (old new : Disks) (bytes : ℕ → List ℕ) → SameContent old new → ReadsAs new bytes → ReadsAs old bytes
+pub reads_same : (old new : Disks) (bytes : ℕ → List ℕ) → SameContent old new → ReadsAs new bytes → ReadsAs old bytes
 reads_same old new bytes same reads = λ d within. sym (same d) ∙ reads d within
 
 -- a log that stands for nothing is none of what the disks may have said
@@ -211,16 +206,16 @@ neither_of found h (Some e) keeps held behind (inr r) = behind (same_numbers (sa
 
 -- ---- while it is down
 
-says_more : (old new : Disks) (h : Held) (p : Phase) → LeavesNoMore old new → SaysIn old h (lowered p) → SaysIn new h (lowered p)
-says_more old new h (Up log) more says = images_more old new h None more says
-says_more old new h (Down pending) more says = images_more old new h pending more says
-says_more old new h (Torn e) more says = tt
+says_more : (old new : Disks) (h : Held) (p : Phase) → LeavesNoMore old new → ReadIsLeft old new → SaysIn old h (lowered p) → SaysIn new h (lowered p)
+says_more old new h (Up log) more read says = images_more old new h None more read says
+says_more old new h (Down pending) more read says = images_more old new h pending more read says
+says_more old new h (Torn e) more read says = tt
 
 -- nothing was recovered
-pub fails_said : {P : Type 0} (disks : P → Disks) (old new : Stable P) (p : Phase) → IsSaid disks old → old.phase ≡ lowered p → LeavesNoMore (disks_of disks old) (disks_of disks new) → new.phase ≡ old.phase → new.held ≡ old.held → IsSaid disks new
-fails_said disks old new p is down more phase held = record {
+pub fails_said : {P : Type 0} (disks : P → Disks) (old new : Stable P) (p : Phase) → IsSaid disks old → old.phase ≡ lowered p → LeavesNoMore (disks_of disks old) (disks_of disks new) → ReadIsLeft (disks_of disks old) (disks_of disks new) → new.phase ≡ old.phase → new.held ≡ old.held → IsSaid disks new
+fails_said disks old new p is down more read phase held = record {
   says = subst (λ (h : Held). SaysIn (disks_of disks new) h new.phase) (sym held) (subst (SaysIn (disks_of disks new) old.held) (sym (phase ∙ down))
-      (says_more (disks_of disks old) (disks_of disks new) old.held p more (subst (SaysIn (disks_of disks old) old.held) down is.says)));
+      (says_more (disks_of disks old) (disks_of disks new) old.held p more read (subst (SaysIn (disks_of disks old) old.held) down is.says)));
 }
 
 -- what was recovered is one of what the disks may have said
@@ -229,9 +224,9 @@ restart_finds disks old new pending s is down held found tells =
     subst (λ (h : Held). IsOneOf h pending s) (sym held) (found pending (subst (SaysIn (disks_of disks old) old.held) down is.says) tells)
 
 -- it stays down, with what was pending
-pub restart_stays : {P : Type 0} (disks : P → Disks) (old mid new : Stable P) (pending : Option Entry) → IsSaid disks old → old.phase ≡ Down pending → LeavesNoMore (disks_of disks old) (disks_of disks mid) → mid.held ≡ old.held → new.parts ≡ mid.parts → new.held ≡ mid.held → new.phase ≡ Down pending → IsSaid disks new
-restart_stays {P = P} disks old mid new pending is down more held parts same phase =
-    let images : ImagesSay (disks_of disks mid) old.held pending = images_more (disks_of disks old) (disks_of disks mid) old.held pending more (subst (SaysIn (disks_of disks old) old.held) down is.says) in
+pub restart_stays : {P : Type 0} (disks : P → Disks) (old mid new : Stable P) (pending : Option Entry) → IsSaid disks old → old.phase ≡ Down pending → LeavesNoMore (disks_of disks old) (disks_of disks mid) → ReadIsLeft (disks_of disks old) (disks_of disks mid) → mid.held ≡ old.held → new.parts ≡ mid.parts → new.held ≡ mid.held → new.phase ≡ Down pending → IsSaid disks new
+restart_stays {P = P} disks old mid new pending is down more read held parts same phase =
+    let images : ImagesSay (disks_of disks mid) old.held pending = images_more (disks_of disks old) (disks_of disks mid) old.held pending more read (subst (SaysIn (disks_of disks old) old.held) down is.says) in
     let there : ImagesSay (disks_of disks mid) new.held pending = subst (λ (h : Held). ImagesSay (disks_of disks mid) h pending) (sym (same ∙ held)) images in
     said_in_phase disks new pending phase (subst (λ (p : Fused P). ImagesSay (fused_disks disks p) new.held pending) (sym parts) there)
 

@@ -2,7 +2,7 @@
 use Rattle.commit_log.specs.declared.entry.Entry.{Entry}
 use Rattle.disk_trait.proofs.Several.{all_now, goes_one}
 use Rattle.disk_trait.specs.AllDisks.{GoesOn, LeavesAll, MayLeaveAll, TellsAll}
-use Rattle.disk_trait.specs.Disks.{Disks, NoNewImage, OnDisk, SameDisks}
+use Rattle.disk_trait.specs.Disks.{Disks, MayLeave, NoNewImage, OnDisk, SameDisks, WhereTold}
 use Rattle.disk_trait.specs.Fuse.{with_falls}
 use Rattle.disk_trait.specs.Fused.{armed, fused_disks, parts_of}
 use Rattle.disk_trait.specs.declared.fused.Fused.{Fused}
@@ -15,10 +15,11 @@ use Rattle.log_bytes.specs.declared.state.State.{State}
 use Rattle.log_frame.specs.Log.{Place, Stands}
 use Rattle.mob_flusher.specs.Images.{IsFlushed}
 use Rattle.stable_store.proofs.Opened.{holds_same}
-use Rattle.page_store.specs.Sides.{ReachesSides}
-use Rattle.stable_store.proofs.Pages.{Reach, reach_open, reach_still, tells_before}
+use Rattle.page_store.specs.Sides.{KeepsSides, ReachesSides}
+use Rattle.stable_store.proofs.Pages.{Reach, or_put, or_same, reach_open, reach_still, tells_before}
 use Rattle.stable_store.proofs.Remembering.{entry_sides, remembers_after, remembers_itself}
 use Rattle.stable_store.specs.Kept.{IsKept, IsOpen, IsOpenIn, disks_of, down, down_with, held_of, is_torn, is_torn_in, is_up_in, lowered, pending, pending_in}
+use Rattle.stable_store.specs.Pages.{AreOrPages, IsPageOn}
 use Rattle.stable_store.specs.Remembering.{Remembers}
 use Rattle.stable_store.specs.Saying.{ImagesSay, IsAhead, IsAheadIn, IsSaid, LogSays, SaysIn}
 use Rattle.stable_store.specs.declared.stable.Phase.TheVariants.{Down, Torn, Up}
@@ -74,6 +75,25 @@ reach_entered held e s image r reach = subst (λ (ps : List (ℕ × ℕ)). Reach
 reach_installed : (held : Held) (page side : ℕ) (s : State) (image : List ℕ) → Remembers s (said held) → ReachesSides (insert_entry nat_cmp held.objects.pages.sides page side) image → ReachesSides (after s (Installed page side)).installed image
 reach_installed held page side s image r reach = subst (λ (ps : List (ℕ × ℕ)). ReachesSides (insert_entry nat_cmp ps page side) image) (sym r.installed) reach
 
+-- ---- which of its sides in use are held in use
+
+or_said : (held : Held) (s : State) (image : List ℕ) → Remembers s (said held) → AreOrPages held.objects.pages.sides s.installed image
+or_said held s image r = or_same held.objects.pages.sides s.installed image r.installed
+
+or_entered : (held : Held) (e : Entry) (s : State) (image : List ℕ) → Remembers s (after (said held) (AnEntry e)) → AreOrPages held.objects.pages.sides s.installed image
+or_entered held e s image r = or_same held.objects.pages.sides s.installed image (r.installed ∙ entry_sides (said held) e)
+
+or_installed : (held : Held) (page side : ℕ) (s : State) (image : List ℕ) → Remembers s (said held) → IsPageOn image page side → AreOrPages held.objects.pages.sides (after s (Installed page side)).installed image
+or_installed held page side s image r is = or_put held.objects.pages.sides s.installed image page side is (or_said held s image r)
+
+sides_said : (held now' : Held) → said now' ≡ said held → now'.objects.pages.sides ≡ held.objects.pages.sides
+sides_said held now' same = ap (λ (s : State). s.installed) same
+
+-- what images keep of the sides that are held in use
+keeps_reached : (disks : Disks) (held now' : Held) → said now' ≡ said held → Reach disks held.objects.pages.sides → TellsAll disks → (images : ℕ → List ℕ) → MayLeaveAll disks disks.time images → WhereTold disks 2 (λ disk. KeepsSides now'.objects.pages.sides disk (images 2))
+keeps_reached disks held now' same reach tells images left disk told =
+    subst (λ (ps : List (ℕ × ℕ)). KeepsSides ps disk (images 2)) (sym (sides_said held now' same)) (reach.keeps tells (images 2) (left 2 (omega arith)) disk told)
+
 same_said : (a b : State) (s : State) → b ≡ a → Remembers s a → Remembers s b
 same_said a b s is r = subst (Remembers s) (sym is) r
 
@@ -82,21 +102,24 @@ pub images_beside : (old new : Disks) (log : Place) (held now' : Held) → LogSa
 images_beside old new log held now' stood alone same reach = record {
   each = λ tells images left.
       let told = tells_before old new (goes_one old new 2 alone) tells in
-      record { state = stood.state; stands = log_says old log stood.state stood.holds told images (logs_left old new alone images left); says = inl (same_said (said held) (said now') stood.state same (stood.says told)); reaches = reach_said held stood.state (images 2) (stood.says told) (reach tells (images 2) (left 2 (omega arith))) };
+      record { state = stood.state; stands = log_says old log stood.state stood.holds told images (logs_left old new alone images left); says = inl (same_said (said held) (said now') stood.state same (stood.says told)); reaches = reach_said held stood.state (images 2) (stood.says told) (reach.reaches tells (images 2) (left 2 (omega arith))); spells = or_said now' stood.state (images 2) (same_said (said held) (said now') stood.state same (stood.says told)) };
+  keeps = keeps_reached new held now' same reach;
 }
 
 -- where no disk was called
 pub images_of_log : (disks : Disks) (log : Place) (held now' : Held) → LogSays disks log (said held) → said now' ≡ said held → Reach disks held.objects.pages.sides → ImagesSay disks now' None
 images_of_log disks log held now' stood same reach = record {
   each = λ tells images left.
-      record { state = stood.state; stands = log_says disks log stood.state stood.holds tells images (λ d within. left d (omega (arith, within))); says = inl (same_said (said held) (said now') stood.state same (stood.says tells)); reaches = reach_said held stood.state (images 2) (stood.says tells) (reach tells (images 2) (left 2 (omega arith))) };
+      record { state = stood.state; stands = log_says disks log stood.state stood.holds tells images (λ d within. left d (omega (arith, within))); says = inl (same_said (said held) (said now') stood.state same (stood.says tells)); reaches = reach_said held stood.state (images 2) (stood.says tells) (reach.reaches tells (images 2) (left 2 (omega arith))); spells = or_said now' stood.state (images 2) (same_said (said held) (said now') stood.state same (stood.says tells)) };
+  keeps = keeps_reached disks held now' same reach;
 }
 
 -- where an entry is ahead
 pub images_ahead : (disks : Disks) (log : Place) (held : Held) (e : Entry) → LogSays disks log (after (said held) (AnEntry e)) → Reach disks held.objects.pages.sides → ImagesSay disks held (Some e)
 images_ahead disks log held e stood reach = record {
   each = λ tells images left.
-      record { state = stood.state; stands = log_says disks log stood.state stood.holds tells images (λ d within. left d (omega (arith, within))); says = inr (stood.says tells); reaches = reach_entered held e stood.state (images 2) (stood.says tells) (reach tells (images 2) (left 2 (omega arith))) };
+      record { state = stood.state; stands = log_says disks log stood.state stood.holds tells images (λ d within. left d (omega (arith, within))); says = inr (stood.says tells); reaches = reach_entered held e stood.state (images 2) (stood.says tells) (reach.reaches tells (images 2) (left 2 (omega arith))); spells = or_entered held e stood.state (images 2) (stood.says tells) };
+  keeps = λ tells images left. reach.keeps tells (images 2) (left 2 (omega arith));
 }
 
 -- ---- an entry
@@ -105,12 +128,13 @@ pub images_written : (old new : Disks) (log : Place) (held : Held) (e : Entry) �
 images_written old new log held e stood goes any reach = record {
   each = λ tells images left.
       let told = tells_before old new goes tells in
-      let there = reach tells (images 2) (left 2 (omega arith)) in
+      let there = reach.reaches tells (images 2) (left 2 (omega arith)) in
       elim (all_now old new (SaysOneOf stood.state (AnEntry e)) (any stood.state stood.holds told) images left) [
-        | inl before ↦ record { state = stood.state; stands = before; says = inl (stood.says told); reaches = reach_said held stood.state (images 2) (stood.says told) there }
+        | inl before ↦ record { state = stood.state; stands = before; says = inl (stood.says told); reaches = reach_said held stood.state (images 2) (stood.says told) there; spells = or_said held stood.state (images 2) (stood.says told) }
         | inr more ↦ (let says = remembers_after stood.state (said held) (AnEntry e) (stood.says told) in
-            record { state = after stood.state (AnEntry e); stands = more; says = inr says; reaches = reach_entered held e (after stood.state (AnEntry e)) (images 2) says there })
+            record { state = after stood.state (AnEntry e); stands = more; says = inr says; reaches = reach_entered held e (after stood.state (AnEntry e)) (images 2) says there; spells = or_entered held e (after stood.state (AnEntry e)) (images 2) says })
       ];
+  keeps = λ tells images left. reach.keeps tells (images 2) (left 2 (omega arith));
 }
 
 pub log_more : (old new : Disks) (log log' : Place) (a : State) (b : Body) → LogSays old log a → GoesOn old new → ((s : State) → Holds old log s → Holds new log' (after s b)) → LogSays new log' (after a b)
@@ -134,19 +158,21 @@ log_beside old new log a stood alone holds = record {
 }
 
 -- a page was being put in use
-pub images_installing : (old new : Disks) (log : Place) (held : Held) (page side repo : ℕ) → LogSays old log (said held) → IsFlushed held.objects repo page side → GoesOn old new → ((s : State) → Holds old log s → TellsAll old → LeavesAll old new (SaysOneOf s (Installed page side))) → Reach new held.objects.pages.sides → Reach new (insert_entry nat_cmp held.objects.pages.sides page side) → ImagesSay new held None
-images_installing old new log held page side repo stood flushed goes any reach more_reach = record {
+pub images_installing : (old new : Disks) (log : Place) (held : Held) (page side repo : ℕ) → LogSays old log (said held) → IsFlushed held.objects repo page side → GoesOn old new → ((s : State) → Holds old log s → TellsAll old → LeavesAll old new (SaysOneOf s (Installed page side))) → Reach new held.objects.pages.sides → Reach new (insert_entry nat_cmp held.objects.pages.sides page side) → (TellsAll new → (image : List ℕ) → MayLeave new 2 image → IsPageOn image page side) → ImagesSay new held None
+images_installing old new log held page side repo stood flushed goes any reach more_reach is = record {
   each = λ tells images left.
       let told = tells_before old new goes tells in
       elim (all_now old new (SaysOneOf stood.state (Installed page side)) (any stood.state stood.holds told) images left) [
-        | inl before ↦ record { state = stood.state; stands = before; says = inl (stood.says told); reaches = reach_said held stood.state (images 2) (stood.says told) (reach tells (images 2) (left 2 (omega arith))) }
+        | inl before ↦ record { state = stood.state; stands = before; says = inl (stood.says told); reaches = reach_said held stood.state (images 2) (stood.says told) (reach.reaches tells (images 2) (left 2 (omega arith))); spells = or_said held stood.state (images 2) (stood.says told) }
         | inr more ↦ record {
           state = after stood.state (Installed page side);
           stands = more;
           says = inr (record { page = page; side = side; repo = repo; flushed = flushed; says = remembers_after stood.state (said held) (Installed page side) (stood.says told) });
-          reaches = reach_installed held page side stood.state (images 2) (stood.says told) (more_reach tells (images 2) (left 2 (omega arith)));
+          reaches = reach_installed held page side stood.state (images 2) (stood.says told) (more_reach.reaches tells (images 2) (left 2 (omega arith)));
+          spells = or_installed held page side stood.state (images 2) (stood.says told) (is tells (images 2) (left 2 (omega arith)));
         }
       ];
+  keeps = λ tells images left. reach.keeps tells (images 2) (left 2 (omega arith));
 }
 
 -- ---- a checkpoint
@@ -163,9 +189,10 @@ images_checkpointed old new log held t is stood keeps goes any reach = record {
   each = λ tells images left.
       let told = tells_before old new goes tells in
       elim (all_now old new (SaysEither stood.state t) (any stood.state stood.holds told) images left) [
-        | inl before ↦ record { state = stood.state; stands = before; says = inl (stood.says told); reaches = reach_said held stood.state (images 2) (stood.says told) (reach tells (images 2) (left 2 (omega arith))) }
-        | inr more ↦ record { state = t; stands = more; says = inl (remembers_spelt held t is keeps); reaches = reach_said held t (images 2) (remembers_spelt held t is keeps) (reach tells (images 2) (left 2 (omega arith))) }
+        | inl before ↦ record { state = stood.state; stands = before; says = inl (stood.says told); reaches = reach_said held stood.state (images 2) (stood.says told) (reach.reaches tells (images 2) (left 2 (omega arith))); spells = or_said held stood.state (images 2) (stood.says told) }
+        | inr more ↦ record { state = t; stands = more; says = inl (remembers_spelt held t is keeps); reaches = reach_said held t (images 2) (remembers_spelt held t is keeps) (reach.reaches tells (images 2) (left 2 (omega arith))); spells = or_said held t (images 2) (remembers_spelt held t is keeps) }
       ];
+  keeps = λ tells images left. reach.keeps tells (images 2) (left 2 (omega arith));
 }
 
 pub log_anew : (disks : Disks) (log : Place) (held : Held) (t : State) → t ≡ spelled held → Keeps held → Holds disks log t → LogSays disks log (said held)
@@ -193,6 +220,7 @@ pub says_same : (old new : Disks) (held : Held) (phase : Phase) → SaysIn old h
 says_same old new held (Up log) says same = record { state = says.state; holds = holds_same old new log says.state says.holds same; says = λ tells. says.says (tells_same old new same tells) }
 says_same old new held (Down pending) says same = record {
   each = λ tells images left. says.each (tells_same old new same tells) images (λ d within. subst (λ (m : ℕ). old.images m d (images d)) same.time (same.images new.time d (images d) (left d within)));
+  keeps = λ tells images left disk told. says.keeps (tells_same old new same tells) images (λ d within. subst (λ (m : ℕ). old.images m d (images d)) same.time (same.images new.time d (images d) (left d within))) disk (sym (same.content 2) ∙ told);
 }
 says_same old new held (Torn e) says same = tt
 
@@ -291,11 +319,11 @@ keeps_out {P = P} old mid same keeps = subst (λ (s : Stable P). Keeps s.held) (
 
 -- a checkpoint failed
 pub said_begun : {P : Type 0} (disks : P → Disks) (old mid : Stable P) (parts : Fused P) (log : Place) (t : State) → old.phase ≡ Up log → mid ≡ down_with old None → IsSaid disks old → IsOpen (disks_of disks mid) log mid.held → t ≡ spelled mid.held
-    → NoNewImage (disks_of disks mid) (fused_disks disks parts) 2 → GoesOn (disks_of disks mid) (fused_disks disks parts) → ((s : State) → Holds (disks_of disks mid) log s → TellsAll (disks_of disks mid) → LeavesAll (disks_of disks mid) (fused_disks disks parts) (SaysEither s t)) → IsSaid disks (record mid { parts = parts })
-said_begun disks old mid parts log t is same said_old stood spelt still goes any =
+    → NoNewImage (disks_of disks mid) (fused_disks disks parts) 2 → (fused_disks disks parts).content 2 ≡ (disks_of disks mid).content 2 → GoesOn (disks_of disks mid) (fused_disks disks parts) → ((s : State) → Holds (disks_of disks mid) log s → TellsAll (disks_of disks mid) → LeavesAll (disks_of disks mid) (fused_disks disks parts) (SaysEither s t)) → IsSaid disks (record mid { parts = parts })
+said_begun disks old mid parts log t is same said_old stood spelt still content goes any =
     said_in_phase disks (record mid { parts = parts }) None (ap phase_of same)
     (images_checkpointed (disks_of disks mid) (fused_disks disks parts) log mid.held t spelt (taken_says disks old mid log is same said_old) stood.keeps goes any
-    (reach_still (disks_of disks mid) (fused_disks disks parts) mid.held.objects.pages.sides goes still (reach_open (disks_of disks mid) log mid.held stood)))
+    (reach_still (disks_of disks mid) (fused_disks disks parts) mid.held.objects.pages.sides goes still content (reach_open (disks_of disks mid) log mid.held stood)))
 
 -- or began a log
 pub said_anew : {P : Type 0} (disks : P → Disks) (old mid new : Stable P) (parts : Fused P) (log : Place) (t : State) → mid ≡ down_with old None → Keeps old.held → t ≡ spelled mid.held → new ≡ record mid { parts = parts; phase = Up log } → Holds (fused_disks disks parts) log t → IsSaid disks new
@@ -303,8 +331,8 @@ said_anew disks old mid new parts log t same keeps spelt put holds =
     said_up disks (record mid { parts = parts }) new log put (log_anew (fused_disks disks parts) log mid.held t spelt (keeps_out old mid same keeps) holds)
 
 -- a page couldn't be read
-pub said_unread : {P : Type 0} (disks : P → Disks) (old mid : Stable P) (parts : Fused P) (held : Held) (log : Place) → old.phase ≡ Up log → mid ≡ down_with old None → IsSaid disks old → IsOpen (disks_of disks mid) log mid.held → OnDisk (disks_of disks mid) (fused_disks disks parts) 2 → NoNewImage (disks_of disks mid) (fused_disks disks parts) 2 → said held ≡ said mid.held → IsSaid disks (record mid { parts = parts; held = held })
-said_unread disks old mid parts held log is same said_old stood alone still kept =
+pub said_unread : {P : Type 0} (disks : P → Disks) (old mid : Stable P) (parts : Fused P) (held : Held) (log : Place) → old.phase ≡ Up log → mid ≡ down_with old None → IsSaid disks old → IsOpen (disks_of disks mid) log mid.held → OnDisk (disks_of disks mid) (fused_disks disks parts) 2 → NoNewImage (disks_of disks mid) (fused_disks disks parts) 2 → (fused_disks disks parts).content 2 ≡ (disks_of disks mid).content 2 → said held ≡ said mid.held → IsSaid disks (record mid { parts = parts; held = held })
+said_unread disks old mid parts held log is same said_old stood alone still content kept =
     said_in_phase disks (record mid { parts = parts; held = held }) None (ap phase_of same)
     (images_beside (disks_of disks mid) (fused_disks disks parts) log mid.held held (taken_says disks old mid log is same said_old) alone kept
-    (reach_still (disks_of disks mid) (fused_disks disks parts) mid.held.objects.pages.sides (goes_one (disks_of disks mid) (fused_disks disks parts) 2 alone) still (reach_open (disks_of disks mid) log mid.held stood)))
+    (reach_still (disks_of disks mid) (fused_disks disks parts) mid.held.objects.pages.sides (goes_one (disks_of disks mid) (fused_disks disks parts) 2 alone) still content (reach_open (disks_of disks mid) log mid.held stood)))

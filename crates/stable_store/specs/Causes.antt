@@ -5,8 +5,11 @@ use Rattle.log_frame.specs.declared.fault.LogFault.TheVariants as log
 use Rattle.log_frame.specs.declared.fault.LogFault.{LogFault}
 use Rattle.page_store.specs.declared.fault.StoreFault.TheVariants as store
 use Rattle.page_store.specs.declared.fault.StoreFault.{StoreFault}
+use Rattle.recovery.specs.declared.fault.RecoverFault.TheVariants as recover
+use Rattle.recovery.specs.declared.fault.RecoverFault.{RecoverFault}
 use Rattle.stable_store.specs.declared.fault.OpenCause.TheVariants.{Failed, NoMemory}
 use Rattle.stable_store.specs.declared.fault.OpenCause.{OpenCause}
+use Rattle.std.specs.Prelude.{Bool, false, true}
 
 abbrev pub cause_of_outage : Outage → OpenCause
 cause_of_outage outage.Failed = Failed
@@ -22,3 +25,24 @@ abbrev pub cause_of_log : LogFault → OpenCause
 cause_of_log log.Failed = Failed
 cause_of_log (log.Damaged place) = Failed
 cause_of_log log.NoMemory = NoMemory
+
+-- ---- which faults of the layers below tell of a disk that failed
+
+abbrev pub is_outage_failed : Outage → Bool
+is_outage_failed outage.Failed = true
+is_outage_failed outage.NoMemory = false
+
+abbrev pub is_pages_failed : StoreFault → Bool
+is_pages_failed store.Failed = true
+is_pages_failed (store.Damaged place) = false
+is_pages_failed store.NoMemory = false
+
+abbrev pub is_log_failed : LogFault → Bool
+is_log_failed log.Failed = true
+is_log_failed (log.Damaged place) = false
+is_log_failed log.NoMemory = false
+
+abbrev pub is_recovery_failed : RecoverFault → Bool
+is_recovery_failed (recover.Failed disk) = true
+is_recovery_failed (recover.Damaged disk place) = false
+is_recovery_failed recover.NoMemory = false

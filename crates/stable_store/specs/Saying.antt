@@ -1,15 +1,16 @@
 -- What the disks of a repository say of what it holds, where every disk tells its bytes.
 use Rattle.commit_log.specs.declared.entry.Entry.{Entry}
-use Rattle.disk_trait.specs.AllDisks.{MayLeaveAll, TellsAll}
-use Rattle.disk_trait.specs.Disks.{Disks}
+use Rattle.disk_trait.specs.AllDisks.{MayLeaveAll, ReadsAs, TellsAll}
+use Rattle.disk_trait.specs.Disks.{Disks, WhereTold}
 use Rattle.held_state.specs.Said.{said}
 use Rattle.held_state.specs.declared.held.Held.{Held}
 use Rattle.log_bytes.specs.declared.body.Body.TheVariants.{Entry as AnEntry, Installed}
 use Rattle.log_bytes.specs.declared.state.State.{State}
 use Rattle.log_frame.specs.Log.{Place}
 use Rattle.mob_flusher.specs.Images.{IsFlushed}
-use Rattle.page_store.specs.Sides.{ReachesSides}
+use Rattle.page_store.specs.Sides.{KeepsSides, ReachesSides}
 use Rattle.stable_store.specs.Kept.{disks_of}
+use Rattle.stable_store.specs.Pages.{AreOrPages}
 use Rattle.stable_store.specs.Remembering.{Remembers}
 use Rattle.stable_store.specs.declared.recovering.Taken.TheVariants as taken
 use Rattle.stable_store.specs.declared.recovering.Taken.{Taken}
@@ -33,16 +34,20 @@ abbrev pub IsOneOf : Held → Option Entry → State → Type 0
 IsOneOf h None s = Remembers s (said h) ⊎ IsInstalling h s
 IsOneOf h (Some e) s = Remembers s (said h) ⊎ Remembers s (after (said h) (AnEntry e))
 
--- So does what images of the disks stand for, and the image of the disk of pages reaches each side in use.
+-- So does what images of the disks stand for. The image of the disk of pages reaches each side in use, and this is one of those
+-- that are held in use, or a page of objects.
 pub record SayOneOf (h : Held) (pending : Option Entry) (images : ℕ → List ℕ) : Type 0 where
   pub state : State
   pub stands : stands images ≡ Some state
   pub says : IsOneOf h pending state
   pub reaches : ReachesSides state.installed (images 2)
+  pub spells : AreOrPages h.objects.pages.sides state.installed (images 2)
 
--- each image that a crash of the disks now may leave says what is held, or that with the pending entry
+-- Each image that a crash of the disks now may leave says what is held, or that with the pending entry. That of the disk of
+-- pages has the sides that are held in use as a read gives them.
 pub record ImagesSay (disks : Disks) (h : Held) (pending : Option Entry) : Type 0 where
   pub each : TellsAll disks → (images : ℕ → List ℕ) → MayLeaveAll disks disks.time images → SayOneOf h pending images
+  pub keeps : TellsAll disks → (images : ℕ → List ℕ) → MayLeaveAll disks disks.time images → WhereTold disks 2 (λ disk. KeepsSides h.objects.pages.sides disk (images 2))
 
 -- the open log says this state
 pub record LogSays (disks : Disks) (log : Place) (a : State) : Type 0 where
@@ -78,6 +83,10 @@ pub record LeavesNoMore (old new : Disks) : Type 0 where
   pub images : (images : ℕ → List ℕ) → MayLeaveAll new new.time images → MayLeaveAll old old.time images
   pub tells : TellsAll new → TellsAll old
   pub goes_on : TellsAll old → TellsAll new
+
+-- what a read gives is one of the choices that a crash could have left before
+abbrev pub ReadIsLeft : Disks → Disks → Type 0
+ReadIsLeft old new = (bytes : ℕ → List ℕ) → ReadsAs new bytes → MayLeaveAll old old.time bytes
 
 -- one of the states that the disks may have said is found
 abbrev pub FindsOneOf : Disks → Disks → Held → State → Type 0

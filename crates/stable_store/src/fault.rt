@@ -5,7 +5,8 @@ ghost use Rattle.disk_trait.specs.declared.parts.Outage.TheVariants.{Failed as D
 ghost use Rattle.log_frame.specs.declared.fault.LogFault.TheVariants.{Damaged as AtLog, Failed as LogFailed};
 ghost use Rattle.page_store.specs.declared.fault.StoreFault.TheVariants.{Damaged as AtPages, Failed as PagesFailed};
 ghost use Rattle.recovery.specs.declared.fault.RecoverFault.TheVariants.{Damaged as AtRecovery, Failed as RecoveryFailed};
-ghost use Rattle.stable_store.specs.Causes.{cause_of_log, cause_of_outage, cause_of_store};
+ghost use Rattle.stable_store.specs.Failing.{is_stopped};
+ghost use Rattle.stable_store.specs.Causes.{is_log_failed, is_outage_failed, is_pages_failed, is_recovery_failed, cause_of_log, cause_of_outage, cause_of_store};
 ghost use Rattle.stable_store.specs.Kept.{is_fault, repo_named};
 ghost use Rattle.stable_store.specs.declared.fault.OpenCause.TheVariants.{NoMemory as OutOfMemory};
 ghost use Rattle.validation_window.specs.declared.refusal.Refusal.TheVariants.{Damaged as IsDamaged, Stopped as IsStopped};
@@ -80,6 +81,7 @@ pub(crate) fn of_log(repo: u8, fault: LogFault) -> Refusal
     ensures names { repo_named repo result ≡ repo }
     ensures damaged { (r place : ℕ) → result ≡ IsDamaged r place → (at : ℕ) × (fault ≡ AtLog at) }
     ensures stopped { (r : ℕ) → result ≡ IsStopped r → fault ≡ LogFailed }
+    ensures stops { is_stopped result ≡ is_log_failed fault }
 {
     match fault {
         LogFault::Failed => Refusal::Stopped { repo },
@@ -94,6 +96,7 @@ pub(crate) fn of_store(repo: u8, fault: StoreFault) -> Refusal
     ensures names { repo_named repo result ≡ repo }
     ensures damaged { (r place : ℕ) → result ≡ IsDamaged r place → fault ≡ AtPages place }
     ensures stopped { (r : ℕ) → result ≡ IsStopped r → fault ≡ PagesFailed }
+    ensures stops { is_stopped result ≡ is_pages_failed fault }
 {
     match fault {
         StoreFault::Failed => Refusal::Stopped { repo },
@@ -108,6 +111,7 @@ pub(crate) fn of_outage(repo: u8, outage: Outage) -> Refusal
     ensures names { repo_named repo result ≡ repo }
     ensures damaged { (r place : ℕ) → result ≡ IsDamaged r place → ⊥ }
     ensures stopped { (r : ℕ) → result ≡ IsStopped r → outage ≡ DiskFailed }
+    ensures stops { is_stopped result ≡ is_outage_failed outage }
 {
     match outage {
         Outage::Failed => Refusal::Stopped { repo },
@@ -121,6 +125,7 @@ pub(crate) fn of_recovery(repo: u8, fault: RecoverFault) -> Refusal
     ensures names { repo_named repo result ≡ repo }
     ensures damaged { (r place : ℕ) → result ≡ IsDamaged r place → (d at : ℕ) × (fault ≡ AtRecovery d at) }
     ensures stopped { (r : ℕ) → result ≡ IsStopped r → (d : ℕ) × (fault ≡ RecoveryFailed d) }
+    ensures stops { is_stopped result ≡ is_recovery_failed fault }
 {
     match fault {
         RecoverFault::Failed { disk: _ } => Refusal::Stopped { repo },

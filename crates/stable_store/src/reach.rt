@@ -1,8 +1,8 @@
 //! Whether the disk of pages has room for the installed sides.
 
-ghost use Rattle.std.specs.Prelude.{◌≡◌, IfOk, IsErrOf, Ok, false, length};
+ghost use Rattle.std.specs.Prelude.{◌≡◌, IfOk, IsErrOf, Ok, OnOk, false, length};
 ghost use Rattle.disk_trait.specs.Disks.{Disks, NoNewImage, OnDisk, Rose, WhereTold};
-ghost use Rattle.disk_trait.specs.declared.parts.Outage.TheVariants.{Failed};
+ghost use Rattle.disk_trait.specs.declared.parts.Outage.TheVariants.{Failed, NoMemory};
 ghost use Rattle.page_store.specs.Sides.{ReachesSides};
 ghost use Rattle.stable_store.specs.Reach.{are_within, end_of, is_within};
 
@@ -22,6 +22,8 @@ pub(crate) fn reaches<P: Parts>(parts: &mut P, sides: &Sides) -> Result<bool, Ou
     ensures crash { NoNewImage (P.disks parts.old) (P.disks parts.new) 2 }
     ensures answer { IfOk result (λ answer. WhereTold (P.disks parts.old) 2 (λ disk. answer ≡ are_within (length disk) sides.now)) }
     ensures failed { IsErrOf result Failed → Rose ((P.disks parts.old).faults 2) ((P.disks parts.new).faults 2) }
+    ensures steady { OnOk result ((P.disks parts.new).faults 2 ≡ (P.disks parts.old).faults 2) }
+    ensures wanting { IsErrOf result NoMemory → (P.disks parts.new).faults 2 ≡ (P.disks parts.old).faults 2 }
     ensures lacks { result ≡ Ok false → WhereTold (P.disks parts.old) 2 (λ disk. ReachesSides sides.now disk → ⊥) }
 {
     let length = parts.len(PAGES)?;

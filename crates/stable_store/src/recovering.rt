@@ -1,5 +1,6 @@
 //! How a repository that is down comes up.
 
+ghost use Rattle.disk_trait.specs.AllDisks.{NoFault};
 ghost use Rattle.std.specs.Prelude.{◌≡◌, IfErr, IfOk, IsErrOf, OnErr, OnOk, Option, false, true, ℕ};
 ghost use Rattle.commit_log.specs.declared.entry.Entry.{Entry as AnyEntry};
 ghost use Rattle.disk_trait.specs.AllDisks.{GoesOn, SameContent, TellsAll};
@@ -9,9 +10,10 @@ ghost use Rattle.held_state.specs.Said.{said};
 ghost use Rattle.page_store.specs.Sides.{ReachesSides};
 ghost use Rattle.stable_store.specs.Agreeing.{CanEnter, IsTaken};
 ghost use Rattle.disk_trait.specs.Fused.{armed};
-ghost use Rattle.stable_store.specs.Failing.{HasFailed};
+ghost use Rattle.stable_store.specs.Failing.{HasFailed, is_stopped};
 ghost use Rattle.stable_store.specs.Kept.{IsKept, IsOpen, IsResting, disks_of, held_of, is_fault, is_torn, is_up, lowered, parts_in, pending};
-ghost use Rattle.stable_store.specs.Saying.{FindsOneOf, ImagesSay, IsOneOf, IsSaid, LeavesNoMore, SaysTaken};
+ghost use Rattle.stable_store.specs.Pages.{ArePages, HasPages, PagesTold};
+ghost use Rattle.stable_store.specs.Saying.{FindsOneOf, ImagesSay, IsOneOf, IsSaid, LeavesNoMore, ReadIsLeft, SaysTaken};
 ghost use Rattle.stable_store.specs.declared.stable.Phase.TheVariants.{Down as IsDown, Up as IsUp};
 ghost use Rattle.stable_store.specs.Taking.{AgreesWhere, CanTake, TakesFrom};
 ghost use Rattle.state_log.specs.Holds.{Holds};
@@ -47,6 +49,7 @@ impl<P: Parts> Stable<P> {
         requires keeps { Keeps recovered.state }
         requires pages { AgreesWhere recovered.state.objects.pages }
         ensures kept { IfOk result (IsKept P.disks) }
+        ensures readable { TellsAll (P.disks parts) → WhereTold (P.disks parts) 2 (ArePages recovered.state.objects.pages.sides) → IfOk result (HasPages P.disks) }
         ensures up { IfOk result (λ stable. is_up stable ≡ true) }
         ensures held { IfOk result (λ stable. held_of stable ≡ recovered.state) }
         ensures says { Holds (P.disks parts) recovered.log (said recovered.state) → IfOk result (IsSaid P.disks) }
@@ -82,6 +85,7 @@ impl<P: Parts> Stable<P> {
     pub fn restart(&mut self, alloc: Global, pick: u64) -> Result<Taken, Refusal>
         requires kept { IsKept P.disks self.old }
         ensures kept { IsKept P.disks self.new }
+        ensures readable { IsSaid P.disks self.old → HasPages P.disks self.old → HasPages P.disks self.new }
         ensures up { OnOk result (is_up self.new ≡ true) }
         ensures down { OnErr result (is_up self.new ≡ false) }
         ensures fault { IfErr result (λ r. is_fault r ≡ true) }
@@ -98,6 +102,8 @@ impl<P: Parts> Stable<P> {
         ensures stays_said { IsSaid P.disks self.old → OnErr result (IsSaid P.disks self.new) }
         ensures goes { GoesOn (disks_of P.disks self.old) (disks_of P.disks self.new) }
         ensures stopped { (r : ℕ) → IsErrOf result (IsStopped r) → HasFailed (disks_of P.disks self.old).faults (disks_of P.disks self.new).faults }
+        ensures steady { OnOk result (NoFault (disks_of P.disks self.old) (disks_of P.disks self.new)) }
+        ensures quiet { IfErr result (λ r. is_stopped r ≡ false → NoFault (disks_of P.disks self.old) (disks_of P.disks self.new)) }
         ensures torn { is_torn self.old ≡ true → IsErrOf result IsNoMemory × (self.new ≡ record self.old { parts = armed (parts_in self.old) 0 }) }
         ensures damaged { (r place : ℕ) → IsErrOf result (IsDamaged r place) → IsSaid P.disks self.old → TellsAll (disks_of P.disks self.old) → ⊥ }
     {
@@ -107,6 +113,7 @@ impl<P: Parts> Stable<P> {
             return Err(Refusal::NoMemory);
         }
         let recovered = self.recover(alloc, pick)?;
+        self.read_is_left();
         match mem::replace(&mut self.phase, Phase::Down { pending: None }) {
             Phase::Up { log } => {
                 drop(log);
@@ -140,16 +147,20 @@ impl<P: Parts> Stable<P> {
         ensures limit { IfOk result (λ r. r.state.objects.mob.limit ≡ (held_of self.old).objects.mob.limit) }
         ensures fault { IfErr result (λ r. is_fault r ≡ true) }
         ensures opened { IfOk result (λ r. IsOpen (disks_of P.disks self.new) r.log r.state) }
+        ensures left { ReadIsLeft (disks_of P.disks self.old) (disks_of P.disks self.new) }
         ensures stands { IfOk result (λ r. Holds (disks_of P.disks self.new) r.log (said r.state)) }
         ensures crash { LeavesNoMore (disks_of P.disks self.old) (disks_of P.disks self.new) }
         ensures found { IfOk result (λ r. FindsOneOf (disks_of P.disks self.old) (disks_of P.disks self.new) (held_of self.old) (said r.state)) }
         ensures goes { GoesOn (disks_of P.disks self.old) (disks_of P.disks self.new) }
         ensures stopped { (r : ℕ) → IsErrOf result (IsStopped r) → HasFailed (disks_of P.disks self.old).faults (disks_of P.disks self.new).faults }
+        ensures steady { OnOk result (NoFault (disks_of P.disks self.old) (disks_of P.disks self.new)) }
+        ensures quiet { IfErr result (λ r. is_stopped r ≡ false → NoFault (disks_of P.disks self.old) (disks_of P.disks self.new)) }
         ensures damaged { (r place : ℕ) → IsErrOf result (IsDamaged r place) → (pending : Option AnyEntry) → ImagesSay (disks_of P.disks self.old) (held_of self.old) pending → TellsAll (disks_of P.disks self.old) → ⊥ }
     {
         let repo = self.repo();
         let mob_limit = self.held.objects().mob().limit();
         if let Err(outage) = restart_all(&mut self.parts, pick) {
+            self.read_is_left();
             return Err(of_outage(repo, outage));
         }
         let found = recover(alloc, &mut self.parts, mob_limit);
@@ -172,11 +183,14 @@ impl<P: Parts> Stable<P> {
         ensures limit { IfOk result (λ r. r.state.objects.mob.limit ≡ recovered.state.objects.mob.limit) }
         ensures fault { IfErr result (λ r. is_fault r ≡ true) }
         ensures opened { IfOk result (λ r. IsOpen (disks_of P.disks self.new) r.log r.state) }
+        ensures content { SameContent (disks_of P.disks self.old) (disks_of P.disks self.new) }
         ensures stands { IfOk result (λ r. Holds (disks_of P.disks self.new) r.log (said r.state)) }
         ensures crash { LeavesNoMore (disks_of P.disks self.old) (disks_of P.disks self.new) }
         ensures same { IfOk result (λ r. r.state ≡ recovered.state) }
         ensures goes { GoesOn (disks_of P.disks self.old) (disks_of P.disks self.new) }
         ensures stopped { (r : ℕ) → IsErrOf result (IsStopped r) → HasFailed (disks_of P.disks self.old).faults (disks_of P.disks self.new).faults }
+        ensures steady { OnOk result (NoFault (disks_of P.disks self.old) (disks_of P.disks self.new)) }
+        ensures quiet { IfErr result (λ r. is_stopped r ≡ false → NoFault (disks_of P.disks self.old) (disks_of P.disks self.new)) }
         ensures damaged { (r place : ℕ) → IsErrOf result (IsDamaged r place) → WhereTold (disks_of P.disks self.old) 2 (λ disk. ReachesSides recovered.state.objects.pages.sides disk → ⊥) }
     {
         let repo = self.repo();
@@ -200,6 +214,7 @@ impl<P: Parts> Stable<P> {
         requires rests { IsResting (held_of self.old) pending }
         requires limit { recovered.state.objects.mob.limit ≡ (held_of self.old).objects.mob.limit }
         ensures kept { IsKept P.disks self.new }
+        ensures readable { PagesTold false recovered.state.objects.pages.sides (disks_of P.disks self.old) → PagesTold false (held_of self.old).objects.pages.sides (disks_of P.disks self.old) → HasPages P.disks self.new }
         ensures up { OnOk result (is_up self.new ≡ true) }
         ensures down { OnErr result (is_up self.new ≡ false) }
         ensures fault { IfErr result (λ r. is_fault r ≡ true) }

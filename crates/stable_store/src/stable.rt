@@ -1,9 +1,10 @@
 //! What of a repository outlives a crash, and what is held in memory of it.
 
+ghost use Rattle.disk_trait.specs.AllDisks.{NoFault};
 ghost use Rattle.std.specs.Option.{IfSome, IsNone};
 ghost use Rattle.std.specs.Prelude.{◌≡◌, ◌≤◌, IfErr, IfOk, IsErrOf, IsTrue, None, OnErr, OnOk, Some, cond, false, max, nat_eq, slice_get, true, ℕ};
-ghost use Rattle.disk_trait.specs.AllDisks.{GoesOn, SameContent};
-ghost use Rattle.disk_trait.specs.Disks.{Disks, SameDisks};
+ghost use Rattle.disk_trait.specs.AllDisks.{GoesOn, SameContent, TellsAll};
+ghost use Rattle.disk_trait.specs.Disks.{Disks, SameDisks, WhereTold};
 ghost use Rattle.disk_trait.specs.Fused.{armed, parts_of};
 ghost use Rattle.held_state.specs.Entering.{can_enter, entered};
 ghost use Rattle.held_state.specs.Keeps.{Keeps};
@@ -11,10 +12,11 @@ ghost use Rattle.held_state.specs.Said.{said};
 ghost use Rattle.log_bytes.specs.Grammar.{BodyFits};
 ghost use Rattle.log_bytes.specs.declared.body.Body.TheVariants.{Entry as AnEntry};
 ghost use Rattle.page_store.specs.Store.{IsDamage};
-ghost use Rattle.stable_store.specs.Kept.{GoesOnUp, IsKept, IsOpen, RestsWith, StandsAfter, disks_of, down, down_with, held_of, is_fault, is_up, lowered, parts_in, repo_named, torn};
-ghost use Rattle.stable_store.specs.Failing.{HasFailed};
+ghost use Rattle.stable_store.specs.Kept.{GoesOnUp, IsKept, IsOpen, RestsWith, StandsAfter, disks_of, down, down_with, held_of, is_fault, is_torn, is_up, lowered, parts_in, repo_named, torn};
+ghost use Rattle.stable_store.specs.Failing.{HasFailed, is_stopped};
 ghost use Rattle.stable_store.specs.Flushes.{IsLastFlush, IsOldest, left_by};
-ghost use Rattle.stable_store.specs.Saying.{ImagesSay, IsAhead, IsSaid, LogSays};
+ghost use Rattle.stable_store.specs.Pages.{ArePages, HasPages};
+ghost use Rattle.stable_store.specs.Saying.{ImagesSay, IsAhead, IsSaid, LogSays, ReadIsLeft};
 ghost use Rattle.stable_store.specs.declared.stable.Phase.TheVariants.{Torn as IsTorn, Up as IsUp};
 ghost use Rattle.thor_value.specs.FiniteMap.{get};
 ghost use Rattle.two_phase.specs.Contents.{keeps, without};
@@ -22,7 +24,7 @@ ghost use Rattle.validation_window.specs.declared.refusal.Refusal.TheVariants.{D
 
 use crate::fault::{of_log, of_store};
 use commit_log::Entry;
-use disk_trait::{Fused, Parts};
+use disk_trait::{Fused, Parts, content_is_left};
 use held_state::HeldState;
 use mob_flusher::Flushed;
 use page_format::Page;
@@ -72,6 +74,7 @@ impl<P: Parts> Stable<P> {
     pub fn new(parts: P, log: CommitLog, held: HeldState) -> Stable<P>
         requires { IsOpen (P.disks parts) log held }
         ensures kept { IsKept P.disks result }
+        ensures readable { TellsAll (P.disks parts) → WhereTold (P.disks parts) 2 (ArePages held.objects.pages.sides) → HasPages P.disks result }
         ensures up { is_up result ≡ true }
         ensures held { held_of result ≡ held }
         ensures says { LogSays (P.disks parts) log (said held) → IsSaid P.disks result }
@@ -127,12 +130,13 @@ impl<P: Parts> Stable<P> {
     }
 
     /// Takes the repository down, where it is up. No entry is being written then.
-    #[tactic(auto, using(crate::proofs::Saying::said_lowered))]
+    #[tactic(auto, using(crate::proofs::Saying::said_lowered, crate::proofs::Readable::down_has, crate::proofs::Readable::same_has))]
     pub fn take_down(&mut self)
         requires kept { IsKept P.disks self.old }
         ensures new { self.new ≡ down self.old }
         ensures rests { is_up self.old ≡ true → RestsWith None self.new }
         ensures kept { IsKept P.disks self.new }
+        ensures readable { HasPages P.disks self.old → HasPages P.disks self.new }
         ensures says { IsSaid P.disks self.old → IsSaid P.disks self.new }
     {
         if let Phase::Up { .. } = &self.phase {
@@ -148,17 +152,18 @@ impl<P: Parts> Stable<P> {
     }
 
     /// Takes the repository down, with an entry that the log has and that couldn't be entered.
-    #[tactic(auto, using(crate::proofs::Saying::said_torn))]
+    #[tactic(auto, using(crate::proofs::Saying::said_torn, crate::proofs::Readable::torn_has))]
     pub fn fail_with(&mut self, entry: Entry)
         ensures new { self.new ≡ torn self.old entry }
         ensures kept { IsKept P.disks self.new }
+        ensures readable { HasPages P.disks self.old → HasPages P.disks self.new }
         ensures says { IsSaid P.disks self.new }
     {
         self.set_phase(Phase::Torn { entry });
     }
 
     /// Takes the repository down, where it is up, with an entry that the log has and that wasn't entered.
-    #[tactic(auto, using(crate::proofs::Saying::said_pending))]
+    #[tactic(auto, using(crate::proofs::Saying::said_pending, crate::proofs::Readable::pending_has))]
     pub fn pend(&mut self, entry: Entry)
         requires fits { BodyFits (AnEntry entry) }
         requires takes { IsTrue (can_enter (held_of self.old) entry) }
@@ -166,6 +171,7 @@ impl<P: Parts> Stable<P> {
         requires kept { IsKept P.disks self.old }
         ensures new { self.new ≡ down_with self.old (Some entry) }
         ensures kept { IsKept P.disks self.new }
+        ensures readable { HasPages P.disks self.old → HasPages P.disks self.new }
         ensures says { IsAhead P.disks self.old entry → IsSaid P.disks self.new }
     {
         self.set_phase(Phase::Down {
@@ -174,10 +180,11 @@ impl<P: Parts> Stable<P> {
     }
 
     /// Arms the stop; 0 takes the repository down at once.
-    #[tactic(auto, using(crate::proofs::Saying::said_armed, crate::proofs::Saying::said_lowered))]
+    #[tactic(auto, using(crate::proofs::Saying::said_armed, crate::proofs::Saying::said_lowered, crate::proofs::Readable::armed_has, crate::proofs::Readable::down_has))]
     pub fn stop_after(&mut self, calls: u32)
         requires kept { IsKept P.disks self.old }
         ensures kept { IsKept P.disks self.new }
+        ensures readable { HasPages P.disks self.old → HasPages P.disks self.new }
         ensures held { held_of self.new ≡ held_of self.old }
         ensures up { is_up self.new ≡ cond (nat_eq calls 0) false (is_up self.old) }
         ensures phase { self.new.phase ≡ cond (nat_eq calls 0) (lowered self.old.phase) self.old.phase }
@@ -193,10 +200,11 @@ impl<P: Parts> Stable<P> {
     }
 
     /// Takes back a stop that hasn't fallen.
-    #[tactic(auto, using(crate::proofs::Saying::said_armed))]
+    #[tactic(auto, using(crate::proofs::Saying::said_armed, crate::proofs::Readable::armed_has))]
     pub fn disarm(&mut self)
         requires kept { IsKept P.disks self.old }
         ensures kept { IsKept P.disks self.new }
+        ensures readable { HasPages P.disks self.old → HasPages P.disks self.new }
         ensures held { held_of self.new ≡ held_of self.old }
         ensures phase { self.new.phase ≡ self.old.phase }
         ensures says { IsSaid P.disks self.old → IsSaid P.disks self.new }
@@ -209,6 +217,7 @@ impl<P: Parts> Stable<P> {
     pub fn now(&mut self) -> u64
         requires kept { IsKept P.disks self.old }
         ensures kept { IsKept P.disks self.new }
+        ensures readable { HasPages P.disks self.old → HasPages P.disks self.new }
         ensures disks { SameDisks (disks_of P.disks self.old) (disks_of P.disks self.new) }
         ensures clock { (disks_of P.disks self.new).clock ≡ max (disks_of P.disks self.old).clock result }
         ensures held { held_of self.new ≡ held_of self.old }
@@ -217,6 +226,13 @@ impl<P: Parts> Stable<P> {
         ensures asked { P.asked (parts_of (parts_in self.old)) result (parts_of (parts_in self.new)) }
     {
         self.parts.now()
+    }
+
+    /// A law, as `content_is_left`, of its own disks.
+    pub(crate) fn read_is_left(&self)
+        ensures { ReadIsLeft (disks_of P.disks self.now) (disks_of P.disks self.now) }
+    {
+        content_is_left(&self.parts);
     }
 
     /// Takes the log out: the repository is down until it is put back. `None` where it is down already.
@@ -241,12 +257,13 @@ impl<P: Parts> Stable<P> {
     }
 
     /// Writes an entry into the log, and hands it back. After a fault it is pending.
-    #[tactic(auto, using(crate::proofs::Saying::said_same))]
+    #[tactic(auto, using(crate::proofs::Readable::same_has, crate::proofs::Saying::said_same))]
     pub fn append(&mut self, entry: Entry) -> Result<Entry, Refusal>
         requires fits { BodyFits (AnEntry entry) }
         requires takes { IsTrue (can_enter (held_of self.old) entry) }
         requires kept { IsKept P.disks self.old }
         ensures kept { IsKept P.disks self.new }
+        ensures readable { HasPages P.disks self.old → HasPages P.disks self.new }
         ensures ok { IfOk result (λ written. (written ≡ entry) × GoesOnUp self.old self.new) }
         ensures err { IfErr result (StandsAfter self.old self.new (Some entry)) }
         ensures rests { is_up self.old ≡ true → OnErr result (RestsWith (Some entry) self.new) }
@@ -257,6 +274,8 @@ impl<P: Parts> Stable<P> {
         ensures clock { (disks_of P.disks self.new).clock ≡ (disks_of P.disks self.old).clock }
         ensures names { IfErr result (λ r. repo_named (held_of self.old).repo r ≡ (held_of self.old).repo) }
         ensures stopped { (r : ℕ) → IsErrOf result (IsStopped r) → HasFailed (disks_of P.disks self.old).faults (disks_of P.disks self.new).faults }
+        ensures steady { OnOk result (NoFault (disks_of P.disks self.old) (disks_of P.disks self.new)) }
+        ensures quiet { IfErr result (λ r. is_stopped r ≡ false → NoFault (disks_of P.disks self.old) (disks_of P.disks self.new)) }
         ensures damaged { (r place : ℕ) → IsErrOf result (IsDamaged r place) → ⊥ }
     {
         let Some(mut log) = self.take_log() else {
@@ -287,6 +306,7 @@ impl<P: Parts> Stable<P> {
         requires up { is_up self.old ≡ true }
         requires kept { IsKept P.disks self.old }
         ensures kept { IsKept P.disks self.new }
+        ensures readable { HasPages P.disks self.old → HasPages P.disks self.new }
         ensures back { IfOk result (λ entered. entered ≡ entry) }
         ensures ok { OnOk result (held_of self.new ≡ entered (held_of self.old) entry) }
         ensures phase { OnOk result (self.new.phase ≡ self.old.phase) }
@@ -307,6 +327,7 @@ impl<P: Parts> Stable<P> {
     pub fn forget(&mut self, tx: Ts)
         requires kept { IsKept P.disks self.old }
         ensures kept { IsKept P.disks self.new }
+        ensures readable { HasPages P.disks self.old → HasPages P.disks self.new }
         ensures held { held_of self.new ≡ record (held_of self.old) { table = cond (keeps (get (held_of self.old).table.transactions tx)) (without (held_of self.old).table tx) (held_of self.old).table } }
         ensures phase { self.new.phase ≡ self.old.phase }
         ensures says { is_up self.old ≡ true → IsSaid P.disks self.old → IsSaid P.disks self.new }
@@ -320,6 +341,7 @@ impl<P: Parts> Stable<P> {
         requires page { page ≤ 65536 }
         requires kept { IsKept P.disks self.old }
         ensures kept { IsKept P.disks self.new }
+        ensures readable { HasPages P.disks self.old → HasPages P.disks self.new }
         ensures held { held_of self.new ≡ record (held_of self.old) { next_grant = max (held_of self.old).next_grant page } }
         ensures phase { self.new.phase ≡ self.old.phase }
         ensures says { is_up self.old ≡ true → IsSaid P.disks self.old → IsSaid P.disks self.new }
@@ -329,10 +351,12 @@ impl<P: Parts> Stable<P> {
     }
 
     /// A page with all its objects.
-    #[tactic(auto, using(crate::proofs::Saying::said_same))]
+    #[tactic(auto, using(crate::proofs::Readable::same_has, crate::proofs::Saying::said_same))]
     pub fn page_image(&mut self, page: u32) -> Result<Page, Refusal>
         requires kept { IsKept P.disks self.old }
         ensures kept { IsKept P.disks self.new }
+        ensures readable { HasPages P.disks self.old → HasPages P.disks self.new }
+        ensures never { (r place : ℕ) → IsErrOf result (IsDamaged r place) → HasPages P.disks self.old → ⊥ }
         ensures number { IfOk result (λ image. image.number ≡ page) }
         ensures ok { OnOk result (GoesOnUp self.old self.new) }
         ensures err { IfErr result (StandsAfter self.old self.new None) }
@@ -345,6 +369,8 @@ impl<P: Parts> Stable<P> {
         ensures clock { (disks_of P.disks self.new).clock ≡ (disks_of P.disks self.old).clock }
         ensures names { IfErr result (λ r. repo_named (held_of self.old).repo r ≡ (held_of self.old).repo) }
         ensures stopped { (r : ℕ) → IsErrOf result (IsStopped r) → HasFailed (disks_of P.disks self.old).faults (disks_of P.disks self.new).faults }
+        ensures steady { OnOk result (NoFault (disks_of P.disks self.old) (disks_of P.disks self.new)) }
+        ensures quiet { IfErr result (λ r. is_stopped r ≡ false → NoFault (disks_of P.disks self.old) (disks_of P.disks self.new)) }
         ensures damaged { (r place : ℕ) → IsErrOf result (IsDamaged r place) → IsDamage (disks_of P.disks self.old) (held_of self.old).objects.pages.sides page place }
     {
         let Some(log) = self.take_log() else {
@@ -363,10 +389,12 @@ impl<P: Parts> Stable<P> {
     }
 
     /// Writes the page of the oldest buffered object with all its buffered objects, and has it in use.
-    #[tactic(auto, using(crate::proofs::Saying::said_same))]
+    #[tactic(auto, using(crate::proofs::Readable::same_has, crate::proofs::Saying::said_same))]
     pub fn flush_page(&mut self) -> Result<Flushed, Refusal>
         requires kept { IsKept P.disks self.old }
         ensures kept { IsKept P.disks self.new }
+        ensures readable { HasPages P.disks self.old → HasPages P.disks self.new }
+        ensures never { (r place : ℕ) → IsErrOf result (IsDamaged r place) → HasPages P.disks self.old → ⊥ }
         ensures ok { OnOk result (GoesOnUp self.old self.new) }
         ensures err { IfErr result (StandsAfter self.old self.new None) }
         ensures rests { is_up self.old ≡ true → OnErr result (RestsWith None self.new) }
@@ -380,7 +408,10 @@ impl<P: Parts> Stable<P> {
         ensures names { IfErr result (λ r. repo_named (held_of self.old).repo r ≡ (held_of self.old).repo) }
         ensures goes { GoesOn (disks_of P.disks self.old) (disks_of P.disks self.new) }
         ensures stopped { (r : ℕ) → IsErrOf result (IsStopped r) → HasFailed (disks_of P.disks self.old).faults (disks_of P.disks self.new).faults }
+        ensures steady { OnOk result (NoFault (disks_of P.disks self.old) (disks_of P.disks self.new)) }
+        ensures quiet { IfErr result (λ r. is_stopped r ≡ false → NoFault (disks_of P.disks self.old) (disks_of P.disks self.new)) }
         ensures damaged { (r place : ℕ) → IsErrOf result (IsDamaged r place) → IfSome (slice_get (held_of self.old).objects.mob.objects 0) (λ q. IsDamage (disks_of P.disks self.old) (held_of self.old).objects.pages.sides q.0.page place) }
+        ensures page { (r place : ℕ) → IsErrOf result (IsDamaged r place) → (page : ℕ) × IsDamage (disks_of P.disks self.new) (held_of self.new).objects.pages.sides page place }
     {
         let Some(mut log) = self.take_log() else {
             return Err(Refusal::Down { repo: self.repo() });
@@ -401,6 +432,8 @@ impl<P: Parts> Stable<P> {
     fn flush_into(&mut self, log: &mut CommitLog) -> Result<Flushed, Refusal>
         requires opened { IsOpen (disks_of P.disks self.old) log.old (held_of self.old) }
         ensures opened { OnOk result (IsOpen (disks_of P.disks self.new) log.new (held_of self.new)) }
+        ensures readable { HasPages P.disks self.old → HasPages P.disks self.new }
+        ensures never { (r place : ℕ) → IsErrOf result (IsDamaged r place) → is_torn self.old ≡ false → HasPages P.disks self.old → ⊥ }
         ensures keeps { Keeps (held_of self.new) }
         ensures held { held_of self.new ≡ record (held_of self.old) { objects = (held_of self.new).objects } }
         ensures limit { (held_of self.new).objects.mob.limit ≡ (held_of self.old).objects.mob.limit }
@@ -415,11 +448,20 @@ impl<P: Parts> Stable<P> {
         ensures names { IfErr result (λ r. repo_named (held_of self.old).repo r ≡ (held_of self.old).repo) }
         ensures goes { GoesOn (disks_of P.disks self.old) (disks_of P.disks self.new) }
         ensures stopped { (r : ℕ) → IsErrOf result (IsStopped r) → HasFailed (disks_of P.disks self.old).faults (disks_of P.disks self.new).faults }
+        ensures steady { OnOk result (NoFault (disks_of P.disks self.old) (disks_of P.disks self.new)) }
+        ensures quiet { IfErr result (λ r. is_stopped r ≡ false → NoFault (disks_of P.disks self.old) (disks_of P.disks self.new)) }
         ensures damaged { (r place : ℕ) → IsErrOf result (IsDamaged r place) → IfSome (slice_get (held_of self.old).objects.mob.objects 0) (λ q. IsDamage (disks_of P.disks self.old) (held_of self.old).objects.pages.sides q.0.page place) }
+        ensures page { (r place : ℕ) → IsErrOf result (IsDamaged r place) → (page : ℕ) × IsDamage (disks_of P.disks self.new) (held_of self.new).objects.pages.sides page place }
     {
         match self.held.flush_one(&mut self.parts) {
-            Ok(flushed) => self.put_flushed(log, flushed),
-            Err(fault) => Err(of_store(self.repo(), fault)),
+            Ok(flushed) => {
+                self.read_is_left();
+                self.put_flushed(log, flushed)
+            }
+            Err(fault) => {
+                self.read_is_left();
+                Err(of_store(self.repo(), fault))
+            }
         }
     }
 
@@ -429,6 +471,7 @@ impl<P: Parts> Stable<P> {
         requires opened { IsOpen (disks_of P.disks self.old) log.old (held_of self.old) }
         requires last { IsLastFlush (held_of self.old) flushed }
         ensures opened { OnOk result (IsOpen (disks_of P.disks self.new) log.new (held_of self.new)) }
+        ensures readable { HasPages P.disks self.old → HasPages P.disks self.new }
         ensures keeps { Keeps (held_of self.new) }
         ensures held { held_of self.new ≡ record (held_of self.old) { objects = (held_of self.new).objects } }
         ensures limit { (held_of self.new).objects.mob.limit ≡ (held_of self.old).objects.mob.limit }
@@ -443,6 +486,8 @@ impl<P: Parts> Stable<P> {
         ensures names { IfErr result (λ r. repo_named (held_of self.old).repo r ≡ (held_of self.old).repo) }
         ensures goes { GoesOn (disks_of P.disks self.old) (disks_of P.disks self.new) }
         ensures stopped { (r : ℕ) → IsErrOf result (IsStopped r) → HasFailed (disks_of P.disks self.old).faults (disks_of P.disks self.new).faults }
+        ensures steady { OnOk result (NoFault (disks_of P.disks self.old) (disks_of P.disks self.new)) }
+        ensures quiet { IfErr result (λ r. is_stopped r ≡ false → NoFault (disks_of P.disks self.old) (disks_of P.disks self.new)) }
         ensures damaged { (r place : ℕ) → IsErrOf result (IsDamaged r place) → ⊥ }
     {
         let Flushed::Installed { page, side } = flushed else {
@@ -460,10 +505,11 @@ impl<P: Parts> Stable<P> {
 
     /// Begins a log on the other log disk with all that is held. Want of memory, too, where no sequence or no
     /// count is left, which no run comes to.
-    #[tactic(auto, using(crate::proofs::Saying::said_same, crate::proofs::Saying::said_out))]
+    #[tactic(auto, using(crate::proofs::Readable::same_has, crate::proofs::Saying::said_same, crate::proofs::Saying::said_out))]
     pub fn checkpoint(&mut self) -> Result<(), Refusal>
         requires kept { IsKept P.disks self.old }
         ensures kept { IsKept P.disks self.new }
+        ensures readable { HasPages P.disks self.old → HasPages P.disks self.new }
         ensures ok { OnOk result (GoesOnUp self.old self.new) }
         ensures err { IfErr result (StandsAfter self.old self.new None) }
         ensures rests { is_up self.old ≡ true → OnErr result (RestsWith None self.new) }
@@ -473,6 +519,8 @@ impl<P: Parts> Stable<P> {
         ensures clock { (disks_of P.disks self.new).clock ≡ (disks_of P.disks self.old).clock }
         ensures names { IfErr result (λ r. repo_named (held_of self.old).repo r ≡ (held_of self.old).repo) }
         ensures stopped { (r : ℕ) → IsErrOf result (IsStopped r) → HasFailed (disks_of P.disks self.old).faults (disks_of P.disks self.new).faults }
+        ensures steady { OnOk result (NoFault (disks_of P.disks self.old) (disks_of P.disks self.new)) }
+        ensures quiet { IfErr result (λ r. is_stopped r ≡ false → NoFault (disks_of P.disks self.old) (disks_of P.disks self.new)) }
         ensures damaged { (r place : ℕ) → IsErrOf result (IsDamaged r place) → ⊥ }
     {
         let Some(mut log) = self.take_log() else {

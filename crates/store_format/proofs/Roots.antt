@@ -11,6 +11,7 @@ use Rattle.page_format.specs.Sides.{side_in_use}
 use Rattle.page_store.proofs.Stores.{in_use_here, in_use_other}
 use Rattle.page_store.specs.Objects.{Spells, empty_page}
 use Rattle.page_store.specs.Sides.{KeepsSides, Shows, side_bytes}
+use Rattle.stable_store.specs.Pages.{ArePages}
 use Rattle.std.proofs.Common.{Bool, Err, IfOk, List, None, Ok, Option, Result, Some, [], ap, arith, cond, false, max, nat_eq, nat_lt, refl, subst, sym, true, ◌&&◌, ◌+◌, ◌<◌, ◌∙◌, ◌∷◌, ◌≡◌, ◌≤◌, ℕ, inl, inr}
 use Rattle.std.proofs.Math.Nat.{eq-or-lt_of_le}
 use Rattle.std.proofs.lemmas.Bool.Decides.{nat_tests}
@@ -136,6 +137,11 @@ all_written end repo setup sides disk whole has = record { each = λ page. by pa
     by page false test shows =
         let past : end ≤ page = grind (arith, nat_tests, test) in
         subst (λ (c : Contents). Shows disk (side_in_use sides page) page c) (sym (none_lies setup.schema.classes repo page 0 setup.roots (empty_page page) (below (page_count repo setup.roots) end page whole past))) shows
+
+-- sides with the roots are pages
+pub roots_pages : (repo : ℕ) (setup : Setup) (sides : List (ℕ × ℕ)) (disk : List ℕ) → HasRoots repo setup sides disk → ArePages sides disk
+roots_pages repo setup sides disk has = λ page side used.
+    (first_page repo setup page, subst (λ (u : Option ℕ). Shows disk u page (first_page repo setup page)) used (has.each page))
 
 -- ---- fields
 

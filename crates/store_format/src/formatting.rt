@@ -1,14 +1,15 @@
 //! A fresh repository is formatted.
 
 ghost use Rattle.std.specs.List.{AllByRecursion};
-ghost use Rattle.std.specs.Prelude.{◌≡◌, ◌≤◌, IfOk, None, true};
-ghost use Rattle.disk_trait.specs.AllDisks.{AllSettled};
+ghost use Rattle.std.specs.Prelude.{◌≡◌, ◌≤◌, IfOk, None, OnOk, true};
+ghost use Rattle.disk_trait.specs.AllDisks.{AllSettled, GoesOn, TellsAll};
 ghost use Rattle.disk_trait.specs.Disks.{Disks, WhereTold};
 ghost use Rattle.held_state.specs.Keeps.{Keeps};
 ghost use Rattle.held_state.specs.Said.{said};
 ghost use Rattle.log_bytes.specs.Checkpoint.{RootFits};
 ghost use Rattle.log_frame.specs.Log.{read_log};
 ghost use Rattle.stable_store.specs.Kept.{IsKept, disks_of, held_of, is_up};
+ghost use Rattle.stable_store.specs.Pages.{HasPages};
 ghost use Rattle.stable_store.specs.Saying.{IsSaid};
 ghost use Rattle.stable_store.specs.Taking.{AgreesWhere};
 ghost use Rattle.state_log.specs.Holds.{Holds};
@@ -44,6 +45,7 @@ pub fn format<P: Parts>(
     requires settled { AllSettled (P.disks parts) }
     ensures kept { IfOk result (IsKept P.disks) }
     ensures up { IfOk result (λ stable. is_up stable ≡ true) }
+    ensures readable { TellsAll (P.disks parts) → IfOk result (HasPages P.disks) }
     ensures fresh { IfOk result (λ stable. IsFresh repo repos setup.now mob (held_of stable)) }
     ensures says { IfOk result (IsSaid P.disks) }
     ensures roots { IfOk result (λ stable. WhereTold (disks_of P.disks stable) 2 (HasRoots repo setup.now (held_of stable).objects.pages.sides)) }
@@ -71,6 +73,7 @@ fn put_store<P: Parts>(
     ensures fresh { IfOk result (λ r. IsFresh repo repos setup.now mob r.state) }
     ensures roots { IfOk result (λ r. WhereTold (P.disks parts.new) 2 (HasRoots repo setup.now r.state.objects.pages.sides)) }
     ensures clock { (P.disks parts.old).clock ≤ (P.disks parts.new).clock }
+    ensures told { OnOk result (TellsAll (P.disks parts.old) → TellsAll (P.disks parts.new)) }
 {
     if !have_names(setup.roots.as_slice()) {
         return Err(OpenCause::NoMemory);
@@ -82,6 +85,7 @@ fn put_store<P: Parts>(
 }
 
 /// Begins the log of a new repository with these pages, whose log disks have none.
+#[tactic(auto, using(disk_trait::proofs::Several::goes_none))]
 fn begin_log<P: Parts>(
     alloc: Global,
     parts: &mut P,
@@ -102,6 +106,7 @@ fn begin_log<P: Parts>(
     ensures sides { IfOk result (λ r. r.state.objects.pages.sides ≡ installed) }
     ensures stays { (P.disks parts.new).content 2 ≡ (P.disks parts.old).content 2 }
     ensures clock { (P.disks parts.old).clock ≤ (P.disks parts.new).clock }
+    ensures goes { GoesOn (P.disks parts.old) (P.disks parts.new) }
 {
     let state = first_state(alloc, repo, repos, setup, installed)?;
     let log = CommitLog::format(alloc, parts, &state)?;

@@ -6,6 +6,9 @@ use Rattle.repo_core.proofs.Written.{can_decide}
 use Rattle.repo_core.specs.Behind.{has_prepared}
 use Rattle.repo_core.specs.Shown.{Shown}
 use Rattle.stable_store.specs.Kept.{is_up}
+use Rattle.stable_store.proofs.Counting.{err_through}
+use Rattle.std.proofs.Common.{rules}
+use Rattle.repo_core.proofs.Failing.{err_before}
 use Rattle.repo_core.proofs.repo.Repo.decide.Goals as goal
 
 pub write-requires-clause-can : goal.write-requires-clause-can
@@ -17,3 +20,12 @@ write-requires-clause-can g c =
 
 pub returns-in_err-make_room_for-clause-damaged : goal.returns-in_err-make_room_for-clause-damaged
 returns-in_err-make_room_for-clause-damaged g c = λ n place is. (c.in_err-make_room_for.ensures.left None).fault c.in_err-make_room_for.ensures.fault.0
+
+pub returns-in_err-write-clause-quiet : goal.returns-in_err-write-clause-quiet
+returns-in_err-write-clause-quiet g c = err_before c.from_residual-in_err-write.result c.args.self.now.faults c.make_room_for.new.self.faults c.write.new.self.faults c.in_ok-make_room_for.ensures.steady (err_through c.write.result c.from_residual-in_err-write.result _ (λ r wrong. search rules) c.write.ensures.quiet)
+
+pub returns-clause-steady : goal.returns-clause-steady
+returns-clause-steady g c = c.in_ok-write.ensures.steady ∙ c.in_ok-make_room_for.ensures.steady
+
+pub returns-in_err-make_room_for-clause-quiet : goal.returns-in_err-make_room_for-clause-quiet
+returns-in_err-make_room_for-clause-quiet g c = err_through c.make_room_for.result c.from_residual-in_err-make_room_for.result _ (λ r wrong. search rules) c.make_room_for.ensures.quiet

@@ -6,6 +6,11 @@ use Rattle.validation_window.specs.declared.refusal.Refusal.TheVariants.{Damaged
 use Rattle.repo_core.proofs.Refused.{if_err_on, leaves_read}
 use Rattle.repo_core.specs.Shown.{Shown, shown}
 use Rattle.std.specs.Prelude.{None}
+use Rattle.repo_core.proofs.Failing.{counts_between, err_shown}
+use Rattle.stable_store.proofs.Counting.{err_through, if_err_any}
+use Rattle.stable_store.proofs.Returning.{on_ok_any}
+use Rattle.std.proofs.Common.{◌∙◌}
+use Rattle.repo_core.proofs.Readable.{shown_has}
 use Rattle.repo_core.proofs.repo.Repo.fetch.Goals as goal
 
 pub returns-clause-left : goal.returns-clause-left
@@ -34,3 +39,37 @@ returns-in_err-image-clause-damaged g c = λ n place is.
 
 pub returns-clause-damaged : goal.returns-clause-damaged
 returns-clause-damaged g c = λ n place is. damaged_memory c.mark.result n place _ c.mark.ensures.refusal is
+
+pub returns-in_err-image-clause-quiet : goal.returns-in_err-image-clause-quiet
+returns-in_err-image-clause-quiet g c =
+    let i = c.self.inside in
+    err_shown c.from_residual-in_err-image.result (disks_of g.P.Parts.disks i.stable) (disks_of g.P.Parts.disks c.page_image.new.self) c.args.self.now (shown g.P.Parts.disks c.page_image.new.self i.memory i.trace i.opened_in) (ap (λ (s : Shown). s.faults) c.self.view_is) refl (err_through c.page_image.result c.from_residual-in_err-image.result _ (λ r wrong. search rules) c.page_image.ensures.quiet)
+
+pub returns-clause-steady : goal.returns-clause-steady
+returns-clause-steady g c =
+    let i = c.self.inside in
+    on_ok_any c.mark.result _ (c.mark.ensures.faults ∙ counts_between (disks_of g.P.Parts.disks i.stable) (disks_of g.P.Parts.disks c.page_image.new.self) c.args.self.now (shown g.P.Parts.disks c.page_image.new.self c.send_page-sent.new.self i.trace i.opened_in) (ap (λ (s : Shown). s.faults) c.self.view_is) refl (c.in_ok-image.ensures.steady))
+
+pub returns-clause-quiet : goal.returns-clause-quiet
+returns-clause-quiet g c =
+    let i = c.self.inside in
+    if_err_any c.mark.result _ (c.mark.ensures.faults ∙ counts_between (disks_of g.P.Parts.disks i.stable) (disks_of g.P.Parts.disks c.page_image.new.self) c.args.self.now (shown g.P.Parts.disks c.page_image.new.self c.send_page-sent.new.self i.trace i.opened_in) (ap (λ (s : Shown). s.faults) c.self.view_is) refl (c.in_ok-image.ensures.steady))
+
+pub returns-in_err-image-clause-readable : goal.returns-in_err-image-clause-readable
+returns-in_err-image-clause-readable g c = λ has.
+    let i = c.self.inside in
+    c.page_image.ensures.readable (shown_has g.P.Parts.disks i.stable i.memory i.trace i.opened_in c.args.self.now c.self.view_is has)
+
+pub returns-clause-readable : goal.returns-clause-readable
+returns-clause-readable g c = λ has.
+    let i = c.self.inside in
+    c.mark.ensures.readable (c.page_image.ensures.readable (shown_has g.P.Parts.disks i.stable i.memory i.trace i.opened_in c.args.self.now c.self.view_is has))
+
+pub returns-in_err-image-clause-never : goal.returns-in_err-image-clause-never
+returns-in_err-image-clause-never g c = λ n place is has.
+    let i = c.self.inside in
+    let wrong : IsErrOf c.page_image.result (IsDamaged n place) = search rules in
+    c.page_image.ensures.never n place wrong (shown_has g.P.Parts.disks i.stable i.memory i.trace i.opened_in c.args.self.now c.self.view_is has)
+
+pub returns-clause-never : goal.returns-clause-never
+returns-clause-never g c = λ n place is has. damaged_memory c.mark.result n place _ c.mark.ensures.refusal is

@@ -3,6 +3,9 @@ use Rattle.repo_core.proofs.Causes.{why_marked}
 use Rattle.repo_core.proofs.Judged.{refused_by}
 use Rattle.repo_core.proofs.Refused.{why_refused}
 use Rattle.repo_core.specs.Calls.{judged}
+use Rattle.stable_store.proofs.Counting.{err_through}
+use Rattle.std.proofs.Common.{rules}
+use Rattle.repo_core.proofs.Failing.{err_before, ok_before}
 use Rattle.repo_core.proofs.repo.Repo.prepare.Goals as goal
 
 pub returns-in-Err-clause-why : goal.returns-in-Err-clause-why
@@ -17,3 +20,12 @@ returns-in-Err-clause-only g c =
 
 pub returns-in_err-make_room-in-Ok-clause-damaged : goal.returns-in_err-make_room-in-Ok-clause-damaged
 returns-in_err-make_room-in-Ok-clause-damaged g c = λ n place is. (c.in_err-make_room-in-Ok.ensures.left None).fault c.in_err-make_room-in-Ok.ensures.fault.0
+
+pub returns-in_ok-make_room-in-Ok-clause-steady : goal.returns-in_ok-make_room-in-Ok-clause-steady
+returns-in_ok-make_room-in-Ok-clause-steady g c = ok_before c.write.result c.args.self.now.faults c.make_room.new.self.faults c.write.new.self.faults c.in_ok-make_room-in-Ok.ensures.steady c.write.ensures.steady
+
+pub returns-in_ok-make_room-in-Ok-clause-quiet : goal.returns-in_ok-make_room-in-Ok-clause-quiet
+returns-in_ok-make_room-in-Ok-clause-quiet g c = err_before c.write.result c.args.self.now.faults c.make_room.new.self.faults c.write.new.self.faults c.in_ok-make_room-in-Ok.ensures.steady c.write.ensures.quiet
+
+pub returns-in_err-make_room-in-Ok-clause-quiet : goal.returns-in_err-make_room-in-Ok-clause-quiet
+returns-in_err-make_room-in-Ok-clause-quiet g c = err_through c.make_room.result c.from_residual-in_err-make_room-in-Ok.result _ (λ r wrong. search rules) c.make_room.ensures.quiet

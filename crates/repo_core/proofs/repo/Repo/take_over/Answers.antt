@@ -7,6 +7,10 @@ use Rattle.stable_store.specs.Kept.{disks_of, pending}
 use Rattle.std.proofs.Common.{IsErrOf, OnOk, ap, refl, rules, subst}
 use Rattle.std.specs.Prelude.{OnErr}
 use Rattle.validation_window.specs.declared.refusal.Refusal.TheVariants.{Damaged as IsDamaged, Stopped as IsStopped}
+use Rattle.repo_core.proofs.Failing.{counts_between, err_shown}
+use Rattle.stable_store.proofs.Counting.{err_through, if_err_any, stays_then}
+use Rattle.stable_store.proofs.Returning.{on_ok_any}
+use Rattle.repo_core.proofs.Readable.{shown_has}
 use Rattle.repo_core.proofs.repo.Repo.take_over.Goals as goal
 
 pub returns-in-Pending-clause-takes : goal.returns-in-Pending-clause-takes
@@ -52,3 +56,38 @@ returns-in_err-restart-clause-stopped g c = λ n is.
 
 pub returns-in-Pending-clause-stopped : goal.returns-in-Pending-clause-stopped
 returns-in-Pending-clause-stopped g c = λ n is. stopped_memory c.take_pending.result n _ c.take_pending.ensures.refusal is
+
+pub returns-in_err-restart-clause-quiet : goal.returns-in_err-restart-clause-quiet
+returns-in_err-restart-clause-quiet g c =
+    let i = c.self.inside in
+    err_shown c.from_residual.result (disks_of g.P.Parts.disks i.stable) (disks_of g.P.Parts.disks c.restart.new.self) c.args.self.now (shown g.P.Parts.disks c.restart.new.self i.memory i.trace i.opened_in) (ap (λ (s : Shown). s.faults) c.self.view_is) refl (err_through c.restart.result c.from_residual.result _ (λ r wrong. search rules) c.restart.ensures.quiet)
+
+pub returns-in-Held-clause-steady : goal.returns-in-Held-clause-steady
+returns-in-Held-clause-steady g c =
+    let i = c.self.inside in
+    counts_between (disks_of g.P.Parts.disks i.stable) (disks_of g.P.Parts.disks c.restart.new.self) c.args.self.now (shown g.P.Parts.disks c.restart.new.self i.memory i.trace i.opened_in) (ap (λ (s : Shown). s.faults) c.self.view_is) refl (c.in_ok-restart.ensures.steady)
+
+pub returns-in-Pending-clause-steady : goal.returns-in-Pending-clause-steady
+returns-in-Pending-clause-steady g c =
+    let i = c.self.inside in
+    on_ok_any c.take_pending.result _ (counts_between (disks_of g.P.Parts.disks i.stable) (disks_of g.P.Parts.disks c.take_pending.new.stable) c.args.self.now (shown g.P.Parts.disks c.take_pending.new.stable c.take_pending.new.memory c.take_pending.new.trace i.opened_in) (ap (λ (s : Shown). s.faults) c.self.view_is) refl (stays_then (disks_of g.P.Parts.disks i.stable) (disks_of g.P.Parts.disks c.restart.new.self) (disks_of g.P.Parts.disks c.take_pending.new.stable) c.in_ok-restart.ensures.steady c.take_pending.ensures.faults))
+
+pub returns-in-Pending-clause-quiet : goal.returns-in-Pending-clause-quiet
+returns-in-Pending-clause-quiet g c =
+    let i = c.self.inside in
+    if_err_any c.take_pending.result _ (counts_between (disks_of g.P.Parts.disks i.stable) (disks_of g.P.Parts.disks c.take_pending.new.stable) c.args.self.now (shown g.P.Parts.disks c.take_pending.new.stable c.take_pending.new.memory c.take_pending.new.trace i.opened_in) (ap (λ (s : Shown). s.faults) c.self.view_is) refl (stays_then (disks_of g.P.Parts.disks i.stable) (disks_of g.P.Parts.disks c.restart.new.self) (disks_of g.P.Parts.disks c.take_pending.new.stable) c.in_ok-restart.ensures.steady c.take_pending.ensures.faults))
+
+pub returns-in_err-restart-clause-readable : goal.returns-in_err-restart-clause-readable
+returns-in_err-restart-clause-readable g c = λ has.
+    let i = c.self.inside in
+    c.restart.ensures.readable c.self.invariant.1 (shown_has g.P.Parts.disks i.stable i.memory i.trace i.opened_in c.args.self.now c.self.view_is has)
+
+pub returns-in-Held-clause-readable : goal.returns-in-Held-clause-readable
+returns-in-Held-clause-readable g c = λ has.
+    let i = c.self.inside in
+    c.restart.ensures.readable c.self.invariant.1 (shown_has g.P.Parts.disks i.stable i.memory i.trace i.opened_in c.args.self.now c.self.view_is has)
+
+pub returns-in-Pending-clause-readable : goal.returns-in-Pending-clause-readable
+returns-in-Pending-clause-readable g c = λ has.
+    let i = c.self.inside in
+    c.take_pending.ensures.readable (c.restart.ensures.readable c.self.invariant.1 (shown_has g.P.Parts.disks i.stable i.memory i.trace i.opened_in c.args.self.now c.self.view_is has))

@@ -11,6 +11,10 @@ use Rattle.stable_store.specs.Kept.{disks_of, is_up}
 use Rattle.std.proofs.Common.{IsErrOf, Ok, OnOk, Some, ap, false, rules, subst, refl, sym, true, ◌∙◌, ◌≡◌}
 use Rattle.std.specs.Prelude.{OnErr}
 use Rattle.volatile_state.specs.Volatile.{Memory, entered}
+use Rattle.repo_core.proofs.Failing.{counts_between, err_shown}
+use Rattle.stable_store.proofs.Counting.{err_through, if_err_any, stays_then}
+use Rattle.stable_store.proofs.Returning.{on_ok_any}
+use Rattle.repo_core.proofs.Readable.{shown_has}
 use Rattle.repo_core.proofs.repo.Repo.write.Goals as goal
 
 pub returns-clause-ended : goal.returns-clause-ended
@@ -52,3 +56,28 @@ returns-in_err-entry-clause-stopped g c = λ n is.
 
 pub returns-clause-stopped : goal.returns-clause-stopped
 returns-clause-stopped g c = λ n is. stopped_memory c.record.result n _ c.record.ensures.refusal is
+
+pub returns-in_err-entry-clause-quiet : goal.returns-in_err-entry-clause-quiet
+returns-in_err-entry-clause-quiet g c =
+    let i = c.self.inside in
+    err_shown c.from_residual.result (disks_of g.P.Parts.disks i.stable) (disks_of g.P.Parts.disks c.append.new.self) c.args.self.now (shown g.P.Parts.disks c.append.new.self i.memory c.reserve.new.self i.opened_in) (ap (λ (s : Shown). s.faults) c.self.view_is) refl (err_through c.append.result c.from_residual.result _ (λ r wrong. search rules) c.append.ensures.quiet)
+
+pub returns-clause-steady : goal.returns-clause-steady
+returns-clause-steady g c =
+    let i = c.self.inside in
+    on_ok_any c.record.result _ (counts_between (disks_of g.P.Parts.disks i.stable) (disks_of g.P.Parts.disks c.record.new.stable) c.args.self.now (shown g.P.Parts.disks c.record.new.stable c.tell-told.new.memory c.record.new.trace i.opened_in) (ap (λ (s : Shown). s.faults) c.self.view_is) refl (stays_then (disks_of g.P.Parts.disks i.stable) (disks_of g.P.Parts.disks c.append.new.self) (disks_of g.P.Parts.disks c.record.new.stable) c.in_ok-entry.ensures.steady c.record.ensures.faults))
+
+pub returns-clause-quiet : goal.returns-clause-quiet
+returns-clause-quiet g c =
+    let i = c.self.inside in
+    if_err_any c.record.result _ (counts_between (disks_of g.P.Parts.disks i.stable) (disks_of g.P.Parts.disks c.record.new.stable) c.args.self.now (shown g.P.Parts.disks c.record.new.stable c.tell-told.new.memory c.record.new.trace i.opened_in) (ap (λ (s : Shown). s.faults) c.self.view_is) refl (stays_then (disks_of g.P.Parts.disks i.stable) (disks_of g.P.Parts.disks c.append.new.self) (disks_of g.P.Parts.disks c.record.new.stable) c.in_ok-entry.ensures.steady c.record.ensures.faults))
+
+pub returns-in_err-entry-clause-readable : goal.returns-in_err-entry-clause-readable
+returns-in_err-entry-clause-readable g c = λ has.
+    let i = c.self.inside in
+    c.append.ensures.readable (shown_has g.P.Parts.disks i.stable i.memory i.trace i.opened_in c.args.self.now c.self.view_is has)
+
+pub returns-clause-readable : goal.returns-clause-readable
+returns-clause-readable g c = λ has.
+    let i = c.self.inside in
+    c.record.ensures.readable (c.append.ensures.readable (shown_has g.P.Parts.disks i.stable i.memory i.trace i.opened_in c.args.self.now c.self.view_is has))

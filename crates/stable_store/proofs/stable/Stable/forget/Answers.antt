@@ -2,6 +2,9 @@ use Rattle.stable_store.proofs.Forgetting.{says_forgotten}
 use Rattle.stable_store.proofs.Saying.{says_moved}
 use Rattle.stable_store.proofs.Staying.{keeps_up}
 use Rattle.stable_store.specs.Kept.{disks_of}
+use Rattle.stable_store.proofs.Readable.{moved_has}
+use Rattle.std.proofs.Common.{ap}
+use Rattle.held_state.specs.declared.held.Held.{Held}
 use Rattle.stable_store.proofs.stable.Stable.forget.Goals as goal
 
 pub returns-clause-says : goal.returns-clause-says
@@ -9,3 +12,6 @@ returns-clause-says g c = λ up is.
     let s = c.args.self.now in
     let keeps = keeps_up (disks_of g.P.Parts.disks s) s.held s.phase up c.requires.kept.stands in
     record { says = says_moved (disks_of g.P.Parts.disks s) s.held c.forget.new.self s.phase up is.says (says_forgotten s.held c.forget.new.self c.args.tx c.forget.ensures.held keeps) }
+
+pub returns-clause-readable : goal.returns-clause-readable
+returns-clause-readable g c = λ has. moved_has g.P.Parts.disks c.args.self.now c.forget.new.self (ap (λ (h : Held). h.objects.pages.sides) c.forget.ensures.held) has

@@ -2,6 +2,8 @@ use Rattle.disk_trait.specs.Fused.{fused_disks}
 use Rattle.stable_store.proofs.Saying.{says_same}
 use Rattle.stable_store.proofs.Staying.{stands_same}
 use Rattle.stable_store.specs.Kept.{disks_of}
+use Rattle.stable_store.proofs.Readable.{still_has}
+use Rattle.std.proofs.Common.{ap, is_some, refl}
 use Rattle.stable_store.proofs.stable.Stable.now.Goals as goal
 
 pub returns-clause-kept : goal.returns-clause-kept
@@ -9,3 +11,7 @@ returns-clause-kept g c = record { stands = stands_same (disks_of g.P.Parts.disk
 
 pub returns-clause-says : goal.returns-clause-says
 returns-clause-says g c = λ is. record { says = says_same (disks_of g.P.Parts.disks c.args.self.now) (fused_disks g.P.Parts.disks c.now.new.self) c.args.self.now.held c.args.self.now.phase is.says c.now.ensures.disks }
+
+pub returns-clause-readable : goal.returns-clause-readable
+returns-clause-readable g c = λ has.
+    still_has g.P.Parts.disks c.args.self.now (record c.args.self.now { parts = c.now.new.self }) (λ d. ap is_some (c.now.ensures.disks.content d)) (c.now.ensures.disks.content 2) refl (λ whole. whole) has

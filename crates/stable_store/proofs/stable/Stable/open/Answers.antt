@@ -1,10 +1,11 @@
-use Rattle.disk_trait.proofs.Several.{content_stays}
+use Rattle.disk_trait.proofs.Several.{content_stays, goes_one}
 use Rattle.mob_flusher.specs.Map.{Kept}
 use Rattle.page_store.specs.Store.{Store}
 use Rattle.held_state.specs.Said.{said}
 use Rattle.stable_store.proofs.Openings.{opened_where, stands_where}
 use Rattle.stable_store.proofs.Saying.{log_just}
-use Rattle.std.proofs.Common.{ap, ◌∙◌}
+use Rattle.std.proofs.Common.{ap, sym, ◌∙◌}
+use Rattle.stable_store.proofs.Pages.{tells_on}
 use Rattle.stable_store.proofs.stable.Stable.open.Goals as goal
 
 pub new-requires : goal.new-requires
@@ -21,3 +22,9 @@ returns-in-Ok-true-clause-says g c = λ holds.
 
 pub returns-in-Ok-true-clause-content : goal.returns-in-Ok-true-clause-content
 returns-in-Ok-true-clause-content g c = λ d. c.new.ensures.content d ∙ content_stays (g.P.Parts.disks c.args.parts) (g.P.Parts.disks c.reaches.new.parts) 2 c.reaches.ensures.alone c.reaches.ensures.content d
+
+pub returns-in-Ok-true-clause-readable : goal.returns-in-Ok-true-clause-readable
+returns-in-Ok-true-clause-readable g c = λ tells are.
+    let old = g.P.Parts.disks c.args.parts in
+    let now = g.P.Parts.disks c.reaches.new.parts in
+    c.new.ensures.readable (tells_on old now (goes_one old now 2 c.reaches.ensures.alone) tells) (λ disk told. are disk (sym c.reaches.ensures.content ∙ told))

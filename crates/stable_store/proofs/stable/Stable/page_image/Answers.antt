@@ -5,7 +5,18 @@ use Rattle.stable_store.proofs.Openings.{stands_where}
 use Rattle.stable_store.proofs.Saying.{log_beside, log_same, said_unread, said_up, taken_says}
 use Rattle.stable_store.proofs.Staying.{kept_up, taken_open}
 use Rattle.stable_store.specs.Kept.{disks_of}
-use Rattle.std.proofs.Common.{ap}
+use Rattle.std.proofs.Common.{ap, sym, ◌∙◌}
+use Rattle.stable_store.proofs.Counting.{stays_between, stays_on, stays_taken, store_quiet}
+use Rattle.stable_store.specs.Kept.{parts_in}
+use Rattle.stable_store.specs.Kept.{is_torn}
+use Rattle.std.proofs.Common.{Err, refl}
+use Rattle.stable_store.proofs.Readable.{back_has, never_damage, out_has, still_has, whole_out}
+use Rattle.disk_trait.proofs.Several.{goes_one}
+use Rattle.log_bytes.specs.declared.state.State.{State}
+use Rattle.stable_store.specs.declared.stable.Phase.TheVariants.{Up}
+use Rattle.stable_store.proofs.Returning.{same_err}
+use Rattle.page_store.specs.declared.fault.StoreFault.{StoreFault}
+use Rattle.validation_window.specs.declared.refusal.Refusal.TheVariants.{Damaged as IsDamaged}
 use Rattle.stable_store.proofs.stable.Stable.page_image.Goals as goal
 
 pub returns-in-Ok-clause-kept : goal.returns-in-Ok-clause-kept
@@ -31,4 +42,46 @@ pub returns-in-Err-clause-says : goal.returns-in-Err-clause-says
 returns-in-Err-clause-says g c = λ is.
     let taken = c.in-Some.ensures.some in
     let stood = taken_open g.P.Parts.disks c.args.self.now c.take_log.new.self c.in-Some.log taken.1 taken.2 in
-    said_unread g.P.Parts.disks c.args.self.now c.take_log.new.self c.page_image.new.parts c.page_image.new.self c.in-Some.log taken.0 taken.1 is stood c.page_image.ensures.alone c.page_image.ensures.crash c.page_image.ensures.said
+    said_unread g.P.Parts.disks c.args.self.now c.take_log.new.self c.page_image.new.parts c.page_image.new.self c.in-Some.log taken.0 taken.1 is stood c.page_image.ensures.alone c.page_image.ensures.crash c.page_image.ensures.content c.page_image.ensures.said
+
+pub returns-in-Ok-clause-steady : goal.returns-in-Ok-clause-steady
+returns-in-Ok-clause-steady g c =
+    let old = disks_of g.P.Parts.disks c.take_log.new.self in
+    let now = fused_disks g.P.Parts.disks c.page_image.new.parts in
+    stays_between g.P.Parts.disks c.args.self.now c.take_log.new.self c.set_phase.new.self c.page_image.new.parts c.in-Some.ensures.some.1 (ap parts_in c.set_phase.ensures) (stays_on old now 2 c.page_image.ensures.alone c.in-Ok.ensures.steady)
+
+pub returns-in-Err-clause-quiet : goal.returns-in-Err-clause-quiet
+returns-in-Err-clause-quiet g c = λ other.
+    let old = disks_of g.P.Parts.disks c.take_log.new.self in
+    let now = fused_disks g.P.Parts.disks c.page_image.new.parts in
+    stays_taken g.P.Parts.disks c.args.self.now c.take_log.new.self now c.in-Some.ensures.some.1
+    (store_quiet c.page_image.result c.in-Err.fault _ c.in-Err.is (λ w. stays_on old now 2 c.page_image.ensures.alone (c.page_image.ensures.wanting w)) (λ place w. stays_on old now 2 c.page_image.ensures.alone (c.page_image.ensures.harmed place w)) (sym c.of_store.ensures.stops ∙ other))
+
+pub returns-in-Ok-clause-readable : goal.returns-in-Ok-clause-readable
+returns-in-Ok-clause-readable g c = λ has.
+    let taken = c.in-Some.ensures.some in
+    let mid = c.take_log.new.self in
+    let was = out_has g.P.Parts.disks c.args.self.now mid c.in-Some.log taken.0 taken.1 has in
+    let whole = whole_out c.args.self.now mid taken.1 in
+    let read = record mid { parts = c.page_image.new.parts; held = c.page_image.new.self } in
+    let goes = goes_one (disks_of g.P.Parts.disks mid) (fused_disks g.P.Parts.disks c.page_image.new.parts) 2 c.page_image.ensures.alone in
+    back_has g.P.Parts.disks read c.set_phase.new.self (Up c.in-Some.log) c.set_phase.ensures whole
+    (still_has g.P.Parts.disks mid read goes.told c.page_image.ensures.content (ap (λ (s : State). s.installed) c.page_image.ensures.said) (λ whole. whole) was)
+
+pub returns-in-Err-clause-readable : goal.returns-in-Err-clause-readable
+returns-in-Err-clause-readable g c = λ has.
+    let taken = c.in-Some.ensures.some in
+    let mid = c.take_log.new.self in
+    let was = out_has g.P.Parts.disks c.args.self.now mid c.in-Some.log taken.0 taken.1 has in
+    let whole = whole_out c.args.self.now mid taken.1 in
+    let read = record mid { parts = c.page_image.new.parts; held = c.page_image.new.self } in
+    let goes = goes_one (disks_of g.P.Parts.disks mid) (fused_disks g.P.Parts.disks c.page_image.new.parts) 2 c.page_image.ensures.alone in
+    still_has g.P.Parts.disks mid read goes.told c.page_image.ensures.content (ap (λ (s : State). s.installed) c.page_image.ensures.said) (λ whole. whole) was
+
+pub returns-in-Err-clause-never : goal.returns-in-Err-clause-never
+returns-in-Err-clause-never g c = λ r place wrong has.
+    let taken = c.in-Some.ensures.some in
+    let mid = c.take_log.new.self in
+    let was = out_has g.P.Parts.disks c.args.self.now mid c.in-Some.log taken.0 taken.1 has in
+    let is = c.of_store.ensures.damaged r place (same_err _ c.of_store.result (IsDamaged r place) refl wrong) in
+    never_damage (is_torn mid) mid.held.objects.pages.sides (disks_of g.P.Parts.disks mid) c.args.page place (whole_out c.args.self.now mid taken.1) was (c.page_image.ensures.damaged place (c.in-Err.is ∙ ap (λ (f : StoreFault). Err f) is))

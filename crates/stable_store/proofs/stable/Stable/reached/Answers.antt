@@ -10,6 +10,8 @@ use Rattle.stable_store.proofs.Failing.{failed_on}
 use Rattle.stable_store.proofs.Returning.{same_err}
 use Rattle.validation_window.specs.declared.refusal.Refusal.TheVariants.{Stopped as IsStopped}
 use Rattle.std.proofs.Common.{Err, List, Ok, Bool, ap, arith, refl, subst, sym, ℕ, ◌∙◌}
+use Rattle.stable_store.proofs.Counting.{outage_quiet, stays_on}
+use Rattle.disk_trait.proofs.Several.{content_stays}
 use Rattle.stable_store.proofs.stable.Stable.reached.Goals as goal
 
 pub returns-in-Ok-true-clause-opened : goal.returns-in-Ok-true-clause-opened
@@ -30,3 +32,30 @@ pub returns-in-Err-clause-stopped : goal.returns-in-Err-clause-stopped
 returns-in-Err-clause-stopped g c = λ r wrong.
     failed_on (disks_of g.P.Parts.disks c.args.self.now) (fused_disks g.P.Parts.disks c.reaches.new.parts) 2 (omega arith)
     (c.reaches.ensures.failed (c.in-Err.is ∙ ap (λ (o : Outage). Err o) (c.of_outage.ensures.stopped r (same_err _ c.of_outage.result (IsStopped r) refl wrong))))
+
+pub returns-in-Ok-true-clause-steady : goal.returns-in-Ok-true-clause-steady
+returns-in-Ok-true-clause-steady g c =
+    let old = disks_of g.P.Parts.disks c.args.self.now in
+    let now = fused_disks g.P.Parts.disks c.reaches.new.parts in
+    stays_on old now 2 c.reaches.ensures.alone c.in-Ok-true.ensures.steady
+
+pub returns-in-Ok-false-clause-quiet : goal.returns-in-Ok-false-clause-quiet
+returns-in-Ok-false-clause-quiet g c = λ other.
+    let old = disks_of g.P.Parts.disks c.args.self.now in
+    let now = fused_disks g.P.Parts.disks c.reaches.new.parts in
+    stays_on old now 2 c.reaches.ensures.alone c.in-Ok-false.ensures.steady
+
+pub returns-in-Err-clause-quiet : goal.returns-in-Err-clause-quiet
+returns-in-Err-clause-quiet g c = λ other.
+    let old = disks_of g.P.Parts.disks c.args.self.now in
+    let now = fused_disks g.P.Parts.disks c.reaches.new.parts in
+    outage_quiet c.reaches.result c.in-Err.outage _ c.in-Err.is (λ w. stays_on old now 2 c.reaches.ensures.alone (c.reaches.ensures.wanting w)) (sym c.of_outage.ensures.stops ∙ other)
+
+pub returns-in-Ok-true-clause-content : goal.returns-in-Ok-true-clause-content
+returns-in-Ok-true-clause-content g c = content_stays (disks_of g.P.Parts.disks c.args.self.now) (fused_disks g.P.Parts.disks c.reaches.new.parts) 2 c.reaches.ensures.alone c.reaches.ensures.content
+
+pub returns-in-Ok-false-clause-content : goal.returns-in-Ok-false-clause-content
+returns-in-Ok-false-clause-content g c = content_stays (disks_of g.P.Parts.disks c.args.self.now) (fused_disks g.P.Parts.disks c.reaches.new.parts) 2 c.reaches.ensures.alone c.reaches.ensures.content
+
+pub returns-in-Err-clause-content : goal.returns-in-Err-clause-content
+returns-in-Err-clause-content g c = content_stays (disks_of g.P.Parts.disks c.args.self.now) (fused_disks g.P.Parts.disks c.reaches.new.parts) 2 c.reaches.ensures.alone c.reaches.ensures.content

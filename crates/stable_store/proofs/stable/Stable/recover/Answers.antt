@@ -11,6 +11,8 @@ use Rattle.std.proofs.Common.{Err, Ok, Option, ap, arith, refl, subst, sym, ◌�
 use Rattle.validation_window.specs.declared.refusal.Refusal.TheVariants.{Damaged as IsDamaged, Stopped as IsStopped}
 use Rattle.stable_store.specs.Kept.{disks_of, held_of}
 use Rattle.stable_store.specs.Saying.{FindsOneOf}
+use Rattle.stable_store.proofs.Counting.{err_behind, ok_behind, outage_quiet, recovery_quiet, stays_then}
+use Rattle.stable_store.proofs.Returning.{reads_same}
 use Rattle.stable_store.proofs.stable.Stable.recover.Goals as goal
 
 pub returns-in-Ok-Some-clause-crash : goal.returns-in-Ok-Some-clause-crash
@@ -105,3 +107,65 @@ returns-in-Err-found-clause-stopped g c = λ r wrong.
     let is = c.in-Err-found.is ∙ ap (λ (f : RecoverFault). Err f) at.1 in
     let within = c.recover-found.ensures.disk at.0 is in
     failed_behind old.faults mid.faults read.faults c.restart_all.ensures.any_moment.goes.faults (failed_on mid read at.0 (omega (arith, within)) (c.recover-found.ensures.failed at.0 is))
+
+pub returns-in-Err-clause-quiet : goal.returns-in-Err-clause-quiet
+returns-in-Err-clause-quiet g c = λ other. outage_quiet c.restart_all.result c.in-Err.outage _ c.in-Err.is c.restart_all.ensures.wanting (sym c.of_outage.ensures.stops ∙ other)
+
+pub returns-in-Ok-Some-clause-steady : goal.returns-in-Ok-Some-clause-steady
+returns-in-Ok-Some-clause-steady g c =
+    let old = disks_of g.P.Parts.disks c.args.self.now in
+    let mid = fused_disks g.P.Parts.disks c.restart_all.new.parts in
+    let read = fused_disks g.P.Parts.disks c.recover-found.new.parts in
+    ok_behind c.reached.result old read (disks_of g.P.Parts.disks c.reached.new.self) (stays_then old mid read c.in_default.ensures.steady c.in-Ok-Some.ensures.steady) c.reached.ensures.steady
+
+pub returns-in-Ok-Some-clause-quiet : goal.returns-in-Ok-Some-clause-quiet
+returns-in-Ok-Some-clause-quiet g c =
+    let old = disks_of g.P.Parts.disks c.args.self.now in
+    let mid = fused_disks g.P.Parts.disks c.restart_all.new.parts in
+    let read = fused_disks g.P.Parts.disks c.recover-found.new.parts in
+    err_behind c.reached.result old read (disks_of g.P.Parts.disks c.reached.new.self) (stays_then old mid read c.in_default.ensures.steady c.in-Ok-Some.ensures.steady) c.reached.ensures.quiet
+
+pub returns-in-Ok-None-clause-quiet : goal.returns-in-Ok-None-clause-quiet
+returns-in-Ok-None-clause-quiet g c = λ other.
+    let old = disks_of g.P.Parts.disks c.args.self.now in
+    let mid = fused_disks g.P.Parts.disks c.restart_all.new.parts in
+    let read = fused_disks g.P.Parts.disks c.recover-found.new.parts in
+    stays_then old mid read c.in_default.ensures.steady c.in-Ok-None.ensures.steady
+
+pub returns-in-Err-found-clause-quiet : goal.returns-in-Err-found-clause-quiet
+returns-in-Err-found-clause-quiet g c = λ other.
+    let old = disks_of g.P.Parts.disks c.args.self.now in
+    let mid = fused_disks g.P.Parts.disks c.restart_all.new.parts in
+    let read = fused_disks g.P.Parts.disks c.recover-found.new.parts in
+    stays_then old mid read c.in_default.ensures.steady
+    (recovery_quiet c.recover-found.result c.in-Err-found.fault _ c.in-Err-found.is c.recover-found.ensures.wanting c.recover-found.ensures.harmed (sym c.of_recovery.ensures.stops ∙ other))
+
+pub returns-in-Ok-Some-clause-left : goal.returns-in-Ok-Some-clause-left
+returns-in-Ok-Some-clause-left g c = λ bytes reads.
+    let old = disks_of g.P.Parts.disks c.args.self.now in
+    let mid = fused_disks g.P.Parts.disks c.restart_all.new.parts in
+    let read = fused_disks g.P.Parts.disks c.recover-found.new.parts in
+    let more = more_then old mid read (more_run old mid c.restart_all.ensures.any_moment) (more_run mid read c.recover-found.ensures.any_moment) in
+    more.images bytes (c.content_is_left.ensures bytes (reads_same read (disks_of g.P.Parts.disks c.reached.new.self) bytes c.reached.ensures.content reads))
+
+pub returns-in-Ok-None-clause-left : goal.returns-in-Ok-None-clause-left
+returns-in-Ok-None-clause-left g c = λ bytes reads.
+    let old = disks_of g.P.Parts.disks c.args.self.now in
+    let mid = fused_disks g.P.Parts.disks c.restart_all.new.parts in
+    let read = fused_disks g.P.Parts.disks c.recover-found.new.parts in
+    let more = more_then old mid read (more_run old mid c.restart_all.ensures.any_moment) (more_run mid read c.recover-found.ensures.any_moment) in
+    more.images bytes (c.content_is_left.ensures bytes reads)
+
+pub returns-in-Err-found-clause-left : goal.returns-in-Err-found-clause-left
+returns-in-Err-found-clause-left g c = λ bytes reads.
+    let old = disks_of g.P.Parts.disks c.args.self.now in
+    let mid = fused_disks g.P.Parts.disks c.restart_all.new.parts in
+    let read = fused_disks g.P.Parts.disks c.recover-found.new.parts in
+    let more = more_then old mid read (more_run old mid c.restart_all.ensures.any_moment) (more_run mid read c.recover-found.ensures.any_moment) in
+    more.images bytes (c.content_is_left.ensures bytes reads)
+
+pub returns-in-Err-clause-left : goal.returns-in-Err-clause-left
+returns-in-Err-clause-left g c = λ bytes reads.
+    let old = disks_of g.P.Parts.disks c.args.self.now in
+    let mid = fused_disks g.P.Parts.disks c.restart_all.new.parts in
+    (more_run old mid c.restart_all.ensures.any_moment).images bytes (c.read_is_left.ensures bytes reads)

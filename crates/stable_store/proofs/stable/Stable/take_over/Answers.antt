@@ -8,6 +8,7 @@ use Rattle.std.proofs.Common.{None, Option, rules, subst, sym, ◌≡◌}
 use Rattle.std.specs.Option.{IfSome}
 use Rattle.std.specs.Prelude.{IsTrue}
 use Rattle.stable_store.proofs.stable.Stable.take_over.Goals.{in_default-via-in-WithPending+in-None-1, in_default-via-in-Neither-1}
+use Rattle.stable_store.proofs.Readable.{found_has, rests_has}
 use Rattle.stable_store.proofs.stable.Stable.take_over.Goals as goal
 
 pub returns-in-AsHeld-default-clause-says : goal.returns-in-AsHeld-default-clause-says
@@ -37,3 +38,14 @@ returns-in-WithPending-Some-clause-enters g c =
     let e = c.in-WithPending-Some.entry in
     let takes = subst (λ (p : Option Entry). IfSome p (λ e. IsTrue (can_enter c.args.self.now.held e))) c.in-WithPending-Some.is-1 c.requires.rests.takes in
     subst (λ (h : Held). IsTrue (can_enter h e)) (sym c.come_up-in-WithPending-Some.ensures.held) takes
+
+pub returns-in-AsHeld-default-clause-readable : goal.returns-in-AsHeld-default-clause-readable
+returns-in-AsHeld-default-clause-readable g c = λ found held. found_has g.P.Parts.disks c.args.self.now c.come_up.new.self c.args.recovered.state c.args.recovered.log c.come_up.ensures.parts c.come_up.ensures.phase c.come_up.ensures.objects found
+
+pub returns-in-WithPending-Some-clause-readable : goal.returns-in-WithPending-Some-clause-readable
+returns-in-WithPending-Some-clause-readable g c = λ found held.
+    let up = c.come_up-in-WithPending-Some in
+    found_has g.P.Parts.disks c.args.self.now up.new.self c.args.recovered.state c.args.recovered.log up.ensures.parts up.ensures.phase up.ensures.objects found
+
+pub returns-in_default-clause-readable : goal.returns-in_default-clause-readable
+returns-in_default-clause-readable g c = λ found held. rests_has g.P.Parts.disks c.args.self.now c.set_phase.new.self c.args.pending c.set_phase.ensures held
