@@ -217,7 +217,7 @@ module _ (old new : View) (held : Held) (same : new.opened ≡ old.opened) (grew
       let low : at.repo < old.opened.repos = subst (λ (o : Opened). at.repo < o.repos) same within in
       let kept_so : exact (old.opened.base at.repo) (new.seen at.repo) = subst (λ (o : Opened). exact (o.base at.repo) (new.seen at.repo)) same (right.each at.repo within).kept in
       let y = grown_lived old.opened.client (old.opened.base at.repo) at.session (old.seen at.repo) (new.seen at.repo) (old.unsettled at.repo) (new.unsettled at.repo) (grew at.repo low) kept_so
-          (own_in old committed (kept held.cache.cache) at (slice_get held.links.items at.repo) h.joined (fits.links.each at.repo low)) (calm, subst (λ (o : Opened). lives (session (o.base at.repo) (new.seen at.repo) at.session) ≡ true) same live) in
+      (own_in old committed (kept held.cache.cache) at (slice_get held.links.items at.repo) h.joined (fits.links.each at.repo low)) (calm, subst (λ (o : Opened). lives (session (o.base at.repo) (new.seen at.repo) at.session) ≡ true) same live) in
       h.ended low y.0 y.1)
 
   pub waits_stops : (p : Pending) → StopsAlone p old held → StopsAlone p new held
