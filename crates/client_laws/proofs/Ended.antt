@@ -4,7 +4,6 @@ use Rattle.client_laws.proofs.Quiet.{calm_back, came_calm, ends, grown_client, h
 use Rattle.client_laws.proofs.Telling.{client_stays}
 use Rattle.client_laws.specs.Seen.{IsSeenRight}
 use Rattle.commit_log.specs.declared.entry.Entry.TheVariants.{Decided, Finished, Life, One, Prepared, Upgraded}
-use Rattle.commit_log.specs.declared.entry.Entry.{Entry}
 use Rattle.local_history.specs.History.{Base}
 use Rattle.port.specs.Acting.{Acts}
 use Rattle.port.specs.Growing.{Gains, GainsAll, Grew}

@@ -3,11 +3,11 @@ use Rattle.client_cache.specs.Copies.{Contents, changed, kept, seen}
 use Rattle.client_laws.proofs.Ended.{acted_lived, grown_lived}
 use Rattle.client_laws.proofs.OwnVerdicts.{others_told}
 use Rattle.client_laws.proofs.Stepping.{same_there}
-use Rattle.client_laws.specs.Fitting.{Copies, FitsAt, HoldsNone, SameCopies}
+use Rattle.client_laws.specs.Fitting.{Copies, HoldsNone}
 use Rattle.client_laws.specs.Seen.{LinkAt}
 use Rattle.client_laws.specs.Steps.{AllSeenRight, LinksFit}
 use Rattle.client_laws.specs.Verdicts.{OutcomesTold}
-use Rattle.client_state.specs.Links.{is_reply, session_in}
+use Rattle.client_state.specs.Links.{session_in}
 use Rattle.client_state.specs.Moving.{Aborted, Asked, AskedInVain, AskedOwn, CommitRefused, Committed, Connected, Decided, DecideRefused, Drawn, Fetched, Finished, Forgot, Granted, InSession, Moves, PrepareRefused, Prepared, ReceiveRefused, ReceiveStopped, Received, ReceivedNone, Rested, SendsNothing, Settled, Transformed, Unsent}
 use Rattle.client_state.specs.Pending.{AsksBehind, HasStopped, IsAsking, IsPreparing, IsWrittenIn, NonePending, Pending, PendsSo, RefusesToDecide, SendsPending, StaysPending}
 use Rattle.client_state.specs.declared.held.Held.{Held}
@@ -29,12 +29,12 @@ use Rattle.session_outbox.specs.Gaps.{client_in}
 use Rattle.session_outbox.specs.Notices.{lives}
 use Rattle.session_outbox.specs.Session.{Session, session}
 use Rattle.session_outbox.specs.Verdict.{verdict}
-use Rattle.std.proofs.Common.{Bool, List, ap, arith, false, inl, inr, refl, subst, suc, sym, true, zero, ◌∙◌, ◌≡◌, ◌≢◌, ℕ}
+use Rattle.std.proofs.Common.{Bool, ap, arith, false, inl, inr, subst, suc, sym, true, ◌∙◌, ◌≡◌, ◌≢◌, ℕ}
 use Rattle.std.proofs.lemmas.Bool.{cases_eq}
 use Rattle.std.proofs.lemmas.Option.{same_Some}
 use Rattle.std.specs.List.{slice_get}
 use Rattle.std.specs.Option.{option_map, option_or}
-use Rattle.std.specs.Prelude.{Err, None, Ok, Option, Some, ◌<◌, ◌⊎◌}
+use Rattle.std.specs.Prelude.{Err, None, Option, Some, ◌<◌, ◌⊎◌}
 use Rattle.thor_value.specs.declared.names.Oref.{Oref}
 use Rattle.thor_value.specs.declared.names.Ts.{Ts}
 use Rattle.thor_value.specs.declared.values.Obj.{Obj}
@@ -217,7 +217,7 @@ module _ (old new : View) (held : Held) (same : new.opened ≡ old.opened) (grew
       let low : at.repo < old.opened.repos = subst (λ (o : Opened). at.repo < o.repos) same within in
       let kept_so : exact (old.opened.base at.repo) (new.seen at.repo) = subst (λ (o : Opened). exact (o.base at.repo) (new.seen at.repo)) same (right.each at.repo within).kept in
       let y = grown_lived old.opened.client (old.opened.base at.repo) at.session (old.seen at.repo) (new.seen at.repo) (old.unsettled at.repo) (new.unsettled at.repo) (grew at.repo low) kept_so
-          (own_in old committed (kept held.cache.cache) at (slice_get held.links.items at.repo) h.joined (fits.links.each at.repo low)) (calm, subst (λ (o : Opened). lives (session (o.base at.repo) (new.seen at.repo) at.session) ≡ true) same live) in
+      (own_in old committed (kept held.cache.cache) at (slice_get held.links.items at.repo) h.joined (fits.links.each at.repo low)) (calm, subst (λ (o : Opened). lives (session (o.base at.repo) (new.seen at.repo) at.session) ≡ true) same live) in
       h.ended low y.0 y.1)
 
   pub waits_stops : (p : Pending) → StopsAlone p old held → StopsAlone p new held

@@ -1,14 +1,11 @@
 -- A client of a store that has one repository fits it behind each of its steps, and at the end of each run.
 use Rattle.atomic_histories.specs.Several.{is_committed_part}
-use Rattle.call_naming.specs.Justified.{AllHavePrepared}
 use Rattle.client_cache.specs.Copies.{kept, seen}
 use Rattle.client_laws.proofs.Lending.{Front}
 use Rattle.client_laws.proofs.OwnVerdicts.{others_told}
-use Rattle.client_laws.proofs.Showing.{in_front}
 use Rattle.client_laws.proofs.Stepping.{opened_stays, waiting_fits}
 use Rattle.client_laws.proofs.Whole.{ask_all}
-use Rattle.client_laws.specs.Fitting.{Copies, NoneToFinish}
-use Rattle.client_laws.specs.Seen.{LinkAt}
+use Rattle.client_laws.specs.Fitting.{NoneToFinish}
 use Rattle.client_laws.specs.Steps.{AllSeenRight, LinksFit}
 use Rattle.client_laws.specs.Verdicts.{OutcomesTold}
 use Rattle.client_state.specs.Moving.{Aborted, Asked, AskedInVain, AskedOwn, CommitRefused, Committed, Connected, Decided, DecideRefused, Drawn, EndsSo, Fetched, Finished, Forgot, Granted, Moves, PrepareRefused, Prepared, ReceiveRefused, ReceiveStopped, Received, ReceivedNone, Rested, SendsNothing, Settled, Transformed, Unsent}
@@ -27,7 +24,7 @@ use Rattle.fitting_steps.proofs.Losing.{seen_grows}
 use Rattle.fitting_steps.proofs.Running.{new_client}
 use Rattle.fitting_steps.specs.Acting.{acts_of}
 use Rattle.fitting_steps.specs.OneRepository.{BringsWhatStood, FitsOne, HasOneRepository, Leads, StepOwed, committed_there}
-use Rattle.fitting_steps.specs.Owed.{ClientFits, MessageOwed, Owed, SendsOwed, SettledOwed, VerdictOwed, verdict_of}
+use Rattle.fitting_steps.specs.Owed.{ClientFits, MessageOwed, Owed, SendsOwed, SettledOwed, verdict_of}
 use Rattle.fitting_steps.specs.Positions.{Position, Stepped, TurnBy, Waited}
 use Rattle.fitting_steps.specs.Undecided.{HasStoppedIn, StopsAlone}
 use Rattle.local_history.proofs.Growth.{kept_by-parts, sound-beginning}
@@ -43,7 +40,6 @@ use Rattle.port.specs.Views as views
 use Rattle.port.specs.Views.{Calm, Came, Halted, MayCome, Opened, View}
 use Rattle.port.specs.Works.{Answered, AskWork, CommitWork, Does, PrepareWork, alone_entry}
 use Rattle.session_outbox.proofs.Traces.{entries-append}
-use Rattle.session_outbox.specs.Notices.{lives}
 use Rattle.session_outbox.specs.Trace.{E, Item, entries}
 use Rattle.std.proofs.Common.{Bool, List, [], ap, arith, false, inl, inr, refl, subst, suc, sym, true, zero, ◌++◌, ◌∙◌, ◌∷◌, ◌≡◌, ℕ}
 use Rattle.std.specs.List.{slice_get}

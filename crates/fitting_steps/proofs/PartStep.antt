@@ -6,14 +6,12 @@ use Rattle.client_laws.proofs.Beginning.{doomed_uncommitted}
 use Rattle.client_laws.proofs.Lending.{Front}
 use Rattle.client_laws.proofs.OwnVerdicts.{others_told}
 use Rattle.client_laws.proofs.Quiet.{grown_back, undecided}
-use Rattle.client_laws.proofs.Stepping.{opened_stays, same_there, waiting_fits}
+use Rattle.client_laws.proofs.Stepping.{opened_stays, waiting_fits}
 use Rattle.client_laws.proofs.Telling.{agrees}
 use Rattle.client_laws.proofs.Uncommitted.{grown_on}
 use Rattle.client_laws.proofs.UncommittedCalls.{acted}
 use Rattle.client_laws.proofs.Whole.{ask_all}
 use Rattle.client_laws.specs.Doomed.{IsDoomed, concerns, entry_asked}
-use Rattle.client_laws.specs.Fitting.{SameCopies}
-use Rattle.client_laws.specs.Seen.{LinkAt}
 use Rattle.client_laws.specs.Steps.{AllSeenRight, LinksFit}
 use Rattle.client_laws.specs.Verdicts.{OutcomesTold}
 use Rattle.client_state.specs.Calling.{is_session_of}

@@ -1,6 +1,5 @@
 -- A client of a store that has one repository: its steps, and what others make of the repository between (this project's).
 use Rattle.atomic_histories.specs.Several.{is_committed_part}
-use Rattle.client_cache.specs.Copies.{seen}
 use Rattle.client_state.specs.Moving.{Aborted, AskedInVain, AskedOwn, CommitRefused, Committed, Decided, DecideRefused, Finished, Forgot, Moves, PrepareRefused, Prepared, ReceiveRefused, ReceiveStopped, Received, ReceivedNone, Transformed, Unsent}
 use Rattle.client_state.specs.declared.held.Held.{Held}
 use Rattle.fitting_steps.specs.Owed.{ClientFits, PageOwed}
