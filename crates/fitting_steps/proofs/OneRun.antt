@@ -1,10 +1,11 @@
 -- The small run over a store's only repository is one: each step is a client's, and meets what is asked of it.
-use Rattle.client_cache.specs.Copies.{kept, seen}
+use Rattle.client_cache.specs.Copies.{changed, kept, seen}
 use Rattle.client_laws.specs.Examples.{no_copy}
 use Rattle.client_laws.specs.Fitting.{with_writes}
 use Rattle.client_state.specs.Calling.{links_joined, upto_in}
 use Rattle.client_state.specs.Links.{NoneAwaits, at_repo, awaits_reply, session_in, waiting}
-use Rattle.client_state.specs.Moving.{Committed, Connected, Drawn, Granted, InSession, Moves, Received, Unsent}
+use Rattle.client_state.specs.Moving.{AskedOwn, CommitRefused, Committed, Connected, Drawn, Granted, InSession, Moves, Received, Unsent}
+use Rattle.client_state.specs.Pending.{IsWrittenIn, NonePending}
 use Rattle.client_state.specs.Taking.{took}
 use Rattle.client_state.specs.Writing.{HoldsWritten}
 use Rattle.client_state.specs.declared.calls.Drew.TheVariants as drew
@@ -14,10 +15,11 @@ use Rattle.client_state.specs.declared.link.Link.{Link}
 use Rattle.client_state.specs.declared.link.Waits.TheVariants.{Idle, Reply}
 use Rattle.client_state.specs.declared.link.Waits.{Waits}
 use Rattle.client_state.specs.declared.requests.Sending.{Sending}
-use Rattle.fitting_steps.proofs.Trying.{sees_kept, sees_written}
+use Rattle.commit_log.specs.declared.entry.Entry.TheVariants.{Life, One}
 use Rattle.fitting_steps.proofs.OneAmong.{among}
 use Rattle.fitting_steps.proofs.OneStep.{begins}
-use Rattle.fitting_steps.specs.OneExample.{HoldsOnTheWay, HoldsThis, behind, made, seeing, whole}
+use Rattle.fitting_steps.proofs.Trying.{sees_kept, sees_written}
+use Rattle.fitting_steps.specs.OneExample.{HoldsOnTheWay, HoldsThis, asking, behind, behind_it, made, restarted, seeing, stopped, stopping, whole}
 use Rattle.fitting_steps.specs.OneRepository.{FitsOne, HasOneRepository, Leads}
 use Rattle.fitting_steps.specs.Positions.{Stepped, Waited}
 use Rattle.fitting_steps.specs.SingleParts.{LeadsSingly}
@@ -27,19 +29,22 @@ use Rattle.local_history.specs.Examples.{at, box, only, z}
 use Rattle.local_history.specs.History.{Base}
 use Rattle.local_history.specs.Requests.{written}
 use Rattle.local_history.specs.Sound.{sound}
+use Rattle.message_outbox.specs.declared.answers.Asked as answer
+use Rattle.message_outbox.specs.declared.answers.Asked.TheVariants as answers
 use Rattle.message_outbox.specs.declared.answers.At.{At}
+use Rattle.message_outbox.specs.declared.answers.Verdict.{Verdict}
 use Rattle.message_outbox.specs.declared.answers.Welcome.{Welcome}
 use Rattle.message_outbox.specs.declared.message.Message.TheVariants as messages
 use Rattle.message_outbox.specs.declared.message.Message.{Message}
-use Rattle.paused_eval.specs.Copies.{AreAmong}
+use Rattle.paused_eval.specs.Copies.{AreAmong, last_of}
 use Rattle.port.specs.Growing.{Called, Grew}
-use Rattle.port.specs.Views.{Calm}
-use Rattle.port.specs.Works.{CommitWork, ConnectWork, Does, DrawWork, GrantWork, ReceiveWork}
+use Rattle.port.specs.Views.{Calm, Came, MayCome}
+use Rattle.port.specs.Works.{AskWork, CommitWork, ConnectWork, Does, DrawWork, GrantWork, ReceiveWork}
 use Rattle.session_outbox.proofs.Exactness.{exact-beginning}
 use Rattle.session_outbox.proofs.Traces.{entries-append}
 use Rattle.session_outbox.specs.Calls.{welcome}
 use Rattle.session_outbox.specs.Exact.{exact}
-use Rattle.session_outbox.specs.Trace.{Item, M, entries}
+use Rattle.session_outbox.specs.Trace.{E, Item, M, entries}
 use Rattle.session_outbox.specs.declared.mark.Mark.TheVariants as the
 use Rattle.std.proofs.Common.{rules, Bool, List, [], ap, arith, cond, drop, false, inl, inr, refl, subst, suc, sym, take, true, zero, ◌++◌, ◌<◌, ◌^◌, ◌∙◌, ◌∷◌, ◌≡◌, ◌≢◌, ℕ}
 use Rattle.std.proofs.lemmas.Bool.{cases_eq, eqb-true}
@@ -48,7 +53,7 @@ use Rattle.std.proofs.lemmas.Map.Views.{tells_apart}
 use Rattle.std.proofs.lemmas.Option.{same_Some}
 use Rattle.std.specs.List.{slice_get}
 use Rattle.std.specs.Option.{is_some, option_or}
-use Rattle.std.specs.Prelude.{None, Ok, Option, Some, length, nat_eq, ◌||◌, ◌≤◌}
+use Rattle.std.specs.Prelude.{Err, None, Ok, Option, Some, length, nat_eq, ◌||◌, ◌≤◌, ◌⊎◌}
 use Rattle.thor_value.proofs.FiniteMap.{get-insert}
 use Rattle.thor_value.proofs.NameOrders.{oref_exact, oref_total}
 use Rattle.thor_value.specs.FiniteMap.{empty, get}
@@ -56,6 +61,7 @@ use Rattle.thor_value.specs.Names.{same_oref}
 use Rattle.thor_value.specs.declared.names.Oref.{Oref}
 use Rattle.thor_value.specs.declared.names.Ts.{Ts}
 use Rattle.thor_value.specs.declared.values.Obj.{Obj}
+use Rattle.validation_window.specs.declared.refusal.Refusal.TheVariants as refused
 
 -- ---- what is seen
 
@@ -99,6 +105,46 @@ called T S = record {
     by : (n : ℕ) (t : Bool) → nat_eq n 0 ≡ t → n ≢ 0 → Grew only 1 Calm (cond t T []) Calm (cond t S [])
     by n true e other = absurd (other (eqb-true n 0 e))
     by n false e other = still only []
+
+-- the trace behind the restart
+exact_restarted : exact only restarted
+exact_restarted = search rules
+
+sound_restarted : sound only (entries restarted)
+sound_restarted = (decides_sound only (entries restarted)).0 refl
+
+one_restarted : HasOneRepository (seeing restarted)
+one_restarted = record {
+  outside = λ r l. outside restarted r (nat_eq r 0) refl l;
+  one = refl;
+  numbered = refl;
+  counted = refl;
+  owed = sound_restarted;
+  kept = exact_restarted;
+  short = omega arith;
+}
+
+one_stopping : HasOneRepository stopping
+one_stopping =
+    let so = one_at (take 5 whole) (drop 5 whole) refl (omega arith) in
+    record { outside = λ r l. outside (take 5 whole) r (nat_eq r 0) refl l; one = refl; numbered = refl; counted = refl; owed = so.owed; kept = so.kept; short = so.short }
+
+-- a call of client 1 that stops
+met_stopping : Called (seeing (take 5 whole)) stopping 0 (take 5 whole) Calm
+met_stopping = record {
+  same = refl;
+  reached = still only (take 5 whole);
+  others = λ n other. by n (nat_eq n 0) refl other;
+  alone = λ e. cc;
+  alone_others = λ e. cc;
+}
+  where
+    by : (n : ℕ) (t : Bool) → nat_eq n 0 ≡ t → n ≢ 0 → Grew only 1 Calm (cond t (take 5 whole) []) (cond t (MayCome (One made)) Calm) (cond t (take 5 whole) [])
+    by n true e other = absurd (other (eqb-true n 0 e))
+    by n false e other = still only []
+
+abbrev verdict : Verdict
+verdict = record { tx = at 1; commit = true }
 
 -- ---- the steps
 
@@ -181,6 +227,9 @@ module _ (first joined drawn waits taken last : Held) (h : HoldsOnTheWay first j
       by true e = let f : false ≡ true = sym new ∙ ap (λ (t : Bool). t || false) e in cc
       by false e = let f : false ≡ true = ap is_some (sym (at_z x ∙ ap (λ (t : Bool). cond t (Some (box 7)) None) e)) ∙ wrote in cc
 
+  written_seen : (x : Oref) → seen taken.cache.cache x ≡ with_writes made no_copy x
+  written_seen x = seen_written x ∙ ap (λ (o : Option Obj). option_or (get (written made) x) o) (h.takes.copies_are x)
+
   abbrev sending : Sending
   sending = record { at = there; request = made }
 
@@ -190,9 +239,6 @@ module _ (first joined drawn waits taken last : Held) (h : HoldsOnTheWay first j
     where
       does : Does {X = ℕ} (seeing (take 5 whole)) (seeing (take 6 whole)) 0 (Ok 1) (CommitWork 1 made (Ok 1))
       does = record { at = take 5 whole; met = Calm; called = called (take 5 whole) (take 6 whole); answer = (refl, refl, (refl, refl)) }
-
-      written_seen : (x : Oref) → seen taken.cache.cache x ≡ with_writes made no_copy x
-      written_seen x = seen_written x ∙ ap (λ (o : Option Obj). option_or (get (written made) x) o) (h.takes.copies_are x)
 
   others : (n : ℕ) → n < 1 → Grew only 1 Calm (cond (nat_eq n 0) (take 6 whole) []) Calm (cond (nat_eq n 0) (take 7 whole) [])
   others n low = by (nat_eq n 0)
@@ -238,6 +284,39 @@ module _ (first joined drawn waits taken last : Held) (h : HoldsOnTheWay first j
       ),
     ),
   )
+
+  -- the same where the commit stops: what the try has written lies in the session
+  written_in : IsWrittenIn there taken
+  written_in x = by (nat_eq 0 x.repo) refl
+    where
+      by : (t : Bool) → nat_eq 0 x.repo ≡ t → (changed taken.cache.cache x ≡ None) ⊎ ((x.repo ≡ 0) × InSession there taken)
+      by true e = inr (sym (eqb-true 0 x.repo e), in_session Idle no_copy taken h.takes)
+      by false e = inl (h.wrote x ∙ ap (λ (t : Bool). cond t (last_of made.writes x) None) e)
+
+  stops : Moves (seeing (take 5 whole)) stopping taken taken
+  stops = CommitRefused sending (refused.Stopped 0) does (record { session = refl; upto = λ e. sym (ap (λ (ls : List Link). upto_in (slice_get ls 0)) h.takes.links) }) (none_awaits no_copy taken h.takes)
+      (record { left = taken.cache.cache; links = refl; kept_so = λ x. refl; fewer = λ x. inl refl }) refl
+    where
+      does : Does {X = ℕ} (seeing (take 5 whole)) stopping 0 (Err (refused.Stopped 0)) (CommitWork 1 made (Err (refused.Stopped 0)))
+      does = record { at = take 5 whole; met = Calm; called = met_stopping; answer = (refl, (refl, refl)) }
+
+  -- the client is told that it has committed
+  told : Moves (seeing restarted) (seeing restarted) taken last
+  told = AskedOwn 0 (at 1) verdict does (h.commits.client ∙ sym h.takes.client, h.commits.links ∙ sym h.takes.links, λ x. inl (h.commits.copies_are x ∙ sym (written_seen x)))
+    where
+      does : Does {X = answer.Asked} (seeing restarted) (seeing restarted) 0 (Ok (answers.Settled verdict)) (AskWork (at 1) (Ok (answers.Settled verdict)))
+      does = record { at = restarted; met = Calm; called = called restarted restarted; answer = ((refl, refl), (refl, refl)) }
+
+  comes : (n : ℕ) → n < 1 → Grew only 1 (cond (nat_eq n 0) (MayCome (One made)) Calm) (cond (nat_eq n 0) (take 5 whole) []) Calm (cond (nat_eq n 0) restarted [])
+  comes n low = by (nat_eq n 0)
+    where
+      by : (t : Bool) → Grew only 1 (cond t (MayCome (One made)) Calm) (cond t (take 5 whole) []) Calm (cond t restarted [])
+      by true = record { gap = E (One made) ∷ E (Life 2) ∷ []; gains = (Came, (refl, refl), (Calm, refl, tt)); ends = refl }
+      by false = still only []
+
+  pub run_stopped : Leads (behind 5 taken) (stopped taken ∷ behind_it taken asking ∷ []) (behind_it last NonePending)
+  unfolding stops told
+  run_stopped = (Stepped stops (inr (refl, tt, written_in)) tt one_stopping, (Waited refl refl refl comes one_restarted, Stepped told ((there, refl), refl) tt one_restarted))
 
   pub starts : FitsOne (behind 1 first)
   starts = begins (behind 1 first) (one_at (take 1 whole) (drop 1 whole) refl (omega arith)) h.begins.client (λ n link is. apart n link (ap (λ (ls : List Link). slice_get ls n) (sym h.begins.links) ∙ is)) h.begins.copies_are refl

@@ -3,7 +3,7 @@
 use Rattle.client_cache.specs.Copies.{kept}
 use Rattle.client_laws.specs.Examples.{no_copy}
 use Rattle.client_laws.specs.Fitting.{Copies, with_writes}
-use Rattle.client_state.specs.Pending.{NonePending}
+use Rattle.client_state.specs.Pending.{IsAsking, NonePending, Pending}
 use Rattle.client_state.specs.Writing.{WritesThere}
 use Rattle.client_state.specs.declared.held.Held.{Held}
 use Rattle.client_state.specs.declared.link.Link.TheVariants.{Apart, Joined}
@@ -15,10 +15,10 @@ use Rattle.fitting_steps.specs.Positions.{Position}
 use Rattle.local_history.specs.Examples.{at, box, only, setting_x, z}
 use Rattle.object_codec.specs.Spelling.{obj_bytes}
 use Rattle.page_format.specs.Pages as page
-use Rattle.port.specs.Views.{Calm, View}
+use Rattle.port.specs.Views.{Calm, MayCome, View}
 use Rattle.session_outbox.specs.Trace.{E, Item, M}
 use Rattle.session_outbox.specs.declared.mark.Mark.TheVariants as the
-use Rattle.std.specs.Prelude.{List, [], cond, false, nat_eq, take, ℕ, ◌∷◌, ◌≡◌}
+use Rattle.std.specs.Prelude.{List, [], cond, false, nat_eq, take, ℕ, ◌++◌, ◌∷◌, ◌≡◌}
 use Rattle.thor_value.specs.FiniteMap.{empty, insert}
 use Rattle.thor_value.specs.declared.names.Oref.{Oref}
 
@@ -63,3 +63,28 @@ pub record HoldsOnTheWay (first joined drawn waits taken last : Held) : Type 0 w
 -- the page of the objects x and y, as they stand at the beginning
 abbrev pub first_page : page.Contents
 first_page = record { number = 0; objects = insert (insert empty 0 (obj_bytes (box 0))) 1 (obj_bytes (box 0)) }
+
+-- ---- the same where the commit stops
+
+-- the repository's trace behind that: the entry of the commit has come, and the repository was restarted
+abbrev pub restarted : List Item
+restarted = take 6 whole ++ E (Life 2) ∷ []
+
+-- what the port shows as the call has stopped
+abbrev pub stopping : View
+stopping = record {
+  opened = record { client = 1; alone = false; repos = 1; base = λ r. only };
+  seen = λ r. cond (nat_eq r 0) (take 5 whole) [];
+  unsettled = λ r. cond (nat_eq r 0) (MayCome (One made)) Calm;
+}
+
+-- what is undecided then: the verdict on the request is asked for
+abbrev pub asking : Pending
+asking = IsAsking (record { repo = 0; session = 1 }) made.tx
+
+-- the position as the call has stopped, and one behind the restart
+abbrev pub stopped : Held → Position
+stopped held = record { port = stopping; held = held; pending = asking }
+
+abbrev pub behind_it : Held → Pending → Position
+behind_it held pending = record { port = seeing restarted; held = held; pending = pending }
