@@ -74,13 +74,13 @@ module _ (p r : Ts → Bool) (fewer : (t : Ts) → r t ≡ true → p t ≡ true
 
   pub fewer_left : (es : List (Ts × Transaction)) (k : Ts) (q : Request) → open_in es k ≡ Some q → p k ≡ true → r k ≡ false → length (filter (λ e. r e.0) es) < length (filter (λ e. p e.0) es)
   fewer_left [] k q there passes out = absurd (cc)
-  fewer_left (e ∷ es) k q there passes out = by (is_at (ts_cmp k) e.0) refl there
+  fewer_left (e ∷ es) k q there passes out = by (is_at (ts_cmp k) e.0) refl there (λ found. fewer_left es k q found passes out)
     where
-      by : (x : Bool) → is_at (ts_cmp k) e.0 ≡ x → option_and_then request_of (cond x (Some e.1) (lookup (is_at (ts_cmp k)) es)) ≡ Some q → length (filter (λ e. r e.0) (e ∷ es)) < length (filter (λ e. p e.0) (e ∷ es))
-      by true at found =
+      by : (x : Bool) → is_at (ts_cmp k) e.0 ≡ x → option_and_then request_of (cond x (Some e.1) (lookup (is_at (ts_cmp k)) es)) ≡ Some q → (open_in es k ≡ Some q → length (filter (λ e. r e.0) es) < length (filter (λ e. p e.0) es)) → length (filter (λ e. r e.0) (e ∷ es)) < length (filter (λ e. p e.0) (e ∷ es))
+      by true at found rest =
           let same : k ≡ e.0 = tells_apart ts_exact k e.0 at in
           one_less e (filter (λ e. p e.0) es) (filter (λ e. r e.0) es) (r e.0) (p e.0) (subst (λ (t : Ts). r t ≡ false) same out) (subst (λ (t : Ts). p t ≡ true) same passes) (fewer_or_same es)
-      by false at found = below_by e (filter (λ e. p e.0) es) (filter (λ e. r e.0) es) (r e.0) (p e.0) (fewer e.0) (fewer_left es k q found passes out)
+      by false at found rest = below_by e (filter (λ e. p e.0) es) (filter (λ e. r e.0) es) (r e.0) (p e.0) (fewer e.0) (rest found)
 
 -- ---- a step of the walk
 
