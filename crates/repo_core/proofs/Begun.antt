@@ -1,4 +1,5 @@
 -- A repository behind the Life of its opening.
+use Rattle.class_defs.specs.declared.store.Setup.{Setup}
 use Rattle.commit_log.specs.declared.entry.Entry.TheVariants.{Life}
 use Rattle.held_state.specs.Entering.{entered}
 use Rattle.held_state.specs.declared.held.Held.{Held}
@@ -6,7 +7,8 @@ use Rattle.live_sessions.specs.Sessions.{Kept, ended, no_sessions}
 use Rattle.repo_core.specs.Restarting.{Begins, life_behind, memory_at}
 use Rattle.repo_core.specs.Shown.{Shown}
 use Rattle.repository_laws.specs.Coming.{BeginsLife}
-use Rattle.std.proofs.Common.{ap, subst, ℕ, ◌+◌, ◌∙◌, ◌≡◌}
+use Rattle.std.proofs.Common.{List, Option, Some, ap, subst, sym, ℕ, ◌+◌, ◌∙◌, ◌≡◌}
+use Rattle.store_format.specs.Pages.{HasRoots}
 use Rattle.thor_value.specs.FiniteMap.{Set, empty}
 use Rattle.thor_value.specs.Names.{ts_cmp}
 use Rattle.thor_value.specs.declared.names.Ts.{Ts}
@@ -30,3 +32,7 @@ begins_so h x y opened held memory opens enters begins ends = record {
   memory = subst (λ (m : Memory). BeginsLife h m y.memory) memory (subst (λ (g : Held). BeginsLife g x.memory y.memory) held begins);
   sessions = ends ∙ ap (λ (m : Memory). ended m.sessions) memory;
 }
+
+-- the roots of a new store stand on its pages behind its first Life, too
+pub roots_begun : (repo : ℕ) (setup : Setup) (h : Held) (pages : Option (List ℕ)) (x : Shown) → ((disk : List ℕ) → pages ≡ Some disk → HasRoots repo setup h.objects.pages.sides disk) → Begins h x → x.pages ≡ pages → (disk : List ℕ) → x.pages ≡ Some disk → HasRoots repo setup x.held.objects.pages.sides disk
+roots_begun repo setup h pages x roots begins same disk told = subst (λ (g : Held). HasRoots repo setup g.objects.pages.sides disk) (sym begins.held) (roots disk (sym same ∙ told))

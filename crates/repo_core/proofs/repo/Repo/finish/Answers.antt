@@ -8,7 +8,7 @@ pub returns-in_err-make_room_for-clause-damaged : goal.returns-in_err-make_room_
 returns-in_err-make_room_for-clause-damaged g c = λ n place is. (c.in_err-make_room_for.ensures.left None).fault c.in_err-make_room_for.ensures.fault.0
 
 pub returns-in_err-place-clause-quiet : goal.returns-in_err-place-clause-quiet
-returns-in_err-place-clause-quiet g c = err_before c.from_residual-in_err-place.result c.args.self.now.faults c.make_room_for.new.self.faults c.write-place.new.self.faults c.in_ok-make_room_for.ensures.steady (err_through c.write-place.result c.from_residual-in_err-place.result _ (λ r wrong. search rules) c.write-place.ensures.quiet)
+returns-in_err-place-clause-quiet g c = err_before c.from_residual-in_err-place.result c.args.self.now.faults c.make_room_for.new.self.faults c.write.new.self.faults c.in_ok-make_room_for.ensures.steady (err_through c.write.result c.from_residual-in_err-place.result _ (λ r wrong. search rules) c.write.ensures.quiet)
 
 pub returns-clause-steady : goal.returns-clause-steady
 returns-clause-steady g c = c.in_ok-place.ensures.steady ∙ c.in_ok-make_room_for.ensures.steady

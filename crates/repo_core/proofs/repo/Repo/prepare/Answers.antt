@@ -6,6 +6,13 @@ use Rattle.repo_core.specs.Calls.{judged}
 use Rattle.stable_store.proofs.Counting.{err_through}
 use Rattle.std.proofs.Common.{rules}
 use Rattle.repo_core.proofs.Failing.{err_before, ok_before}
+use Rattle.commit_log.specs.declared.entry.Entry.TheVariants.{Prepared}
+use Rattle.held_state.specs.Entering.{entered}
+use Rattle.repo_core.proofs.Moves.{moved_then}
+use Rattle.repo_core.proofs.Told.{on_ok}
+use Rattle.repo_core.specs.Behind.{HasMoved}
+use Rattle.std.proofs.Common.{OnOk, subst}
+use Rattle.trace_record.specs.Recorded.{Recorded, with_entry}
 use Rattle.repo_core.proofs.repo.Repo.prepare.Goals as goal
 
 pub returns-in-Err-clause-why : goal.returns-in-Err-clause-why
@@ -29,3 +36,13 @@ returns-in_ok-make_room-in-Ok-clause-quiet g c = err_before c.write.result c.arg
 
 pub returns-in_err-make_room-in-Ok-clause-quiet : goal.returns-in_err-make_room-in-Ok-clause-quiet
 returns-in_err-make_room-in-Ok-clause-quiet g c = err_through c.make_room.result c.from_residual-in_err-make_room-in-Ok.result _ (λ r wrong. search rules) c.make_room.ensures.quiet
+
+pub returns-in_ok-make_room-in-Ok-clause-held : goal.returns-in_ok-make_room-in-Ok-clause-held
+returns-in_ok-make_room-in-Ok-clause-held g c =
+    let made = c.make_room.ensures.made in
+    on_ok c.write.result (c.write.new.self.held ≡ entered c.make_room.new.self.held (Prepared c.args.request)) (HasMoved c.args.self.now.held (Prepared c.args.request) c.write.new.self.held)
+    (moved_then c.args.self.now.held c.make_room.new.self.held c.write.new.self.held (Prepared c.args.request) made.held made.flushed) c.write.ensures.held
+
+pub returns-in_ok-make_room-in-Ok-clause-trace : goal.returns-in_ok-make_room-in-Ok-clause-trace
+returns-in_ok-make_room-in-Ok-clause-trace g c =
+    subst (λ (t : Recorded). OnOk c.write.result (c.write.new.self.trace ≡ with_entry t (Prepared c.args.request))) c.make_room.ensures.made.trace c.write.ensures.trace

@@ -15,6 +15,14 @@ use Rattle.repo_core.proofs.Failing.{counts_between, err_shown}
 use Rattle.stable_store.proofs.Counting.{err_through, if_err_any, stays_then}
 use Rattle.stable_store.proofs.Returning.{on_ok_any}
 use Rattle.repo_core.proofs.Readable.{shown_has}
+use Rattle.held_state.specs.Keeps.{Keeps}
+use Rattle.held_state.specs.declared.held.Held.{Held}
+use Rattle.repo_core.proofs.Falls.{keeps_up}
+use Rattle.repo_core.specs.Calls.{IsTold}
+use Rattle.repo_core.specs.Telling.{Tells}
+use Rattle.repository_laws.specs.Coming.{Moves}
+use Rattle.trace_record.specs.Recorded.{Recorded}
+use Rattle.std.proofs.Common.{length, ℕ}
 use Rattle.repo_core.proofs.repo.Repo.write.Goals as goal
 
 pub returns-clause-ended : goal.returns-clause-ended
@@ -81,3 +89,28 @@ pub returns-clause-readable : goal.returns-clause-readable
 returns-clause-readable g c = λ has.
     let i = c.self.inside in
     c.record.ensures.readable (c.append.ensures.readable (shown_has g.P.Parts.disks i.stable i.memory i.trace i.opened_in c.args.self.now c.self.view_is has))
+
+pub tell-told-requires-clause-keeps : goal.tell-told-requires-clause-keeps
+tell-told-requires-clause-keeps g c = subst Keeps (sym c.held.ensures) (keeps_up g.P.Parts.disks c.append.new.self c.append.ensures.kept c.in_ok-entry.ensures.ok.1.stays_up)
+
+pub returns-clause-moves : goal.returns-clause-moves
+returns-clause-moves g c =
+    let i = c.self.inside in
+    let e = c.in_ok-entry.entry in
+    let m = c.tell-told.new.memory in
+    subst (λ (s : Shown). IsTold s.memory c.args.entry → OnOk c.record.result (Moves s.held s.memory c.args.entry m)) c.self.view_is
+    (subst (λ (d : Entry). IsTold i.memory d → OnOk c.record.result (Moves i.stable.held i.memory d m)) c.in_ok-entry.ensures.ok.0
+    (λ is. subst (λ (h : Held). OnOk c.record.result (Moves h i.memory e m)) (c.held.ensures ∙ c.append.ensures.held)
+    (told_then c.record.result c.tell-told.result (Moves c.held.result.now i.memory e m) c.record.ensures.told (c.tell-told.ensures.moves is))))
+
+pub returns-clause-tells : goal.returns-clause-tells
+returns-clause-tells g c =
+    let i = c.self.inside in
+    let e = c.in_ok-entry.entry in
+    let m = c.tell-told.new.memory.sessions in
+    let at : c.place.result ≡ length i.trace.history = c.place.ensures ∙ ap (λ (t : Recorded). length t.history) c.reserve.ensures in
+    subst (λ (s : Shown). OnOk c.record.result (Tells s.held s.memory.sessions (length s.trace.history) c.args.entry m)) c.self.view_is
+    (subst (λ (d : Entry). OnOk c.record.result (Tells i.stable.held i.memory.sessions (length i.trace.history) d m)) c.in_ok-entry.ensures.ok.0
+    (subst (λ (n : ℕ). OnOk c.record.result (Tells i.stable.held i.memory.sessions n e m)) at
+    (subst (λ (h : Held). OnOk c.record.result (Tells h i.memory.sessions c.place.result e m)) (c.held.ensures ∙ c.append.ensures.held)
+    (told_then c.record.result c.tell-told.result (Tells c.held.result.now i.memory.sessions c.place.result e m) c.record.ensures.told c.tell-told.ensures.tells))))
