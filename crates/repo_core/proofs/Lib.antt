@@ -9,7 +9,6 @@ pub mod Falls
 pub mod Judged
 pub mod Letting
 pub mod Moves
-pub mod Others
 pub mod Readable
 pub mod Refused
 pub mod Stamps

@@ -15,12 +15,11 @@ use Rattle.session_outbox.specs.declared.mark.Mark.TheVariants.{Refused, Took}
 use Rattle.session_outbox.specs.declared.mark.Mark.{Mark}
 use Rattle.stable_store.specs.Flushes.{HasFlushed}
 use Rattle.stable_store.specs.Kept.{is_fault}
-use Rattle.std.specs.Prelude.{Bool, Err, None, Ok, Option, Result, Some, cond, false, is_some, length, min, nat_eq, true, ℕ, ◌-◌, ◌^◌, ◌≡◌, ◌⊎◌}
+use Rattle.std.specs.Prelude.{Bool, Err, None, Ok, Option, Result, Some, cond, false, length, min, nat_eq, true, ℕ, ◌-◌, ◌^◌, ◌≡◌, ◌⊎◌}
 use Rattle.thor_value.specs.FiniteMap.{get}
-use Rattle.thor_value.specs.Names.{Before}
 use Rattle.thor_value.specs.declared.names.Ts.{Ts}
 use Rattle.trace_record.specs.Recorded.{Recorded, with_entry, with_mark}
-use Rattle.two_phase.specs.Contents.{Contents, keeps, open_at, standing, without}
+use Rattle.two_phase.specs.Contents.{keeps, open_at, standing, without}
 use Rattle.two_phase.specs.declared.standing.Standing.TheVariants.{Aborted, Committed, Open}
 use Rattle.two_phase.specs.declared.standing.Standing.{Standing}
 use Rattle.validation_window.specs.declared.refusal.Refusal.TheVariants as the
@@ -107,13 +106,3 @@ pub record IsVerdict (v : Verdict) (t : Ts) (commits : Bool) : Type 0 where
 abbrev pub IsAsked : Held → Ts → Asked → Type 0
 IsAsked h t Undecided = (standing h.table t ≡ Open) × (t.repo ≡ h.repo)
 IsAsked h t (Settled v) = IsVerdict v t (is_committed (standing h.table t))
-
--- each transaction that is prepared and undecided is coordinated here
-abbrev pub AreOwn : ℕ → Contents → Type 0
-AreOwn repo c = (t : Ts) → is_some (open_at c t) ≡ true → nat_eq t.repo repo ≡ true
-
--- of the transactions of other coordinators that are prepared and undecided this has the least timestamp
-pub record IsLeastOfOthers (repo : ℕ) (c : Contents) (t : Ts) : Type 0 where
-  pub other : nat_eq t.repo repo ≡ false
-  pub prepared : is_some (open_at c t) ≡ true
-  pub least : (u : Ts) → Before u t → is_some (open_at c u) ≡ true → nat_eq u.repo repo ≡ true

@@ -1,13 +1,12 @@
 //! What a repository shows.
 
-ghost use Rattle.std.specs.Prelude.{◌≡◌, None, cond, false, nat_eq, true};
+ghost use Rattle.std.specs.Prelude.{◌≡◌, cond, false, nat_eq, true};
 ghost use Rattle.std.specs.Option.{IfSome};
 ghost use Rattle.cached_sets.specs.Sets as sets;
 ghost use Rattle.disk_trait.specs.Fused.{fused_disks};
-ghost use Rattle.held_state.specs.Keeps.{TableFits};
 ghost use Rattle.live_sessions.specs.Sessions.{is_live};
 ghost use Rattle.mob_buffer.specs.Buffer.{bytes_of};
-ghost use Rattle.repo_core.specs.Behind.{AreOwn, IsLeastOfOthers, epoch_of, has_prepared};
+ghost use Rattle.repo_core.specs.Behind.{epoch_of, has_prepared};
 ghost use Rattle.stable_store.specs.Saying.{ImagesSay};
 ghost use Rattle.thor_value.specs.FiniteMap.{has};
 ghost use Rattle.volatile_state.specs.Volatile.{knows};
@@ -18,7 +17,6 @@ use disk_trait::{Fused, Parts};
 use held_state::HeldState;
 use session_outbox::Mark;
 use thor_value::{Oref, Ts};
-use two_phase::Table;
 
 impl<P: Parts> Repo<P> {
     /// Its parts. Whether it is up or down, each image that a crash of their disks may leave says what it holds, or that with
@@ -112,36 +110,20 @@ impl<P: Parts> Repo<P> {
         !self.is_up() || !self.memory.sessions().is_live(session) || self.has_prepared(session, tx)
     }
 
-    /// The transaction of another coordinator with the least timestamp that is prepared and undecided here. `None`, too,
-    /// where the repository is down.
-    #[tactic(auto, using(crate::proofs::Falls::keeps_up))]
+    /// The transaction of another coordinator with the least timestamp that is prepared and undecided here.
     pub fn least_of_another(&self) -> Option<Ts>
-        ensures other { IfSome result (λ tx. nat_eq tx.repo self.now.held.repo ≡ false) }
-        ensures least { IfSome result (IsLeastOfOthers self.now.held.repo self.now.held.table) }
-        ensures none { self.now.is_up ≡ true → result ≡ None → AreOwn self.now.held.repo self.now.held.table }
+        ensures { IfSome result (λ tx. nat_eq tx.repo self.now.held.repo ≡ false) }
     {
-        if !self.is_up() {
-            return None;
+        let mut after = None;
+        for _ in 0..u32::MAX {
+            let request = self.stable.held().table().next_open(after)?;
+            if request.tx.repo != self.stable.repo() {
+                return Some(request.tx);
+            }
+            after = Some(request.tx);
         }
-        least_of_others(self.stable.held().table(), self.number())
+        None
     }
-}
-
-/// Of the transactions of other coordinators than this repository, whose requests are open in a table, that with the
-/// least timestamp.
-fn least_of_others(table: &Table, repo: u8) -> Option<Ts>
-    requires { TableFits repo table.now }
-    ensures least { IfSome result (IsLeastOfOthers repo table.now) }
-    ensures none { result ≡ None → AreOwn repo table.now }
-{
-    let mut after = None;
-    while let Some(request) = table.next_open(after) {
-        if request.tx.repo != repo {
-            return Some(request.tx);
-        }
-        after = Some(request.tx);
-    }
-    None
 }
 
 /// How many upgrades are installed. A count that would pass the greatest `u32` stays there.
