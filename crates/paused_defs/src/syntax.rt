@@ -1,4 +1,4 @@
-ghost use Rattle.std.specs.Prelude.{◌≡◌, [], ◌∷◌, drop, map, IfOk, IsTrue, MatchOption};
+ghost use Rattle.std.specs.Prelude.{◌≡◌, ◌<◌, ◌+◌, [], ◌∷◌, drop, length, map, IfOk, IsTrue, MatchOption};
 ghost use Rattle.paused_defs.specs.Plain.{plain, plain_stmt};
 
 use crate::nodes::{ExprNode, ExprNodes, StmtNode, StmtNodes};
@@ -135,6 +135,17 @@ impl SharedExprs {
         })
     }
 
+    /// The expressions of a node behind a place, as their other owner.
+    pub fn behind(nodes: &Shared<ExprNodes>, place: usize) -> Result<SharedExprs, NoMemory>
+        requires { place < length nodes.now }
+        ensures { IfOk result (λ exprs. exprs ≡ map plain (drop (place + 1) nodes.now)) }
+    {
+        Ok(SharedExprs {
+            nodes: nodes.share()?,
+            from: place + 1,
+        })
+    }
+
     /// The first, with those behind it.
     #[tactic(auto, using(crate::proofs::Drops::drops))]
     pub fn split_first(self) -> Result<Option<(SharedExpr, SharedExprs)>, NoMemory>
@@ -203,6 +214,17 @@ impl SharedBlock {
         Ok(SharedBlock {
             nodes: nodes.share()?,
             from: 0,
+        })
+    }
+
+    /// The statements of a block behind a place, as their other owner.
+    pub fn behind(nodes: &Shared<StmtNodes>, place: usize) -> Result<SharedBlock, NoMemory>
+        requires { place < length nodes.now }
+        ensures { IfOk result (λ block. block ≡ map plain_stmt (drop (place + 1) nodes.now)) }
+    {
+        Ok(SharedBlock {
+            nodes: nodes.share()?,
+            from: place + 1,
         })
     }
 
