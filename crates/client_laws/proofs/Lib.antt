@@ -1,5 +1,6 @@
 pub mod AnySession
 pub mod Asking
+pub mod AtOnce
 pub mod Beginning
 pub mod Committing
 pub mod Elsewhere

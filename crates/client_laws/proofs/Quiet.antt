@@ -2,6 +2,7 @@
 use Rattle.commit_log.specs.declared.entry.Entry.TheVariants.{Decided, Finished, Life, One, Prepared, Upgraded}
 use Rattle.commit_log.specs.declared.entry.Entry.{Entry}
 use Rattle.commit_log.specs.declared.request.Request.{Request}
+use Rattle.client_laws.proofs.AtOnce.{commits_at_once}
 use Rattle.client_laws.proofs.Leaving.{HasCalled, Left, acts, behind_call, is_such, seen_right}
 use Rattle.client_laws.proofs.Other.{asked}
 use Rattle.client_laws.proofs.Passing.{after_entry, was_live, was_open}
@@ -13,7 +14,7 @@ use Rattle.client_laws.specs.Doomed.{ActsWithin, IsDoomed, IsQuiet, concerns, de
 use Rattle.client_laws.specs.Seen.{IsSeenRight}
 use Rattle.local_history.proofs.Growth.{owed-end, sound-beginning}
 use Rattle.local_history.proofs.Places.{came_end}
-use Rattle.local_history.specs.History.{Base, Known, Open, commit_of, known_by, state}
+use Rattle.local_history.specs.History.{Base, Committed, Known, Open, State, commit_of, known_by, state}
 use Rattle.local_history.specs.Laws.{Asks}
 use Rattle.local_history.specs.Sound.{sound}
 use Rattle.port.specs.Growing.{Gains, GainsAll, Grew, MayHalt}
@@ -29,7 +30,7 @@ use Rattle.session_outbox.specs.Trace.{E, Item, M, entries}
 use Rattle.std.proofs.Common.{Bool, List, [], ap, append_assoc, false, inl, inr, is_eq, length, refl, subst, sym, true, ◌++◌, ◌∙◌, ◌∷◌, ◌≡◌, ◌≢◌, ℕ}
 use Rattle.std.proofs.lemmas.Cmp.{tied_itself}
 use Rattle.std.proofs.lemmas.List.{append-nil}
-use Rattle.std.specs.Prelude.{Some}
+use Rattle.std.specs.Prelude.{Some, ◌⊎◌}
 use Rattle.thor_value.proofs.NameOrders.{ts_total}
 use Rattle.thor_value.specs.Names.{same_ts}
 use Rattle.thor_value.specs.declared.names.Ts.{Ts}
@@ -39,13 +40,14 @@ use Rattle.thor_value.specs.declared.names.Ts.{Ts}
 same_as : (u t : Ts) → u ≡ t → same_ts u t ≡ true
 same_as u t e = ap (λ (v : Ts). same_ts v t) e ∙ ap is_eq (tied_itself ts_total t)
 
-asks_concern : (e : Entry) (q : Request) (t : Ts) → Asks e q → q.tx ≡ t → concerns t e ≡ true
-asks_concern (Life n) q t x e = absurd x
-asks_concern (One r) q t x e = same_as r.tx t (ap (λ (z : Request). z.tx) x ∙ e)
-asks_concern (Prepared r) q t x e = same_as r.tx t (ap (λ (z : Request). z.tx) x ∙ e)
-asks_concern (Decided u k) q t x e = absurd x
-asks_concern (Finished u k) q t x e = absurd x
-asks_concern (Upgraded r) q t x e = same_as r.tx t (ap (λ (z : Request). z.tx) x ∙ e)
+-- a request concerns its transaction, or commits at its own entry
+asks_concern : (b : Base) (S : State) (e : Entry) (q : Request) (t : Ts) → Asks e q → q.tx ≡ t → (concerns t e ≡ true) ⊎ (commit_of b S e ≡ (S.length, q) ∷ [])
+asks_concern b S (Life n) q t x e = absurd x
+asks_concern b S (One r) q t x e = inr (ap (λ (z : Request). (S.length, z) ∷ []) x)
+asks_concern b S (Prepared r) q t x e = inl (same_as r.tx t (ap (λ (z : Request). z.tx) x ∙ e))
+asks_concern b S (Decided u k) q t x e = absurd x
+asks_concern b S (Finished u k) q t x e = absurd x
+asks_concern b S (Upgraded r) q t x e = inr (ap (λ (z : Request). (S.length, z) ∷ []) x)
 
 undecided : (t : Ts) (e : Entry) → concerns t e ≡ false → decides t e ≡ false
 undecided t (Life n) h = refl
@@ -82,7 +84,15 @@ module _ (c : ℕ) (b : Base) (s : ℕ) where
   -- behind an item that isn't concerned with it
   item_back : (T : List Item) (i : Item) (t : Ts) → is_such (concerns t) i ≡ false → sound b (entries (T ++ i ∷ [])) → StandsOpen (T ++ i ∷ []) t → StandsOpen T t
   item_back T (M m) t other sd w = mark_back T m t w
-  item_back T (E e) t other sd w = entry_back T e t (subst (sound b) (after_entry b T e) sd) w (λ q x named own. let f : false ≡ true = sym other ∙ asks_concern e q t x named in cc)
+  item_back T (E e) t other sd w = entry_back T e t behind w (λ q x named own. elim (asks_concern b (state b (entries T)) e q t x named) [
+    | inl is ↦ let f : false ≡ true = sym other ∙ is in cc
+    | inr commits ↦
+        let there : known_by b (entries T ++ e ∷ []) t ≡ Some w.o = ap (λ (H : List Entry). known_by b H t) (sym (after_entry b T e)) ∙ w.there in
+        let f : Open ≡ Committed (state b (entries T)).length = sym w.open' ∙ commits_at_once b (entries T) e q (sound-beginning b (entries T) (e ∷ []) behind) commits t w.o there named in cc
+  ])
+    where
+      behind : sound b (entries T ++ e ∷ [])
+      behind = subst (sound b) (after_entry b T e) sd
 
   -- behind an item of another's
   others_back : (T : List Item) (i : Item) (t : Ts) → client_in b T s ≡ Some c → maker b T i ≢ Some c → sound b (entries (T ++ i ∷ [])) → StandsOpen (T ++ i ∷ []) t → StandsOpen T t

@@ -27,14 +27,14 @@ decides t (Decided u commit) = commit && same_ts u t
 decides t (Finished u commit) = false
 decides t (Upgraded q) = false
 
--- whether the entry is a request of t, or a decision to commit it
+-- whether the entry prepares t, or is a decision to commit it. (What commits at its own entry is never undecided.)
 abbrev pub concerns : Ts → Entry → Bool
 concerns t (Life n) = false
-concerns t (One q) = same_ts q.tx t
+concerns t (One q) = false
 concerns t (Prepared q) = same_ts q.tx t
 concerns t (Decided u commit) = commit && same_ts u t
 concerns t (Finished u commit) = false
-concerns t (Upgraded q) = same_ts q.tx t
+concerns t (Upgraded q) = false
 
 -- the entry for which a call asks
 abbrev pub entry_asked : (old new : View) → Acts old new → Option Entry
@@ -55,7 +55,7 @@ entry_asked old new (Asked r t result does) = None
 abbrev pub LeavesUndecided : (old new : View) → Acts old new → Ts → Type 0
 LeavesUndecided old new a t = (e : Entry) → entry_asked old new a ≡ Some e → decides t e ≡ false
 
--- what the call sends, and what it decides to commit, is one of these transactions
+-- what the call prepares, and what it decides to commit, is one of these transactions
 abbrev pub ActsWithin : (old new : View) → Acts old new → (Ts → Bool) → Type 0
 ActsWithin old new a running = (e : Entry) (t : Ts) → entry_asked old new a ≡ Some e → concerns t e ≡ true → running t ≡ true
 

@@ -33,7 +33,7 @@ pub fn doomed_transactions_stay()
         IsDoomed old t → IsDoomed new t }
 {}
 
-/// A quiet session stays so behind each call of the client's that sends and decides to commit what is running alone.
+/// A quiet session stays so behind each call of the client's that prepares and decides to commit what is running alone.
 pub fn quiet_sessions_stay()
     ensures { (old new : View) (r s : ℕ) (running known : Ts → Bool) (a : Acts old new) → ActsWithin old new a running → ((n : ℕ) → IsSeenRight new n known) →
         IsQuiet old r s running → IsQuiet new r s running }

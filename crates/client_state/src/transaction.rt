@@ -169,9 +169,7 @@ impl Transaction {
     }
 
     /// What is sent carries the sessions that there are at the participants.
-    #[tactic(auto, using(crate::proofs::Writing::carried_write))]
     pub fn carry_sessions(&mut self, links: &[Link])
-        ensures writes { (x : Oref) → shares_write self.new.shares.items x ≡ shares_write self.old.shares.items x }
         ensures rest { self.new ≡ record self.old { shares = self.new.shares } }
         ensures carries { CarriesSessions links.now self.old.shares.items self.new.shares.items }
     {

@@ -1,5 +1,6 @@
 -- In the history of a store's only repository nothing is ever prepared: all that stands there has committed.
 use Rattle.atomic_histories.specs.Several.{is_committed_part}
+use Rattle.client_laws.proofs.AtOnce.{commits_at_once}
 use Rattle.client_laws.specs.Fitting.{AgreesStanding}
 use Rattle.client_laws.specs.Seen.{IsSeenRight}
 use Rattle.client_laws.specs.Steps.{AllSeenRight}
@@ -7,19 +8,17 @@ use Rattle.commit_log.specs.declared.entry.Entry.TheVariants.{Decided, Finished,
 use Rattle.commit_log.specs.declared.entry.Entry.{Entry}
 use Rattle.commit_log.specs.declared.request.Request.{Request}
 use Rattle.fitting_steps.specs.OneRepository.{HasOneRepository, committed_there}
-use Rattle.local_history.proofs.Growth.{by_growth, state-end}
-use Rattle.local_history.proofs.LastWrite.{commit_here}
-use Rattle.local_history.proofs.Places.{came_end, placed, stays}
+use Rattle.local_history.proofs.Growth.{by_growth}
+use Rattle.local_history.proofs.Places.{came_end, stays}
 use Rattle.local_history.proofs.Steps.{FateMoves}
 use Rattle.local_history.specs.Checking.{is_committed}
-use Rattle.local_history.specs.History.{Aborted, Base, Committed, Fate, IsCommitted, Known, Lives, Open, State, commit_of, known_by, known_in, state}
+use Rattle.local_history.specs.History.{Aborted, Base, Committed, Fate, IsCommitted, Known, Lives, Open, State, commit_of, known_by, state}
 use Rattle.local_history.specs.Laws.{Asks, FateStays}
 use Rattle.local_history.specs.Participants.{HasParticipants}
 use Rattle.local_history.specs.Sound.{owes, sound}
 use Rattle.port.specs.Views.{View}
 use Rattle.session_outbox.specs.Trace.{entries}
 use Rattle.std.proofs.Common.{List, [], ap, arith, inl, inr, refl, subst, sym, true, ◌++◌, ◌∙◌, ◌∷◌, ◌≡◌, ◌≢◌, ℕ}
-use Rattle.std.proofs.lemmas.Option.{same_Some}
 use Rattle.std.specs.List.{AllByRecursion}
 use Rattle.std.specs.Prelude.{None, Option, Some, length, ◌<◌}
 use Rattle.thor_value.specs.declared.names.Ts.{Ts}
@@ -83,12 +82,7 @@ module _ (b : Base) (one : b.repos ≡ 1) (first : b.repo ≡ 0) where
 
   -- a request that commits at its own entry
   single : (H : List Entry) (e : Entry) (q : Request) → sound b H → commit_of b (state b H) e ≡ ((state b H).length, q) ∷ [] → (t : Ts) (w : Known) → known_by b (H ++ e ∷ []) t ≡ Some w → q ≡ w.request → w.request.tx ≡ t → IsCommitted w.fate
-  single H e q s commits t w is same named =
-      let here = commit_here b (state b H) e q (placed b H s) commits in
-      let now : known_by b (H ++ e ∷ []) q.tx ≡ Some here.0 = ap (λ (S : State). known_in b S q.tx) (state-end b H e) ∙ here.1 in
-      let then' : known_by b (H ++ e ∷ []) q.tx ≡ Some w = ap (known_by b (H ++ e ∷ [])) (ap (λ (r : Request). r.tx) same ∙ named) ∙ is in
-      let both : here.0 ≡ w = same_Some here.0 w (sym now ∙ then') in
-      committed_so w.fate (state b H).length (ap (λ (z : Known). z.fate) (sym both) ∙ here.3)
+  single H e q s commits t w is same named = committed_so w.fate (state b H).length (commits_at_once b H e q s commits t w is (ap (λ (r : Request). r.tx) same ∙ named))
 
   entered : (H : List Entry) (e : Entry) → sound b H → owes b (state b H) e → (t : Ts) (w : Known) → known_by b (H ++ e ∷ []) t ≡ Some w → Asks e w.request → w.request.tx ≡ t → IsCommitted w.fate
   entered H (Life n) s ow t w is asks named = absurd asks

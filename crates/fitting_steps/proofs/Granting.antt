@@ -1,4 +1,5 @@
 -- That a page which was granted to a session is one of its pages, and that the news of a session are of places that are there.
+use Rattle.atomic_histories.proofs.Committing.{or-cases}
 use Rattle.commit_log.specs.declared.request.Request.{Request}
 use Rattle.local_history.proofs.Growth.{length-state}
 use Rattle.local_history.proofs.Listed.{end_cases, some_and}
@@ -14,26 +15,19 @@ use Rattle.session_outbox.specs.Session.{Grant, Invalid, Notice, Page, Session, 
 use Rattle.session_outbox.specs.Trace.{E, Item, M, entries}
 use Rattle.session_outbox.specs.declared.mark.Mark.TheVariants as the
 use Rattle.std.proofs.Common.{Bool, List, [], ap, arith, cond, false, inl, inr, refl, subst, sym, true, ◌+◌, ◌++◌, ◌∙◌, ◌∷◌, ◌≡◌, ◌≤◌, ℕ}
-use Rattle.std.proofs.lemmas.Bool.{eqb-true}
+use Rattle.std.proofs.lemmas.Bool.{and_parts, eqb-true}
 use Rattle.std.proofs.lemmas.Cmp.{tied_itself}
+use Rattle.std.proofs.lemmas.List.Folds.{list_any-append}
 use Rattle.std.proofs.lemmas.List.{length-append}
 use Rattle.std.proofs.lemmas.Option.{same_Some}
 use Rattle.std.specs.Cmp.{nat_cmp_total}
 use Rattle.std.specs.List.{filter, list_any, slice_get}
 use Rattle.std.specs.Option.{is_some}
 use Rattle.std.specs.Ordering.{is_eq, nat_cmp}
-use Rattle.std.specs.Prelude.{None, Option, Some, length, nat_eq, ◌&&◌, ◌<◌, ◌||◌, ◌⊎◌}
+use Rattle.std.specs.Prelude.{None, Option, Some, length, nat_eq, ◌<◌, ◌||◌, ◌⊎◌}
 use Rattle.thor_value.proofs.FiniteMap.{get-insert}
 use Rattle.thor_value.specs.FiniteMap.{Map, get, has, insert, keys}
 use Rattle.thor_value.specs.declared.names.Oref.{Oref}
-
-first : (x y : Bool) → (x && y) ≡ true → x ≡ true
-first true y e = refl
-first false y e = cc
-
-second : (x y : Bool) → (x && y) ≡ true → y ≡ true
-second true y e = e
-second false y e = cc
 
 last : (t : Bool) → (t || false) ≡ true → t ≡ true
 last true e = refl
@@ -41,15 +35,10 @@ last false e = e
 
 -- what holds of one of the items holds of one before the last, or of the last
 any_end : (f : Item → Bool) (T : List Item) (i : Item) → list_any f (T ++ i ∷ []) ≡ true → (list_any f T ≡ true) ⊎ (f i ≡ true)
-any_end f [] i h = inr (last (f i) h)
-any_end f (j ∷ js) i h = by (f j) refl h (any_end f js i)
-  where
-    by : (t : Bool) → f j ≡ t → (t || list_any f (js ++ i ∷ [])) ≡ true → (list_any f (js ++ i ∷ []) ≡ true → (list_any f js ≡ true) ⊎ (f i ≡ true)) → ((f j || list_any f js) ≡ true) ⊎ (f i ≡ true)
-    by true e g rest = inl (ap (λ (x : Bool). x || list_any f js) e)
-    by false e g rest = elim (rest g) [
-      | inl x ↦ inl (ap (λ (z : Bool). z || list_any f js) e ∙ x)
-      | inr y ↦ inr y
-    ]
+any_end f T i h = elim (or-cases (list_any f T) (list_any f (i ∷ [])) (sym (list_any-append f T (i ∷ [])) ∙ h)) [
+  | inl before ↦ inl before
+  | inr here ↦ inr (last (f i) here)
+]
 
 -- ---- pages
 
@@ -69,8 +58,9 @@ has_extended m n x page h = by (get m page) refl h
 
 grant_page : (s : ℕ) (S : State) (pages : Map nat_cmp ℕ) (i : Item) (page : ℕ) → grants s page i ≡ true → has (pages_after s S pages i) page ≡ true
 grant_page s S pages (M (the.Granted n k)) page g =
-    let here : nat_eq n s ≡ true = first (nat_eq n s) (nat_eq k page) g in
-    let same : k ≡ page = eqb-true k page (second (nat_eq n s) (nat_eq k page) g) in
+    let both = and_parts (nat_eq n s) (nat_eq k page) g in
+    let here : nat_eq n s ≡ true = both.0 in
+    let same : k ≡ page = eqb-true k page both.1 in
     ap (λ (t : Bool). has (cond t (cache pages k S.length) pages) page) here ∙ ap (λ (p : ℕ). has (cache pages p S.length) page) same ∙ has_cached pages page S.length
 grant_page s S pages (E e) page g = cc
 grant_page s S pages (M (the.Entry k)) page g = cc
@@ -85,7 +75,7 @@ module _ (b : Base) where
   grant_session : (T : List Item) (i : Item) (s page : ℕ) → ItemIsExact b T i → grants s page i ≡ true → s ≤ last_session T
   grant_session T (M (the.Granted n k)) s page x g =
       let v = some_and (session b T n) (λ v. (session_lives v ≡ true) × ((k ≡ next_page b T) × (k < most_pages))) x in
-      subst (λ (m : ℕ). m ≤ last_session T) (eqb-true n s (first (nat_eq n s) (nat_eq k page) g)) (known b T n v.0 v.1)
+      subst (λ (m : ℕ). m ≤ last_session T) (eqb-true n s (and_parts (nat_eq n s) (nat_eq k page) g).0) (known b T n v.0 v.1)
   grant_session T (E e) s page x g = cc
   grant_session T (M (the.Entry k)) s page x g = cc
   grant_session T (M (the.Connected n c)) s page x g = cc
@@ -155,9 +145,7 @@ answer_place false n m answer e news = cc
 
 module _ (b : Base) where
   longer : (T : List Item) (e : Item) → length (entries (T ++ e ∷ [])) ≡ length (entries T) + length (entries (e ∷ []))
-  longer T e =
-      let same : entries (T ++ e ∷ []) ≡ entries T ++ entries (e ∷ []) = entries-append T (e ∷ []) in
-      rw (same, length-append) refl
+  longer T e = ap length (entries-append T (e ∷ [])) ∙ length-append (entries T) (entries (e ∷ []))
 
   new_below : (T : List Item) (i : Item) (s : ℕ) (pages : Map nat_cmp ℕ) (m : Notice) → notice b s (state b (entries T)) pages i ≡ Some m → is_news m ≡ true → place_of m < length (entries (T ++ i ∷ []))
   new_below T (E e) s pages m is news =

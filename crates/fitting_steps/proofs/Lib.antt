@@ -4,6 +4,7 @@ pub mod Changes
 pub mod Granting
 pub mod Losing
 pub mod OneCopies
+pub mod OnePage
 pub mod OneRun
 pub mod OneStep
 pub mod Paging

@@ -12,10 +12,13 @@ use Rattle.commit_log.specs.declared.entry.Entry.TheVariants.{Life, One}
 use Rattle.commit_log.specs.declared.request.Request.{Request}
 use Rattle.fitting_steps.specs.OneRepository.{Position}
 use Rattle.local_history.specs.Examples.{at, box, only, setting_x, z}
+use Rattle.object_codec.specs.Spelling.{obj_bytes}
+use Rattle.page_format.specs.Pages as page
 use Rattle.port.specs.Views.{Calm, View}
 use Rattle.session_outbox.specs.Trace.{E, Item, M}
 use Rattle.session_outbox.specs.declared.mark.Mark.TheVariants as the
 use Rattle.std.specs.Prelude.{List, [], cond, false, nat_eq, take, ℕ, ◌∷◌, ◌≡◌}
+use Rattle.thor_value.specs.FiniteMap.{empty, insert}
 use Rattle.thor_value.specs.declared.names.Oref.{Oref}
 
 -- the request that creates z
@@ -55,3 +58,7 @@ pub record HoldsOnTheWay (first joined drawn waits taken last : Held) : Type 0 w
   pub takes : HoldsThis (Joined 1 1 Idle) no_copy taken
   pub wrote : WritesThere 0 made.writes taken.cache.cache
   pub commits : HoldsThis (Joined 1 1 Idle) (with_writes made no_copy) last
+
+-- the page of the objects x and y, as they stand at the beginning
+abbrev pub first_page : page.Contents
+first_page = record { number = 0; objects = insert (insert empty 0 (obj_bytes (box 0))) 1 (obj_bytes (box 0)) }

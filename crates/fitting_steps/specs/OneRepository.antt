@@ -75,7 +75,7 @@ BringsWhatStood port repo (Grant page place) = Unit {0}
 BringsWhatStood port repo (Invalid names place) = Unit {0}
 BringsWhatStood port repo (Upgrade number text place) = Unit {0}
 
--- A client decides to commit only what all participants have prepared, as far as it has seen.
+-- A client decides to commit only what all participants have prepared, as far as it has seen. (Over one repository that is nothing.)
 abbrev pub DecidesRightly : Bool → View → At → Ts → Type 0
 DecidesRightly true port at t = MayCall port at.repo (call.Decide at.session t true)
 DecidesRightly false port at t = Unit {0}

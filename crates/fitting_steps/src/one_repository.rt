@@ -5,13 +5,15 @@ ghost use Rattle.client_state.specs.declared.held.Held.{Held};
 ghost use Rattle.client_state.specs.declared.link.Link.TheVariants.{Apart, Joined};
 ghost use Rattle.client_state.specs.declared.link.Link.{Link};
 ghost use Rattle.client_state.specs.declared.link.Waits.{Waits};
-ghost use Rattle.fitting_steps.specs.OneExample.{HoldsOnTheWay, behind};
+ghost use Rattle.fitting_steps.specs.OneExample.{HoldsOnTheWay, behind, first_page, seeing, whole};
 ghost use Rattle.fitting_steps.specs.OneRepository.{FitsOne, HasOneRepository, IsRightOrTold, Leads, Position};
+ghost use Rattle.fitting_steps.specs.Owed.{PageOwed};
+ghost use Rattle.page_format.specs.Pages.{page_bytes};
 ghost use Rattle.port.specs.Views.{Calm};
 ghost use Rattle.session_outbox.specs.Notices.{lives};
 ghost use Rattle.session_outbox.specs.Session.{session};
 ghost use Rattle.std.specs.List.{slice_get};
-ghost use Rattle.std.specs.Prelude.{List, None, Some, [], true, ℕ, ◌∷◌, ◌≡◌};
+ghost use Rattle.std.specs.Prelude.{List, None, Some, [], take, true, ℕ, ◌∷◌, ◌≡◌};
 ghost use Rattle.thor_value.specs.declared.names.Oref.{Oref};
 ghost use Rattle.thor_value.specs.declared.values.Obj.{Obj};
 
@@ -27,9 +29,11 @@ pub fn clients_of_one_repository_fit()
 {}
 
 /// A run that meets all that is asked: a client connects, draws, is granted a page, takes its names, and commits an object that it
-/// creates there; then another client connects. What it holds on the way is given by what is said of it.
+/// creates there; then another client connects. What it holds on the way is given by what is said of it. And a page whose bytes
+/// spell its two objects as they stood at the beginning.
 pub fn a_run_over_one_repository()
     ensures begins { (first joined drawn waits taken last : Held) → HoldsOnTheWay first joined drawn waits taken last → FitsOne (behind 1 first) }
     ensures leads { (first joined drawn waits taken last : Held) → HoldsOnTheWay first joined drawn waits taken last →
         Leads (behind 1 first) (behind 2 joined ∷ behind 3 drawn ∷ behind 4 waits ∷ behind 5 taken ∷ behind 6 last ∷ []) (behind 7 last) }
+    ensures page { PageOwed (seeing (take 1 whole)) 0 0 (page_bytes first_page) 1 }
 {}

@@ -20,8 +20,8 @@ ghost use Rattle.std.specs.List.{slice_get};
 ghost use Rattle.std.specs.Prelude.{Bool, List, false, true, ℕ, ◌<◌, ◌≡◌, ◌⊎◌};
 ghost use Rattle.thor_value.specs.declared.names.Ts.{Ts};
 
-/// A client's sessions are quiet behind each of its steps, with what is running, where it sends and decides to commit only that;
-/// and so they are whatever others do between.
+/// A client's sessions are quiet behind each of its steps, with what is running, where it prepares and decides to commit only that;
+/// and so they are whatever others do between. So while each of its transactions commits at one repository, nothing runs.
 /// What is undecided in none of its sessions any more needn't be counted among what is running.
 pub fn links_stay_quiet()
     ensures step { (old new : View) (before after : Held) (running known : Ts → Bool) (moves : Moves old new before after) → ActsWithin old new (acts_of old new before after moves) running → ((n : ℕ) → IsSeenRight new n known) →
@@ -34,8 +34,10 @@ pub fn links_stay_quiet()
 {}
 
 /// What the laws of steps ask before a fetch (`SettledOwed`) holds of a quiet session where what is running is handed on, and only what
-/// is seen to have committed at its coordinator is told to have.
+/// is seen to have committed at its coordinator is told to have. Where nothing runs that is so.
 pub fn handed_on_is_settled()
-    ensures { (port : View) (r s : ℕ) (running told : Ts → Bool) → IsQuiet port r s running → IsHandedOn (port.opened.base r) (entries (port.seen r)) s running →
+    ensures nothing { (port : View) (r s : ℕ) (told : Ts → Bool) → IsQuiet port r s (λ t. false) →
+        ((t : Ts) → told t ≡ true → committed (seen_histories port) t ≡ true) → SettledOwed port r (port.seen r) s told }
+    ensures running { (port : View) (r s : ℕ) (running told : Ts → Bool) → IsQuiet port r s running → IsHandedOn (port.opened.base r) (entries (port.seen r)) s running →
         ((t : Ts) → told t ≡ true → committed (seen_histories port) t ≡ true) → SettledOwed port r (port.seen r) s told }
 {}

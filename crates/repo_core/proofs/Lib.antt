@@ -2,6 +2,7 @@ pub mod Alike
 pub mod Asking
 pub mod Begun
 pub mod Causes
+pub mod Damage
 pub mod Entered
 pub mod Failing
 pub mod Falls

@@ -4,6 +4,7 @@ use Rattle.commit_log.specs.declared.entry.Entry.{Entry}
 use Rattle.held_state.specs.Entering.{entered}
 use Rattle.held_state.specs.declared.held.Held.{Held}
 use Rattle.repo_core.specs.Behind.{HasMoved, IsRecovered, IsRestarted, MovesObjects}
+use Rattle.stable_store.specs.Flushes.{HasFlushed}
 use Rattle.std.proofs.Common.{Err, Ok, OnOk, Result, ap, inl, inr, refl, subst, ℕ, ◌∙◌, ◌≡◌}
 use Rattle.thor_value.specs.declared.memory.NoMemory.{NoMemory}
 use Rattle.trace_record.specs.Recorded.{Recorded, with_entry}
@@ -15,8 +16,8 @@ moves_none h = refl
 pub moves_on : (a b c : Held) → MovesObjects a b → MovesObjects b c → MovesObjects a c
 moves_on a b c p q = q ∙ ap (λ (h : Held). record h { objects = c.objects }) p
 
-pub moved_then : (a b c : Held) (e : Entry) → MovesObjects a b → c ≡ entered b e → HasMoved a e c
-moved_then a b c e moves is = record { between = b; moves = moves; entered = is }
+pub moved_then : (a b c : Held) (e : Entry) → MovesObjects a b → HasFlushed a.objects.mob.objects b.objects.mob.objects → c ≡ entered b e → HasMoved a e c
+moved_then a b c e moves flushed is = record { between = b; moves = moves; flushed = flushed; entered = is }
 
 pub held_then : (old new : Recorded) (n : ℕ) → new ≡ with_entry old (Life n) → IsRestarted old new
 held_then old new n begun = record { before = old; life = n; recovered = inl refl; begun = begun }

@@ -13,6 +13,7 @@ use Rattle.message_outbox.specs.declared.answers.Verdict.{Verdict}
 use Rattle.message_outbox.specs.declared.message.Message.{Message}
 use Rattle.session_outbox.specs.declared.mark.Mark.TheVariants.{Refused, Took}
 use Rattle.session_outbox.specs.declared.mark.Mark.{Mark}
+use Rattle.stable_store.specs.Flushes.{HasFlushed}
 use Rattle.stable_store.specs.Kept.{is_fault}
 use Rattle.std.specs.Prelude.{Bool, Err, None, Ok, Option, Result, Some, cond, false, length, min, nat_eq, true, ℕ, ◌-◌, ◌^◌, ◌≡◌, ◌⊎◌}
 use Rattle.thor_value.specs.FiniteMap.{get}
@@ -57,10 +58,11 @@ alone_entry (Upgrade text) q = Upgraded q
 abbrev pub MovesObjects : Held → Held → Type 0
 MovesObjects old new = new ≡ record old { objects = new.objects }
 
--- an entry has come, and objects may have moved before it
+-- an entry has come, and pages may have been flushed before it
 pub record HasMoved (old : Held) (e : Entry) (new : Held) : Type 0 where
   pub between : Held
   pub moves : MovesObjects old between
+  pub flushed : HasFlushed old.objects.mob.objects between.objects.mob.objects
   pub entered : new ≡ entered between e
 
 -- the trace before the Life of a restart: that from before, or that with the entry that was being written

@@ -4,6 +4,7 @@ use Rattle.held_state.specs.declared.held.Held.{Held}
 use Rattle.mob_buffer.specs.Buffer.{bytes_of, with_all}
 use Rattle.repo_core.specs.Behind.{MovesObjects}
 use Rattle.repo_core.specs.Shown.{Shown}
+use Rattle.stable_store.specs.Flushes.{HasFlushed}
 use Rattle.stable_store.specs.Kept.{held_of, is_torn, pending}
 use Rattle.stable_store.specs.declared.stable.Stable.{Stable}
 use Rattle.std.specs.Option.{IfSome}
@@ -22,9 +23,10 @@ abbrev pub HasRoomFor : Held → Ts → Bool → Type 0
 HasRoomFor h t true = IfSome (open_at h.table t) (λ q. HasRoom h q.writes)
 HasRoomFor h t false = Unit {0}
 
--- objects moved to their pages, and all else stays
+-- pages were flushed, and all else stays
 pub record MakesRoom (old new : Shown) : Type 0 where
   pub held : MovesObjects old.held new.held
+  pub flushed : HasFlushed old.held.objects.mob.objects new.held.objects.mob.objects
   pub memory : new.memory ≡ old.memory
   pub trace : new.trace ≡ old.trace
   pub limit : new.held.objects.mob.limit ≡ old.held.objects.mob.limit

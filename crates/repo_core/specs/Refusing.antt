@@ -1,12 +1,16 @@
 -- Why a call is refused, and what stands behind a refusal.
 use Rattle.commit_log.specs.declared.entry.Entry.{Entry}
 use Rattle.live_sessions.specs.Sessions.{is_live}
+use Rattle.page_format.specs.Pages.{Contents}
+use Rattle.page_format.specs.Sides.{side_in_use}
+use Rattle.page_store.specs.Objects.{Spells}
+use Rattle.page_store.specs.Sides.{place_of, side_bytes}
 use Rattle.refusal_reasons.specs.declared.reason.Reason.TheVariants.{Gone}
 use Rattle.refusal_reasons.specs.declared.reason.Reason.{Reason}
 use Rattle.repo_core.specs.Behind.{MovesObjects}
 use Rattle.repo_core.specs.Shown.{Shown}
 use Rattle.stable_store.specs.Kept.{is_fault}
-use Rattle.std.specs.Prelude.{None, Option, Some, false, true, ℕ, ◌≡◌, ◌⊎◌}
+use Rattle.std.specs.Prelude.{List, None, Option, Some, false, true, ℕ, ◌≡◌, ◌⊎◌}
 use Rattle.validation_window.specs.declared.refusal.Refusal.TheVariants as refused
 use Rattle.validation_window.specs.declared.refusal.Refusal.{Refusal}
 use Rattle.volatile_state.specs.Volatile.{Memory, Outlasts}
@@ -19,6 +23,13 @@ pub record CanRefuse (x : Shown) (Against : Refusal → Type 0) (CallsDisks : Ty
   pub stopped : (n : ℕ) → r ≡ refused.Stopped n → (x.is_up ≡ true) × CallsDisks × (n ≡ x.held.repo)
   pub damaged : (n place : ℕ) → r ≡ refused.Damaged n place → (x.is_up ≡ true) × CallsDisks × (n ≡ x.held.repo)
   pub memory : r ≡ refused.NoMemory → x.is_up ≡ true
+
+-- the bytes of an installed page's side in use, at this place of the disk of pages, are no page of objects with its number
+pub record IsPageDamage (x : Shown) (page place : ℕ) : Type 0 where
+  pub side : ℕ
+  pub in_use : side_in_use x.held.objects.pages.sides page ≡ Some side
+  pub place_is : place ≡ place_of page side
+  pub none : (disk : List ℕ) → x.pages ≡ Some disk → (found : Contents) → Spells (side_bytes disk page side) page found → ⊥
 
 -- no reason stands against a call
 abbrev pub HasNoReason : Refusal → Type 0

@@ -1,7 +1,10 @@
 //! A coordinator is asked.
 
 ghost use Rattle.std.specs.Prelude.{◌≡◌, IfErr, IfOk, false};
+ghost use Rattle.message_outbox.specs.declared.answers.Asked.TheVariants.{Undecided as IsUndecided};
 ghost use Rattle.repo_core.specs.Behind.{IsAsked, Stands};
+ghost use Rattle.two_phase.specs.Contents.{standing};
+ghost use Rattle.two_phase.specs.declared.standing.Standing.TheVariants.{Open as IsOpen};
 ghost use Rattle.validation_window.specs.declared.refusal.Refusal.TheVariants.{Down as IsDown};
 
 use crate::repo::Repo;
@@ -21,6 +24,7 @@ impl<P: Parts> Repo<P> {
         ensures stands { Stands self.old.is_up result self.new.is_up }
         ensures why { IfErr result (λ r. (r ≡ IsDown self.old.held.repo) × (self.old.is_up ≡ false)) }
         ensures answer { IfOk result (IsAsked self.old.held tx) }
+        ensures undecided { standing self.old.held.table tx ≡ IsOpen → tx.repo ≡ self.old.held.repo → IfOk result (λ a. a ≡ IsUndecided) }
     {
         self.check_up()?;
         let standing = self.stable.held().table().ask(tx);

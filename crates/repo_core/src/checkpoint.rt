@@ -6,7 +6,7 @@ ghost use Rattle.repo_core.specs.Refusing.{CanRefuse, HasNoReason, Rests};
 ghost use Rattle.repo_core.specs.Restarting.{DropsEarlier};
 ghost use Rattle.repo_core.specs.Shown.{faults_of};
 ghost use Rattle.stable_store.specs.Failing.{HasFailed};
-ghost use Rattle.validation_window.specs.declared.refusal.Refusal.TheVariants.{Stopped as IsStopped};
+ghost use Rattle.validation_window.specs.declared.refusal.Refusal.TheVariants.{Damaged as IsDamaged, Stopped as IsStopped};
 
 use crate::repo::Repo;
 use disk_trait::Parts;
@@ -15,7 +15,7 @@ use validation_window::Refusal;
 impl<P: Parts> Repo<P> {
     /// Begins a log on the other log disk with all that the present one stands for, but for decisions that are
     /// forgotten or of earlier openings.
-    #[tactic(auto, using(crate::proofs::Refused::rests_down, crate::proofs::Refused::rests_so, crate::proofs::Causes::why_down, crate::proofs::Causes::stands_refused, crate::proofs::Failing::stopped_none, crate::proofs::Failing::failed_between, crate::proofs::Failing::failed_same))]
+    #[tactic(auto, using(crate::proofs::Refused::rests_down, crate::proofs::Refused::rests_so, crate::proofs::Causes::why_down, crate::proofs::Causes::stands_refused, crate::proofs::Failing::stopped_none, crate::proofs::Failing::failed_between, crate::proofs::Failing::failed_same, crate::proofs::Causes::damaged_none))]
     pub fn checkpoint(&mut self) -> Result<(), Refusal>
         ensures stands { Stands self.old.is_up result self.new.is_up }
         ensures memory { self.new.memory ≡ self.old.memory }
@@ -25,6 +25,7 @@ impl<P: Parts> Repo<P> {
         ensures rests { IfErr result (Rests self.old self.new) }
         ensures pages { self.new.pages ≡ self.old.pages }
         ensures stopped { (n : ℕ) → IsErrOf result (IsStopped n) → HasFailed (faults_of self.old) (faults_of self.new) }
+        ensures damaged { (n place : ℕ) → IsErrOf result (IsDamaged n place) → ⊥ }
         ensures clock { self.new.clock ≡ self.old.clock }
         ensures opened { self.new.opened_in ≡ self.old.opened_in }
     {

@@ -7,10 +7,10 @@ ghost use Rattle.session_outbox.specs.declared.mark.Mark.TheVariants.{Fetched as
 ghost use Rattle.repo_core.specs.Shown.{faults_of};
 ghost use Rattle.stable_store.specs.Failing.{HasFailed};
 ghost use Rattle.trace_record.specs.Recorded.{with_mark};
-ghost use Rattle.repo_core.specs.Refusing.{CanRefuse, IsGone, Leaves};
+ghost use Rattle.repo_core.specs.Refusing.{CanRefuse, IsGone, IsPageDamage, Leaves};
 ghost use Rattle.repo_core.specs.Telling.{SendsPage};
 ghost use Rattle.refusal_reasons.specs.declared.reason.Reason.TheVariants.{Gone as AGone};
-ghost use Rattle.validation_window.specs.declared.refusal.Refusal.TheVariants.{Reason as IsReason, Stopped as IsStopped};
+ghost use Rattle.validation_window.specs.declared.refusal.Refusal.TheVariants.{Damaged as IsDamaged, Reason as IsReason, Stopped as IsStopped};
 
 use crate::repo::Repo;
 use disk_trait::Parts;
@@ -20,13 +20,14 @@ use validation_window::Refusal;
 impl<P: Parts> Repo<P> {
     /// Puts a page into the session's outbox, as it stands behind all entries. The messages below `upto` are
     /// acknowledged. Refusal: `Gone`.
-    #[tactic(auto, using(crate::proofs::Refused::leaves_down, crate::proofs::Refused::falls_with, crate::proofs::Refused::leaves_read, crate::proofs::Refused::moved_none, crate::proofs::Refused::lasts_same, crate::proofs::Causes::why_down, crate::proofs::Causes::why_reason, crate::proofs::Causes::why_after, crate::proofs::Causes::lacks_memory, crate::proofs::Failing::stopped_none, crate::proofs::Failing::stopped_gone, crate::proofs::Failing::stopped_memory, crate::proofs::Failing::failed_between))]
+    #[tactic(auto, using(crate::proofs::Refused::leaves_down, crate::proofs::Refused::falls_with, crate::proofs::Refused::leaves_read, crate::proofs::Refused::moved_none, crate::proofs::Refused::lasts_same, crate::proofs::Causes::why_down, crate::proofs::Causes::why_reason, crate::proofs::Causes::why_after, crate::proofs::Causes::lacks_memory, crate::proofs::Failing::stopped_none, crate::proofs::Failing::stopped_gone, crate::proofs::Failing::stopped_memory, crate::proofs::Failing::failed_between, crate::proofs::Causes::damaged_none, crate::proofs::Causes::damaged_gone, crate::proofs::Damage::damaged_memory))]
     pub fn fetch(&mut self, session: u32, page: u32, upto: u64) -> Result<(), Refusal>
         ensures stands { Stands self.old.is_up result self.new.is_up }
         ensures live { OnOk result (is_live self.old.memory.sessions session ≡ true) }
         ensures held { MovesObjects self.old.held self.new.held }
         ensures sent { OnOk result (SendsPage self.old.memory session page upto (length self.old.trace.history) self.new.memory) }
         ensures limit { self.new.held.objects.mob.limit ≡ self.old.held.objects.mob.limit }
+        ensures buffer { self.new.held.objects.mob ≡ self.old.held.objects.mob }
         ensures trace { OnOk result (self.new.trace ≡ with_mark self.old.trace (Fetches session page upto)) }
         ensures refused { OnErr result (self.new.trace ≡ self.old.trace) }
         ensures why { IfErr result (CanRefuse self.old (IsGone self.old.memory session) (is_live self.old.memory.sessions session ≡ true)) }
@@ -34,6 +35,7 @@ impl<P: Parts> Repo<P> {
         ensures left { IfErr result (Leaves self.old self.new None) }
         ensures pages { self.new.pages ≡ self.old.pages }
         ensures stopped { (n : ℕ) → IsErrOf result (IsStopped n) → HasFailed (faults_of self.old) (faults_of self.new) }
+        ensures damaged { (n place : ℕ) → IsErrOf result (IsDamaged n place) → IsPageDamage self.old page place }
         ensures clock { self.new.clock ≡ self.old.clock }
         ensures opened { self.new.opened_in ≡ self.old.opened_in }
     {

@@ -1,12 +1,13 @@
 //! A page is flushed.
 
-ghost use Rattle.std.specs.Prelude.{◌≡◌, IfErr, IfOk, IsErrOf, ℕ};
+ghost use Rattle.std.specs.Prelude.{◌≡◌, IfErr, IfOk, IsErrOf, OnErr, slice_get, ℕ};
+ghost use Rattle.std.specs.Option.{IfSome};
 ghost use Rattle.repo_core.specs.Behind.{MovesObjects, Stands};
-ghost use Rattle.repo_core.specs.Refusing.{CanRefuse, HasNoReason, Rests};
+ghost use Rattle.repo_core.specs.Refusing.{CanRefuse, HasNoReason, IsPageDamage, Rests};
 ghost use Rattle.repo_core.specs.Shown.{faults_of};
 ghost use Rattle.stable_store.specs.Failing.{HasFailed};
 ghost use Rattle.stable_store.specs.Flushes.{IsOldest, left_by};
-ghost use Rattle.validation_window.specs.declared.refusal.Refusal.TheVariants.{Stopped as IsStopped};
+ghost use Rattle.validation_window.specs.declared.refusal.Refusal.TheVariants.{Damaged as IsDamaged, Stopped as IsStopped};
 
 use crate::repo::Repo;
 use disk_trait::Parts;
@@ -23,11 +24,13 @@ impl<P: Parts> Repo<P> {
         ensures memory { self.new.memory ≡ self.old.memory }
         ensures limit { self.new.held.objects.mob.limit ≡ self.old.held.objects.mob.limit }
         ensures buffer { IfOk result (λ f. self.new.held.objects.mob.objects ≡ left_by self.old.held.objects.mob.objects f) }
+        ensures unmoved { OnErr result (self.new.held.objects.mob ≡ self.old.held.objects.mob) }
         ensures oldest { IfOk result (IsOldest self.old.held.objects.mob.objects) }
         ensures trace { self.new.trace ≡ self.old.trace }
         ensures why { IfErr result (CanRefuse self.old HasNoReason (Unit {0})) }
         ensures rests { IfErr result (Rests self.old self.new) }
         ensures stopped { (n : ℕ) → IsErrOf result (IsStopped n) → HasFailed (faults_of self.old) (faults_of self.new) }
+        ensures damaged { (n place : ℕ) → IsErrOf result (IsDamaged n place) → IfSome (slice_get self.old.held.objects.mob.objects 0) (λ q. IsPageDamage self.old q.0.page place) }
         ensures clock { self.new.clock ≡ self.old.clock }
         ensures opened { self.new.opened_in ≡ self.old.opened_in }
     {

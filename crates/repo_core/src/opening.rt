@@ -1,6 +1,6 @@
 //! A repository is opened.
 
-ghost use Rattle.std.specs.Prelude.{◌≡◌, ◌+◌, ◌≤◌, IfOk, List, true, ℕ};
+ghost use Rattle.std.specs.Prelude.{◌≡◌, ◌+◌, ◌≤◌, IfOk, List, Some, true, ℕ};
 ghost use Rattle.commit_log.specs.declared.entry.Entry.TheVariants.{Life as ALife};
 ghost use Rattle.disk_trait.specs.AllDisks.{AllSettled};
 ghost use Rattle.held_state.specs.Keeps.{Keeps};
@@ -10,6 +10,7 @@ ghost use Rattle.stable_store.specs.Kept.{IsKept, disks_of, held_of, is_up};
 ghost use Rattle.stable_store.specs.Saying.{IsSaid};
 ghost use Rattle.stable_store.specs.Taking.{AgreesWhere};
 ghost use Rattle.state_log.specs.Holds.{Holds};
+ghost use Rattle.store_format.specs.Pages.{HasRoots};
 ghost use Rattle.trace_record.specs.Recorded.{nothing, with_entry};
 ghost use Rattle.repo_core.specs.Restarting.{Begins, IsNew};
 
@@ -41,8 +42,8 @@ impl<P: Parts> Repo<P> {
         begin(alloc, stable)
     }
 
-    /// A repository of a store that is new, with a buffer of so many bytes: its roots stand on its pages, and an
-    /// empty log is begun. Then its first Life is written.
+    /// A repository of a store that is new, with a buffer of so many bytes: the setup's roots stand on its pages as they
+    /// begin, and nothing else, and an empty log is begun. Then its first Life is written.
     pub fn format(
         alloc: Global,
         parts: P,
@@ -55,6 +56,7 @@ impl<P: Parts> Repo<P> {
         ensures up { IfOk result (λ repo. repo.is_up ≡ true) }
         ensures trace { IfOk result (λ repo. repo.trace ≡ with_entry nothing (ALife 1)) }
         ensures begins { IfOk result (λ x. IsNew repo repos setup.now mob x) }
+        ensures roots { IfOk result (λ x. (disk : List ℕ) → x.pages ≡ Some disk → HasRoots repo setup.now x.held.objects.pages.sides disk) }
         ensures clock { IfOk result (λ x. (P.disks parts).clock ≤ x.clock) }
     {
         let stable = format(alloc, parts, repo, repos, setup, mob)?;
@@ -71,6 +73,7 @@ fn begin<P: Parts>(alloc: Global, stable: Stable<P>) -> Result<Repo<P>, OpenFaul
     ensures up { IfOk result (λ repo. repo.is_up ≡ true) }
     ensures trace { IfOk result (λ repo. repo.trace ≡ with_entry nothing (ALife ((held_of stable).life + 1))) }
     ensures begins { IfOk result (λ repo. Begins (held_of stable) repo) }
+    ensures pages { IfOk result (λ repo. repo.pages ≡ (disks_of P.disks stable).content 2) }
     ensures clock { IfOk result (λ repo. repo.clock ≡ (disks_of P.disks stable).clock) }
 {
     let Some(opened_in) = stable.held().life().checked_add(1) else {

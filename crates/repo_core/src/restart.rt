@@ -1,6 +1,6 @@
 //! A repository is restarted.
 
-ghost use Rattle.std.specs.Prelude.{◌≡◌, ◌+◌, ◌<◌, ◌≤◌, IfErr, IsErrOf, OnErr, OnOk, false, true, Some, ℕ};
+ghost use Rattle.std.specs.Prelude.{◌≡◌, ◌+◌, ◌<◌, ◌≤◌, IfErr, IsErrOf, IsTrue, OnErr, OnOk, false, true, Some, ℕ};
 ghost use Rattle.commit_log.specs.declared.entry.Entry.TheVariants.{Life as ALife};
 ghost use Rattle.live_sessions.specs.Sessions.{ended};
 ghost use Rattle.log_bytes.specs.Grammar.{BodyFits};
@@ -16,7 +16,7 @@ ghost use Rattle.repo_core.specs.Moving.{Falls};
 ghost use Rattle.repo_core.specs.Refusing.{GoesDown};
 ghost use Rattle.repository_laws.specs.Running.{came_with};
 ghost use Rattle.repository_laws.specs.Coming.{BeginsLife};
-ghost use Rattle.held_state.specs.Entering.{entered};
+ghost use Rattle.held_state.specs.Entering.{can_enter, entered};
 ghost use Rattle.validation_window.specs.declared.refusal.Refusal.TheVariants.{Damaged as IsDamaged, NoMemory as IsNoMemory, Stopped as IsStopped};
 ghost use Rattle.volatile_state.specs.Volatile.{Outlasts};
 
@@ -94,6 +94,7 @@ impl<P: Parts> Repo<P> {
         ensures begins { OnOk result (BeginsLife self.old.held self.old.memory self.new.memory) }
         ensures left { OnErr result (GoesDown self.old self.new (Some (life_behind self.old))) }
         ensures stopped { (n : ℕ) → IsErrOf result (IsStopped n) → HasFailed (faults_of self.old) (faults_of self.new) }
+        ensures pages { self.new.pages ≡ self.old.pages }
         ensures clock { self.new.clock ≡ self.old.clock }
         ensures damaged { (n place : ℕ) → IsErrOf result (IsDamaged n place) → ⊥ }
         ensures opened { self.new.opened_in ≡ self.old.opened_in }
@@ -129,8 +130,7 @@ impl<P: Parts> Repo<P> {
     }
 }
 
-/// Takes the pending entry, which the disks have. Want of memory, too, where it is none that can come next,
-/// which no run comes to.
+/// Takes the pending entry, which the disks have.
 #[tactic(auto, using(crate::proofs::Entered::falls_told, volatile_state::proofs::Lasting::lasts_itself))]
 fn take_pending<P: Parts>(
     stable: &mut Stable<P>,
@@ -139,6 +139,7 @@ fn take_pending<P: Parts>(
     entry: Entry,
 ) -> Result<(), Refusal>
     requires fits { BodyFits (AnEntry entry) }
+    requires takes { IsTrue (can_enter (held_of stable.old) entry) }
     requires up { is_up stable.old ≡ true }
     requires kept { IsKept P.disks stable.old }
     requires ahead { IsAhead P.disks stable.old entry }
@@ -158,10 +159,6 @@ fn take_pending<P: Parts>(
     ensures clock { (disks_of P.disks stable.new).clock ≡ (disks_of P.disks stable.old).clock }
     ensures faults { (d : ℕ) → (disks_of P.disks stable.new).faults d ≡ (disks_of P.disks stable.old).faults d }
 {
-    if !stable.held().takes(&entry) {
-        stable.pend(entry);
-        return Err(Refusal::NoMemory);
-    }
     let noted = note(memory, &entry);
     record(stable, trace, entry, noted)?;
     Ok(())

@@ -12,6 +12,7 @@ ghost use Rattle.commit_log.specs.declared.entry.Entry.{Entry as AnEntry};
 ghost use Rattle.repo_core.specs.Refusing.{Leaves};
 ghost use Rattle.repo_core.specs.Shown.{faults_of};
 ghost use Rattle.stable_store.specs.Failing.{HasFailed, NoFewer};
+ghost use Rattle.stable_store.specs.Flushes.{HasFlushed};
 ghost use Rattle.refusal_reasons.specs.declared.reason.Reason.TheVariants.{Full as IsFull};
 ghost use Rattle.validation_window.specs.declared.refusal.Refusal.TheVariants.{Reason as IsReason, Stopped as IsStopped};
 
@@ -42,7 +43,7 @@ impl<P: Parts> Repo<P> {
     }
 
     /// Flushes pages until writes fit into the buffer beside what is there, or it is empty.
-    #[tactic(auto, using(crate::proofs::Refused::leaves_down, crate::proofs::Refused::falls_with, crate::proofs::Refused::lasts_same, crate::proofs::Failing::failed_between, crate::proofs::Failing::fewer_between, crate::proofs::Failing::fewer_same))]
+    #[tactic(auto, using(crate::proofs::Refused::leaves_down, crate::proofs::Refused::falls_with, crate::proofs::Refused::lasts_same, crate::proofs::Failing::failed_between, crate::proofs::Failing::fewer_between, crate::proofs::Failing::fewer_same, stable_store::proofs::Flushes::flushed_none))]
     pub(crate) fn make_room(&mut self, writes: &Writes) -> Result<(), Refusal>
         requires up { self.old.is_up ≡ true }
         requires fits { AllByRecursion CanStand writes.now }
@@ -61,7 +62,7 @@ impl<P: Parts> Repo<P> {
     }
 
     /// Does so for the writes of a transaction that is open here, where it commits.
-    #[tactic(auto, using(crate::proofs::Refused::leaves_down, crate::proofs::Refused::falls_with, crate::proofs::Refused::lasts_same, crate::proofs::Failing::failed_between, crate::proofs::Failing::fewer_between, crate::proofs::Failing::fewer_same))]
+    #[tactic(auto, using(crate::proofs::Refused::leaves_down, crate::proofs::Refused::falls_with, crate::proofs::Refused::lasts_same, crate::proofs::Failing::failed_between, crate::proofs::Failing::fewer_between, crate::proofs::Failing::fewer_same, stable_store::proofs::Flushes::flushed_none))]
     pub(crate) fn make_room_for(&mut self, tx: Ts, commit: bool) -> Result<(), Refusal>
         requires { self.old.is_up ≡ true }
         ensures stands { Stands true result self.new.is_up }
@@ -83,7 +84,7 @@ impl<P: Parts> Repo<P> {
     }
 }
 
-#[tactic(auto, using(stable_store::proofs::Failing::fewer_none))]
+#[tactic(auto, using(stable_store::proofs::Failing::fewer_none, stable_store::proofs::Flushes::flushed_none))]
 fn make_room<P: Parts>(stable: &mut Stable<P>, writes: &Writes) -> Result<(), Refusal>
     requires kept { IsKept P.disks stable.old }
     requires says { IsSaid P.disks stable.old }
@@ -94,6 +95,7 @@ fn make_room<P: Parts>(stable: &mut Stable<P>, writes: &Writes) -> Result<(), Re
     ensures stands { Stands true result (is_up stable.new) }
     ensures fault { IfErr result (λ r. (is_fault r ≡ true) × (is_marked r ≡ false)) }
     ensures held { MovesObjects (held_of stable.old) (held_of stable.new) }
+    ensures flushed { HasFlushed (held_of stable.old).objects.mob.objects (held_of stable.new).objects.mob.objects }
     ensures limit { (held_of stable.new).objects.mob.limit ≡ (held_of stable.old).objects.mob.limit }
     ensures stays { HasRoom (held_of stable.old) writes.now → stable.new ≡ stable.old }
     ensures rests { OnErr result (RestsWith None stable.new) }
@@ -109,7 +111,7 @@ fn make_room<P: Parts>(stable: &mut Stable<P>, writes: &Writes) -> Result<(), Re
 }
 
 /// Flushes pages until the buffer keeps its limit with these writes, or it is empty.
-#[tactic(auto, using(stable_store::proofs::Failing::fewer_none, stable_store::proofs::Failing::fewer_then, stable_store::proofs::Failing::failed_behind))]
+#[tactic(auto, using(stable_store::proofs::Failing::fewer_none, stable_store::proofs::Failing::fewer_then, stable_store::proofs::Failing::failed_behind, stable_store::proofs::Flushes::flushed_none, stable_store::proofs::Flushes::flushed_then, stable_store::proofs::Flushes::flushed_same))]
 fn flush_for<P: Parts>(stable: &mut Stable<P>, writes: &Writes) -> Result<(), Refusal>
     requires kept { IsKept P.disks stable.old }
     requires says { IsSaid P.disks stable.old }
@@ -120,6 +122,7 @@ fn flush_for<P: Parts>(stable: &mut Stable<P>, writes: &Writes) -> Result<(), Re
     ensures stands { Stands true result (is_up stable.new) }
     ensures fault { IfErr result (λ r. (is_fault r ≡ true) × (is_marked r ≡ false)) }
     ensures held { MovesObjects (held_of stable.old) (held_of stable.new) }
+    ensures flushed { HasFlushed (held_of stable.old).objects.mob.objects (held_of stable.new).objects.mob.objects }
     ensures limit { (held_of stable.new).objects.mob.limit ≡ (held_of stable.old).objects.mob.limit }
     ensures rests { OnErr result (RestsWith None stable.new) }
     ensures names { IfErr result (λ r. repo_named (held_of stable.old).repo r ≡ (held_of stable.old).repo) }
@@ -139,7 +142,7 @@ fn flush_for<P: Parts>(stable: &mut Stable<P>, writes: &Writes) -> Result<(), Re
 }
 
 /// Flushes pages until the writes of a transaction that is open fit into the buffer, or it is empty.
-#[tactic(auto, using(stable_store::proofs::Failing::fewer_none))]
+#[tactic(auto, using(stable_store::proofs::Failing::fewer_none, stable_store::proofs::Flushes::flushed_none))]
 fn make_room_for<P: Parts>(stable: &mut Stable<P>, tx: Ts) -> Result<(), Refusal>
     requires kept { IsKept P.disks stable.old }
     requires says { IsSaid P.disks stable.old }
@@ -149,6 +152,7 @@ fn make_room_for<P: Parts>(stable: &mut Stable<P>, tx: Ts) -> Result<(), Refusal
     ensures stands { Stands true result (is_up stable.new) }
     ensures fault { IfErr result (λ r. (is_fault r ≡ true) × (is_marked r ≡ false)) }
     ensures held { MovesObjects (held_of stable.old) (held_of stable.new) }
+    ensures flushed { HasFlushed (held_of stable.old).objects.mob.objects (held_of stable.new).objects.mob.objects }
     ensures limit { (held_of stable.new).objects.mob.limit ≡ (held_of stable.old).objects.mob.limit }
     ensures stays { HasRoomFor (held_of stable.old) tx true → stable.new ≡ stable.old }
     ensures rests { OnErr result (RestsWith None stable.new) }
@@ -163,7 +167,7 @@ fn make_room_for<P: Parts>(stable: &mut Stable<P>, tx: Ts) -> Result<(), Refusal
     flush_open(stable, tx)
 }
 
-#[tactic(auto, using(stable_store::proofs::Failing::fewer_none, stable_store::proofs::Failing::fewer_then, stable_store::proofs::Failing::failed_behind))]
+#[tactic(auto, using(stable_store::proofs::Failing::fewer_none, stable_store::proofs::Failing::fewer_then, stable_store::proofs::Failing::failed_behind, stable_store::proofs::Flushes::flushed_none, stable_store::proofs::Flushes::flushed_then, stable_store::proofs::Flushes::flushed_same))]
 fn flush_open<P: Parts>(stable: &mut Stable<P>, tx: Ts) -> Result<(), Refusal>
     requires kept { IsKept P.disks stable.old }
     requires says { IsSaid P.disks stable.old }
@@ -173,6 +177,7 @@ fn flush_open<P: Parts>(stable: &mut Stable<P>, tx: Ts) -> Result<(), Refusal>
     ensures stands { Stands true result (is_up stable.new) }
     ensures fault { IfErr result (λ r. (is_fault r ≡ true) × (is_marked r ≡ false)) }
     ensures held { MovesObjects (held_of stable.old) (held_of stable.new) }
+    ensures flushed { HasFlushed (held_of stable.old).objects.mob.objects (held_of stable.new).objects.mob.objects }
     ensures limit { (held_of stable.new).objects.mob.limit ≡ (held_of stable.old).objects.mob.limit }
     ensures rests { OnErr result (RestsWith None stable.new) }
     ensures names { IfErr result (λ r. repo_named (held_of stable.old).repo r ≡ (held_of stable.old).repo) }

@@ -17,6 +17,6 @@ loop-oref-preserved c =
     let step : c.loop-oref.oref-iterator ≡ c.in-Some.oref.now ∷ c.next.new.self = search rules in
     let dating : Dating c.args.epoch c.args.cache.now c.loop-oref.cache (c.in-Some.oref.now ∷ c.next.new.self) = subst (λ (xs : List Oref). Dating c.args.epoch c.args.cache.now c.loop-oref.cache xs) step c.loop-oref.invariant.1 in (
       one_more c.args.epoch c.args.cache.now c.loop-oref.cache c.in-Some.oref.now c.next.new.self c.loop-oref.writes c.push_written.new.writes _ dating.same c.in_ok-push_written.ensures.writes
-      (subst (λ (xs : List Oref). c.loop-oref.writes ++ stored_at c.args.epoch (entries (changed c.args.cache.now) xs) ≡ stored_at c.args.epoch (entries (changed c.args.cache.now) (keys_of c.args.names.now.entries))) step c.loop-oref.invariant.0),
+          (subst (λ (xs : List Oref). c.loop-oref.writes ++ stored_at c.args.epoch (entries (changed c.args.cache.now) xs) ≡ stored_at c.args.epoch (entries (changed c.args.cache.now) (keys_of c.args.names.now.entries))) step c.loop-oref.invariant.0),
       goes_on c.args.epoch c.args.cache.now c.loop-oref.cache c.push_written.new.cache c.in-Some.oref.now c.next.new.self dating c.push_written.ensures.changed c.push_written.ensures.kept,
     )

@@ -1,10 +1,11 @@
 use Rattle.std.proofs.Common.{true, ◌≡◌}
 use Rattle.repo_core.specs.Behind.{MovesObjects}
 use Rattle.stable_store.specs.Failing.{NoFewer}
+use Rattle.stable_store.specs.Flushes.{HasFlushed}
 use Rattle.stable_store.specs.Saying.{IsSaid}
 use Rattle.stable_store.specs.Kept.{IsKept, disks_of, held_of, is_up}
 use Rattle.repo_core.proofs.room.flush_for.Given as goal
 
 -- objects have moved, and all else stays
 abbrev pub invariant-loop : goal.invariant-loop
-invariant-loop g l = record { kept : IsKept g.P.Parts.disks l.stable; says : IsSaid g.P.Parts.disks l.stable; up : is_up l.stable ≡ true; held : MovesObjects (held_of l.fn.stable) (held_of l.stable); limit : (held_of l.stable).objects.mob.limit ≡ (held_of l.fn.stable).objects.mob.limit; clock : (disks_of g.P.Parts.disks l.stable).clock ≡ (disks_of g.P.Parts.disks l.fn.stable).clock; faults : NoFewer (disks_of g.P.Parts.disks l.fn.stable).faults (disks_of g.P.Parts.disks l.stable).faults }
+invariant-loop g l = record { kept : IsKept g.P.Parts.disks l.stable; says : IsSaid g.P.Parts.disks l.stable; up : is_up l.stable ≡ true; held : MovesObjects (held_of l.fn.stable) (held_of l.stable); flushed : HasFlushed (held_of l.fn.stable).objects.mob.objects (held_of l.stable).objects.mob.objects; limit : (held_of l.stable).objects.mob.limit ≡ (held_of l.fn.stable).objects.mob.limit; clock : (disks_of g.P.Parts.disks l.stable).clock ≡ (disks_of g.P.Parts.disks l.fn.stable).clock; faults : NoFewer (disks_of g.P.Parts.disks l.fn.stable).faults (disks_of g.P.Parts.disks l.stable).faults }

@@ -1,4 +1,4 @@
-use Rattle.client_state.proofs.Writing.{is_drawn}
+use Rattle.client_state.proofs.Writing.{carried_write, is_drawn}
 use Rattle.client_state.proofs.phase.Phase.drawn.Goals as goal
 use Rattle.client_state.specs.Sending.{DrawsPhase}
 use Rattle.client_state.specs.Writing.{PhaseWrites}
@@ -16,4 +16,4 @@ returns-in-Evaluated-clause-draws c = subst (λ (p : Phase). DrawsPhase c.args.t
 
 pub returns-in-Evaluated-clause-writes : goal.returns-in-Evaluated-clause-writes
 returns-in-Evaluated-clause-writes c = λ copies w.
-    is_drawn c.args.ts c.in-Evaluated.transaction c.carry_sessions.new.self copies c.carry_sessions.ensures.writes (subst (λ (p : Phase). PhaseWrites p copies) c.in-Evaluated.is w)
+    is_drawn c.args.ts c.in-Evaluated.transaction c.carry_sessions.new.self copies (carried_write c.args.links.now c.in-Evaluated.transaction.shares.items c.carry_sessions.new.self.shares.items c.carry_sessions.ensures.carries) (subst (λ (p : Phase). PhaseWrites p copies) c.in-Evaluated.is w)

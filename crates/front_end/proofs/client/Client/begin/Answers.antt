@@ -16,7 +16,7 @@ pub returns-in_err-transaction-in-Some-Upgrade-clause-writes : goal.returns-in_e
 returns-in_err-transaction-in-Some-Upgrade-clause-writes g c = λ none. nothing_unsent _ _ none
 
 pub returns-in_ok-transaction-in-Some-Upgrade-clause-writes : goal.returns-in_ok-transaction-in-Some-Upgrade-clause-writes
-returns-in_ok-transaction-in-Some-Upgrade-clause-writes g c = λ none. c.join_and_draw.ensures.writes (λ x. c.undo.ensures.none x ∙ sym (c.in_ok-transaction.ensures.writes x))
+returns-in_ok-transaction-in-Some-Upgrade-clause-writes g c = λ none. c.join_and_draw.ensures.writes (λ x. c.undo.ensures.none x ∙ sym (c.in_ok-transaction-in-Some-Upgrade.ensures.writes x))
 
 pub returns-in-None-clause-writes : goal.returns-in-None-clause-writes
 returns-in-None-clause-writes g c = λ none. nothing_unsent _ _ none

@@ -9,4 +9,4 @@ pub returns-in_ok-becomes-in-Some-clause-writes : goal.returns-in_ok-becomes-in-
 returns-in_ok-becomes-in-Some-clause-writes g c = λ none. c.draw_made.ensures.writes (c.go_on_with.ensures.phase ∙ none)
 
 pub returns-in-None-clause-writes : goal.returns-in-None-clause-writes
-returns-in-None-clause-writes g c = λ none. c.join_behind.ensures.writes (nothing_unsent _ _ (c.go_on_with.ensures.phase ∙ none))
+returns-in-None-clause-writes g c = λ none. c.join_behind.ensures.writes (nothing_unsent _ _ (c.go_on_with-in-None.ensures.phase ∙ none))

@@ -12,4 +12,4 @@ pub returns-in_err-transaction-in-Done-clause-writes : goal.returns-in_err-trans
 returns-in_err-transaction-in-Done-clause-writes g c = λ none wrote. nothing_unsent _ _ none
 
 pub returns-in_ok-transaction-in-Done-clause-writes : goal.returns-in_ok-transaction-in-Done-clause-writes
-returns-in_ok-transaction-in-Done-clause-writes g c = λ none wrote. c.join_and_draw.ensures.writes (c.in_ok-transaction.ensures.wrote (subst (λ (r : Ran). HasWritten r c.args.self.now.held.cache.cache) c.in-Done.is wrote))
+returns-in_ok-transaction-in-Done-clause-writes g c = λ none wrote. c.join_and_draw.ensures.writes (c.in_ok-transaction-in-Done.ensures.wrote (subst (λ (r : Ran). HasWritten r c.args.self.now.held.cache.cache) c.in-Done.is wrote))

@@ -18,8 +18,5 @@ returns-in-Some-2-clause-takes c = λ place. takes_so c.args.repo _ c.args.self.
 pub returns-in_err-place-clause-writes : goal.returns-in_err-place-clause-writes
 returns-in_err-place-clause-writes c = λ w. still_writes _ _ _ _ refl c.place.ensures.writes w
 
-pub returns-in-Some-clause-writes : goal.returns-in-Some-clause-writes
-returns-in-Some-clause-writes c = λ w. still_writes _ _ _ _ refl c.place.ensures.writes w
-
-pub returns-in-None-clause-writes : goal.returns-in-None-clause-writes
-returns-in-None-clause-writes c = λ w. still_writes _ _ _ _ refl c.place.ensures.writes w
+pub returns-in-Some-2-clause-writes : goal.returns-in-Some-2-clause-writes
+returns-in-Some-2-clause-writes c = λ w. still_writes _ _ _ _ refl c.place.ensures.writes w

@@ -1,7 +1,8 @@
 use Rattle.stable_store.specs.Kept.{disks_of}
 use Rattle.std.proofs.Common.{IsErrOf, ap, refl, rules}
+use Rattle.repo_core.proofs.Damage.{damage_shown, damaged_memory}
 use Rattle.repo_core.proofs.Failing.{failed_between, stopped_memory}
-use Rattle.validation_window.specs.declared.refusal.Refusal.TheVariants.{Stopped as IsStopped}
+use Rattle.validation_window.specs.declared.refusal.Refusal.TheVariants.{Damaged as IsDamaged, Stopped as IsStopped}
 use Rattle.repo_core.proofs.Refused.{if_err_on, leaves_read}
 use Rattle.repo_core.specs.Shown.{Shown, shown}
 use Rattle.std.specs.Prelude.{None}
@@ -24,3 +25,12 @@ returns-in_err-image-clause-stopped g c = λ n is.
 
 pub returns-clause-stopped : goal.returns-clause-stopped
 returns-clause-stopped g c = λ n is. stopped_memory c.mark.result n _ c.mark.ensures.refusal is
+
+pub returns-in_err-image-clause-damaged : goal.returns-in_err-image-clause-damaged
+returns-in_err-image-clause-damaged g c = λ n place is.
+    let i = c.self.inside in
+    let wrong : IsErrOf c.page_image.result (IsDamaged n place) = search rules in
+    damage_shown g.P.Parts.disks i.stable i.memory i.trace i.opened_in c.args.self.now c.args.page place c.self.view_is (c.page_image.ensures.damaged n place wrong)
+
+pub returns-clause-damaged : goal.returns-clause-damaged
+returns-clause-damaged g c = λ n place is. damaged_memory c.mark.result n place _ c.mark.ensures.refusal is
