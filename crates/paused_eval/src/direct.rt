@@ -275,9 +275,14 @@ fn collect<L: Ledger>(
     ensures work { Lasts result (surplus bodies.new.work progress.new.machine.steps ≡ surplus bodies.old.work progress.old.machine.steps) }
 {
     let mut done = none;
-    for place in 0..arguments.get().len() {
-        if let Some(expr) = arguments.get().get(place) {
-            match value_of(program, epoch, cache, progress, bodies, inner, expr) {
+    for place in 0..usize::MAX {
+        match SharedExprs::at(arguments, place) {
+            None => {
+                return ready(
+                    program, epoch, cache, progress, bodies, inner, kind, target, method, done,
+                );
+            }
+            Some(expr) => match value_of(program, epoch, cache, progress, bodies, inner, expr) {
                 Ok(value) => done.push(value)?,
                 Err(unwound) => {
                     let rest = SharedExprs::behind(arguments, place)?;
@@ -285,12 +290,10 @@ fn collect<L: Ledger>(
                         unwound, inner, kind, target, method, done, rest,
                     ));
                 }
-            }
+            },
         }
     }
-    ready(
-        program, epoch, cache, progress, bodies, inner, kind, target, method, done,
-    )
+    Err(Unwound::NoMemory)
 }
 
 /// The parts of a call are there.

@@ -77,19 +77,20 @@ fn in_order<L: Ledger>(
     ensures known { bodies.new.methods.now ≡ class_methods program.now.schema.now.classes }
     ensures work { Lasts result (surplus bodies.new.work progress.new.machine.steps ≡ surplus bodies.old.work progress.old.machine.steps) }
 {
-    for place in 0..stmts.get().len() {
-        if let Some(stmt) = stmts.get().get(place) {
-            match execute(program, epoch, cache, progress, bodies, inner, stmt) {
+    for place in 0..usize::MAX {
+        match SharedBlock::at(stmts, place) {
+            None => return Ok(Flow::Next),
+            Some(stmt) => match execute(program, epoch, cache, progress, bodies, inner, stmt) {
                 Ok(Flow::Next) => {}
                 Ok(Flow::Returned(value)) => return Ok(Flow::Returned(value)),
                 Err(unwound) => {
                     let rest = SharedBlock::behind(stmts, place)?;
                     return Err(behind_statement(unwound, inner, rest));
                 }
-            }
+            },
         }
     }
-    Ok(Flow::Next)
+    Err(Unwound::NoMemory)
 }
 
 /// A statement whose nodes may be `nested` deep.
