@@ -102,11 +102,8 @@ paused_send = search (doing_send, frame_send, stack.the_send, leaves, base, cros
 pub kept_texts_send : IsSend (KeptTexts.the_field).row
 kept_texts_send = search (shared_block_send, base) depth 30
 
-pub shared_block_field_sync : IsSync (SharedBlock.the_field).row
-shared_block_field_sync = search (stmt_nodes_send, stmt_nodes_sync, base) depth 30
-
 pub shared_method_sync : IsSync SharedMethod.the_row
-shared_method_sync = search (parameter_sync, type_name_sync, name_sync, shared_block_field_sync, base) depth 30
+shared_method_sync = search (parameter_sync, type_name_sync, name_sync, stmt_nodes_send, stmt_nodes_sync, base) depth 30
 
 pub epoch_methods_sync : IsSync (EpochMethods.the_field).row
 epoch_methods_sync = search (shared_method_sync, base) depth 30

@@ -1,4 +1,4 @@
-ghost use Rattle.std.specs.Prelude.{◌≡◌, [], ◌∷◌, drop, map, IfOk, IsTrue, MatchOption};
+ghost use Rattle.std.specs.Prelude.{◌≡◌, ◌<◌, ◌+◌, ◌-◌, ◌^◌, [], ◌∷◌, drop, map, IfOk, IsTrue, MatchOption};
 ghost use Rattle.paused_defs.specs.Plain.{plain, plain_stmt};
 
 use crate::nodes::{ExprNode, ExprNodes, StmtNode, StmtNodes};
@@ -135,6 +135,25 @@ impl SharedExprs {
         })
     }
 
+    /// The expression of a node at a place, with its owners.
+    #[tactic(auto, using(crate::proofs::Drops::dropped, crate::proofs::Drops::none_there))]
+    pub fn at(nodes: &Shared<ExprNodes>, place: usize) -> Option<&Shared<ExprNode>>
+        ensures { MatchOption result (map plain (drop place nodes.now) ≡ []) (λ node. map plain (drop place nodes.now) ≡ plain node.now ∷ map plain (drop (place + 1) nodes.now)) }
+    {
+        nodes.get().get(place)
+    }
+
+    /// The expressions of a node behind a place, as their other owner.
+    pub fn behind(nodes: &Shared<ExprNodes>, place: usize) -> Result<SharedExprs, NoMemory>
+        requires { place < 2 ^ 64 - 1 }
+        ensures { IfOk result (λ exprs. exprs ≡ map plain (drop (place + 1) nodes.now)) }
+    {
+        Ok(SharedExprs {
+            nodes: nodes.share()?,
+            from: place + 1,
+        })
+    }
+
     /// The first, with those behind it.
     #[tactic(auto, using(crate::proofs::Drops::drops))]
     pub fn split_first(self) -> Result<Option<(SharedExpr, SharedExprs)>, NoMemory>
@@ -203,6 +222,25 @@ impl SharedBlock {
         Ok(SharedBlock {
             nodes: nodes.share()?,
             from: 0,
+        })
+    }
+
+    /// The statement of a block at a place, with its owners.
+    #[tactic(auto, using(crate::proofs::Drops::dropped, crate::proofs::Drops::none_there))]
+    pub fn at(nodes: &Shared<StmtNodes>, place: usize) -> Option<&Shared<StmtNode>>
+        ensures { MatchOption result (map plain_stmt (drop place nodes.now) ≡ []) (λ node. map plain_stmt (drop place nodes.now) ≡ plain_stmt node.now ∷ map plain_stmt (drop (place + 1) nodes.now)) }
+    {
+        nodes.get().get(place)
+    }
+
+    /// The statements of a block behind a place, as their other owner.
+    pub fn behind(nodes: &Shared<StmtNodes>, place: usize) -> Result<SharedBlock, NoMemory>
+        requires { place < 2 ^ 64 - 1 }
+        ensures { IfOk result (λ block. block ≡ map plain_stmt (drop (place + 1) nodes.now)) }
+    {
+        Ok(SharedBlock {
+            nodes: nodes.share()?,
+            from: place + 1,
         })
     }
 

@@ -25,9 +25,10 @@ use crate::came::Came;
 use crate::copies::Copies;
 use crate::granted_names::GrantedNames;
 use crate::kept_texts::KeptTexts;
-use crate::progress::begun;
+use crate::progress::{Progress, begun};
 use crate::running::run_over;
-use class_defs::{Block, Flow, Machine, Schema};
+use crate::written_names::WrittenNames;
+use class_defs::{Block, Flow, Schema};
 use client_cache::Cache;
 use method_eval::{Program, Ran};
 use paused_defs::{ClassMethods, Doing, Frame, Stack};
@@ -44,7 +45,7 @@ pub struct Paused {
     pub alloc: Global,
     /// The state of the run, without its writes and names: the copies have the objects written, and the front end
     /// the names.
-    pub machine: Machine,
+    pub progress: Progress,
     pub doing: Doing,
     pub stack: Stack<Frame>,
 }
@@ -116,8 +117,8 @@ impl Paused {
     /// and nothing later does.
     pub fn begin(alloc: Global, tx: &Block, kept: &mut KeptTexts) -> Result<Paused, NoMemory>
         ensures stands { IfOk result (λ paused. (s : Schema) → (copies : Copies) → (names : GrantedNames) → copies.written ≡ empty
-            → Stands s (at_hand s copies.cache) tx.now (supply names.names).waiting (record { doing = paused.doing; stack = paused.stack }) (state_with paused.machine copies.written copies.cache names.names)) }
-        ensures begun { IfOk result (λ paused. paused.machine.steps ≡ 0) }
+            → Stands s (at_hand s copies.cache) tx.now (supply names.names).waiting (record { doing = paused.doing; stack = paused.stack }) (state_with paused.progress.machine copies.written copies.cache names.names)) }
+        ensures begun { IfOk result (λ paused. paused.progress.machine.steps ≡ 0) }
     {
         let mut stack = Stack::with_room(alloc, FRAMES)?;
         stack.push(Frame::BlockEnd { count: 0 })?;
@@ -127,7 +128,10 @@ impl Paused {
         })?;
         Ok(Paused {
             alloc,
-            machine: begun(alloc),
+            progress: Progress {
+                machine: begun(alloc),
+                written: WrittenNames::new(alloc),
+            },
             doing: Doing::Give { flow: Flow::Next },
             stack,
         })
@@ -135,9 +139,9 @@ impl Paused {
 
     /// Whether the evaluation has read an object. One that it has created counts as not read.
     pub fn has_read(&self, oref: Oref) -> bool
-        ensures { result ≡ has self.now.machine.reads oref }
+        ensures { result ≡ has self.now.progress.machine.reads oref }
     {
-        self.machine.reads.contains(oref)
+        self.progress.machine.reads.contains(oref)
     }
 
     /// The least of these objects that the evaluation has read.
@@ -170,14 +174,14 @@ impl Paused {
         names: &mut GrantedNames,
     ) -> Result<Ran, NoMemory>
         requires known { methods.now ≡ class_methods schema.now.classes }
-        ensures answers { (tx : List Stmt) → (given : List Oref) → Stands schema.now (at_hand schema.now copies.old.cache) tx given (record { doing = self.old.doing; stack = self.old.stack }) (state_with self.old.machine copies.old.written copies.old.cache names.old.names)
+        ensures answers { (tx : List Stmt) → (given : List Oref) → Stands schema.now (at_hand schema.now copies.old.cache) tx given (record { doing = self.old.doing; stack = self.old.stack }) (state_with self.old.progress.machine copies.old.written copies.old.cache names.old.names)
             → IfOk result (λ ran. ran ≡ answer_of epoch schema.now (at_hand schema.now copies.old.cache) tx given) }
-        ensures stands { (tx : List Stmt) → (given : List Oref) → Stands schema.now (at_hand schema.now copies.old.cache) tx given (record { doing = self.old.doing; stack = self.old.stack }) (state_with self.old.machine copies.old.written copies.old.cache names.old.names)
-            → IfOk result (λ ran. AtStop ran (Stands schema.now (at_hand schema.now copies.new.cache) tx given (record { doing = self.new.doing; stack = self.new.stack }) (state_with self.new.machine copies.new.written copies.new.cache names.new.names))) }
+        ensures stands { (tx : List Stmt) → (given : List Oref) → Stands schema.now (at_hand schema.now copies.old.cache) tx given (record { doing = self.old.doing; stack = self.old.stack }) (state_with self.old.progress.machine copies.old.written copies.old.cache names.old.names)
+            → IfOk result (λ ran. AtStop ran (Stands schema.now (at_hand schema.now copies.new.cache) tx given (record { doing = self.new.doing; stack = self.new.stack }) (state_with self.new.progress.machine copies.new.written copies.new.cache names.new.names))) }
         ensures kept { OnOk result (Keeps copies.old.cache copies.new.cache) }
         ensures wrote { IfOk result (λ ran. HasWritten ran copies.new.cache) }
-        ensures steps { (tx : List Stmt) → (given : List Oref) → Stands schema.now (at_hand schema.now copies.old.cache) tx given (record { doing = self.old.doing; stack = self.old.stack }) (state_with self.old.machine copies.old.written copies.old.cache names.old.names)
-            → OnOk result (self.new.machine.steps ≡ (outcome_of schema.now (at_hand schema.now copies.old.cache) tx given).1.steps) }
+        ensures steps { (tx : List Stmt) → (given : List Oref) → Stands schema.now (at_hand schema.now copies.old.cache) tx given (record { doing = self.old.doing; stack = self.old.stack }) (state_with self.old.progress.machine copies.old.written copies.old.cache names.old.names)
+            → OnOk result (self.new.progress.machine.steps ≡ (outcome_of schema.now (at_hand schema.now copies.old.cache) tx given).1.steps) }
     {
         self.go_uncounted::<Brand>(schema, methods, epoch, copies, names, Blank::new(1))
     }
@@ -196,14 +200,14 @@ impl Paused {
         requires parts { ledger.parts ≡ L.parts }
         requires some { 0 < ledger.parts }
         requires known { methods.now ≡ class_methods schema.now.classes }
-        ensures answers { (tx : List Stmt) → (given : List Oref) → Stands schema.now (at_hand schema.now copies.old.cache) tx given (record { doing = self.old.doing; stack = self.old.stack }) (state_with self.old.machine copies.old.written copies.old.cache names.old.names)
+        ensures answers { (tx : List Stmt) → (given : List Oref) → Stands schema.now (at_hand schema.now copies.old.cache) tx given (record { doing = self.old.doing; stack = self.old.stack }) (state_with self.old.progress.machine copies.old.written copies.old.cache names.old.names)
             → IfOk result (λ ran. ran ≡ answer_of epoch schema.now (at_hand schema.now copies.old.cache) tx given) }
-        ensures stands { (tx : List Stmt) → (given : List Oref) → Stands schema.now (at_hand schema.now copies.old.cache) tx given (record { doing = self.old.doing; stack = self.old.stack }) (state_with self.old.machine copies.old.written copies.old.cache names.old.names)
-            → IfOk result (λ ran. AtStop ran (Stands schema.now (at_hand schema.now copies.new.cache) tx given (record { doing = self.new.doing; stack = self.new.stack }) (state_with self.new.machine copies.new.written copies.new.cache names.new.names))) }
+        ensures stands { (tx : List Stmt) → (given : List Oref) → Stands schema.now (at_hand schema.now copies.old.cache) tx given (record { doing = self.old.doing; stack = self.old.stack }) (state_with self.old.progress.machine copies.old.written copies.old.cache names.old.names)
+            → IfOk result (λ ran. AtStop ran (Stands schema.now (at_hand schema.now copies.new.cache) tx given (record { doing = self.new.doing; stack = self.new.stack }) (state_with self.new.progress.machine copies.new.written copies.new.cache names.new.names))) }
         ensures kept { OnOk result (Keeps copies.old.cache copies.new.cache) }
         ensures wrote { IfOk result (λ ran. HasWritten ran copies.new.cache) }
-        ensures steps { (tx : List Stmt) → (given : List Oref) → Stands schema.now (at_hand schema.now copies.old.cache) tx given (record { doing = self.old.doing; stack = self.old.stack }) (state_with self.old.machine copies.old.written copies.old.cache names.old.names)
-            → OnOk result (self.new.machine.steps ≡ (outcome_of schema.now (at_hand schema.now copies.old.cache) tx given).1.steps) }
+        ensures steps { (tx : List Stmt) → (given : List Oref) → Stands schema.now (at_hand schema.now copies.old.cache) tx given (record { doing = self.old.doing; stack = self.old.stack }) (state_with self.old.progress.machine copies.old.written copies.old.cache names.old.names)
+            → OnOk result (self.new.progress.machine.steps ≡ (outcome_of schema.now (at_hand schema.now copies.old.cache) tx given).1.steps) }
     {
         let work: StepCount<L> = StepCount::new(ledger);
         let (ran, work) = self.go_counted(schema, methods, epoch, copies, names, work);
@@ -224,15 +228,15 @@ impl Paused {
         work: StepCount<L>,
     ) -> (Result<Ran, NoMemory>, StepCount<L>)
         requires known { methods.now ≡ class_methods schema.now.classes }
-        ensures answers { (tx : List Stmt) → (given : List Oref) → Stands schema.now (at_hand schema.now copies.old.cache) tx given (record { doing = self.old.doing; stack = self.old.stack }) (state_with self.old.machine copies.old.written copies.old.cache names.old.names)
+        ensures answers { (tx : List Stmt) → (given : List Oref) → Stands schema.now (at_hand schema.now copies.old.cache) tx given (record { doing = self.old.doing; stack = self.old.stack }) (state_with self.old.progress.machine copies.old.written copies.old.cache names.old.names)
             → IfOk result.0 (λ ran. ran ≡ answer_of epoch schema.now (at_hand schema.now copies.old.cache) tx given) }
-        ensures stands { (tx : List Stmt) → (given : List Oref) → Stands schema.now (at_hand schema.now copies.old.cache) tx given (record { doing = self.old.doing; stack = self.old.stack }) (state_with self.old.machine copies.old.written copies.old.cache names.old.names)
-            → IfOk result.0 (λ ran. AtStop ran (Stands schema.now (at_hand schema.now copies.new.cache) tx given (record { doing = self.new.doing; stack = self.new.stack }) (state_with self.new.machine copies.new.written copies.new.cache names.new.names))) }
+        ensures stands { (tx : List Stmt) → (given : List Oref) → Stands schema.now (at_hand schema.now copies.old.cache) tx given (record { doing = self.old.doing; stack = self.old.stack }) (state_with self.old.progress.machine copies.old.written copies.old.cache names.old.names)
+            → IfOk result.0 (λ ran. AtStop ran (Stands schema.now (at_hand schema.now copies.new.cache) tx given (record { doing = self.new.doing; stack = self.new.stack }) (state_with self.new.progress.machine copies.new.written copies.new.cache names.new.names))) }
         ensures kept { OnOk result.0 (Keeps copies.old.cache copies.new.cache) }
         ensures wrote { IfOk result.0 (λ ran. HasWritten ran copies.new.cache) }
-        ensures steps { (tx : List Stmt) → (given : List Oref) → Stands schema.now (at_hand schema.now copies.old.cache) tx given (record { doing = self.old.doing; stack = self.old.stack }) (state_with self.old.machine copies.old.written copies.old.cache names.old.names)
-            → OnOk result.0 (self.new.machine.steps ≡ (outcome_of schema.now (at_hand schema.now copies.old.cache) tx given).1.steps) }
-        ensures work { OnOk result.0 (result.1 + self.old.machine.steps ≡ work + self.new.machine.steps) }
+        ensures steps { (tx : List Stmt) → (given : List Oref) → Stands schema.now (at_hand schema.now copies.old.cache) tx given (record { doing = self.old.doing; stack = self.old.stack }) (state_with self.old.progress.machine copies.old.written copies.old.cache names.old.names)
+            → OnOk result.0 (self.new.progress.machine.steps ≡ (outcome_of schema.now (at_hand schema.now copies.old.cache) tx given).1.steps) }
+        ensures work { OnOk result.0 (result.1 + self.old.progress.machine.steps ≡ work + self.new.progress.machine.steps) }
     {
         let mut bodies = Bodies { methods, work };
         let ran = self.go_with(schema, epoch, copies, names, &mut bodies);
@@ -250,15 +254,15 @@ impl Paused {
         bodies: &mut Bodies<'_, L>,
     ) -> Result<Ran, NoMemory>
         requires known { bodies.old.methods.now ≡ class_methods schema.now.classes }
-        ensures answers { (tx : List Stmt) → (given : List Oref) → Stands schema.now (at_hand schema.now copies.old.cache) tx given (record { doing = self.old.doing; stack = self.old.stack }) (state_with self.old.machine copies.old.written copies.old.cache names.old.names)
+        ensures answers { (tx : List Stmt) → (given : List Oref) → Stands schema.now (at_hand schema.now copies.old.cache) tx given (record { doing = self.old.doing; stack = self.old.stack }) (state_with self.old.progress.machine copies.old.written copies.old.cache names.old.names)
             → IfOk result (λ ran. ran ≡ answer_of epoch schema.now (at_hand schema.now copies.old.cache) tx given) }
-        ensures stands { (tx : List Stmt) → (given : List Oref) → Stands schema.now (at_hand schema.now copies.old.cache) tx given (record { doing = self.old.doing; stack = self.old.stack }) (state_with self.old.machine copies.old.written copies.old.cache names.old.names)
-            → IfOk result (λ ran. AtStop ran (Stands schema.now (at_hand schema.now copies.new.cache) tx given (record { doing = self.new.doing; stack = self.new.stack }) (state_with self.new.machine copies.new.written copies.new.cache names.new.names))) }
+        ensures stands { (tx : List Stmt) → (given : List Oref) → Stands schema.now (at_hand schema.now copies.old.cache) tx given (record { doing = self.old.doing; stack = self.old.stack }) (state_with self.old.progress.machine copies.old.written copies.old.cache names.old.names)
+            → IfOk result (λ ran. AtStop ran (Stands schema.now (at_hand schema.now copies.new.cache) tx given (record { doing = self.new.doing; stack = self.new.stack }) (state_with self.new.progress.machine copies.new.written copies.new.cache names.new.names))) }
         ensures kept { OnOk result (Keeps copies.old.cache copies.new.cache) }
         ensures wrote { IfOk result (λ ran. HasWritten ran copies.new.cache) }
-        ensures steps { (tx : List Stmt) → (given : List Oref) → Stands schema.now (at_hand schema.now copies.old.cache) tx given (record { doing = self.old.doing; stack = self.old.stack }) (state_with self.old.machine copies.old.written copies.old.cache names.old.names)
-            → OnOk result (self.new.machine.steps ≡ (outcome_of schema.now (at_hand schema.now copies.old.cache) tx given).1.steps) }
-        ensures work { OnOk result (surplus bodies.new.work self.new.machine.steps ≡ surplus bodies.old.work self.old.machine.steps) }
+        ensures steps { (tx : List Stmt) → (given : List Oref) → Stands schema.now (at_hand schema.now copies.old.cache) tx given (record { doing = self.old.doing; stack = self.old.stack }) (state_with self.old.progress.machine copies.old.written copies.old.cache names.old.names)
+            → OnOk result (self.new.progress.machine.steps ≡ (outcome_of schema.now (at_hand schema.now copies.old.cache) tx given).1.steps) }
+        ensures work { OnOk result (surplus bodies.new.work self.new.progress.machine.steps ≡ surplus bodies.old.work self.old.progress.machine.steps) }
     {
         if schema.classes.len() > CLASS_LIMIT {
             return Err(NoMemory);
@@ -274,7 +278,7 @@ impl Paused {
             &mut copies.cache,
             &mut copies.written,
             &mut names.names,
-            &mut self.machine,
+            &mut self.progress,
             bodies,
             &mut self.stack,
             doing,
@@ -285,14 +289,14 @@ impl Paused {
 
     /// What it answers that has ended.
     fn done(&self, copies: &mut Copies, epoch: u32) -> Result<Ran, NoMemory>
-        ensures answers { (names : Names) → (flow : Flow) → IfOk result (λ ran. ran ≡ ran_at epoch (Ok flow) (state_with self.now.machine copies.old.written copies.old.cache names)) }
+        ensures answers { (names : Names) → (flow : Flow) → IfOk result (λ ran. ran ≡ ran_at epoch (Ok flow) (state_with self.now.progress.machine copies.old.written copies.old.cache names)) }
         ensures wrote { IfOk result (λ ran. HasWritten ran copies.new.cache) }
         ensures kept { Keeps copies.old.cache copies.new.cache }
     {
-        let reads = self.machine.reads.names(self.alloc)?;
+        let reads = self.progress.machine.reads.names(self.alloc)?;
         let writes = writes(self.alloc, copies, epoch)?;
-        let printed = self.machine.printed.copy()?;
-        let fresh = self.machine.created.copy()?;
+        let printed = self.progress.machine.printed.copy()?;
+        let fresh = self.progress.machine.created.copy()?;
         Ok(Ran::Done {
             answer: Answer::Ints(printed),
             reads,
@@ -304,11 +308,11 @@ impl Paused {
     /// What it answers that has come to an end or a stop.
     fn answer(&self, copies: &mut Copies, epoch: u32, came: Came) -> Result<Ran, NoMemory>
         ensures answers { (s : Schema) → (f : Oref → Option Object) → (tx : List Stmt) → (given : List Oref) → (l : Left) → (names : Names)
-            → CameTo s f tx given came l (state_with self.now.machine copies.old.written copies.old.cache names)
+            → CameTo s f tx given came l (state_with self.now.progress.machine copies.old.written copies.old.cache names)
             → IfOk result (λ ran. ran ≡ answer_of epoch s f tx given) }
         ensures stands { (s : Schema) → (f : Oref → Option Object) → (tx : List Stmt) → (given : List Oref) → (l : Left) → (names : Names)
-            → CameTo s f tx given came l (state_with self.now.machine copies.old.written copies.old.cache names)
-            → IfOk result (λ ran. AtStop ran (Stands s f tx given l (state_with self.now.machine copies.new.written copies.new.cache names))) }
+            → CameTo s f tx given came l (state_with self.now.progress.machine copies.old.written copies.old.cache names)
+            → IfOk result (λ ran. AtStop ran (Stands s f tx given l (state_with self.now.progress.machine copies.new.written copies.new.cache names))) }
         ensures wrote { IfOk result (λ ran. HasWritten ran copies.new.cache) }
         ensures kept { Keeps copies.old.cache copies.new.cache }
     {
@@ -316,7 +320,7 @@ impl Paused {
             Came::Ended => self.done(copies, epoch),
             Came::Faulted { fault } => Ok(Ran::Done {
                 answer: Answer::Fault(fault),
-                reads: self.machine.reads.names(self.alloc)?,
+                reads: self.progress.machine.reads.names(self.alloc)?,
                 writes: Writes::new(self.alloc),
                 fresh: Orefs::new(self.alloc),
             }),
