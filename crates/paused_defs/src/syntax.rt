@@ -1,8 +1,7 @@
-ghost use Rattle.std.specs.Prelude.{◌≡◌, ◌<◌, ◌+◌, ◌-◌, ◌^◌, [], ◌∷◌, drop, map, IfOk, IsTrue, MatchOption};
+ghost use Rattle.std.specs.Prelude.{◌≡◌, ◌<◌, ◌+◌, ◌-◌, ◌^◌, [], ◌∷◌, drop, map, IfOk, MatchOption};
 ghost use Rattle.paused_defs.specs.Plain.{plain, plain_stmt};
 
 use crate::nodes::{ExprNode, ExprNodes, StmtNode, StmtNodes};
-use crate::sameness::are_stmts;
 use crate::shared::Shared;
 use crate::sharing::stmt_nodes;
 use class_defs::Block;
@@ -206,13 +205,6 @@ impl SharedBlock {
             nodes: stmt_nodes(alloc, block)?,
             from: 0,
         })
-    }
-
-    /// Whether it is all of that block. It may be that it answers no where it is; memory isn't needed.
-    pub fn is(&self, block: &Block) -> bool
-        ensures { IsTrue result → self.now ≡ block.now }
-    {
-        self.from == 0 && are_stmts(self.nodes.get(), block)
     }
 
     /// The block of a node, as its other owner.
