@@ -243,7 +243,8 @@ fn called<L: Ledger>(
         Ok(target) => {
             let none = Values::new(program.alloc);
             collect(
-                program, epoch, cache, progress, bodies, inner, kind, target, method, none, arguments,
+                program, epoch, cache, progress, bodies, inner, kind, target, method, none,
+                arguments,
             )
         }
         Err(unwound) => Err(behind_receiver(unwound, inner, kind, method, arguments)),
@@ -286,9 +287,7 @@ fn collect<L: Ledger>(
                 Ok(value) => done.push(value)?,
                 Err(unwound) => {
                     let rest = SharedExprs::behind(arguments, place)?;
-                    return Err(behind_argument(
-                        unwound, inner, kind, target, method, done, rest,
-                    ));
+                    return Err(behind_argument(unwound, inner, kind, target, method, done, rest));
                 }
             },
         }
@@ -463,7 +462,15 @@ fn run_body<L: Ledger>(
         locals,
     } = go_inside(program, &mut progress.machine, this, method, arguments)?;
     let kind = type_named(program, method.result());
-    match block(program, epoch, cache, progress, bodies, inner, method.body()) {
+    match block(
+        program,
+        epoch,
+        cache,
+        progress,
+        bodies,
+        inner,
+        method.body(),
+    ) {
         Ok(flow) => {
             leave_body(&mut progress.machine, depth, this, locals);
             Ok(ended(kind, flow))

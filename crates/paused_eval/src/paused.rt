@@ -1,5 +1,4 @@
 ghost use Rattle.std.specs.Prelude.{◌≡◌, ◌<◌, ◌+◌, ◌++◌, List, [], Option, Ok, IfOk, OnOk, cond, option_map};
-ghost use Rattle.std.specs.Map.{keys_of};
 ghost use Rattle.thor_value.specs.FiniteMap.{empty, has};
 ghost use Rattle.thor_value.specs.declared.names.Oref.{Oref};
 ghost use Rattle.class_defs.specs.declared.statements.Stmt.{Stmt};
@@ -24,16 +23,14 @@ use crate::bodies::Bodies;
 use crate::came::Came;
 use crate::copies::Copies;
 use crate::granted_names::GrantedNames;
-use crate::kept_texts::KeptTexts;
 use crate::progress::{Progress, begun};
 use crate::running::run_over;
 use crate::written_names::WrittenNames;
-use class_defs::{Block, Flow, Schema};
+use class_defs::{Flow, Schema};
 use client_cache::Cache;
 use method_eval::{Program, Ran};
-use paused_defs::{ClassMethods, Doing, Frame, Stack};
+use paused_defs::{ClassMethods, Doing, Frame, SharedBlock, Stack};
 use std::alloc::Global;
-use std::collections::BTreeMap;
 use std::marker::Brand;
 use std::mem;
 use std::sync::ledger::{Blank, Ledger};
@@ -80,16 +77,16 @@ fn writes_of(
     alloc: Global,
     cache: &mut Cache,
     epoch: u32,
-    names: &BTreeMap<Oref, ()>,
+    names: &[Oref],
 ) -> Result<Writes, NoMemory>
-    requires { AreWritten names.now.entries cache.old }
-    ensures writes { IfOk result (λ writes. writes ≡ stored_at epoch (entries (changed cache.old) (keys_of names.now.entries))) }
+    requires { AreWritten names.now cache.old }
+    ensures writes { IfOk result (λ writes. writes ≡ stored_at epoch (entries (changed cache.old) names.now)) }
     ensures dated { OnOk result (Dates epoch cache.old cache.new) }
     ensures same { SameUndated epoch cache.old cache.new }
     ensures kept { Keeps cache.old cache.new }
 {
     let mut writes = Writes::new(alloc);
-    for oref in names.keys() {
+    for oref in names {
         push_written(cache, epoch, *oref, &mut writes)?;
     }
     Ok(writes)
@@ -102,7 +99,7 @@ fn writes(alloc: Global, copies: &mut Copies, epoch: u32) -> Result<Writes, NoMe
     ensures wrote { IfOk result (λ writes. (x : Oref) → changed copies.new.cache x ≡ last_of writes x) }
     ensures kept { Keeps copies.old.cache copies.new.cache }
 {
-    writes_of(alloc, &mut copies.cache, epoch, copies.written.keys())
+    writes_of(alloc, &mut copies.cache, epoch, copies.written.as_slice())
 }
 
 /// Says what is done next.
@@ -113,18 +110,17 @@ fn set_doing(place: &mut Doing, doing: Doing)
 }
 
 impl Paused {
-    /// Before the first step. It copies the transaction's text, where that isn't the last one of those that are kept,
-    /// and nothing later does.
-    pub fn begin(alloc: Global, tx: &Block, kept: &mut KeptTexts) -> Result<Paused, NoMemory>
+    /// Before the first step. It copies nothing of the transaction's text, and nothing later does.
+    pub fn begin(alloc: Global, text: &SharedBlock) -> Result<Paused, NoMemory>
         ensures stands { IfOk result (λ paused. (s : Schema) → (copies : Copies) → (names : GrantedNames) → copies.written ≡ empty
-            → Stands s (at_hand s copies.cache) tx.now (supply names.names).waiting (record { doing = paused.doing; stack = paused.stack }) (state_with paused.progress.machine copies.written copies.cache names.names)) }
+            → Stands s (at_hand s copies.cache) text.now (supply names.names).waiting (record { doing = paused.doing; stack = paused.stack }) (state_with paused.progress.machine copies.written copies.cache names.names)) }
         ensures begun { IfOk result (λ paused. paused.progress.machine.steps ≡ 0) }
     {
         let mut stack = Stack::with_room(alloc, FRAMES)?;
         stack.push(Frame::BlockEnd { count: 0 })?;
         stack.push(Frame::Rest {
             nested: 100_001,
-            rest: kept.text_of(alloc, tx)?,
+            rest: text.share()?,
         })?;
         Ok(Paused {
             alloc,
