@@ -16,8 +16,8 @@ use method_eval::{Names, Ran, View, eval};
 use method_parse::{parse_block, parse_setup};
 use object_codec::put_obj;
 use page_format::Page;
-use paused_defs::{ClassMethods, class_methods};
-use paused_eval::{Copies, GrantedNames, KeptTexts, Paused};
+use paused_defs::{ClassMethods, SharedBlock, class_methods};
+use paused_eval::{Copies, GrantedNames, Paused};
 use script_text::scan;
 use std::alloc::Global;
 use std::env;
@@ -99,10 +99,10 @@ fn by_go(alloc: Global, schema: &Schema, tx: &Block, count: u32) -> Result<(), F
     copies.write(name_of(1), object(alloc)?)?;
     copies.settle();
     let mut names = GrantedNames::new(alloc);
-    let mut kept = KeptTexts::new();
+    let text = SharedBlock::copy_of(alloc, tx)?;
     let methods = class_methods(alloc, &schema.classes)?;
     for _ in 0..count {
-        let mut run = Paused::begin(alloc, tx, &mut kept)?;
+        let mut run = Paused::begin(alloc, &text)?;
         match run.go(schema, &methods, 0, &mut copies, &mut names)? {
             Ran::Done { .. } => {}
             _ => return Err(Fail::new("not done")),
@@ -155,13 +155,12 @@ fn walk(
     alloc: Global,
     schema: &Schema,
     methods: &ClassMethods,
-    tx: &Block,
+    text: &SharedBlock,
     pages: &Sequence<Text>,
     copies: &mut Copies,
-    kept: &mut KeptTexts,
 ) -> Result<(), Fail> {
     let mut names = GrantedNames::new(alloc);
-    let mut run = Paused::begin(alloc, tx, kept)?;
+    let mut run = Paused::begin(alloc, text)?;
     for _ in 0..2 * NODES_COUNT {
         match run.go(schema, methods, 0, copies, &mut names)? {
             Ran::Done { .. } => return Ok(()),
@@ -186,7 +185,7 @@ fn walks(
         pages.push(node_page(alloc, number)?)?;
     }
     let mut copies = Copies::new(alloc, held)?;
-    let mut kept = KeptTexts::new();
+    let text = SharedBlock::copy_of(alloc, tx)?;
     let methods = class_methods(alloc, &schema.classes)?;
     for _ in 0..count {
         if alone {
@@ -194,7 +193,7 @@ fn walks(
                 place(&mut copies, &pages, number)?;
             }
         } else {
-            walk(alloc, schema, &methods, tx, &pages, &mut copies, &mut kept)?;
+            walk(alloc, schema, &methods, &text, &pages, &mut copies)?;
         }
         copies.evict();
     }

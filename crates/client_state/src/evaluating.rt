@@ -14,11 +14,11 @@ ghost use Rattle.thor_value.specs.declared.values.Obj.{Obj};
 use crate::held::Held;
 use crate::transaction::Transaction;
 use crate::transform::Transform;
-use class_defs::{Block, Schema};
+use class_defs::Schema;
 use item_progress::Opened;
 use lazy_transform::{Wanted, wants};
 use method_eval::Ran;
-use paused_defs::ClassMethods;
+use paused_defs::{ClassMethods, SharedBlock};
 use paused_eval::Paused;
 use thor_value::{Answer, NoMemory, Oref, Orefs, Writes};
 use upgrade_eval::schema_at;
@@ -47,11 +47,8 @@ impl Held {
     }
 
     /// The evaluation of a transaction before its first step.
-    pub fn begin(&mut self, tx: &Block) -> Result<Paused, NoMemory>
-        ensures same { HoldsSame self.old self.new }
-        ensures bounds { KeepsBounds self.old self.new }
-    {
-        Paused::begin(self.alloc, tx, &mut self.texts)
+    pub fn begin(&self, text: &SharedBlock) -> Result<Paused, NoMemory> {
+        Paused::begin(self.alloc, text)
     }
 
     /// The transaction of an evaluation that has ended. What a fault has changed is given up.

@@ -21,7 +21,7 @@ use crate::link::{Link, Waits};
 use client_cache::Looked;
 use item_progress::Opened;
 use message_outbox::At;
-use paused_eval::{Copies, GrantedNames, KeptTexts};
+use paused_eval::{Copies, GrantedNames};
 use std::alloc::Global;
 use std::mem;
 use thor_value::{NoMemory, Obj, Oref, Repos, Text, TryCopy, Ts};
@@ -41,8 +41,6 @@ pub struct Held {
     pub links: Vec<Link>,
     pub cache: Copies,
     pub names: GrantedNames,
-    /// Texts that it has evaluated.
-    pub texts: KeptTexts,
     /// The greatest epoch that the client has learnt of.
     pub learnt: u32,
     /// The times of its commits and transforms, of the thresholds that it was told, and of the
@@ -65,7 +63,6 @@ impl Held {
             links,
             cache: Copies::new(alloc, pages)?,
             names: GrantedNames::new(alloc),
-            texts: KeptTexts::new(),
             learnt: 0,
             floor: 0,
         })

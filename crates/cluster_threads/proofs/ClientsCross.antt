@@ -19,7 +19,7 @@ use Rattle.item_progress.specs.contracts.opened.Opened as Opened
 use Rattle.item_progress.specs.contracts.progress.Progress as Progress
 use Rattle.paused_eval.proofs.copies.Copies.TheSendSync as copies
 use Rattle.paused_eval.proofs.granted_names.GrantedNames.TheSendSync as granted_names
-use Rattle.cluster_threads.proofs.RunsCross.{epoch_methods_sync, kept_texts_send, paused_send}
+use Rattle.cluster_threads.proofs.RunsCross.{epoch_methods_sync, paused_send, shared_block_send}
 use Rattle.cluster_threads.proofs.TreesCross.{schemas_sync, stmt_send, upgrade_send}
 
 ruleset base = (sequence.the_send, sequence.the_sync, sendable)
@@ -28,7 +28,7 @@ pub what_send : IsSend (What.the_field).row
 what_send = search (stmt_send, upgrade_send, base) depth 30
 
 pub progress_send : IsSend Progress.the_row
-progress_send = search (what_send, ended.the_send, base) depth 30
+progress_send = search (what_send, ended.the_send, shared_block_send, base) depth 30
 
 pub opened_sync : IsSync Opened.the_row
 opened_sync = search (schemas_sync, epoch_methods_sync, base) depth 30
@@ -37,7 +37,7 @@ pub phase_send : IsSend (Phase.the_field).row
 phase_send = search (paused_send, sent.the_field_send, transaction.the_field_send, transform.the_field_send, at.the_field_send, oref.the_send, ts.the_field_send, base) depth 30
 
 pub held_send : IsSend (Held.the_field).row
-held_send = search (link.the_send, copies.the_field_send, granted_names.the_field_send, kept_texts_send, base, crosses) depth 30
+held_send = search (link.the_send, copies.the_field_send, granted_names.the_field_send, base, crosses) depth 30
 
 pub front_end_send : IsSend FrontEnd.the_row
 front_end_send = search (held_send, duties.the_field_send, phase_send, progress_send, base) depth 30

@@ -30,7 +30,6 @@ use Rattle.paused_defs.specs.contracts.syntax.SharedBlock as SharedBlock
 use Rattle.paused_defs.specs.contracts.syntax.SharedExpr as SharedExpr
 use Rattle.paused_defs.specs.contracts.syntax.SharedExprs as SharedExprs
 use Rattle.paused_defs.specs.contracts.syntax.SharedStmt as SharedStmt
-use Rattle.paused_eval.specs.contracts.kept_texts.KeptTexts as KeptTexts
 use Rattle.paused_eval.specs.contracts.paused.Paused as Paused
 use Rattle.cluster_threads.proofs.TreesCross.{name_sync, parameter_sync, type_name_send, type_name_sync}
 
@@ -99,14 +98,8 @@ frame_send = enum_send (shape Frame.the_type) (tt, ((search base, (operator.the_
 pub paused_send : IsSend (Paused.the_field).row
 paused_send = search (doing_send, frame_send, stack.the_send, leaves, base, crosses) depth 30
 
-pub kept_texts_send : IsSend (KeptTexts.the_field).row
-kept_texts_send = search (shared_block_send, base) depth 30
-
-pub shared_block_field_sync : IsSync (SharedBlock.the_field).row
-shared_block_field_sync = search (stmt_nodes_send, stmt_nodes_sync, base) depth 30
-
 pub shared_method_sync : IsSync SharedMethod.the_row
-shared_method_sync = search (parameter_sync, type_name_sync, name_sync, shared_block_field_sync, base) depth 30
+shared_method_sync = search (parameter_sync, type_name_sync, name_sync, stmt_nodes_send, stmt_nodes_sync, base) depth 30
 
 pub epoch_methods_sync : IsSync (EpochMethods.the_field).row
 epoch_methods_sync = search (shared_method_sync, base) depth 30

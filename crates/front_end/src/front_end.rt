@@ -72,9 +72,10 @@ impl FrontEnd {
         requires cache { 0 < cache }
         ensures { IfOk result (λ made. course_of made ≡ record { client = client; count = length items; ended = [] }) }
     {
+        let progress = Progress::new(alloc, client, items)?;
         Ok(FrontEnd {
             client: Client::new(alloc, client, cache)?,
-            progress: Progress::new(alloc, client, items),
+            progress,
             attempts: Attempts::new(tries),
         })
     }

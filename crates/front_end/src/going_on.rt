@@ -12,9 +12,8 @@ ghost use Rattle.std.specs.Prelude.{OnOk, None, ◌≡◌};
 
 use crate::client::Client;
 use client_state::{Phase, Transaction};
-use item_progress::{News, Opened, Task};
+use item_progress::{Asked, News, Opened, Task};
 use port::Port;
-use serial_model::What;
 use thor_value::NoMemory;
 use upgrade_defs::print_upgrade;
 
@@ -77,11 +76,11 @@ impl Client {
     {
         let alloc = self.held.alloc;
         match task.what {
-            Some(What::Tx(block)) => {
-                let run = self.held.begin(block)?;
+            Some(Asked::Tx(text)) => {
+                let run = self.held.begin(text)?;
                 self.evaluate(port, opened, run)
             }
-            Some(What::Upgrade(upgrade)) => {
+            Some(Asked::Upgrade(upgrade)) => {
                 let text = print_upgrade(alloc, upgrade)?;
                 let transaction = Transaction::upgrade(task.number, text, opened.repos)?;
                 self.held.undo();

@@ -2,3 +2,4 @@ pub mod Falling
 mod Orders
 mod Places
 mod Settling
+mod Texts

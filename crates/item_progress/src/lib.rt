@@ -10,6 +10,6 @@ mod progress;
 
 pub use attempts::Attempts;
 pub use meaning::Meaning;
-pub use news::{Learnt, News, Settled, Task};
+pub use news::{Asked, Learnt, News, Settled, Task};
 pub use opened::{Items, Opened};
 pub use progress::Progress;

@@ -2,7 +2,9 @@
 
 ghost use Rattle.item_progress.specs.Courses.{IsLateOutcome};
 
-use serial_model::{Cause, ItemOutcome, What};
+use class_defs::Upgrade;
+use paused_defs::SharedBlock;
+use serial_model::{Cause, ItemOutcome};
 use thor_value::{Ts, Who};
 
 /// An item that was held as Unknown has ended.
@@ -37,13 +39,22 @@ pub enum News {
     Settled { settled: Settled },
 }
 
+/// What an item asks for.
+#[derive(Clone, Copy)]
+pub enum Asked<'a> {
+    /// A transaction, by its text.
+    Tx(&'a SharedBlock),
+    /// An upgrade of classes.
+    Upgrade(&'a Upgrade),
+}
+
 /// What a client is to do.
 #[derive(Clone, Copy)]
 pub struct Task<'a> {
     /// The present item.
     pub who: Who,
     /// What it asks for; nothing where no item is left.
-    pub what: Option<&'a What>,
+    pub what: Option<Asked<'a>>,
     /// The number that it gets where it is an upgrade.
     pub number: u32,
     /// How many tries an item has.

@@ -3,6 +3,5 @@ pub mod AlikeMoves
 pub mod MoreNames
 pub mod MoreCreated
 pub mod Reaching
-pub mod Alike
 pub mod Drops
 pub mod Falling

@@ -5,7 +5,6 @@ mod frames;
 mod laws;
 mod methods;
 mod nodes;
-mod sameness;
 mod shared;
 mod sharing;
 mod stack;

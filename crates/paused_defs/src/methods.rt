@@ -4,8 +4,11 @@ ghost use Rattle.std.specs.Prelude.{◌≡◌, find, map, option_and_then, slice
 ghost use Rattle.std.specs.Option.{option_copied};
 ghost use Rattle.std.specs.Str.{bytes_eq};
 ghost use Rattle.paused_defs.specs.Methods.{AreMethodsOf, class_methods, methods_at};
+ghost use Rattle.paused_defs.specs.Plain.{plain_stmt};
 
-use crate::syntax::SharedBlock;
+use crate::nodes::StmtNodes;
+use crate::shared::Shared;
+use crate::sharing::stmt_nodes;
 use class_defs::{Classes, Method, Methods, Name, Parameters, Schemas, TypeName, UpgradedSchemas};
 use std::alloc::Global;
 use std::marker::Model;
@@ -17,19 +20,21 @@ pub struct SharedMethod {
     result: TypeName,
     name: Name,
     parameters: Parameters,
-    body: SharedBlock,
+    body: Shared<StmtNodes>,
 }
 
 impl Model for SharedMethod {
     ghost use Rattle.std.specs.Coded.{codes};
+    ghost use Rattle.std.specs.Prelude.{map};
     ghost use Rattle.class_defs.specs.contracts.classes.Method as method;
     ghost use Rattle.class_defs.specs.declared.classes.Method.{Method};
+    ghost use Rattle.paused_defs.specs.Plain.{plain_stmt};
 
     ghost Value = { Method };
 
     ghost coded = { Prim.hlevel (codes, method.the_row.coded) };
 
-    ghost view = { λ m. record { result = m.result; name = m.name; parameters = m.parameters; body = m.body } };
+    ghost view = { λ m. record { result = m.result; name = m.name; parameters = m.parameters; body = map plain_stmt m.body } };
 }
 
 impl SharedMethod {
@@ -41,7 +46,7 @@ impl SharedMethod {
             result: method.result.copy()?,
             name: method.name.copy()?,
             parameters: method.parameters.copy()?,
-            body: SharedBlock::copy_of(alloc, &method.body)?,
+            body: stmt_nodes(alloc, &method.body)?,
         })
     }
 
@@ -58,11 +63,11 @@ impl SharedMethod {
         &self.parameters
     }
 
-    /// Its body, as another owner. It copies nothing.
-    pub fn body(&self) -> Result<SharedBlock, NoMemory>
-        ensures { IfOk result (λ body. body ≡ self.now.body) }
+    /// Its body, with its owners.
+    pub fn body(&self) -> &Shared<StmtNodes>
+        ensures { map plain_stmt result.now ≡ self.now.body }
     {
-        self.body.share()
+        &self.body
     }
 
     /// Whether this is its name.

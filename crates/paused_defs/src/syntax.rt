@@ -1,8 +1,7 @@
-ghost use Rattle.std.specs.Prelude.{◌≡◌, [], ◌∷◌, drop, map, IfOk, IsTrue, MatchOption};
+ghost use Rattle.std.specs.Prelude.{◌≡◌, ◌<◌, ◌+◌, ◌-◌, ◌^◌, [], ◌∷◌, drop, map, IfOk, MatchOption};
 ghost use Rattle.paused_defs.specs.Plain.{plain, plain_stmt};
 
 use crate::nodes::{ExprNode, ExprNodes, StmtNode, StmtNodes};
-use crate::sameness::are_stmts;
 use crate::shared::Shared;
 use crate::sharing::stmt_nodes;
 use class_defs::Block;
@@ -135,6 +134,25 @@ impl SharedExprs {
         })
     }
 
+    /// The expression of a node at a place, with its owners.
+    #[tactic(auto, using(crate::proofs::Drops::dropped, crate::proofs::Drops::none_there))]
+    pub fn at(nodes: &Shared<ExprNodes>, place: usize) -> Option<&Shared<ExprNode>>
+        ensures { MatchOption result (map plain (drop place nodes.now) ≡ []) (λ node. map plain (drop place nodes.now) ≡ plain node.now ∷ map plain (drop (place + 1) nodes.now)) }
+    {
+        nodes.get().get(place)
+    }
+
+    /// The expressions of a node behind a place, as their other owner.
+    pub fn behind(nodes: &Shared<ExprNodes>, place: usize) -> Result<SharedExprs, NoMemory>
+        requires { place < 2 ^ 64 - 1 }
+        ensures { IfOk result (λ exprs. exprs ≡ map plain (drop (place + 1) nodes.now)) }
+    {
+        Ok(SharedExprs {
+            nodes: nodes.share()?,
+            from: place + 1,
+        })
+    }
+
     /// The first, with those behind it.
     #[tactic(auto, using(crate::proofs::Drops::drops))]
     pub fn split_first(self) -> Result<Option<(SharedExpr, SharedExprs)>, NoMemory>
@@ -189,13 +207,6 @@ impl SharedBlock {
         })
     }
 
-    /// Whether it is all of that block. It may be that it answers no where it is; memory isn't needed.
-    pub fn is(&self, block: &Block) -> bool
-        ensures { IsTrue result → self.now ≡ block.now }
-    {
-        self.from == 0 && are_stmts(self.nodes.get(), block)
-    }
-
     /// The block of a node, as its other owner.
     pub fn of(nodes: &Shared<StmtNodes>) -> Result<SharedBlock, NoMemory>
         ensures { IfOk result (λ block. block ≡ map plain_stmt nodes.now) }
@@ -203,6 +214,25 @@ impl SharedBlock {
         Ok(SharedBlock {
             nodes: nodes.share()?,
             from: 0,
+        })
+    }
+
+    /// The statement of a block at a place, with its owners.
+    #[tactic(auto, using(crate::proofs::Drops::dropped, crate::proofs::Drops::none_there))]
+    pub fn at(nodes: &Shared<StmtNodes>, place: usize) -> Option<&Shared<StmtNode>>
+        ensures { MatchOption result (map plain_stmt (drop place nodes.now) ≡ []) (λ node. map plain_stmt (drop place nodes.now) ≡ plain_stmt node.now ∷ map plain_stmt (drop (place + 1) nodes.now)) }
+    {
+        nodes.get().get(place)
+    }
+
+    /// The statements of a block behind a place, as their other owner.
+    pub fn behind(nodes: &Shared<StmtNodes>, place: usize) -> Result<SharedBlock, NoMemory>
+        requires { place < 2 ^ 64 - 1 }
+        ensures { IfOk result (λ block. block ≡ map plain_stmt (drop (place + 1) nodes.now)) }
+    {
+        Ok(SharedBlock {
+            nodes: nodes.share()?,
+            from: place + 1,
         })
     }
 

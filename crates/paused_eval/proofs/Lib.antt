@@ -7,6 +7,7 @@ pub mod Hands
 pub mod Later
 pub mod Lifting
 pub mod Methods
+mod NameLists
 pub mod Nested
 pub mod Nodes
 pub mod Standing

@@ -64,11 +64,11 @@ not_written : (ver : ℕ) (o : Option Obj) → is_some o ≡ false → option_ma
 not_written ver None h = refl
 not_written ver (Some o) h = cc
 
-pub begins : (ver : ℕ) (names : List (Oref × Unit {0})) (c : Contents) → AreWritten names c → Dating ver c c (keys_of names)
+pub begins : (ver : ℕ) (names : List Oref) (c : Contents) → AreWritten names c → Dating ver c c names
 begins ver names c w = record {
   kept = λ x. refl;
   same = record { same = λ x. refl };
-  done = λ x h. not_written ver (changed c x) (w.marked x ∙ (is_some-lookup (is_at (oref_cmp x)) names ∙ h));
+  done = λ x h. not_written ver (changed c x) (w.marked x ∙ h);
 }
 
 module _ (ver : ℕ) (old cur new : Contents) (y : Oref) (rest : List Oref) (d : Dating ver old cur (y ∷ rest))
@@ -152,18 +152,15 @@ still_tied ver w old new t s = record {
   within = t.within;
 }
 
-pub tied_names : (w : Set oref_cmp) (c : Contents) (names : List (Oref × Unit {0})) → Tied w c → keys_of names ≡ keys w → AreWritten names c
+pub tied_names : (w : Set oref_cmp) (c : Contents) (names : List Oref) → Tied w c → names ≡ keys w → AreWritten names c
 tied_names w c names t e = record {
-  marked = λ x. t.marked x
-      ∙ (is_some-lookup (is_at (oref_cmp x)) w.pairs
-      ∙ (ap (λ (ks : List Oref). list_any (is_at (oref_cmp x)) ks) (sym e)
-      ∙ sym (is_some-lookup (is_at (oref_cmp x)) names)));
+  marked = λ x. t.marked x ∙ (is_some-lookup (is_at (oref_cmp x)) w.pairs ∙ ap (λ (ks : List Oref). list_any (is_at (oref_cmp x)) ks) (sym e));
 }
 
 -- ---- what the function answers
 
-pub by_names : {E : Type 0} (r : Result (List (Oref × Obj)) E) (epoch : ℕ) (w : Set oref_cmp) (c : Contents) (names : List (Oref × Unit {0})) → keys_of names ≡ keys w
-    → IfOk r (λ ws. ws ≡ stored_at epoch (entries (changed c) (keys_of names))) → IfOk r (λ ws. ws ≡ stored_at epoch (written_in w c).pairs)
+pub by_names : {E : Type 0} (r : Result (List (Oref × Obj)) E) (epoch : ℕ) (w : Set oref_cmp) (c : Contents) (names : List Oref) → names ≡ keys w
+    → IfOk r (λ ws. ws ≡ stored_at epoch (entries (changed c) names)) → IfOk r (λ ws. ws ≡ stored_at epoch (written_in w c).pairs)
 unfolding written_in
 by_names (Ok ws) epoch w c names e h = h ∙ ap (λ (ks : List Oref). stored_at epoch (entries (changed c) ks)) e
 by_names (Err e) epoch w c names same h = tt

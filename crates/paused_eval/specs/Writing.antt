@@ -1,6 +1,6 @@
 -- What a try has written, as its answer lists it (this project's).
 use Rattle.std.specs.BTreeMap.{is_at}
-use Rattle.std.specs.Map.{lookup}
+use Rattle.std.specs.List.{list_any}
 use Rattle.std.specs.Prelude.{List, [], is_some, option_map, ℕ, ◌≡◌}
 use Rattle.client_cache.specs.Copies.{Contents, changed}
 use Rattle.client_cache.specs.Slots.{dated}
@@ -14,8 +14,8 @@ use Rattle.thor_value.specs.declared.values.Answer.{Answer}
 use Rattle.thor_value.specs.declared.values.Obj.{Obj}
 
 -- The names are those of the objects that the try has written.
-pub record AreWritten (names : List (Oref × Unit {0})) (c : Contents) : Type 0 where
-  pub marked : (x : Oref) → is_some (changed c x) ≡ is_some (lookup (is_at (oref_cmp x)) names)
+pub record AreWritten (names : List Oref) (c : Contents) : Type 0 where
+  pub marked : (x : Oref) → is_some (changed c x) ≡ list_any (is_at (oref_cmp x)) names
 
 -- What the try has written is the same, and is of this version.
 pub record Dates (ver : ℕ) (old new : Contents) : Type 0 where

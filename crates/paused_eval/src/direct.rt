@@ -242,9 +242,9 @@ fn called<L: Ledger>(
     match value_of(program, epoch, cache, progress, bodies, inner, receiver) {
         Ok(target) => {
             let none = Values::new(program.alloc);
-            let rest = SharedExprs::of(arguments)?;
             collect(
-                program, epoch, cache, progress, bodies, inner, kind, target, method, none, rest,
+                program, epoch, cache, progress, bodies, inner, kind, target, method, none,
+                arguments,
             )
         }
         Err(unwound) => Err(behind_receiver(unwound, inner, kind, method, arguments)),
@@ -265,46 +265,31 @@ fn collect<L: Ledger>(
     target: Value,
     method: &Shared<Text>,
     none: Values,
-    arguments: SharedExprs,
+    arguments: &Shared<ExprNodes>,
 ) -> Result<Value, Unwound>
     requires tied { Tied progress.old.written cache.old }
     requires known { bodies.old.methods.now ≡ class_methods program.now.schema.now.classes }
-    ensures does { Directs result (state progress.new cache.new) (spec.collect (on program.now.schema.now cache.old) inner (directly (on program.now.schema.now cache.old) inner) kind target method.now none arguments (state progress.old cache.old)) }
+    ensures does { Directs result (state progress.new cache.new) (spec.collect (on program.now.schema.now cache.old) inner (directly (on program.now.schema.now cache.old) inner) kind target method.now none (map plain arguments.now) (state progress.old cache.old)) }
     ensures tied { Lasts result (Tied progress.new.written cache.new) }
     ensures kept { Lasts result (Keeps cache.old cache.new) }
     ensures known { bodies.new.methods.now ≡ class_methods program.now.schema.now.classes }
     ensures work { Lasts result (surplus bodies.new.work progress.new.machine.steps ≡ surplus bodies.old.work progress.old.machine.steps) }
 {
     let mut done = none;
-    let mut left = arguments;
-    for _ in 0..u64::MAX {
-        match left.split_first()? {
+    for place in 0..usize::MAX {
+        match SharedExprs::at(arguments, place) {
             None => {
                 return ready(
                     program, epoch, cache, progress, bodies, inner, kind, target, method, done,
                 );
             }
-            Some((expr, rest)) => {
-                match value_of(
-                    program,
-                    epoch,
-                    cache,
-                    progress,
-                    bodies,
-                    inner,
-                    expr.shared(),
-                ) {
-                    Ok(value) => {
-                        done.push(value)?;
-                        left = rest;
-                    }
-                    Err(unwound) => {
-                        return Err(behind_argument(
-                            unwound, inner, kind, target, method, done, rest,
-                        ));
-                    }
+            Some(expr) => match value_of(program, epoch, cache, progress, bodies, inner, expr) {
+                Ok(value) => done.push(value)?,
+                Err(unwound) => {
+                    let rest = SharedExprs::behind(arguments, place)?;
+                    return Err(behind_argument(unwound, inner, kind, target, method, done, rest));
                 }
-            }
+            },
         }
     }
     Err(Unwound::NoMemory)
@@ -471,14 +456,21 @@ fn run_body<L: Ledger>(
     ensures known { bodies.new.methods.now ≡ class_methods program.now.schema.now.classes }
     ensures work { Lasts result (surplus bodies.new.work progress.new.machine.steps ≡ surplus bodies.old.work progress.old.machine.steps) }
 {
-    let body = method.body()?;
     let Outside {
         depth,
         this,
         locals,
     } = go_inside(program, &mut progress.machine, this, method, arguments)?;
     let kind = type_named(program, method.result());
-    match block(program, epoch, cache, progress, bodies, inner, body) {
+    match block(
+        program,
+        epoch,
+        cache,
+        progress,
+        bodies,
+        inner,
+        method.body(),
+    ) {
         Ok(flow) => {
             leave_body(&mut progress.machine, depth, this, locals);
             Ok(ended(kind, flow))

@@ -37,11 +37,11 @@ pub fn block<L: Ledger>(
     progress: &mut Progress,
     bodies: &mut Bodies<'_, L>,
     inner: u32,
-    stmts: SharedBlock,
+    stmts: &Shared<StmtNodes>,
 ) -> Result<Flow, Unwound>
     requires tied { Tied progress.old.written cache.old }
     requires known { bodies.old.methods.now ≡ class_methods program.now.schema.now.classes }
-    ensures does { Directs result (state progress.new cache.new) (spec.block (on program.now.schema.now cache.old) inner (directly (on program.now.schema.now cache.old) inner) stmts (state progress.old cache.old)) }
+    ensures does { Directs result (state progress.new cache.new) (spec.block (on program.now.schema.now cache.old) inner (directly (on program.now.schema.now cache.old) inner) (map plain_stmt stmts.now) (state progress.old cache.old)) }
     ensures tied { Lasts result (Tied progress.new.written cache.new) }
     ensures kept { Lasts result (Keeps cache.old cache.new) }
     ensures known { bodies.new.methods.now ≡ class_methods program.now.schema.now.classes }
@@ -67,26 +67,25 @@ fn in_order<L: Ledger>(
     progress: &mut Progress,
     bodies: &mut Bodies<'_, L>,
     inner: u32,
-    stmts: SharedBlock,
+    stmts: &Shared<StmtNodes>,
 ) -> Result<Flow, Unwound>
     requires tied { Tied progress.old.written cache.old }
     requires known { bodies.old.methods.now ≡ class_methods program.now.schema.now.classes }
-    ensures does { Directs result (state progress.new cache.new) (spec.in_order (on program.now.schema.now cache.old) inner (directly (on program.now.schema.now cache.old) inner) stmts (state progress.old cache.old)) }
+    ensures does { Directs result (state progress.new cache.new) (spec.in_order (on program.now.schema.now cache.old) inner (directly (on program.now.schema.now cache.old) inner) (map plain_stmt stmts.now) (state progress.old cache.old)) }
     ensures tied { Lasts result (Tied progress.new.written cache.new) }
     ensures kept { Lasts result (Keeps cache.old cache.new) }
     ensures known { bodies.new.methods.now ≡ class_methods program.now.schema.now.classes }
     ensures work { Lasts result (surplus bodies.new.work progress.new.machine.steps ≡ surplus bodies.old.work progress.old.machine.steps) }
 {
-    let mut left = stmts;
-    for _ in 0..u64::MAX {
-        match left.first() {
+    for place in 0..usize::MAX {
+        match SharedBlock::at(stmts, place) {
             None => return Ok(Flow::Next),
             Some(stmt) => match execute(program, epoch, cache, progress, bodies, inner, stmt) {
-                Ok(Flow::Next) => left.drop_first(),
+                Ok(Flow::Next) => {}
                 Ok(Flow::Returned(value)) => return Ok(Flow::Returned(value)),
                 Err(unwound) => {
-                    left.drop_first();
-                    return Err(behind_statement(unwound, inner, left));
+                    let rest = SharedBlock::behind(stmts, place)?;
+                    return Err(behind_statement(unwound, inner, rest));
                 }
             },
         }
@@ -213,8 +212,7 @@ fn effect<L: Ledger>(
         StmtNode::Return { .. } => Ok(Flow::Returned(value)),
         StmtNode::If { then, .. } => {
             if holds(value) {
-                let stmts = SharedBlock::of(then)?;
-                block(program, epoch, cache, progress, bodies, inner, stmts)
+                block(program, epoch, cache, progress, bodies, inner, then)
             } else {
                 Ok(Flow::Next)
             }
@@ -225,11 +223,9 @@ fn effect<L: Ledger>(
             ..
         } => {
             if holds(value) {
-                let stmts = SharedBlock::of(then)?;
-                block(program, epoch, cache, progress, bodies, inner, stmts)
+                block(program, epoch, cache, progress, bodies, inner, then)
             } else {
-                let stmts = SharedBlock::of(otherwise)?;
-                block(program, epoch, cache, progress, bodies, inner, stmts)
+                block(program, epoch, cache, progress, bodies, inner, otherwise)
             }
         }
         StmtNode::While { condition, body } => {
@@ -267,8 +263,7 @@ fn turn_body<L: Ledger>(
     ensures known { bodies.new.methods.now ≡ class_methods program.now.schema.now.classes }
     ensures work { Lasts result (surplus bodies.new.work progress.new.machine.steps ≡ surplus bodies.old.work progress.old.machine.steps) }
 {
-    let stmts = SharedBlock::of(body)?;
-    match block(program, epoch, cache, progress, bodies, inner, stmts) {
+    match block(program, epoch, cache, progress, bodies, inner, body) {
         Ok(flow) => Ok(flow),
         Err(unwound) => Err(behind_turn(unwound, inner, turns, condition, body)),
     }

@@ -16,7 +16,7 @@ use crate::progress::Progress;
 use class_defs::{DEPTH_LIMIT, Machine, Receiver};
 use client_cache::Cache;
 use method_eval::{Halt, Program, bound, fault, owners_at, type_named};
-use paused_defs::{Doing, Frame, Shared, SharedMethod, Stack};
+use paused_defs::{Doing, Frame, Shared, SharedBlock, SharedMethod, Stack};
 use std::mem;
 use std::sync::ledger::Ledger;
 use thor_value::{Fault, Oref, Text, Values};
@@ -36,7 +36,7 @@ fn open_body(
     ensures steps { machine.new.steps ≡ machine.old.steps }
 {
     let locals = bound(program, method.parameters(), arguments)?;
-    let body = method.body()?;
+    let body = SharedBlock::of(method.body())?;
     let depth = machine.depth;
     let caller_locals = mem::replace(&mut machine.locals, locals);
     let caller = mem::replace(&mut machine.this, Some(this));

@@ -9,7 +9,6 @@ mod direct;
 mod direct_statements;
 mod entering;
 mod granted_names;
-mod kept_texts;
 mod laws;
 mod moved;
 mod moves;
@@ -27,6 +26,5 @@ mod written_names;
 
 pub use copies::Copies;
 pub use granted_names::GrantedNames;
-pub use kept_texts::KeptTexts;
 pub use laws::what_stands_goes_on_later;
 pub use paused::Paused;

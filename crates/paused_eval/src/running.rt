@@ -1,4 +1,5 @@
 ghost use Rattle.std.specs.Prelude.{◌≡◌, List, IfOk, OnOk};
+ghost use Rattle.thor_value.specs.FiniteMap.{empty};
 ghost use Rattle.thor_value.specs.declared.names.Oref.{Oref};
 ghost use Rattle.class_defs.specs.declared.statements.Stmt.{Stmt};
 ghost use Rattle.paused_defs.specs.Methods.{class_methods};
@@ -11,10 +12,10 @@ use crate::ahead::ahead;
 use crate::bodies::Bodies;
 use crate::came::Came;
 use crate::moved::Moved;
-use crate::progress::{Progress, begun};
+use crate::progress::Progress;
 use crate::small::small;
 use crate::written_names::WrittenNames;
-use class_defs::{Flow, Machine, Stop};
+use class_defs::{Flow, Stop};
 use client_cache::Cache;
 use method_eval::{Halt, Names, Program};
 use paused_defs::{Doing, Frame, Stack};
@@ -106,17 +107,14 @@ fn run<L: Ledger>(
     ))
 }
 
-/// A run's state is put back where it was taken.
-fn give_back(machine: &mut Machine, written: &mut WrittenNames, progress: Progress)
-    ensures machine { machine.new ≡ progress.machine }
-    ensures written { written.new ≡ progress.written }
+/// The names that are written are moved from one place to another.
+fn move_names(from: &mut WrittenNames, to: &mut WrittenNames, none: WrittenNames)
+    requires { none ≡ empty }
+    ensures from { from.new ≡ empty }
+    ensures to { to.new ≡ from.old }
 {
-    let Progress {
-        machine: left,
-        written: names,
-    } = progress;
-    drop(mem::replace(machine, left));
-    drop(mem::replace(written, names));
+    let names = mem::replace(from, none);
+    drop(mem::replace(to, names));
 }
 
 /// The same over a client's copies and names. After `NoMemory` what the try has written is given up.
@@ -127,7 +125,7 @@ pub fn run_over<L: Ledger>(
     cache: &mut Cache,
     written: &mut WrittenNames,
     names: &mut Names,
-    machine: &mut Machine,
+    progress: &mut Progress,
     bodies: &mut Bodies<'_, L>,
     stack: &mut Stack<Frame>,
     begun_with: Doing,
@@ -135,34 +133,23 @@ pub fn run_over<L: Ledger>(
     requires tied { Tied written.old cache.old }
     requires names { FromPages names.old }
     requires known { bodies.old.methods.now ≡ class_methods program.now.schema.now.classes }
-    ensures answers { (tx : List Stmt) → (given : List Oref) → Stands program.now.schema.now (at_hand program.now.schema.now cache.old) tx given (record { doing = begun_with; stack = stack.old }) (state_with machine.old written.old cache.old names.old)
-        → IfOk result (λ ran. CameTo program.now.schema.now (at_hand program.now.schema.now cache.old) tx given ran.0 (record { doing = ran.1; stack = stack.new }) (state_with machine.new written.new cache.new names.new)) }
+    ensures answers { (tx : List Stmt) → (given : List Oref) → Stands program.now.schema.now (at_hand program.now.schema.now cache.old) tx given (record { doing = begun_with; stack = stack.old }) (state_with progress.old.machine written.old cache.old names.old)
+        → IfOk result (λ ran. CameTo program.now.schema.now (at_hand program.now.schema.now cache.old) tx given ran.0 (record { doing = ran.1; stack = stack.new }) (state_with progress.new.machine written.new cache.new names.new)) }
     ensures tied { Tied written.new cache.new }
     ensures kept { OnOk result (Keeps cache.old cache.new) }
     ensures names { FromPages names.new }
-    ensures work { OnOk result (surplus bodies.new.work machine.new.steps ≡ surplus bodies.old.work machine.old.steps) }
+    ensures work { OnOk result (surplus bodies.new.work progress.new.machine.steps ≡ surplus bodies.old.work progress.old.machine.steps) }
 {
     let alloc = program.alloc;
-    let mut progress = Progress {
-        machine: mem::replace(machine, begun(alloc)),
-        written: mem::replace(written, WrittenNames::new(alloc)),
-    };
+    move_names(written, &mut progress.written, WrittenNames::new(alloc));
     match run(
-        program,
-        epoch,
-        cache,
-        names,
-        &mut progress,
-        bodies,
-        stack,
-        begun_with,
+        program, epoch, cache, names, progress, bodies, stack, begun_with,
     ) {
         Ok(ended) => {
-            give_back(machine, written, progress);
+            move_names(&mut progress.written, written, WrittenNames::new(alloc));
             Ok(ended)
         }
         Err(NoMemory) => {
-            drop(progress);
             cache.undo();
             Err(NoMemory)
         }

@@ -1,4 +1,4 @@
-use Rattle.std.proofs.Common.{◌≡◌, ◌-◌, ◌∷◌, map, ap, refl, sym, ◌∙◌}
+use Rattle.std.proofs.Common.{◌≡◌, ◌+◌, ◌-◌, List, ◌∷◌, drop, map, ap, refl, sym, ◌∙◌}
 use Rattle.class_defs.specs.declared.expressions.Expr.{Expr, out-Expr}
 use Rattle.class_defs.specs.declared.statements.Stmt.{out-Stmt}
 use Rattle.paused_defs.specs.Plain.{plain, plain_stmt}
@@ -10,15 +10,15 @@ use Rattle.paused_eval.specs.Direct as spec
 use Rattle.paused_eval.specs.Direct.{directly, on}
 use Rattle.paused_eval.proofs.+direct.Goals as goal
 
-pub direct::called-returns-in_ok-rest-in-Ok-clause-does : goal.direct::called-returns-in_ok-rest-in-Ok-clause-does
-direct::called-returns-in_ok-rest-in-Ok-clause-does g t c =
+pub direct::called-returns-in-Ok-clause-does : goal.direct::called-returns-in-Ok-clause-does
+direct::called-returns-in-Ok-clause-does g t c =
     let s = c.args.program.now.schema.now in
-    called_does s c.args.cache.now c.value_of.new.cache c.args.inner (plain c.args.receiver.now) c.args.method.now (map plain c.args.arguments.now) c.in_ok-rest-in-Ok.rest
+    called_does s c.args.cache.now c.value_of.new.cache c.args.inner (plain c.args.receiver.now) c.args.method.now (map plain c.args.arguments.now) (map plain c.args.arguments.now)
     c.type_of-kind.result c.in-Ok.target c.new-none.result
     (state c.args.progress.now c.args.cache.now) (state c.value_of.new.progress c.value_of.new.cache) (state c.collect.new.progress c.collect.new.cache) c.collect.result
     c.in-Ok.ensures.kept
     (kind_there s c.args.progress.now c.args.cache.now c.type_of-kind.result c.args.receiver.now c.get.result.now c.type_of-kind.ensures c.get.ensures)
-    c.new-none.ensures c.in_ok-rest-in-Ok.ensures c.in-Ok.ensures.does c.collect.ensures.does
+    c.new-none.ensures refl c.in-Ok.ensures.does c.collect.ensures.does
 
 pub direct::called-returns-in-Err-clause-does : goal.direct::called-returns-in-Err-clause-does
 direct::called-returns-in-Err-clause-does g t c =
@@ -28,15 +28,16 @@ direct::called-returns-in-Err-clause-does g t c =
     (kind_there s c.args.progress.now c.args.cache.now c.type_of-kind.result c.args.receiver.now c.get.result.now c.type_of-kind.ensures c.get.ensures)
     refl refl c.in-Err.ensures.does c.behind_receiver.ensures
 
-pub direct::collect-returns-in-Err-clause-does : goal.direct::collect-returns-in-Err-clause-does
-direct::collect-returns-in-Err-clause-does g t c =
+pub direct::collect-returns-in_ok-rest-clause-does : goal.direct::collect-returns-in_ok-rest-clause-does
+direct::collect-returns-in_ok-rest-clause-does g t c =
     let s = c.args.program.now.schema.now in
     let w = on s c.args.cache.now in
-    let first : c.loop.left ≡ c.in-Some.expr ∷ c.in-Some.rest = rw c.in-Some.is at c.in_ok-split_first.ensures in
-    collect_left s c.args.cache.now c.loop.cache c.args.inner c.args.kind c.args.target c.args.method.now c.args.method.now c.loop.done c.loop.left (plain c.shared.result.now) c.in-Some.rest
-    c.in-Err.unwound c.behind_argument.result (state c.loop.progress c.loop.cache) (state c.value_of.new.progress c.value_of.new.cache)
-    (spec.collect w c.args.inner (directly w c.args.inner) c.args.kind c.args.target c.args.method.now c.args.none c.args.arguments (state c.args.progress.now c.args.cache.now))
-    c.loop.invariant.1.0 c.loop.invariant.1.1.1.1 (first ∙ ap (λ (e : Expr). e ∷ c.in-Some.rest) (sym c.shared.ensures)) refl c.in-Err.ensures.does c.behind_argument.ensures
+    let left = map plain (drop c.loop-place.place c.args.arguments.now) in
+    let first : left ≡ plain c.in-Some.expr.now ∷ map plain (drop (c.loop-place.place + 1) c.args.arguments.now) = rw c.in-Some.is at c.at.ensures in
+    collect_left s c.args.cache.now c.loop-place.cache c.args.inner c.args.kind c.args.target c.args.method.now c.args.method.now c.loop-place.done left (plain c.in-Some.expr.now) c.in_ok-rest.rest
+    c.in-Err.unwound c.behind_argument.result (state c.loop-place.progress c.loop-place.cache) (state c.value_of.new.progress c.value_of.new.cache)
+    (spec.collect w c.args.inner (directly w c.args.inner) c.args.kind c.args.target c.args.method.now c.args.none (map plain c.args.arguments.now) (state c.args.progress.now c.args.cache.now))
+    c.loop-place.invariant.1.0 c.loop-place.invariant.1.1.1.1 (first ∙ ap (λ (es : List Expr). plain c.in-Some.expr.now ∷ es) (sym c.in_ok-rest.ensures)) refl c.in-Err.ensures.does c.behind_argument.ensures
 
 pub direct::node-returns-in-Variable-clause-does : goal.direct::node-returns-in-Variable-clause-does
 direct::node-returns-in-Variable-clause-does g t c =

@@ -1,4 +1,4 @@
-use Rattle.std.proofs.Common.{◌≡◌, ◌-◌, ◌+◌, ◌*◌, map}
+use Rattle.std.proofs.Common.{◌≡◌, ◌-◌, ◌+◌, ◌*◌, drop, map}
 use Rattle.paused_defs.specs.Plain.{plain, plain_stmt}
 use Rattle.paused_defs.specs.Methods.{class_methods}
 use Rattle.paused_eval.specs.Copies.{Keeps, Tied, state}
@@ -8,20 +8,20 @@ use Rattle.paused_eval.specs.Direct.{directly, on}
 use Rattle.paused_eval.proofs.+direct.Given as goal
 
 -- the arguments that are left, behind those that are done, come to what all of them come to
-abbrev pub invariant-direct::collect-loop : goal.invariant-direct::collect-loop
-invariant-direct::collect-loop g l =
+abbrev pub invariant-direct::collect-loop-place : goal.invariant-direct::collect-loop-place
+invariant-direct::collect-loop-place g l =
     let w = on l.program.schema.now l.fn.cache in
     Tied l.progress.written l.cache × (Keeps l.fn.cache l.cache × ((l.bodies.methods.now ≡ class_methods l.program.schema.now.classes)
     × ((surplus l.bodies.work l.progress.machine.steps ≡ surplus l.fn.bodies.work l.fn.progress.machine.steps)
-    × (spec.collect w l.inner (directly w l.inner) l.kind l.target l.method l.fn.none l.fn.arguments (state l.fn.progress l.fn.cache) ≡ spec.collect w l.inner (directly w l.inner) l.kind l.target l.method l.done l.left (state l.progress l.cache)))))
+    × (spec.collect w l.inner (directly w l.inner) l.kind l.target l.method l.fn.none (map plain l.arguments) (state l.fn.progress l.fn.cache) ≡ spec.collect w l.inner (directly w l.inner) l.kind l.target l.method l.done (map plain (drop l.place l.arguments)) (state l.progress l.cache)))))
 
 -- what is left comes to what all of them come to
-abbrev pub invariant-direct_statements::in_order-loop : goal.invariant-direct_statements::in_order-loop
-invariant-direct_statements::in_order-loop g l =
+abbrev pub invariant-direct_statements::in_order-loop-place : goal.invariant-direct_statements::in_order-loop-place
+invariant-direct_statements::in_order-loop-place g l =
     let w = on l.program.schema.now l.fn.cache in
     Tied l.progress.written l.cache × (Keeps l.fn.cache l.cache × ((l.bodies.methods.now ≡ class_methods l.program.schema.now.classes)
     × ((surplus l.bodies.work l.progress.machine.steps ≡ surplus l.fn.bodies.work l.fn.progress.machine.steps)
-    × (spec.in_order w l.inner (directly w l.inner) l.fn.stmts (state l.fn.progress l.fn.cache) ≡ spec.in_order w l.inner (directly w l.inner) l.left (state l.progress l.cache)))))
+    × (spec.in_order w l.inner (directly w l.inner) (map plain_stmt l.stmts) (state l.fn.progress l.fn.cache) ≡ spec.in_order w l.inner (directly w l.inner) (map plain_stmt (drop l.place l.stmts)) (state l.progress l.cache)))))
 
 -- the turns that are left come to what all of them come to
 abbrev pub invariant-direct_statements::turns-loop-count : goal.invariant-direct_statements::turns-loop-count

@@ -6,7 +6,7 @@ use Rattle.paused_eval.proofs.paused.Paused.begin.Goals as goal
 pub returns : goal.returns
 returns c = record {
   stands = λ s copies names e.
-      let whole : c.push-2.new.self ≡ frame.Rest 100001 c.args.tx.now ∷ frame.BlockEnd 0 ∷ [] = search rules in
-      rw (whole, c.begun.ensures) (begins_standing s c.args.tx.now copies.written copies.cache names.names e names.from_pages);
+      let whole : c.push-2.new.self ≡ frame.Rest 100001 c.args.text.now ∷ frame.BlockEnd 0 ∷ [] = search rules in
+      rw (whole, c.begun.ensures) (begins_standing s c.args.text.now copies.written copies.cache names.names e names.from_pages);
   begun = rw c.begun.ensures refl;
 }
