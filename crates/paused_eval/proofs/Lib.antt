@@ -7,7 +7,7 @@ pub mod Hands
 pub mod Later
 pub mod Lifting
 pub mod Methods
-mod NameLists
+mod Names
 pub mod Nested
 pub mod Nodes
 pub mod Standing
