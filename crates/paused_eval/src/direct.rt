@@ -93,7 +93,7 @@ fn node<L: Ledger>(
     match node {
         ExprNode::Int { value, line: _ } => Ok(Value::Int(*value)),
         ExprNode::Null { line: _ } => Ok(Value::Null),
-        ExprNode::This { line: _ } => Ok(match machine.this {
+        ExprNode::This { line: _ } => Ok(match &machine.this {
             Some(this) => Value::Ref(this.oref),
             None => Value::Null,
         }),

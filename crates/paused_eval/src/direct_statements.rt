@@ -194,7 +194,7 @@ fn effect<L: Ledger>(
             Ok(Flow::Next)
         }
         StmtNode::Assign { name, .. } => {
-            assign_local(machine.locals, name.get().as_slice(), value);
+            assign_local(&mut machine.locals, name.get().as_slice(), value);
             Ok(Flow::Next)
         }
         StmtNode::FieldAssign { field, .. } => {

@@ -158,7 +158,7 @@ pub fn field_seen(program: &Program<'_>, cache: &Cache, machine: &Machine, name:
     requires tied { Tied cache.now }
     ensures value { result ≡ field_value (over program.now.schema.now (at_hand program.now.schema.now cache.now)) (state machine.now cache.now) name.now }
 {
-    match machine.this {
+    match &machine.this {
         Some(this) => {
             let kind = field_type(program, machine, name);
             let index = field_named(program, this.class, name);
@@ -179,7 +179,7 @@ pub fn use_page_of_this(program: &Program<'_>, cache: &mut Cache, machine: &Mach
     ensures tied { Tied cache.new }
     ensures kept { Keeps cache.old cache.new }
 {
-    if let Some(this) = machine.this {
+    if let Some(this) = &machine.this {
         use_page(program, cache, machine, this.oref);
     }
 }
@@ -237,7 +237,7 @@ pub fn assign_field(
     ensures kept { OnOk result (Keeps cache.old cache.new) }
     ensures steps { machine.new.steps ≡ machine.old.steps }
 {
-    let (oref, class) = match machine.this {
+    let (oref, class) = match &machine.this {
         Some(this) => (this.oref, this.class),
         None => return Ok(()),
     };
