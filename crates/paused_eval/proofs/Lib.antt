@@ -7,6 +7,7 @@ pub mod Hands
 pub mod Later
 pub mod Lifting
 pub mod Methods
+pub mod Missing
 mod Names
 pub mod Nested
 pub mod Nodes

@@ -1,9 +1,10 @@
-ghost use Rattle.std.specs.Prelude.{◌≡◌, ◌<◌, ℕ, Option, Some, None, IfOk, OnOk, OnSome, option_map};
+ghost use Rattle.std.specs.Prelude.{◌≡◌, ◌<◌, ℕ, Option, Some, None, IfOk, OnOk, OnSome, option_and_then, option_map, slice_get};
 ghost use Rattle.std.specs.Option.{option_copied};
 ghost use Rattle.thor_value.specs.FiniteMap.{insert};
 ghost use Rattle.class_defs.specs.Objects as spec;
 ghost use Rattle.class_defs.specs.Objects.{field_value, touch};
 ghost use Rattle.class_defs.specs.Stored.{bare};
+ghost use Rattle.class_defs.specs.Types.{fields_of, typed};
 ghost use Rattle.client_cache.specs.Copies.{seen as seen_in};
 ghost use Rattle.method_eval.specs.Does.{Does};
 ghost use Rattle.paused_defs.specs.Reaches.{over};
@@ -11,11 +12,13 @@ ghost use Rattle.paused_eval.specs.Copies.{Keeps, Tied, at_hand, seen_now, state
 ghost use Rattle.paused_eval.specs.Does.{AtNeed, Holds};
 ghost use Rattle.paused_eval.specs.FromPages.{FromPages};
 
-use class_defs::{At, CREATE_LIMIT, Machine, Object, READ_LIMIT, Stop, beginning, class_named, fitted};
+use class_defs::{
+    At, CREATE_LIMIT, ExprType, Machine, Object, READ_LIMIT, Stop, beginning, class_named, fitted,
+};
 use client_cache::{Cache, Looked};
 use method_eval::{
-    Halt, Names, Program, class_found, fault, field_at, field_named, field_type, is_known,
-    last_upgrade, names_are_given_as_they_are_taken, new_object, repo_for, set_field,
+    Halt, Names, Program, class_found, fault, field_at, field_named, is_known, last_upgrade,
+    names_are_given_as_they_are_taken, new_object, repo_for, set_field, type_named,
 };
 use thor_value::{Fault, NoMemory, Obj, Oref, Orefs, TryCopy, Value};
 
@@ -120,11 +123,63 @@ fn use_page(program: &Program<'_>, cache: &mut Cache, machine: &Machine, oref: O
     cache.bring_forward(oref);
 }
 
+/// An object that is at hand becomes a receiver. Its page is used where it is looked at for the first time.
+#[tactic(auto, unfolding(class_defs::specs::Objects::touch))]
+fn touched(
+    program: &Program<'_>,
+    cache: &mut Cache,
+    machine: &mut Machine,
+    owners: &Orefs,
+    oref: Oref,
+    class: u16,
+) -> Result<u16, Halt>
+    requires tied { Tied cache.old }
+    requires seen { option_map (λ o. o.class) (spec.seen (over program.now.schema.now (at_hand program.now.schema.now cache.old)) (state machine.old cache.old) oref) ≡ Some class }
+    ensures does { Does result (state machine.new cache.new) (touch (over program.now.schema.now (at_hand program.now.schema.now cache.old)) owners.now oref (state machine.old cache.old)) }
+    ensures stays { AtNeed result (state machine.new cache.new ≡ state machine.old cache.old) }
+    ensures tied { Tied cache.new }
+    ensures kept { Keeps cache.old cache.new }
+    ensures depth { machine.new.depth ≡ machine.old.depth }
+    ensures steps { machine.new.steps ≡ machine.old.steps }
+{
+    let _owners = owners;
+    if is_known(machine, oref) {
+        return Ok(class);
+    }
+    if machine.reads.len() >= READ_LIMIT {
+        return fault(Fault::Large);
+    }
+    use_page(program, cache, machine, oref);
+    machine.reads.insert(oref, ())?;
+    Ok(class)
+}
+
+/// An object that isn't at hand is needed. It isn't looked for among the objects read where there is room for one more.
+#[tactic(auto, using(crate::proofs::Missing::needed, crate::proofs::Missing::needed_again), unfolding(class_defs::specs::Objects::touch))]
+fn missing(
+    program: &Program<'_>,
+    cache: &Cache,
+    machine: &Machine,
+    owners: &Orefs,
+    oref: Oref,
+) -> Result<u16, Halt>
+    requires seen { option_map (λ o. o.class) (spec.seen (over program.now.schema.now (at_hand program.now.schema.now cache.now)) (state machine.now cache.now) oref) ≡ None }
+    ensures does { Does result (state machine.now cache.now) (touch (over program.now.schema.now (at_hand program.now.schema.now cache.now)) owners.now oref (state machine.now cache.now)) }
+{
+    let (_program, _cache) = (program, cache);
+    if machine.reads.len() < READ_LIMIT {
+        return class_found(None, oref, owners);
+    }
+    if is_known(machine, oref) {
+        return class_found(None, oref, owners);
+    }
+    fault(Fault::Large)
+}
+
 /// An object becomes a receiver, and gives its class. Its page is used where it is looked at for the first time.
 ///
-/// One more than the limit of objects that the transaction didn't create is the fault Large, before it
-/// is looked whether the object is at hand.
-#[tactic(auto, unfolding(class_defs::specs::Objects::touch))]
+/// One more than the limit of objects that the transaction didn't create is the fault Large, whether the object
+/// is at hand or not.
 pub fn touch(
     program: &Program<'_>,
     cache: &mut Cache,
@@ -140,28 +195,35 @@ pub fn touch(
     ensures depth { machine.new.depth ≡ machine.old.depth }
     ensures steps { machine.new.steps ≡ machine.old.steps }
 {
-    if is_known(machine, oref) {
-        return class_found(seen_class(program, cache, machine, oref), oref, owners);
+    match seen_class(program, cache, machine, oref) {
+        Some(class) => touched(program, cache, machine, owners, oref, class),
+        None => missing(program, cache, machine, owners, oref),
     }
-    if machine.reads.len() >= READ_LIMIT {
-        return fault(Fault::Large);
+}
+
+/// The type of the field at a place of a class.
+fn type_at(program: &Program<'_>, class: u16, index: Option<usize>) -> ExprType
+    ensures { result ≡ typed program.now.schema.now.classes (option_map (λ f. f.type_name) (option_and_then (λ i. slice_get (fields_of program.now.schema.now.classes class) i) index)) }
+{
+    match (program.schema.classes.get(class as usize), index) {
+        (Some(found), Some(index)) => match found.fields.get(index) {
+            Some(field) => type_named(program, &field.type_name),
+            None => ExprType::Untold,
+        },
+        (_, _) => ExprType::Untold,
     }
-    use_page(program, cache, machine, oref);
-    let class = class_found(seen_class(program, cache, machine, oref), oref, owners)?;
-    machine.reads.insert(oref, ())?;
-    Ok(class)
 }
 
 /// `this.name`. No page is used.
-#[tactic(auto, unfolding(class_defs::specs::Objects::field_value, class_defs::specs::Objects::scope_at))]
+#[tactic(auto, using(crate::proofs::Missing::field_at_place), unfolding(class_defs::specs::Objects::field_value, class_defs::specs::Objects::scope_at))]
 pub fn field_seen(program: &Program<'_>, cache: &Cache, machine: &Machine, name: &[u8]) -> Value
     requires tied { Tied cache.now }
     ensures value { result ≡ field_value (over program.now.schema.now (at_hand program.now.schema.now cache.now)) (state machine.now cache.now) name.now }
 {
     match &machine.this {
         Some(this) => {
-            let kind = field_type(program, machine, name);
             let index = field_named(program, this.class, name);
+            let kind = type_at(program, this.class, index);
             match seen_field(program, cache, machine, this.oref, index) {
                 Some(value) => fitted(kind, value),
                 None => beginning(kind),
