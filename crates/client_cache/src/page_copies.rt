@@ -108,6 +108,16 @@ impl Slots {
         }
     }
 
+    /// Whether the try has written a slot.
+    pub fn is_written(&self, slot: u8) -> bool
+        ensures { result ≡ is_some (written_in self.now slot) }
+    {
+        match self.slots.get(usize::from(slot)) {
+            Some(slot) => slot.written.is_some(),
+            None => false,
+        }
+    }
+
     /// Puts a copy into a slot, in the place of the one before. What the try has made of it stays.
     pub fn keep(&mut self, slot: u8, obj: Obj)
         requires { slot < 12 }
