@@ -100,7 +100,7 @@ impl Cache {
     pub fn written_at(&self, place: usize) -> Option<Oref>
         ensures { result ≡ slice_get self.now.written place }
     {
-        self.written.iter().nth(place).copied()
+        self.written.at(place)
     }
 
     /// Makes the page of an object the most recently used one, where it is held.

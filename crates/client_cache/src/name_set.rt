@@ -1,7 +1,7 @@
 ghost use Rattle.std.specs.BTreeMap.{is_at};
 ghost use Rattle.std.specs.BTreeSet.{insert_key};
 ghost use Rattle.std.specs.List.{filter, list_any};
-ghost use Rattle.std.specs.Prelude.{◌≡◌, ◌<◌, ◌↔◌, ◌++◌, ◌∷◌, [], cond, false, true, length, IfErr, IfOk, IfSome, IsTrue, MatchOption, OnErr, OnOk, nat_eq, not};
+ghost use Rattle.std.specs.Prelude.{◌≡◌, ◌<◌, ◌↔◌, ◌++◌, ◌∷◌, [], cond, false, true, length, IfErr, IfOk, IfSome, IsTrue, MatchOption, OnErr, OnOk, nat_eq, not, slice_get};
 ghost use Rattle.thor_value.specs.Names.{oref_cmp};
 ghost use Rattle.thor_value.specs.declared.names.Oref.{Oref};
 ghost use Rattle.client_cache.specs.NameLists.{IsGap, IsThere, Rise};
@@ -53,6 +53,13 @@ impl NameSet {
         ensures { IsTrue result ↔ (self.now ≡ []) }
     {
         self.names.is_empty()
+    }
+
+    /// The name at a place, from 0.
+    pub fn at(&self, place: usize) -> Option<Oref>
+        ensures { result ≡ slice_get self.now place }
+    {
+        self.names.get(place).copied()
     }
 
     /// Adds a name. After `NoMemory` nothing has changed.
