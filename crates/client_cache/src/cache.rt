@@ -356,11 +356,7 @@ impl Cache {
 }
 
 // Puts a name among names, and among others.
-fn insert_both(
-    written: &mut NameSet,
-    made: &mut BTreeSet<Oref>,
-    oref: Oref,
-) -> Result<(), NoMemory>
+fn insert_both(written: &mut NameSet, made: &mut BTreeSet<Oref>, oref: Oref) -> Result<(), NoMemory>
     ensures written { OnOk result (written.new ≡ insert_key oref_cmp written.old oref) }
     ensures has { OnOk result ((x : Oref) → list_any (is_at (oref_cmp x)) written.new ≡ cond (is_at (oref_cmp oref) x) true (list_any (is_at (oref_cmp x)) written.old)) }
     ensures made { OnOk result (made.new.keys ≡ insert_key oref_cmp made.old.keys oref) }
