@@ -2,7 +2,7 @@ ghost use Rattle.std.specs.BTreeMap.{is_at};
 ghost use Rattle.std.specs.BTreeSet.{Updates, insert_key};
 ghost use Rattle.std.specs.List.{filter, list_any};
 ghost use Rattle.std.specs.Map.{keys_of};
-ghost use Rattle.std.specs.Prelude.{◌≡◌, ◌<◌, ◌↔◌, ℕ, [], false, true, cond, is_some, not, nat_eq, option_map, Option, Some, None, IfOk, IsTrue, OnOk, OnErr, take};
+ghost use Rattle.std.specs.Prelude.{◌≡◌, ◌<◌, ◌↔◌, ℕ, [], false, true, cond, is_some, not, nat_eq, option_map, Option, Some, None, IfOk, IsTrue, OnOk, OnErr, slice_get, take};
 ghost use Rattle.thor_value.specs.Names.{oref_cmp};
 ghost use Rattle.thor_value.specs.declared.names.Oref.{Oref};
 ghost use Rattle.thor_value.specs.declared.values.Obj.{Obj};
@@ -83,6 +83,23 @@ impl Cache {
             Some(slots) => slots.has_copy(oref.slot),
             None => false,
         }
+    }
+
+    /// Whether the try has written an object. The order of the pages stays as it is.
+    pub fn is_written(&self, oref: Oref) -> bool
+        ensures { result ≡ is_some (changed self.now oref) }
+    {
+        match self.pages.get(PageName::of(oref)) {
+            Some(slots) => slots.is_written(oref.slot),
+            None => false,
+        }
+    }
+
+    /// The name at a place, from 0, among those of the objects that the try has written, which rise.
+    pub fn written_at(&self, place: usize) -> Option<Oref>
+        ensures { result ≡ slice_get self.now.written place }
+    {
+        self.written.iter().nth(place).copied()
     }
 
     /// Makes the page of an object the most recently used one, where it is held.

@@ -14,7 +14,7 @@ use lru::LruCache;
 use std::alloc::Global;
 use std::marker::Model;
 use std::num::NonZeroUsize;
-use thor_value::{NoMemory, Obj, Oref};
+use thor_value::{NoMemory, Obj, Oref, TryCopy};
 
 /// The pages that a client holds, in the order of their last use.
 #[derive(Drop)]
@@ -161,8 +161,31 @@ impl HeldPages {
     }
 
     /// Gives what the try has made of an object this version, and answers a copy of it; nothing where the try hasn't
-    /// written it.
+    /// written it. Where it has this version already, nothing is written.
     pub fn date(&mut self, oref: Oref, ver: u32) -> Result<Option<Obj>, NoMemory>
+        ensures copy { IfOk result (λ copy. copy ≡ option_map (dated ver) (told written_in self.old oref)) }
+        ensures kept { (x : Oref) → told kept_in self.new x ≡ told kept_in self.old x }
+        ensures written { (x : Oref) → told written_in self.new x ≡ cond (same_name oref x) (option_map (dated ver) (told written_in self.old oref)) (told written_in self.old x) }
+        ensures order { keys_of self.new ≡ keys_of self.old }
+    {
+        match self.written_as(oref, ver) {
+            Some(obj) => Ok(Some(obj.copy()?)),
+            None => self.date_anew(oref, ver),
+        }
+    }
+
+    // What the try has made of an object, where it has this version.
+    fn written_as(&self, oref: Oref, ver: u32) -> Option<&Obj>
+        ensures { IfSome (option_copied result) (λ obj. (told written_in self.now oref ≡ Some obj) × (obj.ver ≡ ver)) }
+    {
+        match self.get(PageName::of(oref)) {
+            Some(slots) => slots.written_as(oref.slot, ver),
+            None => None,
+        }
+    }
+
+    // Gives what the try has made of an object this version, whichever it has, and answers a copy of it.
+    fn date_anew(&mut self, oref: Oref, ver: u32) -> Result<Option<Obj>, NoMemory>
         ensures copy { IfOk result (λ copy. copy ≡ option_map (dated ver) (told written_in self.old oref)) }
         ensures kept { (x : Oref) → told kept_in self.new x ≡ told kept_in self.old x }
         ensures written { (x : Oref) → told written_in self.new x ≡ cond (same_name oref x) (option_map (dated ver) (told written_in self.old oref)) (told written_in self.old x) }

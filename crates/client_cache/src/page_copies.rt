@@ -1,4 +1,4 @@
-ghost use Rattle.std.specs.Prelude.{◌≡◌, ◌<◌, ◌≤◌, ℕ, nat_eq, cond, Some, None, length, IfOk, is_some, option_map};
+ghost use Rattle.std.specs.Prelude.{◌≡◌, ◌<◌, ◌≤◌, ℕ, nat_eq, cond, Some, None, length, IfOk, IfSome, is_some, option_map};
 ghost use Rattle.std.specs.Option.{option_copied};
 ghost use Rattle.std.specs.List.{list_all};
 ghost use Rattle.client_cache.specs.Slots.{dated, dated_in, is_bare, kept_in, no_copies, seen_in, settled, written_in};
@@ -108,6 +108,16 @@ impl Slots {
         }
     }
 
+    /// Whether the try has written a slot.
+    pub fn is_written(&self, slot: u8) -> bool
+        ensures { result ≡ is_some (written_in self.now slot) }
+    {
+        match self.slots.get(usize::from(slot)) {
+            Some(slot) => slot.written.is_some(),
+            None => false,
+        }
+    }
+
     /// Puts a copy into a slot, in the place of the one before. What the try has made of it stays.
     pub fn keep(&mut self, slot: u8, obj: Obj)
         requires { slot < 12 }
@@ -157,6 +167,23 @@ impl Slots {
     {
         if let Some(slot) = self.slots.get_mut(usize::from(slot)) {
             slot.settle();
+        }
+    }
+
+    /// What the try has made of a slot, where it has this version.
+    pub fn written_as(&self, slot: u8, ver: u32) -> Option<&Obj>
+        ensures { IfSome (option_copied result) (λ obj. (written_in self.now slot ≡ Some obj) × (obj.ver ≡ ver)) }
+    {
+        let slot = self.slots.get(usize::from(slot))?;
+        match &slot.written {
+            Some(obj) => {
+                if obj.ver == ver {
+                    Some(obj)
+                } else {
+                    None
+                }
+            }
+            None => None,
         }
     }
 

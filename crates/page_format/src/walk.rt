@@ -1,6 +1,6 @@
 //! Walking over the objects of a page as they stand in its bytes.
 
-ghost use Rattle.std.specs.Prelude.{◌≡◌, ◌≤◌, ◌+◌, ◌&&◌, length, slice_get};
+ghost use Rattle.std.specs.Prelude.{◌≡◌, ◌≤◌, ◌+◌, length, slice_get};
 ghost use Rattle.std.specs.Option.{option_copied, option_map};
 ghost use Rattle.std.specs.Ordering.{nat_cmp};
 ghost use Rattle.std.specs.BTreeMap.{is_at};
@@ -147,20 +147,12 @@ pub(crate) fn parts_of(bytes: &[u8]) -> Option<((u32, u8), &[u8])>
 }
 
 /// Whether the bytes are zeros alone. It looks at each of them, so that a processor can look at many at once.
-#[tactic(auto, using(crate::proofs::Zeros::and_next))]
 pub(crate) fn all_zero(bytes: &[u8]) -> bool
     ensures { result ≡ is_all_zero bytes.now }
 {
-    let mut zeros = true;
+    let mut bits = 0u8;
     for byte in bytes {
-        zeros = both(zeros, *byte == 0);
+        bits |= *byte;
     }
-    zeros
-}
-
-/// Whether both hold.
-fn both(first: bool, second: bool) -> bool
-    ensures { result ≡ (first && second) }
-{
-    first & second
+    bits == 0
 }

@@ -1,18 +1,19 @@
 -- What the code finds of an object is what the run sees of it, and what a write makes of that.
-use Rattle.std.proofs.Common.{◌≡◌, ◌<◌, ◌&&◌, zero, suc, take, Bool, true, false, cond, List, [], ◌∷◌, ℕ, Option, Some, None, refl, ap, inl, inr, subst, sym, ◌∙◌, is_eq, Ordering, Less, Equal, Greater, arith}
+use Rattle.std.proofs.Common.{◌≡◌, ◌<◌, ◌&&◌, ◌||◌, zero, suc, take, Bool, true, false, cond, List, [], ◌∷◌, ℕ, Option, Some, None, refl, ap, inl, inr, subst, sym, ◌∙◌, is_eq, Ordering, Less, Equal, Greater, arith}
 use Rattle.std.proofs.lemmas.Bool.Decides.{nat_tests}
 use Rattle.std.proofs.lemmas.Bool.{eqb-true}
 use Rattle.std.proofs.lemmas.Cmp.{tied_itself}
 use Rattle.std.specs.BTreeMap.{is_at}
-use Rattle.std.specs.List.{AllByRecursion}
+use Rattle.std.specs.BTreeSet.{insert_key}
+use Rattle.std.specs.List.{AllByRecursion, filter, list_any}
 use Rattle.std.specs.List.Sorted.{IsStrictlySortedBy}
 use Rattle.std.specs.Map.{keys_of, lookup}
 use Rattle.std.specs.Option.{option_or}
 use Rattle.std.specs.Ordering.{eq_by_cmp}
 use Rattle.std.specs.Prelude.{nat_lt, is_some, not, nat_eq, option_map, option_and_then, ◌⊎◌}
-use Rattle.thor_value.proofs.FiniteMap.{get-insert, get-keep, IsSorted-insert, IsSorted-keep, same_map}
+use Rattle.thor_value.proofs.FiniteMap.{get-insert, IsSorted-insert, same_map}
 use Rattle.thor_value.proofs.NameOrders.{oref_exact, oref_total}
-use Rattle.thor_value.specs.FiniteMap.{Set, empty, get, has, insert, keep, keys}
+use Rattle.thor_value.specs.FiniteMap.{get, insert}
 use Rattle.thor_value.specs.Names.{oref_cmp}
 use Rattle.thor_value.specs.declared.names.Oref.{Oref}
 use Rattle.thor_value.specs.declared.values.Obj.{Obj}
@@ -22,15 +23,16 @@ use Rattle.class_defs.specs.Objects.{first_of}
 use Rattle.class_defs.specs.Stored.{bare}
 use Rattle.class_defs.specs.declared.store.Object.{Object}
 use Rattle.class_defs.specs.declared.store.Schema.{Schema}
-use Rattle.client_cache.specs.Copies.{Contents, Held, changed, holds, kept, nothing, seen, told}
+use Rattle.client_cache.specs.Copies.{Contents, Held, changed, has_written, holds, kept, nothing, seen, told}
 use Rattle.client_cache.specs.Pages.{page_of, same_name, same_page}
 use Rattle.client_cache.specs.Slots.{kept_in, seen_in}
 use Rattle.client_cache.specs.Slots as slots
 use Rattle.client_cache.specs.declared.page_copies.Slot.{Slot}
 use Rattle.method_eval.specs.Viewed.{current}
 use Rattle.paused_defs.specs.Reaches.{over}
+use Rattle.paused_eval.proofs.Names.{any_kept, any_put, none_rise, rise_kept, rise_put}
 use Rattle.paused_eval.specs.Copies.{AreAmong, Keeps, Tied, at_hand, entries, entry, seen_now, state, unless_due, written_in}
-use Rattle.paused_eval.specs.declared.progress.Progress.{Progress}
+use Rattle.class_defs.specs.declared.machine.Machine.{Machine}
 
 -- ---- looks
 
@@ -71,27 +73,26 @@ head true x y (Some o) fx rest there is e h = ap (λ (c : Bool). cond c (Some (b
 head false x y None fx rest there is e h = h
 head false x y (Some o) fx rest there is e h = ap (λ (c : Bool). cond c (Some (bare o)) (lookup (is_at (oref_cmp x)) rest)) is ∙ h
 
-spread : (b there : Bool) (fx : Option Obj) (u : Unit {0}) (o : Option (Unit {0})) → is_some o ≡ there
-    → cond b (option_map bare fx) (cond there (option_map bare fx) None) ≡ cond (is_some (cond b (Some u) o)) (option_map bare fx) None
-spread true there fx u o h = refl
-spread false there fx u o h = ap (λ (c : Bool). cond c (option_map bare fx) None) (sym h)
+spread : (b there : Bool) (fx : Option Obj) → cond b (option_map bare fx) (cond there (option_map bare fx) None) ≡ cond (b || there) (option_map bare fx) None
+spread true there fx = refl
+spread false there fx = refl
 
-at_entries : (f : Oref → Option Obj) (es : List (Oref × Unit {0})) (x : Oref)
-    → lookup (is_at (oref_cmp x)) (entries f (keys_of es)) ≡ cond (is_some (lookup (is_at (oref_cmp x)) es)) (option_map bare (f x)) None
+at_entries : (f : Oref → Option Obj) (xs : List Oref) (x : Oref)
+    → lookup (is_at (oref_cmp x)) (entries f xs) ≡ cond (list_any (is_at (oref_cmp x)) xs) (option_map bare (f x)) None
 at_entries f [] x = refl
-at_entries f (e ∷ es) x =
-    head (is_at (oref_cmp x) e.0) x e.0 (f e.0) (f x) (entries f (keys_of es)) (is_some (lookup (is_at (oref_cmp x)) es)) refl
-    (λ same. ap f (one_of x e.0 same)) (at_entries f es x)
-    ∙ spread (is_at (oref_cmp x) e.0) (is_some (lookup (is_at (oref_cmp x)) es)) (f x) e.1 (lookup (is_at (oref_cmp x)) es) refl
+at_entries f (y ∷ ys) x =
+    head (is_at (oref_cmp x) y) x y (f y) (f x) (entries f ys) (list_any (is_at (oref_cmp x)) ys) refl
+    (λ same. ap f (one_of x y same)) (at_entries f ys x)
+    ∙ spread (is_at (oref_cmp x) y) (list_any (is_at (oref_cmp x)) ys) (f x)
 
 as_marked : (w : Bool) (o : Option Obj) → is_some o ≡ w → cond w (option_map bare o) None ≡ option_map bare o
 as_marked true o h = refl
 as_marked false None h = refl
 as_marked false (Some o) h = cc
 
-get_written : (w : Set oref_cmp) (c : Contents) (x : Oref) → Tied w c → get (written_in w c) x ≡ option_map bare (changed c x)
+get_written : (c : Contents) (x : Oref) → Tied c → get (written_in c) x ≡ option_map bare (changed c x)
 unfolding written_in
-get_written w c x t = at_entries (changed c) w.pairs x ∙ as_marked (has w x) (changed c x) (t.marked x)
+get_written c x t = at_entries (changed c) c.written x ∙ as_marked (has_written c x) (changed c x) (t.marked x)
 
 -- ---- what is seen
 
@@ -115,22 +116,28 @@ sees s (Some o) kp true false m in_page = cc
 sees s (Some o) kp false true m in_page = let e : false ≡ true = in_page refl in cc
 sees s (Some o) kp false false m in_page = cc
 
-pub seen_is : (s : Schema) (p : Progress) (c : Contents) (x : Oref) → Tied p.written c → seen_now s p.written c x ≡ objects.seen (over s (at_hand s c)) (state p c) x
+pub seen_is : (s : Schema) (p : Machine) (c : Contents) (x : Oref) → Tied c → seen_now s c x ≡ objects.seen (over s (at_hand s c)) (state p c) x
 unfolding objects.seen
 seen_is s p c x t = sym (
-    ap (λ (o : Option Object). first_of o (at_hand s c x)) (get_written p.written c x t)
-    ∙ sees s (changed c x) (kept c x) (nat_lt x.slot 12) (has p.written x) (t.marked x) (λ h. inside x (t.within x h))
-    ∙ ap (λ (o : Option Obj). cond (nat_lt x.slot 12) (unless_due s (has p.written x) o) None) (sym (seen_split c x)))
+    ap (λ (o : Option Object). first_of o (at_hand s c x)) (get_written c x t)
+    ∙ sees s (changed c x) (kept c x) (nat_lt x.slot 12) (is_some (changed c x)) refl (λ h. inside x (t.within x h))
+    ∙ ap (λ (o : Option Obj). cond (nat_lt x.slot 12) (unless_due s (is_some (changed c x)) o) None) (sym (seen_split c x)))
   where
     inside : (x : Oref) → x.slot < 12 → nat_lt x.slot 12 ≡ true
     inside x l = grind (arith, nat_tests)
 
-pub none_written : (c : Contents) → ((x : Oref) → changed c x ≡ None) → Tied empty c
-unfolding IsStrictlySortedBy
-none_written c h = record { rising = tt; marked = λ x. ap is_some (h x); within = λ x e. cc }
+none_named : (names : List Oref) (x : Oref) → names ≡ [] → false ≡ list_any (is_at (oref_cmp x)) names
+none_named names x e = ap (λ (xs : List Oref). list_any (is_at (oref_cmp x)) xs) (sym e)
 
-pub nothing_written : (limit : ℕ) → Tied empty (nothing limit)
-nothing_written limit = none_written (nothing limit) (λ x. refl)
+pub none_written : (c : Contents) → c.written ≡ [] → ((x : Oref) → changed c x ≡ None) → Tied c
+none_written c none h = record {
+  rising = subst (λ (xs : List Oref). IsStrictlySortedBy oref_cmp xs) (sym none) none_rise;
+  marked = λ x. ap is_some (h x) ∙ none_named c.written x none;
+  within = λ x e. let never : false ≡ true = sym (ap is_some (h x)) ∙ e in cc;
+}
+
+pub nothing_written : (limit : ℕ) → Tied (nothing limit)
+nothing_written limit = none_written (nothing limit) refl (λ x. refl)
 
 -- ---- where pages go
 
@@ -150,8 +157,8 @@ changed_before (suc n) (e ∷ held) x h = by (same_page (page_of x) e.0) h (chan
 pub fewer_written : (n : ℕ) (c d : Contents) → d.held ≡ take n c.held → ((x : Oref) → changed c x ≡ None) → (x : Oref) → changed d x ≡ None
 fewer_written n c d e h = λ x. ap (λ (held : Held). told slots.written_in held x) e ∙ changed_before n c.held x (h x)
 
-pub fewer_tied : (n : ℕ) (c d : Contents) → d.held ≡ take n c.held → ((x : Oref) → changed c x ≡ None) → Tied empty d
-fewer_tied n c d e h = none_written d (fewer_written n c d e h)
+pub fewer_tied : (n : ℕ) (c d : Contents) → d.held ≡ take n c.held → c.written ≡ [] → d.written ≡ c.written → ((x : Oref) → changed c x ≡ None) → Tied d
+fewer_tied n c d e none same h = none_written d (same ∙ none) (fewer_written n c d e h)
 
 told_before : (n : ℕ) (held : Held) (x : Oref) → (told slots.kept_in (take n held) x ≡ told slots.kept_in held x) ⊎ (told slots.kept_in (take n held) x ≡ None)
 told_before zero held x = inr refl
@@ -169,23 +176,23 @@ fewer_kept n a c d same e x = subst (λ (held : Held). (told slots.kept_in held 
     by (inl p) = inl (p ∙ same x)
     by (inr p) = inr p
 
-others : (b : Bool) (ch : Option Obj) (u : Option (Unit {0})) → is_some ch ≡ is_some u → is_some (cond b None ch) ≡ is_some (cond (not b) u None)
+others : (b : Bool) (ch : Option Obj) (u : Bool) → is_some ch ≡ u → is_some (cond b None ch) ≡ (not b && u)
 others true ch u h = refl
 others false ch u h = h
 
-within_others : (b : Bool) (u : Option (Unit {0})) → is_some (cond b u None) ≡ true → is_some u ≡ true
-within_others true u h = h
-within_others false u h = cc
+within_others : (b : Bool) (ch : Option Obj) → is_some (cond b None ch) ≡ true → is_some ch ≡ true
+within_others true ch h = cc
+within_others false ch h = h
 
-pub others_tied : (w : Set oref_cmp) (repo : ℕ) (c d : Contents) → Tied w c → ((x : Oref) → changed d x ≡ cond (nat_eq x.repo repo) None (changed c x))
-    → Tied (keep w (λ x. not (nat_eq x.repo repo))) d
-others_tied w repo c d t h = record {
-  rising = IsSorted-keep oref_cmp w (λ x. not (nat_eq x.repo repo)) t.rising;
+pub others_tied : (repo : ℕ) (c d : Contents) → Tied c → ((x : Oref) → changed d x ≡ cond (nat_eq x.repo repo) None (changed c x))
+    → d.written ≡ filter (λ x. not (nat_eq x.repo repo)) c.written → Tied d
+others_tied repo c d t h e = record {
+  rising = subst (λ (xs : List Oref). IsStrictlySortedBy oref_cmp xs) (sym e) (rise_kept (λ x. not (nat_eq x.repo repo)) c.written t.rising);
   marked = λ x.
       ap is_some (h x)
-      ∙ others (nat_eq x.repo repo) (changed c x) (get w x) (t.marked x)
-      ∙ sym (ap is_some (get-keep oref_cmp oref_exact w (λ x. not (nat_eq x.repo repo)) x));
-  within = λ x k. t.within x (within_others (not (nat_eq x.repo repo)) (get w x) (sym (ap is_some (get-keep oref_cmp oref_exact w (λ x. not (nat_eq x.repo repo)) x)) ∙ k));
+      ∙ others (nat_eq x.repo repo) (changed c x) (has_written c x) (t.marked x)
+      ∙ sym (ap (λ (xs : List Oref). list_any (is_at (oref_cmp x)) xs) e ∙ any_kept (λ x. not (nat_eq x.repo repo)) c.written x);
+  within = λ x k. t.within x (within_others (nat_eq x.repo repo) (changed c x) (sym (ap is_some (h x)) ∙ k));
 }
 
 -- ---- what is the same where a page was brought forward
@@ -193,12 +200,16 @@ others_tied w repo c d t h = record {
 pub same_hands : (s : Schema) (c d : Contents) → Keeps c d → at_hand s d ≡ at_hand s c
 same_hands s c d h = λ i x. current s (cond (nat_lt x.slot 12) (h x i) None)
 
-pub same_state : (p : Progress) (c d : Contents) → ((x : Oref) → changed d x ≡ changed c x) → state p d ≡ state p c
+pub same_state : (p : Machine) (c d : Contents) → d.written ≡ c.written → ((x : Oref) → changed d x ≡ changed c x) → state p d ≡ state p c
 unfolding written_in
-same_state p c d h = λ i. record p.machine { writes = record { pairs = entries (λ x. h x i) (keys p.written) } }
+same_state p c d e h = λ i. record p { writes = record { pairs = entries (λ x. h x i) (e i) } }
 
-pub same_tied : (w : Set oref_cmp) (c d : Contents) → ((x : Oref) → changed d x ≡ changed c x) → Tied w c → Tied w d
-same_tied w c d h t = record { rising = t.rising; marked = λ x. ap is_some (h x) ∙ t.marked x; within = t.within }
+pub same_tied : (c d : Contents) → d.written ≡ c.written → ((x : Oref) → changed d x ≡ changed c x) → Tied c → Tied d
+same_tied c d e h t = record {
+  rising = subst (λ (xs : List Oref). IsStrictlySortedBy oref_cmp xs) (sym e) t.rising;
+  marked = λ x. ap is_some (h x) ∙ t.marked x ∙ sym (ap (λ (xs : List Oref). list_any (is_at (oref_cmp x)) xs) e);
+  within = λ x k. t.within x (sym (ap is_some (h x)) ∙ k);
+}
 
 -- ---- writes
 
@@ -260,39 +271,40 @@ sorted_entries f (x ∷ xs) h = sorted_entry x (f x) (entries f xs) (below_entri
 abbrev pub Wrote : Oref → Obj → Contents → Contents → Type 0
 Wrote x o c d = (y : Oref) → changed d y ≡ cond (same_name x y) (Some o) (changed c y)
 
-lookups : (b : Bool) (o : Obj) (u : Option (Unit {0})) (ch : Option Obj) (was : Option Object) → is_some ch ≡ is_some u → was ≡ option_map bare ch
-    → cond (is_some (cond b (Some tt) u)) (option_map bare (cond b (Some o) ch)) None ≡ cond b (Some (bare o)) was
+lookups : (b : Bool) (o : Obj) (u : Bool) (ch : Option Obj) (was : Option Object) → is_some ch ≡ u → was ≡ option_map bare ch
+    → cond (b || u) (option_map bare (cond b (Some o) ch)) None ≡ cond b (Some (bare o)) was
 lookups true o u ch was m g = refl
-lookups false o u ch was m g = as_marked (is_some u) ch m ∙ sym g
+lookups false o u ch was m g = as_marked u ch m ∙ sym g
 
-pub wrote : (w : Set oref_cmp) (x : Oref) (o : Obj) (c d : Contents) → Tied w c → Wrote x o c d
-    → written_in (insert w x tt) d ≡ insert (written_in w c) x (bare o)
+pub wrote : (x : Oref) (o : Obj) (c d : Contents) → Tied c → Wrote x o c d → d.written ≡ insert_key oref_cmp c.written x
+    → written_in d ≡ insert (written_in c) x (bare o)
 unfolding written_in
-wrote w x o c d t h = same_map oref_total oref_exact _ _
-    (sorted_entries (changed d) (keys (insert w x tt)) (IsSorted-insert oref_total w x tt t.rising))
-    (IsSorted-insert oref_total (written_in w c) x (bare o) (sorted_entries (changed c) (keys w) t.rising))
+wrote x o c d t h e = same_map oref_total oref_exact _ _
+    (sorted_entries (changed d) d.written (subst (λ (xs : List Oref). IsStrictlySortedBy oref_cmp xs) (sym e) (rise_put c.written x t.rising)))
+    (IsSorted-insert oref_total (written_in c) x (bare o) (sorted_entries (changed c) c.written t.rising))
     (λ q.
-    at_entries (changed d) (insert w x tt).pairs q
-    ∙ ap (λ (u : Option (Unit {0})). cond (is_some u) (option_map bare (changed d q)) None) (get-insert oref_total w x tt q)
-    ∙ ap (λ (v : Option Obj). cond (is_some (cond (eq_by_cmp oref_cmp q x) (Some tt) (get w q))) (option_map bare v) None)
+    at_entries (changed d) d.written q
+    ∙ ap (λ (b : Bool). cond b (option_map bare (changed d q)) None) (ap (λ (xs : List Oref). list_any (is_at (oref_cmp q)) xs) e ∙ any_put c.written x q)
+    ∙ ap (λ (v : Option Obj). cond (eq_by_cmp oref_cmp q x || has_written c q) (option_map bare v) None)
     (h q ∙ ap (λ (b : Bool). cond b (Some o) (changed c q)) (name_tests x q))
-    ∙ lookups (eq_by_cmp oref_cmp q x) o (get w q) (changed c q) (get (written_in w c) q) (t.marked q) (get_written w c q t)
-    ∙ sym (get-insert oref_total (written_in w c) x (bare o) q))
+    ∙ lookups (eq_by_cmp oref_cmp q x) o (has_written c q) (changed c q) (get (written_in c) q) (t.marked q) (get_written c q t)
+    ∙ sym (get-insert oref_total (written_in c) x (bare o) q))
 
-mark : (b : Bool) (o : Obj) (u : Option (Unit {0})) (ch : Option Obj) → is_some ch ≡ is_some u → is_some (cond b (Some o) ch) ≡ is_some (cond b (Some tt) u)
+mark : (b : Bool) (o : Obj) (u : Bool) (ch : Option Obj) → is_some ch ≡ u → is_some (cond b (Some o) ch) ≡ (b || u)
 mark true o u ch m = refl
 mark false o u ch m = m
 
-in_page : (b : Bool) (x q : Oref) (u : Option (Unit {0})) → eq_by_cmp oref_cmp q x ≡ b → x.slot < 12 → (is_some u ≡ true → q.slot < 12) → is_some (cond b (Some tt) u) ≡ true → q.slot < 12
-in_page true x q u e l g h = rw (one_of q x e) l
-in_page false x q u e l g h = g h
+in_page : (b : Bool) (x q : Oref) (o : Obj) (ch : Option Obj) → eq_by_cmp oref_cmp q x ≡ b → x.slot < 12 → (is_some ch ≡ true → q.slot < 12) → is_some (cond b (Some o) ch) ≡ true → q.slot < 12
+in_page true x q o ch e l g h = rw (one_of q x e) l
+in_page false x q o ch e l g h = g h
 
-pub wrote_tied : (w : Set oref_cmp) (x : Oref) (o : Obj) (c d : Contents) → Tied w c → Wrote x o c d → x.slot < 12 → Tied (insert w x tt) d
-wrote_tied w x o c d t h l = record {
-  rising = IsSorted-insert oref_total w x tt t.rising;
+pub wrote_tied : (x : Oref) (o : Obj) (c d : Contents) → Tied c → Wrote x o c d → d.written ≡ insert_key oref_cmp c.written x → x.slot < 12 → Tied d
+wrote_tied x o c d t h e l = record {
+  rising = subst (λ (xs : List Oref). IsStrictlySortedBy oref_cmp xs) (sym e) (rise_put c.written x t.rising);
   marked = λ q.
       ap is_some (h q ∙ ap (λ (b : Bool). cond b (Some o) (changed c q)) (name_tests x q))
-      ∙ mark (eq_by_cmp oref_cmp q x) o (get w q) (changed c q) (t.marked q)
-      ∙ sym (ap is_some (get-insert oref_total w x tt q));
-  within = λ q k. in_page (eq_by_cmp oref_cmp q x) x q (get w q) refl l (t.within q) (sym (ap is_some (get-insert oref_total w x tt q)) ∙ k);
+      ∙ mark (eq_by_cmp oref_cmp q x) o (has_written c q) (changed c q) (t.marked q)
+      ∙ sym (ap (λ (xs : List Oref). list_any (is_at (oref_cmp q)) xs) e ∙ any_put c.written x q);
+  within = λ q k. in_page (eq_by_cmp oref_cmp q x) x q o (changed c q) refl l (t.within q)
+      (sym (ap is_some (h q ∙ ap (λ (b : Bool). cond b (Some o) (changed c q)) (name_tests x q))) ∙ k);
 }

@@ -1,8 +1,6 @@
 -- What may happen while a run has stopped.
 use Rattle.std.proofs.Common.{◌≡◌, ℕ, Bool, true, false, cond, List, [], ◌∷◌, ◌++◌, Option, refl, ap, subst, sym}
 use Rattle.std.specs.Prelude.{map, not}
-use Rattle.thor_value.specs.FiniteMap.{Set}
-use Rattle.thor_value.specs.Names.{oref_cmp}
 use Rattle.thor_value.specs.declared.names.Oref.{Oref}
 use Rattle.class_defs.specs.Run.{begun}
 use Rattle.class_defs.specs.declared.machine.Machine.{Machine}
@@ -43,12 +41,12 @@ more (h ∷ held) xs = by (not h.given) (more held xs)
     by true rest = ap (λ (ys : List Oref). h.oref ∷ ys) rest
     by false rest = rest
 
-page_granted : (m : Machine) (w : Set oref_cmp) (c : Contents) (n : Names) (repo page : ℕ) → granted (newly_granted n repo page) (state_with m w c n) ≡ state_with m w c (grant n repo page)
-page_granted m w c n repo page =
-    ap (λ (names : List Oref). record (state_with m w c n) { names = record { waiting = names; stand_in = n.stand_in } }) (sym (more n.held (newly_granted n repo page)))
+page_granted : (m : Machine) (c : Contents) (n : Names) (repo page : ℕ) → granted (newly_granted n repo page) (state_with m c n) ≡ state_with m c (grant n repo page)
+page_granted m c n repo page =
+    ap (λ (names : List Oref). record (state_with m c n) { names = record { waiting = names; stand_in = n.stand_in } }) (sym (more n.held (newly_granted n repo page)))
 
-pub with_page : (s : Schema) (f : Oref → Option Object) (tx : List Stmt) (given : List Oref) (l : Left) (m : Machine) (w : Set oref_cmp) (c : Contents) (n : Names) (repo page : ℕ)
-    → Stands s f tx given l (state_with m w c n) → Stands s f tx (given ++ newly_granted n repo page) l (state_with m w c (grant n repo page))
-with_page s f tx given l m w c n repo page r =
-    subst (λ (o : Machine). Stands s f tx (given ++ newly_granted n repo page) l o) (page_granted m w c n repo page)
-    (with_more s f (newly_granted n repo page) tx given l (state_with m w c n) r)
+pub with_page : (s : Schema) (f : Oref → Option Object) (tx : List Stmt) (given : List Oref) (l : Left) (m : Machine) (c : Contents) (n : Names) (repo page : ℕ)
+    → Stands s f tx given l (state_with m c n) → Stands s f tx (given ++ newly_granted n repo page) l (state_with m c (grant n repo page))
+with_page s f tx given l m c n repo page r =
+    subst (λ (o : Machine). Stands s f tx (given ++ newly_granted n repo page) l o) (page_granted m c n repo page)
+    (with_more s f (newly_granted n repo page) tx given l (state_with m c n) r)

@@ -7,7 +7,8 @@ pub mod Hands
 pub mod Later
 pub mod Lifting
 pub mod Methods
-mod NameLists
+pub mod Missing
+mod Names
 pub mod Nested
 pub mod Nodes
 pub mod Standing

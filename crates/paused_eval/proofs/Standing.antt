@@ -25,14 +25,12 @@ use Rattle.paused_defs.specs.declared.frames.Doing.TheVariants as doing
 use Rattle.paused_defs.specs.declared.frames.Frame.{Frame}
 use Rattle.paused_eval.specs.Does.{Moves}
 use Rattle.paused_eval.specs.Standing.{AtStop, CameTo, IsFault, Runs, Stands, Stays, Steps, Went, answer_of, is_done, moved_to, outcome_of}
-use Rattle.paused_eval.specs.Copies.{at_hand, state_with, written_in}
+use Rattle.paused_eval.specs.Copies.{at_hand, entries, state_with, written_in}
 use Rattle.paused_eval.specs.FromPages.{FromPages}
 use Rattle.paused_eval.specs.declared.came.Came.{Came}
 use Rattle.paused_eval.specs.declared.came.Came.TheVariants as came
 use Rattle.paused_eval.specs.declared.came.Came.TheVariants.{Ended, Faulted}
-use Rattle.thor_value.specs.FiniteMap.{Set, empty}
-use Rattle.thor_value.specs.Names.{oref_cmp}
-use Rattle.client_cache.specs.Copies.{Contents}
+use Rattle.client_cache.specs.Copies.{Contents, changed}
 use Rattle.method_eval.specs.Answers.{ran_at}
 use Rattle.method_eval.specs.Names.{Names, supply}
 use Rattle.method_eval.specs.declared.view.Ran.{Ran}
@@ -156,16 +154,16 @@ first : (s : Schema) (f : Oref → Option Object) (tx : List Stmt) (names : List
 unfolding due
 first s f tx names = record { reaches = (reaching.begins s f tx names).1; few = omega arith }
 
-same_begin : (w : Set oref_cmp) (c : Contents) (n : Names) → w ≡ empty → n.stand_in ≡ None → begun (supply n).waiting None ≡ state_with (begun [] None) w c n
+same_begin : (c : Contents) (n : Names) → c.written ≡ [] → n.stand_in ≡ None → begun (supply n).waiting None ≡ state_with (begun [] None) c n
 unfolding written_in
-same_begin w c n e h =
+same_begin c n e h =
     ap (λ (k : Option ℕ). record (begun [] None) { names = record { waiting = (supply n).waiting; stand_in = k } }) (sym h)
-    ∙ ap (λ (v : Set oref_cmp). state_with (begun [] None) v c n) (sym e)
+    ∙ ap (λ (names : List Oref). record (begun [] None) { writes = record { pairs = entries (changed c) names }; names = supply n }) (sym e)
 
-pub begins_standing : (s : Schema) (tx : List Stmt) (w : Set oref_cmp) (c : Contents) (n : Names) → w ≡ empty → FromPages n
-    → Stands s (at_hand s c) tx (supply n).waiting (whole tx) (state_with (begun [] None) w c n)
-begins_standing s tx w c n e p =
-    subst (λ (m : Machine). Stands s (at_hand s c) tx (supply n).waiting (whole tx) m) (same_begin w c n e p.granted) (first s (at_hand s c) tx (supply n).waiting)
+pub begins_standing : (s : Schema) (tx : List Stmt) (c : Contents) (n : Names) → c.written ≡ [] → FromPages n
+    → Stands s (at_hand s c) tx (supply n).waiting (whole tx) (state_with (begun [] None) c n)
+begins_standing s tx c n e p =
+    subst (λ (m : Machine). Stands s (at_hand s c) tx (supply n).waiting (whole tx) m) (same_begin c n e p.granted) (first s (at_hand s c) tx (supply n).waiting)
 
 -- ---- the answer
 

@@ -23,25 +23,24 @@ use Rattle.paused_eval.proofs.Directly.{body, left_waiting, next_turn, same_worl
 use Rattle.paused_eval.specs.Begins.{first_part, waiting_frame}
 use Rattle.paused_eval.specs.Copies.{Keeps, state}
 use Rattle.paused_eval.specs.Direct.{Direct, Directly, Directs, Outcome, Waits, on, behind, called, collect, directly, effect, node, statement, tests, turn}
-use Rattle.paused_eval.specs.declared.progress.Progress.{Progress}
 use Rattle.paused_eval.specs.declared.unwound.Unwound.{Unwound}
 use Rattle.paused_eval.specs.declared.unwound.Unwound.TheVariants.{Faulted, Later, NoMemory}
 
 -- ---- what is read of the state isn't in the objects written
 
-type_there : (s : Schema) (p : Progress) (c : Contents) (e : Expr) → type_of (scope_at s p.machine) e ≡ type_of (scope_at s (state p c)) e
+type_there : (s : Schema) (p : Machine) (c : Contents) (e : Expr) → type_of (scope_at s p) e ≡ type_of (scope_at s (state p c)) e
 unfolding scope_at
 type_there s p c e = refl
 
-pub kind_there : (s : Schema) (p : Progress) (c : Contents) (t : ExprType) (e f : ExprNode) → t ≡ type_of (scope_at s p.machine) (plain f) → f ≡ e → t ≡ type_of (scope_at s (state p c)) (plain e)
-kind_there s p c t e f is same = is ∙ ap (λ (x : ExprNode). type_of (scope_at s p.machine) (plain x)) same ∙ type_there s p c (plain e)
+pub kind_there : (s : Schema) (p : Machine) (c : Contents) (t : ExprType) (e f : ExprNode) → t ≡ type_of (scope_at s p) (plain f) → f ≡ e → t ≡ type_of (scope_at s (state p c)) (plain e)
+kind_there s p c t e f is same = is ∙ ap (λ (x : ExprNode). type_of (scope_at s p) (plain x)) same ∙ type_there s p c (plain e)
 
-named_there : (s : Schema) (p : Progress) (c : Contents) (name : List ℕ) → named_value s p.machine name ≡ named_value s (state p c) name
+named_there : (s : Schema) (p : Machine) (c : Contents) (name : List ℕ) → named_value s p name ≡ named_value s (state p c) name
 unfolding named_value
 named_there s p c name = refl
 
-pub value_there : (s : Schema) (p : Progress) (c : Contents) (v : Value) (x y : List ℕ) → v ≡ named_value s p.machine y → y ≡ x → v ≡ named_value s (state p c) x
-value_there s p c v x y is same = is ∙ ap (named_value s p.machine) same ∙ named_there s p c x
+pub value_there : (s : Schema) (p : Machine) (c : Contents) (v : Value) (x y : List ℕ) → v ≡ named_value s p y → y ≡ x → v ≡ named_value s (state p c) x
+value_there s p c v x y is same = is ∙ ap (named_value s p) same ∙ named_there s p c x
 
 pub node_variable : (w : World) (n : ℕ) (i : Directly) (x : Expr-F Expr) (name : List ℕ) (line : ℕ) (m : Machine) (v : Value) → x ≡ Expr-F.Variable (record { text = name; line = line })
     → v ≡ named_value w.schema m name → node w n i x m ≡ (Ok v, m)

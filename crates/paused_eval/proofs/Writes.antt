@@ -1,27 +1,27 @@
 -- The objects that a run has written, as its answer lists them and as they stand in the copies then.
-use Rattle.std.proofs.Common.{◌≡◌, ◌||◌, ℕ, Bool, true, false, cond, List, [], ◌∷◌, ◌++◌, Option, Some, None, refl, ap, sym, ◌∙◌, append_assoc}
-use Rattle.std.proofs.lemmas.Map.Made.{is_some-lookup}
+use Rattle.std.proofs.Common.{◌≡◌, ◌||◌, ℕ, Bool, true, false, cond, List, [], ◌∷◌, ◌++◌, Option, Some, None, refl, ap, subst, sym, ◌∙◌, append_assoc}
+use Rattle.std.proofs.lemmas.List.{append-nil}
 use Rattle.std.specs.BTreeMap.{is_at}
 use Rattle.std.specs.List.{list_any}
-use Rattle.std.specs.Map.{keys_of}
+use Rattle.std.specs.List.Sorted.{IsStrictlySortedBy}
 use Rattle.std.specs.Option.{option_or}
 use Rattle.std.specs.Ordering.{eq_by_cmp}
 use Rattle.std.specs.Prelude.{Err, IfOk, Ok, OnOk, Result, is_some, option_map}
 use Rattle.thor_value.proofs.FiniteMap.{get-insert}
 use Rattle.thor_value.proofs.NameOrders.{oref_total}
-use Rattle.thor_value.specs.FiniteMap.{Map, Set, empty, get, insert, keys, overwrite}
+use Rattle.thor_value.specs.FiniteMap.{Map, empty, get, insert, overwrite}
 use Rattle.thor_value.specs.Names.{oref_cmp}
 use Rattle.thor_value.specs.declared.names.Oref.{Oref}
 use Rattle.thor_value.specs.declared.values.Obj.{Obj}
 use Rattle.class_defs.specs.Stored.{bare, in_epoch}
 use Rattle.class_defs.specs.declared.store.Object.{Object}
-use Rattle.client_cache.specs.Copies.{Contents, changed}
+use Rattle.client_cache.specs.Copies.{Contents, changed, has_written}
 use Rattle.client_cache.specs.Pages.{same_name}
 use Rattle.client_cache.specs.Slots.{dated}
 use Rattle.method_eval.specs.Answers.{stored_at}
 use Rattle.paused_eval.proofs.Hands.{name_tests, one_name, one_of as same_object}
 use Rattle.paused_eval.specs.Copies.{Keeps, Tied, entries, entry, last_of, written_in}
-use Rattle.paused_eval.specs.Writing.{AreWritten, Dates, SameUndated}
+use Rattle.paused_eval.specs.Writing.{Dates, SameUndated}
 
 -- ---- one after the other
 
@@ -64,11 +64,11 @@ not_written : (ver : ℕ) (o : Option Obj) → is_some o ≡ false → option_ma
 not_written ver None h = refl
 not_written ver (Some o) h = cc
 
-pub begins : (ver : ℕ) (names : List Oref) (c : Contents) → AreWritten names c → Dating ver c c names
-begins ver names c w = record {
+pub begins : (ver : ℕ) (c : Contents) → Tied c → Dating ver c c c.written
+begins ver c t = record {
   kept = λ x. refl;
   same = record { same = λ x. refl };
-  done = λ x h. not_written ver (changed c x) (w.marked x ∙ h);
+  done = λ x h. not_written ver (changed c x) (t.marked x ∙ h);
 }
 
 module _ (ver : ℕ) (old cur new : Contents) (y : Oref) (rest : List Oref) (d : Dating ver old cur (y ∷ rest))
@@ -130,14 +130,14 @@ as_written ver true (Some o) h = refl
 as_written ver false None h = refl
 as_written ver false (Some o) h = cc
 
-pub listed : (epoch : ℕ) (w : Set oref_cmp) (c : Contents) (x : Oref) → Tied w c → last_of (stored_at epoch (written_in w c).pairs) x ≡ option_map (dated epoch) (changed c x)
+pub listed : (epoch : ℕ) (c : Contents) (x : Oref) → Tied c → last_of (stored_at epoch (written_in c).pairs) x ≡ option_map (dated epoch) (changed c x)
 unfolding written_in
-listed epoch w c x t = over epoch (changed c) x (keys w) empty ∙ as_written epoch (list_any (is_at (oref_cmp x)) (keys w)) (changed c x) (t.marked x ∙ is_some-lookup (is_at (oref_cmp x)) w.pairs)
+listed epoch c x t = over epoch (changed c) x c.written empty ∙ as_written epoch (has_written c x) (changed c x) (t.marked x)
 
 -- what is written stands as it is answered
-pub stands_so : (epoch : ℕ) (w : Set oref_cmp) (old new : Contents) (writes : List (Oref × Obj)) → Tied w old → Dates epoch old new → writes ≡ stored_at epoch (written_in w old).pairs
+pub stands_so : (epoch : ℕ) (old new : Contents) (writes : List (Oref × Obj)) → Tied old → Dates epoch old new → writes ≡ stored_at epoch (written_in old).pairs
     → (x : Oref) → changed new x ≡ last_of writes x
-stands_so epoch w old new writes t d e x = d.all x ∙ (sym (listed epoch w old x t) ∙ ap (λ (ws : List (Oref × Obj)). last_of ws x) (sym e))
+stands_so epoch old new writes t d e x = d.all x ∙ (sym (listed epoch old x t) ∙ ap (λ (ws : List (Oref × Obj)). last_of ws x) (sym e))
 
 -- ---- the names beside the copies
 
@@ -145,27 +145,29 @@ some_dated : (ver : ℕ) (o : Option Obj) → is_some o ≡ is_some (option_map 
 some_dated ver None = refl
 some_dated ver (Some o) = refl
 
-pub still_tied : (ver : ℕ) (w : Set oref_cmp) (old new : Contents) → Tied w old → SameUndated ver old new → Tied w new
-still_tied ver w old new t s = record {
-  rising = t.rising;
-  marked = λ x. some_dated ver (changed new x) ∙ (ap is_some (s.same x) ∙ (sym (some_dated ver (changed old x)) ∙ t.marked x));
-  within = t.within;
+pub still_tied : (ver : ℕ) (old new : Contents) → Tied old → new.written ≡ old.written → SameUndated ver old new → Tied new
+still_tied ver old new t e s = record {
+  rising = subst (λ (xs : List Oref). IsStrictlySortedBy oref_cmp xs) (sym e) t.rising;
+  marked = λ x. same_mark x ∙ (t.marked x ∙ sym (ap (λ (xs : List Oref). list_any (is_at (oref_cmp x)) xs) e));
+  within = λ x k. t.within x (sym (same_mark x) ∙ k);
 }
-
-pub tied_names : (w : Set oref_cmp) (c : Contents) (names : List Oref) → Tied w c → names ≡ keys w → AreWritten names c
-tied_names w c names t e = record {
-  marked = λ x. t.marked x ∙ (is_some-lookup (is_at (oref_cmp x)) w.pairs ∙ ap (λ (ks : List Oref). list_any (is_at (oref_cmp x)) ks) (sym e));
-}
+  where
+    same_mark : (x : Oref) → is_some (changed new x) ≡ is_some (changed old x)
+    same_mark x = some_dated ver (changed new x) ∙ (ap is_some (s.same x) ∙ sym (some_dated ver (changed old x)))
 
 -- ---- what the function answers
 
-pub by_names : {E : Type 0} (r : Result (List (Oref × Obj)) E) (epoch : ℕ) (w : Set oref_cmp) (c : Contents) (names : List Oref) → names ≡ keys w
-    → IfOk r (λ ws. ws ≡ stored_at epoch (entries (changed c) names)) → IfOk r (λ ws. ws ≡ stored_at epoch (written_in w c).pairs)
-unfolding written_in
-by_names (Ok ws) epoch w c names e h = h ∙ ap (λ (ks : List Oref). stored_at epoch (entries (changed c) ks)) e
-by_names (Err e) epoch w c names same h = tt
+-- where none is left, they are all
+pub all_listed : (epoch : ℕ) (f : Oref → Option Obj) (left : List Oref) (writes all : List (Oref × Obj)) → left ≡ [] → writes ++ stored_at epoch (entries f left) ≡ all → writes ≡ all
+all_listed epoch f left writes all none h = sym (append-nil writes) ∙ (sym (ap (λ (xs : List Oref). writes ++ stored_at epoch (entries f xs)) none) ∙ h)
 
-pub so_they_stand : {E : Type 0} (r : Result (List (Oref × Obj)) E) (epoch : ℕ) (w : Set oref_cmp) (old new : Contents) → Tied w old → OnOk r (Dates epoch old new)
-    → IfOk r (λ ws. ws ≡ stored_at epoch (written_in w old).pairs) → IfOk r (λ ws. (x : Oref) → changed new x ≡ last_of ws x)
-so_they_stand (Ok ws) epoch w old new t d h = stands_so epoch w old new ws t d h
-so_they_stand (Err e) epoch w old new t d h = tt
+pub by_names : {E : Type 0} (r : Result (List (Oref × Obj)) E) (epoch : ℕ) (c : Contents)
+    → IfOk r (λ ws. ws ≡ stored_at epoch (entries (changed c) c.written)) → IfOk r (λ ws. ws ≡ stored_at epoch (written_in c).pairs)
+unfolding written_in
+by_names (Ok ws) epoch c h = h
+by_names (Err e) epoch c h = tt
+
+pub so_they_stand : {E : Type 0} (r : Result (List (Oref × Obj)) E) (epoch : ℕ) (old new : Contents) → Tied old → OnOk r (Dates epoch old new)
+    → IfOk r (λ ws. ws ≡ stored_at epoch (written_in old).pairs) → IfOk r (λ ws. (x : Oref) → changed new x ≡ last_of ws x)
+so_they_stand (Ok ws) epoch old new t d h = stands_so epoch old new ws t d h
+so_they_stand (Err e) epoch old new t d h = tt

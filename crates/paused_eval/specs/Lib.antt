@@ -4,7 +4,5 @@ pub mod Counted
 pub mod Direct
 pub mod Does
 pub mod FromPages
-pub mod NameLists
-pub mod NamesCode
 pub mod Standing
 pub mod Writing

@@ -1,21 +1,14 @@
 -- What a try has written, as its answer lists it (this project's).
-use Rattle.std.specs.BTreeMap.{is_at}
-use Rattle.std.specs.List.{list_any}
-use Rattle.std.specs.Prelude.{List, [], is_some, option_map, ℕ, ◌≡◌}
+use Rattle.std.specs.Prelude.{List, [], option_map, ℕ, ◌≡◌}
 use Rattle.client_cache.specs.Copies.{Contents, changed}
 use Rattle.client_cache.specs.Slots.{dated}
 use Rattle.method_eval.specs.declared.view.Ran.TheVariants.{Done, Need, NeedName}
 use Rattle.method_eval.specs.declared.view.Ran.{Ran}
 use Rattle.paused_eval.specs.Copies.{last_of}
-use Rattle.thor_value.specs.Names.{oref_cmp}
 use Rattle.thor_value.specs.declared.names.Oref.{Oref}
 use Rattle.thor_value.specs.declared.values.Answer.TheVariants as answer
 use Rattle.thor_value.specs.declared.values.Answer.{Answer}
 use Rattle.thor_value.specs.declared.values.Obj.{Obj}
-
--- The names are those of the objects that the try has written.
-pub record AreWritten (names : List Oref) (c : Contents) : Type 0 where
-  pub marked : (x : Oref) → is_some (changed c x) ≡ list_any (is_at (oref_cmp x)) names
 
 -- What the try has written is the same, and is of this version.
 pub record Dates (ver : ℕ) (old new : Contents) : Type 0 where

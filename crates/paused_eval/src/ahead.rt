@@ -15,9 +15,8 @@ ghost use Rattle.thor_value.specs.declared.names.Oref.{Oref};
 use crate::bodies::Bodies;
 use crate::direct::value_of;
 use crate::direct_statements::execute;
-use crate::progress::Progress;
 use crate::unwound::{Frames, Unwound};
-use class_defs::{Flow, Stop};
+use class_defs::{Flow, Machine, Stop};
 use client_cache::Cache;
 use method_eval::{Halt, Program};
 use paused_defs::{Doing, Frame, Stack};
@@ -65,20 +64,20 @@ pub fn ahead<L: Ledger>(
     program: &Program<'_>,
     epoch: u32,
     cache: &mut Cache,
-    progress: &mut Progress,
+    machine: &mut Machine,
     bodies: &mut Bodies<'_, L>,
     stack: &mut Stack<Frame>,
     doing: Doing,
 ) -> Result<Doing, Halt>
-    requires tied { Tied progress.old.written cache.old }
+    requires tied { Tied cache.old }
     requires known { bodies.old.methods.now ≡ class_methods program.now.schema.now.classes }
     ensures goes { (tx : List Stmt) → (given : List Oref) → (count : ℕ) → (n : Names)
-        → Runs program.now.schema.now (at_hand program.now.schema.now cache.old) tx given count (record { doing = doing; stack = stack.old }) (whole_state progress.old cache.old n)
-        → Went program.now.schema.now (at_hand program.now.schema.now cache.old) tx given count result stack.new (whole_state progress.new cache.new n) }
-    ensures tied { Holds result (Tied progress.new.written cache.new) }
+        → Runs program.now.schema.now (at_hand program.now.schema.now cache.old) tx given count (record { doing = doing; stack = stack.old }) (whole_state machine.old cache.old n)
+        → Went program.now.schema.now (at_hand program.now.schema.now cache.old) tx given count result stack.new (whole_state machine.new cache.new n) }
+    ensures tied { Holds result (Tied cache.new) }
     ensures kept { Holds result (Keeps cache.old cache.new) }
     ensures known { bodies.new.methods.now ≡ class_methods program.now.schema.now.classes }
-    ensures work { Holds result (surplus bodies.new.work progress.new.machine.steps ≡ surplus bodies.old.work progress.old.machine.steps) }
+    ensures work { Holds result (surplus bodies.new.work machine.new.steps ≡ surplus bodies.old.work machine.old.steps) }
 {
     match doing {
         Doing::Evaluate { nested, expr } => {
@@ -86,7 +85,7 @@ pub fn ahead<L: Ledger>(
                 program,
                 epoch,
                 cache,
-                progress,
+                machine,
                 bodies,
                 nested,
                 expr.shared(),
@@ -99,7 +98,7 @@ pub fn ahead<L: Ledger>(
                 program,
                 epoch,
                 cache,
-                progress,
+                machine,
                 bodies,
                 nested,
                 stmt.shared(),

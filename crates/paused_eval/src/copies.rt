@@ -1,7 +1,8 @@
 ghost use Rattle.std.proofs.Props.{props};
 ghost use Rattle.std.specs.Prelude.{◌≡◌, ◌<◌, ◌↔◌, ℕ, [], cond, nat_eq, Option, None, Some, IfOk, IsTrue, OnOk, OnErr, not};
-ghost use Rattle.std.specs.List.{list_any};
-ghost use Rattle.thor_value.specs.FiniteMap.{empty, insert, keep};
+ghost use Rattle.std.specs.BTreeSet.{insert_key};
+ghost use Rattle.std.specs.List.{filter, list_any};
+ghost use Rattle.thor_value.specs.Names.{oref_cmp};
 ghost use Rattle.thor_value.specs.declared.names.Oref.{Oref};
 ghost use Rattle.thor_value.specs.declared.values.Obj.{Obj};
 ghost use Rattle.client_cache.specs.Copies.{changed, kept, nothing, pages, seen};
@@ -10,45 +11,17 @@ ghost use Rattle.client_cache.specs.Pages.{on, page_of, same_name, same_page};
 ghost use Rattle.client_cache.specs.Placing.{IsObjectPage, IsPageOf};
 ghost use Rattle.paused_eval.specs.Copies.{AreAmong, Keeps, Tied};
 
-use crate::written_names::WrittenNames;
 use client_cache::{Cache, Looked};
 use std::alloc::Global;
 use thor_value::{NoMemory, Obj, Oref, Orefs};
 
-/// The copies of objects that a client holds, with the names of those that the running try has written.
+/// The copies of objects that a client holds.
 ///
 /// A try's evaluation works on it. A try that is given up leaves each copy as it was.
 #[derive(Drop)]
 pub struct Copies {
     pub cache: Cache,
-    pub written: WrittenNames,
-    pub ghost tied: { Tied written cache } by { Prim.hlevel props },
-}
-
-/// Writes an object, and notes its name. After `NoMemory` what the try has written is given up, or all is as it was.
-#[tactic(auto, using(crate::proofs::Hands::wrote_tied, crate::proofs::Hands::none_written))]
-pub fn write_both(
-    cache: &mut Cache,
-    written: &mut WrittenNames,
-    oref: Oref,
-    obj: Obj,
-) -> Result<(), NoMemory>
-    requires slot { oref.slot < 12 }
-    requires tied { Tied written.old cache.old }
-    ensures kept { Keeps cache.old cache.new }
-    ensures changed { OnOk result ((x : Oref) → changed cache.new x ≡ cond (same_name oref x) (Some obj) (changed cache.old x)) }
-    ensures written { OnOk result (written.new ≡ insert written.old oref tt) }
-    ensures tied { Tied written.new cache.new }
-{
-    cache.write(oref, obj)?;
-    match written.insert(oref, ()) {
-        Ok(()) => Ok(()),
-        Err(NoMemory) => {
-            cache.undo();
-            written.clear();
-            Err(NoMemory)
-        }
-    }
+    pub ghost tied: { Tied cache } by { Prim.hlevel props },
 }
 
 impl Copies {
@@ -57,11 +30,9 @@ impl Copies {
     pub fn new(alloc: Global, pages: u32) -> Result<Copies, NoMemory>
         requires { 0 < pages }
         ensures cache { IfOk result (λ copies. copies.cache ≡ nothing pages) }
-        ensures written { IfOk result (λ copies. copies.written ≡ empty) }
     {
         Ok(Copies {
             cache: Cache::new(alloc, pages)?,
-            written: WrittenNames::new(alloc),
         })
     }
 
@@ -77,7 +48,7 @@ impl Copies {
     pub fn bring_forward(&mut self, oref: Oref)
         ensures kept { Keeps self.old.cache self.new.cache }
         ensures changed { (x : Oref) → changed self.new.cache x ≡ changed self.old.cache x }
-        ensures written { self.new.written ≡ self.old.written }
+        ensures written { self.new.cache.written ≡ self.old.cache.written }
     {
         self.cache.bring_forward(oref);
     }
@@ -90,7 +61,7 @@ impl Copies {
         ensures placed { IfOk result (λ placed. IsTrue placed ↔ IsObjectPage bytes.now page) }
         ensures kept { OnOk result ((objects : ℕ → Option Obj) → IsPageOf bytes.now page objects → (x : Oref) → kept self.new.cache x ≡ cond (same_page (on repo page) (page_of x)) (objects x.slot) (kept self.old.cache x)) }
         ensures changed { (x : Oref) → changed self.new.cache x ≡ changed self.old.cache x }
-        ensures written { self.new.written ≡ self.old.written }
+        ensures written { self.new.cache.written ≡ self.old.cache.written }
         ensures other { IfOk result (λ placed. IsTrue (not placed) → self.new.cache ≡ self.old.cache) }
         ensures err { OnErr result (self.new.cache ≡ self.old.cache) }
     {
@@ -99,13 +70,15 @@ impl Copies {
 
     /// Writes an object. The copy stays beside it until the try is settled. Its page becomes the most recently
     /// used one; where it wasn't held, the try makes it. After `NoMemory` the try may be given up.
+    #[tactic(auto, using(crate::proofs::Hands::wrote_tied))]
     pub fn write(&mut self, oref: Oref, obj: Obj) -> Result<(), NoMemory>
         requires { oref.slot < 12 }
         ensures kept { Keeps self.old.cache self.new.cache }
         ensures changed { OnOk result ((x : Oref) → changed self.new.cache x ≡ cond (same_name oref x) (Some obj) (changed self.old.cache x)) }
-        ensures written { OnOk result (self.new.written ≡ insert self.old.written oref tt) }
+        ensures written { OnOk result (self.new.cache.written ≡ insert_key oref_cmp self.old.cache.written oref) }
     {
-        write_both(&mut self.cache, &mut self.written, oref, obj)
+        self.cache.write(oref, obj)?;
+        Ok(())
     }
 
     /// Gives up what the try has written: each copy stands as before it, and dropped ones stay dropped.
@@ -114,10 +87,8 @@ impl Copies {
         ensures kept { Keeps self.old.cache self.new.cache }
         ensures changed { (x : Oref) → changed self.new.cache x ≡ None }
         ensures names { self.new.cache.written ≡ [] }
-        ensures written { self.new.written ≡ empty }
     {
         self.cache.undo();
-        self.written.clear();
     }
 
     /// Makes what the try has written the copies.
@@ -126,10 +97,8 @@ impl Copies {
         ensures kept { (x : Oref) → kept self.new.cache x ≡ seen self.old.cache x }
         ensures changed { (x : Oref) → changed self.new.cache x ≡ None }
         ensures names { self.new.cache.written ≡ [] }
-        ensures written { self.new.written ≡ empty }
     {
         self.cache.settle();
-        self.written.clear();
     }
 
     /// Drops the copies of these objects. What the try has written stays.
@@ -137,7 +106,7 @@ impl Copies {
     pub fn invalidate(&mut self, orefs: &Orefs)
         ensures kept { (x : Oref) → kept self.new.cache x ≡ cond (list_any (λ y. same_name y x) orefs.now) None (kept self.old.cache x) }
         ensures changed { (x : Oref) → changed self.new.cache x ≡ changed self.old.cache x }
-        ensures written { self.new.written ≡ self.old.written }
+        ensures written { self.new.cache.written ≡ self.old.cache.written }
     {
         self.cache.invalidate(orefs);
     }
@@ -149,7 +118,6 @@ impl Copies {
         ensures kept { AreAmong (kept self.old.cache) (kept self.new.cache) }
         ensures changed { (x : Oref) → changed self.new.cache x ≡ None }
         ensures names { self.new.cache.written ≡ [] }
-        ensures written { self.new.written ≡ empty }
     {
         self.undo();
         self.cache.evict();
@@ -160,9 +128,8 @@ impl Copies {
     pub fn drop_repo(&mut self, repo: u8)
         ensures kept { (x : Oref) → kept self.new.cache x ≡ cond (nat_eq x.repo repo) None (kept self.old.cache x) }
         ensures changed { (x : Oref) → changed self.new.cache x ≡ cond (nat_eq x.repo repo) None (changed self.old.cache x) }
-        ensures written { self.new.written ≡ keep self.old.written (λ x. not (nat_eq x.repo repo)) }
+        ensures written { self.new.cache.written ≡ filter (λ x. not (nat_eq x.repo repo)) self.old.cache.written }
     {
         self.cache.drop_repo(repo);
-        self.written.drop_repo(repo);
     }
 }

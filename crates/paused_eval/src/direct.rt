@@ -18,7 +18,6 @@ use crate::direct_statements::block;
 use crate::moves::ended;
 use crate::objects::{field_value, touch};
 use crate::popping::leave_body;
-use crate::progress::Progress;
 use crate::types::type_of;
 use crate::unwound::Unwound;
 use crate::waiting::{
@@ -42,29 +41,29 @@ pub fn value_of<L: Ledger>(
     program: &Program<'_>,
     epoch: u32,
     cache: &mut Cache,
-    progress: &mut Progress,
+    machine: &mut Machine,
     bodies: &mut Bodies<'_, L>,
     nested: u32,
     expr: &Shared<ExprNode>,
 ) -> Result<Value, Unwound>
-    requires tied { Tied progress.old.written cache.old }
+    requires tied { Tied cache.old }
     requires known { bodies.old.methods.now ≡ class_methods program.now.schema.now.classes }
-    ensures does { Directs result (state progress.new cache.new) ((directly (on program.now.schema.now cache.old) nested).value_of (plain expr.now) (state progress.old cache.old)) }
-    ensures tied { Lasts result (Tied progress.new.written cache.new) }
+    ensures does { Directs result (state machine.new cache.new) ((directly (on program.now.schema.now cache.old) nested).value_of (plain expr.now) (state machine.old cache.old)) }
+    ensures tied { Lasts result (Tied cache.new) }
     ensures kept { Lasts result (Keeps cache.old cache.new) }
     ensures known { bodies.new.methods.now ≡ class_methods program.now.schema.now.classes }
-    ensures work { Lasts result (surplus bodies.new.work progress.new.machine.steps ≡ surplus bodies.old.work progress.old.machine.steps) }
+    ensures work { Lasts result (surplus bodies.new.work machine.new.steps ≡ surplus bodies.old.work machine.old.steps) }
 {
-    if nested == 0 || progress.machine.steps >= STEP_LIMIT {
+    if nested == 0 || machine.steps >= STEP_LIMIT {
         return evaluate_later(program.alloc, nested, expr);
     }
-    progress.machine.steps += 1;
+    machine.steps += 1;
     bodies.work.tick();
     node(
         program,
         epoch,
         cache,
-        progress,
+        machine,
         bodies,
         nested - 1,
         expr.get(),
@@ -78,43 +77,43 @@ fn node<L: Ledger>(
     program: &Program<'_>,
     epoch: u32,
     cache: &mut Cache,
-    progress: &mut Progress,
+    machine: &mut Machine,
     bodies: &mut Bodies<'_, L>,
     inner: u32,
     node: &ExprNode,
 ) -> Result<Value, Unwound>
-    requires tied { Tied progress.old.written cache.old }
+    requires tied { Tied cache.old }
     requires known { bodies.old.methods.now ≡ class_methods program.now.schema.now.classes }
-    ensures does { Directs result (state progress.new cache.new) (spec.node (on program.now.schema.now cache.old) inner (directly (on program.now.schema.now cache.old) inner) (out-Expr (plain node.now)) (state progress.old cache.old)) }
-    ensures tied { Lasts result (Tied progress.new.written cache.new) }
+    ensures does { Directs result (state machine.new cache.new) (spec.node (on program.now.schema.now cache.old) inner (directly (on program.now.schema.now cache.old) inner) (out-Expr (plain node.now)) (state machine.old cache.old)) }
+    ensures tied { Lasts result (Tied cache.new) }
     ensures kept { Lasts result (Keeps cache.old cache.new) }
     ensures known { bodies.new.methods.now ≡ class_methods program.now.schema.now.classes }
-    ensures work { Lasts result (surplus bodies.new.work progress.new.machine.steps ≡ surplus bodies.old.work progress.old.machine.steps) }
+    ensures work { Lasts result (surplus bodies.new.work machine.new.steps ≡ surplus bodies.old.work machine.old.steps) }
 {
     match node {
         ExprNode::Int { value, line: _ } => Ok(Value::Int(*value)),
         ExprNode::Null { line: _ } => Ok(Value::Null),
-        ExprNode::This { line: _ } => Ok(match &progress.machine.this {
+        ExprNode::This { line: _ } => Ok(match &machine.this {
             Some(this) => Value::Ref(this.oref),
             None => Value::Null,
         }),
         ExprNode::Field { name, line: _ } => Ok(field_value(
             program,
             cache,
-            progress,
+            machine,
             name.get().as_slice(),
         )),
         ExprNode::Variable { name, line: _ } => Ok(named_value(
             program,
-            &progress.machine,
+            machine,
             name.get().as_slice(),
         )),
         ExprNode::New { class, line: _, at } => create_later(program.alloc, class, *at),
         ExprNode::Parens { inner: inside, .. } => {
-            value_of(program, epoch, cache, progress, bodies, inner, inside)
+            value_of(program, epoch, cache, machine, bodies, inner, inside)
         }
         ExprNode::Negate { operand, .. } => {
-            negate(program, epoch, cache, progress, bodies, inner, operand)
+            negate(program, epoch, cache, machine, bodies, inner, operand)
         }
         ExprNode::Binary {
             operator,
@@ -122,7 +121,7 @@ fn node<L: Ledger>(
             right,
             ..
         } => binary(
-            program, epoch, cache, progress, bodies, inner, *operator, left, right,
+            program, epoch, cache, machine, bodies, inner, *operator, left, right,
         ),
         ExprNode::Call {
             receiver,
@@ -130,7 +129,7 @@ fn node<L: Ledger>(
             arguments,
             ..
         } => called(
-            program, epoch, cache, progress, bodies, inner, receiver, method, arguments,
+            program, epoch, cache, machine, bodies, inner, receiver, method, arguments,
         ),
     }
 }
@@ -141,20 +140,20 @@ fn negate<L: Ledger>(
     program: &Program<'_>,
     epoch: u32,
     cache: &mut Cache,
-    progress: &mut Progress,
+    machine: &mut Machine,
     bodies: &mut Bodies<'_, L>,
     inner: u32,
     operand: &Shared<ExprNode>,
 ) -> Result<Value, Unwound>
-    requires tied { Tied progress.old.written cache.old }
+    requires tied { Tied cache.old }
     requires known { bodies.old.methods.now ≡ class_methods program.now.schema.now.classes }
-    ensures does { Directs result (state progress.new cache.new) (spec.negate (on program.now.schema.now cache.old) inner (directly (on program.now.schema.now cache.old) inner) (plain operand.now) (state progress.old cache.old)) }
-    ensures tied { Lasts result (Tied progress.new.written cache.new) }
+    ensures does { Directs result (state machine.new cache.new) (spec.negate (on program.now.schema.now cache.old) inner (directly (on program.now.schema.now cache.old) inner) (plain operand.now) (state machine.old cache.old)) }
+    ensures tied { Lasts result (Tied cache.new) }
     ensures kept { Lasts result (Keeps cache.old cache.new) }
     ensures known { bodies.new.methods.now ≡ class_methods program.now.schema.now.classes }
-    ensures work { Lasts result (surplus bodies.new.work progress.new.machine.steps ≡ surplus bodies.old.work progress.old.machine.steps) }
+    ensures work { Lasts result (surplus bodies.new.work machine.new.steps ≡ surplus bodies.old.work machine.old.steps) }
 {
-    match value_of(program, epoch, cache, progress, bodies, inner, operand) {
+    match value_of(program, epoch, cache, machine, bodies, inner, operand) {
         Ok(value) => Ok(Value::Int(0i64.wrapping_sub(number(value)))),
         Err(unwound) => Err(behind_negation(unwound)),
     }
@@ -167,22 +166,22 @@ fn combine<L: Ledger>(
     program: &Program<'_>,
     epoch: u32,
     cache: &mut Cache,
-    progress: &mut Progress,
+    machine: &mut Machine,
     bodies: &mut Bodies<'_, L>,
     inner: u32,
     operator: Operator,
     first: Value,
     right: &Shared<ExprNode>,
 ) -> Result<Value, Unwound>
-    requires tied { Tied progress.old.written cache.old }
+    requires tied { Tied cache.old }
     requires known { bodies.old.methods.now ≡ class_methods program.now.schema.now.classes }
-    ensures does { Directs result (state progress.new cache.new) (spec.combine (on program.now.schema.now cache.old) inner (directly (on program.now.schema.now cache.old) inner) operator first (plain right.now) (state progress.old cache.old)) }
-    ensures tied { Lasts result (Tied progress.new.written cache.new) }
+    ensures does { Directs result (state machine.new cache.new) (spec.combine (on program.now.schema.now cache.old) inner (directly (on program.now.schema.now cache.old) inner) operator first (plain right.now) (state machine.old cache.old)) }
+    ensures tied { Lasts result (Tied cache.new) }
     ensures kept { Lasts result (Keeps cache.old cache.new) }
     ensures known { bodies.new.methods.now ≡ class_methods program.now.schema.now.classes }
-    ensures work { Lasts result (surplus bodies.new.work progress.new.machine.steps ≡ surplus bodies.old.work progress.old.machine.steps) }
+    ensures work { Lasts result (surplus bodies.new.work machine.new.steps ≡ surplus bodies.old.work machine.old.steps) }
 {
-    match value_of(program, epoch, cache, progress, bodies, inner, right) {
+    match value_of(program, epoch, cache, machine, bodies, inner, right) {
         Ok(second) => Ok(combined(operator, first, second)),
         Err(unwound) => Err(behind_left(unwound, operator, first)),
     }
@@ -194,24 +193,24 @@ fn binary<L: Ledger>(
     program: &Program<'_>,
     epoch: u32,
     cache: &mut Cache,
-    progress: &mut Progress,
+    machine: &mut Machine,
     bodies: &mut Bodies<'_, L>,
     inner: u32,
     operator: Operator,
     left: &Shared<ExprNode>,
     right: &Shared<ExprNode>,
 ) -> Result<Value, Unwound>
-    requires tied { Tied progress.old.written cache.old }
+    requires tied { Tied cache.old }
     requires known { bodies.old.methods.now ≡ class_methods program.now.schema.now.classes }
-    ensures does { Directs result (state progress.new cache.new) (spec.binary (on program.now.schema.now cache.old) inner (directly (on program.now.schema.now cache.old) inner) operator (plain left.now) (plain right.now) (state progress.old cache.old)) }
-    ensures tied { Lasts result (Tied progress.new.written cache.new) }
+    ensures does { Directs result (state machine.new cache.new) (spec.binary (on program.now.schema.now cache.old) inner (directly (on program.now.schema.now cache.old) inner) operator (plain left.now) (plain right.now) (state machine.old cache.old)) }
+    ensures tied { Lasts result (Tied cache.new) }
     ensures kept { Lasts result (Keeps cache.old cache.new) }
     ensures known { bodies.new.methods.now ≡ class_methods program.now.schema.now.classes }
-    ensures work { Lasts result (surplus bodies.new.work progress.new.machine.steps ≡ surplus bodies.old.work progress.old.machine.steps) }
+    ensures work { Lasts result (surplus bodies.new.work machine.new.steps ≡ surplus bodies.old.work machine.old.steps) }
 {
-    match value_of(program, epoch, cache, progress, bodies, inner, left) {
+    match value_of(program, epoch, cache, machine, bodies, inner, left) {
         Ok(first) => combine(
-            program, epoch, cache, progress, bodies, inner, operator, first, right,
+            program, epoch, cache, machine, bodies, inner, operator, first, right,
         ),
         Err(unwound) => Err(behind_right(unwound, inner, operator, right)),
     }
@@ -223,27 +222,27 @@ fn called<L: Ledger>(
     program: &Program<'_>,
     epoch: u32,
     cache: &mut Cache,
-    progress: &mut Progress,
+    machine: &mut Machine,
     bodies: &mut Bodies<'_, L>,
     inner: u32,
     receiver: &Shared<ExprNode>,
     method: &Shared<Text>,
     arguments: &Shared<ExprNodes>,
 ) -> Result<Value, Unwound>
-    requires tied { Tied progress.old.written cache.old }
+    requires tied { Tied cache.old }
     requires known { bodies.old.methods.now ≡ class_methods program.now.schema.now.classes }
-    ensures does { Directs result (state progress.new cache.new) (spec.called (on program.now.schema.now cache.old) inner (directly (on program.now.schema.now cache.old) inner) (plain receiver.now) method.now (map plain arguments.now) (state progress.old cache.old)) }
-    ensures tied { Lasts result (Tied progress.new.written cache.new) }
+    ensures does { Directs result (state machine.new cache.new) (spec.called (on program.now.schema.now cache.old) inner (directly (on program.now.schema.now cache.old) inner) (plain receiver.now) method.now (map plain arguments.now) (state machine.old cache.old)) }
+    ensures tied { Lasts result (Tied cache.new) }
     ensures kept { Lasts result (Keeps cache.old cache.new) }
     ensures known { bodies.new.methods.now ≡ class_methods program.now.schema.now.classes }
-    ensures work { Lasts result (surplus bodies.new.work progress.new.machine.steps ≡ surplus bodies.old.work progress.old.machine.steps) }
+    ensures work { Lasts result (surplus bodies.new.work machine.new.steps ≡ surplus bodies.old.work machine.old.steps) }
 {
-    let kind = type_of(program, &progress.machine, receiver.get());
-    match value_of(program, epoch, cache, progress, bodies, inner, receiver) {
+    let kind = type_of(program, machine, receiver.get());
+    match value_of(program, epoch, cache, machine, bodies, inner, receiver) {
         Ok(target) => {
             let none = Values::new(program.alloc);
             collect(
-                program, epoch, cache, progress, bodies, inner, kind, target, method, none,
+                program, epoch, cache, machine, bodies, inner, kind, target, method, none,
                 arguments,
             )
         }
@@ -258,7 +257,7 @@ fn collect<L: Ledger>(
     program: &Program<'_>,
     epoch: u32,
     cache: &mut Cache,
-    progress: &mut Progress,
+    machine: &mut Machine,
     bodies: &mut Bodies<'_, L>,
     inner: u32,
     kind: ExprType,
@@ -267,23 +266,23 @@ fn collect<L: Ledger>(
     none: Values,
     arguments: &Shared<ExprNodes>,
 ) -> Result<Value, Unwound>
-    requires tied { Tied progress.old.written cache.old }
+    requires tied { Tied cache.old }
     requires known { bodies.old.methods.now ≡ class_methods program.now.schema.now.classes }
-    ensures does { Directs result (state progress.new cache.new) (spec.collect (on program.now.schema.now cache.old) inner (directly (on program.now.schema.now cache.old) inner) kind target method.now none (map plain arguments.now) (state progress.old cache.old)) }
-    ensures tied { Lasts result (Tied progress.new.written cache.new) }
+    ensures does { Directs result (state machine.new cache.new) (spec.collect (on program.now.schema.now cache.old) inner (directly (on program.now.schema.now cache.old) inner) kind target method.now none (map plain arguments.now) (state machine.old cache.old)) }
+    ensures tied { Lasts result (Tied cache.new) }
     ensures kept { Lasts result (Keeps cache.old cache.new) }
     ensures known { bodies.new.methods.now ≡ class_methods program.now.schema.now.classes }
-    ensures work { Lasts result (surplus bodies.new.work progress.new.machine.steps ≡ surplus bodies.old.work progress.old.machine.steps) }
+    ensures work { Lasts result (surplus bodies.new.work machine.new.steps ≡ surplus bodies.old.work machine.old.steps) }
 {
     let mut done = none;
     for place in 0..usize::MAX {
         match SharedExprs::at(arguments, place) {
             None => {
                 return ready(
-                    program, epoch, cache, progress, bodies, inner, kind, target, method, done,
+                    program, epoch, cache, machine, bodies, inner, kind, target, method, done,
                 );
             }
-            Some(expr) => match value_of(program, epoch, cache, progress, bodies, inner, expr) {
+            Some(expr) => match value_of(program, epoch, cache, machine, bodies, inner, expr) {
                 Ok(value) => done.push(value)?,
                 Err(unwound) => {
                     let rest = SharedExprs::behind(arguments, place)?;
@@ -301,7 +300,7 @@ fn ready<L: Ledger>(
     program: &Program<'_>,
     epoch: u32,
     cache: &mut Cache,
-    progress: &mut Progress,
+    machine: &mut Machine,
     bodies: &mut Bodies<'_, L>,
     inner: u32,
     kind: ExprType,
@@ -309,17 +308,17 @@ fn ready<L: Ledger>(
     method: &Shared<Text>,
     arguments: Values,
 ) -> Result<Value, Unwound>
-    requires tied { Tied progress.old.written cache.old }
+    requires tied { Tied cache.old }
     requires known { bodies.old.methods.now ≡ class_methods program.now.schema.now.classes }
-    ensures does { Directs result (state progress.new cache.new) (spec.ready (on program.now.schema.now cache.old) inner (directly (on program.now.schema.now cache.old) inner) kind target method.now arguments (state progress.old cache.old)) }
-    ensures tied { Lasts result (Tied progress.new.written cache.new) }
+    ensures does { Directs result (state machine.new cache.new) (spec.ready (on program.now.schema.now cache.old) inner (directly (on program.now.schema.now cache.old) inner) kind target method.now arguments (state machine.old cache.old)) }
+    ensures tied { Lasts result (Tied cache.new) }
     ensures kept { Lasts result (Keeps cache.old cache.new) }
     ensures known { bodies.new.methods.now ≡ class_methods program.now.schema.now.classes }
-    ensures work { Lasts result (surplus bodies.new.work progress.new.machine.steps ≡ surplus bodies.old.work progress.old.machine.steps) }
+    ensures work { Lasts result (surplus bodies.new.work machine.new.steps ≡ surplus bodies.old.work machine.old.steps) }
 {
     match (kind, target) {
         (ExprType::Class(class), Value::Ref(oref)) => call(
-            program, epoch, cache, progress, bodies, inner, class, oref, method, arguments,
+            program, epoch, cache, machine, bodies, inner, class, oref, method, arguments,
         ),
         (_, _) => faulted(Fault::NullCall),
     }
@@ -332,7 +331,7 @@ fn call<L: Ledger>(
     program: &Program<'_>,
     epoch: u32,
     cache: &mut Cache,
-    progress: &mut Progress,
+    machine: &mut Machine,
     bodies: &mut Bodies<'_, L>,
     inner: u32,
     class: u16,
@@ -340,19 +339,19 @@ fn call<L: Ledger>(
     method: &Shared<Text>,
     arguments: Values,
 ) -> Result<Value, Unwound>
-    requires tied { Tied progress.old.written cache.old }
+    requires tied { Tied cache.old }
     requires known { bodies.old.methods.now ≡ class_methods program.now.schema.now.classes }
-    ensures does { Directs result (state progress.new cache.new) (spec.call (on program.now.schema.now cache.old) inner (directly (on program.now.schema.now cache.old) inner) class oref method.now arguments (state progress.old cache.old)) }
-    ensures tied { Lasts result (Tied progress.new.written cache.new) }
+    ensures does { Directs result (state machine.new cache.new) (spec.call (on program.now.schema.now cache.old) inner (directly (on program.now.schema.now cache.old) inner) class oref method.now arguments (state machine.old cache.old)) }
+    ensures tied { Lasts result (Tied cache.new) }
     ensures kept { Lasts result (Keeps cache.old cache.new) }
     ensures known { bodies.new.methods.now ≡ class_methods program.now.schema.now.classes }
-    ensures work { Lasts result (surplus bodies.new.work progress.new.machine.steps ≡ surplus bodies.old.work progress.old.machine.steps) }
+    ensures work { Lasts result (surplus bodies.new.work machine.new.steps ≡ surplus bodies.old.work machine.old.steps) }
 {
-    if progress.machine.depth >= DEPTH_LIMIT {
+    if machine.depth >= DEPTH_LIMIT {
         return faulted(Fault::Depth);
     }
-    let owners = owners_at(program, class, oref, &progress.machine)?;
-    match touch(program, cache, progress, &owners, oref) {
+    let owners = owners_at(program, class, oref, machine)?;
+    match touch(program, cache, machine, &owners, oref) {
         Ok(found) => {
             let this = Receiver {
                 oref,
@@ -360,7 +359,7 @@ fn call<L: Ledger>(
                 owners,
             };
             enter(
-                program, epoch, cache, progress, bodies, inner, found, this, method, &arguments,
+                program, epoch, cache, machine, bodies, inner, found, this, method, &arguments,
             )
         }
         Err(halt) => Err(not_entered(program.alloc, halt, inner, class, oref, method, arguments)),
@@ -373,7 +372,7 @@ fn enter<L: Ledger>(
     program: &Program<'_>,
     epoch: u32,
     cache: &mut Cache,
-    progress: &mut Progress,
+    machine: &mut Machine,
     bodies: &mut Bodies<'_, L>,
     inner: u32,
     found: u16,
@@ -381,21 +380,21 @@ fn enter<L: Ledger>(
     name: &Shared<Text>,
     arguments: &Values,
 ) -> Result<Value, Unwound>
-    requires tied { Tied progress.old.written cache.old }
+    requires tied { Tied cache.old }
     requires known { bodies.old.methods.now ≡ class_methods program.now.schema.now.classes }
-    requires depth { progress.old.machine.depth < 64 }
-    ensures does { Directs result (state progress.new cache.new) (spec.enter_as (on program.now.schema.now cache.old) inner (directly (on program.now.schema.now cache.old) inner) this found (method_of program.now.schema.now.classes this.class name.now) arguments.now (state progress.old cache.old)) }
-    ensures tied { Lasts result (Tied progress.new.written cache.new) }
+    requires depth { machine.old.depth < 64 }
+    ensures does { Directs result (state machine.new cache.new) (spec.enter_as (on program.now.schema.now cache.old) inner (directly (on program.now.schema.now cache.old) inner) this found (method_of program.now.schema.now.classes this.class name.now) arguments.now (state machine.old cache.old)) }
+    ensures tied { Lasts result (Tied cache.new) }
     ensures kept { Lasts result (Keeps cache.old cache.new) }
     ensures known { bodies.new.methods.now ≡ class_methods program.now.schema.now.classes }
-    ensures work { Lasts result (surplus bodies.new.work progress.new.machine.steps ≡ surplus bodies.old.work progress.old.machine.steps) }
+    ensures work { Lasts result (surplus bodies.new.work machine.new.steps ≡ surplus bodies.old.work machine.old.steps) }
 {
     if found != this.class {
         return faulted(Fault::NullCall);
     }
     match method_in(program, bodies, this.class, name.get().as_slice()) {
         Some(method) => run_body(
-            program, epoch, cache, progress, bodies, inner, this, method, arguments,
+            program, epoch, cache, machine, bodies, inner, this, method, arguments,
         ),
         None => faulted(Fault::NullCall),
     }
@@ -440,39 +439,39 @@ fn run_body<L: Ledger>(
     program: &Program<'_>,
     epoch: u32,
     cache: &mut Cache,
-    progress: &mut Progress,
+    machine: &mut Machine,
     bodies: &mut Bodies<'_, L>,
     inner: u32,
     this: Receiver,
     method: &SharedMethod,
     arguments: &Values,
 ) -> Result<Value, Unwound>
-    requires tied { Tied progress.old.written cache.old }
+    requires tied { Tied cache.old }
     requires known { bodies.old.methods.now ≡ class_methods program.now.schema.now.classes }
-    requires depth { progress.old.machine.depth < 64 }
-    ensures does { Directs result (state progress.new cache.new) (spec.run_body (on program.now.schema.now cache.old) inner (directly (on program.now.schema.now cache.old) inner) this method.now arguments.now (state progress.old cache.old)) }
-    ensures tied { Lasts result (Tied progress.new.written cache.new) }
+    requires depth { machine.old.depth < 64 }
+    ensures does { Directs result (state machine.new cache.new) (spec.run_body (on program.now.schema.now cache.old) inner (directly (on program.now.schema.now cache.old) inner) this method.now arguments.now (state machine.old cache.old)) }
+    ensures tied { Lasts result (Tied cache.new) }
     ensures kept { Lasts result (Keeps cache.old cache.new) }
     ensures known { bodies.new.methods.now ≡ class_methods program.now.schema.now.classes }
-    ensures work { Lasts result (surplus bodies.new.work progress.new.machine.steps ≡ surplus bodies.old.work progress.old.machine.steps) }
+    ensures work { Lasts result (surplus bodies.new.work machine.new.steps ≡ surplus bodies.old.work machine.old.steps) }
 {
     let Outside {
         depth,
         this,
         locals,
-    } = go_inside(program, &mut progress.machine, this, method, arguments)?;
+    } = go_inside(program, machine, this, method, arguments)?;
     let kind = type_named(program, method.result());
     match block(
         program,
         epoch,
         cache,
-        progress,
+        machine,
         bodies,
         inner,
         method.body(),
     ) {
         Ok(flow) => {
-            leave_body(&mut progress.machine, depth, this, locals);
+            leave_body(machine, depth, this, locals);
             Ok(ended(kind, flow))
         }
         Err(unwound) => Err(behind_body(unwound, depth, this, locals, kind)),

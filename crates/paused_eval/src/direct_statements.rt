@@ -14,13 +14,12 @@ use crate::bodies::Bodies;
 use crate::direct::value_of;
 use crate::moves::first_part;
 use crate::objects::assign_field;
-use crate::progress::Progress;
 use crate::unwound::Unwound;
 use crate::waiting::{
     behind_block, behind_first_part, behind_statement, behind_test, behind_turn, execute_later,
     test_later,
 };
-use class_defs::{Flow, STEP_LIMIT, number};
+use class_defs::{Flow, Machine, STEP_LIMIT, number};
 use client_cache::Cache;
 use method_eval::{Program, assign_local, declare, holds, type_named};
 use paused_defs::{ExprNode, Shared, SharedBlock, StmtNode, StmtNodes};
@@ -34,23 +33,23 @@ pub fn block<L: Ledger>(
     program: &Program<'_>,
     epoch: u32,
     cache: &mut Cache,
-    progress: &mut Progress,
+    machine: &mut Machine,
     bodies: &mut Bodies<'_, L>,
     inner: u32,
     stmts: &Shared<StmtNodes>,
 ) -> Result<Flow, Unwound>
-    requires tied { Tied progress.old.written cache.old }
+    requires tied { Tied cache.old }
     requires known { bodies.old.methods.now ≡ class_methods program.now.schema.now.classes }
-    ensures does { Directs result (state progress.new cache.new) (spec.block (on program.now.schema.now cache.old) inner (directly (on program.now.schema.now cache.old) inner) (map plain_stmt stmts.now) (state progress.old cache.old)) }
-    ensures tied { Lasts result (Tied progress.new.written cache.new) }
+    ensures does { Directs result (state machine.new cache.new) (spec.block (on program.now.schema.now cache.old) inner (directly (on program.now.schema.now cache.old) inner) (map plain_stmt stmts.now) (state machine.old cache.old)) }
+    ensures tied { Lasts result (Tied cache.new) }
     ensures kept { Lasts result (Keeps cache.old cache.new) }
     ensures known { bodies.new.methods.now ≡ class_methods program.now.schema.now.classes }
-    ensures work { Lasts result (surplus bodies.new.work progress.new.machine.steps ≡ surplus bodies.old.work progress.old.machine.steps) }
+    ensures work { Lasts result (surplus bodies.new.work machine.new.steps ≡ surplus bodies.old.work machine.old.steps) }
 {
-    let count = progress.machine.locals.len();
-    match in_order(program, epoch, cache, progress, bodies, inner, stmts) {
+    let count = machine.locals.len();
+    match in_order(program, epoch, cache, machine, bodies, inner, stmts) {
         Ok(flow) => {
-            progress.machine.locals.truncate(count);
+            machine.locals.truncate(count);
             Ok(flow)
         }
         Err(unwound) => Err(behind_block(unwound, count)),
@@ -64,23 +63,23 @@ fn in_order<L: Ledger>(
     program: &Program<'_>,
     epoch: u32,
     cache: &mut Cache,
-    progress: &mut Progress,
+    machine: &mut Machine,
     bodies: &mut Bodies<'_, L>,
     inner: u32,
     stmts: &Shared<StmtNodes>,
 ) -> Result<Flow, Unwound>
-    requires tied { Tied progress.old.written cache.old }
+    requires tied { Tied cache.old }
     requires known { bodies.old.methods.now ≡ class_methods program.now.schema.now.classes }
-    ensures does { Directs result (state progress.new cache.new) (spec.in_order (on program.now.schema.now cache.old) inner (directly (on program.now.schema.now cache.old) inner) (map plain_stmt stmts.now) (state progress.old cache.old)) }
-    ensures tied { Lasts result (Tied progress.new.written cache.new) }
+    ensures does { Directs result (state machine.new cache.new) (spec.in_order (on program.now.schema.now cache.old) inner (directly (on program.now.schema.now cache.old) inner) (map plain_stmt stmts.now) (state machine.old cache.old)) }
+    ensures tied { Lasts result (Tied cache.new) }
     ensures kept { Lasts result (Keeps cache.old cache.new) }
     ensures known { bodies.new.methods.now ≡ class_methods program.now.schema.now.classes }
-    ensures work { Lasts result (surplus bodies.new.work progress.new.machine.steps ≡ surplus bodies.old.work progress.old.machine.steps) }
+    ensures work { Lasts result (surplus bodies.new.work machine.new.steps ≡ surplus bodies.old.work machine.old.steps) }
 {
     for place in 0..usize::MAX {
         match SharedBlock::at(stmts, place) {
             None => return Ok(Flow::Next),
-            Some(stmt) => match execute(program, epoch, cache, progress, bodies, inner, stmt) {
+            Some(stmt) => match execute(program, epoch, cache, machine, bodies, inner, stmt) {
                 Ok(Flow::Next) => {}
                 Ok(Flow::Returned(value)) => return Ok(Flow::Returned(value)),
                 Err(unwound) => {
@@ -100,29 +99,29 @@ pub fn execute<L: Ledger>(
     program: &Program<'_>,
     epoch: u32,
     cache: &mut Cache,
-    progress: &mut Progress,
+    machine: &mut Machine,
     bodies: &mut Bodies<'_, L>,
     nested: u32,
     stmt: &Shared<StmtNode>,
 ) -> Result<Flow, Unwound>
-    requires tied { Tied progress.old.written cache.old }
+    requires tied { Tied cache.old }
     requires known { bodies.old.methods.now ≡ class_methods program.now.schema.now.classes }
-    ensures does { Directs result (state progress.new cache.new) ((directly (on program.now.schema.now cache.old) nested).execute (plain_stmt stmt.now) (state progress.old cache.old)) }
-    ensures tied { Lasts result (Tied progress.new.written cache.new) }
+    ensures does { Directs result (state machine.new cache.new) ((directly (on program.now.schema.now cache.old) nested).execute (plain_stmt stmt.now) (state machine.old cache.old)) }
+    ensures tied { Lasts result (Tied cache.new) }
     ensures kept { Lasts result (Keeps cache.old cache.new) }
     ensures known { bodies.new.methods.now ≡ class_methods program.now.schema.now.classes }
-    ensures work { Lasts result (surplus bodies.new.work progress.new.machine.steps ≡ surplus bodies.old.work progress.old.machine.steps) }
+    ensures work { Lasts result (surplus bodies.new.work machine.new.steps ≡ surplus bodies.old.work machine.old.steps) }
 {
-    if nested == 0 || progress.machine.steps >= STEP_LIMIT {
+    if nested == 0 || machine.steps >= STEP_LIMIT {
         return execute_later(program.alloc, nested, stmt);
     }
-    progress.machine.steps += 1;
+    machine.steps += 1;
     bodies.work.tick();
     statement(
         program,
         epoch,
         cache,
-        progress,
+        machine,
         bodies,
         nested - 1,
         stmt.get(),
@@ -136,29 +135,29 @@ fn statement<L: Ledger>(
     program: &Program<'_>,
     epoch: u32,
     cache: &mut Cache,
-    progress: &mut Progress,
+    machine: &mut Machine,
     bodies: &mut Bodies<'_, L>,
     inner: u32,
     node: &StmtNode,
 ) -> Result<Flow, Unwound>
-    requires tied { Tied progress.old.written cache.old }
+    requires tied { Tied cache.old }
     requires known { bodies.old.methods.now ≡ class_methods program.now.schema.now.classes }
-    ensures does { Directs result (state progress.new cache.new) (spec.statement (on program.now.schema.now cache.old) inner (directly (on program.now.schema.now cache.old) inner) (out-Stmt (plain_stmt node.now)) (state progress.old cache.old)) }
-    ensures tied { Lasts result (Tied progress.new.written cache.new) }
+    ensures does { Directs result (state machine.new cache.new) (spec.statement (on program.now.schema.now cache.old) inner (directly (on program.now.schema.now cache.old) inner) (out-Stmt (plain_stmt node.now)) (state machine.old cache.old)) }
+    ensures tied { Lasts result (Tied cache.new) }
     ensures kept { Lasts result (Keeps cache.old cache.new) }
     ensures known { bodies.new.methods.now ≡ class_methods program.now.schema.now.classes }
-    ensures work { Lasts result (surplus bodies.new.work progress.new.machine.steps ≡ surplus bodies.old.work progress.old.machine.steps) }
+    ensures work { Lasts result (surplus bodies.new.work machine.new.steps ≡ surplus bodies.old.work machine.old.steps) }
 {
     match value_of(
         program,
         epoch,
         cache,
-        progress,
+        machine,
         bodies,
         inner,
         first_part(node),
     ) {
-        Ok(value) => effect(program, epoch, cache, progress, bodies, inner, node, value),
+        Ok(value) => effect(program, epoch, cache, machine, bodies, inner, node, value),
         Err(unwound) => Err(behind_first_part(program, unwound, inner, node)),
     }
 }
@@ -170,19 +169,19 @@ fn effect<L: Ledger>(
     program: &Program<'_>,
     epoch: u32,
     cache: &mut Cache,
-    progress: &mut Progress,
+    machine: &mut Machine,
     bodies: &mut Bodies<'_, L>,
     inner: u32,
     node: &StmtNode,
     value: Value,
 ) -> Result<Flow, Unwound>
-    requires tied { Tied progress.old.written cache.old }
+    requires tied { Tied cache.old }
     requires known { bodies.old.methods.now ≡ class_methods program.now.schema.now.classes }
-    ensures does { Directs result (state progress.new cache.new) (spec.effect (on program.now.schema.now cache.old) inner (directly (on program.now.schema.now cache.old) inner) (out-Stmt (plain_stmt node.now)) value (state progress.old cache.old)) }
-    ensures tied { Lasts result (Tied progress.new.written cache.new) }
+    ensures does { Directs result (state machine.new cache.new) (spec.effect (on program.now.schema.now cache.old) inner (directly (on program.now.schema.now cache.old) inner) (out-Stmt (plain_stmt node.now)) value (state machine.old cache.old)) }
+    ensures tied { Lasts result (Tied cache.new) }
     ensures kept { Lasts result (Keeps cache.old cache.new) }
     ensures known { bodies.new.methods.now ≡ class_methods program.now.schema.now.classes }
-    ensures work { Lasts result (surplus bodies.new.work progress.new.machine.steps ≡ surplus bodies.old.work progress.old.machine.steps) }
+    ensures work { Lasts result (surplus bodies.new.work machine.new.steps ≡ surplus bodies.old.work machine.old.steps) }
 {
     match node {
         StmtNode::Var {
@@ -191,11 +190,11 @@ fn effect<L: Ledger>(
             ..
         } => {
             let kind = type_named(program, type_name);
-            declare(&mut progress.machine, kind, name.get(), value)?;
+            declare(machine, kind, name.get(), value)?;
             Ok(Flow::Next)
         }
         StmtNode::Assign { name, .. } => {
-            assign_local(&mut progress.machine.locals, name.get().as_slice(), value);
+            assign_local(&mut machine.locals, name.get().as_slice(), value);
             Ok(Flow::Next)
         }
         StmtNode::FieldAssign { field, .. } => {
@@ -203,7 +202,7 @@ fn effect<L: Ledger>(
                 program,
                 epoch,
                 cache,
-                progress,
+                machine,
                 field.get().as_slice(),
                 value,
             )?;
@@ -212,7 +211,7 @@ fn effect<L: Ledger>(
         StmtNode::Return { .. } => Ok(Flow::Returned(value)),
         StmtNode::If { then, .. } => {
             if holds(value) {
-                block(program, epoch, cache, progress, bodies, inner, then)
+                block(program, epoch, cache, machine, bodies, inner, then)
             } else {
                 Ok(Flow::Next)
             }
@@ -223,18 +222,18 @@ fn effect<L: Ledger>(
             ..
         } => {
             if holds(value) {
-                block(program, epoch, cache, progress, bodies, inner, then)
+                block(program, epoch, cache, machine, bodies, inner, then)
             } else {
-                block(program, epoch, cache, progress, bodies, inner, otherwise)
+                block(program, epoch, cache, machine, bodies, inner, otherwise)
             }
         }
         StmtNode::While { condition, body } => {
             turns(
-                program, epoch, cache, progress, bodies, inner, condition, body, value,
+                program, epoch, cache, machine, bodies, inner, condition, body, value,
             )
         }
         StmtNode::Print { .. } => {
-            progress.machine.printed.push(number(value))?;
+            machine.printed.push(number(value))?;
             Ok(Flow::Next)
         }
         StmtNode::Evaluate { .. } => Ok(Flow::Next),
@@ -248,22 +247,22 @@ fn turn_body<L: Ledger>(
     program: &Program<'_>,
     epoch: u32,
     cache: &mut Cache,
-    progress: &mut Progress,
+    machine: &mut Machine,
     bodies: &mut Bodies<'_, L>,
     inner: u32,
     turns: u32,
     condition: &Shared<ExprNode>,
     body: &Shared<StmtNodes>,
 ) -> Result<Flow, Unwound>
-    requires tied { Tied progress.old.written cache.old }
+    requires tied { Tied cache.old }
     requires known { bodies.old.methods.now ≡ class_methods program.now.schema.now.classes }
-    ensures does { Directs result (state progress.new cache.new) (spec.part (spec.block (on program.now.schema.now cache.old) inner (directly (on program.now.schema.now cache.old) inner) (map plain_stmt body.now)) (frame.Again inner turns (plain condition.now) (map plain_stmt body.now)) spec.done (state progress.old cache.old)) }
-    ensures tied { Lasts result (Tied progress.new.written cache.new) }
+    ensures does { Directs result (state machine.new cache.new) (spec.part (spec.block (on program.now.schema.now cache.old) inner (directly (on program.now.schema.now cache.old) inner) (map plain_stmt body.now)) (frame.Again inner turns (plain condition.now) (map plain_stmt body.now)) spec.done (state machine.old cache.old)) }
+    ensures tied { Lasts result (Tied cache.new) }
     ensures kept { Lasts result (Keeps cache.old cache.new) }
     ensures known { bodies.new.methods.now ≡ class_methods program.now.schema.now.classes }
-    ensures work { Lasts result (surplus bodies.new.work progress.new.machine.steps ≡ surplus bodies.old.work progress.old.machine.steps) }
+    ensures work { Lasts result (surplus bodies.new.work machine.new.steps ≡ surplus bodies.old.work machine.old.steps) }
 {
-    match block(program, epoch, cache, progress, bodies, inner, body) {
+    match block(program, epoch, cache, machine, bodies, inner, body) {
         Ok(flow) => Ok(flow),
         Err(unwound) => Err(behind_turn(unwound, inner, turns, condition, body)),
     }
@@ -276,27 +275,27 @@ fn test_again<L: Ledger>(
     program: &Program<'_>,
     epoch: u32,
     cache: &mut Cache,
-    progress: &mut Progress,
+    machine: &mut Machine,
     bodies: &mut Bodies<'_, L>,
     inner: u32,
     turns: u32,
     condition: &Shared<ExprNode>,
     body: &Shared<StmtNodes>,
 ) -> Result<Value, Unwound>
-    requires tied { Tied progress.old.written cache.old }
+    requires tied { Tied cache.old }
     requires known { bodies.old.methods.now ≡ class_methods program.now.schema.now.classes }
-    ensures does { Directs result (state progress.new cache.new) (spec.tests (on program.now.schema.now cache.old) inner (directly (on program.now.schema.now cache.old) inner) turns (plain condition.now) (map plain_stmt body.now) (state progress.old cache.old)) }
-    ensures tied { Lasts result (Tied progress.new.written cache.new) }
+    ensures does { Directs result (state machine.new cache.new) (spec.tests (on program.now.schema.now cache.old) inner (directly (on program.now.schema.now cache.old) inner) turns (plain condition.now) (map plain_stmt body.now) (state machine.old cache.old)) }
+    ensures tied { Lasts result (Tied cache.new) }
     ensures kept { Lasts result (Keeps cache.old cache.new) }
     ensures known { bodies.new.methods.now ≡ class_methods program.now.schema.now.classes }
-    ensures work { Lasts result (surplus bodies.new.work progress.new.machine.steps ≡ surplus bodies.old.work progress.old.machine.steps) }
+    ensures work { Lasts result (surplus bodies.new.work machine.new.steps ≡ surplus bodies.old.work machine.old.steps) }
 {
-    if turns == 0 || progress.machine.steps >= STEP_LIMIT {
+    if turns == 0 || machine.steps >= STEP_LIMIT {
         return test_later(program.alloc, inner, turns, condition, body);
     }
-    progress.machine.steps += 1;
+    machine.steps += 1;
     bodies.work.tick();
-    match value_of(program, epoch, cache, progress, bodies, inner, condition) {
+    match value_of(program, epoch, cache, machine, bodies, inner, condition) {
         Ok(value) => Ok(value),
         Err(unwound) => Err(behind_test(unwound, inner, turns - 1, condition, body)),
     }
@@ -309,20 +308,20 @@ fn turns<L: Ledger>(
     program: &Program<'_>,
     epoch: u32,
     cache: &mut Cache,
-    progress: &mut Progress,
+    machine: &mut Machine,
     bodies: &mut Bodies<'_, L>,
     inner: u32,
     condition: &Shared<ExprNode>,
     body: &Shared<StmtNodes>,
     tested: Value,
 ) -> Result<Flow, Unwound>
-    requires tied { Tied progress.old.written cache.old }
+    requires tied { Tied cache.old }
     requires known { bodies.old.methods.now ≡ class_methods program.now.schema.now.classes }
-    ensures does { Directs result (state progress.new cache.new) (spec.turn (on program.now.schema.now cache.old) inner (directly (on program.now.schema.now cache.old) inner) 100000 (plain condition.now) (map plain_stmt body.now) tested (state progress.old cache.old)) }
-    ensures tied { Lasts result (Tied progress.new.written cache.new) }
+    ensures does { Directs result (state machine.new cache.new) (spec.turn (on program.now.schema.now cache.old) inner (directly (on program.now.schema.now cache.old) inner) 100000 (plain condition.now) (map plain_stmt body.now) tested (state machine.old cache.old)) }
+    ensures tied { Lasts result (Tied cache.new) }
     ensures kept { Lasts result (Keeps cache.old cache.new) }
     ensures known { bodies.new.methods.now ≡ class_methods program.now.schema.now.classes }
-    ensures work { Lasts result (surplus bodies.new.work progress.new.machine.steps ≡ surplus bodies.old.work progress.old.machine.steps) }
+    ensures work { Lasts result (surplus bodies.new.work machine.new.steps ≡ surplus bodies.old.work machine.old.steps) }
 {
     let mut value = tested;
     for count in 0..100_001u32 {
@@ -331,13 +330,13 @@ fn turns<L: Ledger>(
         }
         let turns = 100_000 - count;
         match turn_body(
-            program, epoch, cache, progress, bodies, inner, turns, condition, body,
+            program, epoch, cache, machine, bodies, inner, turns, condition, body,
         )? {
             Flow::Next => {}
             Flow::Returned(value) => return Ok(Flow::Returned(value)),
         }
         match test_again(
-            program, epoch, cache, progress, bodies, inner, turns, condition, body,
+            program, epoch, cache, machine, bodies, inner, turns, condition, body,
         ) {
             Ok(next) => value = next,
             Err(unwound) => return Err(unwound),

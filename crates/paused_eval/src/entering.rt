@@ -12,7 +12,6 @@ ghost use Rattle.paused_eval.specs.Does.{AtNeed, Goes, Holds, Moves};
 use crate::bodies::{Bodies, method_in};
 use crate::moves::open_block;
 use crate::objects::touch;
-use crate::progress::Progress;
 use class_defs::{DEPTH_LIMIT, Machine, Receiver};
 use client_cache::Cache;
 use method_eval::{Halt, Program, bound, fault, owners_at, type_named};
@@ -77,7 +76,7 @@ fn open_method<L: Ledger>(
 pub fn enter<L: Ledger>(
     program: &Program<'_>,
     cache: &mut Cache,
-    progress: &mut Progress,
+    machine: &mut Machine,
     bodies: &mut Bodies<'_, L>,
     stack: &mut Stack<Frame>,
     inner: u32,
@@ -86,20 +85,20 @@ pub fn enter<L: Ledger>(
     method: &Shared<Text>,
     arguments: &Values,
 ) -> Result<Doing, Halt>
-    requires tied { Tied progress.old.written cache.old }
+    requires tied { Tied cache.old }
     requires known { bodies.old.methods.now ≡ class_methods program.now.schema.now.classes }
-    ensures does { Goes result stack.new (state progress.new cache.new) (spec.enters (over program.now.schema.now (at_hand program.now.schema.now cache.old)) inner class oref method.now arguments.now stack.old (state progress.old cache.old)) }
-    ensures stays { AtNeed result ((state progress.new cache.new ≡ state progress.old cache.old) × (stack.new ≡ stack.old)) }
-    ensures tied { Holds result (Tied progress.new.written cache.new) }
+    ensures does { Goes result stack.new (state machine.new cache.new) (spec.enters (over program.now.schema.now (at_hand program.now.schema.now cache.old)) inner class oref method.now arguments.now stack.old (state machine.old cache.old)) }
+    ensures stays { AtNeed result ((state machine.new cache.new ≡ state machine.old cache.old) × (stack.new ≡ stack.old)) }
+    ensures tied { Holds result (Tied cache.new) }
     ensures kept { Holds result (Keeps cache.old cache.new) }
     ensures known { bodies.new.methods.now ≡ class_methods program.now.schema.now.classes }
-    ensures work { Holds result (surplus bodies.new.work progress.new.machine.steps ≡ surplus bodies.old.work progress.old.machine.steps) }
+    ensures work { Holds result (surplus bodies.new.work machine.new.steps ≡ surplus bodies.old.work machine.old.steps) }
 {
-    if progress.machine.depth >= DEPTH_LIMIT {
+    if machine.depth >= DEPTH_LIMIT {
         return fault(Fault::Depth);
     }
-    let owners = owners_at(program, class, oref, &progress.machine)?;
-    let found = touch(program, cache, progress, &owners, oref)?;
+    let owners = owners_at(program, class, oref, machine)?;
+    let found = touch(program, cache, machine, &owners, oref)?;
     if found != class {
         return fault(Fault::NullCall);
     }
@@ -110,7 +109,7 @@ pub fn enter<L: Ledger>(
     };
     open_method(
         program,
-        &mut progress.machine,
+        machine,
         bodies,
         stack,
         inner,

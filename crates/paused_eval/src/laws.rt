@@ -2,8 +2,6 @@
 //! proved once.
 
 ghost use Rattle.std.specs.Prelude.{◌≡◌, ◌++◌, ℕ, List, Option};
-ghost use Rattle.thor_value.specs.FiniteMap.{Set};
-ghost use Rattle.thor_value.specs.Names.{oref_cmp};
 ghost use Rattle.thor_value.specs.declared.names.Oref.{Oref};
 ghost use Rattle.class_defs.specs.declared.machine.Machine.{Machine};
 ghost use Rattle.class_defs.specs.declared.statements.Stmt.{Stmt};
@@ -21,6 +19,6 @@ ghost use Rattle.paused_eval.specs.Standing.{Stands, newly_granted};
 pub fn what_stands_goes_on_later()
     ensures objects { (s : Schema) → (f : Oref → Option Object) → (g : Oref → Option Object) → (tx : List Stmt) → (given : List Oref) → (l : Left) → (m : Machine)
         → Stands s f tx given l m → Agree f g m → Stands s g tx given l m }
-    ensures names { (s : Schema) → (f : Oref → Option Object) → (tx : List Stmt) → (given : List Oref) → (l : Left) → (m : Machine) → (written : Set oref_cmp) → (c : Contents) → (n : Names) → (repo : ℕ) → (page : ℕ)
-        → Stands s f tx given l (state_with m written c n) → Stands s f tx (given ++ newly_granted n repo page) l (state_with m written c (grant n repo page)) }
+    ensures names { (s : Schema) → (f : Oref → Option Object) → (tx : List Stmt) → (given : List Oref) → (l : Left) → (m : Machine) → (c : Contents) → (n : Names) → (repo : ℕ) → (page : ℕ)
+        → Stands s f tx given l (state_with m c n) → Stands s f tx (given ++ newly_granted n repo page) l (state_with m c (grant n repo page)) }
 {}

@@ -15,14 +15,12 @@ mod moves;
 mod objects;
 mod paused;
 mod popping;
-mod progress;
 mod running;
 mod small;
 mod starting;
 mod types;
 mod unwound;
 mod waiting;
-mod written_names;
 
 pub use copies::Copies;
 pub use granted_names::GrantedNames;

@@ -1,6 +1,7 @@
-ghost use Rattle.std.specs.Prelude.{◌≡◌, ◌<◌, ◌+◌, ◌++◌, List, [], Option, Ok, IfOk, OnOk, cond, option_map};
-ghost use Rattle.thor_value.specs.FiniteMap.{empty, has};
+ghost use Rattle.std.specs.Prelude.{◌≡◌, ◌<◌, ◌+◌, ◌++◌, List, [], None, Option, Ok, IfOk, OnOk, cond, option_map};
+ghost use Rattle.thor_value.specs.FiniteMap.{has};
 ghost use Rattle.thor_value.specs.declared.names.Oref.{Oref};
+ghost use Rattle.class_defs.specs.Run.{begun};
 ghost use Rattle.class_defs.specs.declared.statements.Stmt.{Stmt};
 ghost use Rattle.class_defs.specs.declared.store.Object.{Object};
 ghost use Rattle.class_defs.specs.declared.store.Schema.{Schema};
@@ -12,10 +13,10 @@ ghost use Rattle.method_eval.specs.Answers.{ran_at, stored_at};
 ghost use Rattle.method_eval.specs.Names.{Names, supply};
 ghost use Rattle.paused_defs.specs.Methods.{class_methods};
 ghost use Rattle.paused_defs.specs.Resume.{Left};
-ghost use Rattle.paused_eval.specs.Copies.{Keeps, at_hand, entries, entry, last_of, state_with, written_in};
+ghost use Rattle.paused_eval.specs.Copies.{Keeps, Tied, at_hand, entries, entry, last_of, state_with, written_in};
 ghost use Rattle.paused_eval.specs.Counted.{surplus};
 ghost use Rattle.paused_eval.specs.Standing.{AtStop, CameTo, Stands, answer_of, outcome_of};
-ghost use Rattle.paused_eval.specs.Writing.{AreWritten, Dates, HasWritten, SameUndated};
+ghost use Rattle.paused_eval.specs.Writing.{Dates, HasWritten, SameUndated};
 ghost use Rattle.paused_eval.specs.declared.copies.Copies.{Copies};
 ghost use Rattle.paused_eval.specs.declared.granted_names.GrantedNames.{GrantedNames};
 
@@ -23,10 +24,8 @@ use crate::bodies::Bodies;
 use crate::came::Came;
 use crate::copies::Copies;
 use crate::granted_names::GrantedNames;
-use crate::progress::{Progress, begun};
 use crate::running::run_over;
-use crate::written_names::WrittenNames;
-use class_defs::{Flow, Schema};
+use class_defs::{Flow, Machine, NameSupply, Schema};
 use client_cache::Cache;
 use method_eval::{Program, Ran};
 use paused_defs::{ClassMethods, Doing, Frame, SharedBlock, Stack};
@@ -34,7 +33,9 @@ use std::alloc::Global;
 use std::marker::Brand;
 use std::mem;
 use std::sync::ledger::{Blank, Ledger};
-use thor_value::{Answer, NoMemory, Oref, Orefs, StepCount, TryCopy, Writes};
+use thor_value::{
+    Answer, Ints, NoMemory, Oref, OrefMap, Orefs, Sequence, StepCount, TryCopy, Writes,
+};
 
 /// A transaction's evaluation, as far as it has come.
 #[derive(Drop)]
@@ -42,7 +43,7 @@ pub struct Paused {
     pub alloc: Global,
     /// The state of the run, without its writes and names: the copies have the objects written, and the front end
     /// the names.
-    pub progress: Progress,
+    pub machine: Machine,
     pub doing: Doing,
     pub stack: Stack<Frame>,
 }
@@ -63,6 +64,7 @@ fn push_written(
 ) -> Result<(), NoMemory>
     ensures writes { OnOk result (writes.new ≡ writes.old ++ stored_at epoch (entry oref (changed cache.old oref) [])) }
     ensures kept { Keeps cache.old cache.new }
+    ensures names { cache.new.written ≡ cache.old.written }
     ensures changed { (x : Oref) → changed cache.new x ≡ cond (same_name oref x) (option_map (dated epoch) (changed cache.old oref)) (changed cache.old x) }
 {
     match cache.date(oref, epoch)? {
@@ -71,35 +73,54 @@ fn push_written(
     }
 }
 
-/// The objects of these names, as they are written at an epoch. So they stand in the cache, too.
-#[tactic(auto, using(crate::proofs::Writes::goes_on, crate::proofs::Writes::ends))]
-fn writes_of(
-    alloc: Global,
-    cache: &mut Cache,
-    epoch: u32,
-    names: &[Oref],
-) -> Result<Writes, NoMemory>
-    requires { AreWritten names.now cache.old }
-    ensures writes { IfOk result (λ writes. writes ≡ stored_at epoch (entries (changed cache.old) names.now)) }
+/// The objects that the try has written, as they are written at an epoch. So they stand in the cache, too.
+#[tactic(auto, using(crate::proofs::Writes::ends))]
+fn writes_of(alloc: Global, cache: &mut Cache, epoch: u32) -> Result<Writes, NoMemory>
+    requires { Tied cache.old }
+    ensures writes { IfOk result (λ writes. writes ≡ stored_at epoch (entries (changed cache.old) cache.old.written)) }
     ensures dated { OnOk result (Dates epoch cache.old cache.new) }
     ensures same { SameUndated epoch cache.old cache.new }
+    ensures names { cache.new.written ≡ cache.old.written }
     ensures kept { Keeps cache.old cache.new }
 {
     let mut writes = Writes::new(alloc);
-    for oref in names {
-        push_written(cache, epoch, *oref, &mut writes)?;
+    for place in 0..usize::MAX {
+        match cache.written_at(place) {
+            None => return Ok(writes),
+            Some(oref) => push_written(cache, epoch, oref, &mut writes)?,
+        }
     }
-    Ok(writes)
+    Err(NoMemory)
 }
 
-/// The objects that the run has written. As they are answered they stand in the cache, too.
+/// The same over copies.
 #[tactic(auto, using(crate::proofs::Writes::still_tied))]
 fn writes(alloc: Global, copies: &mut Copies, epoch: u32) -> Result<Writes, NoMemory>
-    ensures writes { IfOk result (λ writes. writes ≡ stored_at epoch (written_in copies.old.written copies.old.cache).pairs) }
+    ensures writes { IfOk result (λ writes. writes ≡ stored_at epoch (written_in copies.old.cache).pairs) }
     ensures wrote { IfOk result (λ writes. (x : Oref) → changed copies.new.cache x ≡ last_of writes x) }
     ensures kept { Keeps copies.old.cache copies.new.cache }
 {
-    writes_of(alloc, &mut copies.cache, epoch, copies.written.as_slice())
+    writes_of(alloc, &mut copies.cache, epoch)
+}
+
+/// The state in which a transaction begins.
+fn begun(alloc: Global) -> Machine
+    ensures { result ≡ begun [] None }
+{
+    Machine {
+        steps: 0,
+        depth: 0,
+        this: None,
+        locals: Sequence::new(alloc),
+        reads: OrefMap::new(alloc),
+        writes: OrefMap::new(alloc),
+        created: Orefs::new(alloc),
+        printed: Ints::new(alloc),
+        names: NameSupply {
+            waiting: Orefs::new(alloc),
+            stand_in: None,
+        },
+    }
 }
 
 /// Says what is done next.
@@ -112,9 +133,9 @@ fn set_doing(place: &mut Doing, doing: Doing)
 impl Paused {
     /// Before the first step. It copies nothing of the transaction's text, and nothing later does.
     pub fn begin(alloc: Global, text: &SharedBlock) -> Result<Paused, NoMemory>
-        ensures stands { IfOk result (λ paused. (s : Schema) → (copies : Copies) → (names : GrantedNames) → copies.written ≡ empty
-            → Stands s (at_hand s copies.cache) text.now (supply names.names).waiting (record { doing = paused.doing; stack = paused.stack }) (state_with paused.progress.machine copies.written copies.cache names.names)) }
-        ensures begun { IfOk result (λ paused. paused.progress.machine.steps ≡ 0) }
+        ensures stands { IfOk result (λ paused. (s : Schema) → (copies : Copies) → (names : GrantedNames) → copies.cache.written ≡ []
+            → Stands s (at_hand s copies.cache) text.now (supply names.names).waiting (record { doing = paused.doing; stack = paused.stack }) (state_with paused.machine copies.cache names.names)) }
+        ensures begun { IfOk result (λ paused. paused.machine.steps ≡ 0) }
     {
         let mut stack = Stack::with_room(alloc, FRAMES)?;
         stack.push(Frame::BlockEnd { count: 0 })?;
@@ -124,10 +145,7 @@ impl Paused {
         })?;
         Ok(Paused {
             alloc,
-            progress: Progress {
-                machine: begun(alloc),
-                written: WrittenNames::new(alloc),
-            },
+            machine: begun(alloc),
             doing: Doing::Give { flow: Flow::Next },
             stack,
         })
@@ -135,9 +153,9 @@ impl Paused {
 
     /// Whether the evaluation has read an object. One that it has created counts as not read.
     pub fn has_read(&self, oref: Oref) -> bool
-        ensures { result ≡ has self.now.progress.machine.reads oref }
+        ensures { result ≡ has self.now.machine.reads oref }
     {
-        self.progress.machine.reads.contains(oref)
+        self.machine.reads.contains(oref)
     }
 
     /// The least of these objects that the evaluation has read.
@@ -170,14 +188,14 @@ impl Paused {
         names: &mut GrantedNames,
     ) -> Result<Ran, NoMemory>
         requires known { methods.now ≡ class_methods schema.now.classes }
-        ensures answers { (tx : List Stmt) → (given : List Oref) → Stands schema.now (at_hand schema.now copies.old.cache) tx given (record { doing = self.old.doing; stack = self.old.stack }) (state_with self.old.progress.machine copies.old.written copies.old.cache names.old.names)
+        ensures answers { (tx : List Stmt) → (given : List Oref) → Stands schema.now (at_hand schema.now copies.old.cache) tx given (record { doing = self.old.doing; stack = self.old.stack }) (state_with self.old.machine copies.old.cache names.old.names)
             → IfOk result (λ ran. ran ≡ answer_of epoch schema.now (at_hand schema.now copies.old.cache) tx given) }
-        ensures stands { (tx : List Stmt) → (given : List Oref) → Stands schema.now (at_hand schema.now copies.old.cache) tx given (record { doing = self.old.doing; stack = self.old.stack }) (state_with self.old.progress.machine copies.old.written copies.old.cache names.old.names)
-            → IfOk result (λ ran. AtStop ran (Stands schema.now (at_hand schema.now copies.new.cache) tx given (record { doing = self.new.doing; stack = self.new.stack }) (state_with self.new.progress.machine copies.new.written copies.new.cache names.new.names))) }
+        ensures stands { (tx : List Stmt) → (given : List Oref) → Stands schema.now (at_hand schema.now copies.old.cache) tx given (record { doing = self.old.doing; stack = self.old.stack }) (state_with self.old.machine copies.old.cache names.old.names)
+            → IfOk result (λ ran. AtStop ran (Stands schema.now (at_hand schema.now copies.new.cache) tx given (record { doing = self.new.doing; stack = self.new.stack }) (state_with self.new.machine copies.new.cache names.new.names))) }
         ensures kept { OnOk result (Keeps copies.old.cache copies.new.cache) }
         ensures wrote { IfOk result (λ ran. HasWritten ran copies.new.cache) }
-        ensures steps { (tx : List Stmt) → (given : List Oref) → Stands schema.now (at_hand schema.now copies.old.cache) tx given (record { doing = self.old.doing; stack = self.old.stack }) (state_with self.old.progress.machine copies.old.written copies.old.cache names.old.names)
-            → OnOk result (self.new.progress.machine.steps ≡ (outcome_of schema.now (at_hand schema.now copies.old.cache) tx given).1.steps) }
+        ensures steps { (tx : List Stmt) → (given : List Oref) → Stands schema.now (at_hand schema.now copies.old.cache) tx given (record { doing = self.old.doing; stack = self.old.stack }) (state_with self.old.machine copies.old.cache names.old.names)
+            → OnOk result (self.new.machine.steps ≡ (outcome_of schema.now (at_hand schema.now copies.old.cache) tx given).1.steps) }
     {
         self.go_uncounted::<Brand>(schema, methods, epoch, copies, names, Blank::new(1))
     }
@@ -196,14 +214,14 @@ impl Paused {
         requires parts { ledger.parts ≡ L.parts }
         requires some { 0 < ledger.parts }
         requires known { methods.now ≡ class_methods schema.now.classes }
-        ensures answers { (tx : List Stmt) → (given : List Oref) → Stands schema.now (at_hand schema.now copies.old.cache) tx given (record { doing = self.old.doing; stack = self.old.stack }) (state_with self.old.progress.machine copies.old.written copies.old.cache names.old.names)
+        ensures answers { (tx : List Stmt) → (given : List Oref) → Stands schema.now (at_hand schema.now copies.old.cache) tx given (record { doing = self.old.doing; stack = self.old.stack }) (state_with self.old.machine copies.old.cache names.old.names)
             → IfOk result (λ ran. ran ≡ answer_of epoch schema.now (at_hand schema.now copies.old.cache) tx given) }
-        ensures stands { (tx : List Stmt) → (given : List Oref) → Stands schema.now (at_hand schema.now copies.old.cache) tx given (record { doing = self.old.doing; stack = self.old.stack }) (state_with self.old.progress.machine copies.old.written copies.old.cache names.old.names)
-            → IfOk result (λ ran. AtStop ran (Stands schema.now (at_hand schema.now copies.new.cache) tx given (record { doing = self.new.doing; stack = self.new.stack }) (state_with self.new.progress.machine copies.new.written copies.new.cache names.new.names))) }
+        ensures stands { (tx : List Stmt) → (given : List Oref) → Stands schema.now (at_hand schema.now copies.old.cache) tx given (record { doing = self.old.doing; stack = self.old.stack }) (state_with self.old.machine copies.old.cache names.old.names)
+            → IfOk result (λ ran. AtStop ran (Stands schema.now (at_hand schema.now copies.new.cache) tx given (record { doing = self.new.doing; stack = self.new.stack }) (state_with self.new.machine copies.new.cache names.new.names))) }
         ensures kept { OnOk result (Keeps copies.old.cache copies.new.cache) }
         ensures wrote { IfOk result (λ ran. HasWritten ran copies.new.cache) }
-        ensures steps { (tx : List Stmt) → (given : List Oref) → Stands schema.now (at_hand schema.now copies.old.cache) tx given (record { doing = self.old.doing; stack = self.old.stack }) (state_with self.old.progress.machine copies.old.written copies.old.cache names.old.names)
-            → OnOk result (self.new.progress.machine.steps ≡ (outcome_of schema.now (at_hand schema.now copies.old.cache) tx given).1.steps) }
+        ensures steps { (tx : List Stmt) → (given : List Oref) → Stands schema.now (at_hand schema.now copies.old.cache) tx given (record { doing = self.old.doing; stack = self.old.stack }) (state_with self.old.machine copies.old.cache names.old.names)
+            → OnOk result (self.new.machine.steps ≡ (outcome_of schema.now (at_hand schema.now copies.old.cache) tx given).1.steps) }
     {
         let work: StepCount<L> = StepCount::new(ledger);
         let (ran, work) = self.go_counted(schema, methods, epoch, copies, names, work);
@@ -224,15 +242,15 @@ impl Paused {
         work: StepCount<L>,
     ) -> (Result<Ran, NoMemory>, StepCount<L>)
         requires known { methods.now ≡ class_methods schema.now.classes }
-        ensures answers { (tx : List Stmt) → (given : List Oref) → Stands schema.now (at_hand schema.now copies.old.cache) tx given (record { doing = self.old.doing; stack = self.old.stack }) (state_with self.old.progress.machine copies.old.written copies.old.cache names.old.names)
+        ensures answers { (tx : List Stmt) → (given : List Oref) → Stands schema.now (at_hand schema.now copies.old.cache) tx given (record { doing = self.old.doing; stack = self.old.stack }) (state_with self.old.machine copies.old.cache names.old.names)
             → IfOk result.0 (λ ran. ran ≡ answer_of epoch schema.now (at_hand schema.now copies.old.cache) tx given) }
-        ensures stands { (tx : List Stmt) → (given : List Oref) → Stands schema.now (at_hand schema.now copies.old.cache) tx given (record { doing = self.old.doing; stack = self.old.stack }) (state_with self.old.progress.machine copies.old.written copies.old.cache names.old.names)
-            → IfOk result.0 (λ ran. AtStop ran (Stands schema.now (at_hand schema.now copies.new.cache) tx given (record { doing = self.new.doing; stack = self.new.stack }) (state_with self.new.progress.machine copies.new.written copies.new.cache names.new.names))) }
+        ensures stands { (tx : List Stmt) → (given : List Oref) → Stands schema.now (at_hand schema.now copies.old.cache) tx given (record { doing = self.old.doing; stack = self.old.stack }) (state_with self.old.machine copies.old.cache names.old.names)
+            → IfOk result.0 (λ ran. AtStop ran (Stands schema.now (at_hand schema.now copies.new.cache) tx given (record { doing = self.new.doing; stack = self.new.stack }) (state_with self.new.machine copies.new.cache names.new.names))) }
         ensures kept { OnOk result.0 (Keeps copies.old.cache copies.new.cache) }
         ensures wrote { IfOk result.0 (λ ran. HasWritten ran copies.new.cache) }
-        ensures steps { (tx : List Stmt) → (given : List Oref) → Stands schema.now (at_hand schema.now copies.old.cache) tx given (record { doing = self.old.doing; stack = self.old.stack }) (state_with self.old.progress.machine copies.old.written copies.old.cache names.old.names)
-            → OnOk result.0 (self.new.progress.machine.steps ≡ (outcome_of schema.now (at_hand schema.now copies.old.cache) tx given).1.steps) }
-        ensures work { OnOk result.0 (result.1 + self.old.progress.machine.steps ≡ work + self.new.progress.machine.steps) }
+        ensures steps { (tx : List Stmt) → (given : List Oref) → Stands schema.now (at_hand schema.now copies.old.cache) tx given (record { doing = self.old.doing; stack = self.old.stack }) (state_with self.old.machine copies.old.cache names.old.names)
+            → OnOk result.0 (self.new.machine.steps ≡ (outcome_of schema.now (at_hand schema.now copies.old.cache) tx given).1.steps) }
+        ensures work { OnOk result.0 (result.1 + self.old.machine.steps ≡ work + self.new.machine.steps) }
     {
         let mut bodies = Bodies { methods, work };
         let ran = self.go_with(schema, epoch, copies, names, &mut bodies);
@@ -250,15 +268,15 @@ impl Paused {
         bodies: &mut Bodies<'_, L>,
     ) -> Result<Ran, NoMemory>
         requires known { bodies.old.methods.now ≡ class_methods schema.now.classes }
-        ensures answers { (tx : List Stmt) → (given : List Oref) → Stands schema.now (at_hand schema.now copies.old.cache) tx given (record { doing = self.old.doing; stack = self.old.stack }) (state_with self.old.progress.machine copies.old.written copies.old.cache names.old.names)
+        ensures answers { (tx : List Stmt) → (given : List Oref) → Stands schema.now (at_hand schema.now copies.old.cache) tx given (record { doing = self.old.doing; stack = self.old.stack }) (state_with self.old.machine copies.old.cache names.old.names)
             → IfOk result (λ ran. ran ≡ answer_of epoch schema.now (at_hand schema.now copies.old.cache) tx given) }
-        ensures stands { (tx : List Stmt) → (given : List Oref) → Stands schema.now (at_hand schema.now copies.old.cache) tx given (record { doing = self.old.doing; stack = self.old.stack }) (state_with self.old.progress.machine copies.old.written copies.old.cache names.old.names)
-            → IfOk result (λ ran. AtStop ran (Stands schema.now (at_hand schema.now copies.new.cache) tx given (record { doing = self.new.doing; stack = self.new.stack }) (state_with self.new.progress.machine copies.new.written copies.new.cache names.new.names))) }
+        ensures stands { (tx : List Stmt) → (given : List Oref) → Stands schema.now (at_hand schema.now copies.old.cache) tx given (record { doing = self.old.doing; stack = self.old.stack }) (state_with self.old.machine copies.old.cache names.old.names)
+            → IfOk result (λ ran. AtStop ran (Stands schema.now (at_hand schema.now copies.new.cache) tx given (record { doing = self.new.doing; stack = self.new.stack }) (state_with self.new.machine copies.new.cache names.new.names))) }
         ensures kept { OnOk result (Keeps copies.old.cache copies.new.cache) }
         ensures wrote { IfOk result (λ ran. HasWritten ran copies.new.cache) }
-        ensures steps { (tx : List Stmt) → (given : List Oref) → Stands schema.now (at_hand schema.now copies.old.cache) tx given (record { doing = self.old.doing; stack = self.old.stack }) (state_with self.old.progress.machine copies.old.written copies.old.cache names.old.names)
-            → OnOk result (self.new.progress.machine.steps ≡ (outcome_of schema.now (at_hand schema.now copies.old.cache) tx given).1.steps) }
-        ensures work { OnOk result (surplus bodies.new.work self.new.progress.machine.steps ≡ surplus bodies.old.work self.old.progress.machine.steps) }
+        ensures steps { (tx : List Stmt) → (given : List Oref) → Stands schema.now (at_hand schema.now copies.old.cache) tx given (record { doing = self.old.doing; stack = self.old.stack }) (state_with self.old.machine copies.old.cache names.old.names)
+            → OnOk result (self.new.machine.steps ≡ (outcome_of schema.now (at_hand schema.now copies.old.cache) tx given).1.steps) }
+        ensures work { OnOk result (surplus bodies.new.work self.new.machine.steps ≡ surplus bodies.old.work self.old.machine.steps) }
     {
         if schema.classes.len() > CLASS_LIMIT {
             return Err(NoMemory);
@@ -272,9 +290,8 @@ impl Paused {
             &program,
             epoch,
             &mut copies.cache,
-            &mut copies.written,
             &mut names.names,
-            &mut self.progress,
+            &mut self.machine,
             bodies,
             &mut self.stack,
             doing,
@@ -285,14 +302,14 @@ impl Paused {
 
     /// What it answers that has ended.
     fn done(&self, copies: &mut Copies, epoch: u32) -> Result<Ran, NoMemory>
-        ensures answers { (names : Names) → (flow : Flow) → IfOk result (λ ran. ran ≡ ran_at epoch (Ok flow) (state_with self.now.progress.machine copies.old.written copies.old.cache names)) }
+        ensures answers { (names : Names) → (flow : Flow) → IfOk result (λ ran. ran ≡ ran_at epoch (Ok flow) (state_with self.now.machine copies.old.cache names)) }
         ensures wrote { IfOk result (λ ran. HasWritten ran copies.new.cache) }
         ensures kept { Keeps copies.old.cache copies.new.cache }
     {
-        let reads = self.progress.machine.reads.names(self.alloc)?;
+        let reads = self.machine.reads.names(self.alloc)?;
         let writes = writes(self.alloc, copies, epoch)?;
-        let printed = self.progress.machine.printed.copy()?;
-        let fresh = self.progress.machine.created.copy()?;
+        let printed = self.machine.printed.copy()?;
+        let fresh = self.machine.created.copy()?;
         Ok(Ran::Done {
             answer: Answer::Ints(printed),
             reads,
@@ -304,11 +321,11 @@ impl Paused {
     /// What it answers that has come to an end or a stop.
     fn answer(&self, copies: &mut Copies, epoch: u32, came: Came) -> Result<Ran, NoMemory>
         ensures answers { (s : Schema) → (f : Oref → Option Object) → (tx : List Stmt) → (given : List Oref) → (l : Left) → (names : Names)
-            → CameTo s f tx given came l (state_with self.now.progress.machine copies.old.written copies.old.cache names)
+            → CameTo s f tx given came l (state_with self.now.machine copies.old.cache names)
             → IfOk result (λ ran. ran ≡ answer_of epoch s f tx given) }
         ensures stands { (s : Schema) → (f : Oref → Option Object) → (tx : List Stmt) → (given : List Oref) → (l : Left) → (names : Names)
-            → CameTo s f tx given came l (state_with self.now.progress.machine copies.old.written copies.old.cache names)
-            → IfOk result (λ ran. AtStop ran (Stands s f tx given l (state_with self.now.progress.machine copies.new.written copies.new.cache names))) }
+            → CameTo s f tx given came l (state_with self.now.machine copies.old.cache names)
+            → IfOk result (λ ran. AtStop ran (Stands s f tx given l (state_with self.now.machine copies.new.cache names))) }
         ensures wrote { IfOk result (λ ran. HasWritten ran copies.new.cache) }
         ensures kept { Keeps copies.old.cache copies.new.cache }
     {
@@ -316,7 +333,7 @@ impl Paused {
             Came::Ended => self.done(copies, epoch),
             Came::Faulted { fault } => Ok(Ran::Done {
                 answer: Answer::Fault(fault),
-                reads: self.progress.machine.reads.names(self.alloc)?,
+                reads: self.machine.reads.names(self.alloc)?,
                 writes: Writes::new(self.alloc),
                 fresh: Orefs::new(self.alloc),
             }),

@@ -12,14 +12,11 @@ use crate::ahead::ahead;
 use crate::bodies::Bodies;
 use crate::came::Came;
 use crate::moved::Moved;
-use crate::progress::Progress;
 use crate::small::small;
-use crate::written_names::WrittenNames;
-use class_defs::{Flow, Stop};
+use class_defs::{Flow, Machine, Stop};
 use client_cache::Cache;
 use method_eval::{Halt, Names, Program};
 use paused_defs::{Doing, Frame, Stack};
-use std::mem;
 use std::sync::ledger::Ledger;
 use thor_value::{Fault, NoMemory};
 
@@ -52,30 +49,30 @@ fn run<L: Ledger>(
     epoch: u32,
     cache: &mut Cache,
     names: &mut Names,
-    progress: &mut Progress,
+    machine: &mut Machine,
     bodies: &mut Bodies<'_, L>,
     stack: &mut Stack<Frame>,
     begun: Doing,
 ) -> Result<(Came, Doing), NoMemory>
-    requires tied { Tied progress.old.written cache.old }
+    requires tied { Tied cache.old }
     requires names { FromPages names.old }
     requires known { bodies.old.methods.now ≡ class_methods program.now.schema.now.classes }
-    ensures answers { (tx : List Stmt) → (given : List Oref) → Stands program.now.schema.now (at_hand program.now.schema.now cache.old) tx given (record { doing = begun; stack = stack.old }) (whole_state progress.old cache.old names.old)
-        → IfOk result (λ ran. CameTo program.now.schema.now (at_hand program.now.schema.now cache.old) tx given ran.0 (record { doing = ran.1; stack = stack.new }) (whole_state progress.new cache.new names.new)) }
-    ensures tied { OnOk result (Tied progress.new.written cache.new) }
+    ensures answers { (tx : List Stmt) → (given : List Oref) → Stands program.now.schema.now (at_hand program.now.schema.now cache.old) tx given (record { doing = begun; stack = stack.old }) (whole_state machine.old cache.old names.old)
+        → IfOk result (λ ran. CameTo program.now.schema.now (at_hand program.now.schema.now cache.old) tx given ran.0 (record { doing = ran.1; stack = stack.new }) (whole_state machine.new cache.new names.new)) }
+    ensures tied { OnOk result (Tied cache.new) }
     ensures kept { OnOk result (Keeps cache.old cache.new) }
     ensures names { FromPages names.new }
     ensures known { bodies.new.methods.now ≡ class_methods program.now.schema.now.classes }
-    ensures work { OnOk result (surplus bodies.new.work progress.new.machine.steps ≡ surplus bodies.old.work progress.old.machine.steps) }
+    ensures work { OnOk result (surplus bodies.new.work machine.new.steps ≡ surplus bodies.old.work machine.old.steps) }
 {
     let mut doing = begun;
     for _ in 0..SMALL_STEPS {
         if is_ended(stack, &doing) {
             return Ok((Came::Ended, doing));
         }
-        doing = match small(program, epoch, cache, names, progress, bodies, stack, doing) {
+        doing = match small(program, epoch, cache, names, machine, bodies, stack, doing) {
             Ok(Moved::To { doing: next }) => {
-                match ahead(program, epoch, cache, progress, bodies, stack, next) {
+                match ahead(program, epoch, cache, machine, bodies, stack, next) {
                     Ok(then) => then,
                     Err(halt) => {
                         let came = faulted(halt)?;
@@ -107,48 +104,32 @@ fn run<L: Ledger>(
     ))
 }
 
-/// The names that are written are moved from one place to another.
-fn move_names(from: &mut WrittenNames, to: &mut WrittenNames, none: WrittenNames)
-    requires { none ≡ empty }
-    ensures from { from.new ≡ empty }
-    ensures to { to.new ≡ from.old }
-{
-    let names = mem::replace(from, none);
-    drop(mem::replace(to, names));
-}
-
 /// The same over a client's copies and names. After `NoMemory` what the try has written is given up.
 #[tactic(auto, using(crate::proofs::Hands::none_written))]
 pub fn run_over<L: Ledger>(
     program: &Program<'_>,
     epoch: u32,
     cache: &mut Cache,
-    written: &mut WrittenNames,
     names: &mut Names,
-    progress: &mut Progress,
+    machine: &mut Machine,
     bodies: &mut Bodies<'_, L>,
     stack: &mut Stack<Frame>,
     begun_with: Doing,
 ) -> Result<(Came, Doing), NoMemory>
-    requires tied { Tied written.old cache.old }
+    requires tied { Tied cache.old }
     requires names { FromPages names.old }
     requires known { bodies.old.methods.now ≡ class_methods program.now.schema.now.classes }
-    ensures answers { (tx : List Stmt) → (given : List Oref) → Stands program.now.schema.now (at_hand program.now.schema.now cache.old) tx given (record { doing = begun_with; stack = stack.old }) (state_with progress.old.machine written.old cache.old names.old)
-        → IfOk result (λ ran. CameTo program.now.schema.now (at_hand program.now.schema.now cache.old) tx given ran.0 (record { doing = ran.1; stack = stack.new }) (state_with progress.new.machine written.new cache.new names.new)) }
-    ensures tied { Tied written.new cache.new }
+    ensures answers { (tx : List Stmt) → (given : List Oref) → Stands program.now.schema.now (at_hand program.now.schema.now cache.old) tx given (record { doing = begun_with; stack = stack.old }) (state_with machine.old cache.old names.old)
+        → IfOk result (λ ran. CameTo program.now.schema.now (at_hand program.now.schema.now cache.old) tx given ran.0 (record { doing = ran.1; stack = stack.new }) (state_with machine.new cache.new names.new)) }
+    ensures tied { Tied cache.new }
     ensures kept { OnOk result (Keeps cache.old cache.new) }
     ensures names { FromPages names.new }
-    ensures work { OnOk result (surplus bodies.new.work progress.new.machine.steps ≡ surplus bodies.old.work progress.old.machine.steps) }
+    ensures work { OnOk result (surplus bodies.new.work machine.new.steps ≡ surplus bodies.old.work machine.old.steps) }
 {
-    let alloc = program.alloc;
-    move_names(written, &mut progress.written, WrittenNames::new(alloc));
     match run(
-        program, epoch, cache, names, progress, bodies, stack, begun_with,
+        program, epoch, cache, names, machine, bodies, stack, begun_with,
     ) {
-        Ok(ended) => {
-            move_names(&mut progress.written, written, WrittenNames::new(alloc));
-            Ok(ended)
-        }
+        Ok(ended) => Ok(ended),
         Err(NoMemory) => {
             cache.undo();
             Err(NoMemory)

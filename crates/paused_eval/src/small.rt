@@ -21,7 +21,6 @@ use crate::moved::Moved;
 use crate::moves::{self, begin, give, pass, take_step};
 use crate::objects::{assign_field, create, field_value};
 use crate::popping::{field_assigned, pop};
-use crate::progress::Progress;
 use crate::starting::{field_read, start};
 use class_defs::{At, Flow, Machine, Stop};
 use client_cache::Cache;
@@ -33,16 +32,15 @@ use thor_value::{Fault, Oref, StepCount, Text, Values};
 /// Takes one step.
 #[tactic(auto, using(crate::proofs::Lifting::lift_step))]
 fn take_step_over<L: Ledger>(
-    progress: &mut Progress,
+    machine: &mut Machine,
     work: &mut StepCount<L>,
     cache: &Cache,
 ) -> Result<(), Halt>
-    ensures step { Stepped result (state progress.old cache.now) (state progress.new cache.now) }
-    ensures written { progress.new.written ≡ progress.old.written }
-    ensures work { surplus work.new progress.new.machine.steps ≡ surplus work.old progress.old.machine.steps }
+    ensures step { Stepped result (state machine.old cache.now) (state machine.new cache.now) }
+    ensures work { surplus work.new machine.new.steps ≡ surplus work.old machine.old.steps }
 {
     let _ = cache;
-    take_step(&mut progress.machine, work)
+    take_step(machine, work)
 }
 
 /// The value of a field of `this`.
@@ -50,46 +48,46 @@ fn take_step_over<L: Ledger>(
 fn field<L: Ledger>(
     program: &Program<'_>,
     cache: &mut Cache,
-    progress: &mut Progress,
+    machine: &mut Machine,
     work: &mut StepCount<L>,
     name: &[u8],
 ) -> Result<Doing, Halt>
-    requires tied { Tied progress.old.written cache.old }
-    ensures does { (fs : List Frame) → Moves result fs (state progress.old cache.old) (state progress.new cache.new) (steps.◌>>◌ step (spec.start (over program.now.schema.now (at_hand program.now.schema.now cache.old)) 0 (Expr-F.Field (record { text = name.now; line = 0 })) fs)) }
-    ensures tied { Holds result (Tied progress.new.written cache.new) }
+    requires tied { Tied cache.old }
+    ensures does { (fs : List Frame) → Moves result fs (state machine.old cache.old) (state machine.new cache.new) (steps.◌>>◌ step (spec.start (over program.now.schema.now (at_hand program.now.schema.now cache.old)) 0 (Expr-F.Field (record { text = name.now; line = 0 })) fs)) }
+    ensures tied { Holds result (Tied cache.new) }
     ensures kept { Holds result (Keeps cache.old cache.new) }
-    ensures work { Holds result (surplus work.new progress.new.machine.steps ≡ surplus work.old progress.old.machine.steps) }
+    ensures work { Holds result (surplus work.new machine.new.steps ≡ surplus work.old machine.old.steps) }
 {
-    take_step_over(progress, work, cache)?;
-    give(field_value(program, cache, progress, name))
+    take_step_over(machine, work, cache)?;
+    give(field_value(program, cache, machine, name))
 }
 
 #[tactic(auto, using(crate::proofs::Lifting::lifts, crate::proofs::Nested::nested))]
 fn evaluate<L: Ledger>(
     program: &Program<'_>,
     cache: &mut Cache,
-    progress: &mut Progress,
+    machine: &mut Machine,
     work: &mut StepCount<L>,
     stack: &mut Stack<Frame>,
     nested: u32,
     expr: &SharedExpr,
 ) -> Result<Doing, Halt>
-    requires tied { Tied progress.old.written cache.old }
-    ensures does { Moves result stack.new (state progress.old cache.old) (state progress.new cache.new) (move (over program.now.schema.now (at_hand program.now.schema.now cache.old)) (Doing.Evaluate nested expr.now) stack.old) }
-    ensures tied { Holds result (Tied progress.new.written cache.new) }
+    requires tied { Tied cache.old }
+    ensures does { Moves result stack.new (state machine.old cache.old) (state machine.new cache.new) (move (over program.now.schema.now (at_hand program.now.schema.now cache.old)) (Doing.Evaluate nested expr.now) stack.old) }
+    ensures tied { Holds result (Tied cache.new) }
     ensures kept { Holds result (Keeps cache.old cache.new) }
-    ensures work { Holds result (surplus work.new progress.new.machine.steps ≡ surplus work.old progress.old.machine.steps) }
+    ensures work { Holds result (surplus work.new machine.new.steps ≡ surplus work.old machine.old.steps) }
 {
     if nested == 0 {
         return fault(Fault::Steps);
     }
     let node = expr.node();
     if let Some(name) = field_read(node) {
-        return field(program, cache, progress, work, name.get().as_slice());
+        return field(program, cache, machine, work, name.get().as_slice());
     }
     start(
         program,
-        &mut progress.machine,
+        machine,
         work,
         stack,
         nested - 1,
@@ -120,18 +118,17 @@ fn execute<L: Ledger>(
 fn execute_over<L: Ledger>(
     program: &Program<'_>,
     cache: &Cache,
-    progress: &mut Progress,
+    machine: &mut Machine,
     work: &mut StepCount<L>,
     stack: &mut Stack<Frame>,
     nested: u32,
     stmt: &SharedStmt,
 ) -> Result<Doing, Halt>
-    ensures does { Moves result stack.new (state progress.old cache.now) (state progress.new cache.now) (move (over program.now.schema.now (at_hand program.now.schema.now cache.now)) (Doing.Execute nested stmt.now) stack.old) }
-    ensures written { progress.new.written ≡ progress.old.written }
-    ensures work { Holds result (surplus work.new progress.new.machine.steps ≡ surplus work.old progress.old.machine.steps) }
+    ensures does { Moves result stack.new (state machine.old cache.now) (state machine.new cache.now) (move (over program.now.schema.now (at_hand program.now.schema.now cache.now)) (Doing.Execute nested stmt.now) stack.old) }
+    ensures work { Holds result (surplus work.new machine.new.steps ≡ surplus work.old machine.old.steps) }
 {
     let _ = cache;
-    execute(program, &mut progress.machine, work, stack, nested, stmt)
+    execute(program, machine, work, stack, nested, stmt)
 }
 
 /// A new object is made, where there is a name for it.
@@ -140,24 +137,24 @@ fn make(
     epoch: u32,
     cache: &mut Cache,
     names: &mut Names,
-    progress: &mut Progress,
+    machine: &mut Machine,
     class: Shared<Text>,
     at: Option<At>,
 ) -> Result<Moved, Halt>
-    requires tied { Tied progress.old.written cache.old }
+    requires tied { Tied cache.old }
     requires names { FromPages names.old }
-    ensures does { (fs : List Frame) → Steps result (Doing.Create class at) fs (whole_state progress.old cache.old names.old) fs (whole_state progress.new cache.new names.new) (move (over program.now.schema.now (at_hand program.now.schema.now cache.old)) (Doing.Create class at) fs (whole_state progress.old cache.old names.old)) }
-    ensures tied { Holds result (Tied progress.new.written cache.new) }
+    ensures does { (fs : List Frame) → Steps result (Doing.Create class at) fs (whole_state machine.old cache.old names.old) fs (whole_state machine.new cache.new names.new) (move (over program.now.schema.now (at_hand program.now.schema.now cache.old)) (Doing.Create class at) fs (whole_state machine.old cache.old names.old)) }
+    ensures tied { Holds result (Tied cache.new) }
     ensures kept { Holds result (Keeps cache.old cache.new) }
     ensures names { FromPages names.new }
-    ensures steps { progress.new.machine.steps ≡ progress.old.machine.steps }
+    ensures steps { machine.new.steps ≡ machine.old.steps }
 {
     match create(
         program,
         epoch,
         cache,
         names,
-        progress,
+        machine,
         class.get().as_slice(),
         at,
     ) {
@@ -178,7 +175,7 @@ fn make(
 fn call<L: Ledger>(
     program: &Program<'_>,
     cache: &mut Cache,
-    progress: &mut Progress,
+    machine: &mut Machine,
     bodies: &mut Bodies<'_, L>,
     stack: &mut Stack<Frame>,
     nested: u32,
@@ -187,16 +184,16 @@ fn call<L: Ledger>(
     method: Shared<Text>,
     arguments: Values,
 ) -> Result<Moved, Halt>
-    requires tied { Tied progress.old.written cache.old }
+    requires tied { Tied cache.old }
     requires known { bodies.old.methods.now ≡ class_methods program.now.schema.now.classes }
-    ensures does { Steps result (Doing.Enter nested class oref method arguments) stack.old (state progress.old cache.old) stack.new (state progress.new cache.new) (move (over program.now.schema.now (at_hand program.now.schema.now cache.old)) (Doing.Enter nested class oref method arguments) stack.old (state progress.old cache.old)) }
-    ensures tied { Holds result (Tied progress.new.written cache.new) }
+    ensures does { Steps result (Doing.Enter nested class oref method arguments) stack.old (state machine.old cache.old) stack.new (state machine.new cache.new) (move (over program.now.schema.now (at_hand program.now.schema.now cache.old)) (Doing.Enter nested class oref method arguments) stack.old (state machine.old cache.old)) }
+    ensures tied { Holds result (Tied cache.new) }
     ensures kept { Holds result (Keeps cache.old cache.new) }
     ensures known { bodies.new.methods.now ≡ class_methods program.now.schema.now.classes }
-    ensures work { Holds result (surplus bodies.new.work progress.new.machine.steps ≡ surplus bodies.old.work progress.old.machine.steps) }
+    ensures work { Holds result (surplus bodies.new.work machine.new.steps ≡ surplus bodies.old.work machine.old.steps) }
 {
     match enter(
-        program, cache, progress, bodies, stack, nested, class, oref, &method, &arguments,
+        program, cache, machine, bodies, stack, nested, class, oref, &method, &arguments,
     ) {
         Ok(doing) => Ok(Moved::To { doing }),
         Err(
@@ -226,17 +223,17 @@ fn assign(
     program: &Program<'_>,
     epoch: u32,
     cache: &mut Cache,
-    progress: &mut Progress,
+    machine: &mut Machine,
     name: &[u8],
     flow: Flow,
 ) -> Result<Doing, Halt>
-    requires tied { Tied progress.old.written cache.old }
-    ensures does { (fs : List Frame) → Moves result fs (state progress.old cache.old) (state progress.new cache.new) (spec.pop (over program.now.schema.now (at_hand program.now.schema.now cache.old)) (Frame.FieldAssign name.now) flow fs) }
-    ensures tied { Holds result (Tied progress.new.written cache.new) }
+    requires tied { Tied cache.old }
+    ensures does { (fs : List Frame) → Moves result fs (state machine.old cache.old) (state machine.new cache.new) (spec.pop (over program.now.schema.now (at_hand program.now.schema.now cache.old)) (Frame.FieldAssign name.now) flow fs) }
+    ensures tied { Holds result (Tied cache.new) }
     ensures kept { Holds result (Keeps cache.old cache.new) }
-    ensures steps { progress.new.machine.steps ≡ progress.old.machine.steps }
+    ensures steps { machine.new.steps ≡ machine.old.steps }
 {
-    assign_field(program, epoch, cache, progress, name, moves::given(flow))?;
+    assign_field(program, epoch, cache, machine, name, moves::given(flow))?;
     pass()
 }
 
@@ -245,27 +242,27 @@ fn given<L: Ledger>(
     program: &Program<'_>,
     epoch: u32,
     cache: &mut Cache,
-    progress: &mut Progress,
+    machine: &mut Machine,
     work: &mut StepCount<L>,
     stack: &mut Stack<Frame>,
     flow: Flow,
 ) -> Result<Doing, Halt>
-    requires tied { Tied progress.old.written cache.old }
-    ensures does { Moves result stack.new (state progress.old cache.old) (state progress.new cache.new) (move (over program.now.schema.now (at_hand program.now.schema.now cache.old)) (Doing.Give flow) stack.old) }
-    ensures tied { Holds result (Tied progress.new.written cache.new) }
+    requires tied { Tied cache.old }
+    ensures does { Moves result stack.new (state machine.old cache.old) (state machine.new cache.new) (move (over program.now.schema.now (at_hand program.now.schema.now cache.old)) (Doing.Give flow) stack.old) }
+    ensures tied { Holds result (Tied cache.new) }
     ensures kept { Holds result (Keeps cache.old cache.new) }
-    ensures work { Holds result (surplus work.new progress.new.machine.steps ≡ surplus work.old progress.old.machine.steps) }
+    ensures work { Holds result (surplus work.new machine.new.steps ≡ surplus work.old machine.old.steps) }
 {
     match stack.pop() {
         None => Ok(Doing::Give { flow }),
         Some(frame) => {
             if let Some(field) = field_assigned(&frame) {
                 let name = field.get().as_slice();
-                let came = assign(program, epoch, cache, progress, name, flow);
+                let came = assign(program, epoch, cache, machine, name, flow);
                 drop(frame);
                 return came;
             }
-            pop(program, &mut progress.machine, work, stack, frame, flow)
+            pop(program, machine, work, stack, frame, flow)
         }
     }
 }
@@ -286,31 +283,31 @@ pub fn small<L: Ledger>(
     epoch: u32,
     cache: &mut Cache,
     names: &mut Names,
-    progress: &mut Progress,
+    machine: &mut Machine,
     bodies: &mut Bodies<'_, L>,
     stack: &mut Stack<Frame>,
     doing: Doing,
 ) -> Result<Moved, Halt>
-    requires tied { Tied progress.old.written cache.old }
+    requires tied { Tied cache.old }
     requires names { FromPages names.old }
     requires known { bodies.old.methods.now ≡ class_methods program.now.schema.now.classes }
-    ensures does { Steps result doing stack.old (whole_state progress.old cache.old names.old) stack.new (whole_state progress.new cache.new names.new) (move (over program.now.schema.now (at_hand program.now.schema.now cache.old)) doing stack.old (whole_state progress.old cache.old names.old)) }
-    ensures tied { Holds result (Tied progress.new.written cache.new) }
+    ensures does { Steps result doing stack.old (whole_state machine.old cache.old names.old) stack.new (whole_state machine.new cache.new names.new) (move (over program.now.schema.now (at_hand program.now.schema.now cache.old)) doing stack.old (whole_state machine.old cache.old names.old)) }
+    ensures tied { Holds result (Tied cache.new) }
     ensures kept { Holds result (Keeps cache.old cache.new) }
     ensures names { FromPages names.new }
     ensures known { bodies.new.methods.now ≡ class_methods program.now.schema.now.classes }
-    ensures work { Holds result (surplus bodies.new.work progress.new.machine.steps ≡ surplus bodies.old.work progress.old.machine.steps) }
+    ensures work { Holds result (surplus bodies.new.work machine.new.steps ≡ surplus bodies.old.work machine.old.steps) }
 {
     match doing {
         Doing::Evaluate { nested, expr } => {
             let work = &mut bodies.work;
-            moved_to(evaluate(program, cache, progress, work, stack, nested, &expr))
+            moved_to(evaluate(program, cache, machine, work, stack, nested, &expr))
         }
         Doing::Execute { nested, stmt } => {
             let work = &mut bodies.work;
-            moved_to(execute_over(program, cache, progress, work, stack, nested, &stmt))
+            moved_to(execute_over(program, cache, machine, work, stack, nested, &stmt))
         }
-        Doing::Create { class, at } => make(program, epoch, cache, names, progress, class, at),
+        Doing::Create { class, at } => make(program, epoch, cache, names, machine, class, at),
         Doing::Enter {
             nested,
             class,
@@ -318,11 +315,11 @@ pub fn small<L: Ledger>(
             method,
             arguments,
         } => call(
-            program, cache, progress, bodies, stack, nested, class, oref, method, arguments,
+            program, cache, machine, bodies, stack, nested, class, oref, method, arguments,
         ),
         Doing::Give { flow } => {
             let work = &mut bodies.work;
-            moved_to(given(program, epoch, cache, progress, work, stack, flow))
+            moved_to(given(program, epoch, cache, machine, work, stack, flow))
         }
     }
 }

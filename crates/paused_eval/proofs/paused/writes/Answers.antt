@@ -1,13 +1,10 @@
-use Rattle.paused_eval.proofs.Writes.{by_names, so_they_stand, tied_names}
+use Rattle.paused_eval.proofs.Writes.{by_names, so_they_stand}
 use Rattle.paused_eval.proofs.paused.writes.Goals as goal
 
-pub writes_of-requires : goal.writes_of-requires
-writes_of-requires c = tied_names c.args.copies.now.written c.args.copies.now.cache c.as_slice.result.now c.args.copies.now.tied c.as_slice.ensures
-
 pub returns-clause-writes : goal.returns-clause-writes
-returns-clause-writes c = by_names c.writes_of.result c.args.epoch c.args.copies.now.written c.args.copies.now.cache c.as_slice.result.now c.as_slice.ensures c.writes_of.ensures.writes
+returns-clause-writes c = by_names c.writes_of.result c.args.epoch c.args.copies.now.cache c.writes_of.ensures.writes
 
 pub returns-clause-wrote : goal.returns-clause-wrote
 returns-clause-wrote c =
-    so_they_stand c.writes_of.result c.args.epoch c.args.copies.now.written c.args.copies.now.cache c.writes_of.new.cache c.args.copies.now.tied c.writes_of.ensures.dated
-    (by_names c.writes_of.result c.args.epoch c.args.copies.now.written c.args.copies.now.cache c.as_slice.result.now c.as_slice.ensures c.writes_of.ensures.writes)
+    so_they_stand c.writes_of.result c.args.epoch c.args.copies.now.cache c.writes_of.new.cache c.args.copies.now.tied c.writes_of.ensures.dated
+    (by_names c.writes_of.result c.args.epoch c.args.copies.now.cache c.writes_of.ensures.writes)

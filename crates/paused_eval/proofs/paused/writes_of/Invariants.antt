@@ -6,7 +6,7 @@ use Rattle.paused_eval.specs.Copies.{entries}
 use Rattle.paused_eval.proofs.paused.writes_of.Given as goal
 
 -- with those of the names that are left they are all, and all but those stand so
-abbrev pub invariant-loop-oref : goal.invariant-loop-oref
-invariant-loop-oref l =
-    (l.writes ++ stored_at l.epoch (entries (changed l.fn.cache) (drop l.oref-index l.names)) ≡ stored_at l.epoch (entries (changed l.fn.cache) l.names))
-    × Dating l.epoch l.fn.cache l.cache (drop l.oref-index l.names)
+abbrev pub invariant-loop-place : goal.invariant-loop-place
+invariant-loop-place l =
+    (l.writes ++ stored_at l.epoch (entries (changed l.fn.cache) (drop l.place l.fn.cache.written)) ≡ stored_at l.epoch (entries (changed l.fn.cache) l.fn.cache.written))
+    × (Dating l.epoch l.fn.cache l.cache (drop l.place l.fn.cache.written) × (l.cache.written ≡ l.fn.cache.written))

@@ -31,9 +31,9 @@ returns-in-Err-ahead-clause-answers g c = λ tx given stands.
     let s = c.args.program.now.schema.now in
     let kept : Keeps c.args.cache.now c.small.new.cache = λ x. c.in-Ok-To.ensures.kept x ∙ c.loop.invariant.1.0 x in
     fault_ends s (at_hand s c.args.cache.now) tx given (c.loop.counter + 1) c.in_ok-came-in-Err-ahead.came c.in-Err-ahead.halt c.ahead.new.stack
-    (whole_state c.ahead.new.progress c.ahead.new.cache c.small.new.names) _ c.in_ok-came-in-Err-ahead.ensures
+    (whole_state c.ahead.new.machine c.ahead.new.cache c.small.new.names) _ c.in_ok-came-in-Err-ahead.ensures
     (same_objects s (at_hand s c.args.cache.now) (at_hand s c.small.new.cache) tx given (c.loop.counter + 1) c.in-Ok-To.next c.small.new.stack c.ahead.new.stack
-    (whole_state c.small.new.progress c.small.new.cache c.small.new.names) (whole_state c.ahead.new.progress c.ahead.new.cache c.small.new.names) (Err c.in-Err-ahead.halt)
+    (whole_state c.small.new.machine c.small.new.cache c.small.new.names) (whole_state c.ahead.new.machine c.ahead.new.cache c.small.new.names) (Err c.in-Err-ahead.halt)
     (same_hands s c.args.cache.now c.small.new.cache kept) (c.in-Err-ahead.ensures.goes tx given (c.loop.counter + 1) c.small.new.names)
     (goes s (at_hand s c.args.cache.now) tx given (at_hand s c.loop.cache) c.loop.counter c.loop.doing _ c.loop.stack c.small.new.stack _ _
     (same_hands s c.args.cache.now c.loop.cache c.loop.invariant.1.0) (sym c.is_ended.ensures ∙ c.if-is_ended.false) (c.loop.invariant.1.1.1.1.1 tx given stands) (rw c.in-Ok-To.field-0-is at c.in-Ok-To.ensures.does)))
@@ -52,7 +52,7 @@ loop-preserved g c =
             (
               c.in-Ok.ensures.work ∙ c.in-Ok-To.ensures.work ∙ c.loop.invariant.1.1.1.1.0,
               (λ tx given stands. same_objects s (at_hand s c.args.cache.now) (at_hand s c.small.new.cache) tx given (c.loop.counter + 1) c.in-Ok-To.next c.small.new.stack c.ahead.new.stack
-                  (whole_state c.small.new.progress c.small.new.cache c.small.new.names) (whole_state c.ahead.new.progress c.ahead.new.cache c.small.new.names) (Ok c.in-Ok.then)
+                  (whole_state c.small.new.machine c.small.new.cache c.small.new.names) (whole_state c.ahead.new.machine c.ahead.new.cache c.small.new.names) (Ok c.in-Ok.then)
                   (same_hands s c.args.cache.now c.small.new.cache kept) (c.in-Ok.ensures.goes tx given (c.loop.counter + 1) c.small.new.names)
                   (goes s (at_hand s c.args.cache.now) tx given (at_hand s c.loop.cache) c.loop.counter c.loop.doing _ c.loop.stack c.small.new.stack _ _
                   (same_hands s c.args.cache.now c.loop.cache c.loop.invariant.1.0) (sym c.is_ended.ensures ∙ c.if-is_ended.false) (c.loop.invariant.1.1.1.1.1 tx given stands) (rw c.in-Ok-To.field-0-is at c.in-Ok-To.ensures.does))),

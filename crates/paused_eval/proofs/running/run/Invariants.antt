@@ -12,7 +12,7 @@ use Rattle.paused_eval.proofs.running.run.Given as goal
 -- many nodes were counted as steps were taken; and what is left comes to what the transaction comes to from the start
 abbrev pub invariant-loop : goal.invariant-loop
 invariant-loop g l =
-    Tied l.progress.written l.cache × (Keeps l.fn.cache l.cache × (FromPages l.names × ((l.bodies.methods.now ≡ class_methods l.program.schema.now.classes)
-    × ((surplus l.bodies.work l.progress.machine.steps ≡ surplus l.fn.bodies.work l.fn.progress.machine.steps)
-    × ((tx : List Stmt) (given : List Oref) → Stands l.program.schema.now (at_hand l.program.schema.now l.fn.cache) tx given (record { doing = l.fn.begun; stack = l.fn.stack }) (whole_state l.fn.progress l.fn.cache l.fn.names)
-    → Runs l.program.schema.now (at_hand l.program.schema.now l.fn.cache) tx given l.counter (record { doing = l.doing; stack = l.stack }) (whole_state l.progress l.cache l.names))))))
+    Tied l.cache × (Keeps l.fn.cache l.cache × (FromPages l.names × ((l.bodies.methods.now ≡ class_methods l.program.schema.now.classes)
+    × ((surplus l.bodies.work l.machine.steps ≡ surplus l.fn.bodies.work l.fn.machine.steps)
+    × ((tx : List Stmt) (given : List Oref) → Stands l.program.schema.now (at_hand l.program.schema.now l.fn.cache) tx given (record { doing = l.fn.begun; stack = l.fn.stack }) (whole_state l.fn.machine l.fn.cache l.fn.names)
+    → Runs l.program.schema.now (at_hand l.program.schema.now l.fn.cache) tx given l.counter (record { doing = l.doing; stack = l.stack }) (whole_state l.machine l.cache l.names))))))

@@ -7,6 +7,6 @@ pub returns : goal.returns
 returns c = record {
   stands = λ s copies names e.
       let whole : c.push-2.new.self ≡ frame.Rest 100001 c.args.text.now ∷ frame.BlockEnd 0 ∷ [] = search rules in
-      rw (whole, c.begun.ensures) (begins_standing s c.args.text.now copies.written copies.cache names.names e names.from_pages);
+      rw (whole, c.begun.ensures) (begins_standing s c.args.text.now copies.cache names.names e names.from_pages);
   begun = rw c.begun.ensures refl;
 }

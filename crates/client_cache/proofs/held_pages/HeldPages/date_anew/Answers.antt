@@ -4,7 +4,7 @@ use Rattle.std.specs.Map.{lookup}
 use Rattle.client_cache.specs.Pages.{page_of, same_page}
 use Rattle.client_cache.specs.Slots.{dated, kept_in, written_in}
 use Rattle.client_cache.proofs.OneSlot.{one-told, same-told}
-use Rattle.client_cache.proofs.held_pages.HeldPages.date.Goals as goal
+use Rattle.client_cache.proofs.held_pages.HeldPages.date_anew.Goals as goal
 
 pub returns-clause-copy : goal.returns-clause-copy
 returns-clause-copy c =
