@@ -25,6 +25,7 @@ use Rattle.paused_defs.specs.contracts.methods.EpochMethods as EpochMethods
 use Rattle.paused_defs.specs.contracts.methods.SharedMethod as SharedMethod
 use Rattle.paused_defs.specs.contracts.nodes.ExprNode as ExprNode
 use Rattle.paused_defs.specs.contracts.nodes.StmtNode as StmtNode
+use Rattle.paused_defs.specs.contracts.parameters.TypedParameter as TypedParameter
 use Rattle.paused_defs.specs.contracts.shared.Shared as Shared
 use Rattle.paused_defs.specs.contracts.syntax.SharedBlock as SharedBlock
 use Rattle.paused_defs.specs.contracts.syntax.SharedExpr as SharedExpr
@@ -98,8 +99,11 @@ frame_send = enum_send (shape Frame.the_type) (tt, ((search base, (operator.the_
 pub paused_send : IsSend (Paused.the_field).row
 paused_send = search (doing_send, frame_send, stack.the_send, leaves, base, crosses) depth 30
 
+pub typed_parameter_sync : IsSync (TypedParameter.the_field).row
+typed_parameter_sync = search (parameter_sync, expr_type.the_field_sync, base) depth 30
+
 pub shared_method_sync : IsSync SharedMethod.the_row
-shared_method_sync = search (parameter_sync, type_name_sync, name_sync, stmt_nodes_send, stmt_nodes_sync, base) depth 30
+shared_method_sync = search (typed_parameter_sync, type_name_sync, name_sync, expr_type.the_field_sync, stmt_nodes_send, stmt_nodes_sync, base) depth 30
 
 pub epoch_methods_sync : IsSync (EpochMethods.the_field).row
 epoch_methods_sync = search (shared_method_sync, base) depth 30

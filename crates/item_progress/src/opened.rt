@@ -2,7 +2,7 @@
 
 ghost use Rattle.std.proofs.Props.{props};
 ghost use Rattle.std.specs.Prelude.{◌≡◌, IfOk};
-ghost use Rattle.class_defs.specs.contracts.classes.Method as method;
+ghost use Rattle.paused_defs.specs.contracts.methods.SharedMethod as method;
 ghost use Rattle.paused_defs.specs.Methods.{AreMethodsOf};
 
 use class_defs::Schemas;
