@@ -2,6 +2,7 @@ mod Bare
 mod Brought
 mod Elsewhere
 mod Leaving
+mod NameLists
 mod Named
 mod OneSlot
 mod PageLookups

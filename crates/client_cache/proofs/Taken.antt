@@ -1,5 +1,5 @@
 -- A name that is put among names and taken out again.
-use Rattle.std.proofs.Common.{◌≡◌, true, false, List, [], ◌∷◌, refl, ap}
+use Rattle.std.proofs.Common.{◌≡◌, Bool, true, false, not, List, [], ◌∷◌, refl, sym, ap, ◌∙◌}
 use Rattle.std.specs.BTreeMap.{is_at}
 use Rattle.std.specs.BTreeSet.{insert_key}
 use Rattle.std.specs.Cmp.{eq_by_cmp_equiv}
@@ -20,3 +20,12 @@ put_and_taken k (x ∷ xs) h = (elim (oref_cmp k x) as (λ o. oref_cmp k x ≡ o
   | Equal ↦ λ e. let impossible = rw e at h in cc
   | Greater ↦ λ e. rw (e, e) (ap (λ l. x ∷ l) (put_and_taken k xs (rw e at h)))
 ]) refl
+
+absent : (b : Bool) → not b ≡ true → b ≡ false
+absent true h = cc
+absent false h = refl
+
+-- the same of a name that came to them
+pub put_new_and_taken : (k : Oref) (ks : List Oref) (added : Bool) → added ≡ not (list_any (is_at (oref_cmp k)) ks) → added ≡ true
+    → remove_key (is_at (oref_cmp k)) (insert_key oref_cmp ks k) ≡ ks
+put_new_and_taken k ks added e t = put_and_taken k ks (absent (list_any (is_at (oref_cmp k)) ks) (sym e ∙ t))

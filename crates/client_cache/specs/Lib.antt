@@ -1,5 +1,6 @@
 pub mod Copies
 pub mod Looks
+pub mod NameLists
 pub mod Pages
 pub mod Placing
 pub mod Slots

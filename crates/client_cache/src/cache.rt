@@ -1,5 +1,5 @@
 ghost use Rattle.std.specs.BTreeMap.{is_at};
-ghost use Rattle.std.specs.BTreeSet.{Updates, insert_key};
+ghost use Rattle.std.specs.BTreeSet.{insert_key};
 ghost use Rattle.std.specs.List.{filter, list_any};
 ghost use Rattle.std.specs.Map.{keys_of};
 ghost use Rattle.std.specs.Prelude.{◌≡◌, ◌<◌, ◌↔◌, ℕ, [], false, true, cond, is_some, not, nat_eq, option_map, Option, Some, None, IfOk, IsTrue, OnOk, OnErr, slice_get, take};
@@ -14,6 +14,7 @@ ghost use Rattle.client_cache.specs.Slots.{dated, kept_in, written_in};
 
 use crate::held_pages::HeldPages;
 use crate::look::Looked;
+use crate::name_set::NameSet;
 use crate::page_copies::Slots;
 use crate::page_name::PageName;
 use crate::placing::copies_of;
@@ -31,7 +32,7 @@ use thor_value::{NoMemory, Obj, Oref, Orefs};
 pub struct Cache {
     limit: u32,
     pages: HeldPages,
-    written: BTreeSet<Oref>,
+    written: NameSet,
     /// Of each page that the try has made, the object with which it was made: it is no page of the client's until
     /// the try is settled.
     made: BTreeSet<Oref>,
@@ -42,9 +43,9 @@ impl Model for Cache {
 
     ghost Value = { Contents };
 
-    ghost view = { λ c. record { limit = c.limit; held = c.pages; written = c.written.keys; made = c.made.keys } };
+    ghost view = { λ c. record { limit = c.limit; held = c.pages; written = c.written; made = c.made.keys } };
 
-    ghost invariant = { λ c. IsWhole (record { limit = c.limit; held = c.pages; written = c.written.keys; made = c.made.keys }) };
+    ghost invariant = { λ c. IsWhole (record { limit = c.limit; held = c.pages; written = c.written; made = c.made.keys }) };
 }
 
 impl Cache {
@@ -56,7 +57,7 @@ impl Cache {
         Ok(Cache {
             limit: pages,
             pages: HeldPages::new(alloc)?,
-            written: BTreeSet::new(alloc),
+            written: NameSet::new(alloc),
             made: BTreeSet::new(alloc),
         })
     }
@@ -99,7 +100,7 @@ impl Cache {
     pub fn written_at(&self, place: usize) -> Option<Oref>
         ensures { result ≡ slice_get self.now.written place }
     {
-        self.written.iter().nth(place).copied()
+        self.written.at(place)
     }
 
     /// Makes the page of an object the most recently used one, where it is held.
@@ -236,7 +237,7 @@ impl Cache {
         ensures made { self.new.made ≡ self.old.made }
         ensures limit { self.new.limit ≡ self.old.limit }
     {
-        while let Some(oref) = self.written.pop_first() {
+        while let Some(oref) = self.written.pop() {
             self.pages.undo(oref);
         }
     }
@@ -278,7 +279,7 @@ impl Cache {
         ensures made { self.new.made ≡ self.old.made }
         ensures limit { self.new.limit ≡ self.old.limit }
     {
-        while let Some(oref) = self.written.pop_first() {
+        while let Some(oref) = self.written.pop() {
             self.pages.settle(oref);
         }
     }
@@ -349,26 +350,23 @@ impl Cache {
         ensures limit { self.new.limit ≡ self.old.limit }
     {
         self.pages.drop_repo(repo);
-        leave_repo(&mut self.written, repo);
+        self.written.drop_repo(repo);
         leave_repo(&mut self.made, repo);
     }
 }
 
-// Puts a name among names, where it isn't yet, and among others.
-fn insert_both(
-    written: &mut BTreeSet<Oref>,
-    made: &mut BTreeSet<Oref>,
-    oref: Oref,
-) -> Result<(), NoMemory>
-    requires { list_any (is_at (oref_cmp oref)) written.old.keys ≡ false }
-    ensures written { OnOk result (written.new.keys ≡ insert_key oref_cmp written.old.keys oref) }
-    ensures updates { OnOk result (Updates oref_cmp written.old written.new oref true) }
+// Puts a name among names, and among others.
+fn insert_both(written: &mut NameSet, made: &mut BTreeSet<Oref>, oref: Oref) -> Result<(), NoMemory>
+    ensures written { OnOk result (written.new ≡ insert_key oref_cmp written.old oref) }
+    ensures has { OnOk result ((x : Oref) → list_any (is_at (oref_cmp x)) written.new ≡ cond (is_at (oref_cmp oref) x) true (list_any (is_at (oref_cmp x)) written.old)) }
     ensures made { OnOk result (made.new.keys ≡ insert_key oref_cmp made.old.keys oref) }
-    ensures err { OnErr result ((written.new.keys ≡ written.old.keys) × (made.new.keys ≡ made.old.keys)) }
+    ensures err { OnErr result ((written.new ≡ written.old) × (made.new.keys ≡ made.old.keys)) }
 {
-    written.insert(oref)?;
-    if made.insert(oref).is_err() {
-        written.remove(&oref);
+    let added = made.insert(oref)?;
+    if written.insert(oref).is_err() {
+        if added {
+            made.remove(&oref);
+        }
         return Err(NoMemory);
     }
     Ok(())

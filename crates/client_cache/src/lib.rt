@@ -4,6 +4,7 @@
 mod cache;
 mod held_pages;
 mod look;
+mod name_set;
 mod page_copies;
 mod page_name;
 mod placing;

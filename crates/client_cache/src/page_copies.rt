@@ -176,13 +176,7 @@ impl Slots {
     {
         let slot = self.slots.get(usize::from(slot))?;
         match &slot.written {
-            Some(obj) => {
-                if obj.ver == ver {
-                    Some(obj)
-                } else {
-                    None
-                }
-            }
+            Some(obj) => { if obj.ver == ver { Some(obj) } else { None } }
             None => None,
         }
     }

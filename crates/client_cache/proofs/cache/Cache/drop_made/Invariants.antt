@@ -10,7 +10,7 @@ invariant-loop-oref l =
     ((x : Oref) → told kept_in l.self-inside.pages x ≡ told kept_in l.fn.self.held x)
     × ((x : Oref) → told written_in l.self-inside.pages x ≡ told written_in l.fn.self.held x)
     × (l.fn.self.made ≡ [] → (l.self-inside.made.keys ≡ []) × (keys_of l.self-inside.pages ≡ keys_of l.fn.self.held))
-    × (l.self-inside.written.keys ≡ l.fn.self.written)
+    × (l.self-inside.written ≡ l.fn.self.written)
     × (l.self-inside.limit ≡ l.fn.self.limit)
 
 abbrev pub decreases-loop-oref : goal.decreases-loop-oref

@@ -12,6 +12,6 @@ invariant-loop-oref l =
     ((x : Oref) → told kept_in l.self-inside.pages x ≡ cond (list_any (λ y. same_name y x) (take l.oref-index l.fn.orefs)) None (told kept_in l.fn.self.held x))
     × ((x : Oref) → told written_in l.self-inside.pages x ≡ told written_in l.fn.self.held x)
     × (keys_of l.self-inside.pages ≡ keys_of l.fn.self.held)
-    × (l.self-inside.written.keys ≡ l.fn.self.written)
+    × (l.self-inside.written ≡ l.fn.self.written)
     × (l.self-inside.made.keys ≡ l.fn.self.made)
     × (l.self-inside.limit ≡ l.fn.self.limit)

@@ -11,10 +11,10 @@ use Rattle.client_cache.proofs.cache.Cache.undo_writes.Given as goal
 abbrev pub invariant-loop-oref : goal.invariant-loop-oref
 invariant-loop-oref l =
     ((x : Oref) → told kept_in l.self-inside.pages x ≡ told kept_in l.fn.self.held x)
-    × ((x : Oref) → is_some (told written_in l.self-inside.pages x) ≡ list_any (is_at (oref_cmp x)) l.self-inside.written.keys)
+    × ((x : Oref) → is_some (told written_in l.self-inside.pages x) ≡ list_any (is_at (oref_cmp x)) l.self-inside.written)
     × (keys_of l.self-inside.pages ≡ keys_of l.fn.self.held)
     × (l.self-inside.made.keys ≡ l.fn.self.made)
     × (l.self-inside.limit ≡ l.fn.self.limit)
 
 abbrev pub decreases-loop-oref : goal.decreases-loop-oref
-decreases-loop-oref l = length l.self-inside.written.keys
+decreases-loop-oref l = length l.self-inside.written

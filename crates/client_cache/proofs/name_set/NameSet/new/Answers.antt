@@ -1,0 +1,5 @@
+use Rattle.client_cache.proofs.NameLists.{none_rise}
+use Rattle.client_cache.proofs.name_set.NameSet.new.Goals as goal
+
+pub invariant_of-result : goal.invariant_of-result
+invariant_of-result c = rw c.new.ensures.items none_rise
