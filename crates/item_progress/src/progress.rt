@@ -45,7 +45,7 @@ impl Model for Progress {
 
 /// The text of an item, which is copied to be shared from then on; nothing where it is no transaction.
 fn text_of(alloc: Global, item: Option<&What>) -> Result<Option<SharedBlock>, NoMemory>
-    ensures { IfOk result (λ text. text ≡ text_of (option_copied item)) }
+    ensures { IfOk result (λ text. text ≡ text_of (option_copied item.entry)) }
 {
     match item {
         Some(What::Tx(block)) => Ok(Some(SharedBlock::copy_of(alloc, block)?)),

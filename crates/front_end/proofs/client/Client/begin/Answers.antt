@@ -1,10 +1,7 @@
 use Rattle.client_state.proofs.Writing.{nothing_unsent}
-use Rattle.front_end.proofs.Calling.{same_sends, same_sends_idle}
+use Rattle.front_end.proofs.Calling.{same_sends}
 use Rattle.front_end.proofs.client.Client.begin.Goals as goal
 use Rattle.std.proofs.Common.{sym, ◌∙◌}
-
-pub returns-in_ok-run-in-Some-Tx-clause-moves : goal.returns-in_ok-run-in-Some-Tx-clause-moves
-returns-in_ok-run-in-Some-Tx-clause-moves g c = same_sends_idle _ _ _ c.args.self.now.held c.begin.new.self c.begin.ensures.same _ c.evaluate.result c.evaluate.ensures.moves
 
 pub returns-in_err-run-in-Some-Tx-clause-writes : goal.returns-in_err-run-in-Some-Tx-clause-writes
 returns-in_err-run-in-Some-Tx-clause-writes g c = λ none. nothing_unsent _ _ none
