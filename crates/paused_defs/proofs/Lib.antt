@@ -5,3 +5,4 @@ pub mod MoreCreated
 pub mod Reaching
 pub mod Drops
 pub mod Falling
+pub mod Typed

@@ -1,5 +1,6 @@
 pub mod formers
 pub mod Methods
+pub mod Typed
 pub mod Plain
 pub mod Resume
 pub mod Reaches

@@ -5,6 +5,7 @@ mod frames;
 mod laws;
 mod methods;
 mod nodes;
+mod parameters;
 mod shared;
 mod sharing;
 mod stack;
@@ -16,9 +17,11 @@ pub use laws::{
     what_is_left_goes_on_later,
 };
 pub use methods::{
-    ClassMethods, EpochMethods, SharedMethod, SharedMethods, class_methods, shared_method,
+    CLASS_LIMIT, ClassMethods, EpochMethods, SharedMethod, SharedMethods, class_methods,
+    shared_method,
 };
 pub use nodes::{ExprNode, ExprNodes, StmtNode, StmtNodes};
+pub use parameters::{TypedParameter, TypedParameters};
 pub use shared::Shared;
 pub use sharing::calls_in;
 pub use stack::Stack;
