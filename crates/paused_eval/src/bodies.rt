@@ -1,7 +1,8 @@
-ghost use Rattle.std.specs.Prelude.{◌≡◌};
+ghost use Rattle.std.specs.Prelude.{◌≡◌, option_map, IfSome};
 ghost use Rattle.std.specs.Option.{option_copied};
 ghost use Rattle.class_defs.specs.Types.{method_of};
 ghost use Rattle.paused_defs.specs.Methods.{class_methods};
+ghost use Rattle.paused_defs.specs.Typed.{IsTyped};
 
 use method_eval::Program;
 use paused_defs::{ClassMethods, SharedMethod, shared_method};
@@ -16,7 +17,7 @@ pub struct Bodies<'a, L: Ledger> {
 }
 
 /// The method with this name of the class with this number.
-#[tactic(auto, using(crate::proofs::Methods::found_is))]
+#[tactic(auto, using(crate::proofs::Methods::found_is, crate::proofs::Methods::is_typed))]
 pub fn method_in<'a, L: Ledger>(
     program: &Program<'_>,
     bodies: &Bodies<'a, L>,
@@ -24,7 +25,8 @@ pub fn method_in<'a, L: Ledger>(
     name: &[u8],
 ) -> Option<&'a SharedMethod>
     requires known { bodies.now.methods.now ≡ class_methods program.now.schema.now.classes }
-    ensures { option_copied result ≡ method_of program.now.schema.now.classes class name.now }
+    ensures found { option_map (λ m. m.method) (option_copied result) ≡ method_of program.now.schema.now.classes class name.now }
+    ensures typed { IfSome (option_copied result) (λ m. IsTyped program.now.schema.now.classes m) }
 {
     let _alloc = program.alloc;
     shared_method(bodies.methods, class, name)

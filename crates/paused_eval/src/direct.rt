@@ -8,6 +8,7 @@ ghost use Rattle.paused_defs.specs.Methods.{class_methods};
 ghost use Rattle.paused_defs.specs.Plain.{plain};
 ghost use Rattle.paused_defs.specs.Reaches.{over};
 ghost use Rattle.paused_defs.specs.Resume as small;
+ghost use Rattle.paused_defs.specs.Typed.{IsTyped};
 ghost use Rattle.paused_eval.specs.Copies.{Keeps, Tied, state};
 ghost use Rattle.paused_eval.specs.Counted.{surplus};
 ghost use Rattle.paused_eval.specs.Direct as spec;
@@ -28,7 +29,7 @@ use class_defs::{
     DEPTH_LIMIT, ExprType, Machine, Operator, Receiver, STEP_LIMIT, combined, number,
 };
 use client_cache::Cache;
-use method_eval::{Program, bound, named_value, owners_at, type_named};
+use method_eval::{Program, named_value, owners_at};
 use paused_defs::{ExprNode, ExprNodes, Shared, SharedExprs, SharedMethod};
 use std::mem;
 use std::sync::ledger::Ledger;
@@ -416,11 +417,12 @@ fn go_inside(
     method: &SharedMethod,
     arguments: &Values,
 ) -> Result<Outside, NoMemory>
-    requires { machine.old.depth < 64 }
-    ensures inside { IfOk result (λ outside. machine.new ≡ small.inside (over program.now.schema.now (λ x. None)) this method.now arguments.now machine.old) }
+    requires depth { machine.old.depth < 64 }
+    requires typed { IsTyped program.now.schema.now.classes method.now }
+    ensures inside { IfOk result (λ outside. machine.new ≡ small.inside (over program.now.schema.now (λ x. None)) this method.now.method arguments.now machine.old) }
     ensures outside { IfOk result (λ outside. outside ≡ record { depth = machine.old.depth; this = machine.old.this; locals = machine.old.locals }) }
 {
-    let locals = bound(program, method.parameters(), arguments)?;
+    let locals = method.bound(program.alloc, arguments)?;
     let depth = machine.depth;
     let locals = mem::replace(&mut machine.locals, locals);
     let caller = mem::replace(&mut machine.this, Some(this));
@@ -449,7 +451,8 @@ fn run_body<L: Ledger>(
     requires tied { Tied cache.old }
     requires known { bodies.old.methods.now ≡ class_methods program.now.schema.now.classes }
     requires depth { machine.old.depth < 64 }
-    ensures does { Directs result (state machine.new cache.new) (spec.run_body (on program.now.schema.now cache.old) inner (directly (on program.now.schema.now cache.old) inner) this method.now arguments.now (state machine.old cache.old)) }
+    requires typed { IsTyped program.now.schema.now.classes method.now }
+    ensures does { Directs result (state machine.new cache.new) (spec.run_body (on program.now.schema.now cache.old) inner (directly (on program.now.schema.now cache.old) inner) this method.now.method arguments.now (state machine.old cache.old)) }
     ensures tied { Lasts result (Tied cache.new) }
     ensures kept { Lasts result (Keeps cache.old cache.new) }
     ensures known { bodies.new.methods.now ≡ class_methods program.now.schema.now.classes }
@@ -460,7 +463,7 @@ fn run_body<L: Ledger>(
         this,
         locals,
     } = go_inside(program, machine, this, method, arguments)?;
-    let kind = type_named(program, method.result());
+    let kind = method.result();
     match block(
         program,
         epoch,

@@ -4,6 +4,7 @@ ghost use Rattle.class_defs.specs.declared.store.Object.{Object};
 ghost use Rattle.paused_defs.specs.Methods.{class_methods};
 ghost use Rattle.paused_defs.specs.Reaches.{over};
 ghost use Rattle.paused_defs.specs.Resume as spec;
+ghost use Rattle.paused_defs.specs.Typed.{IsTyped};
 ghost use Rattle.class_defs.specs.Types.{method_of};
 ghost use Rattle.paused_eval.specs.Copies.{Keeps, Tied, at_hand, state};
 ghost use Rattle.paused_eval.specs.Counted.{surplus};
@@ -14,7 +15,7 @@ use crate::moves::open_block;
 use crate::objects::touch;
 use class_defs::{DEPTH_LIMIT, Machine, Receiver};
 use client_cache::Cache;
-use method_eval::{Halt, Program, bound, fault, owners_at, type_named};
+use method_eval::{Halt, Program, fault, owners_at};
 use paused_defs::{Doing, Frame, Shared, SharedBlock, SharedMethod, Stack};
 use std::mem;
 use std::sync::ledger::Ledger;
@@ -31,10 +32,11 @@ fn open_body(
     arguments: &Values,
 ) -> Result<Doing, Halt>
     requires depth { machine.old.depth < 64 }
-    ensures does { (f : Oref → Option Object) → Moves result stack.new machine.old machine.new (spec.open_body (over program.now.schema.now f) inner this (Some method.now) arguments.now stack.old) }
+    requires typed { IsTyped program.now.schema.now.classes method.now }
+    ensures does { (f : Oref → Option Object) → Moves result stack.new machine.old machine.new (spec.open_body (over program.now.schema.now f) inner this (Some method.now.method) arguments.now stack.old) }
     ensures steps { machine.new.steps ≡ machine.old.steps }
 {
-    let locals = bound(program, method.parameters(), arguments)?;
+    let locals = method.bound(program.alloc, arguments)?;
     let body = SharedBlock::of(method.body())?;
     let depth = machine.depth;
     let caller_locals = mem::replace(&mut machine.locals, locals);
@@ -44,7 +46,7 @@ fn open_body(
         depth,
         this: caller,
         locals: caller_locals,
-        result: type_named(program, method.result()),
+        result: method.result(),
     })?;
     open_block(machine, stack, inner, body)
 }

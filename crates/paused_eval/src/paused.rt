@@ -28,7 +28,7 @@ use crate::running::run_over;
 use class_defs::{Flow, Machine, NameSupply, Schema};
 use client_cache::Cache;
 use method_eval::{Program, Ran};
-use paused_defs::{ClassMethods, Doing, Frame, SharedBlock, Stack};
+use paused_defs::{CLASS_LIMIT, ClassMethods, Doing, Frame, SharedBlock, Stack};
 use std::alloc::Global;
 use std::marker::Brand;
 use std::mem;
@@ -47,9 +47,6 @@ pub struct Paused {
     pub doing: Doing,
     pub stack: Stack<Frame>,
 }
-
-/// No schema has more classes: they are numbered by `u16`.
-const CLASS_LIMIT: usize = 65_536;
 
 /// How many frames a stack has room for from the beginning: most transactions need no more between two stops.
 const FRAMES: usize = 8;
