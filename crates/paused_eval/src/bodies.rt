@@ -17,7 +17,6 @@ pub struct Bodies<'a, L: Ledger> {
 }
 
 /// The method with this name of the class with this number.
-#[tactic(auto, using(crate::proofs::Methods::found_is, crate::proofs::Methods::is_typed))]
 pub fn method_in<'a, L: Ledger>(
     program: &Program<'_>,
     bodies: &Bodies<'a, L>,
