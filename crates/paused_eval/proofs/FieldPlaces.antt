@@ -20,6 +20,7 @@ placed p xs = by (nat_lt (position_or_len p xs) (length xs)) refl ∙ sym (find_
   where
     past : nat_lt (position_or_len p xs) (length xs) ≡ false → length xs ≤ position_or_len p xs
     past e = grind (arith, nat_tests)
+
     by : (b : Bool) → nat_lt (position_or_len p xs) (length xs) ≡ b
         → option_and_then (λ i. slice_get xs i) (cond b (Some (position_or_len p xs)) None) ≡ slice_get xs (position_or_len p xs)
     by true e = refl
@@ -45,12 +46,14 @@ field_value_is w m r name index kind found v t i k f e =
     kind_is =
         k ∙ ap (λ (j : Option ℕ). typed w.schema.classes (option_map (λ d. d.type_name) (option_and_then (λ n. slice_get (fields_of w.schema.classes r.class) n) j))) i
         ∙ ap (λ (o : Option Field). typed w.schema.classes (option_map (λ d. d.type_name) o)) (field_at_place w.schema.classes r.class name)
+
     found_is : found ≡ field_at (seen w m r.oref) (field_named w.schema.classes r.class name)
     found_is = f ∙ ap (λ (j : Option ℕ). field_at (seen w m r.oref) j) i
+
     at_this : field_of_receiver w m m.this name
         ≡ fitted_or_beginning (typed w.schema.classes (option_map (λ d. d.type_name) (field_of w.schema.classes r.class name))) (field_at (seen w m r.oref) (field_named w.schema.classes r.class name))
     at_this =
         ap (λ (o : Option Receiver). field_of_receiver w m o name) t
         ∙ ap (λ (o : Option Receiver). fitted_or_beginning
-            (typed w.schema.classes (option_map (λ d. d.type_name) (option_and_then (λ c. field_of w.schema.classes c name) (option_map (λ q. q.class) o))))
-            (field_at (seen w m r.oref) (field_named w.schema.classes r.class name))) t
+        (typed w.schema.classes (option_map (λ d. d.type_name) (option_and_then (λ c. field_of w.schema.classes c name) (option_map (λ q. q.class) o))))
+        (field_at (seen w m r.oref) (field_named w.schema.classes r.class name))) t
