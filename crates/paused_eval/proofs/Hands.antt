@@ -10,7 +10,8 @@ use Rattle.std.specs.List.Sorted.{IsStrictlySortedBy}
 use Rattle.std.specs.Map.{keys_of, lookup}
 use Rattle.std.specs.Option.{option_or}
 use Rattle.std.specs.Ordering.{eq_by_cmp}
-use Rattle.std.specs.Prelude.{nat_lt, is_some, not, nat_eq, option_map, option_and_then, ◌⊎◌}
+use Rattle.std.specs.Prelude.{nat_lt, is_some, not, nat_eq, option_map, option_and_then, ◌⊎◌, Err, Ok, OnErr, OnOk, Result}
+use Rattle.thor_value.specs.declared.memory.NoMemory.{NoMemory}
 use Rattle.thor_value.proofs.FiniteMap.{get-insert, IsSorted-insert, same_map}
 use Rattle.thor_value.proofs.NameOrders.{oref_exact, oref_total}
 use Rattle.thor_value.specs.FiniteMap.{get, insert}
@@ -308,3 +309,8 @@ wrote_tied x o c d t h e l = record {
   within = λ q k. in_page (eq_by_cmp oref_cmp q x) x q o (changed c q) refl l (t.within q)
       (sym (ap is_some (h q ∙ ap (λ (b : Bool). cond b (Some o) (changed c q)) (name_tests x q))) ∙ k);
 }
+
+-- the same by the answer of a write: where it failed all is as it was
+pub write_tied : (x : Oref) (o : Obj) (c d : Contents) (r : Result (Unit {0}) NoMemory) → Tied c → OnOk r (Wrote x o c d) → OnOk r (d.written ≡ insert_key oref_cmp c.written x) → OnErr r (d ≡ c) → x.slot < 12 → Tied d
+write_tied x o c d (Ok u) t h e s l = wrote_tied x o c d t h e l
+write_tied x o c d (Err n) t h e s l = subst Tied (sym s) t

@@ -2,12 +2,12 @@ pub mod Beginning
 pub mod Counting
 pub mod Directly
 pub mod Ending
+mod FieldPlaces
 pub mod Granted
 pub mod Hands
 pub mod Later
 pub mod Lifting
 pub mod Methods
-pub mod Missing
 mod Names
 pub mod Nested
 pub mod Nodes

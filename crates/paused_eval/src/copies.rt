@@ -70,7 +70,7 @@ impl Copies {
 
     /// Writes an object. The copy stays beside it until the try is settled. Its page becomes the most recently
     /// used one; where it wasn't held, the try makes it. After `NoMemory` the try may be given up.
-    #[tactic(auto, using(crate::proofs::Hands::wrote_tied))]
+    #[tactic(auto, using(crate::proofs::Hands::write_tied))]
     pub fn write(&mut self, oref: Oref, obj: Obj) -> Result<(), NoMemory>
         requires { oref.slot < 12 }
         ensures kept { Keeps self.old.cache self.new.cache }

@@ -464,15 +464,7 @@ fn run_body<L: Ledger>(
         locals,
     } = go_inside(program, machine, this, method, arguments)?;
     let kind = method.result();
-    match block(
-        program,
-        epoch,
-        cache,
-        machine,
-        bodies,
-        inner,
-        method.body(),
-    ) {
+    match block(program, epoch, cache, machine, bodies, inner, method.body()) {
         Ok(flow) => {
             leave_body(machine, depth, this, locals);
             Ok(ended(kind, flow))

@@ -110,13 +110,6 @@ pub fn enter<L: Ledger>(
         owners,
     };
     open_method(
-        program,
-        machine,
-        bodies,
-        stack,
-        inner,
-        this,
-        method,
-        arguments,
+        program, machine, bodies, stack, inner, this, method, arguments,
     )
 }

@@ -155,7 +155,7 @@ fn touched(
 }
 
 /// An object that isn't at hand is needed. It isn't looked for among the objects read where there is room for one more.
-#[tactic(auto, using(crate::proofs::Missing::needed, crate::proofs::Missing::needed_again), unfolding(class_defs::specs::Objects::touch))]
+#[tactic(auto, unfolding(class_defs::specs::Objects::touch))]
 fn missing(
     program: &Program<'_>,
     cache: &Cache,
@@ -214,8 +214,18 @@ fn type_at(program: &Program<'_>, class: u16, index: Option<usize>) -> ExprType
     }
 }
 
+/// The value that was found of a field of this type, or the one with which it begins.
+fn fitted_or_beginning(kind: ExprType, found: Option<Value>) -> Value
+    ensures { result ≡ spec.fitted_or_beginning kind found }
+{
+    match found {
+        Some(value) => fitted(kind, value),
+        None => beginning(kind),
+    }
+}
+
 /// `this.name`. No page is used.
-#[tactic(auto, using(crate::proofs::Missing::field_at_place), unfolding(class_defs::specs::Objects::field_value, class_defs::specs::Objects::scope_at))]
+#[tactic(auto, unfolding(class_defs::specs::Objects::field_value))]
 pub fn field_seen(program: &Program<'_>, cache: &Cache, machine: &Machine, name: &[u8]) -> Value
     requires tied { Tied cache.now }
     ensures value { result ≡ field_value (over program.now.schema.now (at_hand program.now.schema.now cache.now)) (state machine.now cache.now) name.now }
@@ -224,10 +234,8 @@ pub fn field_seen(program: &Program<'_>, cache: &Cache, machine: &Machine, name:
         Some(this) => {
             let index = field_named(program, this.class, name);
             let kind = type_at(program, this.class, index);
-            match seen_field(program, cache, machine, this.oref, index) {
-                Some(value) => fitted(kind, value),
-                None => beginning(kind),
-            }
+            let found = seen_field(program, cache, machine, this.oref, index);
+            fitted_or_beginning(kind, found)
         }
         None => Value::Null,
     }

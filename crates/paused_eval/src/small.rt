@@ -85,14 +85,7 @@ fn evaluate<L: Ledger>(
     if let Some(name) = field_read(node) {
         return field(program, cache, machine, work, name.get().as_slice());
     }
-    start(
-        program,
-        machine,
-        work,
-        stack,
-        nested - 1,
-        node,
-    )
+    start(program, machine, work, stack, nested - 1, node)
 }
 
 #[tactic(auto, using(crate::proofs::Nested::nested))]

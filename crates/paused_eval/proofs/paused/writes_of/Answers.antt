@@ -21,7 +21,7 @@ loop-place-preserved c =
     let there : slice_get names i ≡ Some oref = ap (λ (xs : List Oref). slice_get xs i) (sym c.loop-place.invariant.1.1) ∙ (sym c.written_at.ensures ∙ c.in-Some.is) in
     let step : drop i names ≡ oref ∷ rest = next_there names i oref there in
     let dating : Dating epoch c.args.cache.now c.loop-place.cache (oref ∷ rest) = subst (λ (xs : List Oref). Dating epoch c.args.cache.now c.loop-place.cache xs) step c.loop-place.invariant.1.0 in (
-      one_more epoch c.args.cache.now c.loop-place.cache oref rest c.loop-place.writes c.push_written.new.writes _ dating.same c.in_ok-push_written.ensures.writes
+      one_more epoch c.args.cache.now c.loop-place.cache oref rest c.loop-place.writes c.push_written.new.writes _ dating.same c.in_ok-push_written-in-Some.ensures.writes
           (subst (λ (xs : List Oref). c.loop-place.writes ++ stored_at epoch (entries (changed c.args.cache.now) xs) ≡ stored_at epoch (entries (changed c.args.cache.now) names)) step c.loop-place.invariant.0),
       (
         goes_on epoch c.args.cache.now c.loop-place.cache c.push_written.new.cache oref rest dating c.push_written.ensures.changed c.push_written.ensures.kept,

@@ -3,5 +3,5 @@ use Rattle.paused_eval.proofs.copies.Copies.drop_repo.Goals as goal
 
 pub invariant_of-self : goal.invariant_of-self
 invariant_of-self c = record {
-  tied = rw c.drop_repo-2.ensures (others_tied c.args.self.now.written c.args.repo c.args.self.now.cache c.drop_repo.new.self c.args.self.now.tied c.drop_repo.ensures.changed);
+  tied = others_tied c.args.repo c.args.self.now.cache c.drop_repo.new.self c.args.self.now.tied c.drop_repo.ensures.changed c.drop_repo.ensures.written;
 }
