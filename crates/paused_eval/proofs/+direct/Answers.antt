@@ -28,16 +28,16 @@ direct::called-returns-in-Err-clause-does g t c =
     (kind_there s c.args.machine.now c.args.cache.now c.type_of-kind.result c.args.receiver.now c.get.result.now c.type_of-kind.ensures c.get.ensures)
     refl refl c.in-Err.ensures.does c.behind_receiver.ensures
 
-pub direct::collect-returns-in_ok-rest-clause-does : goal.direct::collect-returns-in_ok-rest-clause-does
-direct::collect-returns-in_ok-rest-clause-does g t c =
+pub direct::collect-returns-in-Err-clause-does : goal.direct::collect-returns-in-Err-clause-does
+direct::collect-returns-in-Err-clause-does g t c =
     let s = c.args.program.now.schema.now in
     let w = on s c.args.cache.now in
     let left = map plain (drop c.loop-place.place c.args.arguments.now) in
     let first : left ≡ plain c.in-Some.expr.now ∷ map plain (drop (c.loop-place.place + 1) c.args.arguments.now) = rw c.in-Some.is at c.at.ensures in
-    collect_left s c.args.cache.now c.loop-place.cache c.args.inner c.args.kind c.args.target c.args.method.now c.args.method.now c.loop-place.done left (plain c.in-Some.expr.now) c.in_ok-rest.rest
+    collect_left s c.args.cache.now c.loop-place.cache c.args.inner c.args.kind c.args.target c.args.method.now c.args.method.now c.loop-place.done left (plain c.in-Some.expr.now) c.in_ok-rest-in-Err.rest
     c.in-Err.unwound c.behind_argument.result (state c.loop-place.machine c.loop-place.cache) (state c.value_of.new.machine c.value_of.new.cache)
     (spec.collect w c.args.inner (directly w c.args.inner) c.args.kind c.args.target c.args.method.now c.args.none (map plain c.args.arguments.now) (state c.args.machine.now c.args.cache.now))
-    c.loop-place.invariant.1.0 c.loop-place.invariant.1.1.1.1 (first ∙ ap (λ (es : List Expr). plain c.in-Some.expr.now ∷ es) (sym c.in_ok-rest.ensures)) refl c.in-Err.ensures.does c.behind_argument.ensures
+    c.loop-place.invariant.1.0 c.loop-place.invariant.1.1.1.1 (first ∙ ap (λ (es : List Expr). plain c.in-Some.expr.now ∷ es) (sym c.in_ok-rest-in-Err.ensures)) refl c.in-Err.ensures.does c.behind_argument.ensures
 
 pub direct::node-returns-in-Variable-clause-does : goal.direct::node-returns-in-Variable-clause-does
 direct::node-returns-in-Variable-clause-does g t c =
