@@ -301,8 +301,9 @@ def seconds(*words):
 
 
 def by_turns(*runs):
-    """The seconds of each run in each turn, without those of a run that does nothing."""
-    turns = [[seconds(*run) - seconds(*run[:-1], 0) for run in runs] for _ in range(TURNS)]
+    """The seconds of each run in each turn, without those that it takes to do nothing."""
+    none = [min(seconds(*run[:-1], 0) for _ in range(3)) for run in runs]
+    turns = [[seconds(*run) - least for run, least in zip(runs, none)] for _ in range(TURNS)]
     return list(zip(*turns))
 
 
@@ -311,11 +312,11 @@ def told(name, over, under):
     print(f"{name}: {ratios[len(ratios) // 2]:.2f} times in the median of {TURNS} turns, {min(over) / min(under):.2f} times in the least")
 
 
-by_eval, by_go = by_turns((0, 0, 200000), (1, 0, 200000))
+by_eval, by_go = by_turns((0, 0, 500000), (1, 0, 500000))
 told("a transfer begun, run to its end and given up, in time of eval's", by_go, by_eval)
-by_eval, by_go = by_turns((0, 1, 100), (1, 1, 100))
+by_eval, by_go = by_turns((0, 1, 200), (1, 1, 200))
 told("a loop, in time of eval's", by_go, by_eval)
-at, stops, alone = by_turns((0, 2, 100), (1, 2, 100), (2, 2, 100))
+at, stops, alone = by_turns((0, 2, 300), (1, 2, 300), (2, 2, 300))
 told("1,000 stops, in time of a walk at hand", stops, at)
 told("without what its pages cost", [s - a for s, a in zip(stops, alone)], at)
 told("with its pages placed before and at the stops", stops, [n + a for n, a in zip(at, alone)])
