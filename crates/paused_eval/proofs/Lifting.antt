@@ -179,6 +179,14 @@ pub field_moves : (w : World) (fs : List Frame) (m n o : Machine) (u : Unit {0})
 field_moves w fs m n o u name line v stepped value same =
     rw (value, same) (ap (λ (q : Result (Unit {0}) Stop × Machine). after q.0 q.1 (λ x. start w 0 (Expr-F.Field (record { text = name; line = line })) fs)) stepped)
 
+-- what holds anyhow holds where it needs something
+pub needed_so : {A : Type 0} (r : Result A Halt) (P : Type 0) → P → AtNeed r P
+needed_so (Ok a) P h = tt
+needed_so (Err (Stopped (stop.Fault t))) P h = tt
+needed_so (Err (Stopped (stop.Need x owners))) P h = h
+needed_so (Err (Stopped (stop.NeedName repo))) P h = h
+needed_so (Err NoMemory) P h = tt
+
 -- what moves needs nothing
 pub never_needs : (r : Result Doing Halt) (fs : List Frame) (m n : Machine) (a : Action Left) (P : Type 0) → Moves r fs m n a → AtNeed r P
 never_needs (Ok d) fs m n a P h = tt

@@ -154,20 +154,25 @@ fn touched(
     Ok(class)
 }
 
-/// An object that isn't at hand is needed. It isn't looked for among the objects read where there is room for one more.
+/// An object that isn't at hand is needed, and its page is used. It isn't looked for among the objects read where there is
+/// room for one more.
 #[tactic(auto, unfolding(class_defs::specs::Objects::touch))]
 fn missing(
     program: &Program<'_>,
-    cache: &Cache,
+    cache: &mut Cache,
     machine: &Machine,
     owners: &Orefs,
     oref: Oref,
 ) -> Result<u16, Halt>
-    requires seen { option_map (λ o. o.class) (spec.seen (over program.now.schema.now (at_hand program.now.schema.now cache.now)) (state machine.now cache.now) oref) ≡ None }
-    ensures does { Does result (state machine.now cache.now) (touch (over program.now.schema.now (at_hand program.now.schema.now cache.now)) owners.now oref (state machine.now cache.now)) }
+    requires tied { Tied cache.old }
+    requires seen { option_map (λ o. o.class) (spec.seen (over program.now.schema.now (at_hand program.now.schema.now cache.old)) (state machine.now cache.old) oref) ≡ None }
+    ensures does { Does result (state machine.now cache.old) (touch (over program.now.schema.now (at_hand program.now.schema.now cache.old)) owners.now oref (state machine.now cache.old)) }
+    ensures state { state machine.now cache.new ≡ state machine.now cache.old }
+    ensures tied { Tied cache.new }
+    ensures kept { Keeps cache.old cache.new }
 {
-    let (_program, _cache) = (program, cache);
     if machine.reads.len() < READ_LIMIT {
+        use_page(program, cache, machine, oref);
         return class_found(None, oref, owners);
     }
     if is_known(machine, oref) {
