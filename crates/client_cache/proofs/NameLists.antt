@@ -1,20 +1,23 @@
 -- What a search among names that rise tells, and what is among them behind one that was put or taken out.
-use Rattle.std.proofs.Common.{◌≡◌, ℕ, zero, suc, ◌<◌, ◌≤◌, Bool, true, false, cond, List, [], ◌∷◌, length, refl, sym, ap, subst, ◌∙◌, arith, append-nil, Option, Some, None, Result, Ok, Err, IfOk, IfErr}
+use Rattle.std.proofs.Common.{◌≡◌, ℕ, zero, suc, ◌-◌, ◌<◌, ◌≤◌, Bool, true, false, cond, List, [], ◌∷◌, length, refl, sym, ap, subst, ◌∙◌, arith, append-nil, Option, Some, None, Result, Ok, Err, IfOk, IfErr}
 use Rattle.std.specs.BTreeMap.{is_at}
 use Rattle.std.specs.BTreeSet.{insert_key}
 use Rattle.std.specs.Cmp.{eq_by_cmp_equiv}
 use Rattle.std.proofs.lemmas.Map.Views.{tells_apart}
-use Rattle.std.specs.List.{AllByRecursion, insert, list_any, slice_index_or}
+use Rattle.std.proofs.lemmas.List.Edits.{insert_end}
+use Rattle.std.proofs.lemmas.Option.{slice_get-get_or}
+use Rattle.std.specs.Prelude.{get_or}
+use Rattle.std.specs.List.{AllByRecursion, insert, list_any, slice_get, slice_index_or}
 use Rattle.std.specs.List.Sorted.{IsBinarySearchResult, IsNonDecreasingBy, IsSearchInRange, IsStrictlySortedBy}
 use Rattle.std.specs.Option.{IfSome, option_to_list}
-use Rattle.std.specs.Ordering.{ordering_index, ordering_reverse}
+use Rattle.std.specs.Ordering.{is_lt, ordering_index, ordering_reverse}
 use Rattle.std.specs.Prelude.{◌++◌, ◌||◌}
 use Rattle.std.specs.declared.cmp.Ordering.{Ordering}
 use Rattle.std.specs.declared.cmp.Ordering.TheVariants.{Less, Equal, Greater}
 use Rattle.thor_value.proofs.NameOrders.{oref_total, oref_exact}
 use Rattle.thor_value.specs.Names.{oref_cmp}
 use Rattle.thor_value.specs.declared.names.Oref.{Oref}
-use Rattle.client_cache.specs.NameLists.{IsGap, IsThere, Rise}
+use Rattle.client_cache.specs.NameLists.{IsBehind, IsGap, IsThere, Rise}
 
 -- ---- the order
 
@@ -128,6 +131,46 @@ absent xs x (Err at) rise within position =
 pub none_rise : Rise []
 unfolding IsStrictlySortedBy
 none_rise = tt
+
+-- ---- a name behind the last one
+
+all_got : (P : Oref → Type 0) (xs : List Oref) (k : ℕ) (y : Oref) → AllByRecursion P xs → slice_get xs k ≡ Some y → P y
+all_got P [] k y h got = cc
+all_got P (q ∷ xs) zero y h got = let same : q ≡ y = cc in subst P same h.0
+all_got P (q ∷ xs) (suc k) y h got = all_got P xs k y h.1 got
+
+gap_end : (xs : List Oref) (k : ℕ) (y x : Oref) → Rise xs → length xs ≡ suc k → slice_get xs k ≡ Some y → oref_cmp y x ≡ Less → IsGap xs x (suc k)
+unfolding IsStrictlySortedBy
+gap_end [] k y x rise long got lt = absurd (omega (arith, long))
+gap_end (q ∷ []) zero y x rise long got lt = let same : q ≡ y = cc in gap_behind q x [] zero (rw same lt) tt (gap_at [] x zero none_rise (omega arith) (λ k h. absurd (omega (arith, h))) (λ k le h. absurd (omega (arith, h))))
+gap_end (q ∷ z ∷ xs) zero y x rise long got lt = absurd (omega (arith, long))
+gap_end (q ∷ xs) (suc k) y x rise long got lt =
+    let under_last : oref_cmp q y ≡ Less = all_got (λ z. oref_cmp q z ≡ Less) xs k y rise.0 got in
+    gap_behind q x xs (suc k) (oref_total.trans q y x under_last lt) rise.0 (gap_end xs k y x rise.1 (omega (arith, long)) got lt)
+
+behind_gap : (xs : List Oref) (x : Oref) (n : ℕ) → n ≡ length xs → IsGap xs x n → IsBehind xs x
+behind_gap xs x n is gap = let e : insert xs n x ≡ xs ++ x ∷ [] = rw is (insert_end xs x) in record { put = gap.put ∙ e; rise = subst Rise e gap.rise }
+
+pub behind_none : (xs : List Oref) (x : Oref) → None ≡ slice_get xs (length xs - 1) → IsBehind xs x
+unfolding IsStrictlySortedBy
+behind_none [] x none = record { put = refl; rise = (tt, tt) }
+behind_none (q ∷ xs) x none =
+    let e : length (q ∷ xs) - 1 ≡ length xs = omega arith in
+    let some : slice_get (q ∷ xs) (length xs) ≡ Some (get_or (q ∷ xs) (length xs) q) = slice_get-get_or (q ∷ xs) (length xs) q (omega arith) in
+    let never : None ≡ Some (get_or (q ∷ xs) (length xs) q) = subst (λ k. None ≡ slice_get (q ∷ xs) k) e none ∙ some in
+    cc
+
+pub behind_last : (xs : List Oref) (y x : Oref) → Rise xs → Some y ≡ slice_get xs (length xs - 1) → oref_cmp y x ≡ Less → IsBehind xs x
+behind_last [] y x rise got lt = cc
+behind_last (q ∷ xs) y x rise got lt =
+    let e : length (q ∷ xs) - 1 ≡ length xs = omega arith in
+    let last : Some y ≡ slice_get (q ∷ xs) (length xs) = subst (λ k. Some y ≡ slice_get (q ∷ xs) k) e got in
+    behind_gap (q ∷ xs) x (suc (length xs)) refl (gap_end (q ∷ xs) (length xs) y x rise refl (sym last) lt)
+
+pub less : (o : Ordering) → is_lt o ≡ true → o ≡ Less
+less Less h = refl
+less Equal h = cc
+less Greater h = cc
 
 -- ---- a name is put
 

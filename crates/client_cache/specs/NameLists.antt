@@ -1,5 +1,5 @@
 -- Names that rise.
-use Rattle.std.specs.Prelude.{◌≡◌, ◌≤◌, ℕ, List, length, true, false}
+use Rattle.std.specs.Prelude.{◌≡◌, ◌≤◌, ◌++◌, ◌∷◌, ℕ, List, [], length, true, false}
 use Rattle.std.specs.BTreeMap.{is_at}
 use Rattle.std.specs.BTreeSet.{insert_key}
 use Rattle.std.specs.List.{insert, list_any}
@@ -21,3 +21,8 @@ pub record IsGap (xs : List Oref) (x : Oref) (at : ℕ) : Type 0 where
   pub absent : list_any (is_at (oref_cmp x)) xs ≡ false
   pub put : insert_key oref_cmp xs x ≡ insert xs at x
   pub rise : Rise (insert xs at x)
+
+-- the name comes behind them all
+pub record IsBehind (xs : List Oref) (x : Oref) : Type 0 where
+  pub put : insert_key oref_cmp xs x ≡ xs ++ x ∷ []
+  pub rise : Rise (xs ++ x ∷ [])

@@ -4,7 +4,7 @@ ghost use Rattle.std.specs.List.{filter, list_any};
 ghost use Rattle.std.specs.Prelude.{◌≡◌, ◌<◌, ◌↔◌, ◌++◌, ◌∷◌, [], cond, false, true, length, IfErr, IfOk, IfSome, IsTrue, MatchOption, OnErr, OnOk, nat_eq, not, slice_get};
 ghost use Rattle.thor_value.specs.Names.{oref_cmp};
 ghost use Rattle.thor_value.specs.declared.names.Oref.{Oref};
-ghost use Rattle.client_cache.specs.NameLists.{IsGap, IsThere, Rise};
+ghost use Rattle.client_cache.specs.NameLists.{IsBehind, IsGap, IsThere, Rise};
 
 use std::alloc::Global;
 use std::marker::Model;
@@ -38,6 +38,17 @@ fn place(names: &[Oref], oref: Oref) -> Result<usize, usize>
     names.binary_search(&oref)
 }
 
+/// Whether a name comes behind the last of these, or there is none.
+fn is_behind(names: &[Oref], oref: Oref) -> bool
+    requires { Rise names.now }
+    ensures { IsTrue result → IsBehind names.now oref }
+{
+    match names.last() {
+        None => true,
+        Some(last) => last.cmp(&oref).is_lt(),
+    }
+}
+
 impl NameSet {
     /// No name. It takes no memory.
     pub fn new(alloc: Global) -> NameSet
@@ -62,13 +73,17 @@ impl NameSet {
         self.names.get(place).copied()
     }
 
-    /// Adds a name. After `NoMemory` nothing has changed.
+    /// Adds a name, which is searched for where it doesn't come behind the last one. After `NoMemory` nothing has changed.
     #[tactic(auto, using(crate::proofs::NameLists::put_has))]
     pub fn insert(&mut self, oref: Oref) -> Result<(), NoMemory>
         ensures ok { OnOk result (self.new ≡ insert_key oref_cmp self.old oref) }
         ensures has { OnOk result ((x : Oref) → list_any (is_at (oref_cmp x)) self.new ≡ cond (is_at (oref_cmp oref) x) true (list_any (is_at (oref_cmp x)) self.old)) }
         ensures err { OnErr result (self.new ≡ self.old) }
     {
+        if is_behind(self.names.as_slice(), oref) {
+            self.names.push(oref)?;
+            return Ok(());
+        }
         match place(self.names.as_slice(), oref) {
             Ok(_) => {}
             Err(at) => self.names.insert(at, oref)?,
