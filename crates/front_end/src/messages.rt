@@ -5,7 +5,7 @@ ghost use Rattle.front_end.specs.Writing.{ClientWrites};
 ghost use Rattle.client_cache.specs.Copies.{changed};
 ghost use Rattle.client_state.specs.Learning.{KeepsBounds, Rises};
 ghost use Rattle.client_state.specs.Moving.{InSession, Loses};
-ghost use Rattle.client_state.specs.Receiving.{EndsReceive, GivesUp, IsNotGone, ReceivesNone, TakesCopies};
+ghost use Rattle.client_state.specs.Receiving.{EndsReceive, GaveUpIf, GivesUp, IsNotGone, ReceivesNone, TakesCopies};
 ghost use Rattle.client_state.specs.Taking.{Without};
 ghost use Rattle.client_state.specs.Writing.{WritesNone, has_sent_to};
 ghost use Rattle.paused_eval.specs.Copies.{AreAmong};
@@ -50,6 +50,7 @@ impl Client {
         ensures moves { InSession at self.old.held → OnOk result (MovesSoIf Q.shows (Q.view port.old) (Q.view port.new) self.old.held self.new.held (pending_in self.old.phase) (pending_in self.new.phase)) }
         ensures none { IfOk result (λ some. some ≡ None → ReceivesNone Q.shows (Q.view port.old) (Q.view port.new) at self.old.held self.new.held) }
         ensures still { IfOk result (λ some. some ≡ None → self.new.phase ≡ self.old.phase) }
+        ensures gives_up { OnOk result (GaveUpIf Q.shows (Q.view port.old) (Q.view port.new) at.repo self.old.phase self.new.held.cache.cache) }
         ensures writes { ClientWrites self.old → ClientWrites self.new }
         ensures rises { Rises self.old.held self.new.held }
     {
@@ -102,6 +103,7 @@ impl Client {
         ensures acts { ActsIf Q.shows (Q.view port.old) (Q.view port.new) }
         ensures shown { ShownIf Q.shows (Q.view port.old) (Q.view port.new) opened.now.repos result }
         ensures moves { InSession at self.old.held → OnOk result (MovesSoIf Q.shows (Q.view port.old) (Q.view port.new) self.old.held self.new.held (pending_in self.old.phase) (pending_in self.new.phase)) }
+        ensures gives_up { OnOk result (GaveUpIf Q.shows (Q.view port.old) (Q.view port.new) at.repo self.old.phase self.new.held.cache.cache) }
         ensures writes { ClientWrites self.old → ClientWrites self.new }
         ensures rises { Rises self.old.held self.new.held }
     {

@@ -1,4 +1,4 @@
-use Rattle.std.proofs.Common.{◌≡◌, not, sym}
+use Rattle.std.proofs.Common.{not, sym}
 use Rattle.std.proofs.lemmas.List.Kept.{IsStrictlySortedBy-filter}
 use Rattle.thor_value.specs.Names.{oref_cmp}
 use Rattle.client_cache.specs.Pages.{same_name}
