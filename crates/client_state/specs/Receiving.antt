@@ -1,8 +1,11 @@
 -- What a client makes of what it holds by a call that takes a message (this project's).
 use Rattle.client_cache.specs.Copies.{Contents, kept}
 use Rattle.client_state.specs.Moving.{CopiesTaken, Loses, StopsWaiting}
+use Rattle.client_state.specs.Writing.{WritesNone, has_sent_to}
 use Rattle.client_state.specs.declared.held.Held.{Held}
+use Rattle.client_state.specs.declared.phase.Phase.{Phase}
 use Rattle.message_outbox.specs.declared.answers.At.{At}
+use Rattle.message_outbox.specs.declared.message.Message.TheVariants as messages
 use Rattle.message_outbox.specs.declared.message.Message.{Message}
 use Rattle.paused_eval.specs.Copies.{AreAmong}
 use Rattle.port.specs.Views.{View}
@@ -24,6 +27,14 @@ pub record TakesCopies (repo : ℕ) (m : Message) (before after : Held) : Type 0
   pub links : after.links.items ≡ before.links.items
   pub brought : CopiesTaken repo m before.cache.cache left
   pub fewer : AreAmong (kept left) (kept after.cache.cache)
+
+-- A message of a repository was taken in a phase of the try: where the transaction was sent there, the try has written none of
+-- the objects any more that the message names. So no old copy comes of it once it is known to be committed.
+abbrev pub GivesUp : ℕ → Message → Phase → Contents → Type 0
+GivesUp repo (messages.Page page bytes place) phase c = Unit {0}
+GivesUp repo (messages.Grant page place) phase c = Unit {0}
+GivesUp repo (messages.Invalid names place) phase c = has_sent_to repo phase ≡ true → WritesNone names c
+GivesUp repo (messages.Upgrade number text place) phase c = Unit {0}
 
 -- No message waits in the session, and what is held stays.
 pub record ReceivesNone (shows : Bool) (old new : View) (at : At) (before after : Held) : Type 0 where
