@@ -73,6 +73,14 @@ impl LogFile {
         self.begun = 0 < self.len;
         Some(())
     }
+
+    /// Cuts the file to its disk's length: behind a write that failed it may be longer, with a disk of one byte.
+    fn restart(&mut self) -> Option<()> {
+        self.file.set_len(self.len).ok()?;
+        self.room = self.len;
+        self.begun = false;
+        Some(())
+    }
 }
 
 impl Drop for LogFile {
@@ -123,14 +131,6 @@ impl<C> FileParts<C> {
         }
     }
 
-    fn file(&self, disk: u8) -> Option<&File> {
-        match disk {
-            0 => Some(&self.log0.as_ref()?.file),
-            1 => Some(&self.log1.as_ref()?.file),
-            _ => self.pages.as_ref(),
-        }
-    }
-
     fn read(&self, disk: u8, at: u64, into: &mut [u8]) -> Option<()> {
         match disk {
             0 => self.log0.as_ref()?.read(at, into),
@@ -178,6 +178,20 @@ fn write(
         0 => log0.as_mut()?.write(at, bytes),
         1 => log1.as_mut()?.write(at, bytes),
         _ => pages.as_ref()?.write_all_at(bytes, at).ok(),
+    }
+}
+
+/// Starts the file of a disk anew: a log's is cut to its disk's length.
+fn restart(
+    disk: u8,
+    log0: &mut Option<LogFile>,
+    log1: &mut Option<LogFile>,
+    pages: &Option<File>,
+) -> Option<()> {
+    match disk {
+        0 => log0.as_mut()?.restart(),
+        1 => log1.as_mut()?.restart(),
+        _ => pages.as_ref().map(|_| ()),
     }
 }
 
@@ -248,7 +262,7 @@ impl<C: Clock> Parts for FileParts<C> {
         self.counts.after(disk, answer)
     }
 
-    /// Keeps the open file as it is, and ignores the pick.
+    /// Keeps the open file with all its disk's bytes, and ignores the pick.
     #[tactic(auto, using(crate::proofs::FileCalls::untold_restart))]
     fn restart(&mut self, disk: u8, _pick: u64) -> Result<(), Outage>
         requires { disk < 3 }
@@ -256,7 +270,7 @@ impl<C: Clock> Parts for FileParts<C> {
         ensures counts { counts_of self.new ≡ counted (counts_of self.old) disk (is_err result) }
         ensures no_memory { IsErrOf result Outage.NoMemory → ⊥ }
     {
-        let answer = self.file(disk).map(|_| ());
+        let answer = restart(disk, &mut self.log0, &mut self.log1, &self.pages);
         self.counts.after(disk, answer)
     }
 
