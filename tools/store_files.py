@@ -516,13 +516,16 @@ class Store:
             if not self.is_moving:
                 break
             self.read()
-        self.first = self.repositories[0].state if self.repositories else None
+        self.first = next((it.state for it in self.repositories if it.number == 0), None)
 
     def read(self):
         self.faults, self.repositories = [], []
         for number in range(REPOSITORIES):
             if any((self.folder / file_name(number, disk)).exists() for disk in (*LOGS, PAGE_DISK)):
                 self.repositories.append(self.repository(number))
+        with_log = [it.number for it in self.repositories if it.log]
+        if with_log and with_log[0] != 0:
+            self.faults.append(Wrong(Place(file_name(0, 0), 0), f"no log of repository 0 has an open header, and repository {with_log[0]} has one: the program would make a new store here"))
 
     def repository(self, number):
         """A repository, read again where its pages moved meanwhile."""

@@ -186,7 +186,7 @@ def transactions(store):
         for stamp, request in it.state.prepared.items():
             if stamp.repo >= store.first.repos:
                 yield Wrong(request.place, f"transaction {stamp} is prepared, and there is no repository {stamp.repo} to decide it")
-            if stamp.repo == it.number and stamp in it.state.kept:
+            if stamp in it.state.kept:
                 yield Wrong(request.place, f"transaction {stamp} is prepared here, where the decision to commit it is kept")
         threshold = settled_threshold(store, it.state)
         for what, stamp in [("the kept decision", it) for it in sorted(it.state.kept)] + [("the last transaction of a client", it) for it in it.state.alone.values()]:
@@ -206,7 +206,8 @@ def settled_threshold(store, state):
 def own_names(store):
     """Names of another repository, or on a page that isn't granted yet."""
     for it in whole(store):
-        written = [pair for record in it.records if record.request for pair in record.request.writes]
+        requests = [*it.state.prepared.values(), *(record.request for record in it.records if record.request)]
+        written = [pair for request in requests for pair in request.writes]
         for name, obj in [*it.state.buffer.items(), *written]:
             if name.repo != it.number:
                 yield Wrong(obj.place, f"object {name} is of another repository than {it.number}")
