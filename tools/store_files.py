@@ -8,7 +8,7 @@ import os
 import pathlib
 import typing
 
-OPEN, CLOSED = 1, 0  # a gate: any other byte is closed as well
+OPEN = 1  # a gate: any other byte is closed
 MAGIC, FORMAT = b"TP", 1  # a page's first bytes; the format of a page and of a checkpoint
 PAGE_BYTES = 4096
 SLOTS = 12  # of a page
