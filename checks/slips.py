@@ -146,6 +146,7 @@ SLIPS = {
         ("→tx {", "Put `client 1` before the first of them."),
         ("client 1 tx →a.get(1); tx {", "Behind `tx` stand statements in braces."),
         ("client 1 →a.get(1); tx {", "Statements stand in transactions."),
+        ("client 1 →{", "Braces stand behind `tx`"),
         ("client 1 →transaction {", "The items of a client are"),
         ("client 1 →free class Bag { } tx {", "Classes and roots stand in the setup"),
         ("client 1 upgrade →class Box { } tx {", "Behind `upgrade` stand classes in braces."),
