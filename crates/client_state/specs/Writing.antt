@@ -95,8 +95,8 @@ unsent (Drawn t transaction) = Some transaction.shares.items
 unsent (Preparing t transaction coordinator prepared) = None
 unsent (Asking sent answers) = None
 
--- Whether a transaction was sent to a repository to be committed or prepared, and the client knows no verdict: then others may
--- finish it there.
+-- Whether a transaction may have been sent to a repository to be committed or prepared, and the client knows no verdict: then others
+-- may finish it there. One whose verdict is asked for was sent to all its participants, and has written nothing elsewhere.
 abbrev pub has_sent_to : ℕ → Phase → Bool
 has_sent_to repo Between = false
 has_sent_to repo Beginning = false

@@ -209,8 +209,8 @@ impl Phase {
         }
     }
 
-    /// Whether a transaction was sent to a repository to be committed or prepared, and the client knows no verdict: then others
-    /// may finish it there.
+    /// Whether a transaction may have been sent to a repository to be committed or prepared, and the client knows no verdict: then
+    /// others may finish it there. One whose verdict is asked for was sent to all its participants.
     pub fn has_sent(&self, repo: u8) -> bool
         ensures sent { result ≡ has_sent_to repo self.now }
         ensures unsent { IsTrue result → unsent self.now ≡ None }

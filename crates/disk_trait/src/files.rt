@@ -26,7 +26,7 @@ struct LogFile {
     len: u64,
     /// How many bytes the file was made to have, or the disk had when it was opened.
     room: u64,
-    /// Whether the disk's first byte has been synced since the file was opened.
+    /// Whether the disk's first byte has been synced since the file was opened or started anew.
     begun: bool,
 }
 
