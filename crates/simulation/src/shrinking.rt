@@ -1,0 +1,163 @@
+//! A script at which something is wrong is shrunk: pieces are taken away while something stays wrong.
+
+use crate::running::{is_wrong, judged};
+use simulation_judge::Coverage;
+use simulation_scripts::{Ending, Options, Piece, Script};
+use std::alloc::Global;
+use thor_value::NoMemory;
+
+/// How often all pieces are tried at most.
+const ROUNDS: u8 = 6;
+
+/// How many pieces beside one another are tried at once.
+const SIZES: [usize; 4] = [24, 6, 2, 1];
+
+/// Takes pieces away, from one place up to another, and puts their places down.
+fn take_away(
+    alloc: Global,
+    pieces: &mut [Piece],
+    from: usize,
+    to: usize,
+) -> Result<Vec<usize>, NoMemory> {
+    let mut taken = Vec::new(alloc);
+    for place in from..to {
+        if let Some(piece) = pieces.get_mut(place) {
+            if !piece.is_away {
+                taken.push(place)?;
+                piece.is_away = true;
+            }
+        }
+    }
+    Ok(taken)
+}
+
+/// Puts pieces back.
+fn put_back(pieces: &mut [Piece], taken: &[usize]) {
+    for place in taken {
+        if let Some(piece) = pieces.get_mut(*place) {
+            piece.is_away = false;
+        }
+    }
+}
+
+/// Whether something is still wrong.
+fn stays_wrong(
+    alloc: Global,
+    script: &Script,
+    coverage: &mut Coverage,
+) -> Result<bool, NoMemory> {
+    Ok(is_wrong(judged(alloc, script, coverage)?))
+}
+
+/// Tries to take pieces away. Whether they are away.
+fn try_pieces(
+    alloc: Global,
+    script: &mut Script,
+    from: usize,
+    to: usize,
+    coverage: &mut Coverage,
+) -> Result<bool, NoMemory> {
+    let taken = take_away(alloc, &mut script.pieces, from, to)?;
+    if taken.is_empty() {
+        return Ok(false);
+    }
+    if stays_wrong(alloc, script, coverage)? {
+        return Ok(true);
+    }
+    put_back(&mut script.pieces, &taken);
+    Ok(false)
+}
+
+/// Tries all pieces, so many beside one another at once, the last ones first. Whether some went.
+fn try_all(
+    alloc: Global,
+    script: &mut Script,
+    size: usize,
+    coverage: &mut Coverage,
+) -> Result<bool, NoMemory> {
+    let mut went = false;
+    let mut to = script.pieces.len();
+    for _ in 0..script.pieces.len() {
+        let from = to.saturating_sub(size);
+        if from == to {
+            return Ok(went);
+        }
+        if try_pieces(alloc, script, from, to, coverage)? {
+            went = true;
+        }
+        to = from;
+    }
+    Ok(went)
+}
+
+/// Tries other options. Whether they serve.
+fn try_options(
+    alloc: Global,
+    script: &mut Script,
+    options: Options,
+    coverage: &mut Coverage,
+) -> Result<bool, NoMemory> {
+    let kept = script.options;
+    if kept == options {
+        return Ok(false);
+    }
+    script.options = options;
+    if stays_wrong(alloc, script, coverage)? {
+        return Ok(true);
+    }
+    script.options = kept;
+    Ok(false)
+}
+
+/// Tries the usual options, one at a time, and fewer repositories.
+fn try_usual(
+    alloc: Global,
+    script: &mut Script,
+    coverage: &mut Coverage,
+) -> Result<(), NoMemory> {
+    let ending = Ending::Drained;
+    let options = script.options;
+    try_options(alloc, script, Options { ending, ..options }, coverage)?;
+    let options = script.options;
+    try_options(alloc, script, Options { tries: 16, ..options }, coverage)?;
+    let options = script.options;
+    try_options(alloc, script, Options { cache: 64, ..options }, coverage)?;
+    let options = script.options;
+    let mob = 1_048_576;
+    try_options(alloc, script, Options { mob, ..options }, coverage)?;
+    for _ in 0..7u8 {
+        let options = script.options;
+        let repos = options.repos.saturating_sub(1).max(1);
+        if !try_options(alloc, script, Options { repos, ..options }, coverage)? {
+            return Ok(());
+        }
+    }
+    Ok(())
+}
+
+/// Tries pieces of all sizes. Whether some went.
+fn try_sizes(
+    alloc: Global,
+    script: &mut Script,
+    coverage: &mut Coverage,
+) -> Result<bool, NoMemory> {
+    let mut went = false;
+    for size in SIZES {
+        if try_all(alloc, script, size, coverage)? {
+            went = true;
+        }
+    }
+    Ok(went)
+}
+
+/// Takes away of a script what it doesn't need to be wrong.
+pub fn shrink(alloc: Global, script: &mut Script) -> Result<(), NoMemory> {
+    let mut coverage = Coverage::new(alloc)?;
+    for _ in 0..ROUNDS {
+        try_usual(alloc, script, &mut coverage)?;
+        if !try_sizes(alloc, script, &mut coverage)? {
+            return Ok(());
+        }
+    }
+    Ok(())
+}

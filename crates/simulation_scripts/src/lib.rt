@@ -1,0 +1,25 @@
+//! Scripts with schedules that are drawn from a seed: as data, of which pieces can be taken away, and as text.
+#![tactic(auto)]
+
+mod classes;
+mod clients;
+mod draws;
+mod layout;
+mod making;
+mod options;
+mod phases;
+mod pieces;
+mod printing;
+mod roots;
+mod script;
+mod statements;
+mod upgrades;
+mod world;
+
+pub use draws::Draws;
+pub use making::make;
+pub use options::{Ending, Options};
+pub use pieces::{Event, Piece, What};
+pub use printing::print;
+pub use script::Script;
+pub use world::Bounds;
