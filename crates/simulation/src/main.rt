@@ -2,21 +2,21 @@
 //! told.
 #![tactic(auto)]
 
-mod asked;
 mod running;
 mod shrinking;
 mod telling;
+mod words;
 
-use crate::asked::{Asked, read_words};
 use crate::running::{Ran, run_all};
 use crate::telling::{tell_ran, tell_usage};
+use crate::words::{Asked, read_words};
 use std::alloc::Global;
 use std::env;
 use std::process::ExitCode;
 use thor_value::{NoMemory, Text, Texts};
 
 /// The words behind the program's name; none where one of them isn't UTF-8.
-fn words(rt: HostRuntime) -> Result<Option<Texts>, NoMemory> {
+fn given_words(rt: HostRuntime) -> Result<Option<Texts>, NoMemory> {
     let Ok(given) = env::args(&rt) else {
         return Ok(None);
     };
@@ -29,7 +29,7 @@ fn words(rt: HostRuntime) -> Result<Option<Texts>, NoMemory> {
 
 /// What is asked for; nothing where the words are none of the program's.
 fn asked(rt: HostRuntime) -> Result<Option<Asked>, NoMemory> {
-    match words(rt)? {
+    match given_words(rt)? {
         Some(words) => Ok(read_words(words.as_slice())),
         None => Ok(None),
     }

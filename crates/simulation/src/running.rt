@@ -1,6 +1,6 @@
 //! The runs.
 
-use crate::asked::Asked;
+use crate::words::Asked;
 use crate::shrinking::shrink;
 use simulation_judge::{Coverage, Verdict, judge};
 use simulation_scripts::{Draws, Script, make, print};

@@ -1,6 +1,6 @@
 //! What the program tells.
 
-use crate::asked::Asked;
+use crate::words::Asked;
 use crate::running::{Found, Ran};
 use simulation_judge::{Coverage, DEEDS, EVENTS, Verdict, Wrong, deed_word, event_word};
 use std::io;

@@ -17,6 +17,7 @@ use store_reading::Found;
 use thor_value::NoMemory;
 
 /// What a life has come to: what its disks hold, whether all items are done, and the store behind it.
+#[derive(Drop)]
 struct Come {
     found: Found<MemParts<TickClock>>,
     store: Plain,
