@@ -1,9 +1,9 @@
 //! The runs.
 
-use crate::words::Asked;
 use crate::shrinking::shrink;
+use crate::words::Asked;
 use simulation_judge::{Coverage, Verdict, judge};
-use simulation_scripts::{Draws, Script, make, print};
+use simulation_scripts::{Draws, Script, make, print, trouble};
 use std::alloc::Global;
 use thor_value::NoMemory;
 
@@ -43,6 +43,13 @@ pub fn is_wrong(verdict: Verdict) -> bool {
     }
 }
 
+fn is_right(verdict: Verdict) -> bool {
+    match verdict {
+        Verdict::Right { .. } => true,
+        Verdict::Wrong(_) | Verdict::Refused => false,
+    }
+}
+
 /// How a script is judged.
 pub fn judged(
     alloc: Global,
@@ -72,11 +79,34 @@ fn found(
     })
 }
 
-/// One run.
-fn run(alloc: Global, asked: &Asked, number: u64, ran: &mut Ran) -> Result<(), NoMemory> {
-    let script = make(alloc, seed_of(asked.seed, number), &asked.bounds)?;
-    let verdict = judged(alloc, &script, &mut ran.coverage)?;
+/// How often trouble is made in a schedule, at most.
+const TROUBLES: u8 = 4;
+
+/// Judges a script, and then with trouble in its schedule, up to the first time at which something is wrong.
+fn judge_troubled(
+    alloc: Global,
+    script: &mut Script,
+    draws: &mut Draws,
+    ran: &mut Ran,
+) -> Result<Verdict, NoMemory> {
+    let mut verdict = judged(alloc, script, &mut ran.coverage)?;
     ran.runs = ran.runs.saturating_add(1);
+    for _ in 0..draws.within(0, TROUBLES) {
+        if !is_right(verdict) || !trouble(alloc, script, draws, ran.coverage.log())? {
+            return Ok(verdict);
+        }
+        verdict = judged(alloc, script, &mut ran.coverage)?;
+        ran.runs = ran.runs.saturating_add(1);
+    }
+    Ok(verdict)
+}
+
+/// A script of its own, judged, and some with more trouble in its schedule.
+fn run(alloc: Global, asked: &Asked, number: u64, ran: &mut Ran) -> Result<(), NoMemory> {
+    let seed = seed_of(asked.seed, number);
+    let mut script = make(alloc, seed, &asked.bounds)?;
+    let mut draws = Draws::new(seed.wrapping_add(1));
+    let verdict = judge_troubled(alloc, &mut script, &mut draws, ran)?;
     match verdict {
         Verdict::Right { is_finished } => {
             if is_finished {

@@ -41,11 +41,7 @@ fn put_back(pieces: &mut [Piece], taken: &[usize]) {
 }
 
 /// Whether something is still wrong.
-fn stays_wrong(
-    alloc: Global,
-    script: &Script,
-    coverage: &mut Coverage,
-) -> Result<bool, NoMemory> {
+fn stays_wrong(alloc: Global, script: &Script, coverage: &mut Coverage) -> Result<bool, NoMemory> {
     Ok(is_wrong(judged(alloc, script, coverage)?))
 }
 
@@ -98,9 +94,6 @@ fn try_options(
     coverage: &mut Coverage,
 ) -> Result<bool, NoMemory> {
     let kept = script.options;
-    if kept == options {
-        return Ok(false);
-    }
     script.options = options;
     if stays_wrong(alloc, script, coverage)? {
         return Ok(true);
@@ -110,25 +103,37 @@ fn try_options(
 }
 
 /// Tries the usual options, one at a time, and fewer repositories.
-fn try_usual(
-    alloc: Global,
-    script: &mut Script,
-    coverage: &mut Coverage,
-) -> Result<(), NoMemory> {
+fn try_usual(alloc: Global, script: &mut Script, coverage: &mut Coverage) -> Result<(), NoMemory> {
     let ending = Ending::Drained;
     let options = script.options;
     try_options(alloc, script, Options { ending, ..options }, coverage)?;
     let options = script.options;
-    try_options(alloc, script, Options { tries: 16, ..options }, coverage)?;
+    try_options(
+        alloc,
+        script,
+        Options {
+            tries: 16,
+            ..options
+        },
+        coverage,
+    )?;
     let options = script.options;
-    try_options(alloc, script, Options { cache: 64, ..options }, coverage)?;
+    try_options(
+        alloc,
+        script,
+        Options {
+            cache: 64,
+            ..options
+        },
+        coverage,
+    )?;
     let options = script.options;
     let mob = 1_048_576;
     try_options(alloc, script, Options { mob, ..options }, coverage)?;
     for _ in 0..7u8 {
         let options = script.options;
-        let repos = options.repos.saturating_sub(1).max(1);
-        if !try_options(alloc, script, Options { repos, ..options }, coverage)? {
+        let repos = options.repos.saturating_sub(1);
+        if repos == 0 || !try_options(alloc, script, Options { repos, ..options }, coverage)? {
             return Ok(());
         }
     }

@@ -1,13 +1,15 @@
 //! What the program tells.
 
-use crate::words::Asked;
 use crate::running::{Found, Ran};
+use crate::words::Asked;
 use simulation_judge::{Coverage, DEEDS, EVENTS, Verdict, Wrong, deed_word, event_word};
 use std::io;
 
 /// What the words are.
 pub fn tell_usage(rt: HostRuntime) {
-    let _ = eprintln!(rt; "simulation SEED COUNT [--from RUN] [--repos N] [--clients N] [--items N] [--shrink yes|no] [--tables yes|no] [--scripts yes|no]");
+    let _ = eprintln!(rt;
+        "simulation SEED COUNT [--from RUN] [--repos N] [--clients N] [--items N] [--shrink yes|no] [--tables yes|no] [--scripts yes|no]"
+    );
 }
 
 fn word_of(wrong: Wrong) -> &'static str {
@@ -44,7 +46,16 @@ fn tell_totals(rt: HostRuntime, ran: &Ran) -> io::Result<()> {
     let runs = ran.runs;
     let finished = ran.finished;
     let totals = ran.coverage.totals;
-    println!(rt; "{runs} runs, {finished} with all items done; {} events; {} items: {} done, {} faulted, {} upgrades, {} refused, {} unknown", totals.events, totals.items, totals.done, totals.faulted, totals.upgraded, totals.refused, totals.unknown)
+    println!(rt;
+        "{runs} runs, {finished} with all items done; {} events; {} items: {} done, {} faulted, {} upgrades, {} refused, {} unknown",
+        totals.events,
+        totals.items,
+        totals.done,
+        totals.faulted,
+        totals.upgraded,
+        totals.refused,
+        totals.unknown
+    )
 }
 
 fn tell_causes(rt: HostRuntime, coverage: &Coverage) -> io::Result<()> {

@@ -4,7 +4,7 @@ use simulation_scripts::Bounds;
 use thor_value::Text;
 
 /// What is asked for.
-#[derive(Clone, Copy, Debug, PartialEq, Eq)]
+#[derive(Clone, Copy)]
 pub struct Asked {
     pub seed: u64,
     /// The number of the first run, and how many there are.

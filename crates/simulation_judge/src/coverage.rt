@@ -2,11 +2,12 @@
 
 use crate::deeds::{DEEDS, Deed, EVENTS, deed_of_cause, number_of};
 use serial_model::{Ended, ItemOutcome};
+use simulation_scripts::Told;
 use std::alloc::Global;
 use thor_value::NoMemory;
 
 /// How many items ended how.
-#[derive(Clone, Copy, Debug, PartialEq, Eq)]
+#[derive(Clone, Copy)]
 pub struct Totals {
     pub items: u64,
     pub done: u64,
@@ -27,6 +28,11 @@ pub struct Coverage {
     behind: Vec<u64>,
     /// For each cause.
     causes: Vec<u64>,
+    /// What the events of the run that was begun last have come to.
+    log: Vec<Told>,
+    /// The place of the event that comes next, and how many there are.
+    next: usize,
+    limit: usize,
 }
 
 fn zeros(alloc: Global, count: usize) -> Result<Vec<u64>, NoMemory> {
@@ -73,6 +79,9 @@ impl Coverage {
             came: zeros(alloc, pairs)?,
             behind: zeros(alloc, pairs)?,
             causes: zeros(alloc, DEEDS)?,
+            log: Vec::new(alloc),
+            next: 0,
+            limit: 0,
         })
     }
 
@@ -91,7 +100,34 @@ impl Coverage {
         count_at(&self.causes, deed)
     }
 
+    /// What the events of the last run have come to.
+    pub fn log(&self) -> &[Told] {
+        &self.log
+    }
+
+    /// A run of a schedule of so many events begins.
+    pub(crate) fn begin_run(&mut self, events: usize) {
+        self.log.truncate(0);
+        self.next = 0;
+        self.limit = events;
+    }
+
+    /// Puts down what the event that came last has come to.
+    pub(crate) fn note(&mut self, client: usize, repo: u8, deed: Deed) -> Result<(), NoMemory> {
+        let event = self.next.saturating_sub(1);
+        if event < self.limit && self.next > 0 {
+            self.log.push(Told {
+                event,
+                client: u8::try_from(client).unwrap_or(0).saturating_add(1),
+                repo,
+                deed: number_of(deed),
+            })?;
+        }
+        Ok(())
+    }
+
     pub(crate) fn take_event(&mut self, event: usize, last: Deed) {
+        self.next = self.next.saturating_add(1);
         self.totals.events = self.totals.events.saturating_add(1);
         count(&mut self.behind, place_of(event, number_of(last)));
     }

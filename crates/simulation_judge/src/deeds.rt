@@ -14,7 +14,7 @@ pub const EVENTS: usize = 8;
 pub const DEEDS: usize = 34;
 
 /// What an event has come to.
-#[derive(Clone, Copy, Debug, PartialEq, Eq)]
+#[derive(Clone, Copy)]
 pub enum Deed {
     /// Nothing that a repository shows: nothing was to be done, or a verdict was asked for.
     Nothing,
@@ -99,10 +99,40 @@ pub(crate) fn number_of(deed: Deed) -> usize {
 }
 
 const WORDS: [&str; 34] = [
-    "nothing", "stopped", "restarted", "came", "connected", "fetched", "granted", "took", "drew",
-    "forgot", "one", "prepared", "committed", "aborted", "finished", "gave-up", "upgraded", "Gone",
-    "Epoch", "Blocked", "TooOld", "Stale", "Earlier", "Later", "Full", "ClockEnd", "Down",
-    "Missing", "Calls", "Done", "Faulted", "Refused", "Unknown", "Upgraded",
+    "nothing",
+    "stopped",
+    "restarted",
+    "came",
+    "connected",
+    "fetched",
+    "granted",
+    "took",
+    "drew",
+    "forgot",
+    "one",
+    "prepared",
+    "committed",
+    "aborted",
+    "finished",
+    "gave-up",
+    "upgraded",
+    "Gone",
+    "Epoch",
+    "Blocked",
+    "TooOld",
+    "Stale",
+    "Earlier",
+    "Later",
+    "Full",
+    "ClockEnd",
+    "Down",
+    "Missing",
+    "Calls",
+    "Done",
+    "Faulted",
+    "Refused",
+    "Unknown",
+    "Upgraded",
 ];
 
 /// The word for a deed of a number.
@@ -148,10 +178,18 @@ pub(crate) fn deed_of_entry(entry: &Entry) -> Deed {
         Entry::One { .. } => Deed::One,
         Entry::Prepared { .. } => Deed::Prepared,
         Entry::Decided { commit, .. } => {
-            if *commit { Deed::Committed } else { Deed::Aborted }
+            if *commit {
+                Deed::Committed
+            } else {
+                Deed::Aborted
+            }
         }
         Entry::Finished { commit, .. } => {
-            if *commit { Deed::Finished } else { Deed::GaveUp }
+            if *commit {
+                Deed::Finished
+            } else {
+                Deed::GaveUp
+            }
         }
         Entry::Upgraded { .. } => Deed::Upgraded,
     }

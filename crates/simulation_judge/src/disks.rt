@@ -24,10 +24,7 @@ pub(crate) fn read(
 }
 
 /// The store that was found.
-pub(crate) fn stored(
-    alloc: Global,
-    found: &Found<MemParts<TickClock>>,
-) -> Result<Plain, Fault> {
+pub(crate) fn stored(alloc: Global, found: &Found<MemParts<TickClock>>) -> Result<Plain, Fault> {
     match found.opened(alloc)? {
         Some(store) => Ok(store),
         None => Err(Fault::Wrong(Wrong::Opening)),

@@ -5,7 +5,7 @@ use script_parse::ReadError;
 use thor_value::NoMemory;
 
 /// What is wrong behind a script.
-#[derive(Clone, Copy, Debug, PartialEq, Eq)]
+#[derive(Clone, Copy)]
 pub enum Wrong {
     /// What the run tells is no serial history of the script, or doesn't answer it: the program would end with
     /// status 9.
@@ -23,7 +23,7 @@ pub enum Wrong {
 }
 
 /// What a script is judged to be.
-#[derive(Clone, Copy, Debug, PartialEq, Eq)]
+#[derive(Clone, Copy)]
 pub enum Verdict {
     /// All is right. With `is_finished` all of its items are done: the program would end with status 0, else with 1.
     Right { is_finished: bool },
@@ -33,7 +33,7 @@ pub enum Verdict {
 }
 
 /// Why a script isn't judged to its end.
-#[derive(Clone, Copy, Debug, PartialEq, Eq)]
+#[derive(Clone, Copy)]
 pub(crate) enum Fault {
     Refused,
     Wrong(Wrong),

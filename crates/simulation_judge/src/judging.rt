@@ -26,7 +26,8 @@ struct Come {
 
 fn is_finished(ended: &Ended) -> bool {
     match &ended.outcome {
-        ItemOutcome::Done { .. } | ItemOutcome::Upgraded { .. } | ItemOutcome::Faulted { .. } => true,
+        ItemOutcome::Done { .. } | ItemOutcome::Upgraded { .. } | ItemOutcome::Faulted { .. } =>
+            true,
         ItemOutcome::Refused { .. } | ItemOutcome::Unknown { .. } => false,
     }
 }
@@ -120,6 +121,7 @@ fn judge_text(
     coverage: &mut Coverage,
 ) -> Result<bool, Fault> {
     let begun = begin(alloc, text, options.repos)?;
+    coverage.begin_run(begun.script.events.len());
     judge_begun(alloc, &begun, options, coverage)
 }
 

@@ -40,11 +40,32 @@ fn open(
     }
 }
 
-/// Looks at the repositories behind an event.
-fn look(store: Store, watch: &mut Watch, kind: EventKind, coverage: &mut Coverage) -> Store {
+/// Looks at the repositories as they begin.
+fn begin_watch(
+    alloc: Global,
+    store: Store,
+    begun: &Begun,
+    options: &Options,
+) -> Result<(Store, Watch), NoMemory> {
+    let clients = begun.script.clients.len();
+    let watch = Watch::new(alloc, usize::from(options.repos), clients);
+    let (store, mut watch) = both(store, watch)?;
     let (emptied, seats, clients) = store.emptied();
-    watch.behind(kind, &seats, coverage);
-    emptied.filled(seats, clients)
+    watch.begin(&seats);
+    Ok((emptied.filled(seats, clients), watch))
+}
+
+/// Looks at the repositories behind an event.
+fn look(
+    store: Store,
+    watch: &mut Watch,
+    kind: EventKind,
+    coverage: &mut Coverage,
+) -> Result<Store, NoMemory> {
+    let (emptied, seats, clients) = store.emptied();
+    let looked = watch.behind(kind, &seats, coverage);
+    let (store, _) = both(emptied.filled(seats, clients), looked)?;
+    Ok(store)
 }
 
 /// An event happens.
@@ -58,7 +79,7 @@ fn happen(
     watch.before(event.kind, coverage);
     let happened = store.event(event);
     let (store, _) = both(store, happened)?;
-    Ok(look(store, watch, event.kind, coverage))
+    look(store, watch, event.kind, coverage)
 }
 
 /// The events of the schedule happen.
@@ -83,7 +104,7 @@ fn drain(store: Store, watch: &mut Watch, coverage: &mut Coverage) -> Result<Sto
     let mut store = store;
     let drained = store.drain();
     let (store, _) = both(store, drained)?;
-    Ok(look(store, watch, EventKind::Unknown, coverage))
+    look(store, watch, EventKind::Unknown, coverage)
 }
 
 /// The same event happens at each repository.
@@ -184,9 +205,7 @@ pub(crate) fn live(
     coverage: &mut Coverage,
 ) -> Result<Lived, Fault> {
     let store = open(alloc, begun, options, start, found)?;
-    let clients = begun.script.clients.len();
-    let watch = Watch::new(alloc, usize::from(options.repos), clients);
-    let (store, mut watch) = both(store, watch)?;
+    let (store, mut watch) = begin_watch(alloc, store, begun, options)?;
     let events = begun.script.events.as_slice();
     let store = happen_all(store, &mut watch, events, coverage)?;
     let store = end(store, &mut watch, options, coverage)?;
@@ -203,9 +222,7 @@ pub(crate) fn live_on(
     coverage: &mut Coverage,
 ) -> Result<Disks, Fault> {
     let store = open(alloc, begun, options, start, found)?;
-    let clients = begun.script.clients.len();
-    let watch = Watch::new(alloc, usize::from(options.repos), clients);
-    let (store, mut watch) = both(store, watch)?;
+    let (store, mut watch) = begin_watch(alloc, store, begun, options)?;
     let events = begun.script.events.as_slice();
     let store = happen_all(store, &mut watch, events, coverage)?;
     let Finished { parts, ran } = store.finish();

@@ -81,19 +81,30 @@ impl Watch {
         kind: EventKind,
         seats: &[Seat<P>],
         coverage: &mut Coverage,
-    ) {
+    ) -> Result<(), NoMemory> {
         let mut last = Deed::Nothing;
         for (place, seat) in seats.iter().enumerate() {
             if let Seat::Open(repo) = seat {
-                last = self.look(place, repo, kind, last, coverage);
+                last = self.look(place, repo, kind, last, coverage)?;
             }
         }
-        if last == Deed::Nothing {
+        if let Deed::Nothing = last {
             coverage.take_deed(event_number(kind), last);
         }
         if is_step(kind) {
             if let Some(found) = self.lasts.get_mut(self.client) {
                 *found = last;
+            }
+        }
+        Ok(())
+    }
+
+    /// Looks at the repositories as they begin, and counts nothing.
+    pub(crate) fn begin<P: Parts>(&mut self, seats: &[Seat<P>]) {
+        for (seen, seat) in self.seen.iter_mut().zip(seats.iter()) {
+            if let Seat::Open(repo) = seat {
+                seen.marks = repo.marks().len();
+                seen.is_up = repo.is_up();
             }
         }
     }
@@ -106,15 +117,16 @@ impl Watch {
         kind: EventKind,
         before: Deed,
         coverage: &mut Coverage,
-    ) -> Deed {
+    ) -> Result<Deed, NoMemory> {
         let Some(seen) = self.seen.get_mut(place) else {
-            return before;
+            return Ok(before);
         };
         let marks = repo.marks();
         let mut last = before;
         for mark in marks.iter().skip(seen.marks) {
             last = deed_of_mark(mark, repo.history());
             coverage.take_deed(event_number(kind), last);
+            coverage.note(self.client, repo.number(), last)?;
         }
         if seen.is_up && !repo.is_up() {
             last = Deed::Stopped;
@@ -122,6 +134,6 @@ impl Watch {
         }
         seen.marks = marks.len();
         seen.is_up = repo.is_up();
-        last
+        Ok(last)
     }
 }

@@ -17,7 +17,9 @@ fn number_methods(pieces: &mut Pieces, depth: u8, layout: &Layout) -> Result<(),
     let alloc = pieces.alloc;
     let get = format!(in alloc; "method int get() {{ return this.{n}; }}")?;
     pieces.line(depth, get)?;
-    let add = format!(in alloc; "method int add(int k) {{ this.{n} = this.{n} + k; return this.{n}; }}")?;
+    let add = format!(in alloc;
+        "method int add(int k) {{ this.{n} = this.{n} + k; return this.{n}; }}"
+    )?;
     pieces.line(depth, add)?;
     let set = format!(in alloc; "method int set(int k) {{ this.{n} = k; return k; }}")?;
     pieces.line(depth, set)?;
@@ -32,13 +34,19 @@ fn number_methods(pieces: &mut Pieces, depth: u8, layout: &Layout) -> Result<(),
 fn link_methods(pieces: &mut Pieces, depth: u8, layout: &Layout) -> Result<(), NoMemory> {
     let next = layout.next();
     let alloc = pieces.alloc;
-    let tie = format!(in alloc; "method int tie(Box to) {{ this.{next} = to; return this.get(); }}")?;
+    let tie = format!(in alloc;
+        "method int tie(Box to) {{ this.{next} = to; return this.get(); }}"
+    )?;
     pieces.line(depth, tie)?;
     let rest = format!(in alloc; "method Box rest() {{ return this.{next}; }}")?;
     pieces.line(depth, rest)?;
-    let sum = format!(in alloc; "method int sum(int d) {{ if (d < 1) {{ return this.get(); }} if (this.{next} == null) {{ return this.get(); }} return this.get() + this.{next}.sum(d - 1); }}")?;
+    let sum = format!(in alloc;
+        "method int sum(int d) {{ if (d < 1) {{ return this.get(); }} if (this.{next} == null) {{ return this.get(); }} return this.get() + this.{next}.sum(d - 1); }}"
+    )?;
     pieces.line(depth, sum)?;
-    let grow = format!(in alloc; "method int grow(int k) {{ var Box made = new Box(); made.set(k); made.tie(this.{next}); this.{next} = made; return this.get(); }}")?;
+    let grow = format!(in alloc;
+        "method int grow(int k) {{ var Box made = new Box(); made.set(k); made.tie(this.{next}); this.{next} = made; return this.get(); }}"
+    )?;
     pieces.line(depth, grow)
 }
 
@@ -49,7 +57,9 @@ fn second_methods(pieces: &mut Pieces, depth: u8, layout: &Layout) -> Result<(),
     let alloc = pieces.alloc;
     let both = format!(in alloc; "method int both() {{ return this.{n} * 2 + this.{m}; }}")?;
     pieces.line(depth, both)?;
-    let swap = format!(in alloc; "method int swap(int k) {{ var int t = this.{n}; this.{n} = this.{m} + k; this.{m} = t; return t; }}")?;
+    let swap = format!(in alloc;
+        "method int swap(int k) {{ var int t = this.{n}; this.{n} = this.{m} + k; this.{m} = t; return t; }}"
+    )?;
     pieces.line(depth, swap)
 }
 
@@ -62,20 +72,30 @@ fn seal_methods(
 ) -> Result<(), NoMemory> {
     let s = layout.seal();
     let alloc = pieces.alloc;
-    let press = format!(in alloc; "method int press(int k) {{ if (this.{s} == null) {{ this.{s} = new Seal(); }} return this.{s}.put(k); }}")?;
+    let press = format!(in alloc;
+        "method int press(int k) {{ if (this.{s} == null) {{ this.{s} = new Seal(); }} return this.{s}.put(k); }}"
+    )?;
     pieces.line(depth, press)?;
-    let worth = format!(in alloc; "method int worth() {{ if (this.{s} == null) {{ return 0 - 1; }} return this.{s}.worth(); }}")?;
+    let worth = format!(in alloc;
+        "method int worth() {{ if (this.{s} == null) {{ return 0 - 1; }} return this.{s}.worth(); }}"
+    )?;
     pieces.line(depth, worth)?;
     let drop = format!(in alloc; "method int unseal() {{ this.{s} = null; return this.get(); }}")?;
     pieces.line(depth, drop)?;
     if world.nested {
-        let deepen = format!(in alloc; "method int deepen(int k) {{ if (this.{s} == null) {{ this.{s} = new Seal(); }} return this.{s}.deepen(k); }}")?;
+        let deepen = format!(in alloc;
+            "method int deepen(int k) {{ if (this.{s} == null) {{ this.{s} = new Seal(); }} return this.{s}.deepen(k); }}"
+        )?;
         pieces.line(depth, deepen)?;
     }
     if world.points {
-        let point = format!(in alloc; "method int point(Box to) {{ if (this.{s} == null) {{ this.{s} = new Seal(); }} return this.{s}.point(to); }}")?;
+        let point = format!(in alloc;
+            "method int point(Box to) {{ if (this.{s} == null) {{ this.{s} = new Seal(); }} return this.{s}.point(to); }}"
+        )?;
         pieces.line(depth, point)?;
-        let pay = format!(in alloc; "method int pay(int k) {{ if (this.{s} == null) {{ return 0; }} return this.{s}.pay(k); }}")?;
+        let pay = format!(in alloc;
+            "method int pay(int k) {{ if (this.{s} == null) {{ return 0; }} return this.{s}.pay(k); }}"
+        )?;
         pieces.line(depth, pay)?;
     }
     Ok(())
@@ -102,19 +122,33 @@ pub(crate) fn box_methods(
 }
 
 /// What a seal hands on to its wax, and what it takes of it.
-fn put_method(pieces: &mut Pieces, depth: u8, world: &World, layout: &Layout) -> Result<(), NoMemory> {
+fn put_method(
+    pieces: &mut Pieces,
+    depth: u8,
+    world: &World,
+    layout: &Layout,
+) -> Result<(), NoMemory> {
     let w = layout.weight();
     let c = layout.coat();
     let put = if world.wax {
-        format!(in pieces.alloc; "method int put(int k) {{ this.{w} = this.{w} + k; if (this.{c} == null) {{ this.{c} = new Wax(); }} this.{c}.put(k); return this.{w}; }}")?
+        format!(in pieces.alloc;
+            "method int put(int k) {{ this.{w} = this.{w} + k; if (this.{c} == null) {{ this.{c} = new Wax(); }} this.{c}.put(k); return this.{w}; }}"
+        )?
     } else {
-        format!(in pieces.alloc; "method int put(int k) {{ this.{w} = this.{w} + k; return this.{w}; }}")?
+        format!(in pieces.alloc;
+            "method int put(int k) {{ this.{w} = this.{w} + k; return this.{w}; }}"
+        )?
     };
     pieces.line(depth, put)
 }
 
 /// What a seal is worth, with its parts.
-fn worth_method(pieces: &mut Pieces, depth: u8, world: &World, layout: &Layout) -> Result<(), NoMemory> {
+fn worth_method(
+    pieces: &mut Pieces,
+    depth: u8,
+    world: &World,
+    layout: &Layout,
+) -> Result<(), NoMemory> {
     let w = layout.weight();
     let alloc = pieces.alloc;
     let mut text = format!(in alloc; "method int worth() {{ var int sum = this.{w};")?;
@@ -144,14 +178,20 @@ pub(crate) fn seal_class_methods(
     worth_method(pieces, depth, world, layout)?;
     if world.nested {
         let i = layout.inner();
-        let deepen = format!(in alloc; "method int deepen(int k) {{ if (this.{i} == null) {{ this.{i} = new Seal(); return this.{i}.put(k); }} return this.{i}.deepen(k); }}")?;
+        let deepen = format!(in alloc;
+            "method int deepen(int k) {{ if (this.{i} == null) {{ this.{i} = new Seal(); return this.{i}.put(k); }} return this.{i}.deepen(k); }}"
+        )?;
         pieces.line(depth, deepen)?;
     }
     if world.points {
         let t = layout.target();
-        let point = format!(in alloc; "method int point(Box to) {{ this.{t} = to; return this.worth(); }}")?;
+        let point = format!(in alloc;
+            "method int point(Box to) {{ this.{t} = to; return this.worth(); }}"
+        )?;
         pieces.line(depth, point)?;
-        let pay = format!(in alloc; "method int pay(int k) {{ if (this.{t} == null) {{ return 0; }} return this.{t}.add(k); }}")?;
+        let pay = format!(in alloc;
+            "method int pay(int k) {{ if (this.{t} == null) {{ return 0; }} return this.{t}.add(k); }}"
+        )?;
         pieces.line(depth, pay)?;
     }
     Ok(())
@@ -162,9 +202,13 @@ pub(crate) fn wax_methods(pieces: &mut Pieces, depth: u8, layout: &Layout) -> Re
     let d = layout.drops();
     let c = layout.core();
     let alloc = pieces.alloc;
-    let put = format!(in alloc; "method int put(int k) {{ this.{d} = this.{d} + k; if (k < 3) {{ if (this.{c} == null) {{ this.{c} = new Wax(); }} this.{c}.put(k + 2); }} return this.{d}; }}")?;
+    let put = format!(in alloc;
+        "method int put(int k) {{ this.{d} = this.{d} + k; if (k < 3) {{ if (this.{c} == null) {{ this.{c} = new Wax(); }} this.{c}.put(k + 2); }} return this.{d}; }}"
+    )?;
     pieces.line(depth, put)?;
-    let worth = format!(in alloc; "method int worth() {{ if (this.{c} == null) {{ return this.{d}; }} return this.{d} + this.{c}.worth(); }}")?;
+    let worth = format!(in alloc;
+        "method int worth() {{ if (this.{c} == null) {{ return this.{d}; }} return this.{d} + this.{c}.worth(); }}"
+    )?;
     pieces.line(depth, worth)
 }
 

@@ -58,7 +58,11 @@ pub(crate) fn clients(
 ) -> Result<(), NoMemory> {
     for place in 0..world.clients {
         let number = place.saturating_add(1);
-        let upgrades = if number == world.upgrader { world.upgrades } else { 0 };
+        let upgrades = if number == world.upgrader {
+            world.upgrades
+        } else {
+            0
+        };
         client(pieces, draws, world, *layout, upgrades)?;
     }
     Ok(())

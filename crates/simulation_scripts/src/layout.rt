@@ -5,7 +5,7 @@ ghost use Rattle.std.specs.Prelude.{◌<◌, ◌≤◌};
 use crate::world::World;
 
 /// How the fields of the classes are called in an epoch. The four names of a class change places by turns.
-#[derive(Clone, Copy, Debug, PartialEq, Eq)]
+#[derive(Clone, Copy)]
 pub struct Layout {
     pub boxes: u8,
     pub seals: u8,

@@ -13,6 +13,7 @@ mod printing;
 mod roots;
 mod script;
 mod statements;
+mod trouble;
 mod upgrades;
 mod world;
 
@@ -22,4 +23,5 @@ pub use options::{Ending, Options};
 pub use pieces::{Event, Piece, What};
 pub use printing::print;
 pub use script::Script;
+pub use trouble::{Told, trouble};
 pub use world::Bounds;

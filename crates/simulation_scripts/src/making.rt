@@ -30,11 +30,12 @@ fn draw_cache(draws: &mut Draws) -> u16 {
 }
 
 fn draw_mob(draws: &mut Draws) -> u32 {
-    match draws.below(8) {
-        0 => 60,
-        1 => 200,
-        2 => 700,
-        3 => 1,
+    match draws.below(40) {
+        0 => 1,
+        1 => 60,
+        2 | 3 => 200,
+        4 | 5 | 6 | 7 => 700,
+        8 | 9 | 10 | 11 => 2_000,
         _ => 1_048_576,
     }
 }

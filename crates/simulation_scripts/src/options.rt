@@ -1,7 +1,7 @@
 //! With what a script is played.
 
 /// What comes behind the last event.
-#[derive(Clone, Copy, Debug, PartialEq, Eq)]
+#[derive(Clone, Copy)]
 pub enum Ending {
     /// All items end.
     Drained,
@@ -14,7 +14,7 @@ pub enum Ending {
 }
 
 /// With what a script is played.
-#[derive(Clone, Copy, Debug, PartialEq, Eq)]
+#[derive(Clone, Copy)]
 pub struct Options {
     /// How many repositories there are, 1 to 8.
     pub repos: u8,

@@ -7,7 +7,7 @@ use std::alloc::Global;
 use thor_value::NoMemory;
 
 /// How many kinds of phases there are.
-const KINDS: u8 = 12;
+const KINDS: u8 = 13;
 
 /// The most events of a schedule.
 const MOST: usize = 400;
@@ -27,7 +27,11 @@ pub(crate) struct Phases<'a> {
 fn draw_weights(alloc: Global, draws: &mut Draws) -> Result<Vec<u8>, NoMemory> {
     let mut weights = Vec::new(alloc);
     for _ in 0..KINDS {
-        let weight = if draws.comes(50) { 0 } else { draws.within(1, 9) };
+        let weight = if draws.comes(50) {
+            0
+        } else {
+            draws.within(1, 9)
+        };
         weights.push(weight)?;
     }
     Ok(weights)
@@ -123,6 +127,25 @@ impl<'a> Phases<'a> {
         Ok(())
     }
 
+    /// Each client is told what is new, sometimes by more than one message.
+    fn told(&mut self) -> Result<(), NoMemory> {
+        for place in 0..self.world.clients {
+            let client = place.saturating_add(1);
+            self.told_to(client)?;
+        }
+        Ok(())
+    }
+
+    /// Messages of some repositories come to a client.
+    fn told_to(&mut self, client: u8) -> Result<(), NoMemory> {
+        for repo in 0..self.world.repos {
+            for _ in 0..self.draws.below(3) {
+                self.event(Event::Deliver { client, repo })?;
+            }
+        }
+        Ok(())
+    }
+
     /// A repository stops in the middle of a step, and comes back at once.
     fn stopped(&mut self) -> Result<(), NoMemory> {
         let repo = self.repo();
@@ -134,7 +157,7 @@ impl<'a> Phases<'a> {
 
     /// A repository stops in a step of a client.
     fn stop_in(&mut self, repo: u8, client: u8) -> Result<(), NoMemory> {
-        let calls = self.draws.below(8);
+        let calls = self.draws.within(1, 6);
         self.event(Event::Stop { repo, calls })?;
         self.event(Event::Step { client })
     }
@@ -152,10 +175,7 @@ impl<'a> Phases<'a> {
         self.event(Event::Restart { repo, pick })?;
         let times = self.draws.within(4, 24);
         self.steps(other, times)?;
-        let repo = self.repo();
-        for _ in 0..self.draws.below(4) {
-            self.event(Event::Deliver { client: first, repo })?;
-        }
+        self.told_to(first)?;
         let times = self.draws.below(4);
         self.steps(first, times)
     }
@@ -246,6 +266,7 @@ impl<'a> Phases<'a> {
             8 => self.flush(),
             9 => self.checkpoint(),
             10 => self.stopped_writing(),
+            11 => self.told(),
             _ => self.run(),
         }
     }
@@ -253,12 +274,26 @@ impl<'a> Phases<'a> {
     /// Puts the events of a schedule.
     pub(crate) fn schedule(&mut self) -> Result<(), NoMemory> {
         let most = self.pieces.items.len().saturating_add(MOST);
-        for _ in 0..self.draws.within(1, 14) {
+        for _ in 0..self.draws.within(0, 8) {
             if self.pieces.items.len() < most {
                 self.phase()?;
                 if self.draws.comes(50) {
                     self.run()?;
                 }
+            }
+        }
+        self.rest()
+    }
+
+    /// The clients take steps, by runs or as it comes, about as many as their items take.
+    fn rest(&mut self) -> Result<(), NoMemory> {
+        let runs = self.draws.comes(60);
+        let rounds = self.world.clients.saturating_mul(self.world.items);
+        for _ in 0..rounds {
+            if runs {
+                self.run()?;
+            } else {
+                self.mixed()?;
             }
         }
         Ok(())

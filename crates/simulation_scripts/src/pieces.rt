@@ -4,7 +4,7 @@ use std::alloc::Global;
 use thor_value::NoMemory;
 
 /// An event of a schedule. Clients count from 1, repositories from 0.
-#[derive(Clone, Copy, Debug, PartialEq, Eq)]
+#[derive(Clone, Copy)]
 pub enum Event {
     /// A client takes a step.
     Step { client: u8 },
@@ -23,7 +23,7 @@ pub enum Event {
 }
 
 /// What a piece is.
-#[derive(Debug, Drop)]
+#[derive(Drop)]
 pub enum What {
     /// A text that stands alone: a field, a method, a root, a statement.
     Line(String),
@@ -35,7 +35,7 @@ pub enum What {
 }
 
 /// A piece of a script. The deeper pieces behind it, up to the next one that isn't deeper, belong to it.
-#[derive(Debug, Drop)]
+#[derive(Drop)]
 pub struct Piece {
     pub depth: u8,
     /// Whether it is taken away, with all that belongs to it.

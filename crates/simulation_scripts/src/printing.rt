@@ -52,7 +52,8 @@ impl Printing {
         if self.events == 0 {
             self.out.push_str("\nschedule")?;
         }
-        self.out.push_str(if self.events % 16 == 0 { "\n" } else { " " })?;
+        self.out
+            .push_str(if self.events % 16 == 0 { "\n" } else { " " })?;
         self.events = self.events.wrapping_add(1);
         match event {
             Event::Step { client } => write!(self.out, "s{client}")?,
@@ -108,9 +109,14 @@ fn put_ending(out: &mut String, ending: Ending) -> Result<(), NoMemory> {
     match ending {
         Ending::Drained => Ok(()),
         Ending::Checkpointed => Ok(out.push_str(" // and then k of each repository")?),
-        Ending::Again => Ok(out.push_str(" // and then opened again, with the same clients and events")?),
+        Ending::Again => Ok(out.push_str(
+            " // and then opened again, with the same clients and events",
+        )?),
         Ending::Cut { pick } => {
-            write!(out, " // cut off behind the last event, and then c of each repository with pick {pick}")?;
+            write!(
+                out,
+                " // cut off behind the last event, and then c of each repository with pick {pick}"
+            )?;
             Ok(())
         }
     }

@@ -10,7 +10,11 @@ fn place(draws: &mut Draws, world: &World, root: u8, in_turn: bool) -> u8 {
     if world.repos == 0 {
         return 0;
     }
-    if in_turn { root % world.repos } else { draws.below(world.repos) }
+    if in_turn {
+        root % world.repos
+    } else {
+        draws.below(world.repos)
+    }
 }
 
 /// Puts the roots.

@@ -28,7 +28,11 @@ fn draw_named(draws: &mut Draws, world: &World) -> Named {
 
 /// One turn more, or the names as they are.
 fn turned(draws: &mut Draws, turns: u8) -> u8 {
-    turns.saturating_add(if draws.comes(60) { draws.within(1, 3) } else { 0 })
+    turns.saturating_add(if draws.comes(60) {
+        draws.within(1, 3)
+    } else {
+        0
+    })
 }
 
 fn draw_second(draws: &mut Draws, world: &World, has: bool) -> bool {
@@ -150,7 +154,11 @@ fn number_fields(
     pieces.line(3, text)?;
     if new.second {
         let name = new.second();
-        let from = if draws.comes(50) || !old.second { old.number() } else { old.second() };
+        let from = if draws.comes(50) || !old.second {
+            old.number()
+        } else {
+            old.second()
+        };
         let text = format!(in pieces.alloc; "int {name} = old.{from};")?;
         pieces.line(3, text)?;
     }

@@ -3,7 +3,7 @@
 use crate::draws::Draws;
 
 /// The most that is drawn.
-#[derive(Clone, Copy, Debug, PartialEq, Eq)]
+#[derive(Clone, Copy)]
 pub struct Bounds {
     /// Repositories, 1 to 8.
     pub repos: u8,
@@ -14,7 +14,7 @@ pub struct Bounds {
 }
 
 /// How large a script is, and what its classes have.
-#[derive(Clone, Copy, Debug, PartialEq, Eq)]
+#[derive(Clone, Copy)]
 pub struct World {
     pub repos: u8,
     pub clients: u8,
@@ -43,7 +43,11 @@ pub struct World {
 }
 
 fn draw_upgrades(draws: &mut Draws) -> u8 {
-    if draws.comes(70) { 0 } else { draws.within(1, 3) }
+    if draws.comes(70) {
+        0
+    } else {
+        draws.within(1, 3)
+    }
 }
 
 fn draw_fills(draws: &mut Draws) -> u8 {
@@ -56,7 +60,11 @@ fn draw_fills(draws: &mut Draws) -> u8 {
 
 /// A number of few, often a small one.
 fn draw_few(draws: &mut Draws, least: u8, often: u8, most: u8) -> u8 {
-    let greatest = if draws.comes(80) { often.min(most) } else { most };
+    let greatest = if draws.comes(80) {
+        often.min(most)
+    } else {
+        most
+    };
     draws.within(least.min(greatest), greatest)
 }
 
@@ -65,7 +73,11 @@ fn sized(draws: &mut Draws, bounds: &Bounds, world: World) -> World {
     let repos = draw_few(draws, 1, 2, bounds.repos);
     let clients = draw_few(draws, 2, 3, bounds.clients);
     World {
-        repos: if repos == 1 && draws.comes(70) { bounds.repos.min(2) } else { repos },
+        repos: if repos == 1 && draws.comes(70) {
+            bounds.repos.min(2)
+        } else {
+            repos
+        },
         clients,
         roots: draw_few(draws, 2, 4, 14),
         items: draw_few(draws, 1, 3, bounds.items),

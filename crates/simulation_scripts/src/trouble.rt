@@ -1,0 +1,307 @@
+//! Trouble for a schedule: where something happened in a run, other things happen before it, in the middle of it, or
+//! behind it.
+
+use crate::draws::Draws;
+use crate::pieces::{Event, Piece, What};
+use crate::script::Script;
+use std::alloc::Global;
+use thor_value::NoMemory;
+
+/// What an event of a run has come to.
+#[derive(Clone, Copy)]
+pub struct Told {
+    /// The place of the event in the schedule, from 0.
+    pub event: usize,
+    /// The client that took a step last, from 1.
+    pub client: u8,
+    /// The repository at which it happened.
+    pub repo: u8,
+    /// What happened, as a number.
+    pub deed: usize,
+}
+
+/// How many kinds of deeds are told apart.
+const KINDS: u8 = 34;
+
+/// The most pieces of a script that gets trouble.
+const MOST: usize = 2_000;
+
+/// Events that are to be put into a schedule.
+#[derive(Drop)]
+struct Trouble<'a> {
+    draws: &'a mut Draws,
+    told: Told,
+    repos: u8,
+    clients: u8,
+    before: Vec<Event>,
+    behind: Vec<Event>,
+}
+
+fn pick(draws: &mut Draws) -> u8 {
+    match draws.below(5) {
+        0 | 1 => 0,
+        2 | 3 => 1,
+        _ => draws.within(2, 250),
+    }
+}
+
+impl<'a> Trouble<'a> {
+    fn restart(&mut self) -> Result<(), NoMemory> {
+        let repo = self.told.repo;
+        let pick = pick(self.draws);
+        self.behind.push(Event::Restart { repo, pick })?;
+        Ok(())
+    }
+
+    /// The repository stops in the middle of the event.
+    fn stop(&mut self) -> Result<(), NoMemory> {
+        let repo = self.told.repo;
+        let calls = self.draws.within(1, 5);
+        self.before.push(Event::Stop { repo, calls })?;
+        Ok(())
+    }
+
+    /// Another client takes steps behind the event.
+    fn other_runs(&mut self) -> Result<(), NoMemory> {
+        let client = self.draws.within(1, self.clients);
+        for _ in 0..self.draws.within(2, 24) {
+            self.behind.push(Event::Step { client })?;
+        }
+        Ok(())
+    }
+
+    /// A client takes steps before the event.
+    fn other_ran(&mut self) -> Result<(), NoMemory> {
+        let client = self.draws.within(1, self.clients);
+        for _ in 0..self.draws.within(2, 24) {
+            self.before.push(Event::Step { client })?;
+        }
+        Ok(())
+    }
+
+    /// Messages come to the client behind the event.
+    fn tell(&mut self) -> Result<(), NoMemory> {
+        let client = self.told.client;
+        for repo in 0..self.repos {
+            for _ in 0..self.draws.below(3) {
+                self.behind.push(Event::Deliver { client, repo })?;
+            }
+        }
+        Ok(())
+    }
+
+    /// Messages come to the client before the event.
+    fn told(&mut self) -> Result<(), NoMemory> {
+        let client = self.told.client;
+        for repo in 0..self.repos {
+            for _ in 0..self.draws.below(3) {
+                self.before.push(Event::Deliver { client, repo })?;
+            }
+        }
+        Ok(())
+    }
+
+    /// The repository stops in the event and comes back: at once, behind others, or never.
+    fn stopped(&mut self) -> Result<(), NoMemory> {
+        self.stop()?;
+        match self.draws.below(6) {
+            0 => self.restart(),
+            1 => {
+                self.other_runs()?;
+                self.restart()
+            }
+            2 => self.other_runs(),
+            3 => {
+                self.restart()?;
+                self.other_runs()
+            }
+            _ => {
+                self.restart()?;
+                self.other_runs()?;
+                self.tell()
+            }
+        }
+    }
+
+    /// The repository writes in between: it flushes, makes a checkpoint, or stops while it does.
+    fn writes(&mut self) -> Result<(), NoMemory> {
+        let repo = self.told.repo;
+        if self.draws.comes(50) {
+            let calls = self.draws.within(1, 9);
+            self.behind.push(Event::Stop { repo, calls })?;
+        }
+        for _ in 0..self.draws.within(1, 3) {
+            let flushes = self.draws.comes(60);
+            self.behind.push(if flushes {
+                Event::Flush { repo }
+            } else {
+                Event::Checkpoint { repo }
+            })?;
+        }
+        if self.draws.comes(60) {
+            self.restart()
+        } else {
+            Ok(())
+        }
+    }
+
+    /// The repositories ask about what they have prepared.
+    fn settles(&mut self) -> Result<(), NoMemory> {
+        for repo in 0..self.repos {
+            self.behind.push(Event::Settle { repo })?;
+        }
+        Ok(())
+    }
+
+    /// A repository is restarted, or goes down, behind the event.
+    fn falls(&mut self) -> Result<(), NoMemory> {
+        if self.draws.comes(60) {
+            return self.restart();
+        }
+        let repo = self.draws.below(self.repos);
+        let calls = self.draws.below(10);
+        self.behind.push(Event::Stop { repo, calls })?;
+        Ok(())
+    }
+
+    fn draw(&mut self) -> Result<(), NoMemory> {
+        match self.draws.below(10) {
+            0 => self.told(),
+            1 => self.other_ran(),
+            2 => self.falls(),
+            3 => self.writes(),
+            4 => {
+                self.stop()?;
+                self.restart()?;
+                self.settles()
+            }
+            5 => {
+                self.other_ran()?;
+                self.told()
+            }
+            _ => self.stopped(),
+        }
+    }
+}
+
+/// One of the events at which something happened: each kind of deeds comes as often as another.
+fn chosen(draws: &mut Draws, log: &[Told]) -> Option<Told> {
+    let first = draws.below(KINDS);
+    for more in 0..KINDS {
+        let deed = usize::from(first.wrapping_add(more) % KINDS);
+        let few = count_of(log, deed);
+        if few > 0 {
+            return found(log, deed, draws.below(few));
+        }
+    }
+    None
+}
+
+/// How many events have come to a deed, 255 at most.
+fn count_of(log: &[Told], deed: usize) -> u8 {
+    let mut count = 0u8;
+    for told in log {
+        if told.deed == deed {
+            count = count.saturating_add(1);
+        }
+    }
+    count
+}
+
+/// The event that has come to a deed, behind so many others.
+fn found(log: &[Told], deed: usize, behind: u8) -> Option<Told> {
+    let mut left = behind;
+    for told in log {
+        if told.deed == deed {
+            if left == 0 {
+                return Some(*told);
+            }
+            left = left.saturating_sub(1);
+        }
+    }
+    None
+}
+
+/// The place of the piece that is the event of a number.
+fn place_of(pieces: &[Piece], event: usize) -> Option<usize> {
+    let mut left = event;
+    for (place, piece) in pieces.iter().enumerate() {
+        if let What::Event(_) = &piece.what {
+            if left == 0 {
+                return Some(place);
+            }
+            left = left.saturating_sub(1);
+        }
+    }
+    None
+}
+
+/// Puts events into the pieces, from a place on.
+fn put(pieces: &mut Vec<Piece>, place: usize, events: &[Event]) -> Result<(), NoMemory> {
+    let mut place = place;
+    for event in events {
+        if place <= pieces.len() {
+            pieces.insert(
+                place,
+                Piece {
+                    depth: 1,
+                    is_away: false,
+                    what: What::Event(*event),
+                },
+            )?;
+        }
+        place = place.saturating_add(1);
+    }
+    Ok(())
+}
+
+/// Puts the events of a trouble into the pieces.
+fn put_trouble(
+    pieces: &mut Vec<Piece>,
+    event: usize,
+    before: &[Event],
+    behind: &[Event],
+) -> Result<(), NoMemory> {
+    if let Some(place) = place_of(pieces, event) {
+        put(pieces, place.saturating_add(1), behind)?;
+        put(pieces, place, before)?;
+    }
+    Ok(())
+}
+
+fn clients_of(pieces: &[Piece]) -> u8 {
+    let mut clients = 0u8;
+    for piece in pieces {
+        if let What::Client = &piece.what {
+            clients = clients.saturating_add(1);
+        }
+    }
+    clients
+}
+
+/// Makes trouble in a schedule, by what its events have come to in a run. It answers whether there was an event for it.
+pub fn trouble(
+    alloc: Global,
+    script: &mut Script,
+    draws: &mut Draws,
+    log: &[Told],
+) -> Result<bool, NoMemory> {
+    if script.pieces.len() > MOST {
+        return Ok(false);
+    }
+    let Some(told) = chosen(draws, log) else {
+        return Ok(false);
+    };
+    let mut trouble = Trouble {
+        draws,
+        told,
+        repos: script.options.repos,
+        clients: clients_of(&script.pieces),
+        before: Vec::new(alloc),
+        behind: Vec::new(alloc),
+    };
+    trouble.draw()?;
+    let Trouble { before, behind, .. } = trouble;
+    put_trouble(&mut script.pieces, told.event, &before, &behind)?;
+    Ok(true)
+}
