@@ -3,7 +3,7 @@
 use crate::shrinking::shrink;
 use crate::words::Asked;
 use simulation_judge::{Coverage, Verdict, judge};
-use simulation_scripts::{Draws, Script, make, print, trouble};
+use simulation_scripts::{Draws, Script, make, make_trouble, print};
 use std::alloc::Global;
 use thor_value::NoMemory;
 
@@ -92,7 +92,7 @@ fn judge_troubled(
     let mut verdict = judged(alloc, script, &mut ran.coverage)?;
     ran.runs = ran.runs.saturating_add(1);
     for _ in 0..draws.within(0, TROUBLES) {
-        if !is_right(verdict) || !trouble(alloc, script, draws, ran.coverage.log())? {
+        if !is_right(verdict) || !make_trouble(alloc, script, draws, ran.coverage.log())? {
             return Ok(verdict);
         }
         verdict = judged(alloc, script, &mut ran.coverage)?;

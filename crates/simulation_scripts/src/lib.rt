@@ -23,5 +23,5 @@ pub use options::{Ending, Options};
 pub use pieces::{Event, Piece, What};
 pub use printing::print;
 pub use script::Script;
-pub use trouble::{Told, trouble};
+pub use trouble::{Told, make_trouble};
 pub use world::Bounds;

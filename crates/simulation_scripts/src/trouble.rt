@@ -20,9 +20,6 @@ pub struct Told {
     pub deed: usize,
 }
 
-/// How many kinds of deeds are told apart.
-const KINDS: u8 = 34;
-
 /// The most pieces of a script that gets trouble.
 const MOST: usize = 2_000;
 
@@ -45,7 +42,30 @@ fn pick(draws: &mut Draws) -> u8 {
     }
 }
 
+/// In which of its disk calls a repository stops: one of the four that write an entry, the last of them most often, or
+/// a later one.
+fn stop_calls(draws: &mut Draws) -> u8 {
+    match draws.below(10) {
+        0 => draws.within(5, 12),
+        1 | 2 | 3 | 4 => 4,
+        _ => draws.within(1, 4),
+    }
+}
+
 impl<'a> Trouble<'a> {
+    /// Another client, where there is one.
+    fn other(&mut self) -> u8 {
+        let client = self.draws.within(1, self.clients);
+        if client != self.told.client || self.draws.comes(20) {
+            return client;
+        }
+        if client < self.clients {
+            client.saturating_add(1)
+        } else {
+            1
+        }
+    }
+
     fn restart(&mut self) -> Result<(), NoMemory> {
         let repo = self.told.repo;
         let pick = pick(self.draws);
@@ -56,15 +76,15 @@ impl<'a> Trouble<'a> {
     /// The repository stops in the middle of the event.
     fn stop(&mut self) -> Result<(), NoMemory> {
         let repo = self.told.repo;
-        let calls = self.draws.within(1, 5);
+        let calls = stop_calls(self.draws);
         self.before.push(Event::Stop { repo, calls })?;
         Ok(())
     }
 
     /// Another client takes steps behind the event.
     fn other_runs(&mut self) -> Result<(), NoMemory> {
-        let client = self.draws.within(1, self.clients);
-        for _ in 0..self.draws.within(2, 24) {
+        let client = self.other();
+        for _ in 0..self.draws.within(4, 30) {
             self.behind.push(Event::Step { client })?;
         }
         Ok(())
@@ -72,15 +92,15 @@ impl<'a> Trouble<'a> {
 
     /// A client takes steps before the event.
     fn other_ran(&mut self) -> Result<(), NoMemory> {
-        let client = self.draws.within(1, self.clients);
-        for _ in 0..self.draws.within(2, 24) {
+        let client = self.other();
+        for _ in 0..self.draws.within(2, 30) {
             self.before.push(Event::Step { client })?;
         }
         Ok(())
     }
 
     /// Messages come to the client behind the event.
-    fn tell(&mut self) -> Result<(), NoMemory> {
+    fn tell_behind(&mut self) -> Result<(), NoMemory> {
         let client = self.told.client;
         for repo in 0..self.repos {
             for _ in 0..self.draws.below(3) {
@@ -91,7 +111,7 @@ impl<'a> Trouble<'a> {
     }
 
     /// Messages come to the client before the event.
-    fn told(&mut self) -> Result<(), NoMemory> {
+    fn tell_before(&mut self) -> Result<(), NoMemory> {
         let client = self.told.client;
         for repo in 0..self.repos {
             for _ in 0..self.draws.below(3) {
@@ -118,7 +138,7 @@ impl<'a> Trouble<'a> {
             _ => {
                 self.restart()?;
                 self.other_runs()?;
-                self.tell()
+                self.tell_behind()
             }
         }
     }
@@ -166,7 +186,7 @@ impl<'a> Trouble<'a> {
 
     fn draw(&mut self) -> Result<(), NoMemory> {
         match self.draws.below(10) {
-            0 => self.told(),
+            0 => self.tell_before(),
             1 => self.other_ran(),
             2 => self.falls(),
             3 => self.writes(),
@@ -177,18 +197,30 @@ impl<'a> Trouble<'a> {
             }
             5 => {
                 self.other_ran()?;
-                self.told()
+                self.tell_before()
             }
             _ => self.stopped(),
         }
     }
 }
 
-/// One of the events at which something happened: each kind of deeds comes as often as another.
+/// The numbers of deeds, those more often at which more may go wrong.
+const LIKED: [u8; 40] = [
+    12, 12, 12, 12, 12, 12, 11, 11, 11, 11, 14, 14, 14, 14, 13, 13, 10, 10, 10, 8, 8, 9, 7, 6, 5,
+    4, 2, 15, 16, 16, 16, 17, 18, 19, 20, 21, 21, 22, 22, 23,
+];
+
+fn liked(draws: &mut Draws) -> usize {
+    match LIKED.as_slice().get(usize::from(draws.below(40))) {
+        Some(deed) => usize::from(*deed),
+        None => 0,
+    }
+}
+
+/// One of the events at which something happened.
 fn chosen(draws: &mut Draws, log: &[Told]) -> Option<Told> {
-    let first = draws.below(KINDS);
-    for more in 0..KINDS {
-        let deed = usize::from(first.wrapping_add(more) % KINDS);
+    for _ in 0..20u8 {
+        let deed = liked(draws);
         let few = count_of(log, deed);
         if few > 0 {
             return found(log, deed, draws.below(few));
@@ -280,7 +312,7 @@ fn clients_of(pieces: &[Piece]) -> u8 {
 }
 
 /// Makes trouble in a schedule, by what its events have come to in a run. It answers whether there was an event for it.
-pub fn trouble(
+pub fn make_trouble(
     alloc: Global,
     script: &mut Script,
     draws: &mut Draws,

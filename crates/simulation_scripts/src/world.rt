@@ -68,16 +68,25 @@ fn draw_few(draws: &mut Draws, least: u8, often: u8, most: u8) -> u8 {
     draws.within(least.min(greatest), greatest)
 }
 
-/// How large a script is.
-fn sized(draws: &mut Draws, bounds: &Bounds, world: World) -> World {
-    let repos = draw_few(draws, 1, 2, bounds.repos);
+/// A script in which few clients meet at few objects.
+fn tight(draws: &mut Draws, bounds: &Bounds, world: World) -> World {
+    let clients = draws.within(2, 3).min(bounds.clients);
+    World {
+        repos: bounds.repos.min(2),
+        clients,
+        roots: draws.within(2, 3),
+        items: draws.within(2, 3).min(bounds.items),
+        statements: draws.within(1, 2),
+        upgrader: draws.within(1, clients),
+        ..world
+    }
+}
+
+/// A script of any size.
+fn loose(draws: &mut Draws, bounds: &Bounds, world: World) -> World {
     let clients = draw_few(draws, 2, 3, bounds.clients);
     World {
-        repos: if repos == 1 && draws.comes(70) {
-            bounds.repos.min(2)
-        } else {
-            repos
-        },
+        repos: draw_few(draws, 1, 3, bounds.repos),
         clients,
         roots: draw_few(draws, 2, 4, 14),
         items: draw_few(draws, 1, 3, bounds.items),
@@ -107,5 +116,9 @@ pub(crate) fn draw_world(draws: &mut Draws, bounds: &Bounds) -> World {
         points: seals && draws.comes(40),
         fills: if plain { 0 } else { draw_fills(draws) },
     };
-    sized(draws, bounds, world)
+    if draws.comes(60) {
+        tight(draws, bounds, world)
+    } else {
+        loose(draws, bounds, world)
+    }
 }
