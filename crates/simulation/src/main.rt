@@ -2,6 +2,7 @@
 //! told.
 #![tactic(auto)]
 
+mod reading;
 mod running;
 mod shrinking;
 mod telling;
@@ -10,10 +11,13 @@ mod words;
 use crate::running::{Ran, run_all};
 use crate::telling::{tell_ran, tell_usage};
 use crate::words::{Asked, read_words};
-use std::alloc::Global;
+use outside::{StdSource, read_all};
 use std::env;
 use std::process::ExitCode;
 use thor_value::{NoMemory, Text, Texts};
+
+/// The most bytes of a script.
+const LIMIT: usize = 8_388_608;
 
 /// The words behind the program's name; none where one of them isn't UTF-8.
 fn given_words(rt: HostRuntime) -> Result<Option<Texts>, NoMemory> {
@@ -35,9 +39,19 @@ fn asked(rt: HostRuntime) -> Result<Option<Asked>, NoMemory> {
     }
 }
 
-fn run(alloc: Global, asked: &Asked) -> Option<Ran> {
-    match run_all(alloc, asked) {
-        Ok(ran) => Some(ran),
+/// The script of one's own, where it is asked for.
+fn own_text(rt: HostRuntime, asked: &Asked) -> Option<Text> {
+    if !asked.is_own {
+        return Some(Text::new(rt.alloc()));
+    }
+    let mut source = StdSource::new(rt.stdin());
+    read_all(rt.alloc(), &mut source, LIMIT).ok()
+}
+
+fn run(rt: HostRuntime, asked: &Asked) -> Option<Ran> {
+    let text = own_text(rt, asked)?;
+    match run_all(rt.alloc(), asked, text.as_slice()) {
+        Ok(ran) => ran,
         Err(NoMemory) => None,
     }
 }
@@ -47,7 +61,7 @@ fn main(rt: HostRuntime) -> ExitCode {
         tell_usage(rt);
         return ExitCode::from(2);
     };
-    match run(rt.alloc(), &asked) {
+    match run(rt, &asked) {
         Some(ran) => {
             if tell_ran(rt, &asked, &ran) {
                 ExitCode::SUCCESS
@@ -55,6 +69,6 @@ fn main(rt: HostRuntime) -> ExitCode {
                 ExitCode::FAILURE
             }
         }
-        None => ExitCode::from(9),
+        None => ExitCode::from(3),
     }
 }

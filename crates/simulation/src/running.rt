@@ -1,8 +1,9 @@
 //! The runs.
 
+use crate::reading::{events_of, own_script};
 use crate::shrinking::shrink;
 use crate::words::Asked;
-use simulation_judge::{Coverage, Verdict, judge};
+use simulation_judge::{Begun, Coverage, Verdict, judge, judge_events, read_text};
 use simulation_scripts::{Draws, Script, make, make_trouble, print};
 use std::alloc::Global;
 use thor_value::NoMemory;
@@ -79,8 +80,8 @@ fn found(
     })
 }
 
-/// How often trouble is made in a schedule, at most.
-const TROUBLES: u8 = 4;
+/// How often a script is played, each time with more trouble in its schedule, at most.
+const TROUBLES: u8 = 6;
 
 /// Judges a script, and then with trouble in its schedule, up to the first time at which something is wrong.
 fn judge_troubled(
@@ -89,22 +90,71 @@ fn judge_troubled(
     draws: &mut Draws,
     ran: &mut Ran,
 ) -> Result<Verdict, NoMemory> {
-    let mut verdict = judged(alloc, script, &mut ran.coverage)?;
-    ran.runs = ran.runs.saturating_add(1);
-    for _ in 0..draws.within(0, TROUBLES) {
+    let text = print(alloc, script)?;
+    match read_text(alloc, &text, script.options.repos)? {
+        Some(begun) => judge_begun(alloc, script, &begun, draws, ran),
+        None => Ok(Verdict::Refused),
+    }
+}
+
+fn judge_begun(
+    alloc: Global,
+    script: &mut Script,
+    begun: &Begun,
+    draws: &mut Draws,
+    ran: &mut Ran,
+) -> Result<Verdict, NoMemory> {
+    let mut verdict = Verdict::Refused;
+    for _ in 0..draws.within(1, TROUBLES) {
+        let events = events_of(alloc, &script.pieces)?;
+        verdict = judge_events(alloc, begun, &events, &script.options, &mut ran.coverage)?;
+        ran.runs = ran.runs.saturating_add(1);
         if !is_right(verdict) || !make_trouble(alloc, script, draws, ran.coverage.log())? {
             return Ok(verdict);
         }
-        verdict = judged(alloc, script, &mut ran.coverage)?;
-        ran.runs = ran.runs.saturating_add(1);
     }
     Ok(verdict)
 }
 
-/// A script of its own, judged, and some with more trouble in its schedule.
-fn run(alloc: Global, asked: &Asked, number: u64, ran: &mut Ran) -> Result<(), NoMemory> {
+/// The script of a run: drawn, or read.
+fn script_of(
+    alloc: Global,
+    asked: &Asked,
+    own: &[u8],
+    seed: u64,
+) -> Result<Option<Script>, NoMemory> {
+    if asked.is_own {
+        own_script(alloc, own, asked.options)
+    } else {
+        Ok(Some(make(alloc, seed, &asked.bounds)?))
+    }
+}
+
+/// A script, judged, and some with more trouble in its schedule. Whether there was a script.
+fn run(
+    alloc: Global,
+    asked: &Asked,
+    own: &[u8],
+    number: u64,
+    ran: &mut Ran,
+) -> Result<bool, NoMemory> {
     let seed = seed_of(asked.seed, number);
-    let mut script = make(alloc, seed, &asked.bounds)?;
+    let Some(script) = script_of(alloc, asked, own, seed)? else {
+        return Ok(false);
+    };
+    run_script(alloc, asked, seed, number, script, ran)?;
+    Ok(true)
+}
+
+fn run_script(
+    alloc: Global,
+    asked: &Asked,
+    seed: u64,
+    number: u64,
+    script: Script,
+    ran: &mut Ran,
+) -> Result<(), NoMemory> {
+    let mut script = script;
     let mut draws = Draws::new(seed.wrapping_add(1));
     let verdict = judge_troubled(alloc, &mut script, &mut draws, ran)?;
     match verdict {
@@ -123,8 +173,8 @@ fn run(alloc: Global, asked: &Asked, number: u64, ran: &mut Ran) -> Result<(), N
     Ok(())
 }
 
-/// All runs that are asked for, up to the first at which something is wrong.
-pub fn run_all(alloc: Global, asked: &Asked) -> Result<Ran, NoMemory> {
+/// All runs that are asked for, up to the first at which something is wrong. Nothing where what was read is no script.
+pub fn run_all(alloc: Global, asked: &Asked, own: &[u8]) -> Result<Option<Ran>, NoMemory> {
     let mut ran = Ran {
         runs: 0,
         finished: 0,
@@ -132,10 +182,12 @@ pub fn run_all(alloc: Global, asked: &Asked) -> Result<Ran, NoMemory> {
         found: None,
     };
     for place in 0..asked.count {
-        run(alloc, asked, asked.from.wrapping_add(place), &mut ran)?;
+        if !run(alloc, asked, own, asked.from.wrapping_add(place), &mut ran)? {
+            return Ok(None);
+        }
         if ran.found.is_some() {
-            return Ok(ran);
+            return Ok(Some(ran));
         }
     }
-    Ok(ran)
+    Ok(Some(ran))
 }

@@ -1,6 +1,6 @@
 //! What the words of the program ask for.
 
-use simulation_scripts::Bounds;
+use simulation_scripts::{Bounds, Ending, Options};
 use thor_value::Text;
 
 /// What is asked for.
@@ -11,6 +11,9 @@ pub struct Asked {
     pub from: u64,
     pub count: u64,
     pub bounds: Bounds,
+    /// Whether the script is read from standard input, and with what it is played then.
+    pub is_own: bool,
+    pub options: Options,
     /// Whether a script that is wrong is shrunk.
     pub shrinks: bool,
     /// Whether what came how often is told.
@@ -28,6 +31,14 @@ const USUAL: Asked = Asked {
         repos: 8,
         clients: 8,
         items: 8,
+    },
+    is_own: false,
+    options: Options {
+        repos: 1,
+        tries: 16,
+        cache: 64,
+        mob: 1_048_576,
+        ending: Ending::Drained,
     },
     shrinks: true,
     tables: false,
@@ -76,27 +87,54 @@ fn yes_or_no(word: &[u8]) -> Option<bool> {
     }
 }
 
-/// What is asked for, with one more option, by its name and its value.
-fn with_option(asked: Asked, name: &[u8], value: &[u8]) -> Option<Asked> {
+/// What is asked for, with one more number, by its name.
+fn with_number(asked: Asked, name: &[u8], value: &[u8]) -> Option<Asked> {
     let mut asked = asked;
     if name == b"--from".as_slice() {
         asked.from = number_of(value)?;
     } else if name == b"--repos".as_slice() {
-        asked.bounds.repos = few_of(value)?;
+        let repos = few_of(value)?;
+        asked.bounds.repos = repos;
+        asked.options.repos = repos;
     } else if name == b"--clients".as_slice() {
         asked.bounds.clients = few_of(value)?;
     } else if name == b"--items".as_slice() {
         asked.bounds.items = few_of(value)?;
-    } else if name == b"--shrink".as_slice() {
-        asked.shrinks = yes_or_no(value)?;
-    } else if name == b"--tables".as_slice() {
-        asked.tables = yes_or_no(value)?;
-    } else if name == b"--scripts".as_slice() {
-        asked.scripts = yes_or_no(value)?;
+    } else if name == b"--tries".as_slice() {
+        asked.options.tries = u8::try_from(number_of(value)?).ok()?;
+    } else if name == b"--cache".as_slice() {
+        asked.options.cache = u16::try_from(number_of(value)?).ok()?;
+    } else if name == b"--mob".as_slice() {
+        asked.options.mob = u32::try_from(number_of(value)?).ok()?;
     } else {
         return None;
     }
     Some(asked)
+}
+
+/// What is asked for, with one more choice, by its name.
+fn with_choice(asked: Asked, name: &[u8], value: bool) -> Option<Asked> {
+    let mut asked = asked;
+    if name == b"--shrink".as_slice() {
+        asked.shrinks = value;
+    } else if name == b"--tables".as_slice() {
+        asked.tables = value;
+    } else if name == b"--scripts".as_slice() {
+        asked.scripts = value;
+    } else if name == b"--own".as_slice() {
+        asked.is_own = value;
+    } else {
+        return None;
+    }
+    Some(asked)
+}
+
+/// What is asked for, with one more option, by its name and its value.
+fn with_option(asked: Asked, name: &[u8], value: &[u8]) -> Option<Asked> {
+    match yes_or_no(value) {
+        Some(value) => with_choice(asked, name, value),
+        None => with_number(asked, name, value),
+    }
 }
 
 /// What is asked for, with the options behind seed and count.

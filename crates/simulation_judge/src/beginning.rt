@@ -1,9 +1,14 @@
 //! A script is read, and what it begins with is made.
 
+ghost use Rattle.class_defs.specs.Applied.{next_number};
+ghost use Rattle.std.specs.Prelude.{IfOk, ◌≡◌};
+ghost use Rattle.thor_value.specs.FiniteMap.{IsSorted};
+
 use crate::faults::Fault;
 use class_defs::{Declarations, Plain, Schema, Schemas, Setup, UpgradedSchemas};
 use cluster_core::{Plan, Start};
 use disk_trait::{MemParts, TickClock};
+use schedule::Event;
 use script_check::{judge, opened_store, roots_of, schema_of, upgrade_count, with_upgrades};
 use script_parse::{Script, read_script};
 use simulation_scripts::Options;
@@ -16,17 +21,32 @@ const MOST: usize = 64;
 /// The disks of repositories in memory.
 pub(crate) type Disks = Vec<MemParts<TickClock>>;
 
-/// A script that is accepted, and the store with which it begins.
+/// A script that is accepted.
 #[derive(Drop)]
-pub(crate) struct Begun {
-    pub script: Script,
+pub struct Begun {
+    pub(crate) script: Script,
     /// The schemas of all epochs, those behind its upgrades included.
-    pub schemas: Schemas,
-    pub store: Plain,
+    pub(crate) schemas: Schemas,
+}
+
+impl Begun {
+    /// The events of its schedule.
+    pub fn events(&self) -> &[Event] {
+        self.script.events.as_slice()
+    }
+}
+
+/// What is played: the clients of a script, with these events.
+pub(crate) struct Play<'a> {
+    pub begun: &'a Begun,
+    pub events: &'a [Event],
+    pub options: &'a Options,
 }
 
 /// The schema of a setup that isn't too large.
-fn first_schema(alloc: Global, setup: &Option<Declarations>) -> Result<Schema, Fault> {
+fn first_schema(alloc: Global, setup: &Option<Declarations>) -> Result<Schema, Fault>
+    ensures { IfOk result (λ schema. next_number schema.upgraded ≡ 1) }
+{
     match setup {
         Some(setup) => {
             if setup.roots.len() > MOST || setup.classes.len() > MOST {
@@ -39,7 +59,9 @@ fn first_schema(alloc: Global, setup: &Option<Declarations>) -> Result<Schema, F
 }
 
 /// A script breaks no rule.
-fn accept(alloc: Global, schema: &Schema, script: &Script, repos: u8) -> Result<(), Fault> {
+fn accept(alloc: Global, schema: &Schema, script: &Script, repos: u8) -> Result<(), Fault>
+    requires { next_number schema.now.upgraded ≡ 1 }
+{
     let clients = script.clients.as_slice();
     if clients.len() > MOST || upgrade_count(clients) > MOST || schema.classes.len() > MOST {
         return Err(Fault::Refused);
@@ -50,22 +72,27 @@ fn accept(alloc: Global, schema: &Schema, script: &Script, repos: u8) -> Result<
     }
 }
 
-/// The script that a text is, with the store with which it begins.
+/// The script that a text is, where it is accepted.
 pub(crate) fn begin(alloc: Global, text: &str, repos: u8) -> Result<Begun, Fault> {
     let script = read_script(alloc, text.as_bytes())?;
     let first = first_schema(alloc, &script.setup)?;
     accept(alloc, &first, &script, repos)?;
-    let store = opened_store(alloc, &first)?;
     let schemas = Schemas {
         first,
         upgraded: UpgradedSchemas::new(alloc),
     };
     let schemas = with_upgrades(alloc, schemas, script.clients.as_slice())?;
-    Ok(Begun {
-        script,
-        schemas,
-        store,
-    })
+    Ok(Begun { script, schemas })
+}
+
+/// The store with which a script begins.
+pub(crate) fn first_store(alloc: Global, begun: &Begun) -> Result<Plain, Fault>
+    ensures { IfOk result (λ store. IsSorted store.objects) }
+{
+    if begun.schemas.first.classes.len() > MOST {
+        return Err(Fault::Refused);
+    }
+    Ok(opened_store(alloc, &begun.schemas.first)?)
 }
 
 /// Disks of so many repositories, all of them empty.
@@ -84,7 +111,10 @@ pub(crate) fn empty(alloc: Global, repos: u8) -> Result<Disks, NoMemory> {
 }
 
 /// With what a fresh store is opened.
-pub(crate) fn setup_of(alloc: Global, begun: &Begun) -> Result<Start, NoMemory> {
+pub(crate) fn setup_of(alloc: Global, begun: &Begun) -> Result<Start, Fault> {
+    if begun.schemas.first.classes.len() > MOST {
+        return Err(Fault::Refused);
+    }
     Ok(Start::Setup(Setup {
         schema: begun.schemas.first.copy()?,
         roots: roots_of(alloc, &begun.schemas.first)?,
@@ -92,11 +122,11 @@ pub(crate) fn setup_of(alloc: Global, begun: &Begun) -> Result<Start, NoMemory> 
 }
 
 /// What a run is asked for.
-pub(crate) fn plan_of(begun: &Begun, options: &Options, start: Start) -> Result<Plan, NoMemory> {
+pub(crate) fn plan_of(play: &Play<'_>, start: Start) -> Result<Plan, NoMemory> {
     Ok(Plan {
         start,
-        tries: u32::from(options.tries),
-        cache: u32::from(options.cache),
-        clients: begun.script.clients.copy()?.into_vec(),
+        tries: u32::from(play.options.tries),
+        cache: u32::from(play.options.cache),
+        clients: play.begun.script.clients.copy()?.into_vec(),
     })
 }

@@ -1,5 +1,8 @@
 //! What disks hold is the store that a history leaves.
 
+ghost use Rattle.std.specs.Prelude.{IfOk};
+ghost use Rattle.thor_value.specs.FiniteMap.{IsSorted};
+
 use crate::beginning::Disks;
 use crate::faults::{Fault, Wrong, unopened};
 use crate::same::are_same;
@@ -24,7 +27,9 @@ pub(crate) fn read(
 }
 
 /// The store that was found.
-pub(crate) fn stored(alloc: Global, found: &Found<MemParts<TickClock>>) -> Result<Plain, Fault> {
+pub(crate) fn stored(alloc: Global, found: &Found<MemParts<TickClock>>) -> Result<Plain, Fault>
+    ensures { IfOk result (λ store. IsSorted store.objects) }
+{
     match found.opened(alloc)? {
         Some(store) => Ok(store),
         None => Err(Fault::Wrong(Wrong::Opening)),

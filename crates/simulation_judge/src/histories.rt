@@ -1,9 +1,10 @@
 //! What a run tells is a serial history of the script, and answers it.
 
+ghost use Rattle.thor_value.specs.FiniteMap.{IsSorted};
+
 use crate::beginning::Begun;
 use crate::faults::{Fault, Wrong};
 use class_defs::Plain;
-use cluster_core::Ran;
 use history_check::{Line, Lines, checked_history};
 use serial_model::{Ended, Ends, ItemOutcome, are_made};
 use std::alloc::Global;
@@ -69,7 +70,9 @@ pub(crate) fn store_behind(
     store: &Plain,
     ends: Ends,
     lines: Lines,
-) -> Result<Plain, Fault> {
+) -> Result<Plain, Fault>
+    requires { IsSorted store.now.objects }
+{
     if !are_made(&begun.schemas) {
         return Err(Fault::Refused);
     }

@@ -1,13 +1,12 @@
 //! The images that a crash leaves behind the last event.
 
-use crate::beginning::{Begun, Disks, empty, setup_of};
+use crate::beginning::{Disks, Play, empty, setup_of};
 use crate::coverage::Coverage;
 use crate::disks::{compare, read};
 use crate::faults::{Fault, Wrong};
 use crate::living::live_on;
 use class_defs::Plain;
 use disk_trait::{MemParts, Outage, TickClock, restart_all};
-use simulation_scripts::Options;
 use std::alloc::Global;
 
 /// Crashes the disks of a repository.
@@ -29,14 +28,13 @@ fn crash_all(disks: &mut [MemParts<TickClock>], pick: u8) -> Result<(), Fault> {
 /// The disks as a crash behind the last event leaves them.
 fn image(
     alloc: Global,
-    begun: &Begun,
-    options: &Options,
+    play: &Play<'_>,
     pick: u8,
     coverage: &mut Coverage,
 ) -> Result<Disks, Fault> {
-    let found = read(alloc, empty(alloc, options.repos)?, options.mob)?;
-    let start = setup_of(alloc, begun)?;
-    let mut disks = live_on(alloc, begun, options, start, found, coverage)?;
+    let found = read(alloc, empty(alloc, play.options.repos)?, play.options.mob)?;
+    let start = setup_of(alloc, play.begun)?;
+    let mut disks = live_on(alloc, play, start, found, coverage)?;
     crash_all(&mut disks, pick)?;
     Ok(disks)
 }
@@ -44,13 +42,12 @@ fn image(
 /// A crash behind the last event leaves this store, with which the repositories came back from the same crash.
 pub(crate) fn judge_image(
     alloc: Global,
-    begun: &Begun,
-    options: &Options,
+    play: &Play<'_>,
     pick: u8,
     store: &Plain,
     coverage: &mut Coverage,
 ) -> Result<(), Fault> {
-    let disks = image(alloc, begun, options, pick, coverage)?;
-    let found = read(alloc, disks, options.mob)?;
+    let disks = image(alloc, play, pick, coverage)?;
+    let found = read(alloc, disks, play.options.mob)?;
     compare(alloc, &found, store, Wrong::Image)
 }

@@ -1,6 +1,8 @@
 //! A script is played and judged.
 
-use crate::beginning::{Begun, begin, empty, setup_of};
+ghost use Rattle.thor_value.specs.FiniteMap.{IsSorted};
+
+use crate::beginning::{Begun, Play, begin, empty, first_store, setup_of};
 use crate::coverage::Coverage;
 use crate::disks::{compare, read, stored};
 use crate::faults::{Fault, Verdict, Wrong};
@@ -10,6 +12,7 @@ use crate::living::{Lived, live};
 use class_defs::Plain;
 use cluster_core::{Ran, Start};
 use disk_trait::{MemParts, TickClock};
+use schedule::Event;
 use serial_model::{Ended, ItemOutcome};
 use simulation_scripts::{Ending, Options};
 use std::alloc::Global;
@@ -44,18 +47,19 @@ fn are_finished(ends: &[Ended]) -> bool {
 /// Judges a life from a store on: its history, and its disks.
 fn judge_life(
     alloc: Global,
-    begun: &Begun,
-    options: &Options,
+    play: &Play<'_>,
     store: &Plain,
     lived: Lived,
     coverage: &mut Coverage,
-) -> Result<Come, Fault> {
+) -> Result<Come, Fault>
+    requires { IsSorted store.now.objects }
+{
     let Lived { disks, ran } = lived;
     let Ran { ends, lines, .. } = ran;
     coverage.take_ends(ends.as_slice());
     let is_finished = are_finished(ends.as_slice());
-    let found = read(alloc, disks, options.mob)?;
-    let store = store_behind(alloc, begun, store, ends, lines)?;
+    let found = read(alloc, disks, play.options.mob)?;
+    let store = store_behind(alloc, play.begun, store, ends, lines)?;
     compare(alloc, &found, &store, Wrong::Store)?;
     Ok(Come {
         found,
@@ -65,77 +69,91 @@ fn judge_life(
 }
 
 /// The first life of a store.
-fn first_life(
-    alloc: Global,
-    begun: &Begun,
-    options: &Options,
-    coverage: &mut Coverage,
-) -> Result<Come, Fault> {
-    let found = read(alloc, empty(alloc, options.repos)?, options.mob)?;
-    let start = setup_of(alloc, begun)?;
-    let lived = live(alloc, begun, options, start, found, coverage)?;
-    judge_life(alloc, begun, options, &begun.store, lived, coverage)
+fn first_life(alloc: Global, play: &Play<'_>, coverage: &mut Coverage) -> Result<Come, Fault> {
+    let found = read(alloc, empty(alloc, play.options.repos)?, play.options.mob)?;
+    let start = setup_of(alloc, play.begun)?;
+    let store = first_store(alloc, play.begun)?;
+    let lived = live(alloc, play, start, found, coverage)?;
+    judge_life(alloc, play, &store, lived, coverage)
 }
 
 /// A life behind another.
 fn next_life(
     alloc: Global,
-    begun: &Begun,
-    options: &Options,
+    play: &Play<'_>,
     found: Found<MemParts<TickClock>>,
     coverage: &mut Coverage,
 ) -> Result<bool, Fault> {
     let store = stored(alloc, &found)?;
-    let lived = live(alloc, begun, options, Start::Stored, found, coverage)?;
-    let come = judge_life(alloc, begun, options, &store, lived, coverage)?;
+    let lived = live(alloc, play, Start::Stored, found, coverage)?;
+    let come = judge_life(alloc, play, &store, lived, coverage)?;
     Ok(come.is_finished)
 }
 
 /// Plays a script that is accepted, and judges it. Whether all of its items are done.
-fn judge_begun(
-    alloc: Global,
-    begun: &Begun,
-    options: &Options,
-    coverage: &mut Coverage,
-) -> Result<bool, Fault> {
+fn judge_play(alloc: Global, play: &Play<'_>, coverage: &mut Coverage) -> Result<bool, Fault> {
     let Come {
         found,
         store,
         is_finished,
-    } = first_life(alloc, begun, options, coverage)?;
-    match options.ending {
+    } = first_life(alloc, play, coverage)?;
+    match play.options.ending {
         Ending::Drained | Ending::Checkpointed => Ok(is_finished),
-        Ending::Again => next_life(alloc, begun, options, found, coverage),
+        Ending::Again => next_life(alloc, play, found, coverage),
         Ending::Cut { pick } => {
             drop(found);
-            judge_image(alloc, begun, options, pick, &store, coverage)?;
+            judge_image(alloc, play, pick, &store, coverage)?;
             Ok(is_finished)
         }
     }
 }
 
-fn judge_text(
-    alloc: Global,
-    text: &str,
-    options: &Options,
-    coverage: &mut Coverage,
-) -> Result<bool, Fault> {
-    let begun = begin(alloc, text, options.repos)?;
-    coverage.begin_run(begun.script.events.len());
-    judge_begun(alloc, &begun, options, coverage)
+/// What a script is judged to be, by whether all of its items are done, or by what is wrong.
+fn verdict_of(judged: Result<bool, Fault>) -> Result<Verdict, NoMemory> {
+    match judged {
+        Ok(is_finished) => Ok(Verdict::Right { is_finished }),
+        Err(Fault::Refused) => Ok(Verdict::Refused),
+        Err(Fault::Wrong(wrong)) => Ok(Verdict::Wrong(wrong)),
+        Err(Fault::NoMemory) => Err(NoMemory),
+    }
 }
 
-/// Plays a script in memory, and judges what came of it. What came how often is counted.
+/// The script that a text is; nothing where it isn't accepted.
+pub fn read_text(alloc: Global, text: &str, repos: u8) -> Result<Option<Begun>, NoMemory> {
+    match begin(alloc, text, repos) {
+        Ok(begun) => Ok(Some(begun)),
+        Err(Fault::Refused | Fault::Wrong(_)) => Ok(None),
+        Err(Fault::NoMemory) => Err(NoMemory),
+    }
+}
+
+/// Plays the clients of a script in memory, with these events, and judges what came of it. What came how often is
+/// counted.
+pub fn judge_events(
+    alloc: Global,
+    begun: &Begun,
+    events: &[Event],
+    options: &Options,
+    coverage: &mut Coverage,
+) -> Result<Verdict, NoMemory> {
+    let play = Play {
+        begun,
+        events,
+        options,
+    };
+    coverage.begin_run(events.len());
+    verdict_of(judge_play(alloc, &play, coverage))
+}
+
+/// Plays a script in memory, and judges what came of it.
 pub fn judge(
     alloc: Global,
     text: &str,
     options: &Options,
     coverage: &mut Coverage,
 ) -> Result<Verdict, NoMemory> {
-    match judge_text(alloc, text, options, coverage) {
-        Ok(is_finished) => Ok(Verdict::Right { is_finished }),
-        Err(Fault::Refused) => Ok(Verdict::Refused),
-        Err(Fault::Wrong(wrong)) => Ok(Verdict::Wrong(wrong)),
-        Err(Fault::NoMemory) => Err(NoMemory),
+    match read_text(alloc, text, options.repos)? {
+        Some(begun) => judge_events(alloc, &begun, begun.events(), options, coverage),
+        None => Ok(Verdict::Refused),
     }
 }

@@ -13,7 +13,8 @@ mod living;
 mod same;
 mod watching;
 
+pub use beginning::Begun;
 pub use coverage::{Coverage, Totals};
 pub use deeds::{DEEDS, EVENTS, deed_word, event_word};
 pub use faults::{Verdict, Wrong};
-pub use judging::judge;
+pub use judging::{judge, judge_events, read_text};

@@ -1,6 +1,6 @@
 //! A store is opened, and events happen at it.
 
-use crate::beginning::{Begun, Disks, plan_of};
+use crate::beginning::{Disks, Play, plan_of};
 use crate::coverage::Coverage;
 use crate::faults::{Fault, Wrong, unopened};
 use crate::watching::Watch;
@@ -25,12 +25,11 @@ pub(crate) struct Lived {
 /// Opens what was found, with the clients of the script.
 fn open(
     alloc: Global,
-    begun: &Begun,
-    options: &Options,
+    play: &Play<'_>,
     start: Start,
     found: Found<MemParts<TickClock>>,
 ) -> Result<Store, Fault> {
-    let (found, plan) = both(found, plan_of(begun, options, start))?;
+    let (found, plan) = both(found, plan_of(play, start))?;
     match Cluster::open(alloc, found, plan) {
         Ok(store) => Ok(store),
         Err(ClusterFault { parts, why }) => {
@@ -41,14 +40,9 @@ fn open(
 }
 
 /// Looks at the repositories as they begin.
-fn begin_watch(
-    alloc: Global,
-    store: Store,
-    begun: &Begun,
-    options: &Options,
-) -> Result<(Store, Watch), NoMemory> {
-    let clients = begun.script.clients.len();
-    let watch = Watch::new(alloc, usize::from(options.repos), clients);
+fn begin_watch(alloc: Global, store: Store, play: &Play<'_>) -> Result<(Store, Watch), NoMemory> {
+    let clients = play.begun.script.clients.len();
+    let watch = Watch::new(alloc, usize::from(play.options.repos), clients);
     let (store, mut watch) = both(store, watch)?;
     let (emptied, seats, clients) = store.emptied();
     watch.begin(&seats);
@@ -198,33 +192,29 @@ fn finish(store: Store, options: &Options) -> Result<Lived, Fault> {
 /// Opens what was found, has the events happen, and what comes behind them.
 pub(crate) fn live(
     alloc: Global,
-    begun: &Begun,
-    options: &Options,
+    play: &Play<'_>,
     start: Start,
     found: Found<MemParts<TickClock>>,
     coverage: &mut Coverage,
 ) -> Result<Lived, Fault> {
-    let store = open(alloc, begun, options, start, found)?;
-    let (store, mut watch) = begin_watch(alloc, store, begun, options)?;
-    let events = begun.script.events.as_slice();
-    let store = happen_all(store, &mut watch, events, coverage)?;
-    let store = end(store, &mut watch, options, coverage)?;
-    finish(store, options)
+    let store = open(alloc, play, start, found)?;
+    let (store, mut watch) = begin_watch(alloc, store, play)?;
+    let store = happen_all(store, &mut watch, play.events, coverage)?;
+    let store = end(store, &mut watch, play.options, coverage)?;
+    finish(store, play.options)
 }
 
 /// Opens what was found, has the events happen, and lets it go as it stands then. The disks.
 pub(crate) fn live_on(
     alloc: Global,
-    begun: &Begun,
-    options: &Options,
+    play: &Play<'_>,
     start: Start,
     found: Found<MemParts<TickClock>>,
     coverage: &mut Coverage,
 ) -> Result<Disks, Fault> {
-    let store = open(alloc, begun, options, start, found)?;
-    let (store, mut watch) = begin_watch(alloc, store, begun, options)?;
-    let events = begun.script.events.as_slice();
-    let store = happen_all(store, &mut watch, events, coverage)?;
+    let store = open(alloc, play, start, found)?;
+    let (store, mut watch) = begin_watch(alloc, store, play)?;
+    let store = happen_all(store, &mut watch, play.events, coverage)?;
     let Finished { parts, ran } = store.finish();
     drop(ran);
     Ok(parts)

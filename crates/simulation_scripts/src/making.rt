@@ -64,6 +64,8 @@ fn draw_options(draws: &mut Draws, world: &World) -> Options {
 /// Puts the setup, the clients and the schedule.
 fn put_all(pieces: &mut Pieces, draws: &mut Draws, world: &World) -> Result<(), NoMemory> {
     let layout = Layout::first(world);
+    let head = format!(in pieces.alloc; "setup")?;
+    pieces.line(0, head)?;
     classes(pieces, world, &layout)?;
     roots(pieces, draws, world)?;
     clients(pieces, draws, world, &layout)?;
@@ -80,6 +82,7 @@ pub fn make(alloc: Global, seed: u64, bounds: &Bounds) -> Result<Script, NoMemor
     put_all(&mut pieces, &mut draws, &world)?;
     Ok(Script {
         options,
+        clients: world.clients,
         pieces: pieces.items,
     })
 }

@@ -147,7 +147,6 @@ pub fn print(alloc: Global, script: &Script) -> Result<String, NoMemory> {
         events: 0,
     };
     put_words(&mut printing.out, &script.options)?;
-    printing.out.push_str("\nsetup")?;
     printing.pieces(&script.pieces)?;
     printing.out.push_str("\n")?;
     let Printing { out, open, .. } = printing;

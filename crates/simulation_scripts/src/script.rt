@@ -7,5 +7,7 @@ use crate::pieces::Piece;
 #[derive(Drop)]
 pub struct Script {
     pub options: Options,
+    /// How many clients there are.
+    pub clients: u8,
     pub pieces: Vec<Piece>,
 }

@@ -301,16 +301,6 @@ fn put_trouble(
     Ok(())
 }
 
-fn clients_of(pieces: &[Piece]) -> u8 {
-    let mut clients = 0u8;
-    for piece in pieces {
-        if let What::Client = &piece.what {
-            clients = clients.saturating_add(1);
-        }
-    }
-    clients
-}
-
 /// Makes trouble in a schedule, by what its events have come to in a run. It answers whether there was an event for it.
 pub fn make_trouble(
     alloc: Global,
@@ -328,7 +318,7 @@ pub fn make_trouble(
         draws,
         told,
         repos: script.options.repos,
-        clients: clients_of(&script.pieces),
+        clients: script.clients,
         before: Vec::new(alloc),
         behind: Vec::new(alloc),
     };
