@@ -37,6 +37,7 @@ impl Begun {
 }
 
 /// What is played: the clients of a script, with these events.
+#[derive(Drop)]
 pub(crate) struct Play<'a> {
     pub begun: &'a Begun,
     pub events: &'a [Event],
