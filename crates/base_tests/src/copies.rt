@@ -16,6 +16,8 @@ enum Step {
     Undo,
     /// The copy of an object is dropped.
     Invalidate(At),
+    /// What the try has written of an object is given up.
+    InvalidateWritten(At),
     /// Page 0 of a repository comes, without an object.
     Place(u8),
     /// Its bytes come as those of page 1, and bring nothing.
@@ -55,6 +57,24 @@ const TRIES: &[Step] = &[
     Step::Page((0, 0, 0), true),
     Step::PlaceOther(0),
     Step::Page((0, 1, 0), false),
+    // What others have overwritten doesn't come back as a copy; what else the try has written does.
+    Step::Write((0, 0, 3), 1),
+    Step::Write((0, 0, 4), 2),
+    Step::Write((0, 1, 0), 3),
+    Step::InvalidateWritten((0, 0, 3)),
+    Step::InvalidateWritten((0, 0, 5)),
+    Step::InvalidateWritten((0, 1, 0)),
+    Step::Number((0, 0, 3), None),
+    Step::Settle,
+    Step::Number((0, 0, 3), None),
+    Step::Number((0, 0, 4), Some(2)),
+    Step::Number((0, 1, 0), None),
+    Step::Page((0, 1, 0), true),
+    // The copy from before the try stays.
+    Step::Write((0, 0, 4), 5),
+    Step::InvalidateWritten((0, 0, 4)),
+    Step::Settle,
+    Step::Number((0, 0, 4), Some(2)),
 ];
 
 const PAGES: &[Step] = &[
@@ -122,6 +142,12 @@ fn invalidate(alloc: Global, cache: &mut Cache, at: At) -> Result<(), NoMemory> 
     Ok(())
 }
 
+fn invalidate_written(alloc: Global, cache: &mut Cache, at: At) -> Result<(), NoMemory> {
+    let orefs = Orefs::from_slice(alloc, &[name(at)])?;
+    cache.invalidate_written(&orefs);
+    Ok(())
+}
+
 /// Places a page with no object. The answer is whether it was placed.
 fn place(alloc: Global, cache: &mut Cache, repo: u8) -> Result<bool, NoMemory> {
     let bytes = empty_page(alloc, 0)?;
@@ -162,6 +188,7 @@ fn holds(alloc: Global, cache: &mut Cache, step: &Step) -> Result<bool, NoMemory
         Step::Settle => cache.settle(),
         Step::Undo => cache.undo(),
         Step::Invalidate(at) => invalidate(alloc, cache, *at)?,
+        Step::InvalidateWritten(at) => invalidate_written(alloc, cache, *at)?,
         Step::Place(repo) => return place(alloc, cache, *repo),
         Step::PlaceOther(repo) => return refuses(alloc, cache, *repo),
         Step::Evict(at) => evict(cache, *at),

@@ -405,3 +405,47 @@ fn files_are_written_and_opened_again(rt: HostRuntime) -> Result<(), Fail> {
     fs::remove_dir_all(&rt, folder.as_str())?;
     Ok(())
 }
+
+/// What is done to the first of disks over files, and how many bytes its file has behind that, at least and at most. It is
+/// longer than its disk only behind a write that came when the disk's first byte had been synced since the last restart.
+const GROWING: &[(Step, u64, u64)] = &[
+    ((0, Act::Sync, true), 0, 0),
+    ((0, Act::Write(0, &[0]), true), 1, 1),
+    ((0, Act::Write(1, &[1, 2]), true), 3, 3),
+    ((0, Act::Sync, true), 3, 3),
+    ((0, Act::Write(3, &[3]), true), 5, u64::MAX),
+    ((0, Act::Read(&[0, 1, 2, 3]), true), 5, u64::MAX),
+    ((0, Act::Crash(0), true), 4, 4),
+    ((0, Act::Write(4, &[4]), true), 5, 5),
+    ((0, Act::Sync, true), 5, 5),
+    ((0, Act::Write(5, &[5]), true), 7, u64::MAX),
+    ((0, Act::Read(&[0, 1, 2, 3, 4, 5]), true), 7, u64::MAX),
+];
+
+/// How many bytes the file of the first of disks over files has.
+fn log_len(rt: &HostRuntime, folder: &str) -> Result<u64, Fail> {
+    let log = format!(in rt.alloc(); "{folder}/log0")?;
+    Ok(fs::metadata(rt, log.as_str())?.len())
+}
+
+/// Whether the file of the first of disks over files grows so. Then all three are let go.
+fn log_grows(rt: &HostRuntime, folder: &str) -> Result<bool, Fail> {
+    let mut fused = Fused::new(files(rt, folder, "pages")?);
+    for ((disk, act, wanted), least, greatest) in GROWING {
+        let same = succeeds(rt.alloc(), &mut fused, (*disk).min(2), act)? == *wanted;
+        let len = log_len(rt, folder)?;
+        if !same || len < *least || *greatest < len {
+            return Ok(false);
+        }
+    }
+    Ok(true)
+}
+
+#[test]
+fn a_log_is_made_longer_behind_a_sync(rt: HostRuntime) -> Result<(), Fail> {
+    let folder = folder(&rt, "log-grows")?;
+    assert!(rt; log_grows(&rt, folder.as_str())?);
+    assert!(rt; log_len(&rt, folder.as_str())? == 6);
+    fs::remove_dir_all(&rt, folder.as_str())?;
+    Ok(())
+}

@@ -11,7 +11,7 @@ use Rattle.thor_value.specs.Names.{oref_cmp}
 use Rattle.thor_value.specs.declared.names.Oref.{Oref}
 use Rattle.thor_value.specs.declared.values.Obj.{Obj}
 use Rattle.client_cache.specs.Copies.{Held, elsewhere, told}
-use Rattle.client_cache.specs.Pages.{page_of, same_page}
+use Rattle.client_cache.specs.Pages.{page_of, same_name, same_page}
 use Rattle.client_cache.specs.declared.page_copies.Slot.{Slot}
 use Rattle.client_cache.proofs.PageLookups.{one-page}
 
@@ -39,6 +39,12 @@ pub written_elsewhere : (repo : ℕ) (written : List Oref) (x : Oref)
     → list_any (is_at (oref_cmp x)) (filter (λ y. not (nat_eq y.repo repo)) written) ≡ (not (nat_eq x.repo repo) && list_any (is_at (oref_cmp x)) written)
 written_elsewhere repo written x = any-filter_same (is_at (oref_cmp x)) (λ y. not (nat_eq y.repo repo)) (not (nat_eq x.repo repo))
     (λ y t. ap (λ n. not (nat_eq n.repo repo)) (sym (tells_apart oref_exact x y t))) written
+
+-- the same without some names
+pub written_without : (names written : List Oref) (x : Oref)
+    → list_any (is_at (oref_cmp x)) (filter (λ y. not (list_any (λ z. same_name z y) names)) written) ≡ (not (list_any (λ z. same_name z x) names) && list_any (is_at (oref_cmp x)) written)
+written_without names written x = any-filter_same (is_at (oref_cmp x)) (λ y. not (list_any (λ z. same_name z y) names)) (not (list_any (λ z. same_name z x) names))
+    (λ y t. ap (λ (n : Oref). not (list_any (λ z. same_name z n) names)) (sym (tells_apart oref_exact x y t))) written
 
 pub some_unless : (b : Bool) (o : Option Obj) → is_some (cond b None o) ≡ (not b && is_some o)
 some_unless true o = refl

@@ -1,5 +1,5 @@
 -- What a search among names that rise tells, and what is among them behind one that was put or taken out.
-use Rattle.std.proofs.Common.{◌≡◌, ℕ, zero, suc, ◌-◌, ◌<◌, ◌≤◌, Bool, true, false, cond, List, [], ◌∷◌, length, refl, sym, ap, subst, ◌∙◌, arith, append-nil, Option, Some, None, Result, Ok, Err, IfOk, IfErr}
+use Rattle.std.proofs.Common.{◌≡◌, ℕ, zero, suc, ◌-◌, ◌<◌, ◌≤◌, Bool, true, false, cond, List, [], ◌∷◌, length, refl, sym, ap, subst, ◌∙◌, arith, append-nil, Option, Some, None, Result, Ok, Err, IfOk, IfErr, not, take, take-suc, ◌+◌}
 use Rattle.std.specs.BTreeMap.{is_at}
 use Rattle.std.specs.BTreeSet.{insert_key}
 use Rattle.std.specs.Cmp.{eq_by_cmp_equiv}
@@ -7,7 +7,7 @@ use Rattle.std.proofs.lemmas.Map.Views.{tells_apart}
 use Rattle.std.proofs.lemmas.List.Edits.{insert_end}
 use Rattle.std.proofs.lemmas.Option.{slice_get-get_or}
 use Rattle.std.specs.Prelude.{get_or}
-use Rattle.std.specs.List.{AllByRecursion, insert, list_any, slice_get, slice_index_or}
+use Rattle.std.specs.List.{AllByRecursion, filter, insert, list_any, remove, slice_get, slice_index_or}
 use Rattle.std.specs.List.Sorted.{IsBinarySearchResult, IsNonDecreasingBy, IsSearchInRange, IsStrictlySortedBy}
 use Rattle.std.specs.Option.{IfSome, option_to_list}
 use Rattle.std.specs.Ordering.{is_lt, ordering_index, ordering_reverse}
@@ -18,6 +18,10 @@ use Rattle.thor_value.proofs.NameOrders.{oref_total, oref_exact}
 use Rattle.thor_value.specs.Names.{oref_cmp}
 use Rattle.thor_value.specs.declared.names.Oref.{Oref}
 use Rattle.client_cache.specs.NameLists.{IsBehind, IsGap, IsThere, Rise}
+use Rattle.client_cache.specs.Pages.{page_of, same_name}
+use Rattle.std.proofs.lemmas.Bool.{eq-eqb}
+use Rattle.client_cache.proofs.PageLookups.{itself}
+use Rattle.client_cache.proofs.SettledOne.{one-name}
 
 -- ---- the order
 
@@ -54,25 +58,24 @@ in_order (q ∷ xs) x d (suc i) (suc j) rise le within = in_order xs x d i j ris
 pub non_decreasing : (xs : List Oref) (x : Oref) → Rise xs → IsNonDecreasingBy (λ y. ordering_index (oref_cmp y x)) xs
 non_decreasing xs x rise i j d le within = in_order xs x d i j rise le within
 
--- ---- the name is there
+-- ---- the two tests of names are one
 
-there_behind : (q x : Oref) (xs : List Oref) → oref_cmp x q ≡ Greater → IsThere xs x → IsThere (q ∷ xs) x
-there_behind q x xs g h = record {
-  there = rw g h.there;
-  put = rw g (ap (λ (ys : List Oref). q ∷ ys) h.put);
-}
+equal_itself : (k : Oref) → is_at (oref_cmp k) k ≡ true
+equal_itself k = (eq_by_cmp_equiv oref_total).refl k
 
-pub there_at : (xs : List Oref) (x : Oref) (at : ℕ) → Rise xs → at < length xs → oref_cmp (slice_index_or xs at x) x ≡ Equal → IsThere xs x
-unfolding IsStrictlySortedBy
-there_at [] x at rise within is = absurd (omega (arith, within))
-there_at (q ∷ xs) x zero rise within is = let e : oref_cmp x q ≡ Equal = even q x is in record { there = rw e refl; put = rw e refl }
-there_at (q ∷ xs) x (suc at) rise within is =
-    let y = slice_index_or xs at x in
-    let lt : oref_cmp q y ≡ Less = all_at (λ z. oref_cmp q z ≡ Less) xs x at rise.0 (omega (arith, within)) in
-    let g : oref_cmp x q ≡ Greater = sym (oref_total.congr y x q is) ∙ over q y lt in
-    there_behind q x xs g (there_at xs x at rise.1 (omega (arith, within)) is)
+same_there : (x : Oref) → same_name x x ≡ true
+same_there x = rw (itself (page_of x), eq-eqb x.slot x.slot refl) refl
 
--- ---- the name isn't there
+pub name_tests : (x y : Oref) → same_name x y ≡ is_at (oref_cmp x) y
+name_tests x y = by (same_name x y) (is_at (oref_cmp x) y) refl refl
+  where
+    by : (a b : Bool) → same_name x y ≡ a → is_at (oref_cmp x) y ≡ b → a ≡ b
+    by true true g h = refl
+    by false false g h = refl
+    by true false g h = sym (subst (λ (z : Oref). is_at (oref_cmp x) z ≡ true) (one-name x y g) (equal_itself x)) ∙ h
+    by false true g h = sym g ∙ subst (λ (z : Oref). same_name x z ≡ true) (tells_apart oref_exact x y h) (same_there x)
+
+-- ---- the names that are left without some
 
 -- a name below all of them
 all_below : (x q : Oref) (xs : List Oref) → oref_cmp x q ≡ Less → AllByRecursion (λ z. oref_cmp q z ≡ Less) xs → AllByRecursion (λ z. oref_cmp x z ≡ Less) xs
@@ -82,6 +85,89 @@ all_below x q (z ∷ xs) lt h = (oref_total.trans x q z lt h.0, all_below x q xs
 none_below : (x : Oref) (xs : List Oref) → AllByRecursion (λ z. oref_cmp x z ≡ Less) xs → list_any (is_at (oref_cmp x)) xs ≡ false
 none_below x [] h = refl
 none_below x (q ∷ xs) h = let lt : oref_cmp x q ≡ Less = h.0 in rw lt (none_below x xs h.1)
+
+-- without a name that isn't among them
+pub none_removed : (x : Oref) (xs : List Oref) → list_any (is_at (oref_cmp x)) xs ≡ false → filter (λ y. not (same_name x y)) xs ≡ xs
+none_removed x [] h = refl
+none_removed x (q ∷ xs) h = (elim (is_at (oref_cmp x) q) as (λ b. is_at (oref_cmp x) q ≡ b → filter (λ y. not (same_name x y)) (q ∷ xs) ≡ q ∷ xs) [
+  | true ↦ λ t. let never = rw t at h in cc
+  | false ↦ λ t. rw (name_tests x q, t) (ap (λ (ys : List Oref). q ∷ ys) (none_removed x xs (rw t at h)))
+]) refl
+
+-- without the name at a place
+removed_here : (q x : Oref) (xs : List Oref) → oref_cmp q x ≡ Equal → Rise (q ∷ xs) → xs ≡ filter (λ y. not (same_name x y)) (q ∷ xs)
+unfolding IsStrictlySortedBy
+removed_here q x xs is rise =
+    let e : q ≡ x = oref_exact q x is in
+    let none : list_any (is_at (oref_cmp x)) xs ≡ false = subst (λ (z : Oref). list_any (is_at (oref_cmp z)) xs ≡ false) e (none_below q xs rise.0) in
+    let same : same_name x q ≡ true = subst (λ (z : Oref). same_name x z ≡ true) (sym e) (same_there x) in
+    rw same (sym (none_removed x xs none))
+
+removed_behind : (q x : Oref) (xs left : List Oref) → oref_cmp x q ≡ Greater → left ≡ filter (λ y. not (same_name x y)) xs → q ∷ left ≡ filter (λ y. not (same_name x y)) (q ∷ xs)
+removed_behind q x xs left g h = rw (name_tests x q, g) (ap (λ (ys : List Oref). q ∷ ys) h)
+
+or_none : (b : Bool) → (b || false) ≡ b
+or_none true = refl
+or_none false = refl
+
+or_apart : (a b c : Bool) → (a || (b || c)) ≡ ((a || b) || c)
+or_apart true b c = refl
+or_apart false b c = refl
+
+-- where nothing is dropped, and where one more name is
+pub none_dropped : (ws : List Oref) → filter (λ (x : Oref). true) ws ≡ ws
+none_dropped [] = refl
+none_dropped (w ∷ ws) = ap (λ (l : List Oref). w ∷ l) (none_dropped ws)
+
+any_more : (y w : Oref) (zs : List Oref) → list_any (λ z. same_name z w) (zs ++ y ∷ []) ≡ (list_any (λ z. same_name z w) zs || same_name y w)
+any_more y w [] = or_none (same_name y w)
+any_more y w (z ∷ zs) = ap (λ (b : Bool). same_name z w || b) (any_more y w zs) ∙ or_apart (same_name z w) (list_any (λ z. same_name z w) zs) (same_name y w)
+
+drop_turn : (a b : Bool) (w : Oref) (p : Oref → Bool) (l m : List Oref) → p w ≡ not b → filter p l ≡ m → filter p (cond (not a) (w ∷ l) l) ≡ cond (not (a || b)) (w ∷ m) m
+drop_turn true b w p l m e h = h
+drop_turn false true w p l m e h = rw e h
+drop_turn false false w p l m e h = rw e (ap (λ (ws : List Oref). w ∷ ws) h)
+
+pub one_more_dropped : (ys : List Oref) (y : Oref) (ws : List Oref)
+    → filter (λ x. not (same_name y x)) (filter (λ x. not (list_any (λ z. same_name z x) ys)) ws) ≡ filter (λ x. not (list_any (λ z. same_name z x) (ys ++ y ∷ []))) ws
+one_more_dropped ys y [] = refl
+one_more_dropped ys y (w ∷ ws) = rw (any_more y w ys)
+    (drop_turn (list_any (λ z. same_name z w) ys) (same_name y w) w (λ x. not (same_name y x)) (filter (λ x. not (list_any (λ z. same_name z x) ys)) ws) _ refl (one_more_dropped ys y ws))
+
+pub dropped_next : (names : List Oref) (i : ℕ) (d : Oref) (ws a b : List Oref) → i < length names
+    → a ≡ filter (λ x. not (list_any (λ y. same_name y x) (take i names))) ws → b ≡ filter (λ x. not (same_name (get_or names i d) x)) a
+    → b ≡ filter (λ x. not (list_any (λ y. same_name y x) (take (i + 1) names))) ws
+dropped_next names i d ws a b within before here =
+    let e : i + 1 ≡ suc i = omega arith in
+    let step : take (i + 1) names ≡ take i names ++ get_or names i d ∷ [] = ap (λ (k : ℕ). take k names) e ∙ take-suc names i d within in
+    here
+    ∙ ap (λ (l : List Oref). filter (λ x. not (same_name (get_or names i d) x)) l) before
+    ∙ one_more_dropped (take i names) (get_or names i d) ws
+    ∙ sym (ap (λ (l : List Oref). filter (λ x. not (list_any (λ y. same_name y x) l)) ws) step)
+
+-- ---- the name is there
+
+there_behind : (q x : Oref) (xs : List Oref) (at : ℕ) → oref_cmp x q ≡ Greater → IsThere xs x at → IsThere (q ∷ xs) x (suc at)
+there_behind q x xs at g h =
+    let within = h.within in
+    record {
+      within = omega arith;
+      there = rw g h.there;
+      put = rw g (ap (λ (ys : List Oref). q ∷ ys) h.put);
+      removed = removed_behind q x xs (remove xs at) g h.removed;
+    }
+
+pub there_at : (xs : List Oref) (x : Oref) (at : ℕ) → Rise xs → at < length xs → oref_cmp (slice_index_or xs at x) x ≡ Equal → IsThere xs x at
+unfolding IsStrictlySortedBy
+there_at [] x at rise within is = absurd (omega (arith, within))
+there_at (q ∷ xs) x zero rise within is = let e : oref_cmp x q ≡ Equal = even q x is in record { within = within; there = rw e refl; put = rw e refl; removed = removed_here q x xs is rise }
+there_at (q ∷ xs) x (suc at) rise within is =
+    let y = slice_index_or xs at x in
+    let lt : oref_cmp q y ≡ Less = all_at (λ z. oref_cmp q z ≡ Less) xs x at rise.0 (omega (arith, within)) in
+    let g : oref_cmp x q ≡ Greater = sym (oref_total.congr y x q is) ∙ over q y lt in
+    there_behind q x xs at g (there_at xs x at rise.1 (omega (arith, within)) is)
+
+-- ---- the name isn't there
 
 all_insert : (P : Oref → Type 0) (xs : List Oref) (x : Oref) (at : ℕ) → AllByRecursion P xs → P x → at ≤ length xs → AllByRecursion P (insert xs at x)
 all_insert P xs x zero h p within = (p, h)
@@ -118,7 +204,7 @@ gap_at (q ∷ xs) x (suc at) rise within lower greater =
 
 -- ---- what a search answers
 
-pub found : (xs : List Oref) (x : Oref) (r : Result ℕ ℕ) → Rise xs → IsSearchInRange r (length xs) → IsBinarySearchResult (λ y. oref_cmp y x) xs r → IfOk r (λ at. IsThere xs x)
+pub found : (xs : List Oref) (x : Oref) (r : Result ℕ ℕ) → Rise xs → IsSearchInRange r (length xs) → IsBinarySearchResult (λ y. oref_cmp y x) xs r → IfOk r (λ at. IsThere xs x at)
 found xs x (Ok at) rise within position = there_at xs x at rise within (position x)
 found xs x (Err at) rise within position = tt
 

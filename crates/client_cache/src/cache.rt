@@ -312,6 +312,20 @@ impl Cache {
         }
     }
 
+    /// Gives up what the try has written of these objects. Their copies stay as they are. A page that the try has made stays,
+    /// without an object where none is left of it.
+    pub fn invalidate_written(&mut self, orefs: &Orefs)
+        ensures kept { (x : Oref) → kept self.new x ≡ kept self.old x }
+        ensures changed { (x : Oref) → changed self.new x ≡ cond (list_any (λ y. same_name y x) orefs.now) None (changed self.old x) }
+        ensures pages { pages self.new ≡ pages self.old }
+        ensures written { self.new.written ≡ filter (λ x. not (list_any (λ y. same_name y x) orefs.now)) self.old.written }
+        ensures made { self.new.made ≡ self.old.made }
+        ensures limit { self.new.limit ≡ self.old.limit }
+    {
+        self.pages.undo_all(orefs);
+        self.written.drop_all(orefs);
+    }
+
     /// Drops whole pages, the least recently used ones first, until at most as many are left as were given
     /// to `new`. It is called between tries: while something is written that isn't settled or given up, it drops
     /// nothing, so that no page of the present try goes.

@@ -1,5 +1,5 @@
 ghost use Rattle.std.specs.Map.{keys_of, lookup, remove_entry};
-ghost use Rattle.std.specs.List.{list_all};
+ghost use Rattle.std.specs.List.{list_all, list_any};
 ghost use Rattle.std.specs.Option.{option_copied, option_map_or};
 ghost use Rattle.std.specs.Prelude.{◌≡◌, ◌<◌, ℕ, MatchOption, take, [], ◌∷◌, false, true, cond, option_map, Some, None, IfOk, IfSome, IsTrue, OnOk, OnErr};
 ghost use Rattle.thor_value.specs.declared.names.Oref.{Oref};
@@ -14,7 +14,7 @@ use lru::LruCache;
 use std::alloc::Global;
 use std::marker::Model;
 use std::num::NonZeroUsize;
-use thor_value::{NoMemory, Obj, Oref, TryCopy};
+use thor_value::{NoMemory, Obj, Oref, Orefs, TryCopy};
 
 /// The pages that a client holds, in the order of their last use.
 #[derive(Drop)]
@@ -146,6 +146,17 @@ impl HeldPages {
             return;
         };
         slots.undo(oref.slot);
+    }
+
+    /// Gives up what the try has made of these objects.
+    pub fn undo_all(&mut self, orefs: &Orefs)
+        ensures kept { (x : Oref) → told kept_in self.new x ≡ told kept_in self.old x }
+        ensures written { (x : Oref) → told written_in self.new x ≡ cond (list_any (λ y. same_name y x) orefs.now) None (told written_in self.old x) }
+        ensures order { keys_of self.new ≡ keys_of self.old }
+    {
+        for oref in orefs.as_slice() {
+            self.undo(*oref);
+        }
     }
 
     /// Makes what the try has made of an object its copy.

@@ -5,10 +5,11 @@ ghost use Rattle.std.specs.Prelude.{◌≡◌, ◌<◌, ◌↔◌, ◌++◌, ◌
 ghost use Rattle.thor_value.specs.Names.{oref_cmp};
 ghost use Rattle.thor_value.specs.declared.names.Oref.{Oref};
 ghost use Rattle.client_cache.specs.NameLists.{IsBehind, IsGap, IsThere, Rise};
+ghost use Rattle.client_cache.specs.Pages.{same_name};
 
 use std::alloc::Global;
 use std::marker::Model;
-use thor_value::{NoMemory, Oref};
+use thor_value::{NoMemory, Oref, Orefs};
 
 /// Names of objects, which contracts see as a list that rises. They stand in one piece of memory, which is kept as names
 /// come and go.
@@ -32,7 +33,7 @@ impl Model for NameSet {
 /// The place of a name, or the one where it would stand.
 fn place(names: &[Oref], oref: Oref) -> Result<usize, usize>
     requires { Rise names.now }
-    ensures found { IfOk result (λ at. IsThere names.now oref) }
+    ensures found { IfOk result (λ at. IsThere names.now oref at) }
     ensures absent { IfErr result (λ at. IsGap names.now oref at) }
 {
     names.binary_search(&oref)
@@ -98,6 +99,27 @@ impl NameSet {
         ensures left { IfSome result (λ oref. (x : Oref) → list_any (is_at (oref_cmp x)) self.new ≡ cond (is_at (oref_cmp oref) x) false (list_any (is_at (oref_cmp x)) self.old)) }
     {
         self.names.pop()
+    }
+
+    /// Takes a name out, where it is there.
+    pub fn remove(&mut self, oref: Oref)
+        ensures { self.new ≡ filter (λ x. not (same_name oref x)) self.old }
+    {
+        match place(self.names.as_slice(), oref) {
+            Ok(at) => {
+                self.names.remove(at);
+            }
+            Err(_) => {}
+        }
+    }
+
+    /// Drops these names.
+    pub fn drop_all(&mut self, orefs: &Orefs)
+        ensures { self.new ≡ filter (λ x. not (list_any (λ y. same_name y x) orefs.now)) self.old }
+    {
+        for oref in orefs.as_slice() {
+            self.remove(*oref);
+        }
     }
 
     /// Drops the names of a repository.

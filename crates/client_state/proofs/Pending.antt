@@ -19,7 +19,7 @@ use Rattle.client_state.specs.declared.transaction.Sent.{Sent}
 use Rattle.message_outbox.specs.declared.answers.At.{At}
 use Rattle.message_outbox.specs.declared.message.Message.TheVariants.{Grant, Invalid, Page, Upgrade}
 use Rattle.message_outbox.specs.declared.message.Message.{Message}
-use Rattle.paused_eval.specs.Copies.{last_of}
+use Rattle.paused_eval.specs.Copies.{AreAmong, last_of}
 use Rattle.port.specs.Views.{View}
 use Rattle.std.proofs.Common.{Bool, List, ap, cond, false, inl, inr, nat_eq, refl, subst, sym, true, ◌≡◌, ◌≢◌, ◌∙◌, ℕ}
 use Rattle.std.proofs.lemmas.Bool.{cases_eq, eqb-false, eqb-true}
@@ -38,6 +38,15 @@ still_written a b links stay at w x = by (w x)
     by : (changed a.cache.cache x ≡ None) ⊎ ((x.repo ≡ at.repo) × InSession at a) → (changed b.cache.cache x ≡ None) ⊎ ((x.repo ≡ at.repo) × InSession at b)
     by (inl none) = inl (stay x ∙ none)
     by (inr h) = inr (h.0, ap (λ (ls : List Link). session_in at.repo (slice_get ls at.repo)) links ∙ h.1)
+
+-- the links stay, and what is written stays or goes
+pub less_written : (a b : Held) → b.links.items ≡ a.links.items → AreAmong (changed a.cache.cache) (changed b.cache.cache) → (at : At) → IsWrittenIn at a → IsWrittenIn at b
+less_written a b links less at w x = by (w x) (less x)
+  where
+    by : (changed a.cache.cache x ≡ None) ⊎ ((x.repo ≡ at.repo) × InSession at a) → (changed b.cache.cache x ≡ changed a.cache.cache x) ⊎ (changed b.cache.cache x ≡ None) → (changed b.cache.cache x ≡ None) ⊎ ((x.repo ≡ at.repo) × InSession at b)
+    by (inl none) (inl same) = inl (same ∙ none)
+    by (inl none) (inr gone) = inl gone
+    by (inr h) l = inr (h.0, ap (λ (ls : List Link). session_in at.repo (slice_get ls at.repo)) links ∙ h.1)
 
 -- what a request that commits alone writes lies in the session by which it is sent
 pub written_there : (at : At) (writes : List (Oref × Obj)) (a : Held) → InSession at a → WritesThere at.repo writes a.cache.cache → IsWrittenIn at a

@@ -1,7 +1,9 @@
 -- What a try has written, and what the shares of its transaction write.
 use Rattle.client_cache.specs.Copies.{Contents, changed}
 use Rattle.client_state.specs.Sending.{CarriesSessions, IsOfShare, carried, in_session}
-use Rattle.client_state.specs.Writing.{CameStays, DrewStays, PhaseWrites, WritesShares, WritesStay, WritesThere, shares_write, unsent}
+use Rattle.client_cache.specs.Pages.{same_name}
+use Rattle.client_state.specs.Taking.{WrittenWithout}
+use Rattle.client_state.specs.Writing.{CameStays, DrewStays, PhaseWrites, WritesNone, WritesShares, WritesStay, WritesThere, shares_write, unsent}
 use Rattle.client_state.specs.declared.calls.Came.TheVariants as came
 use Rattle.client_state.specs.declared.calls.Came.{Came}
 use Rattle.client_state.specs.declared.calls.Drew.TheVariants as drew
@@ -14,12 +16,12 @@ use Rattle.client_state.specs.declared.requests.Sending.{Sending}
 use Rattle.client_state.specs.declared.transaction.Share.{Share}
 use Rattle.client_state.specs.declared.transaction.Transaction.{Transaction}
 use Rattle.item_progress.specs.declared.news.Learnt.{Learnt}
-use Rattle.paused_eval.specs.Copies.{last_of}
+use Rattle.paused_eval.specs.Copies.{AreAmong, last_of}
 use Rattle.paused_eval.specs.Writing.{WrittenBy}
-use Rattle.std.proofs.Common.{List, [], ap, cond, nat_eq, refl, subst, suc, sym, zero, ℕ, ℤ, ◌∷◌, ◌≡◌, ◌∙◌}
+use Rattle.std.proofs.Common.{Bool, List, [], ap, cond, false, inl, inr, nat_eq, refl, subst, suc, sym, true, zero, ℕ, ℤ, ◌∷◌, ◌≡◌, ◌∙◌}
 use Rattle.std.proofs.lemmas.Option.{same_Some}
-use Rattle.std.specs.List.{slice_get}
-use Rattle.std.specs.Prelude.{Err, IfOk, None, Ok, Option, Result, Some}
+use Rattle.std.specs.List.{list_any, slice_get}
+use Rattle.std.specs.Prelude.{Err, IfOk, None, Ok, Option, Result, Some, ◌⊎◌}
 use Rattle.thor_value.specs.declared.memory.NoMemory.{NoMemory}
 use Rattle.thor_value.specs.declared.names.Oref.{Oref}
 use Rattle.thor_value.specs.declared.names.Ts.{Ts}
@@ -66,6 +68,17 @@ nothing_unsent p c h = record { all = λ shares e. let both : None ≡ Some shar
 
 pub still_writes : (p q : Phase) (c d : Contents) → unsent q ≡ unsent p → WritesStay c d → PhaseWrites p c → PhaseWrites q d
 still_writes p q c d u stay w = record { all = λ shares e x. stay x ∙ w.all shares (sym u ∙ e) x }
+
+-- what the try has written of some objects has gone: nothing of them is left, and nothing came
+pub none_without : (names : List Oref) (c d : Contents) → WrittenWithout names c d → WritesNone names d
+none_without names c d gone x named = gone x ∙ ap (λ (t : Bool). cond t None (changed c x)) named
+
+pub less_without : (names : List Oref) (b c d : Contents) → WritesStay b c → WrittenWithout names c d → AreAmong (changed b) (changed d)
+less_without names b c d stay gone x = by (list_any (λ y. same_name y x) names) (gone x)
+  where
+    by : (t : Bool) → changed d x ≡ cond t None (changed c x) → (changed d x ≡ changed b x) ⊎ (changed d x ≡ None)
+    by true e = inr e
+    by false e = inl (e ∙ stay x)
 
 pub is_evaluated : (t : Transaction) (c : Contents) → WritesShares t.shares.items c → PhaseWrites (phase.Evaluated t) c
 is_evaluated t c w = record { all = λ shares e x. w x ∙ ap (λ (ss : List Share). shares_write ss x) (same_Some t.shares.items shares e) }

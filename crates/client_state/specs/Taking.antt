@@ -1,5 +1,5 @@
 -- What a client makes of a message that it has taken (this project's).
-use Rattle.client_cache.specs.Copies.{kept}
+use Rattle.client_cache.specs.Copies.{changed, kept}
 use Rattle.client_cache.specs.Pages.{on, page_of, same_name, same_page}
 use Rattle.client_cache.specs.Placing.{IsObjectPage, IsPageOf}
 use Rattle.client_cache.specs.Copies.{Contents}
@@ -34,6 +34,10 @@ links_behind (Err refusal) repo links = links
 -- no copy is left of these objects, and all others stay
 abbrev pub Without : List Oref → Contents → Contents → Type 0
 Without names old new = (x : Oref) → kept new x ≡ cond (list_any (λ y. same_name y x) names) None (kept old x)
+
+-- nothing is left of what the try has written of these objects, and all else that it has written stays
+abbrev pub WrittenWithout : List Oref → Contents → Contents → Type 0
+WrittenWithout names old new = (x : Oref) → changed new x ≡ cond (list_any (λ y. same_name y x) names) None (changed old x)
 
 -- a page's objects come in the place of the copies of it, where its bytes spell a page of objects
 abbrev pub BringsPage : ℕ → ℕ → List ℕ → Contents → Contents → Type 0

@@ -1,5 +1,6 @@
 -- What the shares of a transaction write, and that it is what the try has written (this project's).
 use Rattle.client_cache.specs.Copies.{Contents, changed, kept}
+use Rattle.client_cache.specs.Pages.{same_name}
 use Rattle.client_state.specs.declared.calls.Came.TheVariants as came
 use Rattle.client_state.specs.declared.calls.Came.{Came}
 use Rattle.client_state.specs.declared.calls.Drew.TheVariants as drew
@@ -10,6 +11,7 @@ use Rattle.client_state.specs.declared.transaction.Share.{Share}
 use Rattle.commit_log.specs.declared.request.Request.{Request}
 use Rattle.local_history.specs.Requests.{has_created, has_written}
 use Rattle.paused_eval.specs.Copies.{last_of}
+use Rattle.std.specs.List.{list_any}
 use Rattle.std.specs.Prelude.{Bool, List, None, Option, Some, [], cond, false, is_some, nat_eq, slice_get, slice_set, true, ℕ, ◌++◌, ◌<◌, ◌∷◌, ◌≡◌, ◌||◌}
 use Rattle.thor_value.specs.declared.names.Oref.{Oref}
 use Rattle.thor_value.specs.declared.values.Obj.{Obj}
@@ -92,6 +94,22 @@ unsent (Evaluated transaction) = Some transaction.shares.items
 unsent (Drawn t transaction) = Some transaction.shares.items
 unsent (Preparing t transaction coordinator prepared) = None
 unsent (Asking sent answers) = None
+
+-- Whether a transaction was sent to a repository to be committed or prepared, and the client knows no verdict: then others may
+-- finish it there.
+abbrev pub has_sent_to : ℕ → Phase → Bool
+has_sent_to repo Between = false
+has_sent_to repo Beginning = false
+has_sent_to repo (Evaluating run awaited) = false
+has_sent_to repo (Transforming run transform) = false
+has_sent_to repo (Evaluated transaction) = false
+has_sent_to repo (Drawn t transaction) = false
+has_sent_to repo (Preparing t transaction coordinator prepared) = nat_eq coordinator.repo repo || list_any (λ r. nat_eq r repo) prepared
+has_sent_to repo (Asking sent answers) = true
+
+-- The try has written none of these objects.
+abbrev pub WritesNone : List Oref → Contents → Type 0
+WritesNone names c = (x : Oref) → list_any (λ y. same_name y x) names ≡ true → changed c x ≡ None
 
 -- Where a transaction was evaluated and nothing of it is sent yet, the try has written what it writes.
 pub record PhaseWrites (phase : Phase) (c : Contents) : Type 0 where

@@ -405,6 +405,7 @@ impl Held {
 
     /// What a try has changed is given up, and the try has ended.
     pub fn give_up(&mut self)
+        ensures none { (x : Oref) → changed self.new.cache.cache x ≡ None }
         ensures links { self.new.links ≡ self.old.links }
         ensures less { HoldsLess self.old self.new }
         ensures bounds { KeepsBounds self.old self.new }

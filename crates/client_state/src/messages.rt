@@ -1,8 +1,9 @@
 //! How messages are taken, and what they make of the copies.
 
+ghost use Rattle.client_state.specs.Calling.{CopiesStay};
 ghost use Rattle.client_state.specs.Learning.{KeepsBounds};
 ghost use Rattle.client_state.specs.Links.{at_repo};
-ghost use Rattle.client_state.specs.Taking.{Without, behind, links_behind, took};
+ghost use Rattle.client_state.specs.Taking.{Without, WrittenWithout, behind, links_behind, took};
 ghost use Rattle.client_state.specs.Writing.{WritesStay};
 ghost use Rattle.port.specs.Works.{Does, ReceiveWork};
 ghost use Rattle.std.specs.Prelude.{true, ◌≡◌};
@@ -75,5 +76,17 @@ impl Held {
         ensures bounds { KeepsBounds self.old self.new }
     {
         self.cache.invalidate(orefs);
+    }
+
+    /// Objects were written by others behind what was sent of the try's transaction: what the try has written of them is
+    /// given up, and nothing else.
+    pub fn drop_written(&mut self, orefs: &Orefs)
+        ensures copies { CopiesStay self.old.cache.cache self.new.cache.cache }
+        ensures written { WrittenWithout orefs.now self.old.cache.cache self.new.cache.cache }
+        ensures links { self.new.links ≡ self.old.links }
+        ensures client { self.new.client ≡ self.old.client }
+        ensures bounds { KeepsBounds self.old self.new }
+    {
+        self.cache.invalidate_written(orefs);
     }
 }

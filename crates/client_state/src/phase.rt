@@ -4,7 +4,7 @@ ghost use Rattle.client_state.specs.Owing.{asking_in, calls_in, calls_of_abort};
 ghost use Rattle.client_state.specs.Pending.{pending_in};
 ghost use Rattle.client_cache.specs.Copies.{Contents};
 ghost use Rattle.client_state.specs.Sending.{DrawsPhase};
-ghost use Rattle.client_state.specs.Writing.{PhaseWrites, unsent};
+ghost use Rattle.client_state.specs.Writing.{PhaseWrites, has_sent_to, unsent};
 ghost use Rattle.client_state.specs.declared.phase.Phase.TheVariants as phase;
 ghost use Rattle.std.specs.Prelude.{Contains, IfSome, IsTrue, None, not, ℕ, ◌≡◌, ◌≤◌};
 
@@ -206,6 +206,28 @@ impl Phase {
             | Phase::Transforming { .. }
             | Phase::Evaluated { .. }
             | Phase::Drawn { .. } => true,
+        }
+    }
+
+    /// Whether a transaction was sent to a repository to be committed or prepared, and the client knows no verdict: then others
+    /// may finish it there.
+    pub fn has_sent(&self, repo: u8) -> bool
+        ensures sent { result ≡ has_sent_to repo self.now }
+        ensures unsent { IsTrue result → unsent self.now ≡ None }
+    {
+        match self {
+            Phase::Asking { .. } => true,
+            Phase::Preparing {
+                coordinator,
+                prepared,
+                ..
+            } => coordinator.repo == repo || prepared.as_slice().contains(&repo),
+            Phase::Between
+            | Phase::Beginning
+            | Phase::Evaluating { .. }
+            | Phase::Transforming { .. }
+            | Phase::Evaluated { .. }
+            | Phase::Drawn { .. } => false,
         }
     }
 

@@ -17,12 +17,17 @@ const AHEAD: u64 = 1 << 18;
 /// The file of a log's disk. Zeros stand behind the disk's last byte while it is open, so that few of the writes change
 /// the file's length, which a sync would have to write too. It is cut to its disk's length when it is let go; where
 /// that doesn't come about, as when the program is killed, the zeros are taken for the disk's.
+///
+/// A log's header may be open only on a disk of two bytes or more, so that the first byte of a new log, torn by a crash,
+/// opens nothing. So the file is made longer than its disk only where that byte has been synced.
 struct LogFile {
     file: File,
     /// How many bytes the disk has.
     len: u64,
-    /// How many bytes the file has.
+    /// How many bytes the file was made to have, or the disk had when it was opened.
     room: u64,
+    /// Whether the disk's first byte has been synced since the file was opened.
+    begun: bool,
 }
 
 impl LogFile {
@@ -33,6 +38,7 @@ impl LogFile {
             file,
             len,
             room: len,
+            begun: false,
         })
     }
 
@@ -46,7 +52,9 @@ impl LogFile {
 
     fn write(&mut self, at: u64, bytes: &[u8]) -> Option<()> {
         let end = at.saturating_add(bytes.len() as u64);
-        self.lengthen(end);
+        if self.begun {
+            self.lengthen(end);
+        }
         self.file.write_all_at(bytes, at).ok()?;
         self.len = self.len.max(end);
         Some(())
@@ -59,11 +67,30 @@ impl LogFile {
             self.room = room;
         }
     }
+
+    fn sync(&mut self) -> Option<()> {
+        self.file.sync_data().ok()?;
+        self.begun = 0 < self.len;
+        Some(())
+    }
+
+    /// Cuts the file to its disk's length: behind a write that failed it may be longer, with a disk of one byte.
+    fn restart(&mut self) -> Option<()> {
+        self.file.set_len(self.len).ok()?;
+        self.room = self.len;
+        self.begun = false;
+        Some(())
+    }
 }
 
 impl Drop for LogFile {
     fn drop(self) {
-        let LogFile { file, len, room } = self;
+        let LogFile {
+            file,
+            len,
+            room,
+            begun: _,
+        } = self;
         if len < room {
             let _ = file.set_len(len);
         }
@@ -101,14 +128,6 @@ impl<C> FileParts<C> {
             pages: open_file(rt, pages),
             counts: Counts::new(),
             clock,
-        }
-    }
-
-    fn file(&self, disk: u8) -> Option<&File> {
-        match disk {
-            0 => Some(&self.log0.as_ref()?.file),
-            1 => Some(&self.log1.as_ref()?.file),
-            _ => self.pages.as_ref(),
         }
     }
 
@@ -162,8 +181,32 @@ fn write(
     }
 }
 
-fn sync(file: Option<&File>) -> Option<()> {
-    file?.sync_data().ok()
+/// Starts the file of a disk anew: a log's is cut to its disk's length.
+fn restart(
+    disk: u8,
+    log0: &mut Option<LogFile>,
+    log1: &mut Option<LogFile>,
+    pages: &Option<File>,
+) -> Option<()> {
+    match disk {
+        0 => log0.as_mut()?.restart(),
+        1 => log1.as_mut()?.restart(),
+        _ => pages.as_ref().map(|_| ()),
+    }
+}
+
+/// Syncs the file of a disk.
+fn sync(
+    disk: u8,
+    log0: &mut Option<LogFile>,
+    log1: &mut Option<LogFile>,
+    pages: &Option<File>,
+) -> Option<()> {
+    match disk {
+        0 => log0.as_mut()?.sync(),
+        1 => log1.as_mut()?.sync(),
+        _ => pages.as_ref()?.sync_data().ok(),
+    }
 }
 
 fn file_len(file: Option<&File>) -> Option<u64> {
@@ -204,7 +247,7 @@ impl<C: Clock> Parts for FileParts<C> {
         ensures counts { counts_of self.new ≡ counted (counts_of self.old) disk (is_err result) }
         ensures no_memory { IsErrOf result Outage.NoMemory → ⊥ }
     {
-        let answer = sync(self.file(disk));
+        let answer = sync(disk, &mut self.log0, &mut self.log1, &self.pages);
         self.counts.after(disk, answer)
     }
 
@@ -219,7 +262,7 @@ impl<C: Clock> Parts for FileParts<C> {
         self.counts.after(disk, answer)
     }
 
-    /// Keeps the open file as it is, and ignores the pick.
+    /// Keeps the open file with all its disk's bytes, and ignores the pick.
     #[tactic(auto, using(crate::proofs::FileCalls::untold_restart))]
     fn restart(&mut self, disk: u8, _pick: u64) -> Result<(), Outage>
         requires { disk < 3 }
@@ -227,7 +270,7 @@ impl<C: Clock> Parts for FileParts<C> {
         ensures counts { counts_of self.new ≡ counted (counts_of self.old) disk (is_err result) }
         ensures no_memory { IsErrOf result Outage.NoMemory → ⊥ }
     {
-        let answer = self.file(disk).map(|_| ());
+        let answer = restart(disk, &mut self.log0, &mut self.log1, &self.pages);
         self.counts.after(disk, answer)
     }
 

@@ -7,21 +7,24 @@ use Rattle.client_state.specs.Calling.{CopiesRefused, links_refused}
 use Rattle.client_state.specs.Links.{at_repo, waiting, stopped}
 use Rattle.client_state.specs.Moving.{CopiesTaken, HoldsLess, InSession, Loses, Moves, ReceiveRefused, ReceiveStopped, Received, ReceivedNone, StopsWaiting}
 use Rattle.client_state.specs.Pending.{MovesSo, MovesSoIf, Pending, StaysPending}
-use Rattle.client_state.specs.Receiving.{EndsReceive, IsNotGone, LosesThere, ReceivesNone, StopsThere, TakesCopies}
+use Rattle.client_state.specs.Receiving.{ByMessage, ByNone, ByRefusal, EndsReceive, GaveUpIf, GivesUp, IsNotGone, LosesThere, ReceivesNone, StopsThere, TakesCopies}
 use Rattle.client_state.specs.Taking.{BringsPage, links_behind, took}
 use Rattle.client_state.specs.declared.held.Held.{Held}
 use Rattle.client_state.specs.declared.link.Link.{Link}
 use Rattle.client_state.specs.declared.link.Waits.TheVariants.{Idle}
+use Rattle.client_state.specs.declared.phase.Phase.{Phase}
+use Rattle.front_end.specs.declared.client.Client.{Client}
 use Rattle.message_outbox.specs.declared.answers.At.{At}
 use Rattle.message_outbox.specs.declared.message.Message.TheVariants.{Grant}
 use Rattle.message_outbox.specs.declared.message.Message.{Message}
 use Rattle.page_format.specs.Pages as page
 use Rattle.paused_eval.specs.Copies.{AreAmong}
+use Rattle.port.specs.Acting.{RefusesReceive, Takes}
 use Rattle.port.specs.Views.{Calm, Came, Halted, MayCome, Unsettled, View}
 use Rattle.port.specs.Works.{Answered, Does, IsOutage, ReceiveWork}
 use Rattle.refusal_reasons.specs.declared.reason.Reason.TheVariants as reasons
 use Rattle.refusal_reasons.specs.declared.reason.Reason.{Reason}
-use Rattle.std.proofs.Common.{Bool, List, ap, inl, inr, refl, subst, true, ◌≡◌, ◌∙◌, ℕ}
+use Rattle.std.proofs.Common.{Bool, List, ap, inl, inr, refl, subst, sym, true, ◌≡◌, ◌∙◌, ℕ}
 use Rattle.std.specs.Option.{option_map}
 use Rattle.std.specs.Prelude.{Err, None, Ok, OnOk, Option, Result, Some, slice_get}
 use Rattle.thor_value.specs.FiniteMap.{empty}
@@ -161,6 +164,28 @@ module _ (old new : View) (at : At) (before mid after : Held) (rest : mid ≡ re
   pub by_refusal : (shows : Bool) (k : Refusal) → (shows ≡ true → Does {X = Option Message} old new at.repo (Err k) (ReceiveWork at.session (Err k))) → mid.links.items ≡ before.links.items
       → EndsReceive k at.repo mid after → (p z : Pending) → StaysPending p z mid after → MovesSoIf shows old new before after p z
   by_refusal shows k call links e p z stays = λ s. refused_pends k (call s) links e p z (behind_taken p z None links stays)
+
+-- ---- what is given up
+
+module _ (shows : Bool) (old new : View) (at : At) (phase : Phase) (after : Contents) where
+  pub gave_message : (o : Option Message) (m : Message) → o ≡ Some m → (shows ≡ true → Does {X = Option Message} old new at.repo (Ok o) (ReceiveWork at.session (Ok o)))
+      → GivesUp at.repo m phase after → GaveUpIf shows old new at.repo phase after
+  gave_message o m is call gives = λ s. ByMessage m (Takes at.session (subst (λ (x : Option Message). Does {X = Option Message} old new at.repo (Ok x) (ReceiveWork at.session (Ok x))) is (call s))) gives
+
+  pub gave_none : (o : Option Message) → o ≡ None → (shows ≡ true → Does {X = Option Message} old new at.repo (Ok o) (ReceiveWork at.session (Ok o))) → GaveUpIf shows old new at.repo phase after
+  gave_none o is call = λ s. ByNone at.session (subst (λ (x : Option Message). Does {X = Option Message} old new at.repo (Ok x) (ReceiveWork at.session (Ok x))) is (call s))
+
+  pub gave_refusal : (k : Refusal) → (shows ≡ true → Does {X = Option Message} old new at.repo (Err k) (ReceiveWork at.session (Err k))) → GaveUpIf shows old new at.repo phase after
+  gave_refusal k call = λ s. ByRefusal k (RefusesReceive at.session (call s))
+
+-- the same of a client that is the one before, and of its repository by another name
+pub gave_down : {T E : Type 0} (r : Result T E) (shows : Bool) (old new : View) (repo : ℕ) (phase : Phase) (a b : Client) → b ≡ a
+    → GaveUpIf shows old new repo phase a.held.cache.cache → OnOk r (GaveUpIf shows old new repo phase b.held.cache.cache)
+gave_down r shows old new repo phase a b same gives = whenever r (subst (λ (k : Client). GaveUpIf shows old new repo phase k.held.cache.cache) (sym same) gives)
+
+pub gave_here : {T E : Type 0} (r : Result T E) (shows : Bool) (old new : View) (repo other : ℕ) (phase : Phase) (after : Contents) → repo ≡ other
+    → OnOk r (GaveUpIf shows old new other phase after) → OnOk r (GaveUpIf shows old new repo phase after)
+gave_here r shows old new repo other phase after same gives = subst (λ (n : ℕ). OnOk r (GaveUpIf shows old new n phase after)) (sym same) gives
 
 -- none waits
 pub no_message : (shows : Bool) (old new : View) (at : At) (before mid : Held) → mid ≡ record before { links = mid.links } → (o : Option Message) → o ≡ None

@@ -49,6 +49,7 @@ impl FrontEnd {
     ghost use Rattle.client_state.specs.Moving.{InSession, MovesIf};
     ghost use Rattle.client_state.specs.Owing.{asking_in};
     ghost use Rattle.client_state.specs.Pending.{MovesSoIf};
+    ghost use Rattle.client_state.specs.Receiving.{GaveUpIf};
     ghost use Rattle.front_end.specs.Moving.{GoesOn, Keeps, MovesOn, course_of, held_of, left_of, pending_of, standing_of, steps_left, tries_of, uncounted};
     ghost use Rattle.front_end.specs.Rules.{MayFollow};
     ghost use Rattle.front_end.specs.Showing.{GoesShown, ItemsShown};
@@ -268,6 +269,7 @@ impl FrontEnd {
         ensures shown { ItemsShown Q.shows (Q.view port.old) (Q.view port.new) opened.now.repos self.old self.new }
         ensures moves { OnOk result (MovesIf Q.shows (Q.view port.old) (Q.view port.new) (held_of self.old) (held_of self.new)) }
         ensures pends { OnOk result (MovesSoIf Q.shows (Q.view port.old) (Q.view port.new) (held_of self.old) (held_of self.new) (pending_of self.old) (pending_of self.new)) }
+        ensures gives_up { OnOk result (GaveUpIf Q.shows (Q.view port.old) (Q.view port.new) repo self.old.client.phase (held_of self.new).cache.cache) }
         ensures rises { Rises (held_of self.old) (held_of self.new) }
     {
         match self.client.held.at(repo) {
@@ -284,6 +286,7 @@ impl FrontEnd {
         ensures acts { ActsIf Q.shows (Q.view port.old) (Q.view port.new) }
         ensures shown { ItemsShown Q.shows (Q.view port.old) (Q.view port.new) opened.now.repos self.old self.new }
         ensures moves { InSession at (held_of self.old) → OnOk result (MovesSoIf Q.shows (Q.view port.old) (Q.view port.new) (held_of self.old) (held_of self.new) (pending_of self.old) (pending_of self.new)) }
+        ensures gives_up { OnOk result (GaveUpIf Q.shows (Q.view port.old) (Q.view port.new) at.repo self.old.client.phase (held_of self.new).cache.cache) }
         ensures rises { Rises (held_of self.old) (held_of self.new) }
     {
         let news = self.client.receive_delivered(port, opened, at)?;

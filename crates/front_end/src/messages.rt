@@ -2,16 +2,20 @@
 
 ghost use Rattle.client_state.specs.Pending.{MovesSoIf, NonePending, StaysPending, pending_in};
 ghost use Rattle.front_end.specs.Writing.{ClientWrites};
-ghost use Rattle.client_state.specs.Learning.{Rises};
+ghost use Rattle.client_cache.specs.Copies.{changed};
+ghost use Rattle.client_state.specs.Learning.{KeepsBounds, Rises};
 ghost use Rattle.client_state.specs.Moving.{InSession, Loses};
-ghost use Rattle.client_state.specs.Receiving.{EndsReceive, IsNotGone, ReceivesNone, TakesCopies};
+ghost use Rattle.client_state.specs.Receiving.{EndsReceive, GaveUpIf, GivesUp, IsNotGone, ReceivesNone, TakesCopies};
+ghost use Rattle.client_state.specs.Taking.{Without};
+ghost use Rattle.client_state.specs.Writing.{WritesNone, has_sent_to};
+ghost use Rattle.paused_eval.specs.Copies.{AreAmong};
 ghost use Rattle.front_end.specs.Showing.{NewsShown, ShownIf, SomeShownIf};
 ghost use Rattle.port.specs.Acting.{ActsIf, IsTaken, Refuses};
 ghost use Rattle.port.specs.Views.{View};
 ghost use Rattle.front_end.specs.Moving.{uncounted};
 ghost use Rattle.message_outbox.specs.declared.message.Message.TheVariants as message;
 ghost use Rattle.item_progress.specs.declared.news.News.TheVariants as news;
-ghost use Rattle.std.specs.Prelude.{IfOk, IsTrue, List, None, OnOk, not, ℕ, ◌≡◌, ◌≤◌};
+ghost use Rattle.std.specs.Prelude.{IfOk, IsTrue, List, None, OnOk, not, true, ℕ, ◌≡◌, ◌≤◌};
 
 use crate::client::Client;
 use client_state::cause_of;
@@ -46,6 +50,7 @@ impl Client {
         ensures moves { InSession at self.old.held → OnOk result (MovesSoIf Q.shows (Q.view port.old) (Q.view port.new) self.old.held self.new.held (pending_in self.old.phase) (pending_in self.new.phase)) }
         ensures none { IfOk result (λ some. some ≡ None → ReceivesNone Q.shows (Q.view port.old) (Q.view port.new) at self.old.held self.new.held) }
         ensures still { IfOk result (λ some. some ≡ None → self.new.phase ≡ self.old.phase) }
+        ensures gives_up { OnOk result (GaveUpIf Q.shows (Q.view port.old) (Q.view port.new) at.repo self.old.phase self.new.held.cache.cache) }
         ensures writes { ClientWrites self.old → ClientWrites self.new }
         ensures rises { Rises self.old.held self.new.held }
     {
@@ -98,6 +103,7 @@ impl Client {
         ensures acts { ActsIf Q.shows (Q.view port.old) (Q.view port.new) }
         ensures shown { ShownIf Q.shows (Q.view port.old) (Q.view port.new) opened.now.repos result }
         ensures moves { InSession at self.old.held → OnOk result (MovesSoIf Q.shows (Q.view port.old) (Q.view port.new) self.old.held self.new.held (pending_in self.old.phase) (pending_in self.new.phase)) }
+        ensures gives_up { OnOk result (GaveUpIf Q.shows (Q.view port.old) (Q.view port.new) at.repo self.old.phase self.new.held.cache.cache) }
         ensures writes { ClientWrites self.old → ClientWrites self.new }
         ensures rises { Rises self.old.held self.new.held }
     {
@@ -152,6 +158,7 @@ impl Client {
         ensures owed { OnOk result ((tries : ℕ) → uncounted tries self.new ≤ uncounted tries self.old) }
         ensures shown { IfOk result (λ news. (old new : View) (repos : ℕ) → IsTaken old new repo message → NewsShown old new repos news) }
         ensures takes { OnOk result (TakesCopies repo message self.old.held self.new.held) }
+        ensures gives_up { OnOk result (GivesUp repo message self.old.phase self.new.held.cache.cache) }
         ensures stays { OnOk result (StaysPending (pending_in self.old.phase) (pending_in self.new.phase) self.old.held self.new.held) }
         ensures writes { ClientWrites self.old → ClientWrites self.new }
         ensures rises { Rises self.old.held self.new.held }
@@ -159,7 +166,7 @@ impl Client {
         match message {
             Message::Page { page, bytes, .. } => self.take_page(repo, page, &bytes),
             Message::Grant { page, .. } => self.take_grant(repo, page),
-            Message::Invalid { orefs, place } => Ok(self.take_invalid(&orefs, place)),
+            Message::Invalid { orefs, place } => Ok(self.take_invalid(repo, &orefs, place)),
             Message::Upgrade { number, .. } => Ok(self.take_upgrade(opened, number)),
         }
     }
@@ -199,20 +206,40 @@ impl Client {
         Ok(News::Nothing)
     }
 
-    /// Objects were written by others. A try that has read one of them ends.
-    fn take_invalid(&mut self, orefs: &Orefs, place: u64) -> News
+    /// Objects were written by others. A try that has read one of them ends. Where its transaction was sent to their repository, what
+    /// it has written of them is given up: others have finished it there, and written them behind it.
+    fn take_invalid(&mut self, repo: u8, orefs: &Orefs, place: u64) -> News
         ensures owed { (tries : ℕ) → uncounted tries self.new ≤ uncounted tries self.old }
         ensures shown { (old new : View) (repos : ℕ) → (repo : ℕ) → IsTaken old new repo (message.Invalid orefs.now place) → NewsShown old new repos result }
         ensures takes { (repo : ℕ) → TakesCopies repo (message.Invalid orefs.now place) self.old.held self.new.held }
+        ensures gives_up { GivesUp repo (message.Invalid orefs.now place) self.old.phase self.new.held.cache.cache }
         ensures stays { StaysPending (pending_in self.old.phase) (pending_in self.new.phase) self.old.held self.new.held }
         ensures writes { ClientWrites self.old → ClientWrites self.new }
         ensures rises { Rises self.old.held self.new.held }
     {
-        self.held.drop_copies(orefs);
+        self.drop_named(repo, orefs);
         match self.phase.first_read(orefs) {
             Some(oref) => self.end_try(Cause::Reason(Reason::Stale { oref, place })),
             None => News::Nothing,
         }
+    }
+
+    /// Drops the copies of objects of a repository, and what the try has written of them where its transaction was sent there.
+    fn drop_named(&mut self, repo: u8, orefs: &Orefs)
+        ensures copies { Without orefs.now self.old.held.cache.cache self.new.held.cache.cache }
+        ensures fewer { AreAmong (changed self.old.held.cache.cache) (changed self.new.held.cache.cache) }
+        ensures none { has_sent_to repo self.old.phase ≡ true → WritesNone orefs.now self.new.held.cache.cache }
+        ensures links { self.new.held.links ≡ self.old.held.links }
+        ensures client { self.new.held.client ≡ self.old.held.client }
+        ensures bounds { KeepsBounds self.old.held self.new.held }
+        ensures rest { self.new ≡ record self.old { held = self.new.held } }
+        ensures writes { ClientWrites self.old → ClientWrites self.new }
+    {
+        self.held.drop_copies(orefs);
+        if !self.phase.has_sent(repo) {
+            return;
+        }
+        self.held.drop_written(orefs);
     }
 
     /// An upgrade was installed. Where it is the next one, a running try ends.

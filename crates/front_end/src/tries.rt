@@ -2,7 +2,7 @@
 
 ghost use Rattle.client_state.specs.Pending.{NonePending, StaysPending, pending_in};
 ghost use Rattle.client_state.specs.Writing.{CameStays, PhaseWrites};
-ghost use Rattle.client_cache.specs.Copies.{Contents};
+ghost use Rattle.client_cache.specs.Copies.{Contents, changed};
 ghost use Rattle.front_end.specs.Writing.{ClientWrites};
 ghost use Rattle.client_state.specs.Learning.{KeepsBounds, Rises, floor_learnt, links_learnt};
 ghost use Rattle.client_state.specs.Moving.{HoldsLess, Learns, StopsWaiting};
@@ -13,7 +13,8 @@ ghost use Rattle.front_end.specs.Showing.{NewsShown};
 ghost use Rattle.item_progress.specs.declared.news.News.TheVariants as news;
 ghost use Rattle.port.specs.Acting.{Refuses};
 ghost use Rattle.port.specs.Views.{View};
-ghost use Rattle.std.specs.Prelude.{IfOk, OnOk, ℕ, ◌≡◌, ◌≤◌};
+ghost use Rattle.std.specs.Prelude.{IfOk, None, OnOk, ℕ, ◌≡◌, ◌≤◌};
+ghost use Rattle.thor_value.specs.declared.names.Oref.{Oref};
 
 use crate::client::Client;
 use client_state::{Came, Helping, Phase, cause_of};
@@ -101,6 +102,7 @@ impl Client {
     /// aborted.
     pub fn end_try(&mut self, cause: Cause) -> News
         ensures news { result ≡ news.TryEnded cause }
+        ensures none { (x : Oref) → changed self.new.held.cache.cache x ≡ None }
         ensures links { self.new.held.links ≡ self.old.held.links }
         ensures less { HoldsLess self.old.held self.new.held }
         ensures writes { ClientWrites self.new }

@@ -185,15 +185,16 @@ within_others : (b : Bool) (ch : Option Obj) → is_some (cond b None ch) ≡ tr
 within_others true ch h = cc
 within_others false ch h = h
 
-pub others_tied : (repo : ℕ) (c d : Contents) → Tied c → ((x : Oref) → changed d x ≡ cond (nat_eq x.repo repo) None (changed c x))
-    → d.written ≡ filter (λ x. not (nat_eq x.repo repo)) c.written → Tied d
-others_tied repo c d t h e = record {
-  rising = subst (λ (xs : List Oref). IsStrictlySortedBy oref_cmp xs) (sym e) (rise_kept (λ x. not (nat_eq x.repo repo)) c.written t.rising);
+-- what the try has written of some objects has gone
+pub others_tied : (gone : Oref → Bool) (c d : Contents) → Tied c → ((x : Oref) → changed d x ≡ cond (gone x) None (changed c x))
+    → d.written ≡ filter (λ x. not (gone x)) c.written → Tied d
+others_tied gone c d t h e = record {
+  rising = subst (λ (xs : List Oref). IsStrictlySortedBy oref_cmp xs) (sym e) (rise_kept (λ x. not (gone x)) c.written t.rising);
   marked = λ x.
       ap is_some (h x)
-      ∙ others (nat_eq x.repo repo) (changed c x) (has_written c x) (t.marked x)
-      ∙ sym (ap (λ (xs : List Oref). list_any (is_at (oref_cmp x)) xs) e ∙ any_kept (λ x. not (nat_eq x.repo repo)) c.written x);
-  within = λ x k. t.within x (within_others (nat_eq x.repo repo) (changed c x) (sym (ap is_some (h x)) ∙ k));
+      ∙ others (gone x) (changed c x) (has_written c x) (t.marked x)
+      ∙ sym (ap (λ (xs : List Oref). list_any (is_at (oref_cmp x)) xs) e ∙ any_kept (λ x. not (gone x)) c.written x);
+  within = λ x k. t.within x (within_others (gone x) (changed c x) (sym (ap is_some (h x)) ∙ k));
 }
 
 -- ---- what is the same where a page was brought forward

@@ -111,6 +111,15 @@ impl Copies {
         self.cache.invalidate(orefs);
     }
 
+    /// Gives up what the try has written of these objects. Their copies stay as they are.
+    pub fn invalidate_written(&mut self, orefs: &Orefs)
+        ensures kept { Keeps self.old.cache self.new.cache }
+        ensures changed { (x : Oref) → changed self.new.cache x ≡ cond (list_any (λ y. same_name y x) orefs.now) None (changed self.old.cache x) }
+        ensures written { self.new.cache.written ≡ filter (λ x. not (list_any (λ y. same_name y x) orefs.now)) self.old.cache.written }
+    {
+        self.cache.invalidate_written(orefs);
+    }
+
     /// Drops whole pages, the least recently used ones first, until at most as many are left as were given to
     /// `new`. It is called between tries: what a try has written and not settled is given up.
     #[tactic(auto, using(crate::proofs::Hands::fewer_written, crate::proofs::Hands::fewer_tied, crate::proofs::Hands::fewer_kept))]
@@ -124,7 +133,6 @@ impl Copies {
     }
 
     /// Drops the pages of a repository, with what the try has written there.
-    #[tactic(auto, using(crate::proofs::Hands::others_tied))]
     pub fn drop_repo(&mut self, repo: u8)
         ensures kept { (x : Oref) → kept self.new.cache x ≡ cond (nat_eq x.repo repo) None (kept self.old.cache x) }
         ensures changed { (x : Oref) → changed self.new.cache x ≡ cond (nat_eq x.repo repo) None (changed self.old.cache x) }

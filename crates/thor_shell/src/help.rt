@@ -39,8 +39,15 @@ exit status:
   6  a disk failed as the store was opened output: disk REPOSITORY
   7  the files are no store                output: damaged REPOSITORY FILE PLACE
   8  a limit is passed                     output: limit NUMBER
-  9  memory was not there
+  9  memory was not there, or the run failed its own check
+  126, 127  of the launcher: a build failed; the toolchain isn't there
 
+variables of the launcher in a checkout, which builds the program:
+  KILNTAUPE_PROVE=0  leaves off the proofs, which are made in the background otherwise, niced, with
+                     one job, where 6 GB of memory are free
+  KILNTAUPE_WAIT=1   waits for the proved program, and tells how far it is
+
+`tools/why FILE` says where a script is refused, and why.
 The language of scripts is in docs/LANGUAGE.md, the report in docs/REPORT.md, and README.md
 has a first script.
 ";

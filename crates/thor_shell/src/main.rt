@@ -6,6 +6,7 @@
 
 mod advice;
 mod clocks;
+mod descriptors;
 mod folder;
 mod help;
 mod parts;
@@ -121,9 +122,10 @@ fn perform_stored<R: Threads + Wait + Sync, C: Clocks>(
     clocks: &C,
 ) -> Result<Status, NoMemory> {
     match enter(rt, folder)? {
-        Folder::Entered(lock) => {
+        Folder::Entered { lock, reserved } => {
             let status = perform(rt, threads, words, settled(rt, folder, plan.repos, clocks)?);
             let _ = lock.unlock();
+            drop(reserved);
             advise_behind(rt, status);
             Ok(status)
         }

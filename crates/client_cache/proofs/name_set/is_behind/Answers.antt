@@ -1,4 +1,4 @@
-use Rattle.std.proofs.Common.{◌≡◌, sym, ◌∙◌}
+use Rattle.std.proofs.Common.{sym, ◌∙◌}
 use Rattle.client_cache.proofs.NameLists.{behind_last, behind_none, less}
 use Rattle.client_cache.proofs.name_set.is_behind.Goals as goal
 

@@ -1,5 +1,5 @@
 use Rattle.front_end.proofs.Acting.{by_receive}
-use Rattle.front_end.proofs.Receiving.{by_message, by_none, by_refusal, no_message}
+use Rattle.front_end.proofs.Receiving.{by_message, by_none, by_refusal, gave_message, gave_none, gave_refusal, no_message}
 use Rattle.front_end.proofs.Showing.{taken_so}
 use Rattle.front_end.proofs.client.Client.receive.Goals as goal
 use Rattle.port.specs.Acting.{RefusesReceive}
@@ -52,3 +52,12 @@ returns-in_err-end_unless_gone-in-Err-clause-writes g c = λ w. c.end_unless_gon
 
 pub returns-in_ok-end_unless_gone-in-Err-clause-writes : goal.returns-in_ok-end_unless_gone-in-Err-clause-writes
 returns-in_ok-end_unless_gone-in-Err-clause-writes g c = λ w. c.end_unless_gone.ensures.writes (rw (c.receive.ensures.rest) w)
+
+pub returns-in_ok-take-in-Ok-Some-clause-gives_up : goal.returns-in_ok-take-in-Ok-Some-clause-gives_up
+returns-in_ok-take-in-Ok-Some-clause-gives_up g c = gave_message _ _ _ c.args.at _ _ c.in-Ok-Some.field-0 c.in-Ok-Some.message c.in-Ok-Some.field-0-is c.in-Ok-Some.ensures.call c.in_ok-take-in-Ok-Some.ensures.gives_up
+
+pub returns-in-Ok-None-clause-gives_up : goal.returns-in-Ok-None-clause-gives_up
+returns-in-Ok-None-clause-gives_up g c = gave_none _ _ _ c.args.at _ _ c.in-Ok-None.field-0 c.in-Ok-None.field-0-is c.in-Ok-None.ensures.call
+
+pub returns-in_ok-end_unless_gone-in-Err-clause-gives_up : goal.returns-in_ok-end_unless_gone-in-Err-clause-gives_up
+returns-in_ok-end_unless_gone-in-Err-clause-gives_up g c = gave_refusal _ _ _ c.args.at _ _ c.in-Err.refusal c.in-Err.ensures.call

@@ -1,10 +1,10 @@
 use Rattle.client_state.specs.Receiving.{LosesThere}
 use Rattle.front_end.proofs.Acting.{by_receive}
-use Rattle.front_end.proofs.Receiving.{both_ok, by_message, by_none, by_refusal, no_message, whenever}
+use Rattle.front_end.proofs.Receiving.{both_ok, by_message, by_none, by_refusal, gave_message, gave_none, gave_refusal, no_message, whenever}
 use Rattle.front_end.proofs.Showing.{nothing_shown, taken_so}
 use Rattle.front_end.proofs.client.Client.receive_delivered.Goals as goal
 use Rattle.std.proofs.Common.{refl}
-use Rattle.std.proofs.lemmas.Result.{IfOk-weaker}
+use Rattle.std.proofs.lemmas.Result.{IfOk-weaker, on_ok_weaker}
 
 pub returns-in-Ok-Some-clause-acts : goal.returns-in-Ok-Some-clause-acts
 returns-in-Ok-Some-clause-acts g c = by_receive _ _ _ _ _ _ c.receive.ensures.call
@@ -38,3 +38,12 @@ returns-in-Ok-None-clause-writes g c = λ w. rw (c.receive.ensures.rest) w
 
 pub returns-in-Err-clause-writes : goal.returns-in-Err-clause-writes
 returns-in-Err-clause-writes g c = λ w. c.lose_delivered.ensures.writes (rw (c.receive.ensures.rest) w)
+
+pub returns-in-Ok-Some-clause-gives_up : goal.returns-in-Ok-Some-clause-gives_up
+returns-in-Ok-Some-clause-gives_up g c = on_ok_weaker c.take.result (gave_message _ _ _ c.args.at _ _ c.in-Ok-Some.field-0 c.in-Ok-Some.message c.in-Ok-Some.field-0-is c.in-Ok-Some.ensures.call) c.take.ensures.gives_up
+
+pub returns-in-Ok-None-clause-gives_up : goal.returns-in-Ok-None-clause-gives_up
+returns-in-Ok-None-clause-gives_up g c = gave_none _ _ _ c.args.at _ _ c.in-Ok-None.field-0 c.in-Ok-None.field-0-is c.in-Ok-None.ensures.call
+
+pub returns-in-Err-clause-gives_up : goal.returns-in-Err-clause-gives_up
+returns-in-Err-clause-gives_up g c = whenever c.lose_delivered.result (gave_refusal _ _ _ c.args.at _ _ c.in-Err.refusal c.in-Err.ensures.call)

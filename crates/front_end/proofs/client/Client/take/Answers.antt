@@ -1,4 +1,4 @@
-use Rattle.client_state.specs.Receiving.{TakesCopies}
+use Rattle.client_state.specs.Receiving.{GivesUp, TakesCopies}
 use Rattle.front_end.proofs.client.Client.take.Goals as goal
 use Rattle.message_outbox.specs.declared.message.Message.{Message}
 use Rattle.port.specs.Acting.{IsTaken}
@@ -28,3 +28,6 @@ returns-in-Invalid-clause-takes c = subst (λ (m : Message). TakesCopies c.args.
 
 pub returns-clause-takes : goal.returns-clause-takes
 returns-clause-takes c = subst (λ (m : Message). TakesCopies c.args.repo m c.args.self.now.held c.take_upgrade.new.self.held) (sym c.in-Upgrade.is) (c.take_upgrade.ensures.takes c.args.repo c.in-Upgrade.place c.in-Upgrade.text)
+
+pub returns-in-Invalid-clause-gives_up : goal.returns-in-Invalid-clause-gives_up
+returns-in-Invalid-clause-gives_up c = subst (λ (m : Message). GivesUp c.args.repo m c.args.self.now.phase c.take_invalid.new.self.held.cache.cache) (sym c.in-Invalid.is) c.take_invalid.ensures.gives_up

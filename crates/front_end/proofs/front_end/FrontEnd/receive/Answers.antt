@@ -1,5 +1,6 @@
 use Rattle.front_end.proofs.Calling.{moves_down}
 use Rattle.front_end.proofs.Moving.{keeps_behind}
+use Rattle.front_end.proofs.Receiving.{gave_down}
 use Rattle.front_end.proofs.Showing.{goes_shown}
 use Rattle.front_end.proofs.front_end.FrontEnd.receive.Goals as goal
 use Rattle.std.proofs.lemmas.Result.{on_ok_weaker}
@@ -12,3 +13,6 @@ returns-clause-shown g c = goes_shown _ _ _ _ _ _ _ _ _ c.in_ok-news.ensures.sho
 
 pub returns-clause-moves : goal.returns-clause-moves
 returns-clause-moves g c = λ here. moves_down _ _ _ c.args.self.now.client.held _ c.receive_delivered.new.self c.take_down.new.self.client c.take_down.ensures.client c.take_down.result (c.in_ok-news.ensures.moves here)
+
+pub returns-clause-gives_up : goal.returns-clause-gives_up
+returns-clause-gives_up g c = gave_down c.take_down.result _ _ _ c.args.at.repo c.args.self.now.client.phase c.receive_delivered.new.self c.take_down.new.self.client c.take_down.ensures.client c.in_ok-news.ensures.gives_up
