@@ -75,7 +75,7 @@ fn tight(draws: &mut Draws, bounds: &Bounds, world: World) -> World {
         repos: bounds.repos.min(2),
         clients,
         roots: draws.within(2, 3),
-        items: draws.within(2, 3).min(bounds.items),
+        items: draws.within(2, 5).min(bounds.items),
         statements: draws.within(1, 2),
         upgrader: draws.within(1, clients),
         ..world
@@ -89,7 +89,7 @@ fn loose(draws: &mut Draws, bounds: &Bounds, world: World) -> World {
         repos: draw_few(draws, 1, 3, bounds.repos),
         clients,
         roots: draw_few(draws, 2, 4, 14),
-        items: draw_few(draws, 1, 3, bounds.items),
+        items: draw_few(draws, 1, 4, bounds.items),
         statements: draw_few(draws, 1, 3, 6),
         upgrader: draws.within(1, clients),
         ..world
