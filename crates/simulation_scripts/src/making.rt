@@ -40,10 +40,19 @@ fn draw_mob(draws: &mut Draws) -> u32 {
     }
 }
 
+/// What a crash leaves: what was synced, all that was written, or torn bytes.
+fn draw_pick(draws: &mut Draws) -> u8 {
+    match draws.below(3) {
+        0 => 0,
+        1 => 1,
+        _ => draws.within(2, 250),
+    }
+}
+
 fn draw_ending(draws: &mut Draws, world: &World) -> Ending {
     match draws.below(10) {
         0 | 1 => Ending::Cut {
-            pick: draws.below(3),
+            pick: draw_pick(draws),
         },
         2 | 3 => Ending::Checkpointed,
         4 | 5 if world.upgrades == 0 => Ending::Again,
@@ -62,7 +71,12 @@ fn draw_options(draws: &mut Draws, world: &World) -> Options {
 }
 
 /// Puts the setup, the clients and the schedule.
-fn put_all(pieces: &mut Pieces, draws: &mut Draws, world: &World) -> Result<(), NoMemory> {
+fn put_all(
+    pieces: &mut Pieces,
+    draws: &mut Draws,
+    world: &World,
+    ending: Ending,
+) -> Result<(), NoMemory> {
     let layout = Layout::first(world);
     let head = format!(in pieces.alloc; "setup")?;
     pieces.line(0, head)?;
@@ -70,7 +84,11 @@ fn put_all(pieces: &mut Pieces, draws: &mut Draws, world: &World) -> Result<(), 
     roots(pieces, draws, world)?;
     clients(pieces, draws, world, &layout)?;
     let mut phases = Phases::drawn(pieces, draws, world)?;
-    phases.schedule()
+    phases.schedule()?;
+    if let Ending::Cut { .. } = ending {
+        phases.stopping()?;
+    }
+    Ok(())
 }
 
 /// The script of a seed, within bounds. It is the same on every machine.
@@ -79,7 +97,7 @@ pub fn make(alloc: Global, seed: u64, bounds: &Bounds) -> Result<Script, NoMemor
     let world = draw_world(&mut draws, bounds);
     let options = draw_options(&mut draws, &world);
     let mut pieces = Pieces::new(alloc);
-    put_all(&mut pieces, &mut draws, &world)?;
+    put_all(&mut pieces, &mut draws, &world, options.ending)?;
     Ok(Script {
         options,
         clients: world.clients,

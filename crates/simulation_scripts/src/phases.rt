@@ -271,6 +271,13 @@ impl<'a> Phases<'a> {
         }
     }
 
+    /// A repository stops while clients take steps.
+    pub(crate) fn stopping(&mut self) -> Result<(), NoMemory> {
+        self.stop()?;
+        self.mixed()?;
+        self.run()
+    }
+
     /// Puts the events of a schedule.
     pub(crate) fn schedule(&mut self) -> Result<(), NoMemory> {
         let most = self.pieces.items.len().saturating_add(MOST);
