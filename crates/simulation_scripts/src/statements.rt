@@ -29,13 +29,22 @@ impl<'a> Statements<'a> {
         self.locals
     }
 
+    /// The kind of a simple statement.
+    fn kind(&mut self) -> u8 {
+        if self.draws.comes(self.world.liking) {
+            self.world.liked
+        } else {
+            self.draws.below(7)
+        }
+    }
+
     /// Puts a statement that reads a number or changes it.
     fn simple(&mut self, depth: u8) -> Result<(), NoMemory> {
         let a = self.root();
         let b = self.root();
         let k = self.amount();
         let alloc = self.pieces.alloc;
-        let text = match self.draws.below(7) {
+        let text = match self.kind() {
             0 => format!(in alloc; "print r{a}.get();")?,
             1 => format!(in alloc; "print r{a}.get() + r{b}.get();")?,
             2 | 3 => format!(in alloc; "print r{a}.move(r{b}, {k});")?,

@@ -40,6 +40,9 @@ pub struct World {
     pub points: bool,
     /// How many further numbers a box has.
     pub fills: u8,
+    /// The kind of simple statements that comes most often, and how many times in a hundred.
+    pub liked: u8,
+    pub liking: u8,
 }
 
 fn draw_upgrades(draws: &mut Draws) -> u8 {
@@ -115,6 +118,8 @@ pub(crate) fn draw_world(draws: &mut Draws, bounds: &Bounds) -> World {
         nested: seals && draws.comes(40),
         points: seals && draws.comes(40),
         fills: if plain { 0 } else { draw_fills(draws) },
+        liked: if draws.comes(50) { 2 } else { draws.below(7) },
+        liking: draws.within(0, 80),
     };
     if draws.comes(60) {
         tight(draws, bounds, world)
