@@ -2,16 +2,22 @@
 //! told.
 #![tactic(auto)]
 
-mod reading;
+mod beginning;
+mod disks;
+mod faults;
+mod histories;
+mod images;
+mod judging;
+mod living;
 mod running;
-mod shrinking;
+mod same;
 mod telling;
-mod words;
+mod watching;
 
 use crate::running::{Ran, run_all};
 use crate::telling::{tell_ran, tell_usage};
-use crate::words::{Asked, read_words};
 use outside::{StdSource, read_all};
+use simulation_scripts::{Asked, read_words};
 use std::env;
 use std::process::ExitCode;
 use thor_value::{NoMemory, Text, Texts};

@@ -1,10 +1,10 @@
 //! The runs.
 
-use crate::reading::{events_of, own_script};
-use crate::shrinking::shrink;
-use crate::words::Asked;
-use simulation_judge::{Begun, Coverage, Verdict, judge, judge_events, read_text};
-use simulation_scripts::{Draws, Script, make, make_trouble, print};
+use crate::beginning::Begun;
+use crate::faults::Verdict;
+use crate::judging::{judge, judge_events, read_text};
+use simulation_events::{Coverage, events_of, own_script};
+use simulation_scripts::{Asked, Draws, Script, Trial, make, make_trouble, print, shrink};
 use std::alloc::Global;
 use thor_value::NoMemory;
 
@@ -37,7 +37,7 @@ fn seed_of(seed: u64, run: u64) -> u64 {
 }
 
 /// What is wrong, if anything.
-pub fn is_wrong(verdict: Verdict) -> bool {
+fn is_wrong(verdict: Verdict) -> bool {
     match verdict {
         Verdict::Wrong(_) => true,
         Verdict::Right { .. } | Verdict::Refused => false,
@@ -51,14 +51,19 @@ fn is_right(verdict: Verdict) -> bool {
     }
 }
 
-/// How a script is judged.
-pub fn judged(
+/// A trial by playing: what came how often is counted for nobody.
+#[derive(Drop)]
+struct Playing {
     alloc: Global,
-    script: &Script,
-    coverage: &mut Coverage,
-) -> Result<Verdict, NoMemory> {
-    let text = print(alloc, script)?;
-    judge(alloc, &text, &script.options, coverage)
+    coverage: Coverage,
+}
+
+impl Trial for Playing {
+    fn is_wrong(&mut self, script: &Script) -> Result<bool, NoMemory> {
+        let text = print(self.alloc, script)?;
+        let verdict = judge(self.alloc, &text, &script.options, &mut self.coverage)?;
+        Ok(is_wrong(verdict))
+    }
 }
 
 /// The script at which something is wrong, shrunk where that is asked for.
@@ -71,7 +76,11 @@ fn found(
 ) -> Result<Found, NoMemory> {
     let mut script = script;
     if asked.shrinks && is_wrong(verdict) {
-        shrink(alloc, &mut script)?;
+        let mut trial = Playing {
+            alloc,
+            coverage: Coverage::new(alloc)?,
+        };
+        shrink(alloc, &mut script, &mut trial)?;
     }
     Ok(Found {
         run,

@@ -1,8 +1,9 @@
 //! What the program tells.
 
+use crate::faults::{Verdict, Wrong};
 use crate::running::{Found, Ran};
-use crate::words::Asked;
-use simulation_judge::{Coverage, DEEDS, EVENTS, Verdict, Wrong, deed_word, event_word};
+use simulation_events::{Coverage, DEEDS, EVENTS, deed_word, event_word};
+use simulation_scripts::Asked;
 use std::io;
 
 /// What the words are.

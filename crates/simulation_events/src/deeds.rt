@@ -158,7 +158,7 @@ pub fn event_word(number: usize) -> &'static str {
 }
 
 /// The number of a kind of events, below `EVENTS`.
-pub(crate) fn event_number(kind: EventKind) -> usize {
+pub fn event_number(kind: EventKind) -> usize {
     match kind {
         EventKind::Step { .. } => 0,
         EventKind::Deliver { .. } => 1,
@@ -172,7 +172,7 @@ pub(crate) fn event_number(kind: EventKind) -> usize {
 }
 
 /// What an entry is.
-pub(crate) fn deed_of_entry(entry: &Entry) -> Deed {
+fn deed_of_entry(entry: &Entry) -> Deed {
     match entry {
         Entry::Life { .. } => Deed::Restarted,
         Entry::One { .. } => Deed::One,
@@ -227,7 +227,7 @@ pub(crate) fn deed_of_cause(cause: Cause) -> Deed {
 }
 
 /// What a mark is, by the entries of its history.
-pub(crate) fn deed_of_mark(mark: &Mark, history: &[Entry]) -> Deed {
+pub fn deed_of_mark(mark: &Mark, history: &[Entry]) -> Deed {
     match mark {
         Mark::Entry { place } => match history.get(*place as usize) {
             Some(entry) => deed_of_entry(entry),

@@ -1,12 +1,12 @@
 //! The images that a crash leaves behind the last event.
 
 use crate::beginning::{Disks, Play, empty, setup_of};
-use crate::coverage::Coverage;
 use crate::disks::{compare, read};
 use crate::faults::{Fault, Wrong};
 use crate::living::live_on;
 use class_defs::Plain;
 use disk_trait::{MemParts, Outage, TickClock, restart_all};
+use simulation_events::Coverage;
 use std::alloc::Global;
 
 /// Crashes the disks of a repository.

@@ -106,14 +106,14 @@ impl Coverage {
     }
 
     /// A run of a schedule of so many events begins.
-    pub(crate) fn begin_run(&mut self, events: usize) {
+    pub fn begin_run(&mut self, events: usize) {
         self.log.truncate(0);
         self.next = 0;
         self.limit = events;
     }
 
     /// Puts down what the event that came last has come to.
-    pub(crate) fn note(&mut self, client: usize, repo: u8, deed: Deed) -> Result<(), NoMemory> {
+    pub fn note(&mut self, client: usize, repo: u8, deed: Deed) -> Result<(), NoMemory> {
         let event = self.next.saturating_sub(1);
         if event < self.limit && self.next > 0 {
             self.log.push(Told {
@@ -126,18 +126,18 @@ impl Coverage {
         Ok(())
     }
 
-    pub(crate) fn take_event(&mut self, event: usize, last: Deed) {
+    pub fn take_event(&mut self, event: usize, last: Deed) {
         self.next = self.next.saturating_add(1);
         self.totals.events = self.totals.events.saturating_add(1);
         count(&mut self.behind, place_of(event, number_of(last)));
     }
 
-    pub(crate) fn take_deed(&mut self, event: usize, deed: Deed) {
+    pub fn take_deed(&mut self, event: usize, deed: Deed) {
         count(&mut self.came, place_of(event, number_of(deed)));
     }
 
     /// Counts how items ended.
-    pub(crate) fn take_ends(&mut self, ends: &[Ended]) {
+    pub fn take_ends(&mut self, ends: &[Ended]) {
         for ended in ends {
             self.take_end(&ended.outcome);
         }

@@ -1,11 +1,10 @@
 //! What is seen of repositories and clients while events happen.
 
-use crate::coverage::Coverage;
-use crate::deeds::{Deed, deed_of_mark, event_number};
 use cluster_core::Seat;
 use disk_trait::Parts;
 use repo_core::Repo;
 use schedule::EventKind;
+use simulation_events::{Coverage, Deed, deed_of_mark, event_number};
 use std::alloc::Global;
 use thor_value::NoMemory;
 

@@ -3,7 +3,6 @@
 ghost use Rattle.thor_value.specs.FiniteMap.{IsSorted};
 
 use crate::beginning::{Begun, Play, begin, empty, first_store, setup_of};
-use crate::coverage::Coverage;
 use crate::disks::{compare, read, stored};
 use crate::faults::{Fault, Verdict, Wrong};
 use crate::histories::store_behind;
@@ -14,6 +13,7 @@ use cluster_core::{Ran, Start};
 use disk_trait::{MemParts, TickClock};
 use schedule::Event;
 use serial_model::{Ended, ItemOutcome};
+use simulation_events::Coverage;
 use simulation_scripts::{Ending, Options};
 use std::alloc::Global;
 use store_reading::Found;

@@ -1,10 +1,16 @@
 //! A script at which something is wrong is shrunk: pieces are taken away while something stays wrong.
 
-use crate::running::{is_wrong, judged};
-use simulation_judge::Coverage;
-use simulation_scripts::{Ending, Options, Piece, Script};
+use crate::options::{Ending, Options};
+use crate::pieces::Piece;
+use crate::script::Script;
 use std::alloc::Global;
 use thor_value::NoMemory;
+
+/// What tells whether something is wrong at a script.
+pub trait Trial {
+    /// Whether something is wrong.
+    fn is_wrong(&mut self, script: &Script) -> Result<bool, NoMemory>;
+}
 
 /// How often all pieces are tried at most.
 const ROUNDS: u8 = 6;
@@ -40,24 +46,19 @@ fn put_back(pieces: &mut [Piece], taken: &[usize]) {
     }
 }
 
-/// Whether something is still wrong.
-fn stays_wrong(alloc: Global, script: &Script, coverage: &mut Coverage) -> Result<bool, NoMemory> {
-    Ok(is_wrong(judged(alloc, script, coverage)?))
-}
-
 /// Tries to take pieces away. Whether they are away.
-fn try_pieces(
+fn try_pieces<T: Trial>(
     alloc: Global,
     script: &mut Script,
     from: usize,
     to: usize,
-    coverage: &mut Coverage,
+    trial: &mut T,
 ) -> Result<bool, NoMemory> {
     let taken = take_away(alloc, &mut script.pieces, from, to)?;
     if taken.is_empty() {
         return Ok(false);
     }
-    if stays_wrong(alloc, script, coverage)? {
+    if trial.is_wrong(script)? {
         return Ok(true);
     }
     put_back(&mut script.pieces, &taken);
@@ -65,11 +66,11 @@ fn try_pieces(
 }
 
 /// Tries all pieces, so many beside one another at once, the last ones first. Whether some went.
-fn try_all(
+fn try_all<T: Trial>(
     alloc: Global,
     script: &mut Script,
     size: usize,
-    coverage: &mut Coverage,
+    trial: &mut T,
 ) -> Result<bool, NoMemory> {
     let mut went = false;
     let mut to = script.pieces.len();
@@ -78,7 +79,7 @@ fn try_all(
         if from == to {
             return Ok(went);
         }
-        if try_pieces(alloc, script, from, to, coverage)? {
+        if try_pieces(alloc, script, from, to, trial)? {
             went = true;
         }
         to = from;
@@ -87,15 +88,14 @@ fn try_all(
 }
 
 /// Tries other options. Whether they serve.
-fn try_options(
-    alloc: Global,
+fn try_options<T: Trial>(
     script: &mut Script,
     options: Options,
-    coverage: &mut Coverage,
+    trial: &mut T,
 ) -> Result<bool, NoMemory> {
     let kept = script.options;
     script.options = options;
-    if stays_wrong(alloc, script, coverage)? {
+    if trial.is_wrong(script)? {
         return Ok(true);
     }
     script.options = kept;
@@ -103,37 +103,35 @@ fn try_options(
 }
 
 /// Tries the usual options, one at a time, and fewer repositories.
-fn try_usual(alloc: Global, script: &mut Script, coverage: &mut Coverage) -> Result<(), NoMemory> {
+fn try_usual<T: Trial>(script: &mut Script, trial: &mut T) -> Result<(), NoMemory> {
     let ending = Ending::Drained;
     let options = script.options;
-    try_options(alloc, script, Options { ending, ..options }, coverage)?;
+    try_options(script, Options { ending, ..options }, trial)?;
     let options = script.options;
     try_options(
-        alloc,
         script,
         Options {
             tries: 16,
             ..options
         },
-        coverage,
+        trial,
     )?;
     let options = script.options;
     try_options(
-        alloc,
         script,
         Options {
             cache: 64,
             ..options
         },
-        coverage,
+        trial,
     )?;
     let options = script.options;
     let mob = 1_048_576;
-    try_options(alloc, script, Options { mob, ..options }, coverage)?;
+    try_options(script, Options { mob, ..options }, trial)?;
     for _ in 0..7u8 {
         let options = script.options;
         let repos = options.repos.saturating_sub(1);
-        if repos == 0 || !try_options(alloc, script, Options { repos, ..options }, coverage)? {
+        if repos == 0 || !try_options(script, Options { repos, ..options }, trial)? {
             return Ok(());
         }
     }
@@ -141,14 +139,14 @@ fn try_usual(alloc: Global, script: &mut Script, coverage: &mut Coverage) -> Res
 }
 
 /// Tries pieces of all sizes. Whether some went.
-fn try_sizes(
+fn try_sizes<T: Trial>(
     alloc: Global,
     script: &mut Script,
-    coverage: &mut Coverage,
+    trial: &mut T,
 ) -> Result<bool, NoMemory> {
     let mut went = false;
     for size in SIZES {
-        if try_all(alloc, script, size, coverage)? {
+        if try_all(alloc, script, size, trial)? {
             went = true;
         }
     }
@@ -156,11 +154,10 @@ fn try_sizes(
 }
 
 /// Takes away of a script what it doesn't need to be wrong.
-pub fn shrink(alloc: Global, script: &mut Script) -> Result<(), NoMemory> {
-    let mut coverage = Coverage::new(alloc)?;
+pub fn shrink<T: Trial>(alloc: Global, script: &mut Script, trial: &mut T) -> Result<(), NoMemory> {
     for _ in 0..ROUNDS {
-        try_usual(alloc, script, &mut coverage)?;
-        if !try_sizes(alloc, script, &mut coverage)? {
+        try_usual(script, trial)?;
+        if !try_sizes(alloc, script, trial)? {
             return Ok(());
         }
     }

@@ -1,12 +1,12 @@
 //! A store is opened, and events happen at it.
 
 use crate::beginning::{Disks, Play, plan_of};
-use crate::coverage::Coverage;
 use crate::faults::{Fault, Wrong, unopened};
 use crate::watching::Watch;
 use cluster_core::{Cluster, Finished, Ran, Seat, Start};
 use disk_trait::{MemParts, TickClock};
 use schedule::{Event, EventKind};
+use simulation_events::Coverage;
 use simulation_scripts::{Ending, Options};
 use std::alloc::Global;
 use store_reading::{ClusterFault, Found};

@@ -1,6 +1,7 @@
 //! What the words of the program ask for.
 
-use simulation_scripts::{Bounds, Ending, Options};
+use crate::options::{Ending, Options};
+use crate::world::Bounds;
 use thor_value::Text;
 
 /// What is asked for.
