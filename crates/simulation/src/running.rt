@@ -67,7 +67,7 @@ impl Trial for Playing {
 }
 
 /// The script at which something is wrong, shrunk where that is asked for.
-fn found(
+fn shrunk(
     alloc: Global,
     asked: &Asked,
     run: u64,
@@ -172,11 +172,11 @@ fn run_script(
                 ran.finished = ran.finished.saturating_add(1);
             }
             if asked.scripts {
-                ran.found = Some(found(alloc, asked, number, script, verdict)?);
+                ran.found = Some(shrunk(alloc, asked, number, script, verdict)?);
             }
         }
         Verdict::Refused | Verdict::Wrong(_) => {
-            ran.found = Some(found(alloc, asked, number, script, verdict)?);
+            ran.found = Some(shrunk(alloc, asked, number, script, verdict)?);
         }
     }
     Ok(())
