@@ -137,7 +137,7 @@ pub fn own_script(
     let Ok(read) = read_script(alloc, text) else {
         return Ok(None);
     };
-    let Ok(head) = str::from_utf8(text.split_at(schedule_place(text)).0) else {
+    let Ok(head) = str::from_utf8(text.split_at(schedule_place(text).min(text.len())).0) else {
         return Ok(None);
     };
     let clients = u8::try_from(read.clients.len()).unwrap_or(u8::MAX);
