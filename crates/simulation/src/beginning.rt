@@ -13,7 +13,7 @@ use script_check::{judge, opened_store, roots_of, schema_of, upgrade_count, with
 use script_parse::{Script, read_script};
 use simulation_scripts::Options;
 use std::alloc::Global;
-use thor_value::{NoMemory, TryCopy};
+use thor_value::{NoMemory, TryCopy, both};
 
 /// The most clients, classes, roots and upgrades of a script.
 const MOST: usize = 64;
@@ -73,16 +73,29 @@ fn accept(alloc: Global, schema: &Schema, script: &Script, repos: u8) -> Result<
     }
 }
 
-/// The script that a text is, where it is accepted.
-pub(crate) fn begin(alloc: Global, text: &str, repos: u8) -> Result<Begun, Fault> {
-    let script = read_script(alloc, text.as_bytes())?;
+/// The first schema of a script that breaks no rule.
+fn accepted_schema(alloc: Global, script: &Script, repos: u8) -> Result<Schema, Fault> {
     let first = first_schema(alloc, &script.setup)?;
-    accept(alloc, &first, &script, repos)?;
+    let accepted = accept(alloc, &first, script, repos);
+    let (first, _) = both(first, accepted)?;
+    Ok(first)
+}
+
+/// The schemas of all epochs of a script.
+fn schemas_of(alloc: Global, script: &Script, repos: u8) -> Result<Schemas, Fault> {
+    let first = accepted_schema(alloc, script, repos)?;
     let schemas = Schemas {
         first,
         upgraded: UpgradedSchemas::new(alloc),
     };
-    let schemas = with_upgrades(alloc, schemas, script.clients.as_slice())?;
+    Ok(with_upgrades(alloc, schemas, script.clients.as_slice())?)
+}
+
+/// The script that a text is, where it is accepted.
+pub(crate) fn begin(alloc: Global, text: &str, repos: u8) -> Result<Begun, Fault> {
+    let script = read_script(alloc, text.as_bytes())?;
+    let schemas = schemas_of(alloc, &script, repos);
+    let (script, schemas) = both(script, schemas)?;
     Ok(Begun { script, schemas })
 }
 
@@ -116,18 +129,18 @@ pub(crate) fn setup_of(alloc: Global, begun: &Begun) -> Result<Start, Fault> {
     if begun.schemas.first.classes.len() > MOST {
         return Err(Fault::Refused);
     }
-    Ok(Start::Setup(Setup {
-        schema: begun.schemas.first.copy()?,
-        roots: roots_of(alloc, &begun.schemas.first)?,
-    }))
+    let schema = begun.schemas.first.copy()?;
+    let (schema, roots) = both(schema, roots_of(alloc, &begun.schemas.first))?;
+    Ok(Start::Setup(Setup { schema, roots }))
 }
 
 /// What a run is asked for.
 pub(crate) fn plan_of(play: &Play<'_>, start: Start) -> Result<Plan, NoMemory> {
+    let (start, clients) = both(start, play.begun.script.clients.copy())?;
     Ok(Plan {
         start,
         tries: u32::from(play.options.tries),
         cache: u32::from(play.options.cache),
-        clients: play.begun.script.clients.copy()?.into_vec(),
+        clients: clients.into_vec(),
     })
 }

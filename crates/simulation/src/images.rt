@@ -8,6 +8,7 @@ use class_defs::Plain;
 use disk_trait::{MemParts, Outage, TickClock, restart_all};
 use simulation_events::Coverage;
 use std::alloc::Global;
+use thor_value::both;
 
 /// Crashes the disks of a repository.
 fn crash(disks: &mut MemParts<TickClock>, pick: u8) -> Result<(), Fault> {
@@ -33,9 +34,10 @@ fn image(
     coverage: &mut Coverage,
 ) -> Result<Disks, Fault> {
     let found = read(alloc, empty(alloc, play.options.repos)?, play.options.mob)?;
-    let start = setup_of(alloc, play.begun)?;
+    let (found, start) = both(found, setup_of(alloc, play.begun))?;
     let mut disks = live_on(alloc, play, start, found, coverage)?;
-    crash_all(&mut disks, pick)?;
+    let crashed = crash_all(&mut disks, pick);
+    let (disks, _) = both(disks, crashed)?;
     Ok(disks)
 }
 
@@ -49,5 +51,7 @@ pub(crate) fn judge_image(
 ) -> Result<(), Fault> {
     let disks = image(alloc, play, pick, coverage)?;
     let found = read(alloc, disks, play.options.mob)?;
-    compare(alloc, &found, store, Wrong::Image)
+    let compared = compare(alloc, &found, store, Wrong::Image);
+    drop(found);
+    compared
 }

@@ -5,7 +5,9 @@ use crate::faults::{Fault, Wrong, unopened};
 use crate::watching::Watch;
 use cluster_core::{Cluster, Finished, Ran, Seat, Start};
 use disk_trait::{MemParts, TickClock};
+use history_check::Lines;
 use schedule::{Event, EventKind};
+use serial_model::Ends;
 use simulation_events::Coverage;
 use simulation_scripts::{Ending, Options};
 use std::alloc::Global;
@@ -15,11 +17,12 @@ use thor_value::{NoMemory, both};
 /// Repositories in memory, with their clients.
 type Store = Cluster<MemParts<TickClock>>;
 
-/// What is left of a life: the disks, and what it was.
+/// What is left of a life: the disks, how the items ended, and what committed.
 #[derive(Drop)]
 pub(crate) struct Lived {
     pub disks: Disks,
-    pub ran: Ran,
+    pub ends: Ends,
+    pub lines: Lines,
 }
 
 /// Opens what was found, with the clients of the script.
@@ -170,23 +173,61 @@ fn wrong_in(seats: &[Seat<MemParts<TickClock>>], mob: u32) -> Option<Wrong> {
     None
 }
 
+/// How the items of a run ended, and what committed.
+fn told_of(ran: Ran) -> (Ends, Lines) {
+    let Ran {
+        ends,
+        lines,
+        clients,
+        schemas,
+        traces,
+    } = ran;
+    drop(clients);
+    drop(schemas);
+    drop(traces);
+    (ends, lines)
+}
+
+/// What is left of a run, where it was told.
+fn lived_in(finished: Finished<MemParts<TickClock>>) -> Result<Lived, NoMemory> {
+    let Finished { parts, ran } = finished;
+    let (disks, ran) = both(parts, ran)?;
+    let (ends, lines) = told_of(ran);
+    Ok(Lived { disks, ends, lines })
+}
+
+/// Ends a life. What is wrong with its repositories stands beside it.
+fn close(store: Store, mob: u32) -> (Option<Wrong>, Finished<MemParts<TickClock>>) {
+    let (emptied, seats, clients) = store.emptied();
+    let wrong = wrong_in(&seats, mob);
+    (wrong, emptied.filled(seats, clients).finish())
+}
+
 /// Ends a life whose repositories are as they should be.
 fn finish(store: Store, options: &Options) -> Result<Lived, Fault> {
-    let (emptied, seats, clients) = store.emptied();
-    let wrong = wrong_in(&seats, options.mob);
-    let Finished { parts, ran } = emptied.filled(seats, clients).finish();
-    match (wrong, ran) {
-        (None, Ok(ran)) => Ok(Lived { disks: parts, ran }),
-        (Some(wrong), ran) => {
-            drop(parts);
-            drop(ran);
+    match close(store, options.mob) {
+        (None, finished) => Ok(lived_in(finished)?),
+        (Some(wrong), finished) => {
+            drop(finished);
             Err(Fault::Wrong(wrong))
         }
-        (None, Err(NoMemory)) => {
-            drop(parts);
-            Err(Fault::NoMemory)
-        }
     }
+}
+
+/// Opens what was found, and has the events happen.
+fn go(
+    alloc: Global,
+    play: &Play<'_>,
+    start: Start,
+    found: Found<MemParts<TickClock>>,
+    coverage: &mut Coverage,
+) -> Result<(Store, Watch), Fault> {
+    let store = open(alloc, play, start, found)?;
+    let (store, watch) = begin_watch(alloc, store, play)?;
+    let mut watch = watch;
+    let happened = happen_all(store, &mut watch, play.events, coverage);
+    let (watch, store) = both(watch, happened)?;
+    Ok((store, watch))
 }
 
 /// Opens what was found, has the events happen, and what comes behind them.
@@ -197,11 +238,11 @@ pub(crate) fn live(
     found: Found<MemParts<TickClock>>,
     coverage: &mut Coverage,
 ) -> Result<Lived, Fault> {
-    let store = open(alloc, play, start, found)?;
-    let (store, mut watch) = begin_watch(alloc, store, play)?;
-    let store = happen_all(store, &mut watch, play.events, coverage)?;
-    let store = end(store, &mut watch, play.options, coverage)?;
-    finish(store, play.options)
+    let (store, watch) = go(alloc, play, start, found, coverage)?;
+    let mut watch = watch;
+    let ended = end(store, &mut watch, play.options, coverage);
+    drop(watch);
+    finish(ended?, play.options)
 }
 
 /// Opens what was found, has the events happen, and lets it go as it stands then. The disks.
@@ -212,9 +253,8 @@ pub(crate) fn live_on(
     found: Found<MemParts<TickClock>>,
     coverage: &mut Coverage,
 ) -> Result<Disks, Fault> {
-    let store = open(alloc, play, start, found)?;
-    let (store, mut watch) = begin_watch(alloc, store, play)?;
-    let store = happen_all(store, &mut watch, play.events, coverage)?;
+    let (store, watch) = go(alloc, play, start, found, coverage)?;
+    drop(watch);
     let Finished { parts, ran } = store.finish();
     drop(ran);
     Ok(parts)

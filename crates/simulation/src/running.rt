@@ -6,7 +6,7 @@ use crate::judging::{judge, judge_events, read_text};
 use simulation_events::{Coverage, events_of, own_script};
 use simulation_scripts::{Asked, Draws, Script, Trial, make, make_trouble, print, shrink};
 use std::alloc::Global;
-use thor_value::NoMemory;
+use thor_value::{NoMemory, both};
 
 /// A script at which something is wrong.
 #[derive(Drop)]
@@ -182,6 +182,19 @@ fn run_script(
     Ok(())
 }
 
+/// The runs that are asked for, up to the first at which something is wrong. Whether there were scripts.
+fn run_from(alloc: Global, asked: &Asked, own: &[u8], ran: &mut Ran) -> Result<bool, NoMemory> {
+    for place in 0..asked.count {
+        if !run(alloc, asked, own, asked.from.wrapping_add(place), ran)? {
+            return Ok(false);
+        }
+        if ran.found.is_some() {
+            return Ok(true);
+        }
+    }
+    Ok(true)
+}
+
 /// All runs that are asked for, up to the first at which something is wrong. Nothing where what was read is no script.
 pub fn run_all(alloc: Global, asked: &Asked, own: &[u8]) -> Result<Option<Ran>, NoMemory> {
     let mut ran = Ran {
@@ -190,13 +203,11 @@ pub fn run_all(alloc: Global, asked: &Asked, own: &[u8]) -> Result<Option<Ran>, 
         coverage: Coverage::new(alloc)?,
         found: None,
     };
-    for place in 0..asked.count {
-        if !run(alloc, asked, own, asked.from.wrapping_add(place), &mut ran)? {
-            return Ok(None);
-        }
-        if ran.found.is_some() {
-            return Ok(Some(ran));
-        }
+    let went = run_from(alloc, asked, own, &mut ran);
+    let (ran, went) = both(ran, went)?;
+    if went {
+        return Ok(Some(ran));
     }
-    Ok(Some(ran))
+    drop(ran);
+    Ok(None)
 }
