@@ -74,9 +74,10 @@ impl LogFile {
         Some(())
     }
 
-    /// Cuts the file to its disk's length: behind a write that failed it may be longer, with a disk of one byte.
+    /// Cuts the file to its disk's length, and syncs it: behind a write that failed it may be longer, with a disk of one byte.
     fn restart(&mut self) -> Option<()> {
         self.file.set_len(self.len).ok()?;
+        self.file.sync_data().ok()?;
         self.room = self.len;
         self.begun = false;
         Some(())
