@@ -1,0 +1,261 @@
+//! A store is opened, and events happen at it.
+
+use crate::beginning::{Disks, Play, plan_of};
+use crate::faults::{Fault, Wrong, unopened};
+use crate::watching::Watch;
+use cluster_core::{Cluster, Finished, Ran, Seat, Start};
+use disk_trait::{MemParts, TickClock};
+use history_check::Lines;
+use schedule::{Event, EventKind};
+use serial_model::Ends;
+use simulation_events::Coverage;
+use simulation_scripts::{Ending, Options};
+use std::alloc::Global;
+use store_reading::{ClusterFault, Found};
+use thor_value::{NoMemory, both};
+
+/// Repositories in memory, with their clients.
+type Store = Cluster<MemParts<TickClock>>;
+
+/// What is left of a life: the disks, how the items ended, and what committed.
+#[derive(Drop)]
+pub(crate) struct Lived {
+    pub disks: Disks,
+    pub ends: Ends,
+    pub lines: Lines,
+}
+
+/// Opens what was found, with the clients of the script.
+fn open(
+    alloc: Global,
+    play: &Play<'_>,
+    start: Start,
+    found: Found<MemParts<TickClock>>,
+) -> Result<Store, Fault> {
+    let (found, plan) = both(found, plan_of(play, start))?;
+    match Cluster::open(alloc, found, plan) {
+        Ok(store) => Ok(store),
+        Err(ClusterFault { parts, why }) => {
+            drop(parts);
+            Err(unopened(why))
+        }
+    }
+}
+
+/// Looks at the repositories as they begin.
+fn begin_watch(alloc: Global, store: Store, play: &Play<'_>) -> Result<(Store, Watch), NoMemory> {
+    let clients = play.begun.script.clients.len();
+    let watch = Watch::new(alloc, usize::from(play.options.repos), clients);
+    let (store, mut watch) = both(store, watch)?;
+    let (emptied, seats, clients) = store.emptied();
+    watch.begin(&seats);
+    Ok((emptied.filled(seats, clients), watch))
+}
+
+/// Looks at the repositories behind an event.
+fn look(
+    store: Store,
+    watch: &mut Watch,
+    kind: EventKind,
+    coverage: &mut Coverage,
+) -> Result<Store, NoMemory> {
+    let (emptied, seats, clients) = store.emptied();
+    let looked = watch.behind(kind, &seats, coverage);
+    let (store, _) = both(emptied.filled(seats, clients), looked)?;
+    Ok(store)
+}
+
+/// An event happens.
+fn happen(
+    store: Store,
+    watch: &mut Watch,
+    event: Event,
+    coverage: &mut Coverage,
+) -> Result<Store, NoMemory> {
+    let mut store = store;
+    watch.before(event.kind, coverage);
+    let happened = store.event(event);
+    let (store, _) = both(store, happened)?;
+    look(store, watch, event.kind, coverage)
+}
+
+/// The events of the schedule happen.
+fn happen_all(
+    store: Store,
+    watch: &mut Watch,
+    events: &[Event],
+    coverage: &mut Coverage,
+) -> Result<Store, NoMemory> {
+    let mut store = Ok(store);
+    for event in events {
+        store = match store {
+            Ok(store) => happen(store, watch, *event, coverage),
+            Err(NoMemory) => Err(NoMemory),
+        };
+    }
+    store
+}
+
+/// All items end.
+fn drain(store: Store, watch: &mut Watch, coverage: &mut Coverage) -> Result<Store, NoMemory> {
+    let mut store = store;
+    let drained = store.drain();
+    let (store, _) = both(store, drained)?;
+    look(store, watch, EventKind::Unknown, coverage)
+}
+
+/// The same event happens at each repository.
+fn at_each(
+    store: Store,
+    watch: &mut Watch,
+    repos: u8,
+    pick: Option<u32>,
+    coverage: &mut Coverage,
+) -> Result<Store, NoMemory> {
+    let mut store = Ok(store);
+    for place in 0..repos {
+        let repo = u32::from(place);
+        let kind = match pick {
+            Some(pick) => EventKind::Restart { repo, pick },
+            None => EventKind::Checkpoint { repo },
+        };
+        store = match store {
+            Ok(store) => happen(store, watch, Event { line: 0, kind }, coverage),
+            Err(NoMemory) => Err(NoMemory),
+        };
+    }
+    store
+}
+
+/// What comes behind the last event.
+fn end(
+    store: Store,
+    watch: &mut Watch,
+    options: &Options,
+    coverage: &mut Coverage,
+) -> Result<Store, NoMemory> {
+    match options.ending {
+        Ending::Drained | Ending::Again => drain(store, watch, coverage),
+        Ending::Checkpointed => {
+            let store = drain(store, watch, coverage)?;
+            at_each(store, watch, options.repos, None, coverage)
+        }
+        Ending::Cut { pick } => {
+            at_each(store, watch, options.repos, Some(u32::from(pick)), coverage)
+        }
+    }
+}
+
+/// What is wrong with a repository at the end: it is down, or it buffers too much.
+fn wrong_at(seat: &Seat<MemParts<TickClock>>, repo: u8, mob: u32) -> Option<Wrong> {
+    match seat {
+        Seat::Open(found) => {
+            if !found.is_up() {
+                return Some(Wrong::Down { repo });
+            }
+            if found.mob_bytes() > mob {
+                return Some(Wrong::Buffer { repo });
+            }
+            None
+        }
+        _ => Some(Wrong::Down { repo }),
+    }
+}
+
+fn wrong_in(seats: &[Seat<MemParts<TickClock>>], mob: u32) -> Option<Wrong> {
+    let mut repo = 0u8;
+    for seat in seats {
+        if let Some(wrong) = wrong_at(seat, repo, mob) {
+            return Some(wrong);
+        }
+        repo = repo.saturating_add(1);
+    }
+    None
+}
+
+/// How the items of a run ended, and what committed.
+fn told_of(ran: Ran) -> (Ends, Lines) {
+    let Ran {
+        ends,
+        lines,
+        clients,
+        schemas,
+        traces,
+    } = ran;
+    drop(clients);
+    drop(schemas);
+    drop(traces);
+    (ends, lines)
+}
+
+/// What is left of a run, where it was told.
+fn lived_in(finished: Finished<MemParts<TickClock>>) -> Result<Lived, NoMemory> {
+    let Finished { parts, ran } = finished;
+    let (disks, ran) = both(parts, ran)?;
+    let (ends, lines) = told_of(ran);
+    Ok(Lived { disks, ends, lines })
+}
+
+/// Ends a life. What is wrong with its repositories stands beside it.
+fn close(store: Store, mob: u32) -> (Option<Wrong>, Finished<MemParts<TickClock>>) {
+    let (emptied, seats, clients) = store.emptied();
+    let wrong = wrong_in(&seats, mob);
+    (wrong, emptied.filled(seats, clients).finish())
+}
+
+/// Ends a life whose repositories are as they should be.
+fn finish(store: Store, options: &Options) -> Result<Lived, Fault> {
+    match close(store, options.mob) {
+        (None, finished) => Ok(lived_in(finished)?),
+        (Some(wrong), finished) => {
+            drop(finished);
+            Err(Fault::Wrong(wrong))
+        }
+    }
+}
+
+/// Opens what was found, and has the events happen.
+fn go(
+    alloc: Global,
+    play: &Play<'_>,
+    start: Start,
+    found: Found<MemParts<TickClock>>,
+    coverage: &mut Coverage,
+) -> Result<(Store, Watch), Fault> {
+    let store = open(alloc, play, start, found)?;
+    let (store, watch) = begin_watch(alloc, store, play)?;
+    let mut watch = watch;
+    let happened = happen_all(store, &mut watch, play.events, coverage);
+    let (watch, store) = both(watch, happened)?;
+    Ok((store, watch))
+}
+
+/// Opens what was found, has the events happen, and what comes behind them.
+pub(crate) fn live(
+    alloc: Global,
+    play: &Play<'_>,
+    start: Start,
+    found: Found<MemParts<TickClock>>,
+    coverage: &mut Coverage,
+) -> Result<Lived, Fault> {
+    let (store, watch) = go(alloc, play, start, found, coverage)?;
+    let mut watch = watch;
+    let ended = end(store, &mut watch, play.options, coverage);
+    drop(watch);
+    finish(ended?, play.options)
+}
+
+/// Opens what was found, has the events happen, and lets it go as it stands then. The disks.
+pub(crate) fn live_on(
+    alloc: Global,
+    play: &Play<'_>,
+    start: Start,
+    found: Found<MemParts<TickClock>>,
+    coverage: &mut Coverage,
+) -> Result<Disks, Fault> {
+    let (store, watch) = go(alloc, play, start, found, coverage)?;
+    drop(watch);
+    let Finished { parts, ran } = store.finish();
+    drop(ran);
+    Ok(parts)
+}
