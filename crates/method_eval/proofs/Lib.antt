@@ -3,3 +3,4 @@ pub mod Given
 pub mod Holding
 pub mod Marking
 pub mod Taken
+pub mod SmallSteps

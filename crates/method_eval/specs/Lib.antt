@@ -3,4 +3,5 @@ pub mod Does
 pub mod Inner
 pub mod Marks
 pub mod Names
+pub mod SmallSteps
 pub mod Viewed

@@ -17,6 +17,10 @@ use thor_value::{
     Answer, Fault, Ints, NoMemory, Obj, Oref, OrefMap, Orefs, Sequence, Writes, both,
 };
 
+/// How many nodes may be open inside one another in plain recursion. Each takes 2.3 KB of a thread's stack at most, so that so
+/// many fit three times into the smallest one, 2 MB (`checks/deep`). What stands deeper is evaluated by small steps.
+pub const RECURSION_LIMIT: u32 = 256;
+
 pub(crate) fn begun(alloc: Global, view: &View) -> Result<Machine, NoMemory>
     ensures { IfOk result (λ machine. machine ≡ begun (supply view.now.names).waiting (supply view.now.names).stand_in) }
 {
@@ -42,7 +46,7 @@ pub(crate) fn execute_all(
 ) -> Result<Flow, Halt>
     ensures { Does result machine.new (execute_all (reading world.now) tx.now machine.old) }
 {
-    block(world, 100_001, machine, tx)
+    block(world, RECURSION_LIMIT, 100_001, machine, tx)
 }
 
 fn stored(epoch: u32, written: (Oref, Object)) -> (Oref, Obj)

@@ -1,8 +1,11 @@
 //! The evaluation of a transaction over the objects at hand.
 #![tactic(auto)]
 
+mod beginning_steps;
 mod calls;
 mod evaluation;
+mod frames;
+mod giving;
 mod halt;
 mod held;
 mod locals;
@@ -11,13 +14,14 @@ mod names;
 mod names_laws;
 mod objects;
 mod run;
+mod small_steps;
 mod steps;
 mod types;
 mod view;
 mod world;
 
 pub use calls::{bound, owners_at};
-pub use evaluation::eval;
+pub use evaluation::{RECURSION_LIMIT, eval};
 pub use halt::Halt;
 pub use held::Held;
 pub use locals::{assign_local, declare, holds};
