@@ -5,7 +5,7 @@ use Rattle.client_laws.proofs.Growing.{agrees_before, grown}
 use Rattle.client_laws.proofs.Linked.{become, outlives_while, tells_took}
 use Rattle.client_laws.proofs.Staying.{clients_stay, is_own, lives_stands, when_live}
 use Rattle.client_laws.proofs.Working as works
-use Rattle.client_laws.specs.Fitting.{Agrees, Copies, FitsAt, HoldsNone, Kept, NoneToFinish, SameCopies, awaits_behind, stands}
+use Rattle.client_laws.specs.Fitting.{Agrees, Copies, FitsAt, HoldsNone, Kept, NoneToFinish, SameCopies, awaits_behind}
 use Rattle.client_laws.specs.Links.{Becomes, BringsContent, FitsOrNone}
 use Rattle.client_laws.specs.Seen.{IsSeenRight, LinkAt, LinkIn}
 use Rattle.client_state.specs.Calling.{Connects, CopiesBehind, CopiesLost, CopiesRefused, CopiesStay, Draws, Fetches, Grants, is_session_of, links_asked, links_drawn, links_joined, links_refused}
@@ -36,7 +36,7 @@ use Rattle.session_outbox.specs.Calls.{next_page}
 use Rattle.session_outbox.specs.Current.{NoneAborted}
 use Rattle.session_outbox.specs.Exact.{exact}
 use Rattle.session_outbox.specs.Gaps.{client_in}
-use Rattle.session_outbox.specs.Notices.{lives, notice_of}
+use Rattle.session_outbox.specs.Notices.{lives, notice_of, stands}
 use Rattle.session_outbox.specs.Session.{bound, is_news, place_of, session}
 use Rattle.session_outbox.specs.Trace.{Item, M, entries}
 use Rattle.session_outbox.specs.declared.mark.Mark.TheVariants as the

@@ -1,13 +1,13 @@
 -- A client's session is there behind more items, and what is kept there fits where it does while the session is live and nothing is
 -- unsettled.
 use Rattle.client_laws.proofs.Telling.{client_stays, of_client}
-use Rattle.client_laws.specs.Fitting.{FitsAt, KeepsUp, Kept, stands}
+use Rattle.client_laws.specs.Fitting.{FitsAt, KeepsUp, Kept}
 use Rattle.local_history.specs.History.{Base, State}
 use Rattle.port.specs.Views.{Calm, Unsettled}
 use Rattle.session_outbox.proofs.Exactness.{exact-beginning, exact-owed}
 use Rattle.session_outbox.specs.Exact.{exact}
 use Rattle.session_outbox.specs.Gaps.{client_in}
-use Rattle.session_outbox.specs.Notices.{lives}
+use Rattle.session_outbox.specs.Notices.{lives, stands}
 use Rattle.session_outbox.specs.Session.{Ended, Live, Retired, Session, Stage, is_ended, is_live, is_silent, lives_on, move, moved, or_retired, rested, retired, session, session_ended, session_lives}
 use Rattle.session_outbox.specs.Trace.{Item}
 use Rattle.std.proofs.Common.{Bool, List, [], ap, append_assoc, cond, false, refl, subst, sym, true, ◌++◌, ◌∙◌, ◌∷◌, ◌≡◌, ℕ}

@@ -3,7 +3,7 @@ use Rattle.client_cache.specs.Copies.{kept}
 use Rattle.client_laws.proofs.Lending.{Front, answered_front, met_standing, one_more, sound_now}
 use Rattle.client_laws.proofs.Resting.{rests}
 use Rattle.client_laws.proofs.Staying.{moved_stands}
-use Rattle.client_laws.specs.Fitting.{FitsAt, Kept, stands}
+use Rattle.client_laws.specs.Fitting.{FitsAt, Kept}
 use Rattle.client_laws.specs.Seen.{IsSeenRight, LinkAt, LinkIn}
 use Rattle.client_state.specs.Calling.{upto_in}
 use Rattle.client_state.specs.Links.{is_reply}
@@ -27,6 +27,7 @@ use Rattle.port.specs.Views.{Calm, Came, Halted, MayCome, Opened, Unsettled, Vie
 use Rattle.port.specs.Works.{Answered, CommitWork, Does, PrepareWork, alone_entry}
 use Rattle.session_outbox.proofs.Sessions.{session-end}
 use Rattle.session_outbox.proofs.Traces.{entries-append}
+use Rattle.session_outbox.specs.Notices.{stands}
 use Rattle.session_outbox.specs.Session.{Session, lives_on, meet, session}
 use Rattle.session_outbox.specs.Trace.{E, Item, entries}
 use Rattle.session_outbox.specs.Verdict.{verdict, verdict_by}

@@ -5,7 +5,7 @@ ghost use Rattle.std.specs.Option.{IfSome};
 ghost use Rattle.cached_sets.specs.Sets as sets;
 ghost use Rattle.disk_trait.specs.Fused.{fused_disks};
 ghost use Rattle.held_state.specs.Keeps.{TableFits};
-ghost use Rattle.live_sessions.specs.Sessions.{is_live};
+ghost use Rattle.live_sessions.specs.Sessions.{stands};
 ghost use Rattle.mob_buffer.specs.Buffer.{bytes_of};
 ghost use Rattle.repo_core.specs.Behind.{AreOwn, IsLeastOfOthers, epoch_of, has_prepared};
 ghost use Rattle.stable_store.specs.Saying.{ImagesSay};
@@ -104,12 +104,12 @@ impl<P: Parts> Repo<P> {
         }
     }
 
-    /// Whether the session may decide the transaction: it has prepared it here, or it isn't live or the
+    /// Whether the session may decide the transaction: it has prepared it here, or it has ended or the
     /// repository is down, so that the call is refused.
     pub fn may_decide(&self, session: u32, tx: Ts) -> bool
-        ensures { result ≡ cond self.now.is_up (cond (is_live self.now.memory.sessions session) (has_prepared self.now.held session tx) true) true }
+        ensures { result ≡ cond self.now.is_up (cond (stands self.now.memory.sessions session) (has_prepared self.now.held session tx) true) true }
     {
-        !self.is_up() || !self.memory.sessions().is_live(session) || self.has_prepared(session, tx)
+        !self.is_up() || !self.memory.sessions().stands(session) || self.has_prepared(session, tx)
     }
 
     /// The transaction of another coordinator with the least timestamp that is prepared and undecided here. `None`, too,

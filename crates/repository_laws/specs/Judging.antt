@@ -1,12 +1,12 @@
 -- What a repository answers by its memory, and by its history.
 use Rattle.cached_sets.specs.Invalid.{set_of}
 use Rattle.commit_log.specs.declared.request.Request.{Request}
-use Rattle.live_sessions.specs.Sessions.{Kept, is_live}
+use Rattle.live_sessions.specs.Sessions.{Kept, is_live, stands}
 use Rattle.local_history.specs.History.{Base, epoch_of}
 use Rattle.local_history.specs.Sound.{Vouches}
 use Rattle.repository_laws.specs.Agreeing.{state_of}
 use Rattle.held_state.specs.declared.held.Held.{Held}
-use Rattle.session_outbox.specs.Notices.{lives}
+use Rattle.session_outbox.specs.Notices.{lives, stands as unended}
 use Rattle.session_outbox.specs.Session.{Session, invalid, session, session_lives}
 use Rattle.session_outbox.specs.Trace.{Item, entries}
 use Rattle.std.specs.List.{AllByRecursion}
@@ -19,9 +19,11 @@ use Rattle.validation_queue.specs.Names.{IsInOrder}
 use Rattle.validation_window.specs.Refusals.{bytes_of}
 use Rattle.volatile_state.specs.Volatile.{Memory, knows, verdict}
 
--- What verdicts look at of the sessions that are kept: which are live, and the invalid sets of these.
+-- What verdicts and decisions look at of the sessions that are kept: which are live, which haven't ended, and the invalid
+-- sets of the live ones.
 pub record SessionsAnswer (b : Base) (T : List Item) (K : Kept) : Type 0 where
   pub live : (s : ℕ) → is_live K s ≡ lives (session b T s)
+  pub unended : (s : ℕ) → stands K s ≡ unended (session b T s)
   pub invalid : (s : ℕ) (v : Session) (x : Oref) → session b T s ≡ Some v → session_lives v ≡ true → get (set_of K.sets.invalid s) x ≡ invalid b (entries T) s v x
 
 -- The request q of the session s is accepted, by what is in memory: no refusal stands against it, its transaction isn't

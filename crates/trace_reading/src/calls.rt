@@ -1,7 +1,7 @@
 //! What calls ask of what was read.
 
 ghost use Rattle.local_history.specs.History.{is_undecided, known_in};
-ghost use Rattle.session_outbox.specs.Notices.{lives};
+ghost use Rattle.session_outbox.specs.Notices.{lives, stands};
 ghost use Rattle.std.specs.List.{list_any, slice_get};
 ghost use Rattle.std.specs.Option.{option_and_then, option_copied, option_map};
 ghost use Rattle.std.specs.Prelude.{IfOk, length, ◌+◌, ◌≡◌};
@@ -94,6 +94,16 @@ impl Reading {
     {
         match &self.session {
             Some(session) => session.is_live(),
+            None => false,
+        }
+    }
+
+    /// Whether the session that was looked for is there and hasn't ended. None is given up here, so it is live then.
+    pub fn stands(&self) -> bool
+        ensures { result ≡ stands self.now.session }
+    {
+        match &self.session {
+            Some(session) => session.stands(),
             None => false,
         }
     }
