@@ -4,7 +4,7 @@ ghost use Rattle.cached_sets.specs.NotedKeys.{IsLaidOut, IsTaken, count_in, firs
 ghost use Rattle.cached_sets.specs.Noted.{noted_from};
 ghost use Rattle.link_table.specs.Pairs.{is_linked, link, rights, unlink_left};
 ghost use Rattle.slab.specs.Slab.{get};
-ghost use Rattle.std.specs.Prelude.{IfOk, IfSome, IsSome, None, OnErr, OnOk, Some, [], cond, false, length, nat_eq, true, ℕ, ◌&&◌, ◌+◌, ◌≡◌, ◌≢◌};
+ghost use Rattle.std.specs.Prelude.{IfOk, IfSome, IsOk, IsSome, None, OnErr, OnOk, Some, [], cond, false, length, nat_eq, true, ℕ, ◌&&◌, ◌+◌, ◌≡◌, ◌≢◌};
 
 use link_table::Links;
 use slab::Slab;
@@ -30,6 +30,7 @@ pub struct NotedKeys {
 impl NotedKeys {
     /// No session has a place. It takes no memory.
     pub fn new(alloc: Global) -> Result<NotedKeys, NoMemory>
+        ensures ok { IsOk result }
         ensures laid_out { IfOk result IsLaidOut }
         ensures none { IfOk result (λ made. noted_of made ≡ []) }
     {
