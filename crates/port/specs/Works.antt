@@ -15,7 +15,7 @@ use Rattle.port.specs.Growing.{Called}
 use Rattle.port.specs.Views.{Calm, Came, Halted, MayCome, Unsettled, View}
 use Rattle.session_outbox.specs.Notices.{lives, notice_of, stands}
 use Rattle.session_outbox.specs.Calls.{Asked, Settled, Undecided, Welcomed, asked, is_kept, is_last_alone, next_page, welcome}
-use Rattle.session_outbox.specs.Exact.{HasEndedIn, IsDrawn, IsGoneIn, RefusalIsExact, most_pages}
+use Rattle.session_outbox.specs.Exact.{IsDrawn, IsEndedIn, IsGoneIn, RefusalIsExact, most_pages}
 use Rattle.session_outbox.specs.Session.{place_of, session, waiting}
 use Rattle.session_outbox.specs.Trace.{E, Item, M, entries}
 use Rattle.session_outbox.specs.Verdict.{verdict}
@@ -182,7 +182,7 @@ Decides false t c v b at after u = (v.commit ≡ commits_by b at t) × IsAsMet a
 
 abbrev pub DecideWork : ℕ → Ts → Bool → Result Verdict Refusal → Base → List Item → List Item → Unsettled → Type 0
 DecideWork s t c (Ok v) b at after u = (stands (session b at s) ≡ true) × (v.tx ≡ t) × Decides (is_prepared_by s (known_by b (entries at) t)) t c v b at after u
-DecideWork s t c (Err (refused.Reason r)) b at after u = (r ≡ reasons.Gone s) × HasEndedIn (session b at s) × IsAsMet at after u
+DecideWork s t c (Err (refused.Reason r)) b at after u = (r ≡ reasons.Gone s) × IsEndedIn (session b at s) × IsAsMet at after u
 DecideWork s t c (Err r) b at after u = OutageWith (Decided t c) (is_prepared_by s (known_by b (entries at) t) ≡ true) at r after u
 
 abbrev pub FinishWork : Ts → Bool → Result (Option ℕ) Refusal → Base → List Item → List Item → Unsettled → Type 0

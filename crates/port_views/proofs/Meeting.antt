@@ -13,7 +13,7 @@ use Rattle.port.specs.Views.{Calm}
 use Rattle.port.specs.Works.{AskWork, Answers, CommitWork, ConnectWork, DecideWork, Decides, DrawWork, FetchWork, FinishWork, ForgetWork, GrantWork, IsMarked, PrepareWork, ReceiveWork, RequestRefused, alone_entry, commits_by, is_prepared_by}
 use Rattle.session_outbox.specs.Notices.{lives, notice_of, stands as unended}
 use Rattle.session_outbox.specs.Calls.{Asked, Settled, Undecided, asked, drawn_time, last_drawn, next_page, next_session, welcome}
-use Rattle.session_outbox.specs.Exact.{HasEndedIn, IsDrawn, IsGoneIn, most_pages}
+use Rattle.session_outbox.specs.Exact.{IsDrawn, IsEndedIn, IsGoneIn, most_pages}
 use Rattle.session_outbox.specs.Session.{Grant, Invalid, Notice, Page, Session, Upgrade, place_of, session, session_ended, session_lives, waiting}
 use Rattle.session_outbox.specs.Trace.{E, Item, M, entries}
 use Rattle.session_outbox.specs.Verdict.{verdict}
@@ -38,7 +38,7 @@ gone : (o : Option Session) → lives o ≡ false → IsGoneIn o
 gone None h = tt
 gone (Some v) h = h
 
-ended : (o : Option Session) → unended o ≡ false → HasEndedIn o
+ended : (o : Option Session) → unended o ≡ false → IsEndedIn o
 ended None h = tt
 ended (Some v) h = by (session_ended v) h
   where

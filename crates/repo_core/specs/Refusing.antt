@@ -40,8 +40,8 @@ abbrev pub IsGone : Memory → ℕ → Refusal → Type 0
 IsGone M s r = (r ≡ refused.Reason (Gone s)) × (is_live M.sessions s ≡ false)
 
 -- a decision of a session is refused since it has ended
-abbrev pub HasEnded : Memory → ℕ → Refusal → Type 0
-HasEnded M s r = (r ≡ refused.Reason (Gone s)) × (stands M.sessions s ≡ false)
+abbrev pub IsEnded : Memory → ℕ → Refusal → Type 0
+IsEnded M s r = (r ≡ refused.Reason (Gone s)) × (stands M.sessions s ≡ false)
 
 -- objects moved, and the buffer's limit stays
 pub record Moved (old new : Shown) : Type 0 where

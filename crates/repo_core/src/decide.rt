@@ -11,7 +11,7 @@ ghost use Rattle.stable_store.specs.Failing.{HasFailed, is_stopped};
 ghost use Rattle.trace_record.specs.Recorded.{with_entry};
 ghost use Rattle.two_phase.specs.Contents.{standing};
 ghost use Rattle.repo_core.specs.Moving.{HasRoomFor};
-ghost use Rattle.repo_core.specs.Refusing.{CanRefuse, GoesDown, HasEnded, IsPageDamage, Leaves};
+ghost use Rattle.repo_core.specs.Refusing.{CanRefuse, GoesDown, IsEnded, IsPageDamage, Leaves};
 ghost use Rattle.repo_core.specs.Telling.{Tells};
 ghost use Rattle.refusal_reasons.specs.declared.reason.Reason.TheVariants.{Gone as AGone};
 ghost use Rattle.validation_window.specs.declared.refusal.Refusal.TheVariants.{Damaged as IsDamaged, Reason as IsReason, Stopped as IsStopped};
@@ -42,7 +42,7 @@ impl<P: Parts> Repo<P> {
         ensures trace { OnOk result (self.new.trace ≡ cond (has_prepared self.old.held session tx) (with_entry self.old.trace (Decides tx commit)) self.old.trace) }
         ensures verdict { IfOk result (λ v. IsVerdict v tx (cond (has_prepared self.old.held session tx) commit (is_committed (standing self.old.held.table tx)))) }
         ensures refused { OnErr result (self.new.trace ≡ self.old.trace) }
-        ensures why { IfErr result (CanRefuse self.old (HasEnded self.old.memory session) ((stands self.old.memory.sessions session ≡ true) × (has_prepared self.old.held session tx ≡ true))) }
+        ensures why { IfErr result (CanRefuse self.old (IsEnded self.old.memory session) ((stands self.old.memory.sessions session ≡ true) × (has_prepared self.old.held session tx ≡ true))) }
         ensures gone { self.old.is_up ≡ true → stands self.old.memory.sessions session ≡ false → IsErrOf result (IsReason (AGone session)) }
         ensures left { IfErr result (Leaves self.old self.new (cond (stands self.old.memory.sessions session) (cond (has_prepared self.old.held session tx) (Some (Decides tx commit)) None) None)) }
         ensures pages { HasRoomFor self.old.held tx commit → self.new.pages ≡ self.old.pages }

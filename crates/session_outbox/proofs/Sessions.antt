@@ -2,7 +2,7 @@
 use Rattle.commit_log.specs.declared.request.Request.{Request}
 use Rattle.local_history.proofs.Growth.{length-state}
 use Rattle.local_history.specs.History.{Base, State, commit_of, epoch_of, put, start, state}
-use Rattle.session_outbox.specs.Exact.{HasEndedIn, IsGoneIn}
+use Rattle.session_outbox.specs.Exact.{IsEndedIn, IsGoneIn}
 use Rattle.session_outbox.specs.Messages.{InOrder, KeepsOrder, WaitsByPlace}
 use Rattle.local_history.specs.Requests.{is_upgrade, written}
 use Rattle.session_outbox.specs.Session.{Ended, Grant, Invalid, Live, Notice, Page, Retired, Session, Stage, Upgrade, begun, bound, invalid_of, is_ended, is_live, is_silent, meet, move, moved, notice, or_retired, pass, place_of, push, rested, retired, session, session_ended, session_from, session_lives, told, told_of, upto_of}
@@ -235,7 +235,7 @@ wait-by-place b T s = all-wait (session b T s) (length (entries T)) (keeps-order
 -- ---- the end of a session
 
 -- one that has ended isn't live
-pub ended_is_gone : (o : Option Session) → HasEndedIn o → IsGoneIn o
+pub ended_is_gone : (o : Option Session) → IsEndedIn o → IsGoneIn o
 ended_is_gone None h = tt
 ended_is_gone (Some v) h = by v.stage h
   where

@@ -36,9 +36,9 @@ IsGoneIn None = Unit {0}
 IsGoneIn (Some v) = session_lives v ≡ false
 
 -- there is no session s that hasn't ended
-abbrev pub HasEndedIn : Option Session → Type 0
-HasEndedIn None = Unit {0}
-HasEndedIn (Some v) = session_ended v ≡ true
+abbrev pub IsEndedIn : Option Session → Type 0
+IsEndedIn None = Unit {0}
+IsEndedIn (Some v) = session_ended v ≡ true
 
 -- the message that waits first for a session stands at this place
 abbrev pub WaitsAt : ℕ → Session → Type 0
