@@ -1,4 +1,5 @@
 -- The repositories of an open store, and so its parts: how many there are. How many steps are left for its clients.
+use Rattle.class_defs.specs.declared.store.Schemas.{Schemas}
 use Rattle.cluster_core.specs.declared.emptied.Emptied.{Emptied}
 use Rattle.cluster_core.specs.declared.cluster.Cluster.{Cluster}
 use Rattle.front_end.specs.Moving.{steps_left}
@@ -15,3 +16,7 @@ room_of emptied = vec_capacity emptied.spare
 -- how many steps its clients take at most before each has ended
 abbrev pub steps_of : {P : Type 0} → {g : _} → Cluster P g → ℕ
 steps_of cluster = sum_by steps_left cluster.clients.items
+
+-- the schemas on which its clients run
+abbrev pub schemas_of : {P : Type 0} → {g : _} → Cluster P g → Schemas
+schemas_of cluster = cluster.opened.schemas

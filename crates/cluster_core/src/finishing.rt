@@ -6,10 +6,9 @@ ghost use Rattle.std.specs.Prelude.{vec_capacity, vec_len, ◌≡◌, ◌≤◌}
 use crate::cluster::Cluster;
 use crate::history::history_of;
 use crate::seat::Seat;
-use class_defs::Schemas;
 use disk_trait::Parts;
-use front_end::{FrontEnd, Opened};
-use history_check::{ClientItems, Lines};
+use front_end::FrontEnd;
+use history_check::Lines;
 use repo_core::{Entries, Marks, Trace, Traces};
 use serial_model::Ends;
 use std::alloc::Global;
@@ -22,10 +21,6 @@ pub struct Ran {
     pub ends: Ends,
     /// The serial history of what committed, by rising timestamp.
     pub lines: Lines,
-    /// The items of the clients, as they were handed in.
-    pub clients: ClientItems,
-    /// The schemas of the store's epochs, and behind them those of the script's upgrades.
-    pub schemas: Schemas,
     /// What happened at each repository.
     pub traces: Traces,
 }
@@ -50,12 +45,12 @@ impl<P: Parts> Cluster<P> {
             spare,
             ..
         } = self;
+        drop(opened);
         let (parts, traces) = close_all(alloc, seats, spare);
         let ran = match traces {
-            Ok(traces) => gather(alloc, clients, opened, traces),
+            Ok(traces) => gather(alloc, clients, traces),
             Err(NoMemory) => {
                 drop(clients);
-                drop(opened);
                 Err(NoMemory)
             }
         };
@@ -106,12 +101,9 @@ fn with_trace(traces: Result<Traces, NoMemory>, trace: Trace) -> Result<Traces, 
     Ok(traces)
 }
 
-/// How the items of clients ended, and the items.
-type Closed = (Ends, ClientItems);
-
-/// How the items of all clients ended, and the items of each.
-fn close_clients(alloc: Global, clients: Vec<FrontEnd>) -> Result<Closed, NoMemory> {
-    let mut closed = Ok((Ends::new(alloc), ClientItems::new(alloc)));
+/// How the items of all clients ended.
+fn close_clients(alloc: Global, clients: Vec<FrontEnd>) -> Result<Ends, NoMemory> {
+    let mut closed = Ok(Ends::new(alloc));
     for client in clients {
         closed = with_closed(closed, client);
     }
@@ -119,35 +111,21 @@ fn close_clients(alloc: Global, clients: Vec<FrontEnd>) -> Result<Closed, NoMemo
 }
 
 /// The same with one more client.
-fn with_closed(closed: Result<Closed, NoMemory>, client: FrontEnd) -> Result<Closed, NoMemory> {
-    let (own, closed) = both(client.close(), closed)?;
-    let (mut ends, mut items) = closed;
-    let (ended, own) = own;
+fn with_closed(closed: Result<Ends, NoMemory>, client: FrontEnd) -> Result<Ends, NoMemory> {
+    let (ended, mut ends) = both(client.close(), closed)?;
     let appended = ends.append(ended);
-    let pushed = items.push(own);
-    let (closed, _) = both((ends, items), appended)?;
-    let (closed, _) = both(closed, pushed)?;
-    Ok(closed)
+    let (ends, _) = both(ends, appended)?;
+    Ok(ends)
 }
 
 /// What a run was, from its clients and traces.
-fn gather(
-    alloc: Global,
-    clients: Vec<FrontEnd>,
-    opened: Opened,
-    traces: Traces,
-) -> Result<Ran, NoMemory> {
-    let (held, closed) = both((opened, traces), close_clients(alloc, clients))?;
-    let (opened, traces) = held;
+fn gather(alloc: Global, clients: Vec<FrontEnd>, traces: Traces) -> Result<Ran, NoMemory> {
+    let (traces, ends) = both(traces, close_clients(alloc, clients))?;
     let lines = history_of(alloc, traces.as_slice());
-    let (held, lines) = both(((opened, traces), closed), lines)?;
-    let ((opened, traces), (ends, items)) = held;
-    let schemas = opened.into_schemas();
+    let ((traces, ends), lines) = both((traces, ends), lines)?;
     Ok(Ran {
         ends,
         lines,
-        clients: items,
-        schemas,
         traces,
     })
 }

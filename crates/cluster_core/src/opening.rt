@@ -1,6 +1,6 @@
 //! A store is opened: formatted, or begun with a Life, and then settled.
 
-ghost use Rattle.cluster_core.specs.Counts.{parts_of};
+ghost use Rattle.cluster_core.specs.Counts.{parts_of, schemas_of};
 ghost use Rattle.std.specs.Prelude.{IfErr, IfOk, vec_capacity, vec_len, ◌≡◌, ◌≤◌};
 ghost use Rattle.store_reading.specs.Counts.{parts_in};
 
@@ -8,13 +8,13 @@ use crate::cluster::Cluster;
 use crate::plan::{Plan, Start};
 use crate::seat::{Seat, give_back, seat_all};
 use crate::settling::settle_all;
-use class_defs::{Schemas, Setup, UpgradedSchemas};
+use class_defs::{Schemas, Setup};
 use disk_trait::Parts;
 use front_end::{FrontEnd, Items, Opened};
 use repo_core::Repo;
 use repository_reading::{Unopened, number_at};
 use std::alloc::Global;
-use store_reading::{Closed, ClusterFault, Found, with_upgrades};
+use store_reading::{Closed, ClusterFault, Found};
 use thor_value::{NoMemory, both};
 
 impl<P: Parts> Cluster<P> {
@@ -26,6 +26,7 @@ impl<P: Parts> Cluster<P> {
     /// number of the plan isn't in its range.
     pub fn open(alloc: Global, found: Found<P>, plan: Plan) -> Result<Cluster<P>, ClusterFault<P>>
         ensures ok { IfOk result (λ cluster. parts_of cluster ≡ parts_in found) }
+        ensures schemas { IfOk result (λ cluster. schemas_of cluster ≡ plan.schemas) }
         ensures err { IfErr result (λ fault. vec_len fault.parts ≡ parts_in found) }
     {
         match Vec::with_capacity(alloc, found.repos()) {
@@ -51,18 +52,20 @@ fn open_found<P: Parts>(
     requires empty { vec_len room ≡ 0 }
     requires room { parts_in found ≤ vec_capacity room }
     ensures ok { IfOk result (λ cluster. parts_of cluster ≡ parts_in found) }
+    ensures schemas { IfOk result (λ cluster. schemas_of cluster ≡ plan.schemas) }
     ensures err { IfErr result (λ fault. vec_len fault.parts ≡ parts_in found) }
 {
-    let (places, spare, mob, schemas) = found.into_repositories();
+    let (places, spare, mob, stored) = found.into_repositories();
     let Plan {
         start,
         tries,
         cache,
+        schemas,
         clients,
     } = plan;
     let seats = seat_all(places, room);
-    let (seats, opened) = open_seats(alloc, seats, schemas, start, mob);
-    match told_to(alloc, seats.len(), opened, clients, tries, cache) {
+    let (seats, opened) = open_seats(alloc, seats, stored, start, mob);
+    match told_to(alloc, seats.len(), opened, schemas, clients, tries, cache) {
         Ok((opened, clients)) => settled(Cluster {
             alloc,
             seats,
@@ -80,6 +83,7 @@ fn open_found<P: Parts>(
 /// A store whose prepared transactions are settled.
 fn settled<P: Parts>(cluster: Cluster<P>) -> Result<Cluster<P>, ClusterFault<P>>
     ensures ok { IfOk result (λ settled. parts_of settled ≡ parts_of cluster) }
+    ensures schemas { IfOk result (λ settled. schemas_of settled ≡ schemas_of cluster) }
     ensures err { IfErr result (λ fault. vec_len fault.parts ≡ parts_of cluster) }
 {
     let mut cluster = cluster;
@@ -89,21 +93,20 @@ fn settled<P: Parts>(cluster: Cluster<P>) -> Result<Cluster<P>, ClusterFault<P>>
     }
 }
 
-/// The clients, and what they are told of the store with these schemas.
+/// The clients, and what they are told of the store: so many repositories, epochs that were installed, and these schemas.
 fn told_to(
     alloc: Global,
     repos: usize,
-    opened: Result<Schemas, Unopened>,
+    opened: Result<usize, Unopened>,
+    schemas: Schemas,
     clients: Vec<Items>,
     tries: u32,
     cache: u32,
-) -> Result<(Opened, Vec<FrontEnd>), Unopened> {
-    let (clients, schemas) = both(clients, opened)?;
-    let numbers = numbers_of(repos, schemas.upgraded.len());
-    let (held, (repos, epoch)) = both((clients, schemas), numbers)?;
-    let (clients, schemas) = held;
-    let schemas = with_upgrades(alloc, schemas, clients.as_slice());
-    let (clients, schemas) = both(clients, schemas)?;
+) -> Result<(Opened, Vec<FrontEnd>), Unopened>
+    ensures { IfOk result (λ told. told.0.schemas ≡ schemas) }
+{
+    let (held, epochs) = both((clients, schemas), opened)?;
+    let ((clients, schemas), (repos, epoch)) = both(held, numbers_of(repos, epochs))?;
     let (clients, opened) = both(clients, Opened::new(alloc, repos, epoch, schemas))?;
     Ok(both(opened, make_clients(alloc, clients, tries, cache))?)
 }
@@ -116,44 +119,38 @@ fn numbers_of(repos: usize, epochs: usize) -> Result<(u8, u32), NoMemory> {
     }
 }
 
-/// Opens every repository: as it is stored, where the store's schemas were found, else by formatting it. The answer
-/// is the schemas of the store.
+/// Opens every repository: as it is stored, where the store was found with so many upgrades, else by formatting it. The
+/// answer is how many upgrades the store has installed.
 fn open_seats<P: Parts>(
     alloc: Global,
     seats: Vec<Seat<P>>,
-    stored: Option<Schemas>,
+    stored: Option<usize>,
     start: Start,
     mob: u32,
-) -> (Vec<Seat<P>>, Result<Schemas, Unopened>)
+) -> (Vec<Seat<P>>, Result<usize, Unopened>)
     ensures { vec_len result.0 ≡ vec_len seats }
 {
     match (stored, start) {
-        (Some(schemas), Start::Stored) => {
+        (Some(epochs), Start::Stored) => {
             let (seats, opened) = open_all(alloc, seats);
-            (seats, with(opened, schemas))
+            (seats, with(opened, epochs))
         }
         (None, Start::Setup(setup)) => {
             let (seats, formatted) = format_all(alloc, seats, &setup, mob);
-            let Setup { schema, roots } = setup;
-            drop(roots);
-            let schemas = Schemas {
-                first: schema,
-                upgraded: UpgradedSchemas::new(alloc),
-            };
-            (seats, with(formatted, schemas))
+            drop(setup);
+            (seats, with(formatted, 0))
         }
-        (stored, start) => {
-            drop(stored);
+        (_, start) => {
             drop(start);
             (seats, Err(Unopened::NoMemory))
         }
     }
 }
 
-/// The schemas of a store whose repositories were opened.
-fn with(opened: Result<(), Unopened>, schemas: Schemas) -> Result<Schemas, Unopened> {
-    let (schemas, _) = both(schemas, opened)?;
-    Ok(schemas)
+/// How many upgrades a store has installed whose repositories were opened.
+fn with(opened: Result<(), Unopened>, epochs: usize) -> Result<usize, Unopened> {
+    opened?;
+    Ok(epochs)
 }
 
 /// Opens every repository of a store, rising. Behind one that can't be opened the others aren't.

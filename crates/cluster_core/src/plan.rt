@@ -1,6 +1,6 @@
 //! What a run is asked for.
 
-use class_defs::Setup;
+use class_defs::{Schemas, Setup};
 use front_end::Items;
 
 /// What a store is opened with.
@@ -20,6 +20,8 @@ pub struct Plan {
     pub tries: u32,
     /// How many pages a client caches, 1 to 4,096.
     pub cache: u32,
+    /// The schemas on which the clients run: those of the store's epochs, and behind them those of the script's upgrades.
+    pub schemas: Schemas,
     /// The items of the clients 1, 2, .., at most 64. They break no rule in any epoch of the store and the script.
     pub clients: Vec<Items>,
 }

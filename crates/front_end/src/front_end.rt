@@ -333,9 +333,9 @@ impl FrontEnd {
         self.progress.ended()
     }
 
-    /// The outcomes, and the items.
-    pub fn close(self) -> (Ends, Items)
-        ensures { result.0 ≡ (course_of self).ended }
+    /// The outcomes.
+    pub fn close(self) -> Ends
+        ensures { result ≡ (course_of self).ended }
     {
         let FrontEnd {
             client,

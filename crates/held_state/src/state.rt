@@ -34,9 +34,6 @@ use std::marker::Model;
 use thor_value::{NoMemory, Obj, Oref, Text, Texts, Ts};
 use two_phase::Table;
 
-/// The most pages that a repository has.
-const MOST_PAGES: u32 = 65_536;
-
 /// What a repository keeps in memory of the state for which its log stands.
 ///
 /// It moves by one entry, or by one installed page, as its log does. Beside the log's state it keeps the
@@ -197,29 +194,6 @@ impl HeldState {
         ensures whole { Keeps self.now → IfOk result (λ state. IsTrue (is_whole state)) }
     {
         self.held.state(self.alloc)
-    }
-
-    /// A checkpoint has spelled the state: the log's next page is the one that is granted next.
-    pub fn checkpointed(&mut self)
-        ensures keeps { Keeps self.old → Keeps self.new }
-        ensures said { said self.new ≡ spelled self.old }
-        ensures held { self.new ≡ record self.old { next_page = self.old.next_grant } }
-    {
-        self.held.next_page = self.held.next_grant;
-    }
-
-    /// Grants the next page; none where all pages were granted.
-    pub fn grant_page(&mut self) -> Option<u32>
-        ensures keeps { Keeps self.old → Keeps self.new }
-        ensures none { result ≡ None → (self.new ≡ self.old) × (65536 ≤ self.old.next_grant) }
-        ensures page { (page : ℕ) → result ≡ Some page → (page ≡ self.old.next_grant) × (page < 65536) × (self.new ≡ record self.old { next_grant = page + 1 }) }
-    {
-        let page = self.held.next_grant;
-        if page >= MOST_PAGES {
-            return None;
-        }
-        self.held.next_grant = page + 1;
-        Some(page)
     }
 
     /// Grants no page below this one any more. A restart takes so over what was granted before it. The page

@@ -2,7 +2,6 @@
 #![tactic(auto)]
 
 mod attempts;
-mod ending;
 mod meaning;
 mod news;
 mod opened;

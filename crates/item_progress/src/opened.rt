@@ -44,17 +44,4 @@ impl Opened {
             methods,
         })
     }
-
-    /// Its schemas, where nothing is evaluated any more.
-    pub fn into_schemas(self) -> Schemas
-        ensures { result ≡ self.schemas }
-    {
-        let Opened {
-            schemas,
-            methods,
-            ..
-        } = self;
-        drop(methods);
-        schemas
-    }
 }

@@ -158,9 +158,9 @@ impl Progress {
         self.ended.as_slice()
     }
 
-    /// The outcomes, and the items.
-    pub fn close(self) -> (Ends, Items)
-        ensures { result.0 ≡ self.ended }
+    /// The outcomes.
+    pub fn close(self) -> Ends
+        ensures { result ≡ self.ended }
     {
         let Progress {
             items,
@@ -169,7 +169,8 @@ impl Progress {
             ..
         } = self;
         drop(text);
-        (ended, items)
+        drop(items);
+        ended
     }
 
     /// Takes down what a step has come to. After `NoMemory` nothing has ended.

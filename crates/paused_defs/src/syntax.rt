@@ -256,15 +256,6 @@ impl SharedBlock {
         }
     }
 
-    /// Leaves its first statement behind.
-    pub fn drop_first(&mut self)
-        ensures { self.new ≡ drop 1 self.old }
-    {
-        if self.from < self.nodes.get().len() {
-            self.from += 1;
-        }
-    }
-
     /// The first, with those behind it.
     #[tactic(auto, using(crate::proofs::Drops::drops))]
     pub fn split_first(self) -> Result<Option<(SharedStmt, SharedBlock)>, NoMemory>

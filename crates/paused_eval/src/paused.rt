@@ -155,20 +155,6 @@ impl Paused {
         self.machine.reads.contains(oref)
     }
 
-    /// The least of these objects that the evaluation has read.
-    pub fn least_read(&self, orefs: &Orefs) -> Option<Oref> {
-        let mut least: Option<Oref> = None;
-        for oref in orefs.as_slice() {
-            if self.has_read(*oref) {
-                least = Some(match least {
-                    Some(other) if other <= *oref => other,
-                    _ => *oref,
-                });
-            }
-        }
-        least
-    }
-
     /// Goes on from where it stopped, and answers as the transaction would from the start. `methods` are the schema's, by its
     /// classes.
     ///

@@ -104,14 +104,6 @@ impl<P: Parts> Repo<P> {
         }
     }
 
-    /// Whether the session may decide the transaction: it has prepared it here, or it isn't live or the
-    /// repository is down, so that the call is refused.
-    pub fn may_decide(&self, session: u32, tx: Ts) -> bool
-        ensures { result ≡ cond self.now.is_up (cond (is_live self.now.memory.sessions session) (has_prepared self.now.held session tx) true) true }
-    {
-        !self.is_up() || !self.memory.sessions().is_live(session) || self.has_prepared(session, tx)
-    }
-
     /// The transaction of another coordinator with the least timestamp that is prepared and undecided here. `None`, too,
     /// where the repository is down.
     #[tactic(auto, using(crate::proofs::Falls::keeps_up))]

@@ -4,7 +4,6 @@ pub mod AsideForms
 pub mod MadeSchemas
 pub mod Replayed
 pub mod SortedMaps
-pub mod TakenNames
 pub mod TfForms
 pub mod Viewed
 pub mod WholeStore

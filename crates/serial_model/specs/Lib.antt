@@ -3,6 +3,5 @@ pub mod Outcomes
 pub mod ReplayRows
 pub mod Replaying
 pub mod Replays
-pub mod Taking
 pub mod Upgrading
 pub mod Whole

@@ -12,7 +12,6 @@ mod replay_laws;
 mod replay_rows;
 mod replaying;
 mod running;
-mod taking;
 mod upgrading;
 mod viewing;
 mod whole_maps;
@@ -26,6 +25,5 @@ pub use replay_laws::{
     upgraded_schemas_are_made,
 };
 pub use replaying::{ReplayError, replay};
-pub use running::{run_on, run_on_current};
-pub use taking::{Taken, names_taken};
+pub use running::run_on_current;
 pub use upgrading::upgrade_store;

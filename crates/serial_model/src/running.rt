@@ -87,28 +87,10 @@ fn eval_with(
     ran
 }
 
-/// Runs a transaction on the whole store that a view has, its new objects taking just these names.
+/// Runs a transaction on the whole store that a view has, its new objects taking just these names. No object of the store is
+/// due, as after eager upgrades.
 ///
-/// Gives the answer where the run is defined, and leaves the store behind it in the view; else the store
-/// is as it was.
-pub fn run_on(
-    alloc: Global,
-    tx: &Block,
-    schema: &Schema,
-    view: &mut View,
-    names: &Orefs,
-) -> Result<Option<Answer>, NoMemory>
-    requires few { length schema.now.classes ≤ 65536 }
-    requires first { IsFirst schema.now }
-    ensures ran { IfOk result (λ answer. (roots : List Root) → RanOn schema.now tx.now names.now roots view.old answer view.new) }
-    ensures epoch { OnOk result (view.new.epoch ≡ view.old.epoch) }
-    ensures names { OnOk result (view.new.names ≡ view.old.names) }
-{
-    run_on_current(alloc, tx, schema, view, names)
-}
-
-/// The same at any epoch, where no object of the store is due, as after eager upgrades.
-///
+/// Gives the answer where the run is defined, and leaves the store behind it in the view; else the store is as it was.
 /// Objects that were written at the view's epoch stay so: what the run writes is of that epoch.
 pub fn run_on_current(
     alloc: Global,

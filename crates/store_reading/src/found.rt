@@ -167,8 +167,8 @@ impl<P: Parts> Found<P> {
     }
 
     /// What an opening takes: the repositories, in their order; an empty vector with room for their parts; how many
-    /// bytes a buffer may have; and the schemas of all epochs up to the store's, nothing where it is fresh.
-    pub fn into_repositories(self) -> (Vec<Closed<P>>, Vec<P>, u32, Option<Schemas>)
+    /// bytes a buffer may have; and how many upgrades the store has installed, nothing where it is fresh.
+    pub fn into_repositories(self) -> (Vec<Closed<P>>, Vec<P>, u32, Option<usize>)
         ensures count { vec_len result.0 ≡ parts_in self }
         ensures empty { vec_len result.1 ≡ 0 }
         ensures room { vec_len result.0 ≤ vec_capacity result.1 }
@@ -180,24 +180,18 @@ impl<P: Parts> Found<P> {
             store,
             ..
         } = self;
-        (places, spare, mob, schemas_of(store))
+        (places, spare, mob, epochs_in(store))
     }
 }
 
-/// The schemas of a store that is open.
-fn schemas_of(store: Store) -> Option<Schemas> {
+/// How many upgrades a store has installed that is open.
+fn epochs_in(store: Store) -> Option<usize> {
     match store {
         Store::Fresh => None,
-        Store::Open(
-            OpenStore {
-                schemas,
-                stored,
-                roots,
-            },
-        ) => {
-            drop(stored);
-            drop(roots);
-            Some(schemas)
+        Store::Open(open) => {
+            let epochs = open.schemas.upgraded.len();
+            drop(open);
+            Some(epochs)
         }
     }
 }

@@ -1,7 +1,6 @@
 //! A store's parts, read and checked before any of them is written.
 #![tactic(auto)]
 
-mod accepting;
 mod closed;
 mod eager;
 mod examples;
@@ -11,7 +10,6 @@ mod found;
 mod joined;
 mod separate;
 
-pub use accepting::with_upgrades;
 pub use closed::{Closed, give_back};
 pub use examples::disks_stand_for_their_objects;
 pub use fault::ClusterFault;

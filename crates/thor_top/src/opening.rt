@@ -1,7 +1,7 @@
 //! The store that was found is opened for a script's run.
 
 ghost use Rattle.checked_report.specs.Texts.{TellsUnsettled};
-ghost use Rattle.cluster_core.specs.Counts.{parts_of};
+ghost use Rattle.cluster_core.specs.Counts.{parts_of, schemas_of};
 ghost use Rattle.command_answer.specs.Opening.{IsBase, IsStore};
 ghost use Rattle.command_answer.specs.Reports.{TellsRun};
 ghost use Rattle.script_check.specs.Upgrading.{extended, upgrades_of};
@@ -90,14 +90,23 @@ fn start_of(alloc: Global, script: &Script, base: &Schemas) -> Result<Start, NoM
     }
 }
 
-/// What a run is asked for, by a plan and a script.
-fn run_of(alloc: Global, plan: &Plan, script: &Script, base: &Schemas) -> Result<Run, NoMemory>
+/// What a run is asked for, by a plan and a script, where it begins with the schemas `base`. Its clients run on the schemas
+/// `behind`.
+fn run_of(
+    alloc: Global,
+    plan: &Plan,
+    script: &Script,
+    base: &Schemas,
+    behind: &Schemas,
+) -> Result<Run, NoMemory>
     requires { AreMade base.now }
+    ensures { IfOk result (λ run. run.schemas ≡ behind.now) }
 {
     Ok(Run {
         start: start_of(alloc, script, base)?,
         tries: u32::from(plan.tries),
         cache: plan.cache,
+        schemas: behind.copy()?,
         clients: script.clients.copy()?.into_vec(),
     })
 }
@@ -137,12 +146,16 @@ fn prepared<P: Parts>(
 ) -> Result<(OpenedStore, Run), NoMemory>
     requires { IsJudged plan.now script.now found.now.store base.now }
     ensures schemas { IfOk result (λ made. made.0.schemas ≡ extended base.now (upgrades_of script.now.clients)) }
+    ensures same { IfOk result (λ made. made.1.schemas ≡ made.0.schemas) }
     ensures store { IfOk result (λ made. IsStore script.now.setup base.now made.0.store) }
     ensures sorted { IfOk result (λ made. IsSorted made.0.store.objects) }
     ensures opened { (images : List (ℕ → List ℕ)) → IsStoredIn images found.now.store → IfOk result (λ made. IsOpenedAs images script.now.setup base.now made.0.store) }
 {
     match opened_of(alloc, script, base, found)? {
-        Some(opened) => both(opened, run_of(alloc, plan, script, base)),
+        Some(opened) => {
+            let run = run_of(alloc, plan, script, base, &opened.schemas);
+            both(opened, run)
+        }
         None => Err(NoMemory),
     }
 }
@@ -154,6 +167,8 @@ fn open<P: Parts>(
     expected: Expected,
     found: Found<P>,
 ) -> Result<OpenRun<P>, Answered<P>>
+    requires { run.schemas ≡ expected.opened.schemas }
+    ensures same { IfOk result (λ run. schemas_of run.cluster ≡ run.expected.opened.schemas) }
     ensures expected { IfOk result (λ run. run.expected ≡ expected) }
     ensures count { IfOk result (λ run. parts_of run.cluster ≡ parts_in found) }
     ensures reply { IfErr result (λ a. IfOk a.reply (λ r. TellsUnsettled r.status r.text)) }
@@ -179,6 +194,7 @@ pub(crate) fn open_run<P: Parts>(
 ) -> Result<OpenRun<P>, Answered<P>>
     requires { IsJudged plan.now script judged.found.store judged.base }
     ensures foretells { (given : List P) → IsStoredBy (ReadAll P.disks given) judged.found.store → IfOk result (λ run. Foretells (TellsRun (ReadAll P.disks given) form plan.now.repos script) run.expected) }
+    ensures same { IfOk result (λ run. schemas_of run.cluster ≡ run.expected.opened.schemas) }
     ensures count { IfOk result (λ run. parts_of run.cluster ≡ parts_in judged.found) }
     ensures reply { IfErr result (λ a. IfOk a.reply (λ r. TellsUnsettled r.status r.text)) }
     ensures parts { IfErr result (λ a. vec_len a.parts ≡ parts_in judged.found) }

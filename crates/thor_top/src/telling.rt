@@ -28,7 +28,6 @@ fn reported(
                 ends,
                 lines,
                 traces,
-                ..
             },
         ) => (
             report(
