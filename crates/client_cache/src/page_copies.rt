@@ -5,10 +5,7 @@ ghost use Rattle.client_cache.specs.Slots.{dated, dated_in, is_bare, kept_in, no
 
 use std::alloc::Global;
 use std::marker::Model;
-use thor_value::{NoMemory, Obj, TryCopy};
-
-/// How many slots a page has.
-pub(crate) const SLOTS: u8 = 12;
+use thor_value::{NoMemory, Obj, SLOTS, TryCopy};
 
 /// What a client holds for one slot of a page.
 #[derive(Drop)]

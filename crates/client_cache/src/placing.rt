@@ -7,11 +7,11 @@ ghost use Rattle.thor_value.specs.declared.values.Obj.{Obj};
 ghost use Rattle.client_cache.specs.Placing.{Brings, HasName, IsObject, IsObjectPage, IsPageOf};
 ghost use Rattle.client_cache.specs.Slots.{kept_in, written_in};
 
-use crate::page_copies::{SLOTS, Slots};
+use crate::page_copies::Slots;
 use object_codec::{ObjFault, objects_are_apart, read_obj};
 use page_format::{Damaged, Page};
 use std::alloc::Global;
-use thor_value::{NoMemory, Obj};
+use thor_value::{NoMemory, Obj, SLOTS};
 
 /// The copies that the bytes of a page bring; nothing where they aren't the page of this number, or one of its slots
 /// isn't one that objects are named by or hasn't one object.

@@ -24,13 +24,7 @@ use message_outbox::At;
 use paused_eval::{Copies, GrantedNames};
 use std::alloc::Global;
 use std::mem;
-use thor_value::{NoMemory, Obj, Oref, Repos, Text, TryCopy, Ts};
-
-/// How many repositories a store has at most.
-pub const REPOSITORIES: u8 = 8;
-
-/// How many slots of a page objects are named by.
-const SLOTS: u8 = 12;
+use thor_value::{NoMemory, Obj, Oref, REPOSITORIES, Repos, SLOTS, Text, TryCopy, Ts};
 
 /// What a client holds of the repositories.
 #[derive(Drop)]

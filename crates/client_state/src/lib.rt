@@ -18,7 +18,7 @@ mod transform;
 pub use calls::{Came, Drew};
 pub use causes::cause_of;
 pub use duties::{Abort, Duties, Duty, Helping};
-pub use held::{Held, REPOSITORIES};
+pub use held::Held;
 pub use link::{Link, Waits};
 pub use phase::Phase;
 pub use requests::Sending;

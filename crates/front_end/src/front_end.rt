@@ -4,13 +4,13 @@ ghost use Rattle.front_end.specs.Writing.{ClientWrites, ClientWrites-prop};
 
 use crate::client::Client;
 use crate::rule::{Counted, Rule};
-use client_state::{Held, REPOSITORIES};
+use client_state::Held;
 use item_progress::{Attempts, Items, News, Opened, Progress};
 use message_outbox::At;
 use port::Port;
 use serial_model::{Cause, Ended, Ends};
 use std::alloc::Global;
-use thor_value::NoMemory;
+use thor_value::{NoMemory, REPOSITORIES};
 
 /// A client of repositories: what it holds and owes, how far it has come in its items, and in the tries of the
 /// present one. It runs them one after the other.

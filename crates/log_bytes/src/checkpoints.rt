@@ -21,16 +21,15 @@ use crate::wholes::{read_whole, short_text};
 use class_defs::{Root, Roots};
 use page_format::Sides;
 use std::alloc::Global;
-use thor_value::{NoMemory, Obj, Oref, OrefMap, Sequence, Stamps, Text, Texts, Ts, Writes, both};
+use thor_value::{
+    NoMemory, Obj, Oref, OrefMap, PAGES, Sequence, Stamps, Text, Texts, Ts, Writes, both,
+};
 
 /// The one format of a store.
 const FORMAT: u8 = 1;
 
 /// The end of the counts of entries.
 const COUNT_END: u64 = 1 << 62;
-
-/// The most pages of a repository.
-const MOST_PAGES: u32 = 65_536;
 
 impl Spelled for Root {
     ghost use Rattle.log_bytes.specs.Checkpoint.{root_format};
@@ -82,7 +81,7 @@ fn read_pages(alloc: Global, bytes: &[u8]) -> Result<(u32, &[u8]), BodyFault>
     ensures { Gives (λ x. (x.0, x.1.now)) result (pages_format.reading bytes.now) }
 {
     let (pages, rest) = u32::read(alloc, bytes)?;
-    if pages <= MOST_PAGES {
+    if pages <= PAGES {
         Ok((pages, rest))
     } else {
         Err(BodyFault::NotOne)

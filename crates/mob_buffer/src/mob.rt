@@ -7,13 +7,13 @@ ghost use Rattle.std.specs.List.{AllByRecursion};
 ghost use Rattle.mob_buffer.specs.declared.fault.MobFull.TheVariants.{Full};
 
 use crate::fault::MobFull;
-use crate::objects::{SLOTS, make_places, put, replace_all, take_page};
+use crate::objects::{make_places, put, replace_all, take_page};
 use crate::size::spelled_size;
 use crate::tally::{bytes_behind, size_held};
 use lru::{Iter, LruCache};
 use std::alloc::Global;
 use std::marker::Model;
-use thor_value::{NoMemory, Obj, Oref, TryCopy, Writes};
+use thor_value::{NoMemory, Obj, Oref, SLOTS, TryCopy, Writes};
 
 /// Objects that were committed and don't stand in their pages yet, in the order in which their names
 /// came in, names distinct, all of one repository.

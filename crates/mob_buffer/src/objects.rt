@@ -9,10 +9,7 @@ ghost use Rattle.mob_buffer.specs.Kept.{IsUnbounded, blank, placed, size_at, wit
 use crate::size::spelled_size;
 use lru::LruCache;
 use std::alloc::Global;
-use thor_value::{NoMemory, Obj, Oref, Sequence};
-
-/// The slots of a page that objects are named by.
-pub(crate) const SLOTS: u8 = 12;
+use thor_value::{NoMemory, Obj, Oref, SLOTS, Sequence};
 
 /// Puts an object in the place of the one that has its name, else behind all.
 pub(crate) fn put(

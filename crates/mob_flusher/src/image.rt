@@ -14,10 +14,7 @@ use mob_buffer::Mob;
 use object_codec::{put_obj, read_obj};
 use page_format::{Full, Page};
 use std::alloc::Global;
-use thor_value::{NoMemory, Obj, Oref, Text, TryCopy};
-
-/// The slots of a page that objects are named by.
-const SLOTS: u8 = 12;
+use thor_value::{NoMemory, Obj, Oref, SLOTS, Text, TryCopy};
 
 /// As many bytes as most objects have at most: there is room for them at once.
 const USUAL: usize = 64;

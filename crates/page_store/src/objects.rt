@@ -8,10 +8,7 @@ ghost use Rattle.page_store.specs.Objects.{IsObjectAt, Spells, SpellsObject};
 use object_codec::{ObjFault, read_obj};
 use page_format::{Damaged, Page};
 use std::alloc::Global;
-use thor_value::NoMemory;
-
-/// The slots of a page that objects are named by.
-pub(crate) const SLOTS: u8 = 12;
+use thor_value::{NoMemory, SLOTS};
 
 /// The page of objects with a number that the bytes spell, or `None` where they spell none.
 pub(crate) fn page_of_objects(

@@ -20,10 +20,7 @@ use method_eval::{
     Halt, Names, Program, class_found, fault, field_at, field_named, is_known, last_upgrade,
     names_are_given_as_they_are_taken, new_object, repo_for, set_field, type_named,
 };
-use thor_value::{Fault, NoMemory, Obj, Oref, Orefs, TryCopy, Value};
-
-/// How many slots a page has.
-const SLOTS: u8 = 12;
+use thor_value::{Fault, NoMemory, Obj, Oref, Orefs, SLOTS, TryCopy, Value};
 
 /// What the cache has of an object now.
 #[tactic(auto, using(crate::proofs::Hands::not_held))]

@@ -25,12 +25,9 @@ use message_outbox::{Asked, Message, Verdict, Welcome};
 use refusal_reasons::Reason;
 use session_outbox::Mark;
 use std::alloc::Global;
-use thor_value::{NoMemory, Text, TryCopy, Ts};
+use thor_value::{NoMemory, PAGES, Text, TryCopy, Ts};
 use trace_reading::{Item, Notice, Opening, Reading, Says, is_forgotten, page_at};
 use validation_window::Refusal;
-
-/// How many pages a repository has.
-const PAGES: u32 = 65_536;
 
 /// Times are below this one.
 const TIMES: u64 = 1 << 62;

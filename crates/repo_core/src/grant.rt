@@ -17,11 +17,8 @@ use crate::repo::Repo;
 use disk_trait::Parts;
 use refusal_reasons::Reason;
 use session_outbox::Mark;
-use thor_value::NoMemory;
+use thor_value::{NoMemory, PAGES};
 use validation_window::Refusal;
-
-/// How many pages a repository may have.
-const PAGES: u32 = 65_536;
 
 impl<P: Parts> Repo<P> {
     /// Puts a page that was never granted into the session's outbox, for the names of new objects. Refusals:

@@ -5,15 +5,7 @@ ghost use Rattle.std.specs.Prelude.{◌≡◌, true};
 ghost use Rattle.log_bytes.specs.Checkpoint.{RootFits};
 
 use class_defs::Root;
-
-/// How many repositories a store can have.
-const REPOSITORIES: u8 = 8;
-
-/// How many pages a repository can have.
-const PAGES: u32 = 65_536;
-
-/// The slots of a page that objects are named by.
-const SLOTS: u8 = 12;
+use thor_value::{PAGES, REPOSITORIES, SLOTS};
 
 /// Whether all roots have names that a store can have.
 pub(crate) fn have_names(roots: &[Root]) -> bool

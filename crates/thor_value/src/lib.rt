@@ -21,7 +21,7 @@ pub use bytes::{
 pub use lists::{Ints, Orefs, Repos, Stamps, Text, Texts, Values, Writes};
 pub use memory::{NoMemory, TryCopy};
 pub use name_laws::{names_are_ordered, timestamps_are_ordered};
-pub use names::{Oref, Ts};
+pub use names::{Oref, PAGES, REPOSITORIES, SLOTS, Ts};
 pub use oref_map::OrefMap;
 pub use pairing::both;
 pub use sequence::Sequence;

@@ -1,5 +1,14 @@
 //! The names of objects and of transactions.
 
+/// How many repositories a store has at most. Their numbers are below this.
+pub const REPOSITORIES: u8 = 8;
+
+/// How many pages a repository has at most. Their numbers are below this.
+pub const PAGES: u32 = 65_536;
+
+/// In how many slots of a page objects have names. Their numbers are below this.
+pub const SLOTS: u8 = 12;
+
 /// The name of an object: its repository, its page there and its slot in the page. Names are
 /// ordered by repository, then page, then slot. A slot that was committed is never used again,
 /// so a name means one object for good.
