@@ -3,7 +3,7 @@
 ghost use Rattle.std.specs.Prelude.{◌<◌};
 
 use disk_trait::{
-    Call, Clock, Did, FARTHEST_END, FileParts, Fused, MemParts, Outage, Parts, SystemClock,
+    Call, Clock, Did, Disk, FARTHEST_END, FileParts, Fused, MemParts, Outage, Parts, SystemClock,
     TickClock,
 };
 use std::alloc::Global;
@@ -228,9 +228,12 @@ fn parts(alloc: Global, pages: &[u8], fails: &[(u8, u64)]) -> Result<MemParts<Ti
 }
 
 /// Whether a disk has these bytes and no more.
-fn reads<P: Parts>(alloc: Global, parts: &mut P, disk: u8, wanted: &[u8]) -> Result<bool, Outage>
-    requires { disk < 3 }
-{
+fn reads<P: Parts>(
+    alloc: Global,
+    parts: &mut P,
+    disk: Disk,
+    wanted: &[u8],
+) -> Result<bool, Outage> {
     let len = parts.len(disk)?;
     let Ok(len) = usize::try_from(len) else {
         return Err(Outage::NoMemory);
@@ -238,6 +241,14 @@ fn reads<P: Parts>(alloc: Global, parts: &mut P, disk: u8, wanted: &[u8]) -> Res
     let mut bytes = vec![in alloc; 0u8; len]?;
     parts.read_at(disk, 0, &mut bytes)?;
     Ok(bytes.as_slice() == wanted)
+}
+
+fn disk_of(number: u8) -> Disk {
+    match number {
+        0 => Disk::Log0,
+        1 => Disk::Log1,
+        _ => Disk::Pages,
+    }
 }
 
 fn arm<P>(fused: &mut Fused<P>, calls: u32) {
@@ -252,11 +263,9 @@ fn arm<P>(fused: &mut Fused<P>, calls: u32) {
 fn succeeds<P: Parts>(
     alloc: Global,
     fused: &mut Fused<P>,
-    disk: u8,
+    disk: Disk,
     act: &Act,
-) -> Result<bool, Outage>
-    requires { disk < 3 }
-{
+) -> Result<bool, Outage> {
     let answer = match act {
         Act::Write(at, bytes) => fused.write_at(disk, *at, bytes),
         Act::Sync => fused.sync(disk),
@@ -277,7 +286,7 @@ fn succeeds<P: Parts>(
 /// Whether each step succeeds or fails as it says.
 fn pass<P: Parts>(alloc: Global, fused: &mut Fused<P>, steps: &[Step]) -> Result<bool, Outage> {
     for (disk, act, wanted) in steps {
-        if succeeds(alloc, fused, (*disk).min(2), act)? != *wanted {
+        if succeeds(alloc, fused, disk_of(*disk), act)? != *wanted {
             return Ok(false);
         }
     }
@@ -304,7 +313,7 @@ fn passes<P: Parts>(alloc: Global, fused: &mut Fused<P>, row: &Row) -> Result<bo
 
 /// Whether so many calls are recorded, and so many of them as failed.
 fn has_recorded(parts: &MemParts<TickClock>, recorded: (usize, usize)) -> bool {
-    let calls = parts.calls(2);
+    let calls = parts.calls(Disk::Pages);
     (calls.len(), failed(calls)) == recorded
 }
 
@@ -385,11 +394,11 @@ fn files_hold(rt: &HostRuntime, folder: &str, first: &Step) -> Result<bool, Fail
     // A file in a folder that isn't there can't be opened.
     let mut fused = Fused::new(files(rt, folder, "none/pages")?);
     let (disk, act, wanted) = first;
-    let first = succeeds(rt.alloc(), &mut fused, (*disk).min(2), act)? == *wanted;
+    let first = succeeds(rt.alloc(), &mut fused, disk_of(*disk), act)? == *wanted;
     let passed = pass(rt.alloc(), &mut fused, FILES)?;
     let mut files = fused.inner();
     let mut past = [0u8; 3];
-    let over = files.read_at(0, 4, &mut past) == Err(Outage::Failed);
+    let over = files.read_at(Disk::Log0, 4, &mut past) == Err(Outage::Failed);
     Ok(first && passed && over && files.now() == 1)
 }
 
@@ -432,7 +441,7 @@ fn log_len(rt: &HostRuntime, folder: &str) -> Result<u64, Fail> {
 fn log_grows(rt: &HostRuntime, folder: &str) -> Result<bool, Fail> {
     let mut fused = Fused::new(files(rt, folder, "pages")?);
     for ((disk, act, wanted), least, greatest) in GROWING {
-        let same = succeeds(rt.alloc(), &mut fused, (*disk).min(2), act)? == *wanted;
+        let same = succeeds(rt.alloc(), &mut fused, disk_of(*disk), act)? == *wanted;
         let len = log_len(rt, folder)?;
         if !same || len < *least || *greatest < len {
             return Ok(false);

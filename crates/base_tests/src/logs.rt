@@ -5,7 +5,7 @@ ghost use Rattle.disk_trait.specs.Disks.{IsSettled};
 ghost use Rattle.disk_trait.specs.MemParts.{mem_disks};
 
 use crate::disks::{files, folder};
-use disk_trait::{Clock, Fused, MemParts, Outage, Parts, TickClock};
+use disk_trait::{Clock, Disk, Fused, MemParts, Outage, Parts, TickClock};
 use log_frame::{Log, LogFault};
 use std::alloc::Global;
 use std::fs;
@@ -36,13 +36,13 @@ fn parts(alloc: Global, log0: &[u8], fails: &[(u8, u64)]) -> Result<MemParts<Tic
 fn grow<P: Parts>(alloc: Global, parts: &mut P) -> Result<(), LogFault>
     requires { IsSettled (P.disks parts.old) 0 }
 {
-    let mut log = Log::format(alloc, parts, 0, 1, &[])?;
+    let mut log = Log::format(alloc, parts, Disk::Log0, 1, &[])?;
     log.append(parts, LIFE)
 }
 
 /// How many records disk 0 has.
 fn count<P: Parts>(alloc: Global, parts: &mut P) -> Result<Option<usize>, LogFault> {
-    match Log::open(alloc, parts, 0)? {
+    match Log::open(alloc, parts, Disk::Log0)? {
         None => Ok(None),
         Some((_, _, records)) => Ok(Some(records.len())),
     }
@@ -51,8 +51,10 @@ fn count<P: Parts>(alloc: Global, parts: &mut P) -> Result<Option<usize>, LogFau
 /// Whether a disk has the header and the first record, behind eleven calls: len, then close, sync, write, sync, open,
 /// sync; then the four calls of the append.
 fn has_first(parts: &MemParts<TickClock>) -> bool {
-    let (header, behind) = parts.bytes(0).split_at(13.min(parts.bytes(0).len()));
-    header == HEADER && behind == FIRST && parts.calls(0).len() == 11
+    let (header, behind) = parts
+        .bytes(Disk::Log0)
+        .split_at(13.min(parts.bytes(Disk::Log0).len()));
+    header == HEADER && behind == FIRST && parts.calls(Disk::Log0).len() == 11
 }
 
 #[test]
@@ -162,7 +164,7 @@ fn left<P: Parts>(alloc: Global, parts: &mut P, pick: u64) -> Option<Option<usiz
     if grow(alloc, parts) != Err(LogFault::Failed) {
         return None;
     }
-    parts.restart(0, pick).ok()?;
+    parts.restart(Disk::Log0, pick).ok()?;
     count(alloc, parts).ok()
 }
 
@@ -229,10 +231,10 @@ const FORMATS: &[(u64, u64, Option<usize>)] = &[
 fn unformatted<P: Parts>(alloc: Global, parts: &mut P, pick: u64) -> Option<Option<usize>>
     requires { IsSettled (P.disks parts.old) 0 }
 {
-    if Log::format(alloc, parts, 0, 10, &[]).is_ok() {
+    if Log::format(alloc, parts, Disk::Log0, 10, &[]).is_ok() {
         return None;
     }
-    parts.restart(0, pick).ok()?;
+    parts.restart(Disk::Log0, pick).ok()?;
     count(alloc, parts).ok()
 }
 
@@ -262,7 +264,7 @@ fn told<P: Parts>(
     alloc: Global,
     parts: &mut P,
 ) -> Result<Option<(u64, usize, usize, bool)>, LogFault> {
-    match Log::open(alloc, parts, 0)? {
+    match Log::open(alloc, parts, Disk::Log0)? {
         None => Ok(None),
         Some((log, head, records)) => {
             let first = match records.get(0) {

@@ -1,5 +1,6 @@
 pub mod AllDisks
 pub mod Disks
+pub mod Numbers
 pub mod Calls
 pub mod Ticks
 pub mod Fuse

@@ -5,6 +5,7 @@ ghost use Rattle.disk_trait.specs.AllDisks.{AllSettled, LeavesAll, MayLeaveAll, 
 ghost use Rattle.disk_trait.specs.Disks.{Rose};
 ghost use Rattle.disk_trait.specs.declared.parts.Outage.TheVariants.{Failed, NoMemory};
 
+use crate::disk::Disk;
 use crate::parts::{Outage, Parts};
 
 /// Crashes all disks and starts them again. After `Ok` they read images that a crash could leave, and a
@@ -17,9 +18,9 @@ pub fn restart_all<P: Parts>(parts: &mut P, pick: u64) -> Result<(), Outage>
     ensures wanting { IsErrOf result NoMemory → NoFault (P.disks parts.old) (P.disks parts.new) }
     ensures failed { IsErrOf result Failed → (d : ℕ) × (d < 3) × Rose ((P.disks parts.old).faults d) ((P.disks parts.new).faults d) }
 {
-    parts.restart(0, pick)?;
-    parts.restart(1, pick)?;
-    parts.restart(2, pick)
+    parts.restart(Disk::Log0, pick)?;
+    parts.restart(Disk::Log1, pick)?;
+    parts.restart(Disk::Pages, pick)
 }
 
 /// A law of all parts, with an empty body: what a read of the disks gives is one of the choices that a

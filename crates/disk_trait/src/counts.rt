@@ -1,6 +1,8 @@
+ghost use Rattle.disk_trait.specs.Numbers.{number};
 ghost use Rattle.std.specs.Prelude.{◌≡◌, ◌<◌, ◌∷◌, [], is_err};
 ghost use Rattle.disk_trait.specs.Counts.{counted, answer_of};
 
+use crate::disk::Disk;
 use crate::parts::Outage;
 
 /// What is known of disks that tell nothing of their content.
@@ -23,16 +25,15 @@ impl Counts {
     }
 
     /// Counts a call on a disk, which failed where there is no answer.
-    pub(crate) fn after<T>(&mut self, disk: u8, answer: Option<T>) -> Result<T, Outage>
-        requires { disk < 3 }
-        ensures counts { self.new ≡ counted self.old disk (is_err result) }
+    pub(crate) fn after<T>(&mut self, disk: Disk, answer: Option<T>) -> Result<T, Outage>
+        ensures counts { self.new ≡ counted self.old (number disk) (is_err result) }
         ensures answer { result ≡ answer_of answer }
     {
         self.time = self.time.saturating_add(1);
         match answer {
             Some(answer) => Ok(answer),
             None => {
-                let faults = &mut self.faults[usize::from(disk)];
+                let faults = &mut self.faults[usize::from(disk.number())];
                 *faults = faults.saturating_add(1);
                 Err(Outage::Failed)
             }

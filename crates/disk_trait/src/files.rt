@@ -1,3 +1,4 @@
+ghost use Rattle.disk_trait.specs.Numbers.{number};
 ghost use Rattle.std.specs.Prelude.{◌≡◌, ◌+◌, ◌^◌, ◌<◌, ◌≤◌, ℕ, List, length, max, is_err, IsErrOf};
 ghost use Rattle.disk_trait.specs.Disks.{WhereTold, SameDisks};
 ghost use Rattle.disk_trait.specs.Calls.{Reads, Writes, Syncs, TellsLength, Restarts};
@@ -6,6 +7,7 @@ ghost use Rattle.disk_trait.specs.Files.{counts_of, clock_of, no_counts, file_di
 
 use crate::clock::Clock;
 use crate::counts::Counts;
+use crate::disk::Disk;
 use crate::parts::{Outage, Parts, ends_too_far};
 use std::fs::{File, OpenOptions};
 use std::os::unix::fs::FileExt;
@@ -132,19 +134,19 @@ impl<C> FileParts<C> {
         }
     }
 
-    fn read(&self, disk: u8, at: u64, into: &mut [u8]) -> Option<()> {
+    fn read(&self, disk: Disk, at: u64, into: &mut [u8]) -> Option<()> {
         match disk {
-            0 => self.log0.as_ref()?.read(at, into),
-            1 => self.log1.as_ref()?.read(at, into),
-            _ => self.pages.as_ref()?.read_exact_at(into, at).ok(),
+            Disk::Log0 => self.log0.as_ref()?.read(at, into),
+            Disk::Log1 => self.log1.as_ref()?.read(at, into),
+            Disk::Pages => self.pages.as_ref()?.read_exact_at(into, at).ok(),
         }
     }
 
-    fn len_of(&self, disk: u8) -> Option<u64> {
+    fn len_of(&self, disk: Disk) -> Option<u64> {
         match disk {
-            0 => Some(self.log0.as_ref()?.len),
-            1 => Some(self.log1.as_ref()?.len),
-            _ => file_len(self.pages.as_ref()),
+            Disk::Log0 => Some(self.log0.as_ref()?.len),
+            Disk::Log1 => Some(self.log1.as_ref()?.len),
+            Disk::Pages => file_len(self.pages.as_ref()),
         }
     }
 }
@@ -163,7 +165,7 @@ fn open_log<R: Files<File = File>>(rt: &R, path: &str) -> Option<LogFile> {
 
 /// Writes bytes into the file of a disk.
 fn write(
-    disk: u8,
+    disk: Disk,
     log0: &mut Option<LogFile>,
     log1: &mut Option<LogFile>,
     pages: &Option<File>,
@@ -176,37 +178,37 @@ fn write(
         return None;
     }
     match disk {
-        0 => log0.as_mut()?.write(at, bytes),
-        1 => log1.as_mut()?.write(at, bytes),
-        _ => pages.as_ref()?.write_all_at(bytes, at).ok(),
+        Disk::Log0 => log0.as_mut()?.write(at, bytes),
+        Disk::Log1 => log1.as_mut()?.write(at, bytes),
+        Disk::Pages => pages.as_ref()?.write_all_at(bytes, at).ok(),
     }
 }
 
 /// Starts the file of a disk anew: a log's is cut to its disk's length.
 fn restart(
-    disk: u8,
+    disk: Disk,
     log0: &mut Option<LogFile>,
     log1: &mut Option<LogFile>,
     pages: &Option<File>,
 ) -> Option<()> {
     match disk {
-        0 => log0.as_mut()?.restart(),
-        1 => log1.as_mut()?.restart(),
-        _ => pages.as_ref().map(|_| ()),
+        Disk::Log0 => log0.as_mut()?.restart(),
+        Disk::Log1 => log1.as_mut()?.restart(),
+        Disk::Pages => pages.as_ref().map(|_| ()),
     }
 }
 
 /// Syncs the file of a disk.
 fn sync(
-    disk: u8,
+    disk: Disk,
     log0: &mut Option<LogFile>,
     log1: &mut Option<LogFile>,
     pages: &Option<File>,
 ) -> Option<()> {
     match disk {
-        0 => log0.as_mut()?.sync(),
-        1 => log1.as_mut()?.sync(),
-        _ => pages.as_ref()?.sync_data().ok(),
+        Disk::Log0 => log0.as_mut()?.sync(),
+        Disk::Log1 => log1.as_mut()?.sync(),
+        Disk::Pages => pages.as_ref()?.sync_data().ok(),
     }
 }
 
@@ -220,21 +222,19 @@ impl<C: Clock> Parts for FileParts<C> {
     ghost asked = { λ files now then. C.gives files.clock now then.clock };
 
     #[tactic(auto, using(crate::proofs::FileCalls::untold_read))]
-    fn read_at(&mut self, disk: u8, at: u64, into: &mut [u8]) -> Result<(), Outage>
-        requires disk_is_there { disk < 3 }
-        requires within { WhereTold (file_disks C.greatest self.old) disk (λ bytes. at + length into.old ≤ length bytes) }
-        ensures call { Reads (file_disks C.greatest self.old) (file_disks C.greatest self.new) disk at into.old into.new result }
-        ensures counts { counts_of self.new ≡ counted (counts_of self.old) disk (is_err result) }
+    fn read_at(&mut self, disk: Disk, at: u64, into: &mut [u8]) -> Result<(), Outage>
+        requires within { WhereTold (file_disks C.greatest self.old) (number disk) (λ bytes. at + length into.old ≤ length bytes) }
+        ensures call { Reads (file_disks C.greatest self.old) (file_disks C.greatest self.new) (number disk) at into.old into.new result }
+        ensures counts { counts_of self.new ≡ counted (counts_of self.old) (number disk) (is_err result) }
         ensures no_memory { IsErrOf result Outage.NoMemory → ⊥ }
     {
         let answer = self.read(disk, at, into);
         self.counts.after(disk, answer)
     }
 
-    fn write_at(&mut self, disk: u8, at: u64, bytes: &[u8]) -> Result<(), Outage>
-        requires { disk < 3 }
-        ensures call { Writes (file_disks C.greatest self.old) (file_disks C.greatest self.new) disk at bytes.now result }
-        ensures counts { counts_of self.new ≡ counted (counts_of self.old) disk (is_err result) }
+    fn write_at(&mut self, disk: Disk, at: u64, bytes: &[u8]) -> Result<(), Outage>
+        ensures call { Writes (file_disks C.greatest self.old) (file_disks C.greatest self.new) (number disk) at bytes.now result }
+        ensures counts { counts_of self.new ≡ counted (counts_of self.old) (number disk) (is_err result) }
         ensures no_memory { IsErrOf result Outage.NoMemory → ⊥ }
     {
         let answer = write(disk, &mut self.log0, &mut self.log1, &self.pages, at, bytes);
@@ -242,10 +242,9 @@ impl<C: Clock> Parts for FileParts<C> {
     }
 
     #[tactic(auto, using(crate::proofs::FileCalls::untold_sync))]
-    fn sync(&mut self, disk: u8) -> Result<(), Outage>
-        requires { disk < 3 }
-        ensures call { Syncs (file_disks C.greatest self.old) (file_disks C.greatest self.new) disk result }
-        ensures counts { counts_of self.new ≡ counted (counts_of self.old) disk (is_err result) }
+    fn sync(&mut self, disk: Disk) -> Result<(), Outage>
+        ensures call { Syncs (file_disks C.greatest self.old) (file_disks C.greatest self.new) (number disk) result }
+        ensures counts { counts_of self.new ≡ counted (counts_of self.old) (number disk) (is_err result) }
         ensures no_memory { IsErrOf result Outage.NoMemory → ⊥ }
     {
         let answer = sync(disk, &mut self.log0, &mut self.log1, &self.pages);
@@ -253,10 +252,9 @@ impl<C: Clock> Parts for FileParts<C> {
     }
 
     #[tactic(auto, using(crate::proofs::FileCalls::untold_len))]
-    fn len(&mut self, disk: u8) -> Result<u64, Outage>
-        requires { disk < 3 }
-        ensures call { TellsLength (file_disks C.greatest self.old) (file_disks C.greatest self.new) disk result }
-        ensures counts { counts_of self.new ≡ counted (counts_of self.old) disk (is_err result) }
+    fn len(&mut self, disk: Disk) -> Result<u64, Outage>
+        ensures call { TellsLength (file_disks C.greatest self.old) (file_disks C.greatest self.new) (number disk) result }
+        ensures counts { counts_of self.new ≡ counted (counts_of self.old) (number disk) (is_err result) }
         ensures no_memory { IsErrOf result Outage.NoMemory → ⊥ }
     {
         let answer = self.len_of(disk);
@@ -265,10 +263,9 @@ impl<C: Clock> Parts for FileParts<C> {
 
     /// Keeps the open file with all its disk's bytes, and ignores the pick.
     #[tactic(auto, using(crate::proofs::FileCalls::untold_restart))]
-    fn restart(&mut self, disk: u8, _pick: u64) -> Result<(), Outage>
-        requires { disk < 3 }
-        ensures call { Restarts (file_disks C.greatest self.old) (file_disks C.greatest self.new) disk result }
-        ensures counts { counts_of self.new ≡ counted (counts_of self.old) disk (is_err result) }
+    fn restart(&mut self, disk: Disk, _pick: u64) -> Result<(), Outage>
+        ensures call { Restarts (file_disks C.greatest self.old) (file_disks C.greatest self.new) (number disk) result }
+        ensures counts { counts_of self.new ≡ counted (counts_of self.old) (number disk) (is_err result) }
         ensures no_memory { IsErrOf result Outage.NoMemory → ⊥ }
     {
         let answer = restart(disk, &mut self.log0, &mut self.log1, &self.pages);

@@ -1,6 +1,8 @@
+ghost use Rattle.disk_trait.specs.Numbers.{number};
 ghost use Rattle.std.specs.Prelude.{◌≡◌, ◌+◌, ◌-◌, ◌^◌, ◌<◌, ◌≤◌, ◌∷◌, [], ℕ, min, max, sum, length};
 ghost use Rattle.disk_trait.specs.Fuse.{burnt, stopped};
 
+use crate::disk::Disk;
 use crate::parts::Outage;
 
 /// A stop that falls in the last of a number of calls.
@@ -39,15 +41,14 @@ impl Fuse {
     /// Counts a call on a disk that was made, and answers what the call does.
     pub(crate) fn after<T: Drop>(
         &mut self,
-        disk: u8,
+        disk: Disk,
         answer: Result<T, Outage>,
     ) -> Result<T, Outage>
-        requires { disk < 3 }
-        ensures fuse { self.new ≡ burnt self.old disk }
+        ensures fuse { self.new ≡ burnt self.old (number disk) }
         ensures answer { result ≡ stopped self.old answer }
     {
         if self.left == 1 {
-            let falls = &mut self.falls[usize::from(disk)];
+            let falls = &mut self.falls[usize::from(disk.number())];
             *falls = falls.saturating_add(1);
             self.left = 0;
             return Err(Outage::Failed);

@@ -1,9 +1,11 @@
+ghost use Rattle.disk_trait.specs.Numbers.{number};
 ghost use Rattle.std.specs.Prelude.{◌≡◌, ◌+◌, ◌<◌, ◌≤◌, ℕ, List, length, max};
 ghost use Rattle.disk_trait.specs.Disks.{WhereTold, SameDisks};
 ghost use Rattle.disk_trait.specs.Calls.{Reads, Writes, Syncs, TellsLength, Restarts};
 ghost use Rattle.disk_trait.specs.Fuse.{burnt, stopped};
 ghost use Rattle.disk_trait.specs.Fused.{fused_disks, parts_of, fuse_of, new_fuse, armed, fell_of};
 
+use crate::disk::Disk;
 use crate::fuse::Fuse;
 use crate::parts::{Outage, Parts};
 
@@ -68,56 +70,51 @@ impl<P: Parts> Parts for Fused<P> {
     ghost asked = { λ fused now then. P.asked fused.parts now then.parts };
 
     #[tactic(auto, using(crate::proofs::FusedCalls::fused_read_at))]
-    fn read_at(&mut self, disk: u8, at: u64, into: &mut [u8]) -> Result<(), Outage>
-        requires disk_is_there { disk < 3 }
-        requires within { WhereTold (fused_disks P.disks self.old) disk (λ bytes. at + length into.old ≤ length bytes) }
-        ensures call { Reads (fused_disks P.disks self.old) (fused_disks P.disks self.new) disk at into.old into.new result }
-        ensures made { (answer : _) × Reads (P.disks (parts_of self.old)) (P.disks (parts_of self.new)) disk at into.old into.new answer × (result ≡ stopped (fuse_of self.old) answer) }
-        ensures fuse { fuse_of self.new ≡ burnt (fuse_of self.old) disk }
+    fn read_at(&mut self, disk: Disk, at: u64, into: &mut [u8]) -> Result<(), Outage>
+        requires within { WhereTold (fused_disks P.disks self.old) (number disk) (λ bytes. at + length into.old ≤ length bytes) }
+        ensures call { Reads (fused_disks P.disks self.old) (fused_disks P.disks self.new) (number disk) at into.old into.new result }
+        ensures made { (answer : _) × Reads (P.disks (parts_of self.old)) (P.disks (parts_of self.new)) (number disk) at into.old into.new answer × (result ≡ stopped (fuse_of self.old) answer) }
+        ensures fuse { fuse_of self.new ≡ burnt (fuse_of self.old) (number disk) }
     {
         let answer = self.parts.read_at(disk, at, into);
         self.fuse.after(disk, answer)
     }
 
     #[tactic(auto, using(crate::proofs::FusedCalls::fused_write_at))]
-    fn write_at(&mut self, disk: u8, at: u64, bytes: &[u8]) -> Result<(), Outage>
-        requires { disk < 3 }
-        ensures call { Writes (fused_disks P.disks self.old) (fused_disks P.disks self.new) disk at bytes.now result }
-        ensures made { (answer : _) × Writes (P.disks (parts_of self.old)) (P.disks (parts_of self.new)) disk at bytes.now answer × (result ≡ stopped (fuse_of self.old) answer) }
-        ensures fuse { fuse_of self.new ≡ burnt (fuse_of self.old) disk }
+    fn write_at(&mut self, disk: Disk, at: u64, bytes: &[u8]) -> Result<(), Outage>
+        ensures call { Writes (fused_disks P.disks self.old) (fused_disks P.disks self.new) (number disk) at bytes.now result }
+        ensures made { (answer : _) × Writes (P.disks (parts_of self.old)) (P.disks (parts_of self.new)) (number disk) at bytes.now answer × (result ≡ stopped (fuse_of self.old) answer) }
+        ensures fuse { fuse_of self.new ≡ burnt (fuse_of self.old) (number disk) }
     {
         let answer = self.parts.write_at(disk, at, bytes);
         self.fuse.after(disk, answer)
     }
 
     #[tactic(auto, using(crate::proofs::FusedCalls::fused_sync))]
-    fn sync(&mut self, disk: u8) -> Result<(), Outage>
-        requires { disk < 3 }
-        ensures call { Syncs (fused_disks P.disks self.old) (fused_disks P.disks self.new) disk result }
-        ensures made { (answer : _) × Syncs (P.disks (parts_of self.old)) (P.disks (parts_of self.new)) disk answer × (result ≡ stopped (fuse_of self.old) answer) }
-        ensures fuse { fuse_of self.new ≡ burnt (fuse_of self.old) disk }
+    fn sync(&mut self, disk: Disk) -> Result<(), Outage>
+        ensures call { Syncs (fused_disks P.disks self.old) (fused_disks P.disks self.new) (number disk) result }
+        ensures made { (answer : _) × Syncs (P.disks (parts_of self.old)) (P.disks (parts_of self.new)) (number disk) answer × (result ≡ stopped (fuse_of self.old) answer) }
+        ensures fuse { fuse_of self.new ≡ burnt (fuse_of self.old) (number disk) }
     {
         let answer = self.parts.sync(disk);
         self.fuse.after(disk, answer)
     }
 
     #[tactic(auto, using(crate::proofs::FusedCalls::fused_len))]
-    fn len(&mut self, disk: u8) -> Result<u64, Outage>
-        requires { disk < 3 }
-        ensures call { TellsLength (fused_disks P.disks self.old) (fused_disks P.disks self.new) disk result }
-        ensures made { (answer : _) × TellsLength (P.disks (parts_of self.old)) (P.disks (parts_of self.new)) disk answer × (result ≡ stopped (fuse_of self.old) answer) }
-        ensures fuse { fuse_of self.new ≡ burnt (fuse_of self.old) disk }
+    fn len(&mut self, disk: Disk) -> Result<u64, Outage>
+        ensures call { TellsLength (fused_disks P.disks self.old) (fused_disks P.disks self.new) (number disk) result }
+        ensures made { (answer : _) × TellsLength (P.disks (parts_of self.old)) (P.disks (parts_of self.new)) (number disk) answer × (result ≡ stopped (fuse_of self.old) answer) }
+        ensures fuse { fuse_of self.new ≡ burnt (fuse_of self.old) (number disk) }
     {
         let answer = self.parts.len(disk);
         self.fuse.after(disk, answer)
     }
 
     #[tactic(auto, using(crate::proofs::FusedCalls::fused_restart))]
-    fn restart(&mut self, disk: u8, pick: u64) -> Result<(), Outage>
-        requires { disk < 3 }
-        ensures call { Restarts (fused_disks P.disks self.old) (fused_disks P.disks self.new) disk result }
-        ensures made { (answer : _) × Restarts (P.disks (parts_of self.old)) (P.disks (parts_of self.new)) disk answer × (result ≡ stopped (fuse_of self.old) answer) }
-        ensures fuse { fuse_of self.new ≡ burnt (fuse_of self.old) disk }
+    fn restart(&mut self, disk: Disk, pick: u64) -> Result<(), Outage>
+        ensures call { Restarts (fused_disks P.disks self.old) (fused_disks P.disks self.new) (number disk) result }
+        ensures made { (answer : _) × Restarts (P.disks (parts_of self.old)) (P.disks (parts_of self.new)) (number disk) answer × (result ≡ stopped (fuse_of self.old) answer) }
+        ensures fuse { fuse_of self.new ≡ burnt (fuse_of self.old) (number disk) }
     {
         let answer = self.parts.restart(disk, pick);
         self.fuse.after(disk, answer)

@@ -5,6 +5,7 @@ mod all_disks;
 mod clock;
 mod counts;
 mod crash;
+mod disk;
 mod files;
 mod fuse;
 mod fused;
@@ -16,6 +17,7 @@ mod record;
 
 pub use all_disks::{content_is_left, restart_all};
 pub use clock::{Clock, SystemClock, TickClock};
+pub use disk::Disk;
 pub use files::FileParts;
 pub use fused::Fused;
 pub use mem_parts::MemParts;

@@ -1,3 +1,4 @@
+ghost use Rattle.disk_trait.specs.Numbers.{number};
 ghost use Rattle.std.specs.Prelude.{◌≡◌, ◌+◌, ◌^◌, ◌<◌, ◌≤◌, ◌||◌, ◌∷◌, [], ℕ, List, length, max, nat_lt, IfOk, OnErr, IsErrOf, Some, slice_get, reverse};
 ghost use Rattle.std.specs.List.{All};
 ghost use Rattle.disk_trait.specs.Disks.{WhereTold, SameDisks, IsSettled};
@@ -8,6 +9,7 @@ ghost use Rattle.disk_trait.specs.MemLaws.{mem_reads};
 ghost use Rattle.disk_trait.specs.declared.record.Did.TheVariants.{Read, Length, Synced};
 
 use crate::clock::Clock;
+use crate::disk::Disk;
 use crate::mem_calls;
 use crate::mem_calls::next_moment;
 use crate::mem_disk::MemDisk;
@@ -54,20 +56,18 @@ impl<C> MemParts<C> {
     }
 
     /// The bytes that a read of the disk gives.
-    pub fn bytes(&self, disk: u8) -> &[u8]
-        requires { disk < 3 }
-        ensures { bytes_of (slice_get (disks_of self.now) disk) ≡ Some result.now }
+    pub fn bytes(&self, disk: Disk) -> &[u8]
+        ensures { bytes_of (slice_get (disks_of self.now) (number disk)) ≡ Some result.now }
     {
-        let place = &self.disks[usize::from(disk)];
+        let place = &self.disks[usize::from(disk.number())];
         place.bytes()
     }
 
     /// The record of the calls on a disk, the oldest first.
-    pub fn calls(&self, disk: u8) -> &[Call]
-        requires { disk < 3 }
-        ensures { calls_of (slice_get (disks_of self.now) disk) ≡ reverse result.now }
+    pub fn calls(&self, disk: Disk) -> &[Call]
+        ensures { calls_of (slice_get (disks_of self.now) (number disk)) ≡ reverse result.now }
     {
-        let place = &self.disks[usize::from(disk)];
+        let place = &self.disks[usize::from(disk.number())];
         place.calls()
     }
 }
@@ -79,11 +79,10 @@ impl<C: Clock> Parts for MemParts<C> {
 
     ghost asked = { λ parts now then. C.gives parts.clock now then.clock };
 
-    fn read_at(&mut self, disk: u8, at: u64, into: &mut [u8]) -> Result<(), Outage>
-        requires disk_is_there { disk < 3 }
-        requires within { WhereTold (mem_disks C.greatest self.old) disk (λ bytes. at + length into.old ≤ length bytes) }
-        ensures call { Reads (mem_disks C.greatest self.old) (mem_disks C.greatest self.new) disk at into.old into.new result }
-        ensures made { MemCall (disks_of self.old) (disks_of self.new) disk (time_of self.old + 1) (λ old. is_listed (fails_of self.old) disk (length old.calls)) (λ old new. new ≡ noted old (time_of self.old + 1) (Read at (length into.old))) result }
+    fn read_at(&mut self, disk: Disk, at: u64, into: &mut [u8]) -> Result<(), Outage>
+        requires within { WhereTold (mem_disks C.greatest self.old) (number disk) (λ bytes. at + length into.old ≤ length bytes) }
+        ensures call { Reads (mem_disks C.greatest self.old) (mem_disks C.greatest self.new) (number disk) at into.old into.new result }
+        ensures made { MemCall (disks_of self.old) (disks_of self.new) (number disk) (time_of self.old + 1) (λ old. is_listed (fails_of self.old) (number disk) (length old.calls)) (λ old new. new ≡ noted old (time_of self.old + 1) (Read at (length into.old))) result }
         ensures fails { fails_of self.new ≡ fails_of self.old }
     {
         let time = next_moment(self.time)?;
@@ -91,7 +90,7 @@ impl<C: Clock> Parts for MemParts<C> {
             &mut self.disks,
             &self.fails,
             time,
-            disk,
+            disk.number(),
             at as usize,
             into,
         );
@@ -99,10 +98,9 @@ impl<C: Clock> Parts for MemParts<C> {
         answer
     }
 
-    fn write_at(&mut self, disk: u8, at: u64, bytes: &[u8]) -> Result<(), Outage>
-        requires { disk < 3 }
-        ensures call { Writes (mem_disks C.greatest self.old) (mem_disks C.greatest self.new) disk at bytes.now result }
-        ensures made { MemCall (disks_of self.old) (disks_of self.new) disk (time_of self.old + 1) (λ old. is_refused (fails_of self.old) disk (length old.calls) (at + length bytes.now)) (λ old new. WroteTo old new (time_of self.old + 1) at bytes.now) result }
+    fn write_at(&mut self, disk: Disk, at: u64, bytes: &[u8]) -> Result<(), Outage>
+        ensures call { Writes (mem_disks C.greatest self.old) (mem_disks C.greatest self.new) (number disk) at bytes.now result }
+        ensures made { MemCall (disks_of self.old) (disks_of self.new) (number disk) (time_of self.old + 1) (λ old. is_refused (fails_of self.old) (number disk) (length old.calls) (at + length bytes.now)) (λ old new. WroteTo old new (time_of self.old + 1) at bytes.now) result }
         ensures fails { fails_of self.new ≡ fails_of self.old }
     {
         let time = next_moment(self.time)?;
@@ -110,7 +108,7 @@ impl<C: Clock> Parts for MemParts<C> {
             &mut self.disks,
             &self.fails,
             time,
-            disk,
+            disk.number(),
             at as usize,
             bytes,
         );
@@ -118,38 +116,35 @@ impl<C: Clock> Parts for MemParts<C> {
         answer
     }
 
-    fn sync(&mut self, disk: u8) -> Result<(), Outage>
-        requires { disk < 3 }
-        ensures call { Syncs (mem_disks C.greatest self.old) (mem_disks C.greatest self.new) disk result }
-        ensures made { MemCall (disks_of self.old) (disks_of self.new) disk (time_of self.old + 1) (λ old. is_listed (fails_of self.old) disk (length old.calls)) (λ old new. new ≡ noted old (time_of self.old + 1) Synced) result }
+    fn sync(&mut self, disk: Disk) -> Result<(), Outage>
+        ensures call { Syncs (mem_disks C.greatest self.old) (mem_disks C.greatest self.new) (number disk) result }
+        ensures made { MemCall (disks_of self.old) (disks_of self.new) (number disk) (time_of self.old + 1) (λ old. is_listed (fails_of self.old) (number disk) (length old.calls)) (λ old new. new ≡ noted old (time_of self.old + 1) Synced) result }
         ensures fails { fails_of self.new ≡ fails_of self.old }
     {
         let time = next_moment(self.time)?;
-        let answer = mem_calls::sync(&mut self.disks, &self.fails, time, disk);
+        let answer = mem_calls::sync(&mut self.disks, &self.fails, time, disk.number());
         self.time = time;
         answer
     }
 
-    fn len(&mut self, disk: u8) -> Result<u64, Outage>
-        requires { disk < 3 }
-        ensures call { TellsLength (mem_disks C.greatest self.old) (mem_disks C.greatest self.new) disk result }
-        ensures made { MemCall (disks_of self.old) (disks_of self.new) disk (time_of self.old + 1) (λ old. is_listed (fails_of self.old) disk (length old.calls)) (λ old new. new ≡ noted old (time_of self.old + 1) Length) result }
+    fn len(&mut self, disk: Disk) -> Result<u64, Outage>
+        ensures call { TellsLength (mem_disks C.greatest self.old) (mem_disks C.greatest self.new) (number disk) result }
+        ensures made { MemCall (disks_of self.old) (disks_of self.new) (number disk) (time_of self.old + 1) (λ old. is_listed (fails_of self.old) (number disk) (length old.calls)) (λ old new. new ≡ noted old (time_of self.old + 1) Length) result }
         ensures fails { fails_of self.new ≡ fails_of self.old }
     {
         let time = next_moment(self.time)?;
-        let answer = mem_calls::len(&mut self.disks, &self.fails, time, disk);
+        let answer = mem_calls::len(&mut self.disks, &self.fails, time, disk.number());
         self.time = time;
         answer
     }
 
-    fn restart(&mut self, disk: u8, pick: u64) -> Result<(), Outage>
-        requires { disk < 3 }
-        ensures call { Restarts (mem_disks C.greatest self.old) (mem_disks C.greatest self.new) disk result }
-        ensures made { MemCall (disks_of self.old) (disks_of self.new) disk (time_of self.old + 1) (λ old. is_listed (fails_of self.old) disk (length old.calls)) (λ old new. RestartedTo old new (time_of self.old + 1) pick) result }
+    fn restart(&mut self, disk: Disk, pick: u64) -> Result<(), Outage>
+        ensures call { Restarts (mem_disks C.greatest self.old) (mem_disks C.greatest self.new) (number disk) result }
+        ensures made { MemCall (disks_of self.old) (disks_of self.new) (number disk) (time_of self.old + 1) (λ old. is_listed (fails_of self.old) (number disk) (length old.calls)) (λ old new. RestartedTo old new (time_of self.old + 1) pick) result }
         ensures fails { fails_of self.new ≡ fails_of self.old }
     {
         let time = next_moment(self.time)?;
-        let answer = mem_calls::restart(&mut self.disks, &self.fails, time, disk, pick);
+        let answer = mem_calls::restart(&mut self.disks, &self.fails, time, disk.number(), pick);
         self.time = time;
         answer
     }

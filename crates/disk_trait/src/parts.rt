@@ -1,8 +1,10 @@
+ghost use Rattle.disk_trait.specs.Numbers.{number};
 ghost use Rattle.std.specs.Prelude.{◌≡◌, ◌+◌, ◌^◌, ◌<◌, ◌≤◌, ◌↔◌, ℕ, List, length, max, Some, IsTrue};
 ghost use Rattle.disk_trait.specs.Disks.{Disks, WhereTold, MayLeave, SameDisks};
 ghost use Rattle.disk_trait.specs.Calls.{Reads, Writes, Syncs, TellsLength, Restarts};
 ghost use Rattle.disk_trait.specs.declared.parts.Outage.TheVariants.{NoMemory};
 
+use crate::disk::Disk;
 use std::alloc::{AllocError, AllocFailed};
 use std::fmt;
 
@@ -67,32 +69,27 @@ pub trait Parts: Drop {
 
     /// Reads bytes into the whole of `into`, from `at` on. Where the content isn't told, a range that
     /// passes the disk's end is `Failed`.
-    fn read_at(&mut self, disk: u8, at: u64, into: &mut [u8]) -> Result<(), Outage>
-        requires disk_is_there { disk < 3 }
-        requires within { WhereTold (disks self.old) disk (λ bytes. at + length into.old ≤ length bytes) }
-        ensures { Reads (disks self.old) (disks self.new) disk at into.old into.new result };
+    fn read_at(&mut self, disk: Disk, at: u64, into: &mut [u8]) -> Result<(), Outage>
+        requires within { WhereTold (disks self.old) (number disk) (λ bytes. at + length into.old ≤ length bytes) }
+        ensures { Reads (disks self.old) (disks self.new) (number disk) at into.old into.new result };
 
     /// Writes over what is there, and past the end, where a gap is filled with zeros. A write whose end
     /// would be above 2 ^ 40 is `Failed` and changes nothing.
-    fn write_at(&mut self, disk: u8, at: u64, bytes: &[u8]) -> Result<(), Outage>
-        requires { disk < 3 }
-        ensures { Writes (disks self.old) (disks self.new) disk at bytes.now result };
+    fn write_at(&mut self, disk: Disk, at: u64, bytes: &[u8]) -> Result<(), Outage>
+        ensures { Writes (disks self.old) (disks self.new) (number disk) at bytes.now result };
 
     /// Makes what was written stay: after `Ok` a crash leaves what a read gives.
-    fn sync(&mut self, disk: u8) -> Result<(), Outage>
-        requires { disk < 3 }
-        ensures { Syncs (disks self.old) (disks self.new) disk result };
+    fn sync(&mut self, disk: Disk) -> Result<(), Outage>
+        ensures { Syncs (disks self.old) (disks self.new) (number disk) result };
 
     /// How many bytes a disk has.
-    fn len(&mut self, disk: u8) -> Result<u64, Outage>
-        requires { disk < 3 }
-        ensures { TellsLength (disks self.old) (disks self.new) disk result };
+    fn len(&mut self, disk: Disk) -> Result<u64, Outage>
+        ensures { TellsLength (disks self.old) (disks self.new) (number disk) result };
 
     /// Crashes a disk and starts it again. After `Ok` it reads one of the images that a crash could
     /// leave, and a crash leaves only that. Which one is for the parts to choose by the pick.
-    fn restart(&mut self, disk: u8, pick: u64) -> Result<(), Outage>
-        requires { disk < 3 }
-        ensures { Restarts (disks self.old) (disks self.new) disk result };
+    fn restart(&mut self, disk: Disk, pick: u64) -> Result<(), Outage>
+        ensures { Restarts (disks self.old) (disks self.new) (number disk) result };
 
     /// Asks the clock, which may give any number.
     fn now(&mut self) -> u64

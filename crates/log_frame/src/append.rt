@@ -1,4 +1,5 @@
 // A record is written behind the last gate, and then the gate is opened.
+ghost use Rattle.disk_trait.specs.Numbers.{number};
 ghost use Rattle.std.specs.Prelude.{◌≡◌, ◌+◌, ◌-◌, ◌^◌, ◌≤◌, ◌<◌, ℕ, List, length, IfOk, OnOk, IsErrOf};
 ghost use Rattle.disk_trait.specs.Disks.{Disks, OnDisk, Leaves, WhereTold, IsSettled, Rose};
 ghost use Rattle.log_frame.specs.Log.{Opened, Stands, IsBeforeOrAfter, with_body, closed_record, end_of};
@@ -6,7 +7,7 @@ ghost use Rattle.log_frame.specs.declared.fault.LogFault.TheVariants.{Damaged, F
 
 use crate::fault::LogFault;
 use crate::reading::{CLOSED, OPEN};
-use disk_trait::Parts;
+use disk_trait::{Disk, Parts};
 use std::alloc::Global;
 
 /// A record behind its gate, and the closed gate behind it. Want of memory where the body is longer than
@@ -31,23 +32,22 @@ pub(crate) fn closed_record(alloc: Global, body: &[u8]) -> Result<Vec<u8>, LogFa
 #[tactic(auto, using(disk_trait::proofs::Runs::alone_then))]
 pub(crate) fn append_at<P: Parts>(
     parts: &mut P,
-    disk: u8,
+    disk: Disk,
     end: u64,
     put: &[u8],
 ) -> Result<(), LogFault>
-    requires there { disk < 3 }
     requires fits { end < 2 ^ 64 - 1 }
-    requires settled { IsSettled (P.disks parts.old) disk }
-    ensures alone { OnDisk (P.disks parts.old) (P.disks parts.new) disk }
-    ensures any_moment { (opened : Opened) (body : List ℕ) → put.now ≡ closed_record body → length body < 2 ^ 32 → end ≡ end_of opened → WhereTold (P.disks parts.old) disk (λ bytes. Stands bytes opened → Leaves (P.disks parts.old) (P.disks parts.new) disk (IsBeforeOrAfter opened body)) }
-    ensures appended { OnOk result ((opened : Opened) (body : List ℕ) → put.now ≡ closed_record body → length body < 2 ^ 32 → end ≡ end_of opened → WhereTold (P.disks parts.old) disk (λ bytes. Stands bytes opened → WhereTold (P.disks parts.new) disk (λ final. Stands final (with_body opened body)))) }
-    ensures settled { OnOk result (IsSettled (P.disks parts.new) disk) }
+    requires settled { IsSettled (P.disks parts.old) (number disk) }
+    ensures alone { OnDisk (P.disks parts.old) (P.disks parts.new) (number disk) }
+    ensures any_moment { (opened : Opened) (body : List ℕ) → put.now ≡ closed_record body → length body < 2 ^ 32 → end ≡ end_of opened → WhereTold (P.disks parts.old) (number disk) (λ bytes. Stands bytes opened → Leaves (P.disks parts.old) (P.disks parts.new) (number disk) (IsBeforeOrAfter opened body)) }
+    ensures appended { OnOk result ((opened : Opened) (body : List ℕ) → put.now ≡ closed_record body → length body < 2 ^ 32 → end ≡ end_of opened → WhereTold (P.disks parts.old) (number disk) (λ bytes. Stands bytes opened → WhereTold (P.disks parts.new) (number disk) (λ final. Stands final (with_body opened body)))) }
+    ensures settled { OnOk result (IsSettled (P.disks parts.new) (number disk)) }
     ensures calls { OnOk result ((P.disks parts.old).time + 4 < 2 ^ 64 → (P.disks parts.new).time ≡ (P.disks parts.old).time + 4) }
     ensures near { OnOk result (end + 1 + length put.now ≤ 2 ^ 40) }
     ensures damaged { (place : ℕ) → IsErrOf result (Damaged place) → ⊥ }
-    ensures failed { IsErrOf result Failed → Rose ((P.disks parts.old).faults disk) ((P.disks parts.new).faults disk) }
-    ensures steady { OnOk result ((P.disks parts.new).faults disk ≡ (P.disks parts.old).faults disk) }
-    ensures wanting { IsErrOf result OutOfMemory → (P.disks parts.new).faults disk ≡ (P.disks parts.old).faults disk }
+    ensures failed { IsErrOf result Failed → Rose ((P.disks parts.old).faults (number disk)) ((P.disks parts.new).faults (number disk)) }
+    ensures steady { OnOk result ((P.disks parts.new).faults (number disk) ≡ (P.disks parts.old).faults (number disk)) }
+    ensures wanting { IsErrOf result OutOfMemory → (P.disks parts.new).faults (number disk) ≡ (P.disks parts.old).faults (number disk) }
 {
     parts.write_at(disk, end + 1, put)?;
     parts.sync(disk)?;

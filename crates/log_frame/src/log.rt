@@ -1,4 +1,5 @@
-ghost use Rattle.std.specs.Prelude.{◌≡◌, ◌+◌, ◌^◌, ◌≤◌, ◌<◌, ℕ, List, length, IfOk, IfErr, IfSome, OnOk, IsErrOf, Some, None, Ok, Err};
+ghost use Rattle.disk_trait.specs.Numbers.{number};
+ghost use Rattle.std.specs.Prelude.{◌≡◌, ◌+◌, ◌-◌, ◌^◌, ◌≤◌, ◌<◌, ℕ, List, length, IfOk, IfErr, IfSome, OnOk, IsErrOf, Some, None, Ok, Err};
 ghost use Rattle.disk_trait.specs.Disks.{Disks, OnDisk, Leaves, WhereTold, MayLeave, IsSettled, NoNewImage, Rose};
 ghost use Rattle.log_frame.specs.Log.{Opened, Place, Stands, Agrees, IsFound, IsBeforeOrAfter, IsOldOrNew, with_body, new_log, read_log};
 ghost use Rattle.log_frame.specs.declared.fault.LogFault.TheVariants.{Damaged, Failed, NoMemory as OutOfMemory};
@@ -7,7 +8,7 @@ use crate::append::{append_at, closed_record};
 use crate::fault::LogFault;
 use crate::format::{spell_header, write_log};
 use crate::reading::{Parsed, parse};
-use disk_trait::Parts;
+use disk_trait::{Disk, Parts};
 use std::alloc::Global;
 use std::marker::Model;
 use thor_value::{Text, Texts};
@@ -21,7 +22,7 @@ pub type Records = Texts;
 #[derive(Debug, Drop)]
 pub struct Log {
     alloc: Global,
-    disk: u8,
+    disk: Disk,
     sequence: u64,
     /// The place of the gate behind the last record.
     end: u64,
@@ -30,12 +31,13 @@ pub struct Log {
 impl Model for Log {
     ghost use Rattle.std.specs.Prelude.{◌-◌, ◌^◌, ◌<◌};
     ghost use Rattle.log_frame.specs.Log.{Place};
+    ghost use Rattle.disk_trait.specs.Numbers.{number};
 
     ghost Value = { Place };
 
-    ghost view = { λ log. record { disk = log.disk; sequence = log.sequence; end = log.end } };
+    ghost view = { λ log. record { disk = number log.disk; sequence = log.sequence; end = log.end } };
 
-    ghost invariant = { λ log. (log.end < 2 ^ 64 - 1) × (log.disk < 2) };
+    ghost invariant = { λ log. (log.end < 2 ^ 64 - 1) × (number log.disk < 2) };
 }
 
 impl Log {
@@ -46,20 +48,20 @@ impl Log {
     pub fn open<P: Parts>(
         alloc: Global,
         parts: &mut P,
-        disk: u8,
+        disk: Disk,
     ) -> Result<Option<(Log, Text, Records)>, LogFault>
-        requires { disk < 2 }
-        ensures alone { OnDisk (P.disks parts.old) (P.disks parts.new) disk }
-        ensures content { (P.disks parts.new).content disk ≡ (P.disks parts.old).content disk }
-        ensures crash { NoNewImage (P.disks parts.old) (P.disks parts.new) disk }
-        ensures any_moment { Leaves (P.disks parts.old) (P.disks parts.new) disk (MayLeave (P.disks parts.old) disk) }
-        ensures found { IfOk result (λ found. WhereTold (P.disks parts.old) disk (λ bytes. IsFound disk bytes found)) }
-        ensures disk { IfOk result (λ found. IfSome found (λ f. f.0.disk ≡ disk)) }
-        ensures damaged { (place : ℕ) → IsErrOf result (Damaged place) → WhereTold (P.disks parts.old) disk (λ bytes. read_log bytes ≡ Some (Err place)) }
-        ensures failed { IsErrOf result Failed → Rose ((P.disks parts.old).faults disk) ((P.disks parts.new).faults disk) }
-        ensures steady { OnOk result ((P.disks parts.new).faults disk ≡ (P.disks parts.old).faults disk) }
-        ensures wanting { IsErrOf result OutOfMemory → (P.disks parts.new).faults disk ≡ (P.disks parts.old).faults disk }
-        ensures harmed { (place : ℕ) → IsErrOf result (Damaged place) → (P.disks parts.new).faults disk ≡ (P.disks parts.old).faults disk }
+        requires { (number disk) < 2 }
+        ensures alone { OnDisk (P.disks parts.old) (P.disks parts.new) (number disk) }
+        ensures content { (P.disks parts.new).content (number disk) ≡ (P.disks parts.old).content (number disk) }
+        ensures crash { NoNewImage (P.disks parts.old) (P.disks parts.new) (number disk) }
+        ensures any_moment { Leaves (P.disks parts.old) (P.disks parts.new) (number disk) (MayLeave (P.disks parts.old) (number disk)) }
+        ensures found { IfOk result (λ found. WhereTold (P.disks parts.old) (number disk) (λ bytes. IsFound (number disk) bytes found)) }
+        ensures disk { IfOk result (λ found. IfSome found (λ f. f.0.disk ≡ (number disk))) }
+        ensures damaged { (place : ℕ) → IsErrOf result (Damaged place) → WhereTold (P.disks parts.old) (number disk) (λ bytes. read_log bytes ≡ Some (Err place)) }
+        ensures failed { IsErrOf result Failed → Rose ((P.disks parts.old).faults (number disk)) ((P.disks parts.new).faults (number disk)) }
+        ensures steady { OnOk result ((P.disks parts.new).faults (number disk) ≡ (P.disks parts.old).faults (number disk)) }
+        ensures wanting { IsErrOf result OutOfMemory → (P.disks parts.new).faults (number disk) ≡ (P.disks parts.old).faults (number disk) }
+        ensures harmed { (place : ℕ) → IsErrOf result (Damaged place) → (P.disks parts.new).faults (number disk) ≡ (P.disks parts.old).faults (number disk) }
     {
         let bytes = read_disk(alloc, parts, disk)?;
         match parse(alloc, &bytes)? {
@@ -90,24 +92,24 @@ impl Log {
     pub fn format<P: Parts>(
         alloc: Global,
         parts: &mut P,
-        disk: u8,
+        disk: Disk,
         sequence: u64,
         head: &[u8],
     ) -> Result<Log, LogFault>
-        requires there { disk < 2 }
-        requires settled { IsSettled (P.disks parts.old) disk }
-        ensures alone { OnDisk (P.disks parts.old) (P.disks parts.new) disk }
-        ensures any_moment { WhereTold (P.disks parts.old) disk (λ bytes. Leaves (P.disks parts.old) (P.disks parts.new) disk (IsOldOrNew bytes (new_log sequence head.now))) }
-        ensures formatted { OnOk result (WhereTold (P.disks parts.old) disk (λ bytes. WhereTold (P.disks parts.new) disk (λ final. Stands final (new_log sequence head.now)))) }
-        ensures kept { OnOk result (WhereTold (P.disks parts.old) disk (λ bytes. (image : List ℕ) → MayLeave (P.disks parts.new) disk image → Stands image (new_log sequence head.now))) }
-        ensures settled { OnOk result (IsSettled (P.disks parts.new) disk) }
-        ensures agrees { IfOk result (λ log. WhereTold (P.disks parts.new) disk (λ bytes. Agrees log bytes)) }
-        ensures disk { IfOk result (λ log. log.disk ≡ disk) }
+        requires there { (number disk) < 2 }
+        requires settled { IsSettled (P.disks parts.old) (number disk) }
+        ensures alone { OnDisk (P.disks parts.old) (P.disks parts.new) (number disk) }
+        ensures any_moment { WhereTold (P.disks parts.old) (number disk) (λ bytes. Leaves (P.disks parts.old) (P.disks parts.new) (number disk) (IsOldOrNew bytes (new_log sequence head.now))) }
+        ensures formatted { OnOk result (WhereTold (P.disks parts.old) (number disk) (λ bytes. WhereTold (P.disks parts.new) (number disk) (λ final. Stands final (new_log sequence head.now)))) }
+        ensures kept { OnOk result (WhereTold (P.disks parts.old) (number disk) (λ bytes. (image : List ℕ) → MayLeave (P.disks parts.new) (number disk) image → Stands image (new_log sequence head.now))) }
+        ensures settled { OnOk result (IsSettled (P.disks parts.new) (number disk)) }
+        ensures agrees { IfOk result (λ log. WhereTold (P.disks parts.new) (number disk) (λ bytes. Agrees log bytes)) }
+        ensures disk { IfOk result (λ log. log.disk ≡ (number disk)) }
         ensures sequence { IfOk result (λ log. log.sequence ≡ sequence) }
         ensures damaged { (place : ℕ) → IsErrOf result (Damaged place) → ⊥ }
-        ensures failed { IsErrOf result Failed → Rose ((P.disks parts.old).faults disk) ((P.disks parts.new).faults disk) }
-        ensures steady { OnOk result ((P.disks parts.new).faults disk ≡ (P.disks parts.old).faults disk) }
-        ensures wanting { IsErrOf result OutOfMemory → (P.disks parts.new).faults disk ≡ (P.disks parts.old).faults disk }
+        ensures failed { IsErrOf result Failed → Rose ((P.disks parts.old).faults (number disk)) ((P.disks parts.new).faults (number disk)) }
+        ensures steady { OnOk result ((P.disks parts.new).faults (number disk) ≡ (P.disks parts.old).faults (number disk)) }
+        ensures wanting { IsErrOf result OutOfMemory → (P.disks parts.new).faults (number disk) ≡ (P.disks parts.old).faults (number disk) }
     {
         let put = spell_header(alloc, sequence, head)?;
         write_log(parts, disk, &put)?;
@@ -158,23 +160,32 @@ impl Log {
         ensures value { result ≡ self.now.disk }
         ensures within { result < 2 }
     {
-        self.disk
+        self.disk.number()
+    }
+
+    /// The other disk for logs.
+    pub fn beside(&self) -> Disk
+        ensures { number result ≡ 1 - self.now.disk }
+    {
+        match self.disk {
+            Disk::Log0 => Disk::Log1,
+            Disk::Log1 | Disk::Pages => Disk::Log0,
+        }
     }
 }
 
 /// All the bytes of a disk.
 #[tactic(auto, using(disk_trait::proofs::Runs::alone_then, disk_trait::proofs::Runs::still_none, disk_trait::proofs::Runs::still_call))]
-fn read_disk<P: Parts>(alloc: Global, parts: &mut P, disk: u8) -> Result<Vec<u8>, LogFault>
-    requires { disk < 3 }
-    ensures alone { OnDisk (P.disks parts.old) (P.disks parts.new) disk }
-    ensures content { (P.disks parts.new).content disk ≡ (P.disks parts.old).content disk }
-    ensures crash { NoNewImage (P.disks parts.old) (P.disks parts.new) disk }
-    ensures any_moment { Leaves (P.disks parts.old) (P.disks parts.new) disk (MayLeave (P.disks parts.old) disk) }
-    ensures all { IfOk result (λ all. WhereTold (P.disks parts.old) disk (λ bytes. all.items ≡ bytes)) }
+fn read_disk<P: Parts>(alloc: Global, parts: &mut P, disk: Disk) -> Result<Vec<u8>, LogFault>
+    ensures alone { OnDisk (P.disks parts.old) (P.disks parts.new) (number disk) }
+    ensures content { (P.disks parts.new).content (number disk) ≡ (P.disks parts.old).content (number disk) }
+    ensures crash { NoNewImage (P.disks parts.old) (P.disks parts.new) (number disk) }
+    ensures any_moment { Leaves (P.disks parts.old) (P.disks parts.new) (number disk) (MayLeave (P.disks parts.old) (number disk)) }
+    ensures all { IfOk result (λ all. WhereTold (P.disks parts.old) (number disk) (λ bytes. all.items ≡ bytes)) }
     ensures damaged { (place : ℕ) → IsErrOf result (Damaged place) → ⊥ }
-    ensures failed { IsErrOf result Failed → Rose ((P.disks parts.old).faults disk) ((P.disks parts.new).faults disk) }
-    ensures steady { OnOk result ((P.disks parts.new).faults disk ≡ (P.disks parts.old).faults disk) }
-    ensures wanting { IsErrOf result OutOfMemory → (P.disks parts.new).faults disk ≡ (P.disks parts.old).faults disk }
+    ensures failed { IsErrOf result Failed → Rose ((P.disks parts.old).faults (number disk)) ((P.disks parts.new).faults (number disk)) }
+    ensures steady { OnOk result ((P.disks parts.new).faults (number disk) ≡ (P.disks parts.old).faults (number disk)) }
+    ensures wanting { IsErrOf result OutOfMemory → (P.disks parts.new).faults (number disk) ≡ (P.disks parts.old).faults (number disk) }
 {
     let len = parts.len(disk)?;
     let mut bytes = zeros(alloc, len)?;

@@ -9,12 +9,9 @@ ghost use Rattle.page_store.specs.declared.fault.StoreFault.TheVariants.{Damaged
 
 use crate::fault::StoreFault;
 use crate::objects::page_of_objects;
-use disk_trait::Parts;
+use disk_trait::{Disk, Parts};
 use page_format::{PAGE_BYTES, Page};
 use std::alloc::Global;
-
-/// The disk that pages stand on.
-pub(crate) const PAGES: u8 = 2;
 
 /// Where a side of a page begins on the disk.
 pub(crate) fn place_of(page: u32, side: u8) -> u64
@@ -77,7 +74,7 @@ fn read_bytes<P: Parts>(
     ensures wanting { IsErrOf result OutOfMemory → (P.disks parts.new).faults 2 ≡ (P.disks parts.old).faults 2 }
 {
     let mut bytes = zeros(alloc)?;
-    parts.read_at(PAGES, place_of(page, side), &mut bytes)?;
+    parts.read_at(Disk::Pages, place_of(page, side), &mut bytes)?;
     Ok(bytes)
 }
 
@@ -110,7 +107,7 @@ pub(crate) fn write_side<P: Parts>(
     ensures steady { OnOk result ((P.disks parts.new).faults 2 ≡ (P.disks parts.old).faults 2) }
     ensures wanting { IsErrOf result OutOfMemory → (P.disks parts.new).faults 2 ≡ (P.disks parts.old).faults 2 }
 {
-    parts.write_at(PAGES, place_of(page, side), bytes)?;
-    parts.sync(PAGES)?;
+    parts.write_at(Disk::Pages, place_of(page, side), bytes)?;
+    parts.sync(Disk::Pages)?;
     Ok(())
 }

@@ -8,15 +8,12 @@ ghost use Rattle.repository_reading.specs.Recovered.{HasBytes, Stays};
 ghost use Rattle.std.specs.Prelude.{IfOk, List, OnOk, Some, [], ◌∷◌, ◌≡◌, ℕ};
 
 use crate::unopened::{Unopened, outage_of};
-use disk_trait::Parts;
+use disk_trait::{Disk, Parts};
 use object_codec::read_obj;
 use page_format::{PAGE_BYTES, Page, Sides};
 use page_store::{PageStore, StoreFault};
 use std::alloc::Global;
 use thor_value::{NoMemory, Obj, Oref, OrefMap};
-
-/// The disk that pages stand on.
-const PAGES: u8 = 2;
 
 /// Puts the objects of all installed pages into a map, and answers the page behind the last one that has any.
 pub(crate) fn read_pages<P: Parts>(
@@ -59,7 +56,7 @@ fn read_side<P: Parts>(
     if size < place + PAGE_BYTES as u64 {
         return Err(Unopened::Damaged {
             repo,
-            disk: PAGES,
+            disk: Disk::Pages.number(),
             place,
         });
     }
@@ -111,7 +108,7 @@ fn length_of<P: Parts>(parts: &mut P, repo: u8) -> Result<u64, Unopened>
     ensures stays { Stays (P.disks parts.old) (P.disks parts.new) }
     ensures size { IfOk result (HasBytes (P.disks parts.new)) }
 {
-    match parts.len(PAGES) {
+    match parts.len(Disk::Pages) {
         Ok(size) => Ok(size),
         Err(outage) => Err(outage_of(repo, outage)),
     }
@@ -129,7 +126,7 @@ fn fault_of(repo: u8, fault: StoreFault) -> Unopened {
         StoreFault::Failed => Unopened::Failed { repo },
         StoreFault::Damaged { place } => Unopened::Damaged {
             repo,
-            disk: PAGES,
+            disk: Disk::Pages.number(),
             place,
         },
         StoreFault::NoMemory => Unopened::NoMemory,

@@ -1,5 +1,6 @@
 //! One repository, as an opening finds it on its disks.
 
+ghost use Rattle.disk_trait.specs.Numbers.{number};
 ghost use Rattle.repository_reading.specs.Recovered.{Finds, IsRecovered};
 ghost use Rattle.repository_reading.specs.Same.{Same};
 ghost use Rattle.repository_reading.specs.Paged.{PutsStored};
@@ -11,7 +12,7 @@ ghost use Rattle.std.specs.Prelude.{IfOk, IfSome, List, None, Ok, OnOk, false, â
 
 use crate::pages::read_pages;
 use crate::unopened::{Unopened, fault_of, outage_of};
-use disk_trait::{Outage, Parts};
+use disk_trait::{Disk, Outage, Parts};
 use recovery::{Recovered, recover};
 use std::alloc::Global;
 use thor_value::{Obj, OrefMap};
@@ -119,17 +120,16 @@ fn sync_all<P: Parts>(parts: &mut P) -> Result<(), Outage>
     ensures settled { OnOk result (AllSettled (P.disks parts.new)) }
     ensures same { Same (P.disks parts.old) (P.disks parts.new) }
 {
-    sync_one(parts, 0)?;
-    sync_one(parts, 1)?;
-    sync_one(parts, 2)
+    sync_one(parts, Disk::Log0)?;
+    sync_one(parts, Disk::Log1)?;
+    sync_one(parts, Disk::Pages)
 }
 
 /// Syncs one disk.
 #[tactic(auto, using(crate::proofs::Syncing::same_beside))]
-fn sync_one<P: Parts>(parts: &mut P, disk: u8) -> Result<(), Outage>
-    requires { disk < 3 }
-    ensures alone { OnDisk (P.disks parts.old) (P.disks parts.new) disk }
-    ensures settled { OnOk result (IsSettled (P.disks parts.new) disk) }
+fn sync_one<P: Parts>(parts: &mut P, disk: Disk) -> Result<(), Outage>
+    ensures alone { OnDisk (P.disks parts.old) (P.disks parts.new) (number disk) }
+    ensures settled { OnOk result (IsSettled (P.disks parts.new) (number disk)) }
     ensures same { Same (P.disks parts.old) (P.disks parts.new) }
 {
     parts.sync(disk)

@@ -6,7 +6,7 @@ ghost use Rattle.disk_trait.specs.Disks.{IsSettled, WhereTold};
 ghost use Rattle.disk_trait.specs.MemParts.{mem_disks};
 ghost use Rattle.mob_buffer.specs.Buffer.{AreOf, IsOf};
 
-use disk_trait::{Clock, MemParts, Parts, TickClock};
+use disk_trait::{Clock, Disk, MemParts, Parts, TickClock};
 use mob_buffer::Mob;
 use mob_flusher::{Flushed, ObjectStore};
 use page_format::Sides;
@@ -71,7 +71,7 @@ fn flush<P: Parts>(alloc: Global, parts: &mut P, pick: u64) -> Result<Flushed, S
     let mut store = ObjectStore::new(alloc, pages, Mob::new(alloc, 0)?);
     store.load(&writes(alloc)?)?;
     let answer = store.flush_one(parts);
-    parts.restart(2, pick)?;
+    parts.restart(Disk::Pages, pick)?;
     answer
 }
 
@@ -129,7 +129,7 @@ fn flushed(
 {
     let mut disk = parts(alloc, FRONT, fails)?;
     let answer = flush(alloc, &mut disk, pick);
-    let mut opened = parts(alloc, disk.bytes(2), 0)?;
+    let mut opened = parts(alloc, disk.bytes(Disk::Pages), 0)?;
     Ok((answer, number(alloc, &mut opened, side, slot)?))
 }
 

@@ -5,7 +5,7 @@ ghost use Rattle.disk_trait.specs.Disks.{WhereTold, IsSettled};
 ghost use Rattle.disk_trait.specs.MemParts.{mem_disks};
 ghost use Rattle.page_store.specs.Objects.{HasObjects};
 
-use disk_trait::{Clock, MemParts, Parts, TickClock};
+use disk_trait::{Clock, Disk, MemParts, Parts, TickClock};
 use page_format::{Page, Sides};
 use page_store::{PageStore, StoreFault};
 use std::alloc::Global;
@@ -66,9 +66,14 @@ fn sides_alternate(alloc: Global, page: &Page) -> Result<bool, Fail>
 {
     let mut parts = parts(alloc, &[], &[])?;
     let installed = install_thrice(alloc, &mut parts, page)?;
-    let bytes = parts.bytes(2);
+    let bytes = parts.bytes(Disk::Pages);
     let begins = bytes.get(28672..28680) == Some([84, 80, 1, 0, 0, 0, 0, 3].as_slice());
-    Ok(installed == ([0, 1, 0], 1) && parts.calls(2).len() == 6 && bytes.len() == 32768 && begins)
+    Ok(
+        installed == ([0, 1, 0], 1)
+            && parts.calls(Disk::Pages).len() == 6
+            && bytes.len() == 32768
+            && begins,
+    )
 }
 
 #[test]
@@ -135,7 +140,7 @@ const FRONTS: &[(&[u8], Option<u8>)] = &[
 fn is_read(alloc: Global, front: &[u8], want: Option<u8>) -> Result<bool, Fail> {
     let mut parts = parts(alloc, front, &[])?;
     let read = read_twice(alloc, &mut parts);
-    Ok(read == want.ok_or(StoreFault::Damaged { place: 0 }) && parts.calls(2).len() == 1)
+    Ok(read == want.ok_or(StoreFault::Damaged { place: 0 }) && parts.calls(Disk::Pages).len() == 1)
 }
 
 #[test]

@@ -6,11 +6,8 @@ ghost use Rattle.disk_trait.specs.declared.parts.Outage.TheVariants.{Failed, NoM
 ghost use Rattle.page_store.specs.Sides.{ReachesSides};
 ghost use Rattle.stable_store.specs.Reach.{are_within, end_of, is_within};
 
-use disk_trait::{Outage, Parts};
+use disk_trait::{Disk, Outage, Parts};
 use page_format::Sides;
-
-/// The disk that pages stand on.
-const PAGES: u8 = 2;
 
 /// How many bytes a side of a page has.
 const SIDE: u64 = 4_096;
@@ -26,7 +23,7 @@ pub(crate) fn reaches<P: Parts>(parts: &mut P, sides: &Sides) -> Result<bool, Ou
     ensures wanting { IsErrOf result NoMemory → (P.disks parts.new).faults 2 ≡ (P.disks parts.old).faults 2 }
     ensures lacks { result ≡ Ok false → WhereTold (P.disks parts.old) 2 (λ disk. ReachesSides sides.now disk → ⊥) }
 {
-    let length = parts.len(PAGES)?;
+    let length = parts.len(Disk::Pages)?;
     Ok(are_within(sides.as_slice(), length))
 }
 

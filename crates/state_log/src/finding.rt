@@ -1,5 +1,6 @@
 //! Which of two logs counts.
 
+ghost use Rattle.disk_trait.specs.Numbers.{number};
 ghost use Rattle.std.specs.Option.{IfSome, option_and_then, option_map};
 ghost use Rattle.std.specs.Prelude.{List, None, IfOk, IsErrOf, Ok, OnOk, Some, Err, ◌<◌, ◌≡◌, ℕ};
 ghost use Rattle.disk_trait.specs.AllDisks.{AllSettled, LeavesAll, MayLeaveAll, NoFault, ReadsAs, SameContent};
@@ -13,7 +14,7 @@ ghost use Rattle.state_log.specs.declared.fault.FindFault.TheVariants.{Damaged, 
 
 use crate::fault::FindFault;
 use crate::open_log::CommitLog;
-use disk_trait::Parts;
+use disk_trait::{Disk, Parts};
 use log_frame::{Log, LogFault, Records};
 use std::alloc::Global;
 use thor_value::Text;
@@ -51,12 +52,17 @@ fn choose(
 }
 
 /// A fault of a log, with the disk on which the log stands.
-fn fault_on(disk: u8, fault: LogFault) -> FindFault
-    ensures { result ≡ fault_on disk fault }
+fn fault_on(disk: Disk, fault: LogFault) -> FindFault
+    ensures { result ≡ fault_on (number disk) fault }
 {
     match fault {
-        LogFault::Failed => FindFault::Failed { disk },
-        LogFault::Damaged { place } => FindFault::Damaged { disk, place },
+        LogFault::Failed => FindFault::Failed {
+            disk: disk.number(),
+        },
+        LogFault::Damaged { place } => FindFault::Damaged {
+            disk: disk.number(),
+            place,
+        },
         LogFault::NoMemory => FindFault::NoMemory,
     }
 }
@@ -65,20 +71,20 @@ fn fault_on(disk: u8, fault: LogFault) -> FindFault
 fn open_on<P: Parts>(
     alloc: Global,
     parts: &mut P,
-    disk: u8,
+    disk: Disk,
 ) -> Result<Option<(Log, Text, Records)>, FindFault>
-    requires { disk < 2 }
-    ensures alone { OnDisk (P.disks parts.old) (P.disks parts.new) disk }
-    ensures content { (P.disks parts.new).content disk ≡ (P.disks parts.old).content disk }
-    ensures crash { NoNewImage (P.disks parts.old) (P.disks parts.new) disk }
-    ensures any_moment { Leaves (P.disks parts.old) (P.disks parts.new) disk (MayLeave (P.disks parts.old) disk) }
-    ensures found { IfOk result (λ found. WhereTold (P.disks parts.old) disk (λ bytes. IsFound disk bytes found)) }
-    ensures disk { IfOk result (λ found. IfSome found (λ f. f.0.disk ≡ disk)) }
-    ensures damaged { (d place : ℕ) → IsErrOf result (Damaged d place) → (d ≡ disk) × WhereTold (P.disks parts.old) disk (λ bytes. read_log bytes ≡ Some (Err place)) }
-    ensures failed { (d : ℕ) → IsErrOf result (Failed d) → (d ≡ disk) × Rose ((P.disks parts.old).faults disk) ((P.disks parts.new).faults disk) }
-    ensures steady { OnOk result ((P.disks parts.new).faults disk ≡ (P.disks parts.old).faults disk) }
-    ensures wanting { IsErrOf result OutOfMemory → (P.disks parts.new).faults disk ≡ (P.disks parts.old).faults disk }
-    ensures harmed { (d place : ℕ) → IsErrOf result (Damaged d place) → (P.disks parts.new).faults disk ≡ (P.disks parts.old).faults disk }
+    requires { (number disk) < 2 }
+    ensures alone { OnDisk (P.disks parts.old) (P.disks parts.new) (number disk) }
+    ensures content { (P.disks parts.new).content (number disk) ≡ (P.disks parts.old).content (number disk) }
+    ensures crash { NoNewImage (P.disks parts.old) (P.disks parts.new) (number disk) }
+    ensures any_moment { Leaves (P.disks parts.old) (P.disks parts.new) (number disk) (MayLeave (P.disks parts.old) (number disk)) }
+    ensures found { IfOk result (λ found. WhereTold (P.disks parts.old) (number disk) (λ bytes. IsFound (number disk) bytes found)) }
+    ensures disk { IfOk result (λ found. IfSome found (λ f. f.0.disk ≡ (number disk))) }
+    ensures damaged { (d place : ℕ) → IsErrOf result (Damaged d place) → (d ≡ (number disk)) × WhereTold (P.disks parts.old) (number disk) (λ bytes. read_log bytes ≡ Some (Err place)) }
+    ensures failed { (d : ℕ) → IsErrOf result (Failed d) → (d ≡ (number disk)) × Rose ((P.disks parts.old).faults (number disk)) ((P.disks parts.new).faults (number disk)) }
+    ensures steady { OnOk result ((P.disks parts.new).faults (number disk) ≡ (P.disks parts.old).faults (number disk)) }
+    ensures wanting { IsErrOf result OutOfMemory → (P.disks parts.new).faults (number disk) ≡ (P.disks parts.old).faults (number disk) }
+    ensures harmed { (d place : ℕ) → IsErrOf result (Damaged d place) → (P.disks parts.new).faults (number disk) ≡ (P.disks parts.old).faults (number disk) }
 {
     match Log::open(alloc, parts, disk) {
         Ok(found) => Ok(found),
@@ -108,7 +114,7 @@ pub fn open_logs<P: Parts>(
     ensures wanting { IsErrOf result OutOfMemory → NoFault (P.disks parts.old) (P.disks parts.new) }
     ensures harmed { (d place : ℕ) → IsErrOf result (Damaged d place) → NoFault (P.disks parts.old) (P.disks parts.new) }
 {
-    let first = open_on(alloc, parts, 0)?;
-    let second = open_on(alloc, parts, 1)?;
+    let first = open_on(alloc, parts, Disk::Log0)?;
+    let second = open_on(alloc, parts, Disk::Log1)?;
     Ok(choose(alloc, first, second))
 }

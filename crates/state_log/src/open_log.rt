@@ -11,7 +11,7 @@ ghost use Rattle.state_log.specs.Holds.{Holds, SaysEither, SaysNothingOr, SaysOn
 ghost use Rattle.state_log.specs.Recovered.{after, is_of, is_whole, sequence_end};
 
 use commit_log::Entry;
-use disk_trait::Parts;
+use disk_trait::{Disk, Parts};
 use log_bytes::{State, spell_entry, spell_installed, spell_state};
 use log_frame::{Log, LogFault};
 use std::alloc::Global;
@@ -70,7 +70,7 @@ impl CommitLog {
         ensures wanting { IsErrOf result OutOfMemory → NoFault (P.disks parts.old) (P.disks parts.new) }
     {
         let head = spell_state(alloc, state)?;
-        let log = Log::format(alloc, parts, 0, 1, head.as_slice())?;
+        let log = Log::format(alloc, parts, Disk::Log0, 1, head.as_slice())?;
         Ok(CommitLog { alloc, log })
     }
 
@@ -164,7 +164,7 @@ impl CommitLog {
         ensures wanting { IsErrOf result OutOfMemory → NoFault (P.disks parts.old) (P.disks parts.new) }
     {
         let head = spell_state(self.alloc, state)?;
-        let disk = 1 - self.log.disk();
+        let disk = self.log.beside();
         let sequence = self.log.sequence() + 1;
         self.log = Log::format(self.alloc, parts, disk, sequence, head.as_slice())?;
         Ok(())

@@ -21,7 +21,7 @@ use crate::headers::close_header;
 use crate::pages::put_roots;
 use crate::state::first_state;
 use class_defs::Setup;
-use disk_trait::Parts;
+use disk_trait::{Disk, Parts};
 use held_state::HeldState;
 use page_format::Sides;
 use recovery::Recovered;
@@ -78,8 +78,8 @@ fn put_store<P: Parts>(
     if !have_names(setup.roots.as_slice()) {
         return Err(OpenCause::NoMemory);
     }
-    close_header(parts, 0)?;
-    close_header(parts, 1)?;
+    close_header(parts, Disk::Log0)?;
+    close_header(parts, Disk::Log1)?;
     let installed = put_roots(alloc, parts, repo, setup)?;
     begin_log(alloc, parts, repo, repos, setup, installed, mob)
 }

@@ -1,16 +1,17 @@
+use Rattle.disk_trait.specs.Numbers.{number}
 use Rattle.std.proofs.Common.{rules, ◌<◌, length}
 use Rattle.disk_trait.proofs.MemLifts.{kept_restart, mem_unmade}
 use Rattle.disk_trait.proofs.mem_parts.MemPartsParts.restart.Goals as goal
 
 pub returns-in_err-time-clause-made : goal.returns-in_err-time-clause-made
 returns-in_err-time-clause-made g c =
-    let within : c.args.disk < length c.args.self.now.disks = search rules in
+    let within : (number c.args.disk) < length c.args.self.now.disks = search rules in
     mem_unmade _ _ _ _ _ c.from_residual.result within (search rules)
 
 pub invariant_of-self : goal.invariant_of-self
 invariant_of-self g c =
-    record { sound = (kept_restart c.args.self.now.disks c.restart-answer.new.disks c.args.disk c.args.self.now.time c.in_ok-time.time (g.C.Clock.greatest c.args.self.now.clock) c.in_ok-time.ensures.ok c.args.self.now.sound c.args.pick _ c.restart-answer.result c.restart-answer.ensures).0 }
+    record { sound = (kept_restart c.args.self.now.disks c.restart-answer.new.disks (number c.args.disk) c.args.self.now.time c.in_ok-time.time (g.C.Clock.greatest c.args.self.now.clock) c.in_ok-time.ensures.ok c.args.self.now.sound c.args.pick _ c.restart-answer.result c.restart-answer.ensures).0 }
 
 pub returns-clause-call : goal.returns-clause-call
 returns-clause-call g c =
-    (kept_restart c.args.self.now.disks c.restart-answer.new.disks c.args.disk c.args.self.now.time c.in_ok-time.time (g.C.Clock.greatest c.args.self.now.clock) c.in_ok-time.ensures.ok c.args.self.now.sound c.args.pick _ c.restart-answer.result c.restart-answer.ensures).1
+    (kept_restart c.args.self.now.disks c.restart-answer.new.disks (number c.args.disk) c.args.self.now.time c.in_ok-time.time (g.C.Clock.greatest c.args.self.now.clock) c.in_ok-time.ensures.ok c.args.self.now.sound c.args.pick _ c.restart-answer.result c.restart-answer.ensures).1
